@@ -6,7 +6,6 @@ use crate::entry::Entry;
 use crate::word::{Key, Value};
 
 /// What the first `n` entries leave under the key: a value, or `None` where it is missing.
-
 pub fn value_at<'a>(history: &'a [Entry], key: &Key, n: usize) -> Option<&'a Value>
     requires { n ≤ length history.now }
     ensures { option_copied result ≡ value_at history.now key.now n }
