@@ -6,14 +6,20 @@
 //! is said of those.
 #![tactic(auto)]
 
+mod copy;
+mod counter;
 mod disk;
 mod failed;
 mod gate;
+mod mem_sink;
+mod mem_source;
 mod sink;
 mod source;
 
 pub use disk::{Device, Disk, Disks};
 pub use failed::Failed;
 pub use gate::{Gate, OpenGate};
+pub use mem_sink::MemSink;
+pub use mem_source::MemSource;
 pub use sink::Sink;
 pub use source::{Got, Source};
