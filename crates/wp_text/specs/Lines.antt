@@ -22,8 +22,12 @@ client_line name = codes "client " ++ name ++ line_end
 
 abbrev pub reply_line : Reply → List ℕ
 reply_line (reply.Put n) = codes "put " ++ numbered n ++ line_end
+reply_line (reply.Del n) = codes "del " ++ numbered n ++ line_end
 reply_line (reply.Got value n) = codes "get " ++ value ++ codes " " ++ numbered n ++ line_end
 reply_line (reply.Missing n) = codes "missing " ++ numbered n ++ line_end
+reply_line (reply.Full published limit) = codes "full " ++ decimal published ++ codes " " ++ decimal limit ++ line_end
+reply_line reply.FaultLog = codes "fault log" ++ line_end
+reply_line (reply.Stopped published) = codes "stopped " ++ decimal published ++ line_end
 
 -- a change behind what stands before it in its line
 abbrev pub change_words : Change → List ℕ

@@ -31,6 +31,10 @@ pub fn reply_line(out: &mut Vec<u8>, reply: &Reply) -> Result<(), AllocError>
             out.extend_from_slice(b"put @")?;
             push_number(out, *n)?;
         }
+        Reply::Del(n) => {
+            out.extend_from_slice(b"del @")?;
+            push_number(out, *n)?;
+        }
         Reply::Got(value, n) => {
             out.extend_from_slice(b"get ")?;
             out.extend_from_slice(value.bytes())?;
@@ -39,6 +43,17 @@ pub fn reply_line(out: &mut Vec<u8>, reply: &Reply) -> Result<(), AllocError>
         }
         Reply::Missing(n) => {
             out.extend_from_slice(b"missing @")?;
+            push_number(out, *n)?;
+        }
+        Reply::Full { published, limit } => {
+            out.extend_from_slice(b"full ")?;
+            push_number(out, *published)?;
+            out.extend_from_slice(b" ")?;
+            push_number(out, *limit)?;
+        }
+        Reply::FaultLog => out.extend_from_slice(b"fault log")?,
+        Reply::Stopped(n) => {
+            out.extend_from_slice(b"stopped ")?;
             push_number(out, *n)?;
         }
     }

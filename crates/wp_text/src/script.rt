@@ -6,6 +6,8 @@ use wp_model::{Key, Name, Value};
 pub enum Command {
     /// Write the value under the key.
     Put(Key, Value),
+    /// Delete the key.
+    Del(Key),
     /// Read the key.
     Get(Key),
 }
