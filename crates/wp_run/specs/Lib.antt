@@ -1,2 +1,5 @@
 pub mod Session
+pub mod Current
 pub mod Transcript
+pub mod Engine
+pub mod Write
