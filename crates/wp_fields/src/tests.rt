@@ -18,5 +18,8 @@ fn fields_are_read_as_they_were_pushed(rt: HostRuntime) -> Result<(), Fail> {
     assert_eq!(rt; fields.u32(), Some(0x0405_0607));
     assert_eq!(rt; fields.u64(), Some(0x0809_0a0b_0c0d_0e0f));
     assert_eq!(rt; fields.left(), 2);
+    assert_eq!(rt; fields.piece(3), None);
+    assert_eq!(rt; fields.piece(2), Some(b"\x10\x11".as_slice()));
+    assert_eq!(rt; fields.u8(), None);
     Ok(())
 }
