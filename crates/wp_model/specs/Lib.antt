@@ -1,0 +1,4 @@
+pub mod Word
+pub mod Batch
+pub mod Place
+pub mod History

@@ -1,5 +1,18 @@
-//! The words of the store: sequence numbers.
+//! The words of the store: keys, values and names, the batches that transactions make of them, and the history
+//! of entries that all clients share.
 #![tactic(auto)]
 
-/// The number of a history's entry, from 1 on. 0 is the number of the empty history.
+mod batch;
+mod change;
+mod entry;
+mod history;
+mod word;
+
+pub use batch::{Batch, MOST_KEYS, SetError};
+pub use change::Change;
+pub use entry::Entry;
+pub use history::value_at;
+pub use word::{Key, Name, Value, Word, WordError};
+
+/// The number of an entry, from 1 on. 0 stands for the empty history.
 pub type Seq = u64;

@@ -1,0 +1,145 @@
+ghost use Rattle.std.specs.Prelude.{◌≡◌, ◌==◌, ◌↔◌, true, false, IfOk, IsErrOf, refl};
+ghost use Rattle.std.specs.List.{list_all};
+ghost use Rattle.std.specs.Ordering.{nat_cmp, as_partial_cmp};
+ghost use Rattle.std.specs.Cmp.{partial_order_from_own_ties};
+ghost use Rattle.std.specs.Cmp.Lexicographic.{slice_cmp, pointwise};
+ghost use Rattle.std.specs.Cmp.Rules.{comparing};
+ghost use Rattle.std.proofs.Common.{rules};
+ghost use Rattle.wp_model.specs.Word.{is_word, is_word_byte};
+ghost use Rattle.wp_model.specs.declared.word.WordError.TheVariants.{Memory};
+
+use std::alloc::{AllocError, Global};
+use std::cmp::Ordering;
+use std::marker::Model;
+
+/// Why bytes could not be read as a word.
+#[derive(Clone, Copy, Debug, PartialEq, Eq)]
+pub enum WordError {
+    /// Out of memory.
+    Memory,
+    /// There are none or too many, or one of them is outside `!` to `~`.
+    BadWord,
+}
+
+impl From<AllocError> for WordError {
+    ghost from_gives = { λ _ e. e ≡ Memory };
+
+    fn from(_e: AllocError) -> WordError {
+        WordError::Memory
+    }
+}
+
+/// 1 to `MOST` bytes, each printable ASCII other than the space: from `!` (0x21) to `~` (0x7E).
+#[derive(Debug, Drop)]
+pub struct Word<const MOST: usize> {
+    bytes: Vec<u8>,
+}
+
+/// A key: a word of 1 to 64 bytes.
+pub type Key = Word<64>;
+
+/// A value: a word of 1 to 256 bytes.
+pub type Value = Word<256>;
+
+/// The name of a transaction, a client, a snapshot or a label: a word of 1 to 32 bytes.
+pub type Name = Word<32>;
+
+impl<const MOST: usize> Model for Word<MOST> {
+    ghost use Rattle.std.specs.Prelude.{◌≡◌, ℕ, List, true};
+    ghost use Rattle.wp_model.specs.Word.{is_word};
+
+    ghost Value = { List ℕ };
+
+    ghost view = { λ w. w.bytes.items };
+
+    ghost invariant = { λ w. is_word MOST w.bytes.items ≡ true };
+}
+
+fn are_word_bytes(bytes: &[u8]) -> bool
+    ensures { result ≡ list_all is_word_byte bytes.now }
+{
+    bytes.iter().all(|b| *b >= b'!' && *b <= b'~')
+}
+
+fn is_word_of(bytes: &[u8], most: usize) -> bool
+    ensures { result ≡ is_word most bytes.now }
+{
+    if bytes.is_empty() {
+        return false;
+    }
+    if bytes.len() > most {
+        return false;
+    }
+    are_word_bytes(bytes)
+}
+
+impl<const MOST: usize> Word<MOST> {
+    /// The word that the bytes are.
+    pub fn read(alloc: Global, bytes: &[u8]) -> Result<Self, WordError>
+        ensures word { IfOk result (λ word. word ≡ bytes.now) }
+        ensures bad_word { IsErrOf result WordError.BadWord ↔ (is_word MOST bytes.now ≡ false) }
+    {
+        if !is_word_of(bytes, MOST) {
+            return Err(WordError::BadWord);
+        }
+        Ok(Word {
+            bytes: Vec::from_slice(alloc, bytes)?,
+        })
+    }
+
+    /// The bytes of the word.
+    pub fn bytes(&self) -> &[u8]
+        ensures value { result.now ≡ self.now }
+        ensures in_range { is_word MOST self.now ≡ true }
+    {
+        &self.bytes
+    }
+
+    /// The same word once more.
+    pub fn copy(&self, alloc: Global) -> Result<Self, AllocError>
+        ensures { IfOk result (λ word. word ≡ self.now) }
+    {
+        Ok(Word {
+            bytes: Vec::from_slice(alloc, &self.bytes)?,
+        })
+    }
+}
+
+impl<const MOST: usize> PartialEq for Word<MOST> {
+    ghost eq = { pointwise ◌==◌ };
+
+    ghost laws = { Prim.search (comparing, rules) };
+
+    fn eq(&self, other: &Word<MOST>) -> bool {
+        self.bytes == other.bytes
+    }
+}
+
+impl<const MOST: usize> Eq for Word<MOST> {
+    ghost laws = { Prim.search (comparing, rules) };
+}
+
+impl<const MOST: usize> PartialOrd for Word<MOST> {
+    ghost partial_cmp = { as_partial_cmp (slice_cmp nat_cmp) };
+
+    ghost laws = { partial_order_from_own_ties (Prim.search (comparing, rules)) (Prim.search (comparing, rules)) };
+
+    fn partial_cmp(&self, other: &Word<MOST>) -> Option<Ordering> {
+        Some(self.cmp(other))
+    }
+}
+
+/// Words are ordered byte by byte, a word before its extensions.
+impl<const MOST: usize> Ord for Word<MOST> {
+    ghost cmp = { slice_cmp nat_cmp };
+
+    ghost total = { Prim.search (comparing, rules) };
+
+    ghost matches_partial_cmp = { λ x y. refl };
+
+    ghost matches_eq = { Prim.search (comparing, rules) };
+
+    fn cmp(&self, other: &Word<MOST>) -> Ordering {
+        self.bytes.cmp(&other.bytes)
+    }
+}

@@ -1,0 +1,107 @@
+-- The disk model: what a read gives, and what a crash may leave.
+--
+-- Between two syncs each written range, and everything past the shortest length since the last sync, may hold any
+-- bytes, and the length may be any from the shortest to the longest since then; other bytes stay.
+use Rattle.std.specs.Prelude.{◌≡◌, ◌⊎◌, ℕ, zero, suc, ◌+◌, ◌-◌, ◌≤◌, min, max, List, [], ◌∷◌, ◌++◌, map, length, take, drop, ⊤, Option, None, Some}
+
+-- a disk at one moment
+pub record Moment : Type 0 where
+  pub reads : List ℕ  -- what a read gives
+  pub sure : List (Option ℕ)  -- each byte below the shortest length since the last sync; None: any byte may stand there
+  pub longest : ℕ  -- the longest length since the last sync
+
+-- the bytes begin with those that are sure
+abbrev pub Matches : List (Option ℕ) → List ℕ → Type 0
+Matches [] bytes = ⊤
+Matches (known ∷ sure) [] = ⊥
+Matches (None ∷ sure) (b ∷ bytes) = Matches sure bytes
+Matches (Some known ∷ sure) (b ∷ bytes) = (b ≡ known) × Matches sure bytes
+
+-- a crash at this moment may leave these bytes
+abbrev pub IsImage : Moment → List ℕ → Type 0
+IsImage m bytes = Matches m.sure bytes × (length bytes ≤ m.longest)
+
+-- all of it on the disk: a crash leaves these bytes and nothing else
+abbrev pub settled : List ℕ → Moment
+settled bytes = record { reads = bytes; sure = map (λ b. Some b) bytes; longest = length bytes }
+
+-- these bytes written at a place over the old ones, a gap before them filled with zeros
+abbrev pub put : ℕ → List ℕ → List ℕ → List ℕ
+put zero bytes old = bytes ++ drop (length bytes) old
+put (suc at) bytes [] = 0 ∷ put at bytes []
+put (suc at) bytes (b ∷ old) = b ∷ put at bytes old
+
+-- the first n bytes may be any
+abbrev pub hide : ℕ → List (Option ℕ) → List (Option ℕ)
+hide zero sure = sure
+hide (suc n) [] = []
+hide (suc n) (known ∷ sure) = None ∷ hide n sure
+
+-- n bytes from a place on may be any
+abbrev pub hide_at : ℕ → ℕ → List (Option ℕ) → List (Option ℕ)
+hide_at zero n sure = hide n sure
+hide_at (suc at) n [] = []
+hide_at (suc at) n (known ∷ sure) = known ∷ hide_at at n sure
+
+-- where a write ends; a write of no bytes has no end
+abbrev pub write_end : ℕ → List ℕ → ℕ
+write_end at [] = 0
+write_end at (b ∷ bytes) = at + length (b ∷ bytes)
+
+-- a write of no bytes changes nothing
+abbrev pub after_write : ℕ → List ℕ → Moment → Moment
+after_write at [] m = m
+after_write at (b ∷ bytes) m = record {
+  reads = put at (b ∷ bytes) m.reads;
+  sure = hide_at at (length (b ∷ bytes)) m.sure;
+  longest = max m.longest (write_end at (b ∷ bytes));
+}
+
+-- a length that is no less changes nothing
+abbrev pub after_cut : ℕ → Moment → Moment
+after_cut len m = record { reads = take len m.reads; sure = take len m.sure; longest = m.longest }
+
+abbrev pub after_sync : Moment → Moment
+after_sync m = settled m.reads
+
+-- of a disk that tells its moments, the newest first: P of the newest
+abbrev pub IfTold : List Moment → (Moment → Type 0) → Type 0
+IfTold [] P = ⊤
+IfTold (m ∷ past) P = P m
+
+-- a disk as it reads is one of its images
+abbrev pub ReadsItself : List Moment → Type 0
+ReadsItself moments = IfTold moments (λ m. IsImage m m.reads)
+
+-- n bytes from a place on stand at the front of buf, fewer than it has room for exactly at the end
+pub record IsRead (reads : List ℕ) (at : ℕ) (buf : List ℕ) (n : ℕ) : Type 0 where
+  pub count : n ≡ min (length buf) (length reads - at)
+  pub bytes : take n buf ≡ take n (drop at reads)
+
+-- one more moment, that which the step makes of the newest; a disk that tells none still tells none
+abbrev pub Adds : (Moment → Moment) → List Moment → List Moment → Type 0
+Adds step [] new = new ≡ []
+Adds step (m ∷ past) new = new ≡ step m ∷ m ∷ past
+
+-- the step broke off: as before, or one more moment with the images that the step makes, of which a read gives any
+abbrev pub Tears : (Moment → Moment) → List Moment → List Moment → Type 0
+Tears step [] new = new ≡ []
+Tears step (m ∷ past) new = (new ≡ m ∷ past) ⊎ ((bytes : List ℕ) × (new ≡ record (step m) { reads = bytes } ∷ m ∷ past))
+
+-- each element has P
+abbrev pub Each : {A : Type 0} → (A → Type 0) → List A → Type 0
+Each P [] = ⊤
+Each P (x ∷ xs) = P x × Each P xs
+
+-- each moment that came since old has P
+abbrev pub Passes : (Moment → Type 0) → List Moment → List Moment → Type 0
+Passes P old new = (more : List Moment) × (new ≡ more ++ old) × Each P more
+
+-- what a crash now may leave
+abbrev pub images : List Moment → List ℕ → Type 0
+images [] bytes = ⊥
+images (m ∷ past) bytes = IsImage m bytes
+
+-- what a crash at some moment since a call began may have left; at that of its beginning too
+abbrev pub images_since : List Moment → List Moment → List ℕ → Type 0
+images_since old new bytes = images old bytes ⊎ ((later earlier : List Moment) × (m : Moment) × (new ≡ later ++ m ∷ earlier ++ old) × IsImage m bytes)

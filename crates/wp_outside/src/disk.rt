@@ -1,0 +1,71 @@
+ghost use Rattle.std.specs.Prelude.{◌≡◌, ℕ, ◌+◌, ◌-◌, ◌^◌, ◌≤◌, List, length, IfOk, OnOk, OnErr};
+ghost use Rattle.wp_outside.specs.Faults.{HasCause};
+ghost use Rattle.wp_outside.specs.Disk.{Moment, IsRead, IfTold, Adds, Tears, write_end, after_write, after_cut, after_sync, ReadsItself};
+
+use crate::failed::Failed;
+
+/// A device of bytes, each at its place from 0 on.
+///
+/// A write or a cut that fails may have been done in part. What a sync that answered `Ok` found, a crash leaves;
+/// one that fails has settled nothing.
+pub trait Disk {
+    /// The disk at each moment so far, the newest first; empty where it doesn't tell.
+    ghost moments: { Self → List Moment };
+
+    /// How many calls failed, up to the greatest `u64`.
+    ghost faults: { Self → ℕ };
+
+    /// The length in bytes. A disk that is longer than 2^62 bytes fails.
+    fn len(&mut self) -> Result<u64, Failed>
+        ensures bounded { IfOk result (λ n. n ≤ 2 ^ 62) }
+        ensures length { IfOk result (λ n. IfTold (moments self.old) (λ m. n ≡ length m.reads)) }
+        ensures kept { moments self.new ≡ moments self.old }
+        ensures cause { HasCause (faults self.old) (faults self.new) result };
+
+    /// Reads from `at` on into the front of `buf`, and says how many bytes: none past the end. The rest of `buf` may
+    /// hold anything afterwards.
+    fn read_at(&mut self, at: u64, buf: &mut [u8]) -> Result<usize, Failed>
+        requires { at + length buf.old ≤ 2 ^ 63 - 1 }
+        ensures count { IfOk result (λ n. n ≤ length buf.new) }
+        ensures bytes { IfOk result (λ n. IfTold (moments self.old) (λ m. IsRead m.reads at buf.new n)) }
+        ensures kept { moments self.new ≡ moments self.old }
+        ensures cause { HasCause (faults self.old) (faults self.new) result };
+
+    /// Writes over what stands from `at` on, and past the end. A write that would end past 2^62 fails.
+    fn write_at(&mut self, at: u64, bytes: &[u8]) -> Result<(), Failed>
+        ensures bounded { OnOk result (write_end at bytes.now ≤ 2 ^ 62) }
+        ensures done { OnOk result (Adds (after_write at bytes.now) (moments self.old) (moments self.new)) }
+        ensures torn { OnErr result (Tears (after_write at bytes.now) (moments self.old) (moments self.new)) }
+        ensures cause { HasCause (faults self.old) (faults self.new) result };
+
+    /// Cuts to `len` bytes what is longer.
+    fn cut(&mut self, len: u64) -> Result<(), Failed>
+        ensures done { OnOk result (Adds (after_cut len) (moments self.old) (moments self.new)) }
+        ensures torn { OnErr result (Tears (after_cut len) (moments self.old) (moments self.new)) }
+        ensures cause { HasCause (faults self.old) (faults self.new) result };
+
+    /// Puts what a read gives on the disk for good.
+    fn sync(&mut self) -> Result<(), Failed>
+        ensures done { OnOk result (Adds after_sync (moments self.old) (moments self.new)) }
+        ensures kept { OnErr result (moments self.new ≡ moments self.old) }
+        ensures cause { HasCause (faults self.old) (faults self.new) result };
+
+    /// As it reads, it is one of its images.
+    ghost itself: { (disk : Self) → ReadsItself (moments disk) };
+}
+
+/// The three devices of one store.
+#[derive(Drop)]
+pub struct Disks<D> {
+    pub log: D,
+    pub manifest: D,
+    pub tables: D,
+}
+
+/// Names one of a store's devices.
+#[derive(Clone, Copy, Debug, PartialEq, Eq)]
+pub enum Device {
+    Log,
+    Manifest,
+    Tables,
+}
