@@ -86,11 +86,15 @@ behind_number due bytes = do
   number ← number_at w32 bytes
   if number.0 == due then Ok number.1 else Err (BadNumber number.0 due)
 
--- the entries of that kind
+-- one Write
+unfoldable pub write_at : List ℕ → Result (List Entry × List ℕ) RecordError
+write_at bytes = do
+  batch ← batch_at bytes
+  Ok (Write batch.0 ∷ [], batch.1)
+
+-- the entries of a record of that kind
 unfoldable pub entries_at : ℕ → List ℕ → Result (List Entry × List ℕ) RecordError
-entries_at kind bytes =
-  if kind == 1 then (batch_at bytes >>= λ batch. Ok (Write batch.0 ∷ [], batch.1))
-  else Err (BadKind kind)
+entries_at kind bytes = if kind == 1 then write_at bytes else Err (BadKind kind)
 
 -- all of the bytes
 unfoldable pub record_at : ℕ → List ℕ → Result (List Entry) RecordError

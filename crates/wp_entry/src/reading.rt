@@ -5,7 +5,7 @@ ghost use Rattle.wp_model.specs.Batch.{key_of, is_batch};
 ghost use Rattle.wp_entry.specs.Record.{IsRecord, record_bytes};
 ghost use Rattle.wp_entry.specs.Reading.{
     Gives, GivesRest, GivesEntries, IsReading, byte_at, number_at, word_at, value_at, is_above_last, next_key_at,
-    next_change_at, changes_at, batch_at, behind_number, entries_at, record_at
+    next_change_at, changes_at, batch_at, behind_number, write_at, entries_at, record_at
 };
 
 use crate::error::RecordError;
@@ -137,15 +137,20 @@ fn due_number(fields: &mut Fields<'_>, due: Seq) -> Result<(), RecordError>
     Ok(())
 }
 
+#[tactic(auto, unfolding(crate::specs::Reading::write_at))]
+fn one_write(alloc: Global, fields: &mut Fields<'_>) -> Result<Vec<Entry>, RecordError>
+    ensures { GivesEntries result fields.new (write_at fields.old) }
+{
+    let write = Entry::Write(batch(alloc, fields)?);
+    Ok(vec![in alloc; write]?)
+}
+
 #[tactic(auto, unfolding(crate::specs::Reading::entries_at))]
 fn entries(alloc: Global, fields: &mut Fields<'_>, kind: u8) -> Result<Vec<Entry>, RecordError>
     ensures { GivesEntries result fields.new (entries_at kind fields.old) }
 {
     match kind {
-        WRITE => {
-            let write = Entry::Write(batch(alloc, fields)?);
-            Ok(vec![in alloc; write]?)
-        }
+        WRITE => one_write(alloc, fields),
         other => Err(RecordError::BadKind(other)),
     }
 }
@@ -162,4 +167,18 @@ fn record(alloc: Global, bytes: &[u8], first: Seq) -> Result<Vec<Entry>, RecordE
         0 => Ok(entries),
         extra => Err(RecordError::Extra(extra)),
     }
+}
+
+/// Reads the record whose first entry's number is `first`: the bytes are it, and nothing follows.
+pub fn read_record(alloc: Global, bytes: &[u8], first: Seq) -> Result<Vec<Entry>, RecordError>
+    // What is read is a record, and the bytes are its spelling.
+    ensures found { IfOk result (λ entries. IsRecord first entries.items
+        × (bytes.now ≡ record_bytes first entries.items)) }
+    // What is spelled so is read, unless memory runs out.
+    ensures only { (entries : List Entry) → IsRecord first entries → bytes.now ≡ record_bytes first entries
+        → IsReading result (Ok entries) }
+    // Which fault it is: the first from the left.
+    ensures exact { IsReading result (record_at first bytes.now) }
+{
+    record(alloc, bytes, first)
 }
