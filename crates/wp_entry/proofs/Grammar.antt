@@ -160,6 +160,10 @@ number_takes_due first bytes rest h e =
     let found = subst (λ (m : ℕ). Begins bytes (to_be_bytes w32 m) n.0.1 × (m < 2 ^ 32)) (eqb-true n.0.0 first due.0) number in
     subst (λ (r : List ℕ). Begins bytes (to_be_bytes w32 first) r × (first < 2 ^ 32)) (same_read n.0.1 rest due.1) found
 
+-- the number, the kind with what the entries hold, and nothing behind them
+ends_whole : (bytes number behind kind entries rest : List ℕ) → bytes ≡ number ++ behind → behind ≡ kind → kind ≡ entries ++ rest → length rest ≡ 0 → bytes ≡ number ++ entries
+ends_whole bytes number behind kind entries rest front same back none = rw (front, same, back, nil_from_length rest none, append-nil entries) refl
+
 -- what is read is a record, and the bytes are its spelling
 pub record_takes : (first : ℕ) (bytes : List ℕ) (entries : List Entry) → AreBytes bytes → record_at first bytes ≡ Ok entries → IsRecord first entries × (bytes ≡ record_bytes first entries)
 unfolding record_at
@@ -171,8 +175,7 @@ record_takes first bytes entries h e =
     let number = number_takes_due first bytes s.0 h s.1 in
     let kind = byte_takes s.0 k.0 number.0.behind k.1 in
     let found = entries_take first k.0.0 k.0.1 f.0 number.1 kind.behind f.1 in
-    let ended : f.0.1 ≡ [] = nil_from_length f.0.1 (eqb-true _ _ last.0) in
-    let whole : bytes ≡ record_bytes first f.0.0 = number.0.parts ∙ ap (λ (t : List ℕ). to_be_bytes w32 first ++ t) (kind.parts ∙ found.0.parts ∙ ap (λ (t : List ℕ). entries_bytes f.0.0 ++ t) ended ∙ append-nil (entries_bytes f.0.0)) in
+    let whole = ends_whole bytes (to_be_bytes w32 first) s.0 (k.0.0 ∷ k.0.1) (entries_bytes f.0.0) f.0.1 number.0.parts kind.parts found.0.parts (eqb-true (length f.0.1) 0 last.0) in
     let both : IsRecord first f.0.0 × (bytes ≡ record_bytes first f.0.0) = (found.1, whole) in
     rw (← same_read f.0.0 entries last.1) both
 

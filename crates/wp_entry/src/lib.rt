@@ -8,11 +8,9 @@
 mod error;
 mod layout;
 mod reading;
-
+mod writing;
 
 pub use error::RecordError;
-
-
-
-
+pub use reading::read_record;
+pub use writing::write_record;
 
