@@ -1,11 +1,11 @@
 -- The two laws of records: what is read is spelled so, and what is spelled so is read.
-use Rattle.std.proofs.Common.{◌≡◌, ℕ, zero, suc, ◌+◌, ◌^◌, ◌<◌, ◌≤◌, Bool, true, false, cond, ltb, leb, eqb, ◌&&◌, List, [], ◌∷◌, ◌++◌, length, Result, Ok, Err, refl, sym, ap, subst, ◌∙◌, append_assoc, arith}
+use Rattle.std.proofs.Common.{◌≡◌, ℕ, zero, suc, ◌^◌, ◌<◌, true, false, cond, ltb, leb, eqb, List, [], ◌∷◌, ◌++◌, length, Result, Ok, Err, refl, sym, ap, subst, ◌∙◌, append_assoc, arith}
 use Rattle.std.specs.Prelude.{IfOk}
 use Rattle.std.specs.Global.{Vec}
 use Rattle.std.specs.Int.{w32, to_be_bytes}
 use Rattle.std.specs.List.{flat_map, list_all}
 use Rattle.std.proofs.lemmas.Bool.{ltb-false, le-ltb, eqb-true, eq-eqb, leb-true, le-leb, and_parts, and_from}
-use Rattle.std.proofs.lemmas.List.{append-nil, length_push, nil_from_length}
+use Rattle.std.proofs.lemmas.List.{append-nil, nil_from_length}
 use Rattle.wp_model.specs.declared.batch.TheConstants.{MOST_KEYS}
 use Rattle.wp_model.specs.declared.change.Change.{Change}
 use Rattle.wp_model.specs.declared.change.Change.TheVariants.{Put, Del}
@@ -15,10 +15,10 @@ use Rattle.wp_model.specs.Word.{is_word}
 use Rattle.wp_model.specs.Batch.{key_of, are_ascending, is_batch}
 use Rattle.wp_entry.specs.declared.error.RecordError.{RecordError}
 use Rattle.wp_entry.specs.declared.error.RecordError.TheVariants.{BadNumber, BadKind, BadWord, Extra}
-use Rattle.wp_entry.specs.Record.{key_bytes, value_bytes, change_bytes, batch_bytes, entries_bytes, record_bytes, is_change, is_entry, ShareRecord, IsRecord}
-use Rattle.wp_entry.specs.Reading.{◌>>=◌, byte_at, number_at, word_at, value_at, is_above_last, next_key_at, next_change_at, changes_at, batch_at, behind_number, write_at, entries_at, record_at, IsReading}
+use Rattle.wp_entry.specs.Record.{key_bytes, value_bytes, change_bytes, batch_bytes, entries_bytes, record_bytes, is_change, is_entry, IsRecord}
+use Rattle.wp_entry.specs.Reading.{◌>>=◌, byte_at, number_at, word_at, value_at, is_above_last, next_key_at, next_change_at, changes_at, batch_at, behind_number, write_at, entries_at, record_at, Gives}
 use Rattle.wp_entry.proofs.Order.{ascending_push, above_from_ascending}
-use Rattle.wp_entry.proofs.Fields.{AreBytes, Begins, Begins-then, step_ok, refusal_missed, test_met, same_read, byte_takes, number_takes, number_again, fields_32, word_takes, word_again, length_of_word, value_takes, value_again}
+use Rattle.wp_entry.proofs.Fields.{AreBytes, Begins, Begins-then, step_ok, refusal_missed, test_met, same_read, byte_takes, number_takes, number_again, fields_32, word_takes, word_again, value_takes, value_again}
 
 -- ---- keys
 
@@ -142,7 +142,7 @@ write_takes first bytes x small h e =
     let batch = batch_takes bytes s.0 h s.1 in
     let kind : Begins (1 ∷ bytes) (1 ∷ []) bytes = record { parts = refl; behind = h } in
     let found : Begins (1 ∷ bytes) (entries_bytes (Write s.0.0 ∷ [])) s.0.1 × IsRecord first (Write s.0.0 ∷ []) =
-        (Begins-then (1 ∷ bytes) (1 ∷ []) bytes (batch_bytes s.0.0) s.0.1 kind batch.0, record { share = small; in_range = and_from _ _ batch.1 refl }) in
+    (Begins-then (1 ∷ bytes) (1 ∷ []) bytes (batch_bytes s.0.0) s.0.1 kind batch.0, record { form = small; in_range = and_from _ _ batch.1 refl }) in
     rw (← same_read (Write s.0.0 ∷ [], s.0.1) x s.2) found
 
 entries_take : (first kind : ℕ) (bytes : List ℕ) (x : List Entry × List ℕ) → first < 2 ^ 32 → AreBytes bytes → entries_at kind bytes ≡ Ok x → Begins (kind ∷ bytes) (entries_bytes x.0) x.1 × IsRecord first x.0
@@ -182,14 +182,14 @@ record_takes first bytes entries h e =
 -- what is spelled so is read
 pub record_again : (first : ℕ) (entries : List Entry) → IsRecord first entries → record_at first (record_bytes first entries) ≡ Ok entries
 unfolding record_at behind_number entries_at write_at
-record_again first [] is = absurd is.share
+record_again first [] is = absurd is.form
 record_again first (Write batch ∷ []) is =
     let entry = (and_parts (is_entry (Write batch)) true is.in_range).0 in
     let read : batch_at (batch_bytes batch) ≡ Ok (batch, []) = ap batch_at (sym (append-nil (batch_bytes batch))) ∙ batch_again batch [] entry in
     let due : eqb first first ≡ true = eq-eqb first first refl in
-    rw (number_again w32 (2 ^ 32) fields_32 first (1 ∷ batch_bytes batch) is.share, due, read) refl
-record_again first (Write batch ∷ second ∷ others) is = absurd is.share
+    rw (number_again w32 (2 ^ 32) fields_32 first (1 ∷ batch_bytes batch) is.form, due, read) refl
+record_again first (Write batch ∷ second ∷ others) is = absurd is.form
 
-pub found_is_record : (first : ℕ) (bytes : List ℕ) (result : Result (Vec Entry) RecordError) → AreBytes bytes → IsReading result (record_at first bytes) → IfOk result (λ entries. IsRecord first entries.items × (bytes ≡ record_bytes first entries.items))
+pub found_is_record : (first : ℕ) (bytes : List ℕ) (result : Result (Vec Entry) RecordError) → AreBytes bytes → Gives (λ entries. entries.items) result (record_at first bytes) → IfOk result (λ entries. IsRecord first entries.items × (bytes ≡ record_bytes first entries.items))
 found_is_record first bytes (Ok entries) h read = record_takes first bytes entries.items h read
 found_is_record first bytes (Err fault) h read = tt

@@ -2,7 +2,15 @@ ghost use Rattle.std.specs.Prelude.{◌≡◌, ◌<◌, ◌^◌, ◌≤◌, true
 ghost use Rattle.std.specs.List.{list_all};
 ghost use Rattle.wp_model.specs.Word.{is_word};
 ghost use Rattle.wp_entry.specs.Record.{
-    key_bytes, value_bytes, change_bytes, batch_bytes, record_bytes, is_change, is_entry, ShareRecord, IsRecord
+  key_bytes,
+  value_bytes,
+  change_bytes,
+  batch_bytes,
+  record_bytes,
+  is_change,
+  is_entry,
+  FormRecord,
+  IsRecord,
 };
 
 use crate::layout::{DELETION, PUT, WRITE};
@@ -59,7 +67,7 @@ fn push_batch(out: &mut Vec<u8>, batch: &Batch) -> Result<(), AllocError>
 
 /// The one spelling of the record that the entries are, where the first of them has the number `first`.
 pub fn write_record(alloc: Global, first: Seq, entries: &[Entry]) -> Result<Vec<u8>, AllocError>
-    requires { ShareRecord first entries.now }
+    requires { FormRecord first entries.now }
     ensures record { OnOk result (IsRecord first entries.now) }
     ensures spelling { IfOk result (λ bytes. bytes.items ≡ record_bytes first entries.now) }
 {
