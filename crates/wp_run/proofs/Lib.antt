@@ -2,3 +2,4 @@ pub mod RunLemmas
 pub mod StepLemmas
 pub mod Explained
 pub mod TextLemmas
+pub mod WriteLemmas

@@ -2,4 +2,5 @@ pub mod Session
 pub mod Current
 pub mod Transcript
 pub mod Engine
+pub mod Outside
 pub mod Write

@@ -2,5 +2,6 @@
 #![tactic(auto)]
 
 mod engine;
+mod outside;
 mod session;
 mod transcript;

@@ -1,0 +1,17 @@
+//! Fields of the store's formats: numbers, the highest byte first, and pieces of bytes.
+//!
+//! `Fields` takes fields from the front of a record, a table or an edit. The `push` functions put the same
+//! fields at the end of a buffer. Each format above is written and read through these alone, so that how a
+//! number stands in bytes is said once.
+#![tactic(auto)]
+
+mod fields;
+mod laws;
+mod push;
+
+pub use fields::Fields;
+pub use laws::{numbers_have_one_spelling, pushed_numbers_are_read};
+pub use push::{push_piece, push_u8, push_u16, push_u32, push_u64};
+
+#[cfg(test)]
+mod tests;
