@@ -3,3 +3,4 @@ pub mod StepLemmas
 pub mod Explained
 pub mod TextLemmas
 pub mod WriteLemmas
+pub mod ReadLemmas
