@@ -3,4 +3,5 @@ pub mod Current
 pub mod Transcript
 pub mod Engine
 pub mod Outside
+pub mod Words
 pub mod Write

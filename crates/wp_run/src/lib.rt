@@ -5,3 +5,4 @@ mod engine;
 mod outside;
 mod session;
 mod transcript;
+mod words;
