@@ -22,6 +22,7 @@ impl<I: Input> Model for StdinSource<I> {
 }
 
 impl<I: Input> StdinSource<I> {
+    /// The standard input of this runtime; nothing is read yet.
     pub fn new(input: &I) -> Self
         ensures { result.faults ≡ 0 }
     {

@@ -5,7 +5,8 @@ use std::io::{self, Write};
 use std::marker::Model;
 use wp_outside::{Failed, Sink};
 
-/// Standard output. What a write took has left the process when it answers.
+/// Standard output. A write takes the whole piece, which has left the process when it answers; one that fails may have
+/// taken a part.
 #[derive(Drop)]
 pub struct StdoutSink<P: Print> {
     output: P,
@@ -21,6 +22,7 @@ impl<P: Print> Model for StdoutSink<P> {
 }
 
 impl<P: Print> StdoutSink<P> {
+    /// The standard output of this runtime.
     pub fn new(output: P) -> Self
         ensures { result.faults ≡ 0 }
     {
