@@ -1,6 +1,6 @@
-ghost use Rattle.std.specs.Prelude.{◌≡◌, ℕ, ◌+◌, ◌-◌, ◌^◌, ◌≤◌, ◌<◌, Bool, not, [], ◌∷◌, ◌++◌, drop, replicate, min, max, length, vec_len, vec_capacity, is_err, IsTrue, IfOk, OnOk, OnErr};
+ghost use Rattle.std.specs.Prelude.{◌≡◌, ℕ, ◌+◌, ◌-◌, ◌^◌, ◌≤◌, ◌<◌, Bool, not, [], ◌∷◌, ◌++◌, List, drop, replicate, min, max, length, vec_len, vec_capacity, is_err, IsTrue, IfOk, OnOk, OnErr};
 ghost use Rattle.wp_outside.specs.Counter.{no_calls, counted};
-ghost use Rattle.wp_outside.specs.Disk.{Moment, settled, put, write_end, after_write, after_cut, after_sync, added, IfTold, IsRead, Tears};
+ghost use Rattle.wp_outside.specs.Disk.{Moment, settled, put, write_end, after_write, after_cut, after_sync, added, IfTold, IsRead, Tears, images};
 ghost use Rattle.wp_outside.specs.Faults.{HasCause};
 ghost use Rattle.wp_outside.specs.Fits.{Fits};
 ghost use Rattle.wp_outside.specs.MemDisk.{Wrote, Shortened, Synced, contents, moments_of, is_used_up, refuses, after_call};
@@ -225,6 +225,7 @@ impl Disk for MemDisk {
 
     fn sync(&mut self) -> Result<(), Failed>
         ensures done { OnOk result (moments_of self.new ≡ added after_sync (moments_of self.old)) }
+        ensures durable { OnOk result ((image : List ℕ) → images (moments_of self.new) image → IfTold (moments_of self.old) (λ m. image ≡ m.reads)) }
         ensures kept { OnErr result (moments_of self.new ≡ moments_of self.old) }
         ensures cause { HasCause self.old.calls.faults self.new.calls.faults result }
         ensures exact { is_err result ≡ refuses self.old (length (contents self.old)) 0 }
