@@ -1,7 +1,7 @@
 -- The moments of a run of calls, and what a crash at one of them leaves.
-use Rattle.std.proofs.Common.{◌≡◌, ◌⊎◌, ℕ, ◌≤◌, List, [], ◌∷◌, ◌++◌, map, length, refl, sym, ◌∙◌, ap, subst, inl, inr, arith, append_assoc, Option, Some}
+use Rattle.std.proofs.Common.{◌≡◌, ◌⊎◌, ℕ, ◌≤◌, List, [], ◌∷◌, ◌++◌, map, length, refl, sym, ◌∙◌, ap, subst, inl, inr, arith, append_assoc, Some}
 use Rattle.std.proofs.lemmas.List.{append_cancel_right}
-use Rattle.wp_outside.specs.Disk.{Moment, Matches, IsImage, settled, added, after_sync, IfTold, Tears, Each, Passes, images, images_since}
+use Rattle.wp_outside.specs.Disk.{Moment, Matches, IsImage, added, after_sync, IfTold, Tears, Each, Passes, images, images_since}
 
 -- bytes that are sure, and no more of them
 pub settled_image : (bytes image : List ℕ) → Matches (map (λ b. Some b) bytes) image → length image ≤ length bytes → image ≡ bytes
@@ -33,7 +33,7 @@ passes_added P step [] p = ([], refl, tt)
 passes_added P step (m ∷ past) p = (step m ∷ [], refl, (p, tt))
 
 pub passes_torn : (P : Moment → Type 0) (step : Moment → Moment) (old new : List Moment) → Tears step old new
-  → IfTold old (λ m. (bytes : List ℕ) → P (record (step m) { reads = bytes })) → Passes P old new
+    → IfTold old (λ m. (bytes : List ℕ) → P (record (step m) { reads = bytes })) → Passes P old new
 passes_torn P step old new (inl e) p = subst (λ ms. Passes P old ms) (sym e) (passes_none P old)
 passes_torn P step [] new (inr (bytes, e)) p = subst (λ ms. Passes P [] ms) (sym e) (passes_none P [])
 passes_torn P step (m ∷ past) new (inr (bytes, e)) p =
@@ -45,7 +45,7 @@ each_at P (k ∷ later) earlier m each = each_at P later earlier m each.1
 
 -- what holds of the images of each moment that passed holds of what a crash since then left
 pub passed_image : (P : List ℕ → Type 0) (old new : List Moment) → Passes (λ m. (image : List ℕ) → IsImage m image → P image) old new
-  → (image : List ℕ) → images_since old new image → images old image ⊎ P image
+    → (image : List ℕ) → images_since old new image → images old image ⊎ P image
 passed_image P old new (more, e, each) image (inl before) = inl before
 passed_image P old new (more, e, each) image (inr (later, earlier, m, f, is_image)) =
     let same : more ≡ later ++ m ∷ earlier = append_cancel_right more (later ++ m ∷ earlier) old (sym e ∙ f) in

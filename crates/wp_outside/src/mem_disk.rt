@@ -1,4 +1,4 @@
-ghost use Rattle.std.specs.Prelude.{◌≡◌, ℕ, ◌+◌, ◌-◌, ◌^◌, ◌≤◌, ◌<◌, Bool, not, [], ◌∷◌, ◌++◌, List, drop, replicate, min, max, length, vec_len, vec_capacity, is_err, IsTrue, IfOk, OnOk, OnErr};
+ghost use Rattle.std.specs.Prelude.{◌≡◌, ℕ, ◌+◌, ◌-◌, ◌^◌, ◌≤◌, ◌<◌, not, [], ◌∷◌, ◌++◌, List, drop, replicate, min, max, length, vec_capacity, is_err, IsTrue, IfOk, OnOk, OnErr};
 ghost use Rattle.wp_outside.specs.Counter.{no_calls, counted};
 ghost use Rattle.wp_outside.specs.Disk.{Moment, settled, put, write_end, after_write, after_cut, after_sync, added, IfTold, IsRead, Tears, images};
 ghost use Rattle.wp_outside.specs.Faults.{HasCause};
@@ -36,8 +36,7 @@ pub struct MemDisk {
 }
 
 impl Model for MemDisk {
-    ghost use Rattle.wp_outside.specs.Fits.{Fits};
-ghost use Rattle.wp_outside.specs.MemDisk.{DiskState};
+    ghost use Rattle.wp_outside.specs.MemDisk.{DiskState};
 
     ghost Value = { DiskState };
 

@@ -49,7 +49,10 @@ fn disk_fails_where_it_is_told_to(rt: HostRuntime) -> Result<(), Fail> {
     let mut disk = MemDisk::new(alloc, Vec::new(alloc), 4, 5, vec![in alloc; 2]?)?;
     disk.write_at(0, b"abc")?;
     assert!(rt; disk.sync().is_err(), "it is listed");
-    assert!(rt; disk.write_at(3, b"de").is_err(), "the disk would be too long");
+    assert!(rt;
+        disk.write_at(3, b"de").is_err(),
+        "the disk would be too long"
+    );
     assert!(rt; disk.write_at(0, b"de").is_err(), "too many bytes in all");
     disk.write_at(9, b"")?;
     assert!(rt; disk.len().is_err(), "its calls are used up");

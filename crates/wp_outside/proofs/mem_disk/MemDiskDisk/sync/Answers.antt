@@ -1,8 +1,8 @@
-use Rattle.std.proofs.Common.{◌≡◌, ℕ, ◌+◌, ◌-◌, ◌≤◌, ◌<◌, List, [], ◌∷◌, ◌++◌, length, take, drop, min, max, not, arith, sym, ◌∙◌, ap, subst, refl}
+use Rattle.std.proofs.Common.{[], arith, sym, ◌∙◌, ap, subst, refl}
 use Rattle.std.proofs.lemmas.List.{append-nil}
 use Rattle.wp_outside.specs.declared.mem_disk.Change.TheVariants.{Sync}
 use Rattle.wp_outside.specs.MemDisk.{Synced, moments_of}
-use Rattle.wp_outside.specs.Disk.{images, IfTold}
+use Rattle.wp_outside.specs.Disk.{images}
 use Rattle.wp_outside.proofs.Moments.{synced_image}
 use Rattle.wp_outside.proofs.Replayed.{IsNoted, noted, noted_effects, moments_of-more}
 use Rattle.wp_outside.proofs.mem_disk.MemDiskDisk.sync.Goals as goal
@@ -22,7 +22,7 @@ is_noted c =
       most = refl;
       bytes_room = omega arith;
       written_room = omega arith;
-      past_room = c.note.ensures.capacity
+      past_room = c.note.ensures.capacity;
     }
 
 pub invariant_of-self-2 : goal.invariant_of-self-2
