@@ -37,7 +37,7 @@ pub trait Disk {
         ensures torn { OnErr result (Tears (after_write at bytes.now) (moments self.old) (moments self.new)) }
         ensures cause { HasCause (faults self.old) (faults self.new) result };
 
-    /// Cuts to `len` bytes what is longer.
+    /// Cuts to `len` bytes what is longer; a shorter disk stays as it is.
     fn cut(&mut self, len: u64) -> Result<(), Failed>
         ensures done { OnOk result (moments self.new ≡ added (after_cut len) (moments self.old)) }
         ensures torn { OnErr result (Tears (after_cut len) (moments self.old) (moments self.new)) }

@@ -58,7 +58,7 @@ impl MemDisk {
         calls: u64,
         fails: Vec<u64>,
     ) -> Result<MemDisk, AllocError>
-        ensures made { IfOk result (λ d. d ≡ record { start = bytes.items; effects = []; room = min room (2 ^ 62); most = calls; calls = no_calls fails.items }) }
+        ensures state { IfOk result (λ d. d ≡ record { start = bytes.items; effects = []; room = min room (2 ^ 62); most = calls; calls = no_calls fails.items }) }
         ensures settled { IfOk result (λ d. moments_of d ≡ settled bytes.items ∷ []) }
     {
         let room = room.min(MOST_ROOM);
