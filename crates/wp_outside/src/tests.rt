@@ -70,8 +70,16 @@ fn room_beyond_memory_is_refused(rt: HostRuntime) -> Result<(), Fail> {
     Ok(())
 }
 
+fn goes_to_a_thread<T: Send>(_value: &T) {}
+
+fn is_shared_by_threads<T: Sync>(_value: &T) {}
+
 #[test]
-fn open_gate_lets_through(_rt: HostRuntime) -> Result<(), Fail> {
+fn disk_and_gate_serve_threads(rt: HostRuntime) -> Result<(), Fail> {
+    let alloc = rt.alloc();
+    let disk = MemDisk::new(alloc, Vec::new(alloc), 0, 0, Vec::new(alloc))?;
+    goes_to_a_thread(&disk);
+    is_shared_by_threads(&OpenGate);
     OpenGate.pass(1, 1);
     OpenGate.done(1, 1);
     Ok(())
