@@ -1,6 +1,6 @@
 -- What the record of a disk in memory gives when it is read again.
-use Rattle.std.proofs.Common.{◌≡◌, ℕ, ◌+◌, ◌-◌, ◌^◌, ◌<◌, ◌≤◌, Vec, Global, vec_capacity, List, [], ◌∷◌, ◌++◌, length, take, drop, sum_by, fold, subst, sym, ◌∙◌, ap, refl, le_refl, arith, length-append, length-drop}
-use Rattle.std.proofs.lemmas.List.{length-take, length-take-le, take-append-le, drop-append-le, take_all}
+use Rattle.std.proofs.Common.{◌≡◌, ℕ, ◌+◌, ◌<◌, ◌≤◌, Vec, Global, vec_capacity, List, [], ◌∷◌, ◌++◌, length, take, drop, sum_by, fold, subst, sym, ◌∙◌, ap, refl, le_refl, arith, length-append, length-drop}
+use Rattle.std.proofs.lemmas.List.{length-take-le, take-append-le, drop-append-le, take_all}
 use Rattle.std.proofs.lemmas.List.Sums.{fold-append, sum_by-cons, sum_by_push}
 use Rattle.wp_outside.specs.declared.mem_disk.Change.{Change}
 use Rattle.wp_outside.specs.declared.mem_disk.Change.TheVariants.{Write, Cut, Sync}
@@ -17,7 +17,7 @@ written_again (Write at len ∷ past) written fits =
     let all : sum_by bytes_of_change (Write at len ∷ past) ≡ len + sum_by bytes_of_change past = sum_by-cons bytes_of_change (Write at len) past in
     let front : length (take len written) ≡ len = length-take-le len written (omega arith) in
     let rest : sum_by bytes_of_effect (effects_of past (drop len written)) ≡ sum_by bytes_of_change past =
-      written_again past (drop len written) (omega (arith, length-drop len written)) in
+    written_again past (drop len written) (omega (arith, length-drop len written)) in
     sum_by-cons bytes_of_effect (Wrote at (take len written)) (effects_of past (drop len written)) ∙ (omega arith)
 written_again (Cut len ∷ past) written fits =
     let all : sum_by bytes_of_change (Cut len ∷ past) ≡ 0 + sum_by bytes_of_change past = sum_by-cons bytes_of_change (Cut len) past in
@@ -42,14 +42,14 @@ first_effect Sync piece size = refl
 
 -- one more change
 effects_of-more : (past : List Change) (written : List ℕ) (change : Change) (piece : List ℕ) → bytes_of_change change ≡ length piece
-  → sum_by bytes_of_change past ≡ length written → effects_of (past ++ change ∷ []) (written ++ piece) ≡ effects_of past written ++ effect_of change piece ∷ []
+    → sum_by bytes_of_change past ≡ length written → effects_of (past ++ change ∷ []) (written ++ piece) ≡ effects_of past written ++ effect_of change piece ∷ []
 effects_of-more [] [] change piece size total = first_effect change piece size
 effects_of-more [] (b ∷ written) change piece size total = absurd (omega arith)
 effects_of-more (Write at len ∷ past) written change piece size total =
     let all : sum_by bytes_of_change (Write at len ∷ past) ≡ len + sum_by bytes_of_change past = sum_by-cons bytes_of_change (Write at len) past in
     let fits : len ≤ length written = omega arith in
     let rest : effects_of (past ++ change ∷ []) (drop len written ++ piece) ≡ effects_of past (drop len written) ++ effect_of change piece ∷ [] =
-      effects_of-more past (drop len written) change piece size (omega (arith, length-drop len written)) in
+    effects_of-more past (drop len written) change piece size (omega (arith, length-drop len written)) in
     ap (λ xs. Wrote at xs ∷ effects_of (past ++ change ∷ []) (drop len (written ++ piece))) (take-append-le len written piece fits)
     ∙ ap (λ xs. Wrote at (take len written) ∷ effects_of (past ++ change ∷ []) xs) (drop-append-le len written piece fits)
     ∙ ap (λ xs. Wrote at (take len written) ∷ xs) rest
@@ -92,7 +92,7 @@ pub record IsNoted (change : Change) (piece : List ℕ) (d new : Inside) : Type 
   pub past_room : vec_capacity d.past ≤ vec_capacity new.past
 
 pub noted_effects : {change : Change} {piece : List ℕ} {d new : Inside} → IsReplayed d → IsNoted change piece d new
-  → effects_of new.past.items new.written.items ≡ effects_of d.past.items d.written.items ++ effect_of change piece ∷ []
+    → effects_of new.past.items new.written.items ≡ effects_of d.past.items d.written.items ++ effect_of change piece ∷ []
 noted_effects {change} {piece} {d} {new} replayed n =
     ap (λ past. effects_of past new.written.items) n.past
     ∙ ap (λ written. effects_of (d.past.items ++ change ∷ []) written) n.written
@@ -104,17 +104,17 @@ noted_bytes {change} {piece} {d} {new} replayed n =
     ap (λ m. (fold (λ m effect. after effect m) m (effects_of new.past.items new.written.items)).reads) start
     ∙ ap (λ es. (fold (λ m effect. after effect m) (settled d.start.items) es).reads) (noted_effects replayed n)
     ∙ ap (λ (m : Moment). m.reads)
-      (fold-append (λ m effect. after effect m) (settled d.start.items) (effects_of d.past.items d.written.items) (effect_of change piece ∷ []))
+    (fold-append (λ m effect. after effect m) (settled d.start.items) (effects_of d.past.items d.written.items) (effect_of change piece ∷ []))
     ∙ n.bytes
 
 pub noted : {change : Change} {piece : List ℕ} {d new : Inside} → IsReplayed d → IsNoted change piece d new → IsReplayed new
 noted {change} {piece} {d} {new} replayed n =
     let total : sum_by bytes_of_change new.past.items ≡ sum_by bytes_of_change d.past.items + bytes_of_change change =
-      ap (λ past. sum_by bytes_of_change past) n.past ∙ sum_by_push bytes_of_change d.past.items change in
+    ap (λ past. sum_by bytes_of_change past) n.past ∙ sum_by_push bytes_of_change d.past.items change in
     let written : length new.written.items ≡ length d.written.items + length piece =
-      ap (λ xs. length xs) n.written ∙ length-append d.written.items piece in
+    ap (λ xs. length xs) n.written ∙ length-append d.written.items piece in
     let past : length new.past.items ≡ length d.past.items + 1 =
-      ap (λ (xs : List Change). length xs) n.past ∙ length-append d.past.items (change ∷ []) in
+    ap (λ (xs : List Change). length xs) n.past ∙ length-append d.past.items (change ∷ []) in
     record {
       bytes = noted_bytes replayed n;
       written = omega (arith, replayed.written, n.size);
@@ -123,5 +123,5 @@ noted {change} {piece} {d} {new} replayed n =
       room = omega (arith, replayed.room, n.room);
       bytes_room = omega (arith, replayed.bytes_room, n.bytes_room, n.room);
       written_room = omega (arith, replayed.written_room, n.written_room, n.room);
-      past_room = omega (arith, replayed.past_room, n.past_room, n.most)
+      past_room = omega (arith, replayed.past_room, n.past_room, n.most);
     }

@@ -9,7 +9,7 @@ use Rattle.wp_outside.specs.Disk.{Moment, put, hide_at, after_write}
 pub after_write-some : (at : ℕ) (bytes : List ℕ) (m : Moment) → 0 < length bytes → after_write at bytes m ≡ record {
   reads = put at bytes m.reads;
   sure = hide_at at (length bytes) m.sure;
-  longest = max m.longest (at + length bytes)
+  longest = max m.longest (at + length bytes);
 }
 after_write-some at [] m some = absurd (omega arith)
 after_write-some at (b ∷ bytes) m some = refl
@@ -38,8 +38,8 @@ put_filled at piece old (suc n) e = put_padded at piece old (suc n) (omega arith
 
 -- the old bytes, filled up to the end of the write, with the piece over them
 pub overwritten : (at len : ℕ) (piece old filled new : List ℕ) (m : Moment) → 0 < length piece → m.reads ≡ old
-  → filled ≡ old ++ replicate (at + length piece - length old) 0 → new ≡ put at piece filled → length new ≡ len
-  → (after_write at piece m).reads ≡ take len (new ++ drop (length new) filled)
+    → filled ≡ old ++ replicate (at + length piece - length old) 0 → new ≡ put at piece filled → length new ≡ len
+    → (after_write at piece m).reads ≡ take len (new ++ drop (length new) filled)
 overwritten at len piece old filled new m some reads fill over same =
     ap (λ (k : Moment). k.reads) (after_write-some at piece m some)
     ∙ ap (λ xs. put at piece xs) reads

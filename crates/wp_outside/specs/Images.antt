@@ -1,5 +1,5 @@
 -- A disk in memory, as it reads, is one of its images.
-use Rattle.std.specs.Prelude.{◌≡◌, ℕ, zero, suc, ◌+◌, ◌-◌, ◌≤◌, max, List, [], ◌∷◌, ◌++◌, map, length, take, drop, fold, Option, None, Some, refl}
+use Rattle.std.specs.Prelude.{◌≡◌, ℕ, zero, suc, ◌+◌, ◌-◌, max, List, [], ◌∷◌, ◌++◌, map, length, take, drop, fold, Option, None, Some, refl}
 use Rattle.std.proofs.Common.{sym, ◌∙◌, ap, le_refl, le_trans, le_of_eq, zero-add, suc-add, add_comm, length-append, length-drop}
 use Rattle.std.proofs.Math.Nat.{zero-max, suc-max-suc, sub-add-eq-max, max-le, le-max_left, le-max_right, min-le_right}
 use Rattle.std.proofs.lemmas.List.{length-take}
@@ -53,16 +53,18 @@ length-put (suc at) piece (b ∷ old) =
 
 reads_itself_after : (effect : Effect) (m : Moment) → IsImage m m.reads → IsImage (after effect m) (after effect m).reads
 reads_itself_after (Wrote at []) m image = image
-reads_itself_after (Wrote at (b ∷ bytes)) m image =
-    ( matches_put at (b ∷ bytes) m.sure m.reads image.0,
-      le_trans
-        (le_of_eq (length-put at (b ∷ bytes) m.reads))
-        (max-le
-          (le_trans image.1 (le-max_left m.longest (at + length (b ∷ bytes))))
-          (le-max_right m.longest (at + length (b ∷ bytes)))) )
-reads_itself_after (Shortened len) m image =
-    ( matches_taken len m.sure m.reads image.0,
-      le_trans (le_of_eq (length-take len m.reads)) (le_trans (min-le_right len (length m.reads)) image.1) )
+reads_itself_after (Wrote at (b ∷ bytes)) m image = (
+  matches_put at (b ∷ bytes) m.sure m.reads image.0,
+  le_trans
+      (le_of_eq (length-put at (b ∷ bytes) m.reads))
+      (max-le
+      (le_trans image.1 (le-max_left m.longest (at + length (b ∷ bytes))))
+      (le-max_right m.longest (at + length (b ∷ bytes)))),
+)
+reads_itself_after (Shortened len) m image = (
+  matches_taken len m.sure m.reads image.0,
+  le_trans (le_of_eq (length-take len m.reads)) (le_trans (min-le_right len (length m.reads)) image.1),
+)
 reads_itself_after Synced m image = (matches_itself m.reads, le_refl (length m.reads))
 
 reads_itself_from : (moments : List Moment) (effects : List Effect) → ReadsItself moments → ReadsItself (fold (λ moments effect. added (after effect) moments) moments effects)

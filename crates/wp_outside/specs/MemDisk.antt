@@ -11,10 +11,10 @@ pub data Effect : Type 0 where
   Synced : Effect
 
 pub record DiskState : Type 0 where
-  pub start : List ℕ -- the bytes at its making
-  pub effects : List Effect -- what the calls since have done, the oldest first
-  pub room : ℕ -- the greatest length, and the most bytes that are written to it in all
-  pub most : ℕ -- how many calls it answers
+  pub start : List ℕ  -- the bytes at its making
+  pub effects : List Effect  -- what the calls since have done, the oldest first
+  pub room : ℕ  -- the greatest length, and the most bytes that are written to it in all
+  pub most : ℕ  -- how many calls it answers
   pub calls : Calls
 
 abbrev pub after : Effect → Moment → Moment

@@ -1,5 +1,5 @@
 -- How the record of a disk in memory stands for what its calls did.
-use Rattle.std.specs.Prelude.{◌≡◌, ℕ, ◌+◌, ◌^◌, ◌<◌, ◌≤◌, List, [], ◌∷◌, length, take, drop, sum_by, vec_capacity}
+use Rattle.std.specs.Prelude.{◌≡◌, ℕ, ◌^◌, ◌<◌, ◌≤◌, List, [], ◌∷◌, length, take, drop, sum_by, vec_capacity}
 use Rattle.wp_outside.specs.declared.mem_disk.Change.{Change}
 use Rattle.wp_outside.specs.declared.mem_disk.Change.TheVariants.{Write, Cut, Sync}
 use Rattle.wp_outside.specs.declared.mem_disk.MemDisk.TheInside.{Inside}
@@ -22,7 +22,7 @@ state_of d = record {
   effects = effects_of d.past.items d.written.items;
   room = d.room;
   most = d.most;
-  calls = d.counter
+  calls = d.counter;
 }
 
 -- the bytes are what the record makes of those at the start, and there is room for all that may come

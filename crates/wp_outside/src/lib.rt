@@ -25,3 +25,6 @@ pub use mem_sink::MemSink;
 pub use mem_source::MemSource;
 pub use sink::Sink;
 pub use source::{Got, Source};
+
+#[cfg(test)]
+mod tests;

@@ -1,6 +1,6 @@
-ghost use Rattle.std.specs.Prelude.{◌≡◌, ℕ, ◌+◌, ◌-◌, ◌^◌, ◌≤◌, ◌<◌, Bool, not, [], ◌∷◌, ◌++◌, drop, replicate, min, max, length, vec_len, vec_capacity, is_err, IsTrue, IfOk, OnOk, OnErr};
+ghost use Rattle.std.specs.Prelude.{◌≡◌, ℕ, ◌+◌, ◌-◌, ◌^◌, ◌≤◌, ◌<◌, not, [], ◌∷◌, ◌++◌, List, drop, replicate, min, max, length, vec_capacity, is_err, IsTrue, IfOk, OnOk, OnErr};
 ghost use Rattle.wp_outside.specs.Counter.{no_calls, counted};
-ghost use Rattle.wp_outside.specs.Disk.{Moment, settled, put, write_end, after_write, after_cut, after_sync, added, IfTold, IsRead, Tears};
+ghost use Rattle.wp_outside.specs.Disk.{Moment, settled, put, write_end, after_write, after_cut, after_sync, added, IfTold, IsRead, Tears, images};
 ghost use Rattle.wp_outside.specs.Faults.{HasCause};
 ghost use Rattle.wp_outside.specs.Fits.{Fits};
 ghost use Rattle.wp_outside.specs.MemDisk.{Wrote, Shortened, Synced, contents, moments_of, is_used_up, refuses, after_call};
@@ -36,8 +36,7 @@ pub struct MemDisk {
 }
 
 impl Model for MemDisk {
-    ghost use Rattle.wp_outside.specs.Fits.{Fits};
-ghost use Rattle.wp_outside.specs.MemDisk.{DiskState};
+    ghost use Rattle.wp_outside.specs.MemDisk.{DiskState};
 
     ghost Value = { DiskState };
 
@@ -59,7 +58,7 @@ impl MemDisk {
         calls: u64,
         fails: Vec<u64>,
     ) -> Result<MemDisk, AllocError>
-        ensures made { IfOk result (λ d. d ≡ record { start = bytes.items; effects = []; room = min room (2 ^ 62); most = calls; calls = no_calls fails.items }) }
+        ensures state { IfOk result (λ d. d ≡ record { start = bytes.items; effects = []; room = min room (2 ^ 62); most = calls; calls = no_calls fails.items }) }
         ensures settled { IfOk result (λ d. moments_of d ≡ settled bytes.items ∷ []) }
     {
         let room = room.min(MOST_ROOM);
@@ -225,6 +224,7 @@ impl Disk for MemDisk {
 
     fn sync(&mut self) -> Result<(), Failed>
         ensures done { OnOk result (moments_of self.new ≡ added after_sync (moments_of self.old)) }
+        ensures durable { OnOk result ((image : List ℕ) → images (moments_of self.new) image → IfTold (moments_of self.old) (λ m. image ≡ m.reads)) }
         ensures kept { OnErr result (moments_of self.new ≡ moments_of self.old) }
         ensures cause { HasCause self.old.calls.faults self.new.calls.faults result }
         ensures exact { is_err result ≡ refuses self.old (length (contents self.old)) 0 }

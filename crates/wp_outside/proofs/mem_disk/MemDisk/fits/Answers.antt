@@ -1,4 +1,4 @@
-use Rattle.std.proofs.Common.{◌≡◌, ℕ, ◌+◌, ◌-◌, ◌≤◌, ◌<◌, List, [], ◌∷◌, ◌++◌, length, take, drop, min, max, not, arith, sym, ◌∙◌, ap, refl}
+use Rattle.std.proofs.Common.{arith}
 use Rattle.wp_outside.proofs.Room.{fits_by_written, fits}
 use Rattle.wp_outside.proofs.Replayed.{written_again}
 use Rattle.wp_outside.proofs.mem_disk.MemDisk.fits.Goals as goal

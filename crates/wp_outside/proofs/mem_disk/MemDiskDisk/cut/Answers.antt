@@ -1,7 +1,7 @@
-use Rattle.std.proofs.Common.{◌≡◌, ℕ, ◌+◌, ◌-◌, ◌≤◌, ◌<◌, List, [], ◌∷◌, ◌++◌, length, take, drop, min, max, not, arith, sym, ◌∙◌, ap, refl}
+use Rattle.std.proofs.Common.{◌≡◌, [], length, take, min, arith, sym, ◌∙◌, ap, refl}
 use Rattle.std.proofs.lemmas.List.{append-nil, take_min}
 use Rattle.wp_outside.specs.declared.mem_disk.Change.TheVariants.{Cut}
-use Rattle.wp_outside.specs.MemDisk.{Shortened, contents, moments_of}
+use Rattle.wp_outside.specs.MemDisk.{Shortened, moments_of}
 use Rattle.wp_outside.proofs.Replayed.{IsNoted, noted, noted_effects, moments_of-more}
 use Rattle.wp_outside.proofs.mem_disk.MemDiskDisk.cut.Goals as goal
 
@@ -12,10 +12,10 @@ is_noted c =
     record {
       start = refl;
       bytes =
-        ap (λ xs. take c.args.len xs) c.self.invariant.bytes
-        ∙ sym (take_min c.args.len c.self.inside.bytes.items)
-        ∙ ap (λ n. take n c.self.inside.bytes.items) shorter
-        ∙ sym c.truncate.ensures.items;
+          ap (λ xs. take c.args.len xs) c.self.invariant.bytes
+          ∙ sym (take_min c.args.len c.self.inside.bytes.items)
+          ∙ ap (λ n. take n c.self.inside.bytes.items) shorter
+          ∙ sym c.truncate.ensures.items;
       past = c.note.ensures.items;
       written = sym (append-nil c.self.inside.written.items);
       size = refl;
@@ -25,7 +25,7 @@ is_noted c =
       most = refl;
       bytes_room = omega (arith, c.truncate.ensures.capacity);
       written_room = omega arith;
-      past_room = c.note.ensures.capacity
+      past_room = c.note.ensures.capacity;
     }
 
 pub invariant_of-self-2 : goal.invariant_of-self-2

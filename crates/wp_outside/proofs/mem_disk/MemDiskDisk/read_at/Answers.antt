@@ -1,6 +1,3 @@
-use Rattle.std.proofs.Common.{◌≡◌, ℕ, ◌+◌, ◌-◌, ◌≤◌, ◌<◌, List, [], ◌∷◌, ◌++◌, length, take, drop, min, max, not, arith, sym, ◌∙◌, ap, refl}
-use Rattle.wp_outside.specs.Disk.{IsRead}
-use Rattle.wp_outside.specs.MemDisk.{contents}
 use Rattle.wp_outside.proofs.Replayed.{told_now}
 use Rattle.wp_outside.proofs.mem_disk.MemDiskDisk.read_at.Goals as goal
 

@@ -1,7 +1,9 @@
-use Rattle.std.proofs.Common.{◌≡◌, ℕ, ◌+◌, ◌-◌, ◌≤◌, ◌<◌, List, [], ◌∷◌, ◌++◌, length, take, drop, min, max, not, arith, sym, ◌∙◌, ap, refl}
+use Rattle.std.proofs.Common.{[], arith, sym, ◌∙◌, ap, subst, refl}
 use Rattle.std.proofs.lemmas.List.{append-nil}
 use Rattle.wp_outside.specs.declared.mem_disk.Change.TheVariants.{Sync}
 use Rattle.wp_outside.specs.MemDisk.{Synced, moments_of}
+use Rattle.wp_outside.specs.Disk.{images}
+use Rattle.wp_outside.proofs.Moments.{synced_image}
 use Rattle.wp_outside.proofs.Replayed.{IsNoted, noted, noted_effects, moments_of-more}
 use Rattle.wp_outside.proofs.mem_disk.MemDiskDisk.sync.Goals as goal
 
@@ -20,7 +22,7 @@ is_noted c =
       most = refl;
       bytes_room = omega arith;
       written_room = omega arith;
-      past_room = c.note.ensures.capacity
+      past_room = c.note.ensures.capacity;
     }
 
 pub invariant_of-self-2 : goal.invariant_of-self-2
@@ -31,3 +33,6 @@ returns-clause-after c = rw (← c.self.view_is, noted_effects c.self.invariant 
 
 pub returns-clause-done : goal.returns-clause-done
 returns-clause-done c = ap (λ d. moments_of d) (returns-clause-after c) ∙ moments_of-more c.args.self.now Synced
+
+pub returns-clause-durable : goal.returns-clause-durable
+returns-clause-durable c = λ image left. synced_image (moments_of c.args.self.now) image (subst (λ ms. images ms image) (returns-clause-done c) left)

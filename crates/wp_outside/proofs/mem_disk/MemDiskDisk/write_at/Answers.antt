@@ -1,4 +1,4 @@
-use Rattle.std.proofs.Common.{◌≡◌, ℕ, ◌+◌, ◌-◌, ◌≤◌, ◌<◌, List, [], ◌∷◌, ◌++◌, length, take, drop, min, max, not, arith, sym, ◌∙◌, ap, refl}
+use Rattle.std.proofs.Common.{◌+◌, ◌≤◌, length, arith, ◌∙◌, ap, refl}
 use Rattle.wp_outside.specs.declared.mem_disk.Change.TheVariants.{Write}
 use Rattle.wp_outside.specs.MemDisk.{Wrote, bytes_written, now_of, moments_of}
 use Rattle.wp_outside.specs.Replay.{state_of}
@@ -27,7 +27,7 @@ is_noted c =
       most = refl;
       bytes_room = c.overwrite.ensures.capacity;
       written_room = c.keep.ensures.capacity;
-      past_room = c.note.ensures.capacity
+      past_room = c.note.ensures.capacity;
     }
 
 pub invariant_of-self-2 : goal.invariant_of-self-2
