@@ -1,6 +1,6 @@
 ghost use Rattle.std.specs.Prelude.{◌≡◌, ℕ, ◌+◌, ◌-◌, ◌^◌, ◌≤◌, List, length, IfOk, OnOk, OnErr};
 ghost use Rattle.wp_outside.specs.Faults.{HasCause};
-ghost use Rattle.wp_outside.specs.Disk.{Moment, IsRead, IfTold, Adds, Tears, write_end, after_write, after_cut, after_sync, ReadsItself};
+ghost use Rattle.wp_outside.specs.Disk.{Moment, IsRead, IfTold, added, Tears, write_end, after_write, after_cut, after_sync, ReadsItself};
 
 use crate::failed::Failed;
 
@@ -34,19 +34,19 @@ pub trait Disk {
     /// Writes over what stands from `at` on, and past the end. A write that would end past 2^62 fails.
     fn write_at(&mut self, at: u64, bytes: &[u8]) -> Result<(), Failed>
         ensures bounded { OnOk result (write_end at bytes.now ≤ 2 ^ 62) }
-        ensures done { OnOk result (Adds (after_write at bytes.now) (moments self.old) (moments self.new)) }
+        ensures done { OnOk result (moments self.new ≡ added (after_write at bytes.now) (moments self.old)) }
         ensures torn { OnErr result (Tears (after_write at bytes.now) (moments self.old) (moments self.new)) }
         ensures cause { HasCause (faults self.old) (faults self.new) result };
 
     /// Cuts to `len` bytes what is longer.
     fn cut(&mut self, len: u64) -> Result<(), Failed>
-        ensures done { OnOk result (Adds (after_cut len) (moments self.old) (moments self.new)) }
+        ensures done { OnOk result (moments self.new ≡ added (after_cut len) (moments self.old)) }
         ensures torn { OnErr result (Tears (after_cut len) (moments self.old) (moments self.new)) }
         ensures cause { HasCause (faults self.old) (faults self.new) result };
 
     /// Puts what a read gives on the disk for good.
     fn sync(&mut self) -> Result<(), Failed>
-        ensures done { OnOk result (Adds after_sync (moments self.old) (moments self.new)) }
+        ensures done { OnOk result (moments self.new ≡ added after_sync (moments self.old)) }
         ensures kept { OnErr result (moments self.new ≡ moments self.old) }
         ensures cause { HasCause (faults self.old) (faults self.new) result };
 
