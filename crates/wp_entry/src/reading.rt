@@ -180,8 +180,8 @@ pub fn read_record(alloc: Global, bytes: &[u8], first: Seq) -> Result<Vec<Entry>
     ensures found { IfOk result (λ entries. IsRecord first entries.items
         × (bytes.now ≡ record_bytes first entries.items)) }
     // What is spelled so is read, unless memory runs out.
-    ensures only { (entries : List Entry) → IsRecord first entries → bytes.now ≡ record_bytes first entries
-        → Gives (λ entries. entries.items) result (Ok entries) }
+    ensures only { (written : List Entry) → IsRecord first written → bytes.now ≡ record_bytes first written
+        → Gives (λ entries. entries.items) result (Ok written) }
     // Which fault it is: the first from the left.
     ensures exact { Gives (λ entries. entries.items) result (record_at first bytes.now) }
 {
