@@ -1,1 +1,4 @@
+pub mod Grammar
+pub mod Reading
+pub mod Faults
 pub mod Lines
