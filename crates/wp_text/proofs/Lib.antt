@@ -1,2 +1,5 @@
+pub mod Results
+pub mod StatementLaws
+pub mod LineLaws
 pub mod Placing
 pub mod Loop

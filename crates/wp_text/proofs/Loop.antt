@@ -9,7 +9,7 @@ use Rattle.wp_text.specs.declared.fault.LineError.{LineError}
 use Rattle.wp_text.specs.declared.fault.LineError.TheVariants as errors
 use Rattle.wp_text.specs.declared.script.Part.{Part}
 use Rattle.wp_text.specs.Reading.{◌>>=◌, Fails, FailsScript, in_line, with_line, with_lines}
-use Rattle.wp_text.specs.Faults.{script_error}
+use Rattle.wp_text.specs.Reading.{script_error}
 
 -- this turn's line is the first of those that are left
 pub record Turn (lines : List (List ℕ)) (n i : ℕ) (line : List ℕ) : Type 0 where

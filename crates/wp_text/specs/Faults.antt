@@ -1,17 +1,61 @@
--- The faults of a script.
-use Rattle.std.specs.Prelude.{ℕ}
-use Rattle.wp_text.specs.declared.fault.LineError.{LineError}
-use Rattle.wp_text.specs.declared.fault.ScriptError.{ScriptError}
-use Rattle.wp_text.specs.declared.fault.ScriptError.TheVariants as script
-use Rattle.wp_text.specs.declared.fault.LineError.TheVariants as errors
-use Rattle.wp_text.specs.declared.fault.Why.TheVariants.{BadWord}
-use Rattle.wp_model.specs.declared.word.WordError.{WordError}
-use Rattle.wp_model.specs.declared.word.WordError.TheVariants as words
+-- The first fault of a script.
+use Rattle.std.specs.Prelude.{◌≡◌, ℕ, zero, suc, ◌<◌, ◌≤◌, false, List, [], ◌∷◌, ◌++◌, length, Some, ◌⊎◌}
+use Rattle.std.specs.List.{list_all, Contains}
+use Rattle.wp_text.specs.declared.fault.Why.{Why}
+use Rattle.wp_text.specs.declared.fault.Why.TheVariants.{TooLong, LineLong, BadByte, BadCommand, BadWord, NoClient, ClientTwice, ManyClients}
+use Rattle.wp_text.specs.declared.line.Statement.{Statement}
+use Rattle.wp_text.specs.declared.line.Statement.TheVariants as statement
+use Rattle.wp_text.specs.declared.line.TheConstants.{MOST_LINE_BYTES}
+use Rattle.wp_text.specs.declared.read.TheConstants.{MOST_BYTES, MOST_CLIENTS}
+use Rattle.wp_text.specs.declared.script.Part.{Part}
+use Rattle.wp_text.specs.Grammar.{lines_of, is_line_byte, IsText, words_of, is_passed_over, statement_words, is_in_range, Means, clients, Spell}
 
-abbrev pub error_of_word : WordError → LineError
-error_of_word words.Memory = errors.Memory
-error_of_word words.BadWord = errors.Wrong BadWord
+-- ---- a line by itself
 
-abbrev pub script_error : ℕ → LineError → ScriptError
-script_error line errors.Memory = script.Memory
-script_error line (errors.Wrong why) = script.Fault (record { line = line; why = why })
+-- no statement is written with these words, whatever its keys, values and names
+abbrev pub IsNoStatement : List (List ℕ) → Type 0
+IsNoStatement words = (statement : Statement) → words ≡ statement_words statement → ⊥
+
+-- a statement is written with these words, but one of its keys, values and names is out of range
+pub record IsOutOfRange (words : List (List ℕ)) : Type 0 where
+  pub statement : Statement
+  pub written : words ≡ statement_words statement
+  pub range : is_in_range statement ≡ false
+
+abbrev pub AreWrong : List (List ℕ) → Why → Type 0
+AreWrong words BadCommand = IsNoStatement words
+AreWrong words BadWord = IsOutOfRange words
+AreWrong words why = ⊥
+
+-- what is wrong with a line, wherever it stands
+abbrev pub IsWrong : List ℕ → Why → Type 0
+IsWrong line LineLong = MOST_LINE_BYTES < length line
+IsWrong line BadByte = (length line ≤ MOST_LINE_BYTES) × (list_all is_line_byte line ≡ false)
+IsWrong line why = IsText line × (is_passed_over (words_of line) ≡ false) × AreWrong (words_of line) why
+
+-- ---- a line behind others
+
+-- what is wrong with a statement where it stands, behind these parts
+abbrev pub IsMisplaced : List Part → Statement → Why → Type 0
+IsMisplaced parts (statement.Command command) NoClient = parts ≡ []
+IsMisplaced parts (statement.Client name) ClientTwice = Contains (clients parts) name
+IsMisplaced parts (statement.Client name) ManyClients = (Contains (clients parts) name → ⊥) × (length parts ≡ MOST_CLIENTS)
+IsMisplaced parts statement why = ⊥
+
+-- The line is wrong by itself, or it says a statement that is misplaced.
+abbrev pub IsWrongBehind : List Part → List ℕ → Why → Type 0
+IsWrongBehind parts line why = IsWrong line why ⊎ ((statement : Statement) × Means line (Some statement) × IsMisplaced parts statement why)
+
+-- The lines before this one spell parts, and it is wrong behind them.
+pub record IsFirstWrong (lines : List (List ℕ)) (before : List (List ℕ)) (why : Why) : Type 0 where
+  pub line : List ℕ
+  pub after : List (List ℕ)
+  pub place : lines ≡ before ++ line ∷ after
+  pub parts : List Part
+  pub spelled : Spell before parts
+  pub wrong : IsWrongBehind parts line why
+
+-- The first fault of the bytes: line 0 stands for them as a whole, the others are counted from 1.
+abbrev pub IsFault : List ℕ → ℕ → Why → Type 0
+IsFault bytes zero why = (MOST_BYTES < length bytes) × (why ≡ TooLong)
+IsFault bytes (suc n) why = (length bytes ≤ MOST_BYTES) × ((before : List (List ℕ)) × (length before ≡ n) × IsFirstWrong (lines_of bytes) before why)

@@ -1,10 +1,11 @@
 -- The grammar of scripts.
-use Rattle.std.specs.Prelude.{◌≡◌, ◌≢◌, ℕ, ◌≤◌, ◌==◌, Bool, true, false, not, ◌&&◌, List, [], ◌∷◌, length, map, nat_eq, nat_le, codes, Option, Some, None, AllPairs}
-use Rattle.std.specs.List.{list_all, filter, filter_map, flat_map, slice_split, AllZip, starts_with}
+use Rattle.std.specs.Prelude.{◌≡◌, ◌≢◌, ℕ, ◌≤◌, ◌==◌, Bool, true, false, not, ◌&&◌, List, [], ◌∷◌, length, map, nat_eq, nat_le, codes, Option, Some, None}
+use Rattle.std.specs.List.{list_all, filter, filter_map, flat_map, slice_split, AllPairs, AllZip, starts_with}
 use Rattle.wp_model.specs.Word.{is_word}
 use Rattle.wp_text.specs.declared.line.Statement.{Statement}
 use Rattle.wp_text.specs.declared.line.Statement.TheVariants as statement
 use Rattle.wp_text.specs.declared.line.TheConstants.{MOST_LINE_BYTES}
+use Rattle.wp_text.specs.declared.read.TheConstants.{MOST_BYTES, MOST_CLIENTS}
 use Rattle.wp_text.specs.declared.script.Command.{Command}
 use Rattle.wp_text.specs.declared.script.Command.TheVariants as command
 use Rattle.wp_text.specs.declared.script.Part.{Part}
@@ -61,3 +62,25 @@ Say words (Some statement) = (words ≡ statement_words statement) × (is_in_ran
 pub record Means (line : List ℕ) (meaning : Option Statement) : Type 0 where
   pub text : IsText line
   pub words : Say (words_of line) meaning
+
+-- ---- a script
+
+-- the statements of a client's part
+abbrev pub statements_of : Part → List Statement
+statements_of part = statement.Client part.client ∷ map (λ c. statement.Command c) part.commands
+
+abbrev pub clients : List Part → List (List ℕ)
+clients parts = map (λ part. part.client) parts
+
+-- The lines spell these parts, one behind the other.
+pub record Spell (lines : List (List ℕ)) (parts : List Part) : Type 0 where
+  pub meanings : List (Option Statement)
+  pub each : AllZip Means lines meanings
+  pub statements : filter_map (λ meaning. meaning) meanings ≡ flat_map statements_of parts
+  pub distinct : AllPairs ◌≢◌ (clients parts)
+  pub few : length parts ≤ MOST_CLIENTS
+
+-- The bytes are a script with these parts.
+pub record IsScript (bytes : List ℕ) (parts : List Part) : Type 0 where
+  pub short : length bytes ≤ MOST_BYTES
+  pub lines : Spell (lines_of bytes) parts

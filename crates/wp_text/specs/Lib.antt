@@ -1,4 +1,4 @@
-pub mod Grammar
-pub mod Reading
-pub mod Faults
 pub mod Lines
+pub mod Grammar
+pub mod Faults
+pub mod Reading

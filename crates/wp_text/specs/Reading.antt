@@ -3,6 +3,8 @@ use Rattle.std.specs.Prelude.{◌≡◌, ℕ, ◌+◌, Bool, ◌==◌, ◌&&◌,
 use Rattle.std.specs.List.{list_all, find, list_any}
 use Rattle.std.specs.Str.{bytes_eq}
 use Rattle.wp_model.specs.Word.{is_word}
+use Rattle.wp_model.specs.declared.word.WordError.{WordError}
+use Rattle.wp_model.specs.declared.word.WordError.TheVariants as word_errors
 use Rattle.wp_text.specs.declared.fault.LineError.{LineError}
 use Rattle.wp_text.specs.declared.fault.LineError.TheVariants as errors
 use Rattle.wp_text.specs.declared.fault.Why.{Why}
@@ -136,3 +138,11 @@ FailsScript (script.Fault fault) read = read ≡ Err fault
 abbrev pub GivesScript : {X Y : Type 0} → (X → Y) → Result X ScriptError → Result Y Fault → Type 0
 GivesScript view (Ok x) read = read ≡ Ok (view x)
 GivesScript view (Err e) read = FailsScript e read
+
+abbrev pub script_error : ℕ → LineError → ScriptError
+script_error line errors.Memory = script.Memory
+script_error line (errors.Wrong why) = script.Fault (record { line = line; why = why })
+
+abbrev pub error_of_word : WordError → LineError
+error_of_word word_errors.Memory = errors.Memory
+error_of_word word_errors.BadWord = errors.Wrong BadWord

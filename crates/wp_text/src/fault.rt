@@ -1,6 +1,6 @@
 ghost use Rattle.std.specs.Prelude.{◌≡◌};
 ghost use Rattle.wp_text.specs.declared.fault.LineError.TheVariants.{Memory};
-ghost use Rattle.wp_text.specs.Faults.{script_error};
+ghost use Rattle.wp_text.specs.Reading.{script_error};
 
 use std::alloc::{AllocError, AllocFailed};
 use thiserror::Error;
@@ -89,7 +89,7 @@ impl<T: Drop> From<AllocFailed<T>> for LineError {
 }
 
 impl From<WordError> for LineError {
-    ghost use Rattle.wp_text.specs.Faults.{error_of_word};
+    ghost use Rattle.wp_text.specs.Reading.{error_of_word};
 
     ghost from_gives = { λ e error. error ≡ error_of_word e };
 
