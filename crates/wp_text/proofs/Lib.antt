@@ -2,4 +2,7 @@ pub mod Results
 pub mod StatementLaws
 pub mod LineLaws
 pub mod Placing
+pub mod ScriptLaws
+pub mod Answered
+pub mod CommandCount
 pub mod Loop

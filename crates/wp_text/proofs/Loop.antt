@@ -8,8 +8,8 @@ use Rattle.wp_text.specs.declared.fault.Fault.{Fault}
 use Rattle.wp_text.specs.declared.fault.LineError.{LineError}
 use Rattle.wp_text.specs.declared.fault.LineError.TheVariants as errors
 use Rattle.wp_text.specs.declared.script.Part.{Part}
-use Rattle.wp_text.specs.Reading.{◌>>=◌, Fails, FailsScript, in_line, with_line, with_lines}
-use Rattle.wp_text.specs.Reading.{script_error}
+use Rattle.wp_text.specs.Reading.{◌>>=◌, Fails, in_line, with_line, with_lines, script_error}
+use Rattle.wp_text.specs.Faults.{FailsWith}
 
 -- this turn's line is the first of those that are left
 pub record Turn (lines : List (List ℕ)) (n i : ℕ) (line : List ℕ) : Type 0 where
@@ -33,7 +33,7 @@ goes_on lines n i line parts now total turn e so_far =
     sym step ∙ so_far
 
 pub ends : (lines : List (List ℕ)) (n i : ℕ) (line : List ℕ) (parts : List Part) (error : LineError) (total : Result (List Part) Fault) → Turn lines n i line → Fails error (with_line parts line)
-    → with_lines n parts (drop n lines) ≡ total → FailsScript (script_error (i + 1) error) total
+    → with_lines n parts (drop n lines) ≡ total → FailsWith (script_error (i + 1) error) total
 unfolding with_lines
 ends lines n i line parts errors.Memory total turn e so_far = tt
 ends lines n i line parts (errors.Wrong why) total turn e so_far =

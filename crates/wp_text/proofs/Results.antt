@@ -17,6 +17,10 @@ pub chosen : {A : Type 0} (b : Bool) (x y z : A) → cond b x y ≡ z → ((b �
 chosen true x y z e = inl (refl, e)
 chosen false x y z e = inr (refl, e)
 
+pub either : (b : Bool) → (b ≡ true) ⊎ (b ≡ false)
+either true = inl refl
+either false = inr refl
+
 -- `Ok` and `Err` of the types that a reader has
 abbrev pub done : {A : Type 0} (E : Type 0) → A → Result A E
 done E x = Ok x

@@ -16,7 +16,7 @@ use Rattle.wp_text.specs.declared.script.Command.TheVariants as command
 use Rattle.wp_text.specs.Grammar.{statement_words, is_in_range, is_passed_over, Say}
 use Rattle.wp_text.specs.Faults.{IsNoStatement, IsOutOfRange, AreWrong}
 use Rattle.wp_text.specs.Reading.{◌>>=◌, keyword_text, keyword_named, one_word, two_words, statement_with, statement_named, statement_of}
-use Rattle.wp_text.proofs.Results.{bind_ok, bind_err, chosen, done, failed, ok_is, err_is, ok_or_err}
+use Rattle.wp_text.proofs.Results.{bind_ok, bind_err, chosen, done, failed, ok_is, err_is, ok_or_err, either}
 
 -- ---- a statement's words are read as it, or are out of range
 
@@ -162,10 +162,6 @@ says (first ∷ others) meaning e =
       | inl so ↦ subst (λ (x : Option Statement). Say (first ∷ others) x) (ok_is None meaning so.1) so.0
       | inr other ↦ named_says first others (keyword_named first) meaning refl other.1
     ]
-
-either : (b : Bool) → (b ≡ true) ⊎ (b ≡ false)
-either true = inl refl
-either false = inr refl
 
 unknown : (words : List (List ℕ)) → statement_of words ≡ Err BadCommand → IsNoStatement words
 unknown words e s written =

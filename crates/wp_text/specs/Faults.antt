@@ -1,6 +1,9 @@
 -- The first fault of a script.
-use Rattle.std.specs.Prelude.{◌≡◌, ℕ, zero, suc, ◌<◌, ◌≤◌, false, List, [], ◌∷◌, ◌++◌, length, Some, ◌⊎◌}
+use Rattle.std.specs.Prelude.{◌≡◌, ℕ, zero, suc, ◌<◌, ◌≤◌, false, List, [], ◌∷◌, ◌++◌, length, Some, ◌⊎◌, Result, Ok, Err}
 use Rattle.std.specs.List.{list_all, Contains}
+use Rattle.wp_text.specs.declared.fault.Fault.{Fault}
+use Rattle.wp_text.specs.declared.fault.ScriptError.{ScriptError}
+use Rattle.wp_text.specs.declared.fault.ScriptError.TheVariants as errors
 use Rattle.wp_text.specs.declared.fault.Why.{Why}
 use Rattle.wp_text.specs.declared.fault.Why.TheVariants.{TooLong, LineLong, BadByte, BadCommand, BadWord, NoClient, ClientTwice, ManyClients}
 use Rattle.wp_text.specs.declared.line.Statement.{Statement}
@@ -8,7 +11,7 @@ use Rattle.wp_text.specs.declared.line.Statement.TheVariants as statement
 use Rattle.wp_text.specs.declared.line.TheConstants.{MOST_LINE_BYTES}
 use Rattle.wp_text.specs.declared.read.TheConstants.{MOST_BYTES, MOST_CLIENTS}
 use Rattle.wp_text.specs.declared.script.Part.{Part}
-use Rattle.wp_text.specs.Grammar.{lines_of, is_line_byte, IsText, words_of, is_passed_over, statement_words, is_in_range, Means, clients, Spell}
+use Rattle.wp_text.specs.Grammar.{lines_of, is_line_byte, IsText, words_of, is_passed_over, statement_words, is_in_range, Means, clients, Spell, IsScript}
 
 -- ---- a line by itself
 
@@ -59,3 +62,28 @@ pub record IsFirstWrong (lines : List (List ℕ)) (before : List (List ℕ)) (wh
 abbrev pub IsFault : List ℕ → ℕ → Why → Type 0
 IsFault bytes zero why = (MOST_BYTES < length bytes) × (why ≡ TooLong)
 IsFault bytes (suc n) why = (length bytes ≤ MOST_BYTES) × ((before : List (List ℕ)) × (length before ≡ n) × IsFirstWrong (lines_of bytes) before why)
+
+-- what an error says of the bytes
+abbrev pub IsErrorOf : List ℕ → ScriptError → Type 0
+IsErrorOf bytes errors.Memory = Unit {0}
+IsErrorOf bytes (errors.Fault fault) = IsFault bytes fault.line fault.why
+
+-- ---- what a call returned
+
+abbrev pub FailsWith : ScriptError → Result (List Part) Fault → Type 0
+FailsWith errors.Memory answer = Unit {0}
+FailsWith (errors.Fault fault) answer = answer ≡ Err fault
+
+-- It is this answer, unless memory ran out.
+abbrev pub Gives : Result (List Part) ScriptError → Result (List Part) Fault → Type 0
+Gives (Ok parts) answer = answer ≡ Ok parts
+Gives (Err error) answer = FailsWith error answer
+
+-- ---- what the definitions say of each other
+
+-- Bytes are a script with these parts and no others, or have this fault and no other.
+pub record AreToldApart (bytes : List ℕ) : Type 0 where
+  pub one_script : (first second : List Part) → IsScript bytes first → IsScript bytes second → first ≡ second
+  pub one_fault : (first second : Fault) → IsFault bytes first.line first.why → IsFault bytes second.line second.why → first ≡ second
+  pub not_both : (parts : List Part) (fault : Fault) → IsScript bytes parts → IsFault bytes fault.line fault.why → ⊥
+  pub either : ((parts : List Part) × IsScript bytes parts) ⊎ ((fault : Fault) × IsFault bytes fault.line fault.why)

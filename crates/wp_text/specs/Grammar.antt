@@ -84,3 +84,7 @@ pub record Spell (lines : List (List ℕ)) (parts : List Part) : Type 0 where
 pub record IsScript (bytes : List ℕ) (parts : List Part) : Type 0 where
   pub short : length bytes ≤ MOST_BYTES
   pub lines : Spell (lines_of bytes) parts
+
+-- the commands of all clients
+abbrev pub commands_of : List Part → List Command
+commands_of parts = flat_map (λ part. part.commands) parts

@@ -88,7 +88,7 @@ unfoldable pub line_of : List ℕ → Result (Option Statement) Why
 line_of line = if nat_lt MOST_LINE_BYTES (length line) then Err LineLong else (if list_all is_line_byte line then statement_of (words_of line) else Err BadByte)
 
 abbrev pub has_client : List Part → List ℕ → Bool
-has_client parts name = list_any (λ part. bytes_eq part.client name) parts
+has_client parts name = list_any (λ part. bytes_eq name part.client) parts
 
 unfoldable pub with_client : List Part → List ℕ → Result (List Part) Why
 with_client parts name = if has_client parts name then Err ClientTwice else (if nat_lt (length parts) MOST_CLIENTS then Ok (parts ++ record { client = name; commands = [] } ∷ []) else Err ManyClients)
@@ -129,15 +129,6 @@ with_lines before parts (line ∷ lines) = do
 
 unfoldable pub script_of : List ℕ → Result (List Part) Fault
 script_of bytes = if nat_lt MOST_BYTES (length bytes) then Err (record { line = 0; why = TooLong }) else with_lines 0 [] (lines_of bytes)
-
--- what a function returned is what reading gives, unless memory ran out
-abbrev pub FailsScript : {Y : Type 0} → ScriptError → Result Y Fault → Type 0
-FailsScript script.Memory read = Unit {0}
-FailsScript (script.Fault fault) read = read ≡ Err fault
-
-abbrev pub GivesScript : {X Y : Type 0} → (X → Y) → Result X ScriptError → Result Y Fault → Type 0
-GivesScript view (Ok x) read = read ≡ Ok (view x)
-GivesScript view (Err e) read = FailsScript e read
 
 abbrev pub script_error : ℕ → LineError → ScriptError
 script_error line errors.Memory = script.Memory

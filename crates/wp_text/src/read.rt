@@ -1,6 +1,8 @@
-ghost use Rattle.std.specs.Prelude.{◌≡◌, ◌≤◌, [], length};
-ghost use Rattle.wp_text.specs.Grammar.{lines_of};
-ghost use Rattle.wp_text.specs.Reading.{Gives, has_client, with_client, with_command, with_statement, with_meaning, with_line, with_lines, script_of, GivesScript};
+ghost use Rattle.std.specs.Prelude.{◌≡◌, ℕ, ◌≤◌, List, [], length, IfOk, IfErr};
+ghost use Rattle.wp_text.specs.Faults as script;
+ghost use Rattle.wp_text.specs.Faults.{IsFault, IsErrorOf, AreToldApart};
+ghost use Rattle.wp_text.specs.Grammar.{lines_of, IsScript, commands_of};
+ghost use Rattle.wp_text.specs.Reading.{Gives, has_client, with_client, with_command, with_statement, with_meaning, with_line, with_lines, script_of};
 
 use crate::fault::{Fault, LineError, ScriptError, Why};
 use crate::line::{Statement, read_line};
@@ -17,7 +19,7 @@ pub const MOST_CLIENTS: usize = 16;
 fn has_client(parts: &[Part], client: &Name) -> bool
     ensures { result ≡ has_client parts.now client.now }
 {
-    parts.iter().any(|part| part.client == *client)
+    parts.iter().any(|part| *client == part.client)
 }
 
 #[tactic(auto, unfolding(crate::specs::Reading::with_client))]
@@ -58,9 +60,9 @@ fn add_line(alloc: Global, parts: &mut Vec<Part>, line: &[u8]) -> Result<(), Lin
     }
 }
 
-fn read_lines(alloc: Global, bytes: &[u8]) -> Result<Vec<Part>, ScriptError>
+fn read_lines(alloc: Global, bytes: &[u8]) -> Result<Script, ScriptError>
     requires { length bytes.now ≤ MOST_BYTES }
-    ensures { GivesScript (λ parts. parts.items) result (with_lines 0 [] (lines_of bytes.now)) }
+    ensures { script.Gives result (with_lines 0 [] (lines_of bytes.now)) }
 {
     let mut parts = Vec::new(alloc);
     for (i, line) in bytes.split(|b| *b == b'\n').enumerate() {
@@ -69,13 +71,12 @@ fn read_lines(alloc: Global, bytes: &[u8]) -> Result<Vec<Part>, ScriptError>
             Err(e) => return Err(e.in_line(i + 1)),
         }
     }
-    Ok(parts)
+    Ok(Script::new(parts))
 }
 
-/// Reads a script.
 #[tactic(auto, unfolding(crate::specs::Reading::script_of))]
 fn read_all(alloc: Global, bytes: &[u8]) -> Result<Script, ScriptError>
-    ensures { GivesScript (λ script. script) result (script_of bytes.now) }
+    ensures { script.Gives result (script_of bytes.now) }
 {
     if bytes.len() > MOST_BYTES {
         return Err(ScriptError::Fault(Fault {
@@ -83,5 +84,24 @@ fn read_all(alloc: Global, bytes: &[u8]) -> Result<Script, ScriptError>
             why: Why::TooLong,
         }));
     }
-    Ok(Script::new(read_lines(alloc, bytes)?))
+    read_lines(alloc, bytes)
+}
+
+/// The script that the bytes spell, or its first fault: the first line that is wrong, and of the reasons that fit
+/// there the first in the order of `Why`.
+pub fn read_script(alloc: Global, bytes: &[u8]) -> Result<Script, ScriptError>
+    ensures script { IfOk result (λ parts. IsScript bytes.now parts) }
+    ensures error { IfErr result (λ e. IsErrorOf bytes.now e) }
+    // What spells a script is read, and what has a fault is refused for it, unless memory runs out.
+    ensures each_script { (parts : List Part) → IsScript bytes.now parts → script.Gives result (Ok parts) }
+    ensures each_fault { (fault : Fault) → IsFault bytes.now fault.line fault.why → script.Gives result (Err fault) }
+    ensures few_commands { IfOk result (λ parts. length (commands_of parts) ≤ length bytes.now) }
+{
+    read_all(alloc, bytes)
+}
+
+/// Bytes are a script with one list of parts, or have one fault, and not both.
+pub fn are_told_apart()
+    ensures { (bytes : List ℕ) → AreToldApart bytes }
+{
 }

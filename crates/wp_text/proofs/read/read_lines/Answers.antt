@@ -32,4 +32,4 @@ returns-in-Err c =
 pub returns : goal.returns
 returns c =
     let end = YieldsList-end (road (goal.at.returns c).After-next) c.loop-i.yielded _ c.loop-i.yielded_by _ _ c.in-None.is c.next.ensures.steps in
-    is_done (lines_of c.args.bytes.now) (length c.loop-i.yielded) c.loop-i.parts.items _ (omega (arith, end.1, length-enumerate_from 0 (lines_of c.args.bytes.now))) c.loop-i.invariant
+    rw c.new.ensures (is_done (lines_of c.args.bytes.now) (length c.loop-i.yielded) c.loop-i.parts.items _ (omega (arith, end.1, length-enumerate_from 0 (lines_of c.args.bytes.now))) c.loop-i.invariant)
