@@ -75,14 +75,14 @@ FailsWith errors.Memory answer = Unit {0}
 FailsWith (errors.Fault fault) answer = answer ≡ Err fault
 
 -- It is this answer, unless memory ran out.
-abbrev pub Gives : Result (List Part) ScriptError → Result (List Part) Fault → Type 0
-Gives (Ok parts) answer = answer ≡ Ok parts
-Gives (Err error) answer = FailsWith error answer
+abbrev pub GivesScript : Result (List Part) ScriptError → Result (List Part) Fault → Type 0
+GivesScript (Ok parts) answer = answer ≡ Ok parts
+GivesScript (Err error) answer = FailsWith error answer
 
 -- ---- what the definitions say of each other
 
 -- Bytes are a script with these parts and no others, or have this fault and no other.
-pub record AreToldApart (bytes : List ℕ) : Type 0 where
+pub record HasOneReading (bytes : List ℕ) : Type 0 where
   pub one_script : (first second : List Part) → IsScript bytes first → IsScript bytes second → first ≡ second
   pub one_fault : (first second : Fault) → IsFault bytes first.line first.why → IsFault bytes second.line second.why → first ≡ second
   pub not_both : (parts : List Part) (fault : Fault) → IsScript bytes parts → IsFault bytes fault.line fault.why → ⊥

@@ -49,7 +49,7 @@ pub struct Fault {
 pub enum ScriptError {
     #[error("out of memory")]
     Memory,
-    #[error("{0}")]
+    #[error(transparent)]
     Fault(Fault),
 }
 

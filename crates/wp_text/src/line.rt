@@ -34,7 +34,7 @@ fn words<'a>(alloc: Global, line: &'a [u8]) -> Result<Vec<&'a [u8]>, AllocError>
 }
 
 #[tactic(auto, unfolding(crate::specs::Reading::one_word))]
-fn one<const MOST: usize>(alloc: Global, words: &[&[u8]]) -> Result<Word<MOST>, LineError>
+fn one_word<const MOST: usize>(alloc: Global, words: &[&[u8]]) -> Result<Word<MOST>, LineError>
     ensures { Gives (λ word. word) result (one_word MOST (map (λ word. word.now) words.now)) }
 {
     match words {
@@ -44,7 +44,7 @@ fn one<const MOST: usize>(alloc: Global, words: &[&[u8]]) -> Result<Word<MOST>, 
 }
 
 #[tactic(auto, unfolding(crate::specs::Reading::two_words))]
-fn two<const FIRST: usize, const SECOND: usize>(
+fn two_words<const FIRST: usize, const SECOND: usize>(
     alloc: Global,
     words: &[&[u8]],
 ) -> Result<(Word<FIRST>, Word<SECOND>), LineError>
@@ -65,13 +65,13 @@ fn statement_with(
     ensures { Gives (λ s. s) result (statement_with keyword (map (λ word. word.now) words.now)) }
 {
     Ok(match keyword {
-        Keyword::Client => Statement::Client(one(alloc, words)?),
+        Keyword::Client => Statement::Client(one_word(alloc, words)?),
         Keyword::Put => {
-            let (key, value) = two(alloc, words)?;
+            let (key, value) = two_words(alloc, words)?;
             Statement::Command(Command::Put(key, value))
         }
-        Keyword::Del => Statement::Command(Command::Del(one(alloc, words)?)),
-        Keyword::Get => Statement::Command(Command::Get(one(alloc, words)?)),
+        Keyword::Del => Statement::Command(Command::Del(one_word(alloc, words)?)),
+        Keyword::Get => Statement::Command(Command::Get(one_word(alloc, words)?)),
     })
 }
 

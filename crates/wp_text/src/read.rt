@@ -1,6 +1,5 @@
 ghost use Rattle.std.specs.Prelude.{◌≡◌, ℕ, ◌≤◌, List, [], length, IfOk, IfErr};
-ghost use Rattle.wp_text.specs.Faults as script;
-ghost use Rattle.wp_text.specs.Faults.{IsFault, IsErrorOf, AreToldApart};
+ghost use Rattle.wp_text.specs.Faults.{IsFault, IsErrorOf, GivesScript, HasOneReading};
 ghost use Rattle.wp_text.specs.Grammar.{lines_of, IsScript, commands_of};
 ghost use Rattle.wp_text.specs.Reading.{Gives, has_client, with_client, with_command, with_statement, with_meaning, with_line, with_lines, script_of};
 
@@ -62,13 +61,12 @@ fn add_line(alloc: Global, parts: &mut Vec<Part>, line: &[u8]) -> Result<(), Lin
 
 fn read_lines(alloc: Global, bytes: &[u8]) -> Result<Script, ScriptError>
     requires { length bytes.now ≤ MOST_BYTES }
-    ensures { script.Gives result (with_lines 0 [] (lines_of bytes.now)) }
+    ensures { GivesScript result (with_lines 0 [] (lines_of bytes.now)) }
 {
     let mut parts = Vec::new(alloc);
     for (i, line) in bytes.split(|b| *b == b'\n').enumerate() {
-        match add_line(alloc, &mut parts, line) {
-            Ok(()) => {}
-            Err(e) => return Err(e.in_line(i + 1)),
+        if let Err(e) = add_line(alloc, &mut parts, line) {
+            return Err(e.in_line(i + 1));
         }
     }
     Ok(Script::new(parts))
@@ -76,7 +74,7 @@ fn read_lines(alloc: Global, bytes: &[u8]) -> Result<Script, ScriptError>
 
 #[tactic(auto, unfolding(crate::specs::Reading::script_of))]
 fn read_all(alloc: Global, bytes: &[u8]) -> Result<Script, ScriptError>
-    ensures { script.Gives result (script_of bytes.now) }
+    ensures { GivesScript result (script_of bytes.now) }
 {
     if bytes.len() > MOST_BYTES {
         return Err(ScriptError::Fault(Fault {
@@ -93,15 +91,15 @@ pub fn read_script(alloc: Global, bytes: &[u8]) -> Result<Script, ScriptError>
     ensures script { IfOk result (λ parts. IsScript bytes.now parts) }
     ensures error { IfErr result (λ e. IsErrorOf bytes.now e) }
     // What spells a script is read, and what has a fault is refused for it, unless memory runs out.
-    ensures each_script { (parts : List Part) → IsScript bytes.now parts → script.Gives result (Ok parts) }
-    ensures each_fault { (fault : Fault) → IsFault bytes.now fault.line fault.why → script.Gives result (Err fault) }
+    ensures each_script { (parts : List Part) → IsScript bytes.now parts → GivesScript result (Ok parts) }
+    ensures each_fault { (fault : Fault) → IsFault bytes.now fault.line fault.why → GivesScript result (Err fault) }
     ensures few_commands { IfOk result (λ parts. length (commands_of parts) ≤ length bytes.now) }
 {
     read_all(alloc, bytes)
 }
 
 /// Bytes are a script with one list of parts, or have one fault, and not both.
-pub fn are_told_apart()
-    ensures { (bytes : List ℕ) → AreToldApart bytes }
+pub fn one_reading()
+    ensures { (bytes : List ℕ) → HasOneReading bytes }
 {
 }

@@ -29,7 +29,7 @@ impl Model for Commands {
 }
 
 impl Commands {
-    ghost use Rattle.std.specs.Prelude.{◌≡◌, [], ◌∷◌, ◌++◌, OnOk};
+    ghost use Rattle.std.specs.Prelude.{◌≡◌, [], ◌∷◌, ◌++◌, OnOk, OnErr};
 
     /// The commands of a list.
     pub fn new(items: Vec<Command>) -> Commands
@@ -40,7 +40,8 @@ impl Commands {
 
     /// Adds a command behind the others.
     pub fn push(&mut self, command: Command) -> Result<(), AllocError>
-        ensures { OnOk result (self.new ≡ self.old ++ command ∷ []) }
+        ensures ok { OnOk result (self.new ≡ self.old ++ command ∷ []) }
+        ensures err { OnErr result (self.new ≡ self.old) }
     {
         self.items.push(command)?;
         Ok(())

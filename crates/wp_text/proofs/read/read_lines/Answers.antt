@@ -23,7 +23,7 @@ turn c lines =
 
 pub loop-i-preserved : goal.loop-i-preserved
 loop-i-preserved c =
-    rw length_push (goes_on (lines_of c.args.bytes.now) (length c.loop-i.yielded) c.in-Some.i c.in-Some.line.now c.loop-i.parts.items c.add_line.new.parts.items _ (turn (goal.at.loop-i-preserved c).In-Some (road (goal.at.loop-i-preserved c).After-next)) c.in-Ok.ensures c.loop-i.invariant)
+    rw length_push (goes_on (lines_of c.args.bytes.now) (length c.loop-i.yielded) c.in-Some.i c.in-Some.line.now c.loop-i.parts.items c.add_line.new.parts.items _ (turn (goal.at.loop-i-preserved c).In-Some (road (goal.at.loop-i-preserved c).After-next)) c.in_default.ensures c.loop-i.invariant)
 
 pub returns-in-Err : goal.returns-in-Err
 returns-in-Err c =
