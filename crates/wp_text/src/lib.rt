@@ -21,3 +21,6 @@ pub use lines::{client_line, end_line, history_line, reply_line};
 pub use read::{MOST_BYTES, MOST_CLIENTS, one_reading, read_script};
 pub use reply::Reply;
 pub use script::{Command, Commands, Part, Script};
+
+#[cfg(test)]
+mod tests;
