@@ -1,1 +1,4 @@
 pub mod Lines
+pub mod Grammar
+pub mod Faults
+pub mod Reading

@@ -1,3 +1,4 @@
+use std::alloc::AllocError;
 use std::marker::Model;
 use wp_model::{Key, Name, Value};
 
@@ -28,13 +29,22 @@ impl Model for Commands {
 }
 
 impl Commands {
-    ghost use Rattle.std.specs.Prelude.{◌≡◌};
+    ghost use Rattle.std.specs.Prelude.{◌≡◌, [], ◌∷◌, ◌++◌, OnOk, OnErr};
 
     /// The commands of a list.
     pub fn new(items: Vec<Command>) -> Commands
         ensures { result ≡ items.items }
     {
         Commands { items }
+    }
+
+    /// Adds a command behind the others.
+    pub fn push(&mut self, command: Command) -> Result<(), AllocError>
+        ensures ok { OnOk result (self.new ≡ self.old ++ command ∷ []) }
+        ensures err { OnErr result (self.new ≡ self.old) }
+    {
+        self.items.push(command)?;
+        Ok(())
     }
 
     /// The commands, in order.

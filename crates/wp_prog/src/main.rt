@@ -1,0 +1,44 @@
+//! The program `wp`: a script's clients run over the store in the current folder.
+#![tactic(auto)]
+
+use std::env;
+use std::io::{self, Write};
+use std::process::ExitCode;
+use wp_outside::{Disks, OpenGate};
+use wp_real::{FileDisk, StdinSource, StdoutSink};
+use wp_run::{Status, run};
+
+#[cfg(test)]
+mod tests;
+
+/// The command line, the program's name first.
+fn words<R: Env + AllocGlobal>(rt: &R) -> Result<Vec<String>, Status> {
+    match env::args(rt) {
+        Ok(words) => words.collect(rt.alloc()).map_err(|_| Status::Memory),
+        Err(error) if error.kind() == io::ErrorKind::OutOfMemory => Err(Status::Memory),
+        Err(_) => Err(Status::Words),
+    }
+}
+
+fn main(rt: HostRuntime) -> ExitCode {
+    let alloc = rt.alloc();
+    let status = match words(&rt) {
+        Ok(words) => {
+            let disks = Disks {
+                log: FileDisk::new(&rt, "wp.log"),
+                manifest: FileDisk::new(&rt, "wp.manifest"),
+                tables: FileDisk::new(&rt, "wp.tables"),
+            };
+            let mut source = StdinSource::new(&rt);
+            let mut sink = StdoutSink::new(&rt);
+            run(&rt, alloc, &words, disks, &mut source, &mut sink, &OpenGate).status
+        }
+        Err(status) => status,
+    };
+    if status != Status::Ok {
+        if let Ok(line) = status.line(alloc) {
+            let _ = writeln!(rt.stderr(), "{}", line);
+        }
+    }
+    ExitCode::from(status.code())
+}

@@ -1,0 +1,8 @@
+pub mod Results
+pub mod StatementLaws
+pub mod LineLaws
+pub mod Placing
+pub mod ScriptLaws
+pub mod Answered
+pub mod CommandCount
+pub mod Loop

@@ -1,0 +1,89 @@
+-- The first fault of a script.
+use Rattle.std.specs.Prelude.{◌≡◌, ℕ, zero, suc, ◌<◌, ◌≤◌, false, List, [], ◌∷◌, ◌++◌, length, Some, ◌⊎◌, Result, Ok, Err}
+use Rattle.std.specs.List.{list_all, Contains}
+use Rattle.wp_text.specs.declared.fault.Fault.{Fault}
+use Rattle.wp_text.specs.declared.fault.ScriptError.{ScriptError}
+use Rattle.wp_text.specs.declared.fault.ScriptError.TheVariants as errors
+use Rattle.wp_text.specs.declared.fault.Why.{Why}
+use Rattle.wp_text.specs.declared.fault.Why.TheVariants.{TooLong, LineLong, BadByte, BadCommand, BadWord, NoClient, ClientTwice, ManyClients}
+use Rattle.wp_text.specs.declared.line.Statement.{Statement}
+use Rattle.wp_text.specs.declared.line.Statement.TheVariants as statement
+use Rattle.wp_text.specs.declared.line.TheConstants.{MOST_LINE_BYTES}
+use Rattle.wp_text.specs.declared.read.TheConstants.{MOST_BYTES, MOST_CLIENTS}
+use Rattle.wp_text.specs.declared.script.Part.{Part}
+use Rattle.wp_text.specs.Grammar.{lines_of, is_line_byte, IsText, words_of, is_passed_over, statement_words, is_in_range, Means, clients, Spell, IsScript}
+
+-- ---- a line by itself
+
+-- no statement is written with these words, whatever its keys, values and names
+abbrev pub IsNoStatement : List (List ℕ) → Type 0
+IsNoStatement words = (statement : Statement) → words ≡ statement_words statement → ⊥
+
+-- a statement is written with these words, but one of its keys, values and names is out of range
+pub record IsOutOfRange (words : List (List ℕ)) : Type 0 where
+  pub statement : Statement
+  pub written : words ≡ statement_words statement
+  pub range : is_in_range statement ≡ false
+
+abbrev pub AreWrong : List (List ℕ) → Why → Type 0
+AreWrong words BadCommand = IsNoStatement words
+AreWrong words BadWord = IsOutOfRange words
+AreWrong words why = ⊥
+
+-- what is wrong with a line, wherever it stands
+abbrev pub IsWrong : List ℕ → Why → Type 0
+IsWrong line LineLong = MOST_LINE_BYTES < length line
+IsWrong line BadByte = (length line ≤ MOST_LINE_BYTES) × (list_all is_line_byte line ≡ false)
+IsWrong line why = IsText line × (is_passed_over (words_of line) ≡ false) × AreWrong (words_of line) why
+
+-- ---- a line behind others
+
+-- what is wrong with a statement where it stands, behind these parts
+abbrev pub IsMisplaced : List Part → Statement → Why → Type 0
+IsMisplaced parts (statement.Command command) NoClient = parts ≡ []
+IsMisplaced parts (statement.Client name) ClientTwice = Contains (clients parts) name
+IsMisplaced parts (statement.Client name) ManyClients = (Contains (clients parts) name → ⊥) × (length parts ≡ MOST_CLIENTS)
+IsMisplaced parts statement why = ⊥
+
+-- The line is wrong by itself, or it says a statement that is misplaced.
+abbrev pub IsWrongBehind : List Part → List ℕ → Why → Type 0
+IsWrongBehind parts line why = IsWrong line why ⊎ ((statement : Statement) × Means line (Some statement) × IsMisplaced parts statement why)
+
+-- The lines before this one spell parts, and it is wrong behind them.
+pub record IsFirstWrong (lines : List (List ℕ)) (before : List (List ℕ)) (why : Why) : Type 0 where
+  pub line : List ℕ
+  pub after : List (List ℕ)
+  pub place : lines ≡ before ++ line ∷ after
+  pub parts : List Part
+  pub spelled : Spell before parts
+  pub wrong : IsWrongBehind parts line why
+
+-- The first fault of the bytes: line 0 stands for them as a whole, the others are counted from 1.
+abbrev pub IsFault : List ℕ → ℕ → Why → Type 0
+IsFault bytes zero why = (MOST_BYTES < length bytes) × (why ≡ TooLong)
+IsFault bytes (suc n) why = (length bytes ≤ MOST_BYTES) × ((before : List (List ℕ)) × (length before ≡ n) × IsFirstWrong (lines_of bytes) before why)
+
+-- what an error says of the bytes
+abbrev pub IsErrorOf : List ℕ → ScriptError → Type 0
+IsErrorOf bytes errors.Memory = Unit {0}
+IsErrorOf bytes (errors.Fault fault) = IsFault bytes fault.line fault.why
+
+-- ---- what a call returned
+
+abbrev pub FailsWith : ScriptError → Result (List Part) Fault → Type 0
+FailsWith errors.Memory answer = Unit {0}
+FailsWith (errors.Fault fault) answer = answer ≡ Err fault
+
+-- It is this answer, unless memory ran out.
+abbrev pub GivesScript : Result (List Part) ScriptError → Result (List Part) Fault → Type 0
+GivesScript (Ok parts) answer = answer ≡ Ok parts
+GivesScript (Err error) answer = FailsWith error answer
+
+-- ---- what the definitions say of each other
+
+-- Bytes are a script with these parts and no others, or have this fault and no other.
+pub record HasOneReading (bytes : List ℕ) : Type 0 where
+  pub one_script : (first second : List Part) → IsScript bytes first → IsScript bytes second → first ≡ second
+  pub one_fault : (first second : Fault) → IsFault bytes first.line first.why → IsFault bytes second.line second.why → first ≡ second
+  pub not_both : (parts : List Part) (fault : Fault) → IsScript bytes parts → IsFault bytes fault.line fault.why → ⊥
+  pub either : ((parts : List Part) × IsScript bytes parts) ⊎ ((fault : Fault) × IsFault bytes fault.line fault.why)

@@ -1,0 +1,90 @@
+-- The grammar of scripts.
+use Rattle.std.specs.Prelude.{◌≡◌, ◌≢◌, ℕ, ◌≤◌, ◌==◌, Bool, true, false, not, ◌&&◌, List, [], ◌∷◌, length, map, nat_eq, nat_le, codes, Option, Some, None}
+use Rattle.std.specs.List.{list_all, filter, filter_map, flat_map, slice_split, AllPairs, AllZip, starts_with}
+use Rattle.wp_model.specs.Word.{is_word}
+use Rattle.wp_text.specs.declared.line.Statement.{Statement}
+use Rattle.wp_text.specs.declared.line.Statement.TheVariants as statement
+use Rattle.wp_text.specs.declared.line.TheConstants.{MOST_LINE_BYTES}
+use Rattle.wp_text.specs.declared.read.TheConstants.{MOST_BYTES, MOST_CLIENTS}
+use Rattle.wp_text.specs.declared.script.Command.{Command}
+use Rattle.wp_text.specs.declared.script.Command.TheVariants as command
+use Rattle.wp_text.specs.declared.script.Part.{Part}
+
+-- the lines of a script, without their ends; what stands behind the last end is a line too
+abbrev pub lines_of : List ℕ → List (List ℕ)
+lines_of bytes = slice_split (λ b. b == 0x0A) bytes
+
+-- ---- a line
+
+-- the space, or a printable byte of ASCII
+abbrev pub is_line_byte : ℕ → Bool
+is_line_byte b = nat_le 0x20 b && nat_le b 0x7E
+
+-- few enough such bytes
+pub record IsText (line : List ℕ) : Type 0 where
+  pub short : length line ≤ MOST_LINE_BYTES
+  pub printable : list_all is_line_byte line ≡ true
+
+-- the words of a line: what stands between its spaces
+abbrev pub words_of : List ℕ → List (List ℕ)
+words_of line = filter (λ word. not (length word == 0)) (slice_split (λ b. b == 0x20) line)
+
+-- a line of these words is passed over: there are none, or the first begins with a #
+abbrev pub is_passed_over : List (List ℕ) → Bool
+is_passed_over [] = true
+is_passed_over (first ∷ others) = starts_with nat_eq first (codes "#")
+
+-- the words that a command is written with
+abbrev pub command_words : Command → List (List ℕ)
+command_words (command.Put key value) = codes "put" ∷ key ∷ value ∷ []
+command_words (command.Del key) = codes "del" ∷ key ∷ []
+command_words (command.Get key) = codes "get" ∷ key ∷ []
+
+abbrev pub statement_words : Statement → List (List ℕ)
+statement_words (statement.Client name) = codes "client" ∷ name ∷ []
+statement_words (statement.Command command) = command_words command
+
+-- its keys, values and names are in range
+abbrev pub is_command_in_range : Command → Bool
+is_command_in_range (command.Put key value) = is_word 64 key && is_word 256 value
+is_command_in_range (command.Del key) = is_word 64 key
+is_command_in_range (command.Get key) = is_word 64 key
+
+abbrev pub is_in_range : Statement → Bool
+is_in_range (statement.Client name) = is_word 32 name
+is_in_range (statement.Command command) = is_command_in_range command
+
+-- What words say: nothing where their line is passed over, else the statement that is written with them.
+abbrev pub Say : List (List ℕ) → Option Statement → Type 0
+Say words None = is_passed_over words ≡ true
+Say words (Some statement) = (words ≡ statement_words statement) × (is_in_range statement ≡ true)
+
+pub record Means (line : List ℕ) (meaning : Option Statement) : Type 0 where
+  pub text : IsText line
+  pub words : Say (words_of line) meaning
+
+-- ---- a script
+
+-- the statements of a client's part
+abbrev pub statements_of : Part → List Statement
+statements_of part = statement.Client part.client ∷ map (λ c. statement.Command c) part.commands
+
+abbrev pub clients : List Part → List (List ℕ)
+clients parts = map (λ part. part.client) parts
+
+-- The lines spell these parts, one behind the other.
+pub record Spell (lines : List (List ℕ)) (parts : List Part) : Type 0 where
+  pub meanings : List (Option Statement)
+  pub each : AllZip Means lines meanings
+  pub statements : filter_map (λ meaning. meaning) meanings ≡ flat_map statements_of parts
+  pub distinct : AllPairs ◌≢◌ (clients parts)
+  pub few : length parts ≤ MOST_CLIENTS
+
+-- The bytes are a script with these parts.
+pub record IsScript (bytes : List ℕ) (parts : List Part) : Type 0 where
+  pub short : length bytes ≤ MOST_BYTES
+  pub lines : Spell (lines_of bytes) parts
+
+-- the commands of all clients
+abbrev pub commands_of : List Part → List Command
+commands_of parts = flat_map (λ part. part.commands) parts

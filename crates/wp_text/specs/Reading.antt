@@ -1,0 +1,139 @@
+-- How a script is read, line by line: each reader gives a value, or the first fault.
+use Rattle.std.specs.Prelude.{◌≡◌, ℕ, ◌+◌, Bool, ◌==◌, ◌&&◌, List, [], ◌∷◌, ◌++◌, length, map, nat_lt, nat_le, codes, Option, Some, None, Result, Ok, Err, if◌then◌else◌}
+use Rattle.std.specs.List.{list_all, find, list_any}
+use Rattle.std.specs.Str.{bytes_eq}
+use Rattle.wp_model.specs.Word.{is_word}
+use Rattle.wp_model.specs.declared.word.WordError.{WordError}
+use Rattle.wp_model.specs.declared.word.WordError.TheVariants as word_errors
+use Rattle.wp_text.specs.declared.fault.LineError.{LineError}
+use Rattle.wp_text.specs.declared.fault.LineError.TheVariants as errors
+use Rattle.wp_text.specs.declared.fault.Why.{Why}
+use Rattle.wp_text.specs.declared.fault.Why.TheVariants.{TooLong, LineLong, BadByte, BadCommand, BadWord, NoClient, ClientTwice, ManyClients}
+use Rattle.wp_text.specs.declared.fault.Fault.{Fault}
+use Rattle.wp_text.specs.declared.fault.ScriptError.{ScriptError}
+use Rattle.wp_text.specs.declared.fault.ScriptError.TheVariants as script
+use Rattle.wp_text.specs.declared.keyword.Keyword.{Keyword}
+use Rattle.wp_text.specs.declared.keyword.Keyword.TheVariants as keyword
+use Rattle.wp_text.specs.declared.keyword.TheConstants.{KEYWORDS}
+use Rattle.wp_text.specs.declared.line.Statement.{Statement}
+use Rattle.wp_text.specs.declared.line.Statement.TheVariants as statement
+use Rattle.wp_text.specs.declared.line.TheConstants.{MOST_LINE_BYTES}
+use Rattle.wp_text.specs.declared.read.TheConstants.{MOST_BYTES, MOST_CLIENTS}
+use Rattle.wp_text.specs.declared.script.Command.{Command}
+use Rattle.wp_text.specs.declared.script.Command.TheVariants as command
+use Rattle.wp_text.specs.declared.script.Part.{Part}
+use Rattle.wp_text.specs.Grammar.{lines_of, is_line_byte, words_of, is_passed_over}
+
+infixl 10 ◌>>=◌
+abbrev pub ◌>>=◌ : {A B E : Type 0} → Result A E → (A → Result B E) → Result B E
+(Ok x) >>= f = f x
+(Err e) >>= f = Err e
+
+-- What a function returned, seen by view, is what reading gives, unless memory ran out.
+abbrev pub Fails : {Y : Type 0} → LineError → Result Y Why → Type 0
+Fails errors.Memory read = Unit {0}
+Fails (errors.Wrong why) read = read ≡ Err why
+
+abbrev pub Gives : {X Y : Type 0} → (X → Y) → Result X LineError → Result Y Why → Type 0
+Gives view (Ok x) read = read ≡ Ok (view x)
+Gives view (Err e) read = Fails e read
+
+-- ---- words
+
+abbrev pub keyword_text : Keyword → List ℕ
+keyword_text keyword.Client = codes "client"
+keyword_text keyword.Put = codes "put"
+keyword_text keyword.Del = codes "del"
+keyword_text keyword.Get = codes "get"
+
+unfoldable pub keyword_named : List ℕ → Option Keyword
+keyword_named word = find (λ keyword. bytes_eq (keyword_text keyword) word) KEYWORDS
+
+unfoldable pub one_word : ℕ → List (List ℕ) → Result (List ℕ) Why
+one_word most (word ∷ []) = if is_word most word then Ok word else Err BadWord
+one_word most _ = Err BadCommand
+
+unfoldable pub two_words : ℕ → ℕ → List (List ℕ) → Result (List ℕ × List ℕ) Why
+two_words most_first most_second (first ∷ second ∷ []) = if is_word most_first first && is_word most_second second then Ok (first, second) else Err BadWord
+two_words most_first most_second _ = Err BadCommand
+
+-- the statement with these words behind its keyword
+unfoldable pub statement_with : Keyword → List (List ℕ) → Result Statement Why
+statement_with keyword.Client words = do
+  name ← one_word 32 words
+  Ok (statement.Client name)
+statement_with keyword.Put words = do
+  both ← two_words 64 256 words
+  Ok (statement.Command (command.Put both.0 both.1))
+statement_with keyword.Del words = do
+  key ← one_word 64 words
+  Ok (statement.Command (command.Del key))
+statement_with keyword.Get words = do
+  key ← one_word 64 words
+  Ok (statement.Command (command.Get key))
+
+unfoldable pub statement_named : Option Keyword → List (List ℕ) → Result (Option Statement) Why
+statement_named None words = Err BadCommand
+statement_named (Some keyword) words = do
+  statement ← statement_with keyword words
+  Ok (Some statement)
+
+unfoldable pub statement_of : List (List ℕ) → Result (Option Statement) Why
+statement_of [] = Ok None
+statement_of (first ∷ others) = if is_passed_over (first ∷ others) then Ok None else statement_named (keyword_named first) others
+
+-- ---- lines
+
+unfoldable pub line_of : List ℕ → Result (Option Statement) Why
+line_of line = if nat_lt MOST_LINE_BYTES (length line) then Err LineLong else (if list_all is_line_byte line then statement_of (words_of line) else Err BadByte)
+
+abbrev pub has_client : List Part → List ℕ → Bool
+has_client parts name = list_any (λ part. bytes_eq name part.client) parts
+
+unfoldable pub with_client : List Part → List ℕ → Result (List Part) Why
+with_client parts name = if has_client parts name then Err ClientTwice else (if nat_lt (length parts) MOST_CLIENTS then Ok (parts ++ record { client = name; commands = [] } ∷ []) else Err ManyClients)
+
+-- the parts with the command at the end of the last one
+unfoldable pub with_command : List Part → Command → Result (List Part) Why
+with_command [] command = Err NoClient
+with_command (part ∷ []) command = Ok (record part { commands = part.commands ++ command ∷ [] } ∷ [])
+with_command (part ∷ second ∷ others) command = do
+  behind ← with_command (second ∷ others) command
+  Ok (part ∷ behind)
+
+unfoldable pub with_statement : List Part → Statement → Result (List Part) Why
+with_statement parts (statement.Client name) = with_client parts name
+with_statement parts (statement.Command command) = with_command parts command
+
+unfoldable pub with_meaning : List Part → Option Statement → Result (List Part) Why
+with_meaning parts None = Ok parts
+with_meaning parts (Some statement) = with_statement parts statement
+
+unfoldable pub with_line : List Part → List ℕ → Result (List Part) Why
+with_line parts line = do
+  meaning ← line_of line
+  with_meaning parts meaning
+
+-- ---- a script
+
+abbrev pub in_line : {A : Type 0} → ℕ → Result A Why → Result A Fault
+in_line line (Ok x) = Ok x
+in_line line (Err why) = Err (record { line = line; why = why })
+
+-- the parts with what the lines add, where so many lines stand before them
+unfoldable pub with_lines : ℕ → List Part → List (List ℕ) → Result (List Part) Fault
+with_lines before parts [] = Ok parts
+with_lines before parts (line ∷ lines) = do
+  now ← in_line (before + 1) (with_line parts line)
+  with_lines (before + 1) now lines
+
+unfoldable pub script_of : List ℕ → Result (List Part) Fault
+script_of bytes = if nat_lt MOST_BYTES (length bytes) then Err (record { line = 0; why = TooLong }) else with_lines 0 [] (lines_of bytes)
+
+abbrev pub script_error : ℕ → LineError → ScriptError
+script_error line errors.Memory = script.Memory
+script_error line (errors.Wrong why) = script.Fault (record { line = line; why = why })
+
+abbrev pub error_of_word : WordError → LineError
+error_of_word word_errors.Memory = errors.Memory
+error_of_word word_errors.BadWord = errors.Wrong BadWord

@@ -1,0 +1,34 @@
+ghost use Rattle.std.specs.Prelude.{◌≡◌};
+ghost use Rattle.wp_text.specs.Reading.{keyword_text, keyword_named};
+
+/// The first word of a statement.
+#[derive(Clone, Copy, Debug, PartialEq, Eq)]
+pub enum Keyword {
+    Client,
+    Put,
+    Del,
+    Get,
+}
+
+const KEYWORDS: [Keyword; 4] = [Keyword::Client, Keyword::Put, Keyword::Del, Keyword::Get];
+
+impl Keyword {
+    fn text(self) -> &'static [u8]
+        ensures { result.now ≡ keyword_text self }
+    {
+        match self {
+            Keyword::Client => b"client",
+            Keyword::Put => b"put",
+            Keyword::Del => b"del",
+            Keyword::Get => b"get",
+        }
+    }
+
+    /// The keyword that the word is.
+    #[tactic(auto, unfolding(crate::specs::Reading::keyword_named))]
+    pub fn named(word: &[u8]) -> Option<Keyword>
+        ensures { result ≡ keyword_named word.now }
+    {
+        KEYWORDS.iter().copied().find(|keyword| keyword.text() == word)
+    }
+}

@@ -1,0 +1,107 @@
+ghost use Rattle.std.specs.Prelude.{◌≡◌, map, IfOk};
+ghost use Rattle.std.specs.List.{list_all};
+ghost use Rattle.wp_text.specs.Grammar.{is_line_byte, words_of};
+ghost use Rattle.wp_text.specs.Reading.{Gives, one_word, two_words, statement_with, statement_of, line_of};
+
+use crate::fault::{LineError, Why};
+use crate::keyword::Keyword;
+use crate::script::Command;
+use std::alloc::{AllocError, Global};
+use wp_model::{Name, Word};
+
+/// How many bytes a line may have, without its end.
+pub const MOST_LINE_BYTES: usize = 400;
+
+/// What a line says.
+#[derive(Debug, Drop)]
+pub enum Statement {
+    /// A client's part begins.
+    Client(Name),
+    /// A command of the client whose part it stands in.
+    Command(Command),
+}
+
+fn is_text(line: &[u8]) -> bool
+    ensures { result ≡ list_all is_line_byte line.now }
+{
+    line.iter().all(|b| *b >= b' ' && *b <= b'~')
+}
+
+fn words<'a>(alloc: Global, line: &'a [u8]) -> Result<Vec<&'a [u8]>, AllocError>
+    ensures { IfOk result (λ words. map (λ word. word.now) words.items ≡ words_of line.now) }
+{
+    line.split(|b| *b == b' ').filter(|word| !word.is_empty()).collect(alloc)
+}
+
+#[tactic(auto, unfolding(crate::specs::Reading::one_word))]
+fn one_word<const MOST: usize>(alloc: Global, words: &[&[u8]]) -> Result<Word<MOST>, LineError>
+    ensures { Gives (λ word. word) result (one_word MOST (map (λ word. word.now) words.now)) }
+{
+    match words {
+        [word] => Ok(Word::read(alloc, word)?),
+        _ => Err(LineError::Wrong(Why::BadCommand)),
+    }
+}
+
+#[tactic(auto, unfolding(crate::specs::Reading::two_words))]
+fn two_words<const FIRST: usize, const SECOND: usize>(
+    alloc: Global,
+    words: &[&[u8]],
+) -> Result<(Word<FIRST>, Word<SECOND>), LineError>
+    ensures { Gives (λ both. both) result (two_words FIRST SECOND (map (λ word. word.now) words.now)) }
+{
+    match words {
+        [first, second] => Ok((Word::read(alloc, first)?, Word::read(alloc, second)?)),
+        _ => Err(LineError::Wrong(Why::BadCommand)),
+    }
+}
+
+#[tactic(auto, unfolding(crate::specs::Reading::statement_with))]
+fn statement_with(
+    alloc: Global,
+    keyword: Keyword,
+    words: &[&[u8]],
+) -> Result<Statement, LineError>
+    ensures { Gives (λ s. s) result (statement_with keyword (map (λ word. word.now) words.now)) }
+{
+    Ok(match keyword {
+        Keyword::Client => Statement::Client(one_word(alloc, words)?),
+        Keyword::Put => {
+            let (key, value) = two_words(alloc, words)?;
+            Statement::Command(Command::Put(key, value))
+        }
+        Keyword::Del => Statement::Command(Command::Del(one_word(alloc, words)?)),
+        Keyword::Get => Statement::Command(Command::Get(one_word(alloc, words)?)),
+    })
+}
+
+#[tactic(auto, unfolding(crate::specs::Reading::statement_of, crate::specs::Reading::statement_named))]
+fn statement_of(alloc: Global, words: &[&[u8]]) -> Result<Option<Statement>, LineError>
+    ensures { Gives (λ s. s) result (statement_of (map (λ word. word.now) words.now)) }
+{
+    let [first, others @ ..] = words else {
+        return Ok(None);
+    };
+    if first.starts_with(b"#") {
+        return Ok(None);
+    }
+    match Keyword::named(first) {
+        Some(keyword) => Ok(Some(statement_with(alloc, keyword, others)?)),
+        None => Err(LineError::Wrong(Why::BadCommand)),
+    }
+}
+
+/// What the line says, or `None` where it is passed over.
+#[tactic(auto, unfolding(crate::specs::Reading::line_of))]
+pub fn read_line(alloc: Global, line: &[u8]) -> Result<Option<Statement>, LineError>
+    ensures { Gives (λ s. s) result (line_of line.now) }
+{
+    if line.len() > MOST_LINE_BYTES {
+        return Err(LineError::Wrong(Why::LineLong));
+    }
+    if !is_text(line) {
+        return Err(LineError::Wrong(Why::BadByte));
+    }
+    let words = words(alloc, line)?;
+    statement_of(alloc, &words)
+}
