@@ -1,0 +1,2 @@
+-- What an opening makes of the bytes that it found.
+use Rattle.std.specs.Prelude.{◌≡◌}

@@ -1,0 +1,7 @@
+//! Gates: one byte before each record, and one before the head.
+
+/// Every other byte is open.
+pub const CLOSED: u8 = 0;
+
+/// The open gate that is written.
+pub const OPEN: u8 = 1;
