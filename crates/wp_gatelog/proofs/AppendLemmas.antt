@@ -7,7 +7,7 @@ use Rattle.wp_outside.specs.Disk.{Moment, IsImage, settled, after_write, write_e
 use Rattle.wp_gatelog.specs.Log.{State, Grows, BeforeOrAfter, IsAcknowledged, IsAtRest, last_gate}
 use Rattle.wp_gatelog.specs.Moments.{Leaves, Within, Goes}
 use Rattle.wp_gatelog.specs.Spelling.{Gated, IsOpen, framed, frame_of, identity, all_gated, log_of, records_of}
-use Rattle.wp_gatelog.proofs.MomentLemmas.{image_behind, image_of_gate, reads_behind, put_gate, goes_map, passes_from_goes}
+use Rattle.wp_gatelog.proofs.MomentLemmas.{image_behind, image_of_gate, reads_behind, put_gate, goes_map, passes_from_goes, told_map, told_as}
 
 pub length-framed : (bytes : List ℕ) → length (framed bytes) ≡ 8 + length bytes
 unfolding framed
@@ -22,9 +22,6 @@ fits_disk at [] bytes is bounded = fits_frame [] bytes is (omega arith)
 fits_disk at (b ∷ frame) bytes is bounded = fits_frame (b ∷ frame) bytes is (omega arith)
 
 -- ---- the two writes
-
-pub told_as : (ms : List Moment) (x y : List ℕ) → x ≡ y → IfTold ms (λ m. m ≡ settled x) → IfTold ms (λ m. m ≡ settled y)
-told_as ms x y is told = subst (λ (z : List ℕ). IfTold ms (λ m. m ≡ settled z)) is told
 
 -- while the frame is written
 pub grows_staged : (front frame bytes : List ℕ) (at : ℕ) → at ≡ length front + 1 → (m : Moment) → Within (after_write at frame (settled (front ++ 0 ∷ []))) m → Leaves (Grows front bytes) m
@@ -74,10 +71,6 @@ acknowledged_more gated records bytes fits acknowledged = record {
   last = last_gate_more 1 gated 1 bytes;
   same = ap (λ (l : List (List ℕ)). l ++ bytes ∷ []) acknowledged.same ∙ sym (map_push (λ (g : Gated). g.bytes) gated (record { gate = 1; bytes = bytes }));
 }
-
-pub told_map : (P Q : Moment → Type 0) → ((m : Moment) → P m → Q m) → (ms : List Moment) → IfTold ms P → IfTold ms Q
-told_map P Q f [] told = tt
-told_map P Q f (m ∷ past) told = f m told
 
 -- ---- what an append passes, of a disk that tells and of one that doesn't
 

@@ -1,2 +1,3 @@
 pub mod AppendLemmas
+pub mod HeadLemmas
 pub mod MomentLemmas

@@ -36,6 +36,15 @@ pub passes_from_goes : (P : Moment → Type 0) (old new : List Moment) → Goes 
 passes_from_goes P [] new goes = ([], goes, tt)
 passes_from_goes P (m ∷ past) new goes = goes
 
+-- ---- a disk that tells
+
+pub told_map : (P Q : Moment → Type 0) → ((m : Moment) → P m → Q m) → (ms : List Moment) → IfTold ms P → IfTold ms Q
+told_map P Q f [] told = tt
+told_map P Q f (m ∷ past) told = f m told
+
+pub told_as : (ms : List Moment) (x y : List ℕ) → x ≡ y → IfTold ms (λ m. m ≡ settled x) → IfTold ms (λ m. m ≡ settled y)
+told_as ms x y is told = subst (λ (z : List ℕ). IfTold ms (λ m. m ≡ settled z)) is told
+
 -- ---- bytes of which all are sure
 
 matches_self : (xs : List ℕ) → Matches (map (λ b. Some b) xs) xs

@@ -1,2 +1,13 @@
--- What an opening makes of the bytes that it found.
-use Rattle.std.specs.Prelude.{◌≡◌}
+-- What an opening reads of a log, part by part.
+use Rattle.std.specs.Prelude.{◌≡◌, ◌≢◌, ◌⊎◌, ℕ, ◌+◌, ◌<◌, List, [], ◌∷◌, ◌++◌, length, Option, Some, None}
+use Rattle.std.specs.Int.{w64, to_be_bytes}
+use Rattle.wp_gatelog.specs.declared.head.Head.{Head}
+use Rattle.wp_gatelog.specs.declared.head.Head.TheVariants.{Unmade, Bad, Made}
+use Rattle.wp_gatelog.specs.Damage.{IsBadHead}
+use Rattle.wp_gatelog.specs.Spelling.{identity, IsUnmade}
+
+-- what the head of these bytes is
+abbrev pub IsHead : List ℕ → List ℕ → Head → Type 0
+IsHead magic bytes Unmade = IsUnmade bytes
+IsHead magic bytes Bad = IsBadHead magic bytes
+IsHead magic bytes (Made gate id) = (next : ℕ) × (rest : List ℕ) × (gate ≢ 0) × (bytes ≡ gate ∷ (identity magic id ++ next ∷ rest))

@@ -3,8 +3,10 @@
 
 mod device;
 mod gate;
+mod head;
 mod log;
 mod record;
 
+pub use head::{head_bytes, read_head};
 pub use log::{AppendError, GateLog};
 pub use record::{Record, frame};

@@ -4,8 +4,8 @@ use Rattle.wp_outside.specs.Disk.{settled, after_write, Moment}
 use Rattle.wp_gatelog.specs.Spelling.{frame_of, framed}
 use Rattle.wp_gatelog.specs.Log.{Grows}
 use Rattle.wp_gatelog.specs.Moments.{Leaves, Within, Goes}
-use Rattle.wp_gatelog.proofs.AppendLemmas.{grows_staged, reads_staged, grows_opened, told_as, fits_disk}
-use Rattle.wp_gatelog.proofs.MomentLemmas.{goes_map, goes_on, put_gate}
+use Rattle.wp_gatelog.proofs.AppendLemmas.{grows_staged, reads_staged, grows_opened, fits_disk}
+use Rattle.wp_gatelog.proofs.MomentLemmas.{goes_map, goes_on, put_gate, told_as}
 use Rattle.wp_gatelog.proofs.log.append_frame.Goals as goal
 
 pub returns-in_err-write_synced-clause-passed : goal.returns-in_err-write_synced-clause-passed
