@@ -1,3 +1,4 @@
 pub mod AppendLemmas
 pub mod HeadLemmas
 pub mod MomentLemmas
+pub mod ScanLemmas

@@ -42,6 +42,10 @@ pub told_map : (P Q : Moment → Type 0) → ((m : Moment) → P m → Q m) → 
 told_map P Q f [] told = tt
 told_map P Q f (m ∷ past) told = f m told
 
+pub told_both : (P Q R : Moment → Type 0) → ((m : Moment) → P m → Q m → R m) → (ms : List Moment) → IfTold ms P → IfTold ms Q → IfTold ms R
+told_both P Q R f [] p q = tt
+told_both P Q R f (m ∷ past) p q = f m p q
+
 pub told_as : (ms : List Moment) (x y : List ℕ) → x ≡ y → IfTold ms (λ m. m ≡ settled x) → IfTold ms (λ m. m ≡ settled y)
 told_as ms x y is told = subst (λ (z : List ℕ). IfTold ms (λ m. m ≡ settled z)) is told
 

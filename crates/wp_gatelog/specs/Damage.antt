@@ -9,9 +9,13 @@ pub record IsBadHead (magic bytes : List ℕ) : Type 0 where
   pub made : IsUnmade bytes → ⊥
   pub wrong : (length bytes < 11) ⊎ (take 4 (drop 1 bytes) ≢ magic) ⊎ (slice_index bytes 5 ≢ 1)
 
+-- the number in the first eight bytes
+unfoldable pub counted : List ℕ → ℕ
+counted bytes = from_be_bytes w64 (take 8 bytes)
+
 -- fewer bytes than a length of eight bytes, the bytes that it counts and the next gate
 abbrev pub IsShort : List ℕ → Type 0
-IsShort behind = length behind < 9 + from_be_bytes w64 (take 8 behind)
+IsShort behind = length behind < 9 + counted behind
 
 -- so many whole records stand behind open gates, and then an open gate without a whole record behind it
 pub record IsCut (magic : List ℕ) (index : ℕ) (bytes : List ℕ) : Type 0 where

@@ -2,11 +2,14 @@
 #![tactic(auto)]
 
 mod device;
+mod error;
 mod gate;
 mod head;
 mod log;
 mod record;
+mod scan;
 
+pub use error::LogError;
 pub use head::{head_bytes, read_head};
 pub use log::{AppendError, GateLog};
 pub use record::{Record, frame};
