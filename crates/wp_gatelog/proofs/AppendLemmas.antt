@@ -44,17 +44,17 @@ grows_opened front bytes at gate is fits m within image h =
 
 -- ---- the log
 
-records_more : (gated : List Gated) (gate : ℕ) (bytes : List ℕ) → Each IsOpen gated → IsOpen (record { gate = gate; bytes = bytes }) → Each IsOpen (gated ++ record { gate = gate; bytes = bytes } ∷ [])
+pub records_more : (gated : List Gated) (gate : ℕ) (bytes : List ℕ) → Each IsOpen gated → IsOpen (record { gate = gate; bytes = bytes }) → Each IsOpen (gated ++ record { gate = gate; bytes = bytes } ∷ [])
 records_more [] gate bytes each more = (more, tt)
 records_more (g ∷ gated) gate bytes each more = (each.0, records_more gated gate bytes each.1 more)
 
-all_gated_more : (gated : List Gated) (gate : ℕ) (bytes : List ℕ) → all_gated (gated ++ record { gate = gate; bytes = bytes } ∷ []) ≡ all_gated gated ++ gate ∷ framed bytes
+pub all_gated_more : (gated : List Gated) (gate : ℕ) (bytes : List ℕ) → all_gated (gated ++ record { gate = gate; bytes = bytes } ∷ []) ≡ all_gated gated ++ gate ∷ framed bytes
 all_gated_more [] gate bytes = ap (λ (l : List ℕ). gate ∷ l) (append-nil (framed bytes))
 all_gated_more (g ∷ gated) gate bytes =
     ap (λ (l : List ℕ). g.gate ∷ (framed g.bytes ++ l)) (all_gated_more gated gate bytes)
     ∙ ap (λ (l : List ℕ). g.gate ∷ l) (sym (append_assoc (framed g.bytes) (all_gated gated) (gate ∷ framed bytes)))
 
-last_gate_more : (head : ℕ) (gated : List Gated) (gate : ℕ) (bytes : List ℕ) → last_gate head (gated ++ record { gate = gate; bytes = bytes } ∷ []) ≡ gate
+pub last_gate_more : (head : ℕ) (gated : List Gated) (gate : ℕ) (bytes : List ℕ) → last_gate head (gated ++ record { gate = gate; bytes = bytes } ∷ []) ≡ gate
 last_gate_more head [] gate bytes = refl
 last_gate_more head (g ∷ gated) gate bytes = last_gate_more g.gate gated gate bytes
 

@@ -10,3 +10,10 @@ FaultRose before now Memory = ⊤
 FaultRose before now DiskFault = Rose before now
 FaultRose before now BadHead = ⊤
 FaultRose before now (Cut index) = ⊤
+
+-- the outside refused: memory, or the disk, whose count rose
+abbrev pub IsOutside : ℕ → ℕ → LogError → Type 0
+IsOutside before now Memory = ⊤
+IsOutside before now DiskFault = Rose before now
+IsOutside before now BadHead = ⊥
+IsOutside before now (Cut index) = ⊥

@@ -24,6 +24,12 @@ IsNext bytes next.Closed = (behind : List ℕ) × (bytes ≡ 0 ∷ behind)
 IsNext bytes next.Cut = (gate : ℕ) × (behind : List ℕ) × (gate ≢ 0) × (bytes ≡ gate ∷ behind) × IsShort behind
 IsNext bytes (next.Open gate found) = (rest : List ℕ) × IsOpen (record { gate = gate; bytes = found }) × (0 < length rest) × (bytes ≡ gate ∷ (framed found ++ rest))
 
+-- the gate behind the record, too, stands before the log's end
+abbrev pub EndsWithin : ℕ → ℕ → Next → Type 0
+EndsWithin at len next.Closed = ⊤
+EndsWithin at len next.Cut = ⊤
+EndsWithin at len (next.Open gate found) = at + 9 + length found < len
+
 -- the gate of the last record, and its place
 abbrev pub IsLast : Option Gate → List Gated → Type 0
 IsLast None gated = gated ≡ []
