@@ -1,4 +1,5 @@
 pub mod AppendLemmas
 pub mod HeadLemmas
+pub mod MakeLemmas
 pub mod MomentLemmas
 pub mod ScanLemmas

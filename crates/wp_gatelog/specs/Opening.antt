@@ -4,10 +4,14 @@ use Rattle.std.specs.Int.{w64, to_be_bytes}
 use Rattle.wp_gatelog.specs.declared.head.Head.{Head}
 use Rattle.wp_gatelog.specs.declared.head.Head.TheVariants.{Unmade, Bad, Made}
 use Rattle.wp_gatelog.specs.Damage.{IsBadHead}
-use Rattle.wp_gatelog.specs.Spelling.{identity, IsUnmade}
+use Rattle.wp_gatelog.specs.Spelling.{identity, IsUnmade, Spells}
 
 -- what the head of these bytes is
 abbrev pub IsHead : List ℕ → List ℕ → Head → Type 0
 IsHead magic bytes Unmade = IsUnmade bytes
 IsHead magic bytes Bad = IsBadHead magic bytes
 IsHead magic bytes (Made gate id) = (next : ℕ) × (rest : List ℕ) × (gate ≢ 0) × (bytes ≡ gate ∷ (identity magic id ++ next ∷ rest))
+
+-- they spell a log without records
+abbrev pub SpellsNone : List ℕ → ℕ → List ℕ → Type 0
+SpellsNone magic id bytes = Spells bytes magic id []

@@ -6,6 +6,7 @@ mod error;
 mod gate;
 mod head;
 mod log;
+pub mod make;
 mod record;
 mod scan;
 
