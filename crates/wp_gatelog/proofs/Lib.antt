@@ -1,5 +1,6 @@
 pub mod AppendLemmas
 pub mod HeadLemmas
 pub mod MakeLemmas
+pub mod MendLemmas
 pub mod MomentLemmas
 pub mod ScanLemmas

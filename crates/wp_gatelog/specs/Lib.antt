@@ -2,6 +2,7 @@ pub mod Append
 pub mod Damage
 pub mod Errors
 pub mod Log
+pub mod Mending
 pub mod Moments
 pub mod Opening
 pub mod Scanning

@@ -7,6 +7,7 @@ mod gate;
 mod head;
 mod log;
 pub mod make;
+pub mod mend;
 mod record;
 mod scan;
 
