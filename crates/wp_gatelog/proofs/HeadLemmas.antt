@@ -6,7 +6,7 @@ use Rattle.wp_outside.specs.Disk.{Moment, IsRead, IfTold}
 use Rattle.wp_gatelog.specs.declared.head.Head.{Head}
 use Rattle.wp_gatelog.specs.declared.head.Head.TheVariants.{Unmade, Bad, Made}
 use Rattle.wp_gatelog.specs.Damage.{IsBadHead}
-use Rattle.wp_gatelog.specs.Opening.{IsHead}
+use Rattle.wp_gatelog.specs.Heads.{IsHead}
 use Rattle.wp_gatelog.specs.Spelling.{identity, IsUnmade}
 use Rattle.wp_gatelog.proofs.MomentLemmas.{told_map}
 

@@ -46,6 +46,19 @@ pub told_both : (P Q R : Moment → Type 0) → ((m : Moment) → P m → Q m �
 told_both P Q R f [] p q = tt
 told_both P Q R f (m ∷ past) p q = f m p q
 
+pub told_three : (P Q R S : Moment → Type 0) → ((m : Moment) → P m → Q m → R m → S m) → (ms : List Moment) → IfTold ms P → IfTold ms Q → IfTold ms R → IfTold ms S
+told_three P Q R S f [] p q r = tt
+told_three P Q R S f (m ∷ past) p q r = f m p q r
+
+-- of a disk that tells nothing, nothing is owed but that it still tells nothing
+pub told_goes : (P Q : Moment → Type 0) (old new : List Moment) → (old ≡ [] → new ≡ []) → IfTold old Q → ((m : Moment) → Q m → Goes P old new) → Goes P old new
+told_goes P Q [] new untold told goes = untold refl
+told_goes P Q (m ∷ past) new untold told goes = goes m told
+
+pub told_new : (Q R : Moment → Type 0) (old new : List Moment) → (old ≡ [] → new ≡ []) → IfTold old Q → ((m : Moment) → Q m → IfTold new R) → IfTold new R
+told_new Q R [] new untold told rests = subst (λ (ms : List Moment). IfTold ms R) (sym (untold refl)) tt
+told_new Q R (m ∷ past) new untold told rests = rests m told
+
 pub told_as : (ms : List Moment) (x y : List ℕ) → x ≡ y → IfTold ms (λ m. m ≡ settled x) → IfTold ms (λ m. m ≡ settled y)
 told_as ms x y is told = subst (λ (z : List ℕ). IfTold ms (λ m. m ≡ settled z)) is told
 

@@ -1,6 +1,7 @@
 pub mod Append
 pub mod Damage
 pub mod Errors
+pub mod Heads
 pub mod Log
 pub mod Mending
 pub mod Moments

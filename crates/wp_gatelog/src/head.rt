@@ -3,7 +3,7 @@
 ghost use Rattle.std.specs.Prelude.{◌≡◌, ◌≢◌, ◌⊎◌, ℕ, ◌<◌, ◌∷◌, [], ◌++◌, List, length, take, slice_index, IfSome, IfNone, IfOk};
 ghost use Rattle.wp_outside.specs.Disk.{IfTold};
 ghost use Rattle.wp_outside.specs.Faults.{HasCause};
-ghost use Rattle.wp_gatelog.specs.Opening.{IsHead};
+ghost use Rattle.wp_gatelog.specs.Heads.{IsHead};
 ghost use Rattle.wp_gatelog.specs.Spelling.{identity};
 
 use wp_fields::Fields;

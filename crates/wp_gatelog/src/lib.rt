@@ -8,6 +8,7 @@ mod head;
 mod log;
 pub mod make;
 pub mod mend;
+pub mod open;
 mod record;
 mod scan;
 

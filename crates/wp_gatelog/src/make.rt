@@ -4,7 +4,7 @@ ghost use Rattle.std.specs.Prelude.{◌≡◌, ℕ, [], ◌∷◌, ◌++◌, Lis
 ghost use Rattle.wp_outside.specs.Disk.{IfTold, settled};
 ghost use Rattle.wp_outside.specs.Faults.{HasCause};
 ghost use Rattle.wp_gatelog.specs.Moments.{Goes, Leaves};
-ghost use Rattle.wp_gatelog.specs.Opening.{SpellsNone};
+ghost use Rattle.wp_gatelog.specs.Heads.{SpellsNone};
 ghost use Rattle.wp_gatelog.specs.Spelling.{IsUnmade, log_of};
 
 use wp_outside::{Disk, Failed};

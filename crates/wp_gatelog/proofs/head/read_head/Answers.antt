@@ -1,7 +1,7 @@
 use Rattle.wp_gatelog.proofs.HeadLemmas.{head_read}
 use Rattle.wp_gatelog.proofs.MomentLemmas.{told_map}
 use Rattle.wp_outside.specs.Disk.{Moment, IsRead}
-use Rattle.wp_gatelog.specs.Opening.{IsHead}
+use Rattle.wp_gatelog.specs.Heads.{IsHead}
 use Rattle.std.proofs.Common.{rules}
 use Rattle.wp_gatelog.proofs.head.read_head.Goals as goal
 
