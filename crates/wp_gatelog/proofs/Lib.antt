@@ -6,3 +6,4 @@ pub mod MomentLemmas
 pub mod OpenLemmas
 pub mod ParseLemmas
 pub mod ScanLemmas
+pub mod SurvivalLemmas

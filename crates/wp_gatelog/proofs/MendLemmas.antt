@@ -34,11 +34,11 @@ reopens_written front behind at byte is odd m within image h =
 
 -- ---- step after step
 
-each_but_last : (before : List Gated) (last : Gated) → Each IsOpen (before ++ last ∷ []) → Each IsOpen before × IsOpen last
+pub each_but_last : (before : List Gated) (last : Gated) → Each IsOpen (before ++ last ∷ []) → Each IsOpen before × IsOpen last
 each_but_last [] last each = (tt, each.0)
 each_but_last (g ∷ before) last each = let rest = each_but_last before last each.1 in ((each.0, rest.0), rest.1)
 
-keeps_more : (magic : List ℕ) (id head : ℕ) (before : List Gated) (gate : ℕ) (found more image : List ℕ) → image ≡ log_of magic id head before ++ gate ∷ (framed found ++ 0 ∷ more)
+pub keeps_more : (magic : List ℕ) (id head : ℕ) (before : List Gated) (gate : ℕ) (found more image : List ℕ) → image ≡ log_of magic id head before ++ gate ∷ (framed found ++ 0 ∷ more)
   → image ≡ log_of magic id head (before ++ record { gate = gate; bytes = found } ∷ []) ++ 0 ∷ more
 keeps_more magic id head before gate found more image is =
     is ∙ sym (append_assoc (log_of magic id head before) (gate ∷ framed found) (0 ∷ more)) ∙ ap (λ (l : List ℕ). l ++ 0 ∷ more) (sym (log_more magic id head before gate found))

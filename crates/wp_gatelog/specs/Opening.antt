@@ -26,6 +26,13 @@ IsUntouched old new DiskFault = ⊤
 IsUntouched old new BadHead = new ≡ old
 IsUntouched old new (Cut index) = new ≡ old
 
+-- the refusal comes after nothing but a sync, but where the disk failed
+abbrev pub IsOnlySynced : List Moment → List Moment → LogError → Type 0
+IsOnlySynced old new Memory = Adds after_sync old new
+IsOnlySynced old new DiskFault = ⊤
+IsOnlySynced old new BadHead = Adds after_sync old new
+IsOnlySynced old new (Cut index) = Adds after_sync old new
+
 -- While a log is mended, a crash leaves its records. Where its head's gate was not 01, it may leave none, and where the
 -- last record's was not, it may leave all but that record.
 abbrev pub Keeps : List ℕ → ℕ → ℕ → List Gated → List ℕ → Type 0

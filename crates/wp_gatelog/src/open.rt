@@ -6,7 +6,7 @@ ghost use Rattle.wp_gatelog.specs.Errors.{FaultRose};
 ghost use Rattle.wp_gatelog.specs.Heads.{BeginsLog};
 ghost use Rattle.wp_gatelog.specs.Log.{IsAtRest};
 ghost use Rattle.wp_gatelog.specs.Moments.{Goes, Leaves};
-ghost use Rattle.wp_gatelog.specs.Opening.{IsFound, IsRefused, IsUntouched, Mends, MendsMade};
+ghost use Rattle.wp_gatelog.specs.Opening.{IsFound, IsRefused, IsUntouched, IsOnlySynced, Mends, MendsMade};
 
 use std::alloc::Global;
 use wp_outside::Disk;
@@ -24,6 +24,23 @@ pub struct Found {
     pub id: u32,
     pub records: Vec<Record>,
     pub end: u64,
+}
+
+/// Syncs the disk, and then makes a log, or reads and mends the one that is there.
+pub fn find<D: Disk>(alloc: Global, disk: &mut D, magic: [u8; 4], id: u32) -> Result<Found, LogError>
+    requires { length magic ≡ 4 }
+    ensures passed { IfTold (D.moments disk.old) (λ m. Goes (Leaves (Mends magic id m.reads)) (D.moments disk.old) (D.moments disk.new)) }
+    ensures found { IfOk result (λ found. IfTold (D.moments disk.old) (λ m. IsFound magic id m.reads found.id found.records.items)) }
+    ensures rests { IfOk result (λ found. IfTold (D.moments disk.new) (IsAtRest magic found.id found.end found.records.items)) }
+    ensures refused { IfErr result (λ why. IfTold (D.moments disk.old) (λ m. IsRefused magic m.reads why)) }
+    ensures untouched { IfErr result (IsOnlySynced (D.moments disk.old) (D.moments disk.new)) }
+    ensures places { IfOk result (λ found. (vec_len found.records ≤ found.end) × (found.end ≤ 2 ^ 62)) }
+    ensures untold { D.moments disk.old ≡ [] → D.moments disk.new ≡ [] }
+    ensures fault { IfErr result (FaultRose (D.faults disk.old) (D.faults disk.new)) }
+    ensures later { D.faults disk.old ≤ D.faults disk.new }
+{
+    disk.sync()?;
+    open_synced(alloc, disk, magic, id)
 }
 
 /// Makes a log, or reads and mends the one that is there, on a disk that has all of its bytes for good.
