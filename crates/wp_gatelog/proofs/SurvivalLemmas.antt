@@ -2,13 +2,15 @@
 use Rattle.std.proofs.Common.{◌≡◌, ◌≢◌, ◌⊎◌, inl, inr, ℕ, ◌+◌, ◌<◌, ◌≤◌, ◌^◌, List, [], ◌∷◌, ◌++◌, map, length, refl, sym, ◌∙◌, ap, subst, arith, length-append}
 use Rattle.std.proofs.lemmas.Bool.{cases_eq}
 use Rattle.std.proofs.lemmas.List.{append_assoc, map_push, same_from_push}
-use Rattle.wp_outside.specs.Disk.{Each}
-use Rattle.wp_gatelog.specs.Log.{IsAcknowledged, BeforeOrAfter, Grows, last_gate}
+use Rattle.wp_outside.specs.Disk.{Moment, IfTold, IsImage, images, settled, Each}
+use Rattle.wp_gatelog.specs.Log.{IsAcknowledged, IsAtRest, BeforeOrAfter, Grows, last_gate}
 use Rattle.wp_gatelog.specs.Mending.{KeepsFront, Mended}
-use Rattle.wp_gatelog.specs.Opening.{Keeps, Survives, Mends}
+use Rattle.wp_gatelog.specs.Moments.{Leaves, Goes}
+use Rattle.wp_gatelog.specs.Opening.{Keeps, Survives, Mends, SurvivesThrough, StaysThrough}
 use Rattle.wp_gatelog.specs.Spelling.{Gated, IsOpen, framed, identity, all_gated, log_of, records_of, IsUnmade, Stands, Spells}
 use Rattle.wp_gatelog.proofs.AppendLemmas.{records_more, log_more, last_gate_more}
 use Rattle.wp_gatelog.proofs.MendLemmas.{each_but_last, keeps_more}
+use Rattle.wp_gatelog.proofs.MomentLemmas.{goes_map, image_of_settled}
 use Rattle.wp_gatelog.proofs.ParseLemmas.{same_log, SameLog}
 
 -- ---- gates of any byte
@@ -134,3 +136,38 @@ module _ (magic : List ℕ) (id : ℕ) (records : List (List ℕ)) (bytes : List
     acknowledged = before.acknowledged;
     grows = grows_mended before.gated found image w.0 w.1 w.2 before.acknowledged before.grows w.3 w.4;
   }
+
+-- ---- moment by moment
+
+pub survives_through : (magic : List ℕ) (asked : ℕ) (old new : List Moment) → IfTold old (λ m. Goes (Leaves (Mends magic asked m.reads)) old new) → SurvivesThrough magic asked old new
+survives_through magic asked [] new goes = tt
+survives_through magic asked (m ∷ past) new goes =
+    goes_map (Leaves (Mends magic asked m.reads)) (Leaves (Survives magic asked m.reads)) (λ n leaves image h. survives magic asked m.reads image (leaves image h)) (m ∷ past) new goes
+
+pub stays_through : (magic : List ℕ) (asked : ℕ) (old new : List Moment) → IfTold old (λ m. Goes (Leaves (Mends magic asked m.reads)) old new) → StaysThrough magic old new
+stays_through magic asked [] new goes = tt
+stays_through magic asked (m ∷ past) new goes = λ id records bytes before.
+    goes_map (Leaves (Mends magic asked m.reads)) (Leaves (BeforeOrAfter magic id records bytes)) (λ n leaves image h. acknowledged_stay magic id records bytes asked m.reads image before (leaves image h)) (m ∷ past) new goes
+
+-- a crash of a log at rest leaves its records
+pub rest_spells : (magic : List ℕ) (id end : ℕ) (records : List (List ℕ)) (ms : List Moment) → IfTold ms (IsAtRest magic id end records) → (image : List ℕ) → images ms image → Spells image magic id records
+rest_spells magic id end records [] rest image h = absurd h
+rest_spells magic id end records (m ∷ past) rest image h =
+    let is : image ≡ log_of magic id 1 rest.gated ++ 0 ∷ [] = image_of_settled (log_of magic id 1 rest.gated ++ 0 ∷ []) image (subst (λ (n : Moment). IsImage n image) rest.settled_on h) in
+    subst (λ (rs : List (List ℕ)). Spells image magic id rs) (sym rest.acknowledged.same)
+      (spells_log magic id 1 rest.gated image one_open rest.acknowledged.gates_open ([], is))
+
+-- before or after, an image spells the records without the new one or with it
+pub before_or_after_spells : (magic : List ℕ) (id : ℕ) (records : List (List ℕ)) (bytes image : List ℕ) → BeforeOrAfter magic id records bytes image
+  → Spells image magic id records ⊎ Spells image magic id (records ++ bytes ∷ [])
+before_or_after_spells magic id records bytes image before = cases before.grows
+  where
+    cases : Grows (log_of magic id 1 before.gated) bytes image → Spells image magic id records ⊎ Spells image magic id (records ++ bytes ∷ [])
+    cases (behind, inl is) =
+        inl (subst (λ (rs : List (List ℕ)). Spells image magic id rs) (sym before.acknowledged.same)
+          (spells_log magic id 1 before.gated image one_open before.acknowledged.gates_open (behind, is)))
+    cases (behind, inr w) =
+        inr (subst (λ (rs : List (List ℕ)). Spells image magic id rs)
+          (map_push (λ (g : Gated). g.bytes) before.gated (record { gate = w.0; bytes = bytes }) ∙ ap (λ (rs : List (List ℕ)). rs ++ bytes ∷ []) (sym before.acknowledged.same))
+          (spells_log magic id 1 (before.gated ++ record { gate = w.0; bytes = bytes } ∷ []) image one_open
+            (records_more before.gated w.0 bytes before.acknowledged.gates_open w.1) (behind, keeps_more magic id 1 before.gated w.0 bytes behind image w.2)))

@@ -1,10 +1,12 @@
 -- What an opening finds, and what it leaves.
 use Rattle.std.specs.Prelude.{◌≡◌, ◌≢◌, ◌⊎◌, ℕ, List, [], ◌∷◌, ◌++◌, ⊤}
-use Rattle.wp_outside.specs.Disk.{Moment, Adds, after_sync}
+use Rattle.wp_outside.specs.Disk.{Moment, IfTold, Passes, Adds, after_sync}
 use Rattle.wp_gatelog.specs.declared.error.LogError.{LogError}
 use Rattle.wp_gatelog.specs.declared.error.LogError.TheVariants.{Memory, DiskFault, BadHead, Cut}
 use Rattle.wp_gatelog.specs.Damage.{IsBadHead, IsCut}
+use Rattle.wp_gatelog.specs.Log.{BeforeOrAfter}
 use Rattle.wp_gatelog.specs.Mending.{Mended}
+use Rattle.wp_gatelog.specs.Moments.{Leaves}
 use Rattle.wp_gatelog.specs.Spelling.{Gated, IsUnmade, Stands, Spells, records_of}
 
 -- the bytes spell these records under this id: the one that was asked for, where no log was made
@@ -55,6 +57,15 @@ Mends magic asked found image =
     (image ≡ found)
   ⊎ (IsUnmade found × Spells image magic asked [])
   ⊎ ((id head : ℕ) × (gated : List Gated) × Stands magic id head gated found × Mended magic id head gated image)
+
+-- at each moment of an opening a crash leaves what survives it
+abbrev pub SurvivesThrough : List ℕ → ℕ → List Moment → List Moment → Type 0
+SurvivesThrough magic asked old new = IfTold old (λ m. Passes (Leaves (Survives magic asked m.reads)) old new)
+
+-- at each moment of an opening acknowledged records stand there as before, with a further one or without
+abbrev pub StaysThrough : List ℕ → List Moment → List Moment → Type 0
+StaysThrough magic old new = IfTold old (λ m. (id : ℕ) (records : List (List ℕ)) (bytes : List ℕ)
+  → BeforeOrAfter magic id records bytes m.reads → Passes (Leaves (BeforeOrAfter magic id records bytes)) old new)
 
 -- a log is mended whose head was read
 abbrev pub MendsMade : List ℕ → ℕ → ℕ → List ℕ → List ℕ → Type 0

@@ -18,6 +18,13 @@ pub enum LogError {
     Cut { index: u64 },
 }
 
+/// A refusal that hands the disk back.
+#[derive(Drop)]
+pub struct DiskRefused<D, E> {
+    pub disk: D,
+    pub why: E,
+}
+
 impl From<AllocError> for LogError {
     ghost from_gives = { λ _ e. e ≡ Memory };
 

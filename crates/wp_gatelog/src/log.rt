@@ -1,18 +1,23 @@
 //! A log that stands open.
 
-ghost use Rattle.std.specs.Prelude.{◌≡◌, ℕ, ◌+◌, ◌≤◌, ◌^◌, [], ◌∷◌, ◌++◌, List, length, IfErr, OnOk};
+ghost use Rattle.std.specs.Prelude.{◌≡◌, ℕ, ◌+◌, ◌≤◌, ◌^◌, [], ◌∷◌, ◌++◌, List, length, false, IfOk, IfErr, OnOk, MatchResult};
 ghost use Rattle.wp_outside.specs.Disk.{IfTold, Passes, settled, images};
 ghost use Rattle.wp_outside.specs.Faults.{HasCause};
 ghost use Rattle.wp_gatelog.specs.Append.{Appended, Refuses};
+ghost use Rattle.wp_gatelog.specs.Errors.{FaultRose};
 ghost use Rattle.wp_gatelog.specs.Log.{Grows, BeforeOrAfter, IsFrame, Rests};
 ghost use Rattle.wp_gatelog.specs.Moments.{Goes, Leaves};
+ghost use Rattle.wp_gatelog.specs.Opening.{IsFound, IsRefused, IsOnlySynced, SurvivesThrough, StaysThrough};
 ghost use Rattle.wp_gatelog.specs.Spelling.{Spells, frame_of, framed};
 
+use std::alloc::Global;
 use std::marker::Model;
 use wp_outside::{Disk, Failed};
 
 use crate::device::write_synced;
+use crate::error::{DiskRefused, LogError};
 use crate::gate::OPEN;
+use crate::open::{Found, find};
 use crate::record::Record;
 
 #[derive(Clone, Copy, Debug, PartialEq, Eq)]
@@ -54,6 +59,37 @@ impl<D: Disk> Model for GateLog<D> {
 }
 
 impl<D: Disk> GateLog<D> {
+    /// Opens the log that stands on the disk, and mends what a crash left of it. Where none was made, a new one is made,
+    /// under this id.
+    pub fn open(alloc: Global, mut disk: D, magic: [u8; 4], id: u32) -> Result<GateLog<D>, DiskRefused<D, LogError>>
+        // The records are those that the disk spelled as it was handed in, and after it they are all that a crash leaves.
+        ensures found { IfOk result (λ log. IfTold (D.moments disk) (λ m. IsFound magic id m.reads log.id log.found)) }
+        ensures rests { IfOk result (λ log. Rests magic log log.found) }
+        ensures spelled { IfOk result (λ log. (image : List ℕ) → images log.moments image → Spells image magic log.id log.found) }
+        ensures fresh { IfOk result (λ log. (log.count ≡ length log.found) × (log.closed ≡ false)) }
+
+        // Each refusal of the bytes comes where they are so.
+        ensures refused { IfErr result (λ refused. IfTold (D.moments disk) (λ m. IsRefused magic m.reads refused.why)) }
+        ensures untouched { IfErr result (λ refused. IsOnlySynced (D.moments disk) (D.moments refused.disk) refused.why) }
+
+        // A crash on the way takes nothing that an opening or an append has acknowledged.
+        ensures any_moment { MatchResult result (λ log. SurvivesThrough magic id (D.moments disk) log.moments)
+            (λ refused. SurvivesThrough magic id (D.moments disk) (D.moments refused.disk)) }
+        ensures acknowledged { MatchResult result (λ log. StaysThrough magic (D.moments disk) log.moments)
+            (λ refused. StaysThrough magic (D.moments disk) (D.moments refused.disk)) }
+
+        ensures fault { IfErr result (λ refused. FaultRose (D.faults disk) (D.faults refused.disk) refused.why) }
+        ensures later { MatchResult result (λ log. D.faults disk ≤ log.faults) (λ refused. D.faults disk ≤ D.faults refused.disk) }
+    {
+        match find(alloc, &mut disk, magic, id) {
+            Ok(Found { id, records, end }) => {
+                let count = records.len() as u64;
+                Ok(GateLog { disk, records, id, end, count, closed: false })
+            }
+            Err(why) => Err(DiskRefused { disk, why }),
+        }
+    }
+
     /// The store's id, as the log's head has it.
     pub fn id(&self) -> u32
         ensures { result ≡ self.now.id }
