@@ -1,2 +1,4 @@
 pub mod Order
 pub mod Loop
+pub mod Fields
+pub mod Grammar

@@ -1,5 +1,5 @@
 -- Reading the changes of a batch one after the other, as a loop does.
-use Rattle.std.proofs.Common.{◌≡◌, ℕ, suc, ◌-◌, ◌+◌, ◌≤◌, ◌<◌, List, [], ◌∷◌, ◌++◌, Result, Ok, Err, refl, sym, ap, ◌∙◌, arith}
+use Rattle.std.proofs.Common.{◌≡◌, ℕ, suc, ◌-◌, ◌+◌, ◌≤◌, ◌<◌, List, [], ◌∷◌, ◌++◌, Result, Ok, Err, refl, sym, ◌∙◌, arith}
 use Rattle.wp_model.specs.declared.change.Change.{Change}
 use Rattle.wp_entry.specs.declared.error.RecordError.{RecordError}
 use Rattle.wp_entry.specs.declared.error.RecordError.TheVariants.{Memory, Short, BadNumber, BadKind, BadWord, Extra}

@@ -1,12 +1,12 @@
 -- A change to a key above all others stands last.
-use Rattle.std.proofs.Common.{◌≡◌, ℕ, suc, ◌-◌, ◌<◌, ◌≤◌, Bool, true, false, List, [], ◌∷◌, ◌++◌, length, get_or, refl, sym, ap, ◌∙◌, arith}
+use Rattle.std.proofs.Common.{◌≡◌, ℕ, suc, ◌-◌, ◌≤◌, true, List, [], ◌∷◌, ◌++◌, length, get_or, refl, sym, ap, ◌∙◌, arith}
 use Rattle.std.specs.declared.cmp.Ordering.{Ordering}
 use Rattle.std.specs.declared.cmp.Ordering.TheVariants.{Less, Equal, Greater}
 use Rattle.std.specs.Ordering.{is_lt, ordering_reverse}
 use Rattle.std.proofs.lemmas.Bool.{and_parts, and_from}
 use Rattle.std.proofs.lemmas.Cmp.{nat_list_cmp_total}
 use Rattle.wp_model.specs.declared.change.Change.{Change}
-use Rattle.wp_model.specs.Batch.{key_cmp, key_of, by_order, with_change, are_ascending}
+use Rattle.wp_model.specs.Batch.{key_cmp, key_of, with_change, are_ascending}
 use Rattle.wp_entry.specs.Reading.{is_above_last}
 
 less_from_test : (o : Ordering) → is_lt o ≡ true → o ≡ Less

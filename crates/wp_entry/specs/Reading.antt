@@ -1,8 +1,7 @@
 -- Reading a record from left to right, with the first fault that is met.
-use Rattle.std.specs.Prelude.{◌≡◌, ℕ, zero, suc, ◌+◌, Bool, true, ◌||◌, List, [], ◌∷◌, ◌++◌, length, take, drop, Result, Ok, Err, nat_lt, ◌==◌, if◌then◌else◌}
+use Rattle.std.specs.Prelude.{◌≡◌, ℕ, zero, suc, Bool, true, ◌||◌, List, [], ◌∷◌, ◌++◌, length, take, drop, Result, Ok, Err, nat_lt, ◌==◌, if◌then◌else◌}
 use Rattle.std.specs.Int.{Width, w16, w32, byte_len, from_be_bytes}
 use Rattle.std.specs.Ordering.{is_lt}
-use Rattle.std.specs.Global.{Vec}
 use Rattle.wp_model.specs.declared.batch.TheConstants.{MOST_KEYS}
 use Rattle.wp_model.specs.declared.change.Change.{Change}
 use Rattle.wp_model.specs.declared.change.Change.TheVariants.{Put, Del}
@@ -31,10 +30,10 @@ number_at w bytes = if nat_lt (length bytes) (byte_len w) then Err Short else Ok
 -- a word of one to `most` bytes, whose length is said to be `len`
 abbrev pub word_at : ℕ → ℕ → List ℕ → Result (List ℕ × List ℕ) RecordError
 word_at most len bytes =
-  if len == 0 || nat_lt most len then Err BadWord
-  else (if nat_lt (length bytes) len then Err Short
-  else (if is_word most (take len bytes) then Ok (take len bytes, drop len bytes)
-  else Err BadWord))
+    if len == 0 || nat_lt most len then Err BadWord
+    else (if nat_lt (length bytes) len then Err Short
+    else (if is_word most (take len bytes) then Ok (take len bytes, drop len bytes)
+    else Err BadWord))
 
 unfoldable pub value_at : List ℕ → Result (List ℕ × List ℕ) RecordError
 value_at bytes = do
@@ -86,11 +85,15 @@ behind_number due bytes = do
   number ← number_at w32 bytes
   if number.0 == due then Ok number.1 else Err (BadNumber number.0 due)
 
--- the entries of that kind
+-- one Write
+unfoldable pub write_at : List ℕ → Result (List Entry × List ℕ) RecordError
+write_at bytes = do
+  batch ← batch_at bytes
+  Ok (Write batch.0 ∷ [], batch.1)
+
+-- the entries of a record of that kind
 unfoldable pub entries_at : ℕ → List ℕ → Result (List Entry × List ℕ) RecordError
-entries_at kind bytes =
-  if kind == 1 then (batch_at bytes >>= λ batch. Ok (Write batch.0 ∷ [], batch.1))
-  else Err (BadKind kind)
+entries_at kind bytes = if kind == 1 then write_at bytes else Err (BadKind kind)
 
 -- all of the bytes
 unfoldable pub record_at : ℕ → List ℕ → Result (List Entry) RecordError
@@ -103,26 +106,11 @@ record_at due bytes = do
 -- ---- what a function gave
 
 -- The fault is the one that reading met, or memory ran out.
-abbrev pub Fails : {X : Type 0} → RecordError → Result X RecordError → Type 0
+abbrev pub Fails : {Y : Type 0} → RecordError → Result Y RecordError → Type 0
 Fails Memory read = Unit {0}
 Fails fault read = read ≡ Err fault
 
--- What a function gave and the bytes that it left are what reading gives, unless memory ran out.
-abbrev pub Gives : {X : Type 0} → Result X RecordError → List ℕ → Result (X × List ℕ) RecordError → Type 0
-Gives (Ok x) rest read = read ≡ Ok (x, rest)
-Gives (Err fault) rest read = Fails fault read
-
--- the same where the bytes behind are all that is read
-abbrev pub GivesRest : Result (Unit {0}) RecordError → List ℕ → Result (List ℕ) RecordError → Type 0
-GivesRest (Ok _) rest read = read ≡ Ok rest
-GivesRest (Err fault) rest read = Fails fault read
-
--- the same for a list of entries
-abbrev pub GivesEntries : Result (Vec Entry) RecordError → List ℕ → Result (List Entry × List ℕ) RecordError → Type 0
-GivesEntries (Ok entries) rest read = read ≡ Ok (entries.items, rest)
-GivesEntries (Err fault) rest read = Fails fault read
-
--- The entries that a function gave are those that reading all of the bytes gives, unless memory ran out.
-abbrev pub IsReading : Result (Vec Entry) RecordError → Result (List Entry) RecordError → Type 0
-IsReading (Ok entries) read = read ≡ Ok entries.items
-IsReading (Err fault) read = Fails fault read
+-- What a function gave, as `view` sees it, is what reading gives, unless memory ran out.
+abbrev pub Gives : {X Y : Type 0} → (X → Y) → Result X RecordError → Result Y RecordError → Type 0
+Gives view (Ok x) read = read ≡ Ok (view x)
+Gives view (Err fault) read = Fails fault read

@@ -49,12 +49,12 @@ abbrev pub is_entry : Entry → Bool
 is_entry (Write batch) = is_batch batch && list_all is_change batch
 
 -- These entries share one record in a log, where the first has that number: one Write.
-abbrev pub ShareRecord : ℕ → List Entry → Type 0
-ShareRecord first [] = ⊥
-ShareRecord first (Write batch ∷ []) = first < 2 ^ 32
-ShareRecord first (Write batch ∷ second ∷ others) = ⊥
+abbrev pub FormRecord : ℕ → List Entry → Type 0
+FormRecord first [] = ⊥
+FormRecord first (Write batch ∷ []) = first < 2 ^ 32
+FormRecord first (Write batch ∷ second ∷ others) = ⊥
 
 -- The entries are a record, and what they hold is in range.
 pub record IsRecord (first : ℕ) (entries : List Entry) : Type 0 where
-  pub share : ShareRecord first entries
+  pub form : FormRecord first entries
   pub in_range : list_all is_entry entries ≡ true

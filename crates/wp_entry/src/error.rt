@@ -1,7 +1,9 @@
 ghost use Rattle.std.specs.Prelude.{◌≡◌};
+ghost use Rattle.wp_entry.specs.Word.{fault_of};
 ghost use Rattle.wp_entry.specs.declared.error.RecordError.TheVariants.{Memory};
 
 use std::alloc::{AllocError, AllocFailed};
+use wp_model::WordError;
 
 /// Why bytes could not be read as a record: the first fault from the left.
 #[derive(Debug, Drop, PartialEq, Eq, thiserror::Error)]
@@ -38,5 +40,16 @@ impl<T: Drop> From<AllocFailed<T>> for RecordError {
 
     fn from(_e: AllocFailed<T>) -> RecordError {
         RecordError::Memory
+    }
+}
+
+impl From<WordError> for RecordError {
+    ghost from_gives = { λ e fault. fault ≡ fault_of e };
+
+    fn from(e: WordError) -> RecordError {
+        match e {
+            WordError::Memory => RecordError::Memory,
+            WordError::BadWord => RecordError::BadWord,
+        }
     }
 }

@@ -1,18 +1,20 @@
-//! The records of the log: one record is what one append makes durable.
+//! The records of the log: what one append makes durable, as one run of bytes.
 //!
 //! A record is the number of its first entry, its kind, and what the entries of that kind hold. Each list of
-//! entries that is a record has one spelling: `write_record` gives it. `read_record` takes nothing else, and
-//! names the first fault from the left.
+//! entries that is a record has one spelling. `write_record` gives it, and `read_record` takes nothing else: it
+//! names the first fault from the left. Whether an entry may stand in a history at all is asked elsewhere.
 #![tactic(auto)]
 
 mod error;
+mod laws;
 mod layout;
 mod reading;
-
+mod writing;
 
 pub use error::RecordError;
+pub use laws::spellings_differ;
+pub use reading::read_record;
+pub use writing::write_record;
 
-
-
-
-
+#[cfg(test)]
+mod tests;

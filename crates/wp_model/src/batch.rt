@@ -1,4 +1,4 @@
-ghost use Rattle.std.specs.Prelude.{◌≡◌, ◌↔◌, true, [], length, IfOk, OnOk, OnErr, IsErrOf};
+ghost use Rattle.std.specs.Prelude.{◌≡◌, ◌↔◌, true, [], ◌∷◌, length, IfOk, OnOk, OnErr, IsErrOf};
 ghost use Rattle.std.specs.Option.{option_map, option_copied};
 ghost use Rattle.wp_model.specs.declared.batch.SetError.TheVariants.{Memory};
 ghost use Rattle.wp_model.specs.Batch.{key_of, change_to, with_change, are_ascending, is_batch};
@@ -78,6 +78,15 @@ impl Batch {
         Batch {
             changes: Vec::new(alloc),
         }
+    }
+
+    /// The batch of one change.
+    pub fn of(alloc: Global, change: Change) -> Result<Batch, AllocError>
+        ensures { IfOk result (λ batch. batch ≡ change ∷ []) }
+    {
+        let mut changes = Vec::with_capacity(alloc, 1)?;
+        changes.push(change)?;
+        Ok(Batch { changes })
     }
 
     /// Takes a change in, in place of an earlier one to its key: of a transaction's changes to a key the last

@@ -1,1 +1,5 @@
+pub mod Room
+pub mod Moments
 pub mod Reading
+pub mod Replayed
+pub mod Writes

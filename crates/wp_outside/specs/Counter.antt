@@ -5,9 +5,9 @@ use Rattle.wp_outside.specs.declared.failed.Failed.{Failed}
 use Rattle.wp_outside.specs.Faults.{risen}
 
 pub record Calls : Type 0 where
-  pub fails : List ℕ -- the numbers of the calls that are to fail, from 1 on
-  pub made : ℕ -- the calls so far, up to the greatest u64
-  pub faults : ℕ -- those that failed, up to the greatest u64
+  pub fails : List ℕ  -- the numbers of the calls that are to fail, from 1 on
+  pub made : ℕ  -- the calls so far, up to the greatest u64
+  pub faults : ℕ  -- those that failed, up to the greatest u64
 
 abbrev pub no_calls : List ℕ → Calls
 no_calls fails = record { fails = fails; made = 0; faults = 0 }

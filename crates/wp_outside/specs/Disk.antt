@@ -78,15 +78,14 @@ pub record IsRead (reads : List ℕ) (at : ℕ) (buf : List ℕ) (n : ℕ) : Typ
   pub count : n ≡ min (length buf) (length reads - at)
   pub bytes : take n buf ≡ take n (drop at reads)
 
--- one more moment, that which the step makes of the newest; a disk that tells none still tells none
-abbrev pub Adds : (Moment → Moment) → List Moment → List Moment → Type 0
-Adds step [] new = new ≡ []
-Adds step (m ∷ past) new = new ≡ step m ∷ m ∷ past
+-- one more moment, which the step makes of the newest; a disk that tells none still tells none
+abbrev pub added : (Moment → Moment) → List Moment → List Moment
+added step [] = []
+added step (m ∷ past) = step m ∷ m ∷ past
 
 -- the step broke off: as before, or one more moment with the images that the step makes, of which a read gives any
 abbrev pub Tears : (Moment → Moment) → List Moment → List Moment → Type 0
-Tears step [] new = new ≡ []
-Tears step (m ∷ past) new = (new ≡ m ∷ past) ⊎ ((bytes : List ℕ) × (new ≡ record (step m) { reads = bytes } ∷ m ∷ past))
+Tears step old new = (new ≡ old) ⊎ ((bytes : List ℕ) × (new ≡ added (λ m. record (step m) { reads = bytes }) old))
 
 -- each element has P
 abbrev pub Each : {A : Type 0} → (A → Type 0) → List A → Type 0

@@ -1,10 +1,10 @@
 -- A sink in memory.
-use Rattle.std.specs.Prelude.{ℕ, ◌-◌, Bool, ◌&&◌, ◌||◌, nat_lt, nat_le, List, length}
+use Rattle.std.specs.Prelude.{ℕ, Bool, ◌&&◌, ◌||◌, nat_lt, nat_le, List, length}
 use Rattle.wp_outside.specs.Counter.{Calls, is_listed}
 
 pub record SinkState : Type 0 where
-  pub contents : List ℕ -- what writes have put there
-  pub room : ℕ -- the greatest length
+  pub contents : List ℕ  -- what writes have put there
+  pub room : ℕ  -- the greatest length
   pub calls : Calls
 
 -- the next call is listed, or nothing of a piece that has bytes fits

@@ -3,5 +3,5 @@ use Rattle.std.specs.Prelude.{ℕ, List}
 use Rattle.wp_outside.specs.Counter.{Calls}
 
 pub record SourceState : Type 0 where
-  pub left : List ℕ -- what reads will give
+  pub left : List ℕ  -- what reads will give
   pub calls : Calls

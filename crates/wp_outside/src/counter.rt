@@ -1,4 +1,4 @@
-ghost use Rattle.std.specs.Prelude.{◌≡◌, ◌||◌, not, is_err};
+ghost use Rattle.std.specs.Prelude.{◌≡◌, ◌||◌, not, is_err, IsTrue, OnOk};
 ghost use Rattle.wp_outside.specs.Counter.{no_calls, is_listed, counted};
 ghost use Rattle.wp_outside.specs.Faults.{HasCause};
 
@@ -35,6 +35,7 @@ impl Counter {
     /// Counts one more call, which is refused where it doesn't fit or is listed.
     pub(crate) fn admit(&mut self, fits: bool) -> Result<(), Failed>
         ensures refused { is_err result ≡ (is_listed self.old || not fits) }
+        ensures fits { OnOk result (IsTrue fits) }
         ensures counted { self.new ≡ counted result self.old }
         ensures cause { HasCause self.old.faults self.new.faults result }
     {
@@ -44,5 +45,12 @@ impl Counter {
             return Err(Failed);
         }
         Ok(())
+    }
+
+    /// How many calls there were, up to the greatest `u64`.
+    pub(crate) fn made(&self) -> u64
+        ensures { result ≡ self.now.made }
+    {
+        self.made
     }
 }

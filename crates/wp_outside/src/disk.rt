@@ -1,13 +1,12 @@
 ghost use Rattle.std.specs.Prelude.{◌≡◌, ℕ, ◌+◌, ◌-◌, ◌^◌, ◌≤◌, List, length, IfOk, OnOk, OnErr};
 ghost use Rattle.wp_outside.specs.Faults.{HasCause};
-ghost use Rattle.wp_outside.specs.Disk.{Moment, IsRead, IfTold, Adds, Tears, write_end, after_write, after_cut, after_sync, ReadsItself};
+ghost use Rattle.wp_outside.specs.Disk.{Moment, IsRead, IfTold, added, Tears, write_end, after_write, after_cut, after_sync, images, ReadsItself};
 
 use crate::failed::Failed;
 
 /// A device of bytes, each at its place from 0 on.
 ///
-/// A write or a cut that fails may have been done in part. What a sync that answered `Ok` found, a crash leaves;
-/// one that fails has settled nothing.
+/// A write or a cut that fails may have been done in part, and a sync that fails has settled nothing.
 pub trait Disk {
     /// The disk at each moment so far, the newest first; empty where it doesn't tell.
     ghost moments: { Self → List Moment };
@@ -34,19 +33,20 @@ pub trait Disk {
     /// Writes over what stands from `at` on, and past the end. A write that would end past 2^62 fails.
     fn write_at(&mut self, at: u64, bytes: &[u8]) -> Result<(), Failed>
         ensures bounded { OnOk result (write_end at bytes.now ≤ 2 ^ 62) }
-        ensures done { OnOk result (Adds (after_write at bytes.now) (moments self.old) (moments self.new)) }
+        ensures done { OnOk result (moments self.new ≡ added (after_write at bytes.now) (moments self.old)) }
         ensures torn { OnErr result (Tears (after_write at bytes.now) (moments self.old) (moments self.new)) }
         ensures cause { HasCause (faults self.old) (faults self.new) result };
 
-    /// Cuts to `len` bytes what is longer.
+    /// Cuts to `len` bytes what is longer; a shorter disk stays as it is.
     fn cut(&mut self, len: u64) -> Result<(), Failed>
-        ensures done { OnOk result (Adds (after_cut len) (moments self.old) (moments self.new)) }
+        ensures done { OnOk result (moments self.new ≡ added (after_cut len) (moments self.old)) }
         ensures torn { OnErr result (Tears (after_cut len) (moments self.old) (moments self.new)) }
         ensures cause { HasCause (faults self.old) (faults self.new) result };
 
-    /// Puts what a read gives on the disk for good.
+    /// Puts what a read gives on the disk for good: a crash then leaves that and nothing else.
     fn sync(&mut self) -> Result<(), Failed>
-        ensures done { OnOk result (Adds after_sync (moments self.old) (moments self.new)) }
+        ensures done { OnOk result (moments self.new ≡ added after_sync (moments self.old)) }
+        ensures durable { OnOk result ((image : List ℕ) → images (moments self.new) image → IfTold (moments self.old) (λ m. image ≡ m.reads)) }
         ensures kept { OnErr result (moments self.new ≡ moments self.old) }
         ensures cause { HasCause (faults self.old) (faults self.new) result };
 

@@ -11,6 +11,7 @@ mod counter;
 mod disk;
 mod failed;
 mod gate;
+mod mem_disk;
 mod mem_sink;
 mod mem_source;
 mod sink;
@@ -19,7 +20,11 @@ mod source;
 pub use disk::{Device, Disk, Disks};
 pub use failed::Failed;
 pub use gate::{Gate, OpenGate};
+pub use mem_disk::MemDisk;
 pub use mem_sink::MemSink;
 pub use mem_source::MemSource;
 pub use sink::Sink;
 pub use source::{Got, Source};
+
+#[cfg(test)]
+mod tests;

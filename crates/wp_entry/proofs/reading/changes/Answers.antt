@@ -1,4 +1,4 @@
-use Rattle.std.proofs.Common.{[], ◌+◌, arith}
+use Rattle.std.proofs.Common.{[], arith}
 use Rattle.std.proofs.lemmas.List.{length_push}
 use Rattle.std.proofs.lemmas.Result.{err_from_is_err_and}
 use Rattle.wp_entry.specs.Reading.{changes_at}
@@ -12,9 +12,9 @@ returns-in_err-change c =
 
 pub loop-preserved : goal.loop-preserved
 loop-preserved c = record {
-    read = rw c.in_ok-append.ensures.appended (goes_on c.args.count c.loop.counter c.loop.batch c.loop.fields c.in_ok-change.change c.next_change.new.fields (changes_at c.args.count [] c.args.fields.now) c.loop-test.true c.in_ok-change.ensures.read c.loop.invariant.read);
-    in_order = c.in_ok-append.ensures.batch;
-    counted = rw c.in_ok-append.ensures.appended (omega (arith, length_push c.loop.batch c.in_ok-change.change, c.loop.invariant.counted));
+  read = rw c.in_ok-append.ensures.appended (goes_on c.args.count c.loop.counter c.loop.batch c.loop.fields c.in_ok-change.change c.next_change.new.fields (changes_at c.args.count [] c.args.fields.now) c.loop-test.true c.in_ok-change.ensures.read c.loop.invariant.read);
+  in_order = c.in_ok-append.ensures.batch;
+  counted = rw c.in_ok-append.ensures.appended (omega (arith, length_push c.loop.batch c.in_ok-change.change, c.loop.invariant.counted));
 }
 
 pub returns : goal.returns

@@ -1,4 +1,4 @@
-use Rattle.std.proofs.Common.{◌≡◌, ◌∙◌, sym, ap, length, ◌-◌, get_or, List}
+use Rattle.std.proofs.Common.{sym}
 use Rattle.wp_entry.proofs.Order.{is_above_last-at}
 use Rattle.wp_entry.proofs.reading.is_above_last.Goals as goal
 

@@ -1,4 +1,4 @@
-use Rattle.std.proofs.Common.{◌≡◌, ◌≤◌, length, arith}
+use Rattle.std.proofs.Common.{arith}
 use Rattle.wp_outside.proofs.Reading.{moved_on}
 use Rattle.wp_outside.proofs.mem_source.MemSourceSource.read.Goals as goal
 

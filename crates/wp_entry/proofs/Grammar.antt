@@ -1,0 +1,195 @@
+-- The two laws of records: what is read is spelled so, and what is spelled so is read.
+use Rattle.std.proofs.Common.{◌≡◌, ℕ, zero, suc, ◌^◌, ◌<◌, true, false, cond, ltb, leb, eqb, List, [], ◌∷◌, ◌++◌, length, Result, Ok, Err, refl, sym, ap, subst, ◌∙◌, append_assoc, arith}
+use Rattle.std.specs.Prelude.{IfOk}
+use Rattle.std.specs.Global.{Vec}
+use Rattle.std.specs.Int.{w32, to_be_bytes}
+use Rattle.std.specs.List.{flat_map, list_all}
+use Rattle.std.proofs.lemmas.Bool.{ltb-false, le-ltb, eqb-true, eq-eqb, leb-true, le-leb, and_parts, and_from}
+use Rattle.std.proofs.lemmas.List.{append-nil, nil_from_length}
+use Rattle.wp_model.specs.declared.batch.TheConstants.{MOST_KEYS}
+use Rattle.wp_model.specs.declared.change.Change.{Change}
+use Rattle.wp_model.specs.declared.change.Change.TheVariants.{Put, Del}
+use Rattle.wp_model.specs.declared.entry.Entry.{Entry}
+use Rattle.wp_model.specs.declared.entry.Entry.TheVariants.{Write}
+use Rattle.wp_model.specs.Word.{is_word}
+use Rattle.wp_model.specs.Batch.{key_of, are_ascending, is_batch}
+use Rattle.wp_entry.specs.declared.error.RecordError.{RecordError}
+use Rattle.wp_entry.specs.declared.error.RecordError.TheVariants.{BadNumber, BadKind, BadWord, Extra}
+use Rattle.wp_entry.specs.Record.{key_bytes, value_bytes, change_bytes, batch_bytes, entries_bytes, record_bytes, is_change, is_entry, IsRecord}
+use Rattle.wp_entry.specs.Reading.{◌>>=◌, byte_at, number_at, word_at, value_at, is_above_last, next_key_at, next_change_at, changes_at, batch_at, behind_number, write_at, entries_at, record_at, Gives}
+use Rattle.wp_entry.proofs.Order.{ascending_push, above_from_ascending}
+use Rattle.wp_entry.proofs.Fields.{AreBytes, Begins, Begins-then, step_ok, refusal_missed, test_met, same_read, byte_takes, number_takes, number_again, fields_32, word_takes, word_again, value_takes, value_again}
+
+-- ---- keys
+
+key_takes : (batch : List Change) (bytes : List ℕ) (x : List ℕ × List ℕ) → AreBytes bytes → next_key_at batch bytes ≡ Ok x → Begins bytes (key_bytes x.0) x.1 × (is_word 64 x.0 ≡ true) × (is_above_last batch x.0 ≡ true)
+unfolding next_key_at
+key_takes batch bytes x h e =
+    let s = step_ok (byte_at bytes) (λ len. word_at 64 len.0 len.1 >>= λ key. cond (is_above_last batch key.0) (Ok key) (Err BadWord)) x e in
+    let len = byte_takes bytes s.0 h s.1 in
+    let t = step_ok (word_at 64 s.0.0 s.0.1) (λ key. cond (is_above_last batch key.0) (Ok key) (Err BadWord)) x s.2 in
+    let word = word_takes 64 s.0.0 s.0.1 t.0 len.behind t.1 in
+    let above = test_met (is_above_last batch t.0.0) BadWord (Ok t.0) x t.2 in
+    let found : Begins bytes (key_bytes t.0.0) t.0.1 × (is_word 64 t.0.0 ≡ true) × (is_above_last batch t.0.0 ≡ true) = (rw word.1 (Begins-then bytes (s.0.0 ∷ []) s.0.1 t.0.0 t.0.1 len word.0), word.2, above.0) in
+    rw (← same_read t.0 x above.1) found
+
+key_again : (batch : List Change) (key rest : List ℕ) → is_word 64 key ≡ true → is_above_last batch key ≡ true → next_key_at batch (key_bytes key ++ rest) ≡ Ok (key, rest)
+unfolding next_key_at
+key_again batch key rest is above = rw (word_again 64 key rest is, above) refl
+
+-- ---- changes
+
+change_takes : (batch : List Change) (bytes : List ℕ) (x : Change × List ℕ) → AreBytes bytes → next_change_at batch bytes ≡ Ok x → Begins bytes (change_bytes x.0) x.1 × (is_change x.0 ≡ true) × (is_above_last batch (key_of x.0) ≡ true)
+unfolding next_change_at
+change_takes batch [] x h e = absurd cc
+change_takes batch (zero ∷ bytes) x h e =
+    let s = step_ok (next_key_at batch bytes) (λ key. Ok (Del key.0, key.1)) x e in
+    let behind : AreBytes bytes = λ i. h (suc i) in
+    let key = key_takes batch bytes s.0 behind s.1 in
+    let flag : Begins (0 ∷ bytes) (0 ∷ []) bytes = record { parts = refl; behind = behind } in
+    let found : Begins (0 ∷ bytes) (0 ∷ key_bytes s.0.0) s.0.1 × (is_change (Del s.0.0) ≡ true) × (is_above_last batch s.0.0 ≡ true) = (Begins-then (0 ∷ bytes) (0 ∷ []) bytes (key_bytes s.0.0) s.0.1 flag key.0, key.1, key.2) in
+    rw (← same_read (Del s.0.0, s.0.1) x s.2) found
+change_takes batch (suc zero ∷ bytes) x h e =
+    let s = step_ok (next_key_at batch bytes) (λ key. value_at key.1 >>= λ value. Ok (Put key.0 value.0, value.1)) x e in
+    let t = step_ok (value_at s.0.1) (λ value. Ok (Put s.0.0 value.0, value.1)) x s.2 in
+    let behind : AreBytes bytes = λ i. h (suc i) in
+    let key = key_takes batch bytes s.0 behind s.1 in
+    let value = value_takes s.0.1 t.0 key.0.behind t.1 in
+    let flag : Begins (1 ∷ bytes) (1 ∷ []) bytes = record { parts = refl; behind = behind } in
+    let both = Begins-then bytes (key_bytes s.0.0) s.0.1 (value_bytes t.0.0) t.0.1 key.0 value.0 in
+    let found : Begins (1 ∷ bytes) (1 ∷ (key_bytes s.0.0 ++ value_bytes t.0.0)) t.0.1 × (is_change (Put s.0.0 t.0.0) ≡ true) × (is_above_last batch s.0.0 ≡ true) = (Begins-then (1 ∷ bytes) (1 ∷ []) bytes (key_bytes s.0.0 ++ value_bytes t.0.0) t.0.1 flag both, and_from _ _ key.1 value.1, key.2) in
+    rw (← same_read (Put s.0.0 t.0.0, t.0.1) x t.2) found
+change_takes batch (suc (suc n) ∷ bytes) x h e = absurd cc
+
+change_again : (batch : List Change) (change : Change) (rest : List ℕ) → is_change change ≡ true → is_above_last batch (key_of change) ≡ true → next_change_at batch (change_bytes change ++ rest) ≡ Ok (change, rest)
+unfolding next_change_at
+change_again batch (Del key) rest is above = rw (key_again batch key rest is above) refl
+change_again batch (Put key value) rest is above =
+    let parts = and_parts (is_word 64 key) (is_word 256 value) is in
+    let regrouped : (key_bytes key ++ value_bytes value) ++ rest ≡ key_bytes key ++ (value_bytes value ++ rest) = append_assoc (key_bytes key) (value_bytes value) rest in
+    ap (λ (t : List ℕ). next_change_at batch (1 ∷ t)) regrouped ∙ rw (key_again batch key (value_bytes value ++ rest) parts.0 above, value_again value rest parts.1) refl
+
+-- what was read behind a batch: so many changes more, in range, whose keys go on ascending
+record TakesChanges (count : ℕ) (batch : List Change) (bytes : List ℕ) (x : List Change × List ℕ) : Type 0 where
+  more : List Change
+  appended : x.0 ≡ batch ++ more
+  counted : length more ≡ count
+  parts : Begins bytes (flat_map change_bytes more) x.1
+  in_range : list_all is_change more ≡ true
+  in_order : are_ascending batch ≡ true → are_ascending x.0 ≡ true
+
+changes_take : (count : ℕ) (batch : List Change) (bytes : List ℕ) (x : List Change × List ℕ) → AreBytes bytes → changes_at count batch bytes ≡ Ok x → TakesChanges count batch bytes x
+unfolding changes_at
+changes_take zero batch bytes x h e =
+    let done : TakesChanges 0 batch bytes (batch, bytes) = record { more = []; appended = sym (append-nil batch); counted = refl; parts = record { parts = refl; behind = h }; in_range = refl; in_order = λ order. order } in
+    rw (← same_read (batch, bytes) x e) done
+changes_take (suc count) batch bytes x h e =
+    let s = step_ok (next_change_at batch bytes) (λ change. changes_at count (batch ++ change.0 ∷ []) change.1) x e in
+    let change = change_takes batch bytes s.0 h s.1 in
+    let rest = changes_take count (batch ++ s.0.0 ∷ []) s.0.1 x change.0.behind s.2 in
+    record {
+      more = s.0.0 ∷ rest.more;
+      appended = rest.appended ∙ append_assoc batch (s.0.0 ∷ []) rest.more;
+      counted = ap suc rest.counted;
+      parts = Begins-then bytes (change_bytes s.0.0) s.0.1 (flat_map change_bytes rest.more) x.1 change.0 rest.parts;
+      in_range = and_from _ _ change.1 rest.in_range;
+      in_order = λ order. rest.in_order (ascending_push batch s.0.0 order change.2);
+    }
+
+changes_again : (more batch : List Change) (rest : List ℕ) → are_ascending (batch ++ more) ≡ true → list_all is_change more ≡ true → changes_at (length more) batch (flat_map change_bytes more ++ rest) ≡ Ok (batch ++ more, rest)
+unfolding changes_at
+changes_again [] batch rest order range = ap (λ (all : List Change). Ok (all, rest)) (sym (append-nil batch))
+changes_again (change ∷ more) batch rest order range =
+    let parts = and_parts (is_change change) (list_all is_change more) range in
+    let above = above_from_ascending batch change more order in
+    let regrouped : (change_bytes change ++ flat_map change_bytes more) ++ rest ≡ change_bytes change ++ (flat_map change_bytes more ++ rest) = append_assoc (change_bytes change) (flat_map change_bytes more) rest in
+    let all : (batch ++ change ∷ []) ++ more ≡ batch ++ change ∷ more = append_assoc batch (change ∷ []) more in
+    let others = changes_again more (batch ++ change ∷ []) rest (ap are_ascending all ∙ order) parts.1 in
+    ap (changes_at (suc (length more)) batch) regrouped ∙ rw (change_again batch change (flat_map change_bytes more ++ rest) parts.0 above) (others ∙ ap (λ (changes : List Change). Ok (changes, rest)) all)
+
+-- ---- batches
+
+-- a count, and so many changes behind it, are their batch
+batch_spelled : (bytes rest : List ℕ) (count : ℕ) (batch more : List Change) → batch ≡ more → length more ≡ count → Begins bytes (count ∷ flat_map change_bytes more) rest → Begins bytes (batch_bytes batch) rest
+batch_spelled bytes rest count batch more same counted begins = rw (same, counted) begins
+
+batch_takes : (bytes : List ℕ) (x : List Change × List ℕ) → AreBytes bytes → batch_at bytes ≡ Ok x → Begins bytes (batch_bytes x.0) x.1 × (is_entry (Write x.0) ≡ true)
+unfolding batch_at
+batch_takes bytes x h e =
+    let s = step_ok (byte_at bytes) (λ count. cond (ltb MOST_KEYS count.0) (Err BadWord) (changes_at count.0 [] count.1)) x e in
+    let count = byte_takes bytes s.0 h s.1 in
+    let t = refusal_missed (ltb MOST_KEYS s.0.0) BadWord (changes_at s.0.0 [] s.0.1) x s.2 in
+    let changes = changes_take s.0.0 [] s.0.1 x count.behind t.1 in
+    let long : length x.0 ≡ s.0.0 = ap length changes.appended ∙ changes.counted in
+    let few : leb (length x.0) MOST_KEYS ≡ true = le-leb _ _ (omega (arith, ltb-false _ _ t.0)) in
+    let whole = batch_spelled bytes x.1 s.0.0 x.0 changes.more changes.appended changes.counted (Begins-then bytes (s.0.0 ∷ []) s.0.1 (flat_map change_bytes changes.more) x.1 count changes.parts) in
+    (whole, and_from _ _ (and_from _ _ few (changes.in_order refl)) (rw changes.appended changes.in_range))
+
+batch_again : (batch : List Change) (rest : List ℕ) → is_entry (Write batch) ≡ true → batch_at (batch_bytes batch ++ rest) ≡ Ok (batch, rest)
+unfolding batch_at
+batch_again batch rest is =
+    let parts = and_parts (is_batch batch) (list_all is_change batch) is in
+    let shape = and_parts (leb (length batch) MOST_KEYS) (are_ascending batch) parts.0 in
+    let few : ltb MOST_KEYS (length batch) ≡ false = le-ltb _ _ (leb-true _ _ shape.0) in
+    rw few (changes_again batch [] rest shape.1 parts.1)
+
+-- ---- records
+
+write_takes : (first : ℕ) (bytes : List ℕ) (x : List Entry × List ℕ) → first < 2 ^ 32 → AreBytes bytes → write_at bytes ≡ Ok x → Begins (1 ∷ bytes) (entries_bytes x.0) x.1 × IsRecord first x.0
+unfolding write_at
+write_takes first bytes x small h e =
+    let s = step_ok (batch_at bytes) (λ batch. Ok (Write batch.0 ∷ [], batch.1)) x e in
+    let batch = batch_takes bytes s.0 h s.1 in
+    let kind : Begins (1 ∷ bytes) (1 ∷ []) bytes = record { parts = refl; behind = h } in
+    let found : Begins (1 ∷ bytes) (entries_bytes (Write s.0.0 ∷ [])) s.0.1 × IsRecord first (Write s.0.0 ∷ []) =
+    (Begins-then (1 ∷ bytes) (1 ∷ []) bytes (batch_bytes s.0.0) s.0.1 kind batch.0, record { form = small; in_range = and_from _ _ batch.1 refl }) in
+    rw (← same_read (Write s.0.0 ∷ [], s.0.1) x s.2) found
+
+entries_take : (first kind : ℕ) (bytes : List ℕ) (x : List Entry × List ℕ) → first < 2 ^ 32 → AreBytes bytes → entries_at kind bytes ≡ Ok x → Begins (kind ∷ bytes) (entries_bytes x.0) x.1 × IsRecord first x.0
+unfolding entries_at
+entries_take first kind bytes x small h e =
+    let one = test_met (eqb kind 1) (BadKind kind) (write_at bytes) x e in
+    subst (λ (k : ℕ). Begins (k ∷ bytes) (entries_bytes x.0) x.1 × IsRecord first x.0) (sym (eqb-true kind 1 one.0)) (write_takes first bytes x small h one.1)
+
+number_takes_due : (first : ℕ) (bytes rest : List ℕ) → AreBytes bytes → behind_number first bytes ≡ Ok rest → Begins bytes (to_be_bytes w32 first) rest × (first < 2 ^ 32)
+unfolding behind_number
+number_takes_due first bytes rest h e =
+    let n = step_ok (number_at w32 bytes) (λ number. cond (eqb number.0 first) (Ok number.1) (Err (BadNumber number.0 first))) rest e in
+    let due = test_met (eqb n.0.0 first) (BadNumber n.0.0 first) (Ok n.0.1) rest n.2 in
+    let number = number_takes w32 (2 ^ 32) fields_32 bytes n.0 h n.1 in
+    let found = subst (λ (m : ℕ). Begins bytes (to_be_bytes w32 m) n.0.1 × (m < 2 ^ 32)) (eqb-true n.0.0 first due.0) number in
+    subst (λ (r : List ℕ). Begins bytes (to_be_bytes w32 first) r × (first < 2 ^ 32)) (same_read n.0.1 rest due.1) found
+
+-- the number, the kind with what the entries hold, and nothing behind them
+ends_whole : (bytes number behind kind entries rest : List ℕ) → bytes ≡ number ++ behind → behind ≡ kind → kind ≡ entries ++ rest → length rest ≡ 0 → bytes ≡ number ++ entries
+ends_whole bytes number behind kind entries rest front same back none = rw (front, same, back, nil_from_length rest none, append-nil entries) refl
+
+-- what is read is a record, and the bytes are its spelling
+pub record_takes : (first : ℕ) (bytes : List ℕ) (entries : List Entry) → AreBytes bytes → record_at first bytes ≡ Ok entries → IsRecord first entries × (bytes ≡ record_bytes first entries)
+unfolding record_at
+record_takes first bytes entries h e =
+    let s = step_ok (behind_number first bytes) (λ rest. byte_at rest >>= λ kind. entries_at kind.0 kind.1 >>= λ found. cond (eqb (length found.1) 0) (Ok found.0) (Err (Extra (length found.1)))) entries e in
+    let k = step_ok (byte_at s.0) (λ kind. entries_at kind.0 kind.1 >>= λ found. cond (eqb (length found.1) 0) (Ok found.0) (Err (Extra (length found.1)))) entries s.2 in
+    let f = step_ok (entries_at k.0.0 k.0.1) (λ found. cond (eqb (length found.1) 0) (Ok found.0) (Err (Extra (length found.1)))) entries k.2 in
+    let last = test_met (eqb (length f.0.1) 0) (Extra (length f.0.1)) (Ok f.0.0) entries f.2 in
+    let number = number_takes_due first bytes s.0 h s.1 in
+    let kind = byte_takes s.0 k.0 number.0.behind k.1 in
+    let found = entries_take first k.0.0 k.0.1 f.0 number.1 kind.behind f.1 in
+    let whole = ends_whole bytes (to_be_bytes w32 first) s.0 (k.0.0 ∷ k.0.1) (entries_bytes f.0.0) f.0.1 number.0.parts kind.parts found.0.parts (eqb-true (length f.0.1) 0 last.0) in
+    let both : IsRecord first f.0.0 × (bytes ≡ record_bytes first f.0.0) = (found.1, whole) in
+    rw (← same_read f.0.0 entries last.1) both
+
+-- what is spelled so is read
+pub record_again : (first : ℕ) (entries : List Entry) → IsRecord first entries → record_at first (record_bytes first entries) ≡ Ok entries
+unfolding record_at behind_number entries_at write_at
+record_again first [] is = absurd is.form
+record_again first (Write batch ∷ []) is =
+    let entry = (and_parts (is_entry (Write batch)) true is.in_range).0 in
+    let read : batch_at (batch_bytes batch) ≡ Ok (batch, []) = ap batch_at (sym (append-nil (batch_bytes batch))) ∙ batch_again batch [] entry in
+    let due : eqb first first ≡ true = eq-eqb first first refl in
+    rw (number_again w32 (2 ^ 32) fields_32 first (1 ∷ batch_bytes batch) is.form, due, read) refl
+record_again first (Write batch ∷ second ∷ others) is = absurd is.form
+
+pub found_is_record : (first : ℕ) (bytes : List ℕ) (result : Result (Vec Entry) RecordError) → AreBytes bytes → Gives (λ entries. entries.items) result (record_at first bytes) → IfOk result (λ entries. IsRecord first entries.items × (bytes ≡ record_bytes first entries.items))
+found_is_record first bytes (Ok entries) h read = record_takes first bytes entries.items h read
+found_is_record first bytes (Err fault) h read = tt

@@ -1,0 +1,8 @@
+use Rattle.std.proofs.Common.{sym, ap, ◌∙◌}
+use Rattle.wp_entry.specs.Reading.{record_at}
+use Rattle.wp_entry.proofs.Fields.{same_read}
+use Rattle.wp_entry.proofs.Grammar.{record_again}
+use Rattle.wp_entry.proofs.laws.spellings_differ.Goals as goal
+
+pub returns : goal.returns
+returns c = λ first one other is_one is_other same. same_read one other (sym (record_again first one is_one) ∙ ap (record_at first) same ∙ record_again first other is_other)

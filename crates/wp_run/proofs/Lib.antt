@@ -1,0 +1,6 @@
+pub mod RunLemmas
+pub mod StepLemmas
+pub mod Explained
+pub mod TextLemmas
+pub mod WriteLemmas
+pub mod ReadLemmas

@@ -1,0 +1,41 @@
+-- The transcript's lines, one more at a time.
+use Rattle.std.proofs.Common.{◌≡◌, ℕ, zero, suc, ◌+◌, ◌<◌, List, [], ◌∷◌, ◌++◌, length, get_or, take, map, refl, sym, ap, ◌∙◌, append_assoc, add-one, add-zero, arith}
+use Rattle.std.specs.List.{flat_map}
+use Rattle.std.specs.Global.{Vec}
+use Rattle.std.proofs.lemmas.List.{take_more, append-nil, map_push, length-map, length-take}
+use Rattle.wp_model.specs.declared.entry.Entry.{Entry}
+use Rattle.wp_text.specs.declared.script.Part.{Part}
+use Rattle.wp_text.specs.declared.reply.Reply.{Reply}
+use Rattle.wp_text.specs.Lines.{entry_line, entry_lines, client_line, reply_line}
+use Rattle.wp_run.specs.Transcript.{client_text, client_lines}
+
+-- one more piece behind what was appended so far
+pub appends : (start front mid piece now whole : List ℕ) → mid ≡ start ++ front → now ≡ mid ++ piece → whole ≡ front ++ piece → now ≡ start ++ whole
+appends start front mid piece now whole so_far one is = one ∙ ap (λ (xs : List ℕ). xs ++ piece) so_far ∙ append_assoc start front piece ∙ ap (λ (xs : List ℕ). start ++ xs) (sym is)
+
+entry_lines-push : (n : ℕ) (front : List Entry) (e : Entry) → entry_lines n (front ++ e ∷ []) ≡ entry_lines n front ++ entry_line (n + length front) e
+entry_lines-push n [] e = append-nil (entry_line n e) ∙ ap (λ (k : ℕ). entry_line k e) (sym (add-zero n))
+entry_lines-push n (x ∷ front) e =
+    let at : (n + 1) + length front ≡ n + suc (length front) = omega arith in
+    ap (λ (xs : List ℕ). entry_line n x ++ xs) (entry_lines-push (n + 1) front e ∙ ap (λ (k : ℕ). entry_lines (n + 1) front ++ entry_line k e) at) ∙ sym (append_assoc (entry_line n x) (entry_lines (n + 1) front) (entry_line (n + suc (length front)) e))
+
+pub entry_lines_more : (entries : List Entry) (i : ℕ) (here : Entry) → i < length entries → here ≡ get_or entries i here → entry_lines 1 (take (i + 1) entries) ≡ entry_lines 1 (take i entries) ++ entry_line (i + 1) here
+entry_lines_more entries i here lt is =
+    let at : 1 + length (take i entries) ≡ i + 1 = omega (arith, length-take i entries) in
+    rw (take_more entries i here lt, ← is) (entry_lines-push 1 (take i entries) here ∙ ap (λ (k : ℕ). entry_lines 1 (take i entries) ++ entry_line k here) at)
+
+client_lines-push : (parts : List Part) (sessions : List (List Reply)) (part : Part) (answers : List Reply) → length parts ≡ length sessions → client_lines (parts ++ part ∷ []) (sessions ++ answers ∷ []) ≡ client_lines parts sessions ++ client_text part answers
+client_lines-push [] [] part answers same = append-nil (client_text part answers)
+client_lines-push [] (a ∷ sessions) part answers same = absurd (omega arith)
+client_lines-push (p ∷ parts) [] part answers same = absurd (omega arith)
+client_lines-push (p ∷ parts) (a ∷ sessions) part answers same =
+    let first = client_text p a in
+    ap (λ (xs : List ℕ). first ++ xs) (client_lines-push parts sessions part answers (omega arith)) ∙ sym (append_assoc first (client_lines parts sessions) (client_text part answers))
+
+pub client_lines_more : (parts : List Part) (sessions : List (Vec Reply)) (i : ℕ) (part : Part) (answers : Vec Reply) → length parts ≡ length sessions → i < length parts → part ≡ get_or parts i part → answers ≡ get_or sessions i answers
+    → client_lines (take (i + 1) parts) (map (λ v. v.items) (take (i + 1) sessions)) ≡ client_lines (take i parts) (map (λ v. v.items) (take i sessions)) ++ client_text part answers.items
+client_lines_more parts sessions i part answers same lt part-is answers-is =
+    let items : Vec Reply → List Reply = λ v. v.items in
+    let fronts : length (take i parts) ≡ length (map items (take i sessions)) = omega (arith, length-map (take i sessions) items, length-take i parts, length-take i sessions) in
+    let within : i < length sessions = omega arith in
+    rw (take_more parts i part lt, ← part-is, take_more sessions i answers within, ← answers-is, map_push items (take i sessions) answers) (client_lines-push (take i parts) (map items (take i sessions)) part answers.items fronts)

@@ -1,0 +1,13 @@
+use Rattle.std.proofs.Common.{◌≡◌, ◌≤◌, List, ℕ, ◌++◌, length}
+use Rattle.std.specs.Io.KnownBytes.{Appends}
+use Rattle.wp_run.proofs.WriteLemmas.{Wrote}
+use Rattle.wp_run.proofs.outside.write_all.Given as goal
+
+abbrev pub invariant-loop-rest : goal.invariant-loop-rest
+invariant-loop-rest g l = record {
+  wrote : Wrote (g.K.Sink.contents l.initial.sink) (g.K.Sink.contents l.sink) l.text l.rest;
+  later : g.K.Sink.faults l.initial.sink ≤ g.K.Sink.faults l.sink;
+}
+
+abbrev pub decreases-loop-rest : goal.decreases-loop-rest
+decreases-loop-rest g l = length l.rest

@@ -1,0 +1,55 @@
+-- A transcript: the replies of all clients, and the one history that explains them.
+use Rattle.std.specs.Prelude.{◌≡◌, ℕ, ◌+◌, ◌<◌, ◌≤◌, ◌==◌, Bool, true, false, List, [], ◌∷◌, ◌++◌, length, count_by, codes}
+use Rattle.std.specs.List.{flat_map, list_any}
+use Rattle.wp_model.specs.declared.entry.Entry.{Entry}
+use Rattle.wp_model.specs.History.{IsLegal}
+use Rattle.wp_text.specs.declared.script.Part.{Part}
+use Rattle.wp_text.specs.declared.reply.Reply.{Reply}
+use Rattle.wp_text.specs.Lines.{client_line, reply_line, entry_lines, end_line, line_end}
+use Rattle.wp_run.specs.Session.{IsSession, acknowledged, is_fault, is_stopped}
+use Rattle.wp_run.specs.Current.{Between, AreCurrent}
+
+-- each part has one session, which begins with the opening history
+abbrev pub AreSessions : List Entry → ℕ → ℕ → List Part → List (List Reply) → Type 0
+AreSessions history limit opened [] [] = Unit {0}
+AreSessions history limit opened [] (answers ∷ others) = ⊥
+AreSessions history limit opened (part ∷ parts) [] = ⊥
+AreSessions history limit opened (part ∷ parts) (answers ∷ others) = IsSession history limit opened part.commands answers × AreSessions history limit opened parts others
+
+-- with one client, nobody else changes what is published
+abbrev pub IsExact : ℕ → ℕ → List (List Reply) → Type 0
+IsExact limit opened [] = Unit {0}
+IsExact limit opened (answers ∷ []) = AreCurrent limit (record { published = opened; stopped = false }) answers
+IsExact limit opened (answers ∷ others ∷ more) = Unit {0}
+
+-- all replies, one client's after the other's
+abbrev pub all_replies : List (List Reply) → List Reply
+all_replies sessions = flat_map (λ answers. answers) sessions
+
+-- The replies are explained by the history, which begins with that found at opening; so many times the log failed.
+pub record Explains (limit faults : ℕ) (script : List Part) (opened history : List Entry) (sessions : List (List Reply)) : Type 0 where
+  pub legal : IsLegal history
+  pub begins : (added : List Entry) × (history ≡ opened ++ added)
+  pub answered : AreSessions history limit (length opened) script sessions
+  -- each entry behind the opening history is that of exactly one reply
+  pub paired : (n : ℕ) → length opened < n → n ≤ length history → count_by (λ m. m == n) (flat_map acknowledged (all_replies sessions)) ≡ 1
+  pub failed : count_by is_fault (all_replies sessions) ≡ faults
+  pub stopped : list_any is_stopped (all_replies sessions) ≡ true → 1 ≤ faults
+  pub exact : IsExact limit (length opened) sessions
+
+-- one client's replies, below its name
+abbrev pub client_text : Part → List Reply → List ℕ
+client_text part answers = client_line part.client ++ flat_map reply_line answers
+
+abbrev pub client_lines : List Part → List (List Reply) → List ℕ
+client_lines [] sessions = []
+client_lines (part ∷ parts) [] = []
+client_lines (part ∷ parts) (answers ∷ others) = client_text part answers ++ client_lines parts others
+
+-- the text: each client's replies, then every entry, then the end
+abbrev pub text_of : List Part → List (List Reply) → List Entry → List ℕ
+text_of script sessions history = client_lines script sessions ++ codes "history" ++ line_end ++ entry_lines 1 history ++ end_line (length history) 0
+
+-- The text answers the script from the opening history on, and shows the history.
+abbrev pub IsTranscript : ℕ → ℕ → List Part → List Entry → List Entry → List ℕ → Type 0
+IsTranscript limit faults script opened history text = (sessions : List (List Reply)) × Explains limit faults script opened history sessions × (text ≡ text_of script sessions history)

@@ -1,0 +1,65 @@
+ghost use Rattle.std.specs.Prelude.{◌≡◌, ◌++◌, ◌≤◌, ◌<◌, ◌^◌, length, map, IfOk, OnOk};
+ghost use Rattle.std.specs.List.{flat_map};
+ghost use Rattle.wp_text.specs.Lines as text;
+ghost use Rattle.wp_run.specs.Transcript.{client_text, client_lines, text_of};
+
+use std::alloc::{AllocError, Global};
+use wp_model::Entry;
+use wp_text::{Part, Reply, client_line, end_line, history_line, reply_line};
+
+fn push_replies(out: &mut Vec<u8>, replies: &[Reply]) -> Result<(), AllocError>
+    ensures { OnOk result (out.new.items ≡ out.old.items ++ flat_map text.reply_line replies.now) }
+{
+    for reply in replies {
+        reply_line(out, reply)?;
+    }
+    Ok(())
+}
+
+fn push_client(out: &mut Vec<u8>, part: &Part, replies: &[Reply]) -> Result<(), AllocError>
+    ensures { OnOk result (out.new.items ≡ out.old.items ++ client_text part.now replies.now) }
+{
+    client_line(out, &part.client)?;
+    push_replies(out, replies)
+}
+
+fn push_clients(
+    out: &mut Vec<u8>,
+    parts: &[Part],
+    sessions: &[Vec<Reply>],
+) -> Result<(), AllocError>
+    requires { length parts.now ≡ length sessions.now }
+    ensures { OnOk result (out.new.items ≡ out.old.items ++ client_lines parts.now (map (λ v. v.items) sessions.now)) }
+{
+    for (i, part) in parts.iter().enumerate() {
+        push_client(out, part, &sessions[i])?;
+    }
+    Ok(())
+}
+
+fn push_history(out: &mut Vec<u8>, entries: &[Entry]) -> Result<(), AllocError>
+    ensures { OnOk result (out.new.items ≡ out.old.items ++ text.entry_lines 1 entries.now) }
+{
+    for (i, entry) in entries.iter().enumerate() {
+        history_line(out, i as u64 + 1, entry)?;
+    }
+    Ok(())
+}
+
+/// The transcript: each client's replies, then every entry of the history, then the end.
+pub(crate) fn transcript(
+    alloc: Global,
+    parts: &[Part],
+    sessions: &[Vec<Reply>],
+    entries: &[Entry],
+) -> Result<Vec<u8>, AllocError>
+    requires { length parts.now ≡ length sessions.now }
+    ensures { IfOk result (λ text. text.items ≡ text_of parts.now (map (λ v. v.items) sessions.now) entries.now) }
+{
+    let mut out = Vec::new(alloc);
+    push_clients(&mut out, parts, sessions)?;
+    out.extend_from_slice(b"history\n")?;
+    push_history(&mut out, entries)?;
+    end_line(&mut out, entries.len() as u64, 0)?;
+    Ok(out)
+}
