@@ -1,0 +1,112 @@
+-- One record more.
+use Rattle.std.proofs.Common.{◌≡◌, ◌⊎◌, inl, inr, ℕ, ◌+◌, ◌<◌, ◌≤◌, ◌^◌, List, [], ◌∷◌, ◌++◌, map, length, replicate, refl, sym, ◌∙◌, ap, subst, arith, length-append}
+use Rattle.std.proofs.lemmas.Bool.{cases_eq}
+use Rattle.std.proofs.lemmas.List.{append-nil, append_assoc, map_push, length-replicate}
+use Rattle.std.specs.Int.{w64, to_be_bytes}
+use Rattle.wp_outside.specs.Disk.{Moment, IsImage, settled, after_write, write_end, IfTold, Each, Passes}
+use Rattle.wp_gatelog.specs.Log.{State, Grows, BeforeOrAfter, IsAcknowledged, IsAtRest, last_gate}
+use Rattle.wp_gatelog.specs.Moments.{Leaves, Within, Goes}
+use Rattle.wp_gatelog.specs.Spelling.{Gated, IsOpen, framed, frame_of, identity, all_gated, log_of, records_of}
+use Rattle.wp_gatelog.proofs.MomentLemmas.{image_behind, image_of_gate, reads_behind, put_gate, goes_map, passes_from_goes, told_map, told_as}
+
+pub length-framed : (bytes : List ℕ) → length (framed bytes) ≡ 8 + length bytes
+unfolding framed
+length-framed bytes = length-append (to_be_bytes w64 (length bytes)) bytes
+
+-- a record that was written is not longer than a disk
+pub fits_frame : (frame bytes : List ℕ) → frame ≡ frame_of bytes → length frame ≤ 2 ^ 62 → length bytes < 2 ^ 64
+fits_frame frame bytes is bounded = omega (arith, ap length is, length-append (framed bytes) (0 ∷ []), length-framed bytes)
+
+pub fits_disk : (at : ℕ) (frame bytes : List ℕ) → frame ≡ frame_of bytes → write_end at frame ≤ 2 ^ 62 → length bytes < 2 ^ 64
+fits_disk at [] bytes is bounded = fits_frame [] bytes is (omega arith)
+fits_disk at (b ∷ frame) bytes is bounded = fits_frame (b ∷ frame) bytes is (omega arith)
+
+-- ---- the two writes
+
+-- while the frame is written
+pub grows_staged : (front frame bytes : List ℕ) (at : ℕ) → at ≡ length front + 1 → (m : Moment) → Within (after_write at frame (settled (front ++ 0 ∷ []))) m → Leaves (Grows front bytes) m
+grows_staged front frame bytes at is m within image h =
+    let found = image_behind (front ++ 0 ∷ []) at frame image (omega (arith, length-append front (0 ∷ []))) (within image h) in
+    (found.0, inl (found.1 ∙ append_assoc front (0 ∷ []) found.0))
+
+pub reads_staged : (front frame : List ℕ) (at : ℕ) → at ≡ length front + 1 → (after_write at frame (settled (front ++ 0 ∷ []))).reads ≡ front ++ 0 ∷ frame
+reads_staged front frame at is =
+    reads_behind (front ++ 0 ∷ []) frame at (omega (arith, length-append front (0 ∷ []))) ∙ append_assoc front (0 ∷ []) frame
+
+-- while the gate before it is written
+pub grows_opened : (front bytes : List ℕ) (at gate : ℕ) → at ≡ length front → length bytes < 2 ^ 64 → (m : Moment) → Within (after_write at (1 ∷ []) (settled (front ++ gate ∷ frame_of bytes))) m → Leaves (Grows front bytes) m
+grows_opened front bytes at gate is fits m within image h =
+    let found = image_of_gate front at gate (frame_of bytes) image is (within image h) in
+    elim (cases_eq found.0 0) [
+    | inl shut ↦ (frame_of bytes ++ found.1, inl (found.2 ∙ ap (λ (g : ℕ). front ++ g ∷ (frame_of bytes ++ found.1)) shut))
+    | inr opened ↦ (found.1, inr (found.0, record { gate = opened; length_fits = fits }, found.2 ∙ ap (λ (l : List ℕ). front ++ found.0 ∷ l) (append_assoc (framed bytes) (0 ∷ []) found.1)))
+    ]
+
+-- ---- the log
+
+pub records_more : (gated : List Gated) (gate : ℕ) (bytes : List ℕ) → Each IsOpen gated → IsOpen (record { gate = gate; bytes = bytes }) → Each IsOpen (gated ++ record { gate = gate; bytes = bytes } ∷ [])
+records_more [] gate bytes each more = (more, tt)
+records_more (g ∷ gated) gate bytes each more = (each.0, records_more gated gate bytes each.1 more)
+
+pub all_gated_more : (gated : List Gated) (gate : ℕ) (bytes : List ℕ) → all_gated (gated ++ record { gate = gate; bytes = bytes } ∷ []) ≡ all_gated gated ++ gate ∷ framed bytes
+all_gated_more [] gate bytes = ap (λ (l : List ℕ). gate ∷ l) (append-nil (framed bytes))
+all_gated_more (g ∷ gated) gate bytes =
+    ap (λ (l : List ℕ). g.gate ∷ (framed g.bytes ++ l)) (all_gated_more gated gate bytes)
+    ∙ ap (λ (l : List ℕ). g.gate ∷ l) (sym (append_assoc (framed g.bytes) (all_gated gated) (gate ∷ framed bytes)))
+
+pub last_gate_more : (head : ℕ) (gated : List Gated) (gate : ℕ) (bytes : List ℕ) → last_gate head (gated ++ record { gate = gate; bytes = bytes } ∷ []) ≡ gate
+last_gate_more head [] gate bytes = refl
+last_gate_more head (g ∷ gated) gate bytes = last_gate_more g.gate gated gate bytes
+
+-- a log with one record more
+pub log_more : (magic : List ℕ) (id head : ℕ) (gated : List Gated) (gate : ℕ) (bytes : List ℕ) → log_of magic id head (gated ++ record { gate = gate; bytes = bytes } ∷ []) ≡ log_of magic id head gated ++ gate ∷ framed bytes
+log_more magic id head gated gate bytes =
+    ap (λ (l : List ℕ). head ∷ (identity magic id ++ l)) (all_gated_more gated gate bytes)
+    ∙ ap (λ (l : List ℕ). head ∷ l) (sym (append_assoc (identity magic id) (all_gated gated) (gate ∷ framed bytes)))
+
+-- the acknowledged records with the new one
+pub acknowledged_more : (gated : List Gated) (records : List (List ℕ)) (bytes : List ℕ) → length bytes < 2 ^ 64 → IsAcknowledged gated records → IsAcknowledged (gated ++ record { gate = 1; bytes = bytes } ∷ []) (records ++ bytes ∷ [])
+acknowledged_more gated records bytes fits acknowledged = record {
+  gates_open = records_more gated 1 bytes acknowledged.gates_open (record { gate = (λ e. cc e); length_fits = fits });
+  last = last_gate_more 1 gated 1 bytes;
+  same = ap (λ (l : List (List ℕ)). l ++ bytes ∷ []) acknowledged.same ∙ sym (map_push (λ (g : Gated). g.bytes) gated (record { gate = 1; bytes = bytes }));
+}
+
+-- ---- what an append passes, of a disk that tells and of one that doesn't
+
+-- how it goes on from any front
+abbrev pub AppendGoes : ℕ → List ℕ → List Moment → List Moment → Type 0
+AppendGoes end bytes old new = (front : List ℕ) → end ≡ length front → IfTold old (λ m. m ≡ settled (front ++ 0 ∷ [])) → Goes (Leaves (Grows front bytes)) old new
+
+abbrev pub AppendDone : ℕ → List ℕ → List Moment → List Moment → Type 0
+AppendDone end bytes old new = (front : List ℕ) → end ≡ length front → IfTold old (λ m. m ≡ settled (front ++ 0 ∷ [])) → IfTold new (λ m. m ≡ settled (front ++ 1 ∷ (framed bytes ++ 0 ∷ [])))
+
+module _ (magic : List ℕ) (id end : ℕ) (records : List (List ℕ)) (bytes : List ℕ) where
+  pub append_passes : (old new : List Moment) → AppendGoes end bytes old new → IfTold old (IsAtRest magic id end records) → Passes (Leaves (BeforeOrAfter magic id records bytes)) old new
+  append_passes [] new goes rest = ([], goes (replicate end 0) (sym (length-replicate end 0)) tt, tt)
+  append_passes (m ∷ past) new goes rest =
+      let P : Moment → Type 0 = Leaves (Grows (log_of magic id 1 rest.gated) bytes) in
+      let Q : Moment → Type 0 = Leaves (BeforeOrAfter magic id records bytes) in
+      goes_map P Q (λ n leaves image h. record { gated = rest.gated; acknowledged = rest.acknowledged; grows = leaves image h })
+        (m ∷ past) new (goes (log_of magic id 1 rest.gated) rest.place rest.settled_on)
+
+  at_rest_more : (frame : List ℕ) → frame ≡ frame_of bytes → length bytes < 2 ^ 64 → (gated : List Gated) → IsAcknowledged gated records → end ≡ length (log_of magic id 1 gated)
+    → (m : Moment) → m ≡ settled (log_of magic id 1 gated ++ 1 ∷ (framed bytes ++ 0 ∷ [])) → IsAtRest magic id (end + length frame) (records ++ bytes ∷ []) m
+  at_rest_more frame is fits gated acknowledged place m on =
+      let more = log_more magic id 1 gated 1 bytes in
+      record {
+        gated = gated ++ record { gate = 1; bytes = bytes } ∷ [];
+        acknowledged = acknowledged_more gated records bytes fits acknowledged;
+        place = omega (arith, ap length more, ap length is, length-append (framed bytes) (0 ∷ []), length-append (log_of magic id 1 gated) (1 ∷ framed bytes));
+        settled_on = on ∙ ap settled (sym (append_assoc (log_of magic id 1 gated) (1 ∷ framed bytes) (0 ∷ [])) ∙ ap (λ (l : List ℕ). l ++ 0 ∷ []) (sym more));
+      }
+
+  pub append_rests : (frame : List ℕ) → frame ≡ frame_of bytes → length bytes < 2 ^ 64 → (old new : List Moment) → AppendGoes end bytes old new → AppendDone end bytes old new
+    → IfTold old (IsAtRest magic id end records) → IfTold new (IsAtRest magic id (end + length frame) (records ++ bytes ∷ []))
+  append_rests frame is fits [] new goes done rest =
+      let none : new ≡ [] = goes (replicate end 0) (sym (length-replicate end 0)) tt in
+      subst (λ (ms : List Moment). IfTold ms (IsAtRest magic id (end + length frame) (records ++ bytes ∷ []))) (sym none) tt
+  append_rests frame is fits (m ∷ past) new goes done rest =
+      let P : Moment → Type 0 = λ n. n ≡ settled (log_of magic id 1 rest.gated ++ 1 ∷ (framed bytes ++ 0 ∷ [])) in
+      told_map P (IsAtRest magic id (end + length frame) (records ++ bytes ∷ []))
+        (at_rest_more frame is fits rest.gated rest.acknowledged rest.place) new (done (log_of magic id 1 rest.gated) rest.place rest.settled_on)

@@ -1,0 +1,197 @@
+-- The moments of one change and its sync, and the images that they leave.
+use Rattle.std.proofs.Common.{◌≡◌, ◌⊎◌, inl, inr, ℕ, zero, suc, ◌+◌, ◌-◌, ◌≤◌, min, max, List, [], ◌∷◌, ◌++◌, map, length, take, drop, Option, None, Some, Result, Ok, Err, OnOk, OnErr, refl, sym, ◌∙◌, ap, subst, arith, length-append, length-drop, length-take}
+use Rattle.std.proofs.lemmas.List.{append-nil, append_assoc, drop_all, take-map, take_at, map-append, length-map}
+use Rattle.wp_outside.specs.Disk.{Moment, Matches, IsImage, settled, put, hide, hide_at, write_end, after_write, after_cut, after_sync, IfTold, Adds, Tears, Each, Passes}
+use Rattle.wp_gatelog.specs.Moments.{Leaves, Within, Goes}
+
+-- ---- moments, one after another
+
+each_append : (P : Moment → Type 0) (xs ys : List Moment) → Each P xs → Each P ys → Each P (xs ++ ys)
+each_append P [] ys p q = q
+each_append P (x ∷ xs) ys p q = (p.0, each_append P xs ys p.1 q)
+
+pub goes_nowhere : (P : Moment → Type 0) (old : List Moment) → Goes P old old
+goes_nowhere P [] = refl
+goes_nowhere P (m ∷ past) = ([], refl, tt)
+
+goes_on_from : (P : Moment → Type 0) (m : Moment) (past more new : List Moment) → Each P more → Goes P (more ++ m ∷ past) new → Goes P (m ∷ past) new
+goes_on_from P m past [] new each second = second
+goes_on_from P m past (x ∷ xs) new each second =
+    (second.0 ++ x ∷ xs, second.1 ∙ sym (append_assoc second.0 (x ∷ xs) (m ∷ past)), each_append P second.0 (x ∷ xs) second.2 each)
+
+pub goes_on : (P : Moment → Type 0) (old mid new : List Moment) → Goes P old mid → Goes P mid new → Goes P old new
+goes_on P [] mid new first second = subst (λ (l : List Moment). Goes P l new) first second
+goes_on P (m ∷ past) mid new first second =
+    goes_on_from P m past first.0 new first.2 (subst (λ (l : List Moment). Goes P l new) first.1 second)
+
+each_map : (P Q : Moment → Type 0) → ((m : Moment) → P m → Q m) → (ms : List Moment) → Each P ms → Each Q ms
+each_map P Q f [] each = tt
+each_map P Q f (m ∷ ms) each = (f m each.0, each_map P Q f ms each.1)
+
+pub goes_map : (P Q : Moment → Type 0) → ((m : Moment) → P m → Q m) → (old new : List Moment) → Goes P old new → Goes Q old new
+goes_map P Q f [] new goes = goes
+goes_map P Q f (m ∷ past) new goes = (goes.0, goes.1, each_map P Q f goes.0 goes.2)
+
+pub passes_from_goes : (P : Moment → Type 0) (old new : List Moment) → Goes P old new → Passes P old new
+passes_from_goes P [] new goes = ([], goes, tt)
+passes_from_goes P (m ∷ past) new goes = goes
+
+-- ---- a disk that tells
+
+pub told_map : (P Q : Moment → Type 0) → ((m : Moment) → P m → Q m) → (ms : List Moment) → IfTold ms P → IfTold ms Q
+told_map P Q f [] told = tt
+told_map P Q f (m ∷ past) told = f m told
+
+pub told_both : (P Q R : Moment → Type 0) → ((m : Moment) → P m → Q m → R m) → (ms : List Moment) → IfTold ms P → IfTold ms Q → IfTold ms R
+told_both P Q R f [] p q = tt
+told_both P Q R f (m ∷ past) p q = f m p q
+
+pub told_three : (P Q R S : Moment → Type 0) → ((m : Moment) → P m → Q m → R m → S m) → (ms : List Moment) → IfTold ms P → IfTold ms Q → IfTold ms R → IfTold ms S
+told_three P Q R S f [] p q r = tt
+told_three P Q R S f (m ∷ past) p q r = f m p q r
+
+-- of a disk that tells nothing, nothing is owed but that it still tells nothing
+pub told_goes : (P Q : Moment → Type 0) (old new : List Moment) → (old ≡ [] → new ≡ []) → IfTold old Q → ((m : Moment) → Q m → Goes P old new) → Goes P old new
+told_goes P Q [] new untold told goes = untold refl
+told_goes P Q (m ∷ past) new untold told goes = goes m told
+
+pub told_new : (Q R : Moment → Type 0) (old new : List Moment) → (old ≡ [] → new ≡ []) → IfTold old Q → ((m : Moment) → Q m → IfTold new R) → IfTold new R
+told_new Q R [] new untold told rests = subst (λ (ms : List Moment). IfTold ms R) (sym (untold refl)) tt
+told_new Q R (m ∷ past) new untold told rests = rests m told
+
+pub told_as : (ms : List Moment) (x y : List ℕ) → x ≡ y → IfTold ms (λ m. m ≡ settled x) → IfTold ms (λ m. m ≡ settled y)
+told_as ms x y is told = subst (λ (z : List ℕ). IfTold ms (λ m. m ≡ settled z)) is told
+
+-- ---- bytes of which all are sure
+
+matches_self : (xs : List ℕ) → Matches (map (λ b. Some b) xs) xs
+matches_self [] = tt
+matches_self (x ∷ xs) = (refl, matches_self xs)
+
+-- an image begins with what is sure, and its rest matches the rest
+pub matches_front : (xs : List ℕ) (sure : List (Option ℕ)) (c : List ℕ) → Matches (map (λ b. Some b) xs ++ sure) c → (d : List ℕ) × (c ≡ xs ++ d) × Matches sure d
+matches_front [] sure c h = (c, refl, h)
+matches_front (x ∷ xs) sure [] h = absurd h
+matches_front (x ∷ xs) sure (b ∷ c) h =
+    let rest = matches_front xs sure c h.1 in
+    (rest.0, (λ i. h.0 i ∷ rest.1 i), rest.2)
+
+pub image_of_settled : (xs c : List ℕ) → IsImage (settled xs) c → c ≡ xs
+image_of_settled [] [] h = refl
+image_of_settled [] (b ∷ c) h = absurd (omega (arith, h.1))
+image_of_settled (x ∷ xs) [] h = absurd h.0
+image_of_settled (x ∷ xs) (b ∷ c) h = λ i. h.0.0 i ∷ image_of_settled xs c (h.0.1, omega (arith, h.1)) i
+
+hide_front : (bytes old : List ℕ) → Matches (hide (length bytes) (map (λ b. Some b) old)) (bytes ++ drop (length bytes) old)
+hide_front [] old = matches_self old
+hide_front (b ∷ bytes) [] = tt
+hide_front (b ∷ bytes) (x ∷ old) = hide_front bytes old
+
+hide_put : (at : ℕ) (bytes old : List ℕ) → Matches (hide_at at (length bytes) (map (λ b. Some b) old)) (put at bytes old)
+hide_put zero bytes old = hide_front bytes old
+hide_put (suc at) bytes [] = tt
+hide_put (suc at) bytes (x ∷ old) = (refl, hide_put at bytes old)
+
+length-put : (at : ℕ) (bytes old : List ℕ) → length (put at bytes old) ≤ max (length old) (at + length bytes)
+length-put zero bytes old = omega (arith, length-append bytes (drop (length bytes) old), length-drop (length bytes) old)
+length-put (suc at) bytes [] = omega (arith, length-put at bytes [])
+length-put (suc at) bytes (x ∷ old) = omega (arith, length-put at bytes old)
+
+-- what a read gives behind a write or a cut is one of the images
+pub write_reads_image : (at : ℕ) (bytes before : List ℕ) → IsImage (after_write at bytes (settled before)) (after_write at bytes (settled before)).reads
+write_reads_image at [] before = (matches_self before, omega arith)
+write_reads_image at (b ∷ bytes) before = (hide_put at (b ∷ bytes) before, length-put at (b ∷ bytes) before)
+
+pub cut_reads_image : (len : ℕ) (before : List ℕ) → IsImage (after_cut len (settled before)) (after_cut len (settled before)).reads
+cut_reads_image len before =
+    (subst (λ (s : List (Option ℕ)). Matches s (take len before)) (sym (take-map (λ b. Some b) len before)) (matches_self (take len before)), omega (arith, length-take len before))
+
+-- ---- one step and its sync, from a disk that has all of its bytes for good
+
+module _ (step : Moment → Moment) (before : List ℕ) where
+  within_step : (m : Moment) → m ≡ settled before → Within (step (settled before)) (step m)
+  within_step m is image h = subst (λ (n : Moment). IsImage (step n) image) is h
+
+  pub torn_goes : (old new : List Moment) → IfTold old (λ m. m ≡ settled before) → Tears step old new → Goes (Within (step (settled before))) old new
+  torn_goes [] new told torn = torn
+  torn_goes (m ∷ past) new told torn = elim torn [
+    | inl same ↦ ([], same, tt)
+    | inr w ↦ (record (step m) { reads = w.0 } ∷ [], w.1, (λ image h. within_step m told image h, tt))
+  ]
+
+  pub step_goes : (old new : List Moment) → IfTold old (λ m. m ≡ settled before) → Adds step old new → Goes (Within (step (settled before))) old new
+  step_goes [] new told adds = adds
+  step_goes (m ∷ past) new told adds = (step m ∷ [], adds, (within_step m told, tt))
+
+  -- the step was made, and then a sync, or not
+  pub synced_goes : {T E : Type 0} (old mid new : List Moment) (result : Result T E) → IsImage (step (settled before)) (step (settled before)).reads → IfTold old (λ m. m ≡ settled before) → Adds step old mid → OnOk result (Adds after_sync mid new) → OnErr result (new ≡ mid) → Goes (Within (step (settled before))) old new
+  synced_goes [] mid new (Ok x) reads told adds syncs kept = subst (λ (l : List Moment). Adds after_sync l new) adds syncs
+  synced_goes [] mid new (Err e) reads told adds syncs kept = kept ∙ adds
+  synced_goes (m ∷ past) mid new (Ok x) reads told adds syncs kept =
+      let last : new ≡ settled (step m).reads ∷ step m ∷ m ∷ past = subst (λ (l : List Moment). Adds after_sync l new) adds syncs in
+      let is : (step m).reads ≡ (step (settled before)).reads = ap (λ (n : Moment). (step n).reads) told in
+      (settled (step m).reads ∷ step m ∷ [], last,
+       (λ image h. subst (λ (l : List ℕ). IsImage (step (settled before)) l) (sym is ∙ sym (image_of_settled (step m).reads image h)) reads,
+        (within_step m told, tt)))
+  synced_goes (m ∷ past) mid new (Err e) reads told adds syncs kept = step_goes (m ∷ past) new told (kept ∙ adds)
+
+-- ---- images of a log that is changed
+
+hide_past : (at n : ℕ) (sure : List (Option ℕ)) → length sure ≤ at → hide_at at n sure ≡ sure
+hide_past zero zero [] le = refl
+hide_past zero (suc n) [] le = refl
+hide_past zero n (x ∷ sure) le = absurd (omega arith)
+hide_past (suc at) n [] le = refl
+hide_past (suc at) n (x ∷ sure) le = ap (λ (s : List (Option ℕ)). x ∷ s) (hide_past at n sure (omega arith))
+
+-- bytes written behind all others leave those as they are
+pub image_behind : (front : List ℕ) (at : ℕ) (bytes image : List ℕ) → at ≡ length front → IsImage (after_write at bytes (settled front)) image → (d : List ℕ) × (image ≡ front ++ d)
+image_behind front at [] image is h = ([], image_of_settled front image h ∙ sym (append-nil front))
+image_behind front at (b ∷ bytes) image is h =
+    let sure : List (Option ℕ) = map (λ b. Some b) front in
+    let same : hide_at at (length (b ∷ bytes)) sure ≡ sure ++ [] = hide_past at (length (b ∷ bytes)) sure (omega (arith, length-map front (λ b. Some b))) ∙ sym (append-nil sure) in
+    let rest = matches_front front [] image (subst (λ (s : List (Option ℕ)). Matches s image) same h.0) in
+    (rest.0, rest.1)
+
+hide_gate : (front : List ℕ) (gate : ℕ) (behind : List ℕ) → hide_at (length front) 1 (map (λ b. Some b) (front ++ gate ∷ behind)) ≡ map (λ b. Some b) front ++ None ∷ map (λ b. Some b) behind
+hide_gate [] gate behind = refl
+hide_gate (x ∷ front) gate behind = ap (λ (s : List (Option ℕ)). Some x ∷ s) (hide_gate front gate behind)
+
+any_gate : (front behind d image : List ℕ) → image ≡ front ++ d → Matches (None ∷ map (λ b. Some b) behind) d → (gate : ℕ) × (more : List ℕ) × (image ≡ front ++ gate ∷ (behind ++ more))
+any_gate front behind [] image is h = absurd h
+any_gate front behind (gate ∷ d) image is h =
+    let rest = matches_front behind [] d (subst (λ (s : List (Option ℕ)). Matches s d) (sym (append-nil (map (λ b. Some b) behind))) h) in
+    (gate, rest.0, is ∙ ap (λ (l : List ℕ). front ++ gate ∷ l) rest.1)
+
+-- while one gate is written, it may be any, and the rest stays
+pub image_of_gate : (front : List ℕ) (at gate : ℕ) (behind image : List ℕ) → at ≡ length front → IsImage (after_write at (1 ∷ []) (settled (front ++ gate ∷ behind))) image → (g : ℕ) × (more : List ℕ) × (image ≡ front ++ g ∷ (behind ++ more))
+image_of_gate front at gate behind image is h =
+    let found : Matches (hide_at (length front) 1 (map (λ b. Some b) (front ++ gate ∷ behind))) image = subst (λ (n : ℕ). Matches (hide_at n 1 (map (λ b. Some b) (front ++ gate ∷ behind))) image) is h.0 in
+    let rest = matches_front front (None ∷ map (λ b. Some b) behind) image (subst (λ (s : List (Option ℕ)). Matches s image) (hide_gate front gate behind) found) in
+    any_gate front behind rest.0 image rest.1 rest.2
+
+-- a cut leaves what stands before it
+pub image_of_cut : (kept rest image : List ℕ) (len : ℕ) → len ≡ length kept → IsImage (after_cut len (settled (kept ++ rest))) image → (d : List ℕ) × (image ≡ kept ++ d)
+image_of_cut kept rest image len is h =
+    let known : take len (map (λ b. Some b) (kept ++ rest)) ≡ map (λ b. Some b) kept ++ [] =
+        take-map (λ b. Some b) len (kept ++ rest) ∙ ap (λ (l : List ℕ). map (λ b. Some b) l) (take_at kept rest len (sym is)) ∙ sym (append-nil (map (λ b. Some b) kept)) in
+    let found = matches_front kept [] image (subst (λ (s : List (Option ℕ)). Matches s image) known h.0) in
+    (found.0, found.1)
+
+-- ---- what a read gives then
+
+put_behind : (front bytes : List ℕ) (at : ℕ) → at ≡ length front → put at bytes front ≡ front ++ bytes
+put_behind [] bytes zero is = ap (λ (l : List ℕ). bytes ++ l) (drop_all (length bytes) [] (omega arith)) ∙ append-nil bytes
+put_behind [] bytes (suc at) is = absurd (omega arith)
+put_behind (x ∷ front) bytes zero is = absurd (omega arith)
+put_behind (x ∷ front) bytes (suc at) is = ap (λ (l : List ℕ). x ∷ l) (put_behind front bytes at (omega arith))
+
+pub reads_behind : (front bytes : List ℕ) (at : ℕ) → at ≡ length front → (after_write at bytes (settled front)).reads ≡ front ++ bytes
+reads_behind front [] at is = sym (append-nil front)
+reads_behind front (b ∷ bytes) at is = put_behind front (b ∷ bytes) at is
+
+pub put_gate : (front : List ℕ) (gate : ℕ) (behind : List ℕ) (at : ℕ) → at ≡ length front → put at (1 ∷ []) (front ++ gate ∷ behind) ≡ front ++ 1 ∷ behind
+put_gate [] gate behind zero is = refl
+put_gate [] gate behind (suc at) is = absurd (omega arith)
+put_gate (x ∷ front) gate behind zero is = absurd (omega arith)
+put_gate (x ∷ front) gate behind (suc at) is = ap (λ (l : List ℕ). x ∷ l) (put_gate front gate behind at (omega arith))

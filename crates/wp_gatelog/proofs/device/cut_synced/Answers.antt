@@ -1,0 +1,11 @@
+use Rattle.wp_outside.specs.Disk.{after_cut}
+use Rattle.wp_gatelog.proofs.MomentLemmas.{torn_goes, synced_goes, cut_reads_image}
+use Rattle.wp_gatelog.proofs.device.cut_synced.Goals as goal
+
+pub returns-in_err-cut-clause-passed : goal.returns-in_err-cut-clause-passed
+returns-in_err-cut-clause-passed g c = λ before told.
+    torn_goes (after_cut c.args.len) before _ _ told c.in_err-cut.ensures.torn
+
+pub returns-clause-passed : goal.returns-clause-passed
+returns-clause-passed g c = λ before told.
+    synced_goes (after_cut c.args.len) before _ _ _ c.sync.result (cut_reads_image c.args.len before) told c.in_ok-cut.ensures.done c.sync.ensures.done c.sync.ensures.kept

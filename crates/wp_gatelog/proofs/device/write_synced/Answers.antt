@@ -1,0 +1,11 @@
+use Rattle.wp_outside.specs.Disk.{after_write}
+use Rattle.wp_gatelog.proofs.MomentLemmas.{torn_goes, synced_goes, write_reads_image}
+use Rattle.wp_gatelog.proofs.device.write_synced.Goals as goal
+
+pub returns-in_err-write_at-clause-passed : goal.returns-in_err-write_at-clause-passed
+returns-in_err-write_at-clause-passed g c = λ before told.
+    torn_goes (after_write c.args.at c.args.bytes.now) before _ _ told c.in_err-write_at.ensures.torn
+
+pub returns-clause-passed : goal.returns-clause-passed
+returns-clause-passed g c = λ before told.
+    synced_goes (after_write c.args.at c.args.bytes.now) before _ _ _ c.sync.result (write_reads_image c.args.at c.args.bytes.now before) told c.in_ok-write_at.ensures.done c.sync.ensures.done c.sync.ensures.kept

@@ -1,0 +1,25 @@
+use Rattle.std.proofs.Common.{◌≡◌, ◌+◌, ◌∷◌, [], ◌++◌, ◌<◌, ◌^◌, ℕ, List, length, ap, subst, sym, ◌∙◌, arith, length-append}
+use Rattle.std.proofs.lemmas.Result.{on_ok_weaker}
+use Rattle.wp_outside.specs.Disk.{settled, after_write, Moment}
+use Rattle.wp_gatelog.specs.Spelling.{frame_of, framed}
+use Rattle.wp_gatelog.specs.Log.{Grows}
+use Rattle.wp_gatelog.specs.Moments.{Leaves, Within, Goes}
+use Rattle.wp_gatelog.proofs.AppendLemmas.{grows_staged, reads_staged, grows_opened, fits_disk}
+use Rattle.wp_gatelog.proofs.MomentLemmas.{goes_map, goes_on, put_gate, told_as}
+use Rattle.wp_gatelog.proofs.log.append_frame.Goals as goal
+
+pub returns-in_err-write_synced-clause-passed : goal.returns-in_err-write_synced-clause-passed
+returns-in_err-write_synced-clause-passed g c = λ front bytes is ends told.
+    goes_map _ (Leaves (Grows front bytes)) (grows_staged front c.args.frame.now bytes (c.args.end + 1) (omega arith)) _ _ (c.write_synced.ensures.passed (front ++ 0 ∷ []) told)
+
+pub returns-clause-passed : goal.returns-clause-passed
+returns-clause-passed g c = λ front bytes is ends told.
+    let first = goes_map _ (Leaves (Grows front bytes)) (grows_staged front c.args.frame.now bytes (c.args.end + 1) (omega arith)) _ _ (c.write_synced.ensures.passed (front ++ 0 ∷ []) told) in
+    let staged = told_as _ _ (front ++ 0 ∷ frame_of bytes) (reads_staged front c.args.frame.now (c.args.end + 1) (omega arith) ∙ ap (λ (l : List ℕ). front ++ 0 ∷ l) is) (c.in_ok-write_synced.ensures.done (front ++ 0 ∷ []) told) in
+    let fits = fits_disk (c.args.end + 1) c.args.frame.now bytes is c.in_ok-write_synced.ensures.bounded in
+    goes_on _ _ _ _ first (goes_map _ (Leaves (Grows front bytes)) (grows_opened front bytes c.args.end 0 ends fits) _ _ (c.write_synced-2.ensures.passed (front ++ 0 ∷ frame_of bytes) staged))
+
+pub returns-clause-done : goal.returns-clause-done
+returns-clause-done g c = λ front bytes is ends told.
+    let staged = told_as _ _ (front ++ 0 ∷ frame_of bytes) (reads_staged front c.args.frame.now (c.args.end + 1) (omega arith) ∙ ap (λ (l : List ℕ). front ++ 0 ∷ l) is) (c.in_ok-write_synced.ensures.done (front ++ 0 ∷ []) told) in
+    on_ok_weaker _ (told_as _ _ _ (put_gate front 0 (frame_of bytes) c.args.end ends)) (c.write_synced-2.ensures.done (front ++ 0 ∷ frame_of bytes) staged)

@@ -1,0 +1,31 @@
+use Rattle.std.proofs.Common.{◌≡◌, ◌∙◌, ◌∷◌, [], ◌++◌, ℕ, List, refl, ap, sym}
+use Rattle.std.proofs.lemmas.Result.{on_ok_weaker}
+use Rattle.wp_outside.specs.Disk.{settled}
+use Rattle.wp_gatelog.specs.Moments.{Leaves, Goes}
+use Rattle.wp_gatelog.specs.Heads.{SpellsNone}
+use Rattle.wp_gatelog.specs.Spelling.{identity, IsUnmade}
+use Rattle.wp_gatelog.proofs.MakeLemmas.{none_closed, none_staged, none_opened, reads_made}
+use Rattle.wp_gatelog.proofs.MomentLemmas.{goes_map, goes_on, told_as, reads_behind}
+use Rattle.wp_gatelog.proofs.make.make.Goals as goal
+
+pub returns-in_err-write_synced-clause-passed : goal.returns-in_err-write_synced-clause-passed
+returns-in_err-write_synced-clause-passed g c = λ before unmade len_is told.
+    goes_on (Leaves (SpellsNone c.args.magic c.args.id)) _ _ _
+      (goes_map _ _ (none_closed c.args.magic c.args.id) _ _ (c.close_head.ensures.passed before unmade len_is told))
+      (goes_map _ _ (none_staged c.args.magic c.head_bytes.result c.args.id) _ _ (c.write_synced.ensures.passed (0 ∷ []) (c.in_ok-close_head.ensures.done before unmade len_is told)))
+
+pub returns-clause-passed : goal.returns-clause-passed
+returns-clause-passed g c = λ before unmade len_is told.
+    let closed = c.in_ok-close_head.ensures.done before unmade len_is told in
+    let staged = told_as _ _ (0 ∷ (identity c.args.magic c.args.id ++ 0 ∷ [])) (reads_behind (0 ∷ []) c.head_bytes.result 1 refl ∙ ap (λ (l : List ℕ). 0 ∷ l) c.head_bytes.ensures) (c.in_ok-write_synced.ensures.done (0 ∷ []) closed) in
+    goes_on (Leaves (SpellsNone c.args.magic c.args.id)) _ _ _
+      (goes_on (Leaves (SpellsNone c.args.magic c.args.id)) _ _ _
+        (goes_map _ _ (none_closed c.args.magic c.args.id) _ _ (c.close_head.ensures.passed before unmade len_is told))
+        (goes_map _ _ (none_staged c.args.magic c.head_bytes.result c.args.id) _ _ (c.write_synced.ensures.passed (0 ∷ []) closed)))
+      (goes_map _ _ (none_opened c.args.magic c.args.id) _ _ (c.write_synced-2.ensures.passed (0 ∷ (identity c.args.magic c.args.id ++ 0 ∷ [])) staged))
+
+pub returns-clause-done : goal.returns-clause-done
+returns-clause-done g c = λ before unmade len_is told.
+    let closed = c.in_ok-close_head.ensures.done before unmade len_is told in
+    let staged = told_as _ _ (0 ∷ (identity c.args.magic c.args.id ++ 0 ∷ [])) (reads_behind (0 ∷ []) c.head_bytes.result 1 refl ∙ ap (λ (l : List ℕ). 0 ∷ l) c.head_bytes.ensures) (c.in_ok-write_synced.ensures.done (0 ∷ []) closed) in
+    on_ok_weaker _ (told_as _ _ _ (reads_made c.args.magic c.args.id)) (c.write_synced-2.ensures.done (0 ∷ (identity c.args.magic c.args.id ++ 0 ∷ [])) staged)

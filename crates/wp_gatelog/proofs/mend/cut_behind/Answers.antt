@@ -1,0 +1,15 @@
+use Rattle.std.proofs.Common.{◌∷◌, ◌++◌}
+use Rattle.std.proofs.lemmas.Result.{on_ok_weaker}
+use Rattle.wp_gatelog.specs.Mending.{KeepsFront}
+use Rattle.wp_gatelog.specs.Moments.{Leaves}
+use Rattle.wp_gatelog.proofs.MendLemmas.{keeps_cut, taken_cut}
+use Rattle.wp_gatelog.proofs.MomentLemmas.{goes_map, told_as}
+use Rattle.wp_gatelog.proofs.mend.cut_behind.Goals as goal
+
+pub returns-clause-passed : goal.returns-clause-passed
+returns-clause-passed g c = λ front behind ends size told.
+    goes_map _ (Leaves (KeepsFront front)) (keeps_cut front behind c.args.end ends) _ _ (c.cut_synced.ensures.passed (front ++ 0 ∷ behind) told)
+
+pub returns-clause-done : goal.returns-clause-done
+returns-clause-done g c = λ front behind ends size told.
+    on_ok_weaker _ (told_as _ _ _ (taken_cut front behind c.args.end ends)) (c.cut_synced.ensures.done (front ++ 0 ∷ behind) told)

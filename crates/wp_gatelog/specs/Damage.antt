@@ -1,0 +1,32 @@
+-- Which bytes spell no records.
+use Rattle.std.specs.Prelude.{◌≡◌, ◌≢◌, ◌⊎◌, ℕ, ◌+◌, ◌<◌, List, ◌∷◌, ◌++◌, length, take, drop, slice_index}
+use Rattle.std.specs.Int.{w64, from_be_bytes}
+use Rattle.wp_outside.specs.Disk.{Each}
+use Rattle.wp_gatelog.specs.Spelling.{Gated, IsOpen, IsUnmade, log_of}
+
+-- a log was made here, and it is cut before its first gate, or it has another magic or another version
+pub record IsBadHead (magic bytes : List ℕ) : Type 0 where
+  pub made : IsUnmade bytes → ⊥
+  pub wrong : (length bytes < 11) ⊎ (take 4 (drop 1 bytes) ≢ magic) ⊎ (slice_index bytes 5 ≢ 1)
+
+-- the number in the first eight bytes
+unfoldable pub counted : List ℕ → ℕ
+counted bytes = from_be_bytes w64 (take 8 bytes)
+
+-- fewer bytes than a length of eight bytes, the bytes that it counts and the next gate
+abbrev pub IsShort : List ℕ → Type 0
+IsShort behind = length behind < 9 + counted behind
+
+-- so many whole records stand behind open gates, and then an open gate without a whole record behind it
+pub record IsCut (magic : List ℕ) (index : ℕ) (bytes : List ℕ) : Type 0 where
+  pub id : ℕ
+  pub head : ℕ
+  pub gated : List Gated
+  pub gate : ℕ
+  pub behind : List ℕ
+  pub spelling : bytes ≡ log_of magic id head gated ++ gate ∷ behind
+  pub head_open : head ≢ 0
+  pub gates_open : Each IsOpen gated
+  pub before : length gated ≡ index
+  pub gate_open : gate ≢ 0
+  pub short : IsShort behind

@@ -1,0 +1,19 @@
+-- When an opening is refused.
+use Rattle.std.specs.Prelude.{ℕ, ⊤}
+use Rattle.wp_outside.specs.Faults.{Rose}
+use Rattle.wp_gatelog.specs.declared.error.LogError.{LogError}
+use Rattle.wp_gatelog.specs.declared.error.LogError.TheVariants.{Memory, DiskFault, BadHead, Cut}
+
+-- a disk fault comes only where the disk's count rose
+abbrev pub FaultRose : ℕ → ℕ → LogError → Type 0
+FaultRose before now Memory = ⊤
+FaultRose before now DiskFault = Rose before now
+FaultRose before now BadHead = ⊤
+FaultRose before now (Cut index) = ⊤
+
+-- the outside refused: memory, or the disk, whose count rose
+abbrev pub IsOutside : ℕ → ℕ → LogError → Type 0
+IsOutside before now Memory = ⊤
+IsOutside before now DiskFault = Rose before now
+IsOutside before now BadHead = ⊥
+IsOutside before now (Cut index) = ⊥

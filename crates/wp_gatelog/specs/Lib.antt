@@ -1,0 +1,10 @@
+pub mod Append
+pub mod Damage
+pub mod Errors
+pub mod Heads
+pub mod Log
+pub mod Mending
+pub mod Moments
+pub mod Opening
+pub mod Scanning
+pub mod Spelling

@@ -1,0 +1,72 @@
+-- What an opening finds, and what it leaves.
+use Rattle.std.specs.Prelude.{◌≡◌, ◌≢◌, ◌⊎◌, ℕ, List, [], ◌∷◌, ◌++◌, ⊤}
+use Rattle.wp_outside.specs.Disk.{Moment, IfTold, Passes, Adds, after_sync}
+use Rattle.wp_gatelog.specs.declared.error.LogError.{LogError}
+use Rattle.wp_gatelog.specs.declared.error.LogError.TheVariants.{Memory, DiskFault, BadHead, Cut}
+use Rattle.wp_gatelog.specs.Damage.{IsBadHead, IsCut}
+use Rattle.wp_gatelog.specs.Log.{BeforeOrAfter}
+use Rattle.wp_gatelog.specs.Mending.{Mended}
+use Rattle.wp_gatelog.specs.Moments.{Leaves}
+use Rattle.wp_gatelog.specs.Spelling.{Gated, IsUnmade, Stands, Spells, records_of}
+
+-- the bytes spell these records under this id: the one that was asked for, where no log was made
+pub record IsFound (magic : List ℕ) (asked : ℕ) (bytes : List ℕ) (id : ℕ) (records : List (List ℕ)) : Type 0 where
+  pub spelled : Spells bytes magic id records
+  pub unmade : IsUnmade bytes → id ≡ asked
+
+-- the bytes are refused so; of memory and of the disk they say nothing
+abbrev pub IsRefused : List ℕ → List ℕ → LogError → Type 0
+IsRefused magic bytes Memory = ⊤
+IsRefused magic bytes DiskFault = ⊤
+IsRefused magic bytes BadHead = IsBadHead magic bytes
+IsRefused magic bytes (Cut index) = IsCut magic index bytes
+
+-- the refusal left the disk as it was, but where the disk failed
+abbrev pub IsUntouched : List Moment → List Moment → LogError → Type 0
+IsUntouched old new Memory = new ≡ old
+IsUntouched old new DiskFault = ⊤
+IsUntouched old new BadHead = new ≡ old
+IsUntouched old new (Cut index) = new ≡ old
+
+-- the refusal comes after nothing but a sync, but where the disk failed
+abbrev pub IsOnlySynced : List Moment → List Moment → LogError → Type 0
+IsOnlySynced old new Memory = Adds after_sync old new
+IsOnlySynced old new DiskFault = ⊤
+IsOnlySynced old new BadHead = Adds after_sync old new
+IsOnlySynced old new (Cut index) = Adds after_sync old new
+
+-- While a log is mended, a crash leaves its records. Where its head's gate was not 01, it may leave none, and where the
+-- last record's was not, it may leave all but that record.
+abbrev pub Keeps : List ℕ → ℕ → ℕ → List Gated → List ℕ → Type 0
+Keeps magic id head gated image =
+    Spells image magic id (records_of gated)
+  ⊎ ((head ≢ 1) × Spells image magic id [])
+  ⊎ ((before : List Gated) × (last : Gated) × (gated ≡ before ++ last ∷ []) × (last.gate ≢ 1) × Spells image magic id (records_of before))
+
+-- While a log is opened, a crash leaves what was found; or, where no log was made, one without records; or a log that is
+-- mended.
+abbrev pub Survives : List ℕ → ℕ → List ℕ → List ℕ → Type 0
+Survives magic asked found image =
+    (image ≡ found)
+  ⊎ (IsUnmade found × Spells image magic asked [])
+  ⊎ ((id head : ℕ) × (gated : List Gated) × Stands magic id head gated found × Keeps magic id head gated image)
+
+-- the same, byte by byte
+abbrev pub Mends : List ℕ → ℕ → List ℕ → List ℕ → Type 0
+Mends magic asked found image =
+    (image ≡ found)
+  ⊎ (IsUnmade found × Spells image magic asked [])
+  ⊎ ((id head : ℕ) × (gated : List Gated) × Stands magic id head gated found × Mended magic id head gated image)
+
+-- at each moment of an opening a crash leaves what survives it
+abbrev pub SurvivesThrough : List ℕ → ℕ → List Moment → List Moment → Type 0
+SurvivesThrough magic asked old new = IfTold old (λ m. Passes (Leaves (Survives magic asked m.reads)) old new)
+
+-- at each moment of an opening acknowledged records stand there as before, with a further one or without
+abbrev pub StaysThrough : List ℕ → List Moment → List Moment → Type 0
+StaysThrough magic old new = IfTold old (λ m. (id : ℕ) (records : List (List ℕ)) (bytes : List ℕ)
+  → BeforeOrAfter magic id records bytes m.reads → Passes (Leaves (BeforeOrAfter magic id records bytes)) old new)
+
+-- a log is mended whose head was read
+abbrev pub MendsMade : List ℕ → ℕ → ℕ → List ℕ → List ℕ → Type 0
+MendsMade magic id head found image = (gated : List Gated) × Stands magic id head gated found × Mended magic id head gated image

@@ -1,0 +1,35 @@
+//! A change of a disk, and the sync behind it.
+
+ghost use Rattle.std.specs.Prelude.{◌≡◌, ℕ, ◌≤◌, ◌^◌, [], List, take, OnOk};
+ghost use Rattle.wp_outside.specs.Disk.{IfTold, settled, after_write, after_cut, write_end};
+ghost use Rattle.wp_outside.specs.Faults.{HasCause};
+ghost use Rattle.wp_gatelog.specs.Moments.{Goes, Within};
+
+use wp_outside::{Disk, Failed};
+
+/// Writes, and puts it on the disk for good.
+pub fn write_synced<D: Disk>(disk: &mut D, at: u64, bytes: &[u8]) -> Result<(), Failed>
+    ensures passed { (before : List ℕ) → IfTold (D.moments disk.old) (λ m. m ≡ settled before)
+        → Goes (Within (after_write at bytes.now (settled before))) (D.moments disk.old) (D.moments disk.new) }
+    ensures done { (before : List ℕ) → IfTold (D.moments disk.old) (λ m. m ≡ settled before)
+        → OnOk result (IfTold (D.moments disk.new) (λ m. m ≡ settled (after_write at bytes.now (settled before)).reads)) }
+    ensures bounded { OnOk result (write_end at bytes.now ≤ 2 ^ 62) }
+    ensures untold { D.moments disk.old ≡ [] → D.moments disk.new ≡ [] }
+    ensures cause { HasCause (D.faults disk.old) (D.faults disk.new) result }
+{
+    disk.write_at(at, bytes)?;
+    disk.sync()
+}
+
+/// Cuts to `len` bytes, and makes that last.
+pub fn cut_synced<D: Disk>(disk: &mut D, len: u64) -> Result<(), Failed>
+    ensures passed { (before : List ℕ) → IfTold (D.moments disk.old) (λ m. m ≡ settled before)
+        → Goes (Within (after_cut len (settled before))) (D.moments disk.old) (D.moments disk.new) }
+    ensures done { (before : List ℕ) → IfTold (D.moments disk.old) (λ m. m ≡ settled before)
+        → OnOk result (IfTold (D.moments disk.new) (λ m. m ≡ settled (take len before))) }
+    ensures untold { D.moments disk.old ≡ [] → D.moments disk.new ≡ [] }
+    ensures cause { HasCause (D.faults disk.old) (D.faults disk.new) result }
+{
+    disk.cut(len)?;
+    disk.sync()
+}

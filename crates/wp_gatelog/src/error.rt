@@ -1,0 +1,50 @@
+//! Why a log could not be opened.
+
+ghost use Rattle.std.specs.Prelude.{◌≡◌};
+ghost use Rattle.wp_gatelog.specs.declared.error.LogError.TheVariants.{DiskFault, Memory};
+
+use std::alloc::{AllocError, AllocFailed};
+use wp_outside::Failed;
+
+#[derive(Clone, Copy, Debug, PartialEq, Eq)]
+pub enum LogError {
+    Memory,
+    DiskFault,
+
+    /// There is no whole head, or it has another magic or another version.
+    BadHead,
+
+    /// Behind an open gate the record with this index, from 0 on, or the gate behind it is not there whole.
+    Cut { index: u64 },
+}
+
+/// A refusal that hands the disk back.
+#[derive(Drop)]
+pub struct DiskRefused<D, E> {
+    pub disk: D,
+    pub why: E,
+}
+
+impl From<AllocError> for LogError {
+    ghost from_gives = { λ _ e. e ≡ Memory };
+
+    fn from(_refused: AllocError) -> LogError {
+        LogError::Memory
+    }
+}
+
+impl<T: Drop> From<AllocFailed<T>> for LogError {
+    ghost from_gives = { λ _ e. e ≡ Memory };
+
+    fn from(_refused: AllocFailed<T>) -> LogError {
+        LogError::Memory
+    }
+}
+
+impl From<Failed> for LogError {
+    ghost from_gives = { λ _ e. e ≡ DiskFault };
+
+    fn from(_failed: Failed) -> LogError {
+        LogError::DiskFault
+    }
+}

@@ -1,0 +1,80 @@
+//! The head of a log: its gate, magic, version and id, and the gate behind it.
+
+ghost use Rattle.std.specs.Prelude.{◌≡◌, ◌≢◌, ◌⊎◌, ℕ, ◌<◌, ◌∷◌, [], ◌++◌, List, length, take, slice_index, IfSome, IfNone, IfOk};
+ghost use Rattle.wp_outside.specs.Disk.{IfTold};
+ghost use Rattle.wp_outside.specs.Faults.{HasCause};
+ghost use Rattle.wp_gatelog.specs.Heads.{IsHead};
+ghost use Rattle.wp_gatelog.specs.Spelling.{identity};
+
+use wp_fields::Fields;
+use wp_outside::{Disk, Failed};
+
+use crate::gate::CLOSED;
+
+/// How many bytes stand before the first record's gate.
+pub const HEAD_LEN: u64 = 10;
+
+const VERSION: u8 = 1;
+
+/// What stands where a log's head should be.
+pub enum Head {
+    Unmade,
+    Bad,
+    Made { gate: u8, id: u32 },
+}
+
+/// Reads the head.
+pub fn read_head<D: Disk>(disk: &mut D, magic: &[u8]) -> Result<Head, Failed>
+    requires { length magic.now ≡ 4 }
+    ensures found { IfOk result (λ head. IfTold (D.moments disk.old) (λ m. IsHead magic.now m.reads head)) }
+    ensures kept { D.moments disk.new ≡ D.moments disk.old }
+    ensures cause { HasCause (D.faults disk.old) (D.faults disk.new) result }
+{
+    let mut bytes = [0; 11];
+    let read = disk.read_at(0, &mut bytes)?;
+    Ok(head_of(&bytes[..read], magic))
+}
+
+/// The head by its first eleven bytes, or by all where there are fewer.
+fn head_of(bytes: &[u8], magic: &[u8]) -> Head
+    requires { length magic.now ≡ 4 }
+    ensures { IsHead magic.now bytes.now result }
+{
+    match bytes {
+        [] | [_] | [CLOSED, ..] => Head::Unmade,
+        [gate, rest @ ..] => match id_of(rest, magic) {
+            Some(id) => Head::Made { gate: *gate, id },
+            None => Head::Bad,
+        },
+    }
+}
+
+/// The id behind this magic and version, where they stand behind the head's gate and a further gate follows.
+fn id_of(bytes: &[u8], magic: &[u8]) -> Option<u32>
+    requires { length magic.now ≡ 4 }
+    ensures found { IfSome result (λ id. (next : ℕ) × (rest : List ℕ) × (bytes.now ≡ identity magic.now id ++ next ∷ rest)) }
+    ensures none { IfNone result
+        ((length bytes.now < 10) ⊎ (take 4 bytes.now ≢ magic.now) ⊎ (slice_index bytes.now 4 ≢ 1)) }
+{
+    let mut fields = Fields::of(bytes);
+    let found = fields.piece(4)?;
+    let version = fields.u8()?;
+    let id = fields.u32()?;
+    fields.u8()?;
+    if found != magic {
+        return None;
+    }
+    if version != VERSION {
+        return None;
+    }
+    Some(id)
+}
+
+/// The bytes behind the head's gate: magic, version, id and the closed gate of the first record.
+pub fn head_bytes(magic: [u8; 4], id: u32) -> [u8; 10]
+    ensures { result ≡ identity magic id ++ 0 ∷ [] }
+{
+    let [a, b, c, d] = magic;
+    let [e, f, g, h] = id.to_be_bytes();
+    [a, b, c, d, VERSION, e, f, g, h, CLOSED]
+}

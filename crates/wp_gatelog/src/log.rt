@@ -1,0 +1,173 @@
+//! A log that stands open.
+
+ghost use Rattle.std.specs.Prelude.{◌≡◌, ℕ, ◌+◌, ◌≤◌, ◌^◌, [], ◌∷◌, ◌++◌, List, length, false, IfOk, IfErr, OnOk, MatchResult};
+ghost use Rattle.wp_outside.specs.Disk.{IfTold, Passes, settled, images};
+ghost use Rattle.wp_outside.specs.Faults.{HasCause};
+ghost use Rattle.wp_gatelog.specs.Append.{Appended, Refuses};
+ghost use Rattle.wp_gatelog.specs.Errors.{FaultRose};
+ghost use Rattle.wp_gatelog.specs.Log.{Grows, BeforeOrAfter, IsFrame, Rests};
+ghost use Rattle.wp_gatelog.specs.Moments.{Goes, Leaves};
+ghost use Rattle.wp_gatelog.specs.Opening.{IsFound, IsRefused, IsOnlySynced, SurvivesThrough, StaysThrough};
+ghost use Rattle.wp_gatelog.specs.Spelling.{Spells, frame_of, framed};
+
+use std::alloc::Global;
+use std::marker::Model;
+use wp_outside::{Disk, Failed};
+
+use crate::device::write_synced;
+use crate::error::{DiskRefused, LogError};
+use crate::gate::OPEN;
+use crate::open::{Found, find};
+use crate::record::Record;
+
+#[derive(Clone, Copy, Debug, PartialEq, Eq)]
+pub enum AppendError {
+    DiskFault,
+
+    /// An append failed before, and so many records stood then.
+    Closed(u64),
+}
+
+/// A log on a disk of its own.
+#[derive(Drop)]
+pub struct GateLog<D: Disk> {
+    disk: D,
+    records: Vec<Record>,
+    id: u32,
+    end: u64,
+    count: u64,
+    closed: bool,
+}
+
+impl<D: Disk> Model for GateLog<D> {
+    ghost use Rattle.std.specs.Prelude.{◌≤◌, ◌^◌};
+    ghost use Rattle.wp_gatelog.specs.Log.{State};
+
+    ghost Value = { State };
+
+    ghost view = { λ l. record {
+        moments = D.moments l.disk;
+        faults = D.faults l.disk;
+        id = l.id;
+        found = l.records.items;
+        count = l.count;
+        end = l.end;
+        closed = l.closed
+    } };
+
+    ghost invariant = { λ l. (l.count ≤ l.end) × (l.end ≤ 2 ^ 62) };
+}
+
+impl<D: Disk> GateLog<D> {
+    /// Opens the log that stands on the disk, and mends what a crash left of it. Where none was made, a new one is made,
+    /// under this id.
+    pub fn open(alloc: Global, mut disk: D, magic: [u8; 4], id: u32) -> Result<GateLog<D>, DiskRefused<D, LogError>>
+        // The records are those that the disk spelled as it was handed in, and after it they are all that a crash leaves.
+        ensures found { IfOk result (λ log. IfTold (D.moments disk) (λ m. IsFound magic id m.reads log.id log.found)) }
+        ensures rests { IfOk result (λ log. Rests magic log log.found) }
+        ensures spelled { IfOk result (λ log. (image : List ℕ) → images log.moments image → Spells image magic log.id log.found) }
+        ensures fresh { IfOk result (λ log. (log.count ≡ length log.found) × (log.closed ≡ false)) }
+
+        // Each refusal of the bytes comes where they are so.
+        ensures refused { IfErr result (λ refused. IfTold (D.moments disk) (λ m. IsRefused magic m.reads refused.why)) }
+        ensures untouched { IfErr result (λ refused. IsOnlySynced (D.moments disk) (D.moments refused.disk) refused.why) }
+
+        // A crash on the way takes nothing that an opening or an append has acknowledged.
+        ensures any_moment { MatchResult result (λ log. SurvivesThrough magic id (D.moments disk) log.moments)
+            (λ refused. SurvivesThrough magic id (D.moments disk) (D.moments refused.disk)) }
+        ensures acknowledged { MatchResult result (λ log. StaysThrough magic (D.moments disk) log.moments)
+            (λ refused. StaysThrough magic (D.moments disk) (D.moments refused.disk)) }
+
+        ensures fault { IfErr result (λ refused. FaultRose (D.faults disk) (D.faults refused.disk) refused.why) }
+        ensures later { MatchResult result (λ log. D.faults disk ≤ log.faults) (λ refused. D.faults disk ≤ D.faults refused.disk) }
+    {
+        match find(alloc, &mut disk, magic, id) {
+            Ok(Found { id, records, end }) => {
+                let count = records.len() as u64;
+                Ok(GateLog { disk, records, id, end, count, closed: false })
+            }
+            Err(why) => Err(DiskRefused { disk, why }),
+        }
+    }
+
+    /// The store's id, as the log's head has it.
+    pub fn id(&self) -> u32
+        ensures { result ≡ self.now.id }
+    {
+        self.id
+    }
+
+    /// The records that were found at opening.
+    pub fn records(&self) -> &[Record]
+        ensures { result.now ≡ self.now.found }
+    {
+        &self.records
+    }
+
+    /// How many records stand in the log, those that were appended since its opening too.
+    pub fn count(&self) -> u64
+        ensures { result ≡ self.now.count }
+    {
+        self.count
+    }
+
+    /// Adds the record of the frame.
+    pub fn append(&mut self, frame: &[u8]) -> Result<(), AppendError>
+        requires { IsFrame frame.now }
+
+        // At each moment a crash leaves the records before it, or those and the new one, whole.
+        ensures any_moment { (magic : List ℕ) (records : List (List ℕ)) (bytes : List ℕ)
+            → frame.now ≡ frame_of bytes → Rests magic self.old records
+            → Passes (Leaves (BeforeOrAfter magic self.old.id records bytes)) self.old.moments self.new.moments }
+
+        // Once it is acknowledged, a crash leaves the new record.
+        ensures acknowledged { OnOk result ((magic : List ℕ) (records : List (List ℕ)) (bytes : List ℕ)
+            → frame.now ≡ frame_of bytes → Rests magic self.old records
+            → Rests magic self.new (records ++ bytes ∷ [])) }
+
+        ensures ok { OnOk result (Appended self.old self.new (length frame.now)) }
+        ensures err { IfErr result (Refuses self.old self.new) }
+        ensures later { self.old.faults ≤ self.new.faults }
+    {
+        if self.closed {
+            return Err(AppendError::Closed(self.count));
+        }
+        match append_frame(&mut self.disk, self.end, frame) {
+            Ok(()) => {
+                self.end += frame.len() as u64;
+                self.count += 1;
+                Ok(())
+            }
+            Err(Failed) => {
+                self.closed = true;
+                Err(AppendError::DiskFault)
+            }
+        }
+    }
+
+    /// Gives the disk back.
+    pub fn into_disk(self) -> D
+        ensures moments { D.moments result ≡ self.moments }
+        ensures faults { D.faults result ≡ self.faults }
+    {
+        let GateLog { disk, .. } = self;
+        disk
+    }
+}
+
+/// Writes the frame behind the closed gate at `end`, and then opens that gate. Each of the two is on the disk for good
+/// before the next begins.
+fn append_frame<D: Disk>(disk: &mut D, end: u64, frame: &[u8]) -> Result<(), Failed>
+    requires { end ≤ 2 ^ 62 }
+    ensures passed { (front bytes : List ℕ) → frame.now ≡ frame_of bytes → end ≡ length front
+        → IfTold (D.moments disk.old) (λ m. m ≡ settled (front ++ 0 ∷ []))
+        → Goes (Leaves (Grows front bytes)) (D.moments disk.old) (D.moments disk.new) }
+    ensures done { (front bytes : List ℕ) → frame.now ≡ frame_of bytes → end ≡ length front
+        → IfTold (D.moments disk.old) (λ m. m ≡ settled (front ++ 0 ∷ []))
+        → OnOk result (IfTold (D.moments disk.new) (λ m. m ≡ settled (front ++ 1 ∷ (framed bytes ++ 0 ∷ [])))) }
+    ensures bounded { OnOk result (end + 1 + length frame.now ≤ 2 ^ 62) }
+    ensures cause { HasCause (D.faults disk.old) (D.faults disk.new) result }
+{
+    write_synced(disk, end + 1, frame)?;
+    write_synced(disk, end, &[OPEN])
+}
