@@ -7,6 +7,9 @@ pub(crate) fn number_of(text: &str) -> Option<u64>
     ensures spelled { IfSome result (λ number. text.now ≡ decimal number) }
     ensures none { IfNone result ((number : ℕ) → number < 2 ^ 64 → ¬ (text.now ≡ decimal number)) }
 {
-    let is_plain = text == "0" || matches!(text.as_bytes().first(), Some(b'1'..=b'9'));
-    if is_plain { text.parse().ok() } else { None }
+    let first = *text.as_bytes().first()?;
+    if first == b'+' || first == b'0' && text.len() > 1 {
+        return None;
+    }
+    text.parse().ok()
 }
