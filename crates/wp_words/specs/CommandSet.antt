@@ -1,0 +1,25 @@
+-- The commands and options of the program, as `clap` reads words by them.
+use Rattle.std.specs.Prelude.{List, [], ◌∷◌, Some, codes, true}
+use Rattle.clap.specs.Words.{App, Rule, Text, new_app, new_rule, with_rule, with_subcommand}
+use Rattle.clap.specs.Simple.{on_top}
+
+-- an option with one value, and its value where it is not given
+abbrev pub number_option : Text → Text → Rule
+number_option name default = record (new_rule name) { long = Some name; defaults = default ∷ [] }
+
+-- a command with the options that each command takes
+abbrev pub command : Text → App
+command name =
+    with_rule (with_rule (with_rule (new_app name)
+    (number_option (codes "bits") (codes "10")))
+    (number_option (codes "limit") (codes "4294967295")))
+    (number_option (codes "id") (codes "1"))
+
+-- the program without its commands: it has no help
+abbrev pub program : App
+program = on_top (λ top. record top { disable_help_flag = true; disable_help_subcommand = true })
+    (new_app (codes "wp"))
+
+abbrev pub command_set : App
+command_set =
+    with_subcommand (with_subcommand program (command (codes "run")).top) (command (codes "show")).top
