@@ -1,0 +1,9 @@
+use Rattle.std.proofs.Common.{ap, ◌∙◌}
+use Rattle.std.specs.FinMap.{remove}
+use Rattle.wp_prepared.proofs.Maps.{from_entries_removed}
+use Rattle.wp_prepared.proofs.prepared.Prepared.remove.Goals as goal
+
+pub returns-clause-delayed_commits : goal.returns-clause-delayed_commits
+returns-clause-delayed_commits c =
+    from_entries_removed _ _ c.args.p c.remove-3.ensures.updates.0
+    ∙ ap (λ t. remove t.delayed_commits c.args.p) c.self.view_is
