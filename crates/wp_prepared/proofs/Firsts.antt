@@ -1,5 +1,5 @@
 -- The first number in an order is the least.
-use Rattle.std.proofs.Common.{◌≡◌, ℕ, ◌<◌, ◌≤◌, true, false, ◌||◌, List, [], ◌∷◌, length, get_or, Option, Some, None, Bor, IsTrue, refl, sym, ap, ◌∙◌, arith}
+use Rattle.std.proofs.Common.{◌≡◌, ℕ, ◌<◌, false, ◌||◌, List, [], ◌∷◌, length, Option, Some, None, Bor, IsTrue, refl, sym, ap, ◌∙◌, arith}
 use Rattle.std.specs.Prelude.{◌↔◌}
 use Rattle.std.specs.Option.{IsSome, IfSome, option_copied}
 use Rattle.std.specs.Cmp.{nat_cmp_total, unsigned_tied}
@@ -33,8 +33,8 @@ least_of_rising [] rising = contains-from_list nat_cmp_total []
 least_of_rising (x ∷ xs) rising = record {
   member = contains-from_list nat_cmp_total (x ∷ xs) x ∙ ap (λ b. b || has xs x) (unsigned_tied x x ∙ eq-eqb x x refl);
   least = λ q there.
-    let found = Any-from_list_any (eq_by_cmp nat_cmp q) (x ∷ xs) (sym (contains-from_list nat_cmp_total (x ∷ xs) q) ∙ there) in
-    let is = eqb-true q found.1 (sym (unsigned_tied q found.1) ∙ found.4) in
-    let not_below = non_decreasing_from_sorted (x ∷ xs) (sorted_from_strictly_increasing (x ∷ xs) rising) 0 found.0 0 (omega arith) found.2 in
-    omega (arith, found.3, get_or_default_zero (x ∷ xs) found.0 found.1 found.2);
+      let found = Any-from_list_any (eq_by_cmp nat_cmp q) (x ∷ xs) (sym (contains-from_list nat_cmp_total (x ∷ xs) q) ∙ there) in
+      let is = eqb-true q found.1 (sym (unsigned_tied q found.1) ∙ found.4) in
+      let not_below = non_decreasing_from_sorted (x ∷ xs) (sorted_from_strictly_increasing (x ∷ xs) rising) 0 found.0 0 (omega arith) found.2 in
+      omega (arith, found.3, get_or_default_zero (x ∷ xs) found.0 found.1 found.2);
 }

@@ -3,7 +3,7 @@ use Rattle.std.proofs.Common.{◌≡◌, ℕ, ◌+◌, ◌-◌, ◌≤◌, Bool,
 use Rattle.std.specs.Cmp.{nat_cmp_total, unsigned_tied}
 use Rattle.std.specs.Ordering.{nat_cmp}
 use Rattle.std.specs.FinSet.{FinSet, contains, insert, remove, len, contains-empty, contains-insert, contains-remove, len-remove, empty_of_len}
-use Rattle.std.proofs.lemmas.Bool.{cases_eq, eq-eqb, ne_eqb, le-ltb, le-leb, both_ways}
+use Rattle.std.proofs.lemmas.Bool.{cases_eq, eq-eqb, ne_eqb, le-ltb, le-leb, both_ways, cond_both}
 
 contains-insert_here : (s : FinSet nat_cmp) (k q : ℕ) → q ≡ k → contains (insert s k) q ≡ true
 contains-insert_here s k q same = contains-insert nat_cmp_total s k q ∙ ap (λ b. b || contains s q) (unsigned_tied q k ∙ eq-eqb q k same)
@@ -44,3 +44,6 @@ len-without s p there =
     let some : len s ≡ 0 → ⊥ = λ none. both_ways (contains s p) (ap (λ t. contains t p) (empty_of_len s none) ∙ contains-empty nat_cmp p) there in
     let less = len-remove nat_cmp_total s p ∙ ap (λ b. cond b (len s - 1) (len s)) there in
     omega arith
+
+pub len-remove_le : (s : FinSet nat_cmp) (p : ℕ) → len (remove s p) ≤ len s
+len-remove_le s p = rw (len-remove nat_cmp_total s p) (cond_both (contains s p) (len s - 1) (len s) (λ n. n ≤ len s) (λ _. omega arith) (λ _. omega arith))

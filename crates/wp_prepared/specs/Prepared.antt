@@ -34,9 +34,9 @@ is_prepared t p = set.contains t.heap p || set.contains t.delayed p
 abbrev pub MovesFit : PreparedTables → Type 0
 MovesFit t = set.len t.heap ≤ t.room
 
--- the tables once the pair (p, c) was evicted: a p that is not prepared leaves them as they were
-abbrev pub evicted : PreparedTables → ℕ → ℕ → PreparedTables
-evicted t p c = if is_prepared t p then record t { delayed_commits = map.insert t.delayed_commits p c } else t
+-- the delayed commits once the pair (p, c) was evicted: it is kept where p is prepared
+abbrev pub commits_with : PreparedTables → ℕ → ℕ → map.FinMap nat_cmp ℕ
+commits_with t p c = if is_prepared t p then map.insert t.delayed_commits p c else t.delayed_commits
 
 -- p is the least prepared number
 pub record IsSmallest (t : PreparedTables) (p : ℕ) : Type 0 where

@@ -11,3 +11,5 @@ pub use prepared::Prepared;
 mod delayed;
 mod heap;
 mod prepared;
+#[cfg(test)]
+mod tests;

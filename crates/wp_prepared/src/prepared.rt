@@ -1,7 +1,7 @@
 ghost use Rattle.std.specs.Prelude.{◌≡◌, ℕ, ◌≤◌, ◌&&◌, ◌||◌, nat_lt, nat_le, false, IsOk, OnOk, OnErr, MatchOption};
 ghost use Rattle.std.specs.FinSet as set;
 ghost use Rattle.std.specs.FinMap as map;
-ghost use Rattle.wp_prepared.specs.Prepared.{nothing_prepared, is_prepared, evicted, MovesFit, NonePrepared, IsSmallest};
+ghost use Rattle.wp_prepared.specs.Prepared.{nothing_prepared, is_prepared, commits_with, MovesFit, NonePrepared, IsSmallest};
 
 use crate::delayed::DelayedSet;
 use crate::heap::PreparedHeap;
@@ -50,7 +50,7 @@ impl Prepared {
 
     /// Takes the memory that `advance` needs, whatever bound it is given.
     pub fn reserve_moves(&mut self) -> Result<(), AllocError>
-        ensures ok { OnOk result (MovesFit self.new) }
+        ensures moves { OnOk result (MovesFit self.new) }
         ensures same_tables { self.new ≡ record self.old { room = self.new.room } }
         ensures room { self.old.room ≤ self.new.room }
     {
@@ -64,7 +64,7 @@ impl Prepared {
         ensures heap { (p : ℕ) → set.contains self.new.heap p ≡ (set.contains self.old.heap p && nat_lt m p) }
         ensures delayed { (p : ℕ) → set.contains self.new.delayed p ≡ (set.contains self.old.delayed p || (set.contains self.old.heap p && nat_le p m)) }
         ensures delayed_commits { self.new.delayed_commits ≡ self.old.delayed_commits }
-        ensures room { MovesFit self.new }
+        ensures moves { MovesFit self.new }
     {
         while let Some(p) = self.heap.pop_up_to(m) {
             self.delayed.insert(p);
@@ -74,7 +74,7 @@ impl Prepared {
     /// Keeps the pair (`p`, `c`), which is about to leave its word of the commit cache, where `p` still stands
     /// here. Only then does it take memory.
     pub fn note_evicted(&mut self, p: Seq, c: Seq) -> Result<(), AllocError>
-        ensures ok { OnOk result (self.new ≡ evicted self.old p c) }
+        ensures ok { OnOk result (self.new ≡ record self.old { delayed_commits = commits_with self.old p c }) }
         ensures err { OnErr result (self.new ≡ self.old) }
         ensures elsewhere { is_prepared self.old p ≡ false → IsOk result }
     {
@@ -89,7 +89,7 @@ impl Prepared {
         ensures heap { self.new.heap ≡ set.remove self.old.heap p }
         ensures delayed { self.new.delayed ≡ set.remove self.old.delayed p }
         ensures delayed_commits { self.new.delayed_commits ≡ map.remove self.old.delayed_commits p }
-        ensures room { self.old.room ≤ self.new.room }
+        ensures moves { MovesFit self.old → MovesFit self.new }
     {
         self.heap.remove(p);
         self.delayed.remove(p);

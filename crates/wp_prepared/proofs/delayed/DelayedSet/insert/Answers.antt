@@ -1,6 +1,5 @@
 use Rattle.std.proofs.Common.{sym, ap, ◌∙◌}
 use Rattle.std.specs.FinSet as set
-use Rattle.std.specs.List.Sorted.{IsStrictlyIncreasing}
 use Rattle.wp_prepared.proofs.Sets.{set_of}
 use Rattle.wp_prepared.proofs.Ascending.{place_of, rising-insert, set_of-insert, set_of-present}
 use Rattle.wp_prepared.proofs.delayed.DelayedSet.insert.Goals as goal

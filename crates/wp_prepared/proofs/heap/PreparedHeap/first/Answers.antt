@@ -1,5 +1,3 @@
-use Rattle.std.proofs.Common.{subst}
-use Rattle.wp_prepared.specs.Least.{IsLeastOrNone}
 use Rattle.wp_prepared.proofs.Firsts.{least_of_first}
 use Rattle.wp_prepared.proofs.heap.PreparedHeap.first.Goals as goal
 

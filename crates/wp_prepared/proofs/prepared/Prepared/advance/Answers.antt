@@ -20,10 +20,10 @@ loop-p-preserved c =
     record {
       heap = λ q. ap (λ s. set.contains s q && nat_lt m q) e.popped ∙ above_stays h c.in-Some.p m e.up_to q ∙ c.loop-p.invariant.heap q;
       delayed = λ q.
-        ap (λ s. set.contains s q || (set.contains c.pop_up_to.new.self q && nat_le q m)) c.insert.ensures.numbers
-        ∙ ap (λ s. set.contains (set.insert d c.in-Some.p) q || (set.contains s q && nat_le q m)) e.popped
-        ∙ delayed_grows h d c.in-Some.p m e.was_there e.up_to q
-        ∙ c.loop-p.invariant.delayed q;
+          ap (λ s. set.contains s q || (set.contains c.pop_up_to.new.self q && nat_le q m)) c.insert.ensures.numbers
+          ∙ ap (λ s. set.contains (set.insert d c.in-Some.p) q || (set.contains s q && nat_le q m)) e.popped
+          ∙ delayed_grows h d c.in-Some.p m e.was_there e.up_to q
+          ∙ c.loop-p.invariant.delayed q;
       delayed_commits = c.loop-p.invariant.delayed_commits;
       room = omega (arith, len-without _ _ e.was_there, ap set.len e.popped);
     }

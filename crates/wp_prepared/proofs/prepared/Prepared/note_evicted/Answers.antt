@@ -1,5 +1,5 @@
 use Rattle.std.proofs.Common.{sym, ap, ◌∙◌}
-use Rattle.wp_prepared.specs.Prepared.{PreparedTables, is_prepared}
+use Rattle.wp_prepared.specs.Prepared.{is_prepared}
 use Rattle.wp_prepared.proofs.Maps.{from_entries_inserted}
 use Rattle.wp_prepared.proofs.prepared.Prepared.note_evicted.Goals as goal
 
