@@ -10,12 +10,14 @@ use std::collections::BTreeMap;
 use std::marker::Model;
 use wp_model::Seq;
 
-/// The prepared tables.
+/// The prepared heap, the delayed set and the delayed commits, which the holder of the prepared turn changes.
+///
+/// A delayed commit (p, c) tells a reader who finds p's word gone that p is committed as c.
 #[derive(Drop)]
 pub struct Prepared {
     heap: PreparedHeap,
     delayed: DelayedSet,
-    commits: BTreeMap<Seq, Seq>,
+    delayed_commits: BTreeMap<Seq, Seq>,
 }
 
 impl Model for Prepared {
@@ -26,7 +28,7 @@ impl Model for Prepared {
 
     ghost coded = { tables_code };
 
-    ghost view = { λ t. record { heap = t.heap; delayed = t.delayed.numbers; delayed_commits = map.from_entries t.commits.entries; room = t.delayed.room } };
+    ghost view = { λ t. record { heap = t.heap; delayed = t.delayed.numbers; delayed_commits = map.from_entries t.delayed_commits.entries; room = t.delayed.room } };
 }
 
 impl Prepared {
@@ -36,7 +38,7 @@ impl Prepared {
         Prepared {
             heap: PreparedHeap::new(alloc),
             delayed: DelayedSet::new(alloc),
-            commits: BTreeMap::new(alloc),
+            delayed_commits: BTreeMap::new(alloc),
         }
     }
 
@@ -79,7 +81,7 @@ impl Prepared {
         ensures elsewhere { is_prepared self.old p ≡ false → IsOk result }
     {
         if self.is_prepared(p) {
-            self.commits.insert(p, c)?;
+            self.delayed_commits.insert(p, c)?;
         }
         Ok(())
     }
@@ -93,7 +95,7 @@ impl Prepared {
     {
         self.heap.remove(p);
         self.delayed.remove(p);
-        self.commits.remove(&p);
+        self.delayed_commits.remove(&p);
     }
 
     /// Whether the number stands in the delayed set.
@@ -107,7 +109,7 @@ impl Prepared {
     pub fn commit_of(&self, p: Seq) -> Option<Seq>
         ensures { result ≡ map.get self.now.delayed_commits p }
     {
-        self.commits.get(&p).copied()
+        self.delayed_commits.get(&p).copied()
     }
 
     fn is_prepared(&self, p: Seq) -> bool
