@@ -1,5 +1,5 @@
 -- What a list of entries, each with its room, shows as snapshots.
-use Rattle.std.proofs.Common.{◌≡◌, ℕ, ◌-◌, ◌<◌, ◌≤◌, Bool, true, false, cond, ◌==◌, List, [], ◌∷◌, Option, Some, None, is_some, IsSome, map, inl, inr, refl, sym, ap, ◌∙◌}
+use Rattle.std.proofs.Common.{◌≡◌, ℕ, ◌-◌, ◌<◌, ◌≤◌, Bool, true, false, cond, ◌==◌, List, [], ◌∷◌, Option, Some, None, is_some, map, inl, inr, refl, sym, ap, ◌∙◌}
 use Rattle.std.specs.Cmp.{nat_cmp_total, unsigned_tied}
 use Rattle.std.specs.Ordering.{nat_cmp, eq_by_cmp}
 use Rattle.std.specs.Option.{option_map}
@@ -7,7 +7,7 @@ use Rattle.std.specs.Map.{lookup}
 use Rattle.std.specs.BTreeMap.{is_at}
 use Rattle.std.specs.FinMap.{find, get, from_entries, get-from_entries, same_map, nat_cmp-IsAntisymmetric}
 use Rattle.std.proofs.lemmas.Bool.{cases_eq, eq-eqb, ne_eqb, le-leb, lt-leb}
-use Rattle.wp_snaps.specs.Snapshots.{Snapshot, Snapshots, IsLive, released, ChangesWhere}
+use Rattle.wp_snaps.specs.Snapshots.{Snapshot, Snapshots, after_release, ChangesWhere}
 use Rattle.wp_snaps.specs.Room.{RoomySnapshot}
 
 -- the entries without their room
@@ -74,17 +74,17 @@ pub is_some-option_map : {X Y : Type 0} (f : X → Y) (o : Option X) → is_some
 is_some-option_map f None = refl
 is_some-option_map f (Some x) = refl
 
--- a live number has an entry
-pub entry_of_live : (es : List (ℕ × RoomySnapshot)) (m : Snapshots) (s : ℕ) → shown_of es ≡ m → IsLive m s → IsSome (value_at es s)
-entry_of_live es m s is live =
-    sym (is_some-option_map (λ x. x.snapshot) (value_at es s)) ∙ ap is_some (sym (get-shown_of es s)) ∙ ap (λ n. is_some (get n s)) is ∙ live
+-- just the live numbers have an entry
+pub is_live : (es : List (ℕ × RoomySnapshot)) (m : Snapshots) (s : ℕ) → shown_of es ≡ m → is_some (get m s) ≡ is_some (value_at es s)
+is_live es m s is = ap (λ n. is_some (get n s)) (sym is) ∙ ap is_some (get-shown_of es s) ∙ is_some-option_map (λ x. x.snapshot) (value_at es s)
 
 -- what is live at s is what its entry shows
 pub get_of_entry : (es : List (ℕ × RoomySnapshot)) (m : Snapshots) (s : ℕ) (x : RoomySnapshot) → shown_of es ≡ m → Some x ≡ value_at es s → get m s ≡ Some x.snapshot
 get_of_entry es m s x is found = ap (λ n. get n s) (sym is) ∙ get-shown_of es s ∙ ap shown (sym found)
 
-pub released_shared : (x : Snapshot) → 1 < x.registrations → released (Some x) ≡ Some (record x { registrations = x.registrations - 1 })
-released_shared x shared = rw (lt-leb x.registrations 1 shared) refl
+-- of several registrations one goes, of one the snapshot goes
+pub after_release-shared : (x : Snapshot) → 1 < x.registrations → after_release (Some x) ≡ Some (record x { registrations = x.registrations - 1 })
+after_release-shared x shared = rw (lt-leb x.registrations 1 shared) refl
 
-pub released_last : (x : Snapshot) → x.registrations ≤ 1 → released (Some x) ≡ None
-released_last x last = rw (le-leb x.registrations 1 last) refl
+pub after_release-last : (x : Snapshot) → x.registrations ≤ 1 → after_release (Some x) ≡ None
+after_release-last x last = rw (le-leb x.registrations 1 last) refl

@@ -1,8 +1,8 @@
-//! What the old commit map does at each live number of a range.
+//! How a prepare number comes under each live number of a range: first the memory, then the number.
 ghost use Rattle.std.specs.Prelude.{◌≡◌, ℕ, ◌<◌, ◌≤◌, OnOk, IsSome, MatchOption};
 ghost use Rattle.std.specs.Ordering.{nat_cmp};
 ghost use Rattle.std.specs.BTreeMap.{get};
-ghost use Rattle.wp_snaps.specs.Snapshots.{ChangesWhere, is_hidden_at, keeping};
+ghost use Rattle.wp_snaps.specs.Snapshots.{ChangesWhere, overlaps, after_keep};
 ghost use Rattle.wp_snaps.specs.Room.{snapshots_of, HasRoom, NoneLive, IsNextLive};
 
 use crate::snapshot::Snapshot;
@@ -29,8 +29,8 @@ pub fn reserve_each(
 {
     let mut from = start;
     while let Some(s) = next_live(live, from, end) {
-        live.get_mut(&s).unwrap().reserve()?;
         from = s + 1;
+        live.get_mut(&s).unwrap().reserve()?;
     }
     Ok(())
 }
@@ -38,11 +38,11 @@ pub fn reserve_each(
 /// Puts `p` under each live number from `p` on and below `c`, in memory that was taken before.
 pub fn keep_each(live: &mut BTreeMap<Seq, Snapshot>, p: Seq, c: Seq)
     requires { HasRoom live.old p c }
-    ensures { ChangesWhere (is_hidden_at p c) (keeping p) (snapshots_of live.old) (snapshots_of live.new) }
+    ensures { ChangesWhere (overlaps p c) (after_keep p) (snapshots_of live.old) (snapshots_of live.new) }
 {
     let mut from = p;
     while let Some(s) = next_live(live, from, c) {
-        live.get_mut(&s).unwrap().keep(p);
         from = s + 1;
+        live.get_mut(&s).unwrap().keep(p);
     }
 }

@@ -1,10 +1,10 @@
 //! The live snapshots: which snapshot numbers are registered, how often, and what the old commit map has under
 //! each.
 //!
-//! A snapshot number is live from its first registration to the release of its last. Before the pair (p, c) of a
-//! committed transaction leaves the commit cache, p is kept under each live s with p <= s < c: such a snapshot
-//! must go on not to see p, and would else take an evicted number at most s for committed. What stands under s
-//! goes with its last registration.
+//! A snapshot number is live from its first registration to the release of its last. A reader at s takes a number
+//! whose pair left the commit cache for committed before s, unless the old commit map has it under s. So before the
+//! pair (p, c) leaves, p is kept under each live s with p <= s < c. A number that becomes live later is at least c,
+//! and needs nothing of it.
 #![tactic(auto)]
 
 pub use live::Live;
@@ -14,3 +14,5 @@ mod kept;
 mod live;
 mod snaps;
 mod snapshot;
+#[cfg(test)]
+mod tests;

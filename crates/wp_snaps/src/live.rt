@@ -22,7 +22,7 @@ impl<'a> Model for Live<'a> {
 
 impl<'a> Live<'a> {
     pub(crate) fn new(numbers: Keys<'a, Seq, Snapshot>) -> Live<'a>
-        ensures { result ≡ numbers }
+        ensures { result ≡ numbers.entry }
     {
         Live { numbers }
     }

@@ -6,10 +6,10 @@ use std::collections::HashSet;
 use std::marker::Model;
 use wp_model::Seq;
 
-/// A live snapshot number: its registrations, at least one, and what the old commit map has under it.
+/// A live snapshot: how often it is registered, and the prepare numbers that the old commit map has under it.
 ///
-/// The prepare numbers are only looked up, and in no order, so a hash set serves: it can take the memory for a
-/// number before the number is put in.
+/// These are asked for one by one and never listed, so a hash set serves. Unlike an ordered set it can take the
+/// memory for a number before the number goes in.
 #[derive(Drop)]
 pub struct Snapshot {
     registrations: u64,
@@ -38,8 +38,7 @@ impl Snapshot {
         }
     }
 
-    /// Raises the count of registrations. At its type's end it can't, and that is told as want of memory: so
-    /// many registrations can't be held.
+    /// Refused where the count is at its type's end.
     pub fn register(&mut self) -> Result<(), AllocError>
         ensures ok { OnOk result (self.new.snapshot ≡ record self.old.snapshot { registrations = self.old.snapshot.registrations + 1 }) }
         ensures err { OnErr result (self.new ≡ self.old) }

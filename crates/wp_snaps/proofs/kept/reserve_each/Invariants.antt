@@ -1,4 +1,4 @@
-use Rattle.std.proofs.Common.{◌≡◌, ◌-◌, ◌≤◌}
+use Rattle.std.proofs.Common.{◌≡◌, ◌-◌}
 use Rattle.wp_snaps.specs.Room.{snapshots_of, HasRoom}
 use Rattle.wp_snaps.proofs.kept.reserve_each.Given as goal
 
