@@ -1,0 +1,5 @@
+pub mod Ascending
+pub mod Firsts
+pub mod Maps
+pub mod Moves
+pub mod Sets

@@ -1,0 +1,131 @@
+ghost use Rattle.std.specs.Prelude.{◌≡◌, ℕ, ◌≤◌, ◌&&◌, ◌||◌, nat_lt, nat_le, false, IsOk, OnOk, OnErr, MatchOption};
+ghost use Rattle.std.specs.FinSet as set;
+ghost use Rattle.std.specs.FinMap as map;
+ghost use Rattle.wp_prepared.specs.Prepared.{nothing_prepared, is_prepared, commits_with, MovesFit, NonePrepared, IsSmallest};
+
+use crate::delayed::DelayedSet;
+use crate::heap::PreparedHeap;
+use std::alloc::{AllocError, Global};
+use std::collections::BTreeMap;
+use std::marker::Model;
+use wp_model::Seq;
+
+/// The prepared heap, the delayed set and the delayed commits, which the holder of the prepared turn changes.
+///
+/// A delayed commit (p, c) tells a reader who finds p's word gone that p is committed as c.
+#[derive(Drop)]
+pub struct Prepared {
+    heap: PreparedHeap,
+    delayed: DelayedSet,
+    delayed_commits: BTreeMap<Seq, Seq>,
+}
+
+impl Model for Prepared {
+    ghost use Rattle.std.specs.FinMap as map;
+    ghost use Rattle.wp_prepared.specs.Prepared.{PreparedTables, tables_code};
+
+    ghost Value = { PreparedTables };
+
+    ghost coded = { tables_code };
+
+    ghost view = { λ t. record { heap = t.heap; delayed = t.delayed.numbers; delayed_commits = map.from_entries t.delayed_commits.entries; room = t.delayed.room } };
+}
+
+impl Prepared {
+    pub fn new(alloc: Global) -> Prepared
+        ensures { result ≡ nothing_prepared }
+    {
+        Prepared {
+            heap: PreparedHeap::new(alloc),
+            delayed: DelayedSet::new(alloc),
+            delayed_commits: BTreeMap::new(alloc),
+        }
+    }
+
+    /// Puts the number of a Prepare entry into the heap, before the entry is published.
+    pub fn add(&mut self, p: Seq) -> Result<(), AllocError>
+        ensures ok { OnOk result (self.new ≡ record self.old { heap = set.insert self.old.heap p }) }
+        ensures err { OnErr result (self.new ≡ self.old) }
+    {
+        self.heap.insert(p)
+    }
+
+    /// Takes the memory that `advance` needs, whatever bound it is given.
+    pub fn reserve_moves(&mut self) -> Result<(), AllocError>
+        ensures moves { OnOk result (MovesFit self.new) }
+        ensures same_tables { self.new ≡ record self.old { room = self.new.room } }
+        ensures room { self.old.room ≤ self.new.room }
+    {
+        self.delayed.reserve(self.heap.len())
+    }
+
+    /// Moves each number of the heap that is at most `m` to the delayed set, before the evicted bound is stored
+    /// as `m`.
+    pub fn advance(&mut self, m: Seq)
+        requires { MovesFit self.old }
+        ensures heap { (p : ℕ) → set.contains self.new.heap p ≡ (set.contains self.old.heap p && nat_lt m p) }
+        ensures delayed { (p : ℕ) → set.contains self.new.delayed p ≡ (set.contains self.old.delayed p || (set.contains self.old.heap p && nat_le p m)) }
+        ensures delayed_commits { self.new.delayed_commits ≡ self.old.delayed_commits }
+        ensures moves { MovesFit self.new }
+    {
+        while let Some(p) = self.heap.pop_up_to(m) {
+            self.delayed.insert(p);
+        }
+    }
+
+    /// Keeps the pair (`p`, `c`), which is about to leave its word of the commit cache, where `p` still stands
+    /// here. Only then does it take memory.
+    pub fn note_evicted(&mut self, p: Seq, c: Seq) -> Result<(), AllocError>
+        ensures ok { OnOk result (self.new ≡ record self.old { delayed_commits = commits_with self.old p c }) }
+        ensures err { OnErr result (self.new ≡ self.old) }
+        ensures elsewhere { is_prepared self.old p ≡ false → IsOk result }
+    {
+        if self.is_prepared(p) {
+            self.delayed_commits.insert(p, c)?;
+        }
+        Ok(())
+    }
+
+    /// Takes out the number of a transaction that is decided, with its delayed commit.
+    pub fn remove(&mut self, p: Seq)
+        ensures heap { self.new.heap ≡ set.remove self.old.heap p }
+        ensures delayed { self.new.delayed ≡ set.remove self.old.delayed p }
+        ensures delayed_commits { self.new.delayed_commits ≡ map.remove self.old.delayed_commits p }
+        ensures moves { MovesFit self.old → MovesFit self.new }
+    {
+        self.heap.remove(p);
+        self.delayed.remove(p);
+        self.delayed_commits.remove(&p);
+    }
+
+    /// Whether the number stands in the delayed set.
+    pub fn delayed(&self, p: Seq) -> bool
+        ensures { result ≡ set.contains self.now.delayed p }
+    {
+        self.delayed.contains(p)
+    }
+
+    /// The commit number of the pair of `p` that was evicted while `p` stood here.
+    pub fn commit_of(&self, p: Seq) -> Option<Seq>
+        ensures { result ≡ map.get self.now.delayed_commits p }
+    {
+        self.delayed_commits.get(&p).copied()
+    }
+
+    fn is_prepared(&self, p: Seq) -> bool
+        ensures { result ≡ is_prepared self.now p }
+    {
+        self.heap.contains(p) || self.delayed.contains(p)
+    }
+
+    /// The least number that is in the heap or in the delayed set.
+    pub fn smallest(&self) -> Option<Seq>
+        ensures { MatchOption result (NonePrepared self.now) (IsSmallest self.now) }
+    {
+        match (self.heap.first(), self.delayed.first()) {
+            (Some(first), Some(delayed)) => Some(first.min(delayed)),
+            (Some(only), None) | (None, Some(only)) => Some(only),
+            (None, None) => None,
+        }
+    }
+}

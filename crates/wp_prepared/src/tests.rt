@@ -1,0 +1,35 @@
+use crate::Prepared;
+use std::test::Fail;
+
+#[test]
+fn a_number_goes_from_the_heap_to_the_delayed_set_and_out(rt: HostRuntime) -> Result<(), Fail> {
+    let mut prepared = Prepared::new(rt.alloc());
+    prepared.add(1)?;
+    prepared.add(2)?;
+    prepared.add(5)?;
+    prepared.remove(2);
+    assert_eq!(rt; prepared.smallest(), Some(1));
+    prepared.remove(1);
+    assert_eq!(rt; prepared.smallest(), Some(5));
+
+    prepared.reserve_moves()?;
+    prepared.advance(5);
+    assert!(rt; prepared.delayed(5));
+    prepared.note_evicted(5, 7)?;
+    assert_eq!(rt; prepared.commit_of(5), Some(7));
+
+    prepared.remove(5);
+    assert_eq!(rt; prepared.commit_of(5), None);
+    assert_eq!(rt; prepared.smallest(), None);
+    Ok(())
+}
+
+#[test]
+fn a_pair_whose_number_stands_nowhere_is_not_kept(rt: HostRuntime) -> Result<(), Fail> {
+    let mut prepared = Prepared::new(rt.alloc());
+    prepared.add(1)?;
+    prepared.note_evicted(2, 3)?;
+    assert_eq!(rt; prepared.commit_of(2), None);
+    assert_eq!(rt; prepared.smallest(), Some(1));
+    Ok(())
+}

@@ -1,0 +1,4 @@
+pub mod Changes
+pub mod Rooms
+pub mod Sets
+pub mod Shown

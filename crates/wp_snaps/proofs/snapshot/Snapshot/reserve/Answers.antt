@@ -1,0 +1,7 @@
+use Rattle.wp_snaps.proofs.Sets.{set_of_reordered}
+use Rattle.wp_snaps.proofs.snapshot.Snapshot.reserve.Goals as goal
+
+pub returns-clause-same_snapshot : goal.returns-clause-same_snapshot
+returns-clause-same_snapshot c =
+    let kept = set_of_reordered _ _ c.reserve.ensures.keys.2 in
+    rw (← c.self.view_is) (cc)

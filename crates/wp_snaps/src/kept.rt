@@ -1,0 +1,48 @@
+//! How a prepare number comes under each live number of a range: first the memory, then the number.
+ghost use Rattle.std.specs.Prelude.{◌≡◌, ℕ, ◌<◌, ◌≤◌, OnOk, IsSome, MatchOption};
+ghost use Rattle.std.specs.Ordering.{nat_cmp};
+ghost use Rattle.std.specs.BTreeMap.{get};
+ghost use Rattle.wp_snaps.specs.Snapshots.{ChangesWhere, overlaps, after_keep};
+ghost use Rattle.wp_snaps.specs.Room.{snapshots_of, HasRoom, NoneLive, IsNextLive};
+
+use crate::snapshot::Snapshot;
+use std::alloc::AllocError;
+use std::collections::BTreeMap;
+use wp_model::Seq;
+
+/// The least live number from `from` on, where it is below `end`.
+fn next_live(live: &BTreeMap<Seq, Snapshot>, from: Seq, end: Seq) -> Option<Seq>
+    ensures { MatchOption result (NoneLive live.now from end) (IsNextLive live.now from end) }
+{
+    let (s, _) = live.range(from..).next()?;
+    (*s < end).then_some(*s)
+}
+
+/// Takes the memory for one number more under each live number from `start` on and below `end`.
+pub fn reserve_each(
+    live: &mut BTreeMap<Seq, Snapshot>,
+    start: Seq,
+    end: Seq,
+) -> Result<(), AllocError>
+    ensures ok { OnOk result (HasRoom live.new start end) }
+    ensures same_snapshots { snapshots_of live.new ≡ snapshots_of live.old }
+{
+    let mut from = start;
+    while let Some(s) = next_live(live, from, end) {
+        from = s + 1;
+        live.get_mut(&s).unwrap().reserve()?;
+    }
+    Ok(())
+}
+
+/// Puts `p` under each live number from `p` on and below `c`, in memory that was taken before.
+pub fn keep_each(live: &mut BTreeMap<Seq, Snapshot>, p: Seq, c: Seq)
+    requires { HasRoom live.old p c }
+    ensures { ChangesWhere (overlaps p c) (after_keep p) (snapshots_of live.old) (snapshots_of live.new) }
+{
+    let mut from = p;
+    while let Some(s) = next_live(live, from, c) {
+        from = s + 1;
+        live.get_mut(&s).unwrap().keep(p);
+    }
+}

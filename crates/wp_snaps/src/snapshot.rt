@@ -1,0 +1,83 @@
+ghost use Rattle.std.specs.Prelude.{◌≡◌, ◌+◌, ◌-◌, ◌<◌, ◌≤◌, OnOk, OnErr, IsTrue, ◌↔◌};
+ghost use Rattle.std.specs.FinSet as set;
+
+use std::alloc::{AllocError, Global};
+use std::collections::HashSet;
+use std::marker::Model;
+use wp_model::Seq;
+
+/// A live snapshot: how often it is registered, and the prepare numbers that the old commit map has under it.
+///
+/// These are asked for one by one and never listed, so a hash set serves. Unlike an ordered set it can take the
+/// memory for a number before the number goes in.
+#[derive(Drop)]
+pub struct Snapshot {
+    registrations: u64,
+    kept: HashSet<Seq>,
+}
+
+impl Model for Snapshot {
+    ghost use Rattle.std.specs.FinSet as set;
+    ghost use Rattle.std.specs.HashSet.{spare};
+    ghost use Rattle.wp_snaps.specs.Room.{RoomySnapshot, roomy_code};
+
+    ghost Value = { RoomySnapshot };
+
+    ghost coded = { roomy_code };
+
+    ghost view = { λ s. record { snapshot = record { registrations = s.registrations; kept = set.from_list s.kept.keys }; room = spare s.kept } };
+}
+
+impl Snapshot {
+    pub fn new(alloc: Global) -> Snapshot
+        ensures { result.snapshot ≡ record { registrations = 1; kept = set.empty } }
+    {
+        Snapshot {
+            registrations: 1,
+            kept: HashSet::new(alloc),
+        }
+    }
+
+    /// Refused where the count is at its type's end.
+    pub fn register(&mut self) -> Result<(), AllocError>
+        ensures ok { OnOk result (self.new.snapshot ≡ record self.old.snapshot { registrations = self.old.snapshot.registrations + 1 }) }
+        ensures err { OnErr result (self.new ≡ self.old) }
+    {
+        self.registrations = self.registrations.checked_add(1).ok_or(AllocError)?;
+        Ok(())
+    }
+
+    pub fn is_registered_once(&self) -> bool
+        ensures { IsTrue result ↔ (self.now.snapshot.registrations ≤ 1) }
+    {
+        self.registrations <= 1
+    }
+
+    pub fn release(&mut self)
+        requires { 1 < self.old.snapshot.registrations }
+        ensures { self.new ≡ record self.old { snapshot = record self.old.snapshot { registrations = self.old.snapshot.registrations - 1 } } }
+    {
+        self.registrations -= 1;
+    }
+
+    pub fn keeps(&self, p: Seq) -> bool
+        ensures { result ≡ set.contains self.now.snapshot.kept p }
+    {
+        self.kept.contains(&p)
+    }
+
+    /// Takes the memory for one number more.
+    pub fn reserve(&mut self) -> Result<(), AllocError>
+        ensures ok { OnOk result (0 < self.new.room) }
+        ensures same_snapshot { self.new.snapshot ≡ self.old.snapshot }
+    {
+        self.kept.reserve(1)
+    }
+
+    pub fn keep(&mut self, p: Seq)
+        requires { 0 < self.old.room }
+        ensures { self.new.snapshot ≡ record self.old.snapshot { kept = set.insert self.old.snapshot.kept p } }
+    {
+        self.kept.insert(p).unwrap();
+    }
+}

@@ -1,0 +1,22 @@
+use crate::Snaps;
+use std::test::Fail;
+
+#[test]
+fn what_stands_under_a_snapshot_goes_with_its_last_registration(
+    rt: HostRuntime,
+) -> Result<(), Fail> {
+    let mut snaps = Snaps::new(rt.alloc());
+    snaps.register(2)?;
+    snaps.register(2)?;
+    snaps.keep_evicted(2, 3)?;
+    assert!(rt; !snaps.shows(2, 2));
+    assert!(rt; snaps.shows(2, 1));
+
+    snaps.release(2);
+    assert!(rt; !snaps.shows(2, 2));
+    assert!(rt; snaps.shows(2, 1));
+
+    snaps.release(2);
+    assert_eq!(rt; snaps.live().count(), 0);
+    Ok(())
+}
