@@ -1,7 +1,7 @@
 -- A log is opened.
 use Rattle.std.proofs.Common.{◌≡◌, ◌≢◌, ◌⊎◌, inl, inr, ℕ, ◌+◌, ◌<◌, ◌≤◌, List, [], ◌∷◌, ◌++◌, length, drop, Option, Result, Ok, Err, IfOk, IfErr, refl, sym, ◌∙◌, ap, subst, arith, length-append}
 use Rattle.std.proofs.lemmas.List.{append_assoc, drop_at}
-use Rattle.wp_outside.specs.Disk.{Moment, settled, IfTold, Adds, after_sync, Each}
+use Rattle.wp_outside.specs.Disk.{Moment, settled, IfTold, added, after_sync, Each}
 use Rattle.wp_gatelog.specs.declared.error.LogError.{LogError}
 use Rattle.wp_gatelog.specs.declared.error.LogError.TheVariants.{Memory, DiskFault, BadHead, Cut}
 use Rattle.wp_gatelog.specs.declared.gate.Gate.{Gate}
@@ -103,11 +103,11 @@ made_rests magic id records four none m on = record {
 -- ---- behind the first sync
 
 -- where the disk tells, it has the bytes for good that it read
-pub synced_bytes : (old mid : List Moment) → Adds after_sync old mid → (bytes : List ℕ) × IfTold mid (λ m. m ≡ settled bytes)
+pub synced_bytes : (old mid : List Moment) → mid ≡ added after_sync old → (bytes : List ℕ) × IfTold mid (λ m. m ≡ settled bytes)
 synced_bytes [] mid synced = ([], subst (λ (ms : List Moment). IfTold ms (λ m. m ≡ settled [])) (sym synced) tt)
 synced_bytes (m ∷ past) mid synced = (m.reads, subst (λ (ms : List Moment). IfTold ms (λ n. n ≡ settled m.reads)) (sym synced) refl)
 
-pub synced_goes : (magic : List ℕ) (asked : ℕ) (old mid new : List Moment) → Adds after_sync old mid
+pub synced_goes : (magic : List ℕ) (asked : ℕ) (old mid new : List Moment) → mid ≡ added after_sync old
   → ((bytes : List ℕ) → IfTold mid (λ m. m ≡ settled bytes) → Goes (Leaves (Mends magic asked bytes)) mid new) → IfTold old (λ m. Goes (Leaves (Mends magic asked m.reads)) old new)
 synced_goes magic asked [] mid new synced goes = tt
 synced_goes magic asked (m ∷ past) mid new synced goes =
@@ -116,17 +116,17 @@ synced_goes magic asked (m ∷ past) mid new synced goes =
     goes_on P (m ∷ past) mid new
       (subst (λ (ms : List Moment). Goes P (m ∷ past) ms) (sym synced) (settled m.reads ∷ [], refl, (λ image h. inl (image_of_settled m.reads image h), tt))) rest
 
-synced_told : (P : List ℕ → Type 0) (old mid : List Moment) → Adds after_sync old mid → ((bytes : List ℕ) → IfTold mid (λ m. m ≡ settled bytes) → IfTold mid (λ _. P bytes)) → IfTold old (λ m. P m.reads)
+synced_told : (P : List ℕ → Type 0) (old mid : List Moment) → mid ≡ added after_sync old → ((bytes : List ℕ) → IfTold mid (λ m. m ≡ settled bytes) → IfTold mid (λ _. P bytes)) → IfTold old (λ m. P m.reads)
 synced_told P [] mid synced told = tt
 synced_told P (m ∷ past) mid synced told =
     subst (λ (ms : List Moment). IfTold ms (λ _. P m.reads)) synced (told m.reads (subst (λ (ms : List Moment). IfTold ms (λ n. n ≡ settled m.reads)) (sym synced) refl))
 
-pub synced_found : {T E : Type 0} (result : Result T E) (P : T → List ℕ → Type 0) (old mid : List Moment) → Adds after_sync old mid
+pub synced_found : {T E : Type 0} (result : Result T E) (P : T → List ℕ → Type 0) (old mid : List Moment) → mid ≡ added after_sync old
   → ((bytes : List ℕ) → IfTold mid (λ m. m ≡ settled bytes) → IfOk result (λ x. IfTold mid (λ _. P x bytes))) → IfOk result (λ x. IfTold old (λ m. P x m.reads))
 synced_found (Ok x) P old mid synced found = synced_told (P x) old mid synced found
 synced_found (Err e) P old mid synced found = tt
 
-pub synced_refused : {T E : Type 0} (result : Result T E) (P : E → List ℕ → Type 0) (old mid : List Moment) → Adds after_sync old mid
+pub synced_refused : {T E : Type 0} (result : Result T E) (P : E → List ℕ → Type 0) (old mid : List Moment) → mid ≡ added after_sync old
   → ((bytes : List ℕ) → IfTold mid (λ m. m ≡ settled bytes) → IfErr result (λ e. IfTold mid (λ _. P e bytes))) → IfErr result (λ e. IfTold old (λ m. P e m.reads))
 synced_refused (Ok x) P old mid synced refused = tt
 synced_refused (Err e) P old mid synced refused = synced_told (P e) old mid synced refused

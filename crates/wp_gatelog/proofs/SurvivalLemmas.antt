@@ -2,15 +2,15 @@
 use Rattle.std.proofs.Common.{◌≡◌, ◌≢◌, ◌⊎◌, inl, inr, ℕ, ◌+◌, ◌<◌, ◌≤◌, ◌^◌, List, [], ◌∷◌, ◌++◌, map, length, refl, sym, ◌∙◌, ap, subst, arith, length-append}
 use Rattle.std.proofs.lemmas.Bool.{cases_eq}
 use Rattle.std.proofs.lemmas.List.{append_assoc, map_push, same_from_push}
-use Rattle.wp_outside.specs.Disk.{Moment, IfTold, IsImage, images, settled, Each}
-use Rattle.wp_gatelog.specs.Log.{IsAcknowledged, IsAtRest, BeforeOrAfter, Grows, last_gate}
+use Rattle.wp_outside.specs.Disk.{Moment, IfTold, IsImage, images, settled, Each, Passes}
+use Rattle.wp_gatelog.specs.Log.{IsAcknowledged, IsAtRest, BeforeOrAfter, KeepsAcknowledged, Grows, last_gate}
 use Rattle.wp_gatelog.specs.Mending.{KeepsFront, Mended}
 use Rattle.wp_gatelog.specs.Moments.{Leaves, Goes}
 use Rattle.wp_gatelog.specs.Opening.{Keeps, Survives, Mends, SurvivesThrough, StaysThrough}
 use Rattle.wp_gatelog.specs.Spelling.{Gated, IsOpen, framed, identity, all_gated, log_of, records_of, IsUnmade, Stands, Spells}
 use Rattle.wp_gatelog.proofs.AppendLemmas.{records_more, log_more, last_gate_more}
 use Rattle.wp_gatelog.proofs.MendLemmas.{each_but_last, keeps_more}
-use Rattle.wp_gatelog.proofs.MomentLemmas.{goes_map, image_of_settled}
+use Rattle.wp_gatelog.proofs.MomentLemmas.{goes_map, passes_map, left_now, image_of_settled}
 use Rattle.wp_gatelog.proofs.ParseLemmas.{same_log, SameLog}
 
 -- ---- gates of any byte
@@ -128,8 +128,8 @@ module _ (magic : List ℕ) (id : ℕ) (records : List (List ℕ)) (bytes : List
         (records_more acked w.0 bytes acknowledged.gates_open w.1) (inl refl) (inl refl) (sym stands.spelling ∙ is) in
       mended_after magic other id head gated acked w.0 bytes image same.head same.named same.gated w.1 mended
 
-  pub acknowledged_stay : (asked : ℕ) (found image : List ℕ) → BeforeOrAfter magic id records bytes found → Mends magic asked found image → BeforeOrAfter magic id records bytes image
-  acknowledged_stay asked found image before (inl same) = subst (λ (l : List ℕ). BeforeOrAfter magic id records bytes l) (sym same) before
+  pub acknowledged_stay : (asked : ℕ) (found image : List ℕ) → KeepsAcknowledged magic id records bytes found → Mends magic asked found image → KeepsAcknowledged magic id records bytes image
+  acknowledged_stay asked found image before (inl same) = subst (λ (l : List ℕ). KeepsAcknowledged magic id records bytes l) (sym same) before
   acknowledged_stay asked found image before (inr (inl w)) = absurd (grows_made before.gated found before.grows w.0)
   acknowledged_stay asked found image before (inr (inr w)) = record {
     gated = before.gated;
@@ -147,7 +147,7 @@ survives_through magic asked (m ∷ past) new goes =
 pub stays_through : (magic : List ℕ) (asked : ℕ) (old new : List Moment) → IfTold old (λ m. Goes (Leaves (Mends magic asked m.reads)) old new) → StaysThrough magic old new
 stays_through magic asked [] new goes = tt
 stays_through magic asked (m ∷ past) new goes = λ id records bytes before.
-    goes_map (Leaves (Mends magic asked m.reads)) (Leaves (BeforeOrAfter magic id records bytes)) (λ n leaves image h. acknowledged_stay magic id records bytes asked m.reads image before (leaves image h)) (m ∷ past) new goes
+    goes_map (Leaves (Mends magic asked m.reads)) (Leaves (KeepsAcknowledged magic id records bytes)) (λ n leaves image h. acknowledged_stay magic id records bytes asked m.reads image before (leaves image h)) (m ∷ past) new goes
 
 -- a crash of a log at rest leaves its records
 pub rest_spells : (magic : List ℕ) (id end : ℕ) (records : List (List ℕ)) (ms : List Moment) → IfTold ms (IsAtRest magic id end records) → (image : List ℕ) → images ms image → Spells image magic id records
@@ -158,11 +158,11 @@ rest_spells magic id end records (m ∷ past) rest image h =
       (spells_log magic id 1 rest.gated image one_open rest.acknowledged.gates_open ([], is))
 
 -- before or after, an image spells the records without the new one or with it
-pub before_or_after_spells : (magic : List ℕ) (id : ℕ) (records : List (List ℕ)) (bytes image : List ℕ) → BeforeOrAfter magic id records bytes image
-  → Spells image magic id records ⊎ Spells image magic id (records ++ bytes ∷ [])
-before_or_after_spells magic id records bytes image before = cases before.grows
+pub before_or_after : (magic : List ℕ) (id : ℕ) (records : List (List ℕ)) (bytes image : List ℕ) → KeepsAcknowledged magic id records bytes image
+  → BeforeOrAfter magic id records bytes image
+before_or_after magic id records bytes image before = cases before.grows
   where
-    cases : Grows (log_of magic id 1 before.gated) bytes image → Spells image magic id records ⊎ Spells image magic id (records ++ bytes ∷ [])
+    cases : Grows (log_of magic id 1 before.gated) bytes image → BeforeOrAfter magic id records bytes image
     cases (behind, inl is) =
         inl (subst (λ (rs : List (List ℕ)). Spells image magic id rs) (sym before.acknowledged.same)
           (spells_log magic id 1 before.gated image one_open before.acknowledged.gates_open (behind, is)))
@@ -171,3 +171,22 @@ before_or_after_spells magic id records bytes image before = cases before.grows
           (map_push (λ (g : Gated). g.bytes) before.gated (record { gate = w.0; bytes = bytes }) ∙ ap (λ (rs : List (List ℕ)). rs ++ bytes ∷ []) (sym before.acknowledged.same))
           (spells_log magic id 1 (before.gated ++ record { gate = w.0; bytes = bytes } ∷ []) image one_open
             (records_more before.gated w.0 bytes before.acknowledged.gates_open w.1) (behind, keeps_more magic id 1 before.gated w.0 bytes behind image w.2)))
+
+pub passes_before_or_after : (magic : List ℕ) (id : ℕ) (records : List (List ℕ)) (bytes : List ℕ) (old new : List Moment)
+  → Passes (Leaves (KeepsAcknowledged magic id records bytes)) old new → Passes (Leaves (BeforeOrAfter magic id records bytes)) old new
+passes_before_or_after magic id records bytes old new =
+    passes_map (Leaves (KeepsAcknowledged magic id records bytes)) (Leaves (BeforeOrAfter magic id records bytes))
+      (λ m leaves image h. before_or_after magic id records bytes image (leaves image h)) old new
+
+pub left_before_or_after : (magic : List ℕ) (id end : ℕ) (records : List (List ℕ)) (bytes : List ℕ) (old new : List Moment) → IfTold old (IsAtRest magic id end records)
+  → Passes (Leaves (KeepsAcknowledged magic id records bytes)) old new → (image : List ℕ) → images new image → BeforeOrAfter magic id records bytes image
+left_before_or_after magic id end records bytes old new rest passes =
+    left_now (BeforeOrAfter magic id records bytes) old new (λ image h. inl (rest_spells magic id end records old rest image h))
+      (passes_before_or_after magic id records bytes old new passes)
+
+pub rest_acknowledged : (magic : List ℕ) (id end : ℕ) (records : List (List ℕ)) (bytes : List ℕ) (m : Moment) → IsAtRest magic id end records m → Leaves (KeepsAcknowledged magic id records bytes) m
+rest_acknowledged magic id end records bytes m rest image h = record {
+  gated = rest.gated;
+  acknowledged = rest.acknowledged;
+  grows = ([], inl (image_of_settled (log_of magic id 1 rest.gated ++ 0 ∷ []) image (subst (λ (n : Moment). IsImage n image) rest.settled_on h)));
+}

@@ -1,11 +1,11 @@
 //! A log that stands open.
 
 ghost use Rattle.std.specs.Prelude.{◌≡◌, ℕ, ◌+◌, ◌≤◌, ◌^◌, [], ◌∷◌, ◌++◌, List, length, false, IfOk, IfErr, OnOk, MatchResult};
-ghost use Rattle.wp_outside.specs.Disk.{IfTold, Passes, settled, images};
+ghost use Rattle.wp_outside.specs.Disk.{IfTold, Passes, settled, images, added, after_write, after_sync};
 ghost use Rattle.wp_outside.specs.Faults.{HasCause};
 ghost use Rattle.wp_gatelog.specs.Append.{Appended, Refuses};
 ghost use Rattle.wp_gatelog.specs.Errors.{FaultRose};
-ghost use Rattle.wp_gatelog.specs.Log.{Grows, BeforeOrAfter, IsFrame, Rests};
+ghost use Rattle.wp_gatelog.specs.Log.{Grows, BeforeOrAfter, KeepsAcknowledged, IsFrame, Rests};
 ghost use Rattle.wp_gatelog.specs.Moments.{Goes, Leaves};
 ghost use Rattle.wp_gatelog.specs.Opening.{IsFound, IsRefused, IsOnlySynced, SurvivesThrough, StaysThrough};
 ghost use Rattle.wp_gatelog.specs.Spelling.{Spells, frame_of, framed};
@@ -75,7 +75,7 @@ impl<D: Disk> GateLog<D> {
         // A crash on the way takes nothing that an opening or an append has acknowledged.
         ensures any_moment { MatchResult result (λ log. SurvivesThrough magic id (D.moments disk) log.moments)
             (λ refused. SurvivesThrough magic id (D.moments disk) (D.moments refused.disk)) }
-        ensures acknowledged { MatchResult result (λ log. StaysThrough magic (D.moments disk) log.moments)
+        ensures kept { MatchResult result (λ log. StaysThrough magic (D.moments disk) log.moments)
             (λ refused. StaysThrough magic (D.moments disk) (D.moments refused.disk)) }
 
         ensures fault { IfErr result (λ refused. FaultRose (D.faults disk) (D.faults refused.disk) refused.why) }
@@ -115,15 +115,28 @@ impl<D: Disk> GateLog<D> {
     pub fn append(&mut self, frame: &[u8]) -> Result<(), AppendError>
         requires { IsFrame frame.now }
 
-        // At each moment a crash leaves the records before it, or those and the new one, whole.
+        // At each moment since its beginning a crash leaves the records before it, or those and the new one, whole.
         ensures any_moment { (magic : List ℕ) (records : List (List ℕ)) (bytes : List ℕ)
             → frame.now ≡ frame_of bytes → Rests magic self.old records
             → Passes (Leaves (BeforeOrAfter magic self.old.id records bytes)) self.old.moments self.new.moments }
+        ensures left { (magic : List ℕ) (records : List (List ℕ)) (bytes : List ℕ)
+            → frame.now ≡ frame_of bytes → Rests magic self.old records
+            → (image : List ℕ) → images self.new.moments image → BeforeOrAfter magic self.old.id records bytes image }
+        ensures kept { (magic : List ℕ) (records : List (List ℕ)) (bytes : List ℕ)
+            → frame.now ≡ frame_of bytes → Rests magic self.old records
+            → Passes (Leaves (KeepsAcknowledged magic self.old.id records bytes)) self.old.moments self.new.moments }
 
         // Once it is acknowledged, a crash leaves the new record.
-        ensures acknowledged { OnOk result ((magic : List ℕ) (records : List (List ℕ)) (bytes : List ℕ)
+        ensures rests { OnOk result ((magic : List ℕ) (records : List (List ℕ)) (bytes : List ℕ)
             → frame.now ≡ frame_of bytes → Rests magic self.old records
             → Rests magic self.new (records ++ bytes ∷ [])) }
+        ensures spelled { OnOk result ((magic : List ℕ) (records : List (List ℕ)) (bytes : List ℕ)
+            → frame.now ≡ frame_of bytes → Rests magic self.old records
+            → (image : List ℕ) → images self.new.moments image → Spells image magic self.new.id (records ++ bytes ∷ [])) }
+
+        // Four calls: the frame behind the closed gate, a sync, that gate, a sync.
+        ensures calls { OnOk result (self.new.moments ≡ added after_sync (added (after_write self.old.end (1 ∷ []))
+            (added after_sync (added (after_write (self.old.end + 1) frame.now) self.old.moments)))) }
 
         ensures ok { OnOk result (Appended self.old self.new (length frame.now)) }
         ensures err { IfErr result (Refuses self.old self.new) }
@@ -165,6 +178,8 @@ fn append_frame<D: Disk>(disk: &mut D, end: u64, frame: &[u8]) -> Result<(), Fai
     ensures done { (front bytes : List ℕ) → frame.now ≡ frame_of bytes → end ≡ length front
         → IfTold (D.moments disk.old) (λ m. m ≡ settled (front ++ 0 ∷ []))
         → OnOk result (IfTold (D.moments disk.new) (λ m. m ≡ settled (front ++ 1 ∷ (framed bytes ++ 0 ∷ [])))) }
+    ensures calls { OnOk result (D.moments disk.new ≡ added after_sync (added (after_write end (1 ∷ []))
+        (added after_sync (added (after_write (end + 1) frame.now) (D.moments disk.old))))) }
     ensures bounded { OnOk result (end + 1 + length frame.now ≤ 2 ^ 62) }
     ensures cause { HasCause (D.faults disk.old) (D.faults disk.new) result }
 {
