@@ -10,10 +10,6 @@ each_append : (P : Moment → Type 0) (xs ys : List Moment) → Each P xs → Ea
 each_append P [] ys p q = q
 each_append P (x ∷ xs) ys p q = (p.0, each_append P xs ys p.1 q)
 
-pub goes_nowhere : (P : Moment → Type 0) (old : List Moment) → Goes P old old
-goes_nowhere P [] = refl
-goes_nowhere P (m ∷ past) = ([], refl, tt)
-
 goes_on_from : (P : Moment → Type 0) (m : Moment) (past more new : List Moment) → Each P more → Goes P (more ++ m ∷ past) new → Goes P (m ∷ past) new
 goes_on_from P m past [] new each second = second
 goes_on_from P m past (x ∷ xs) new each second =
@@ -42,10 +38,6 @@ left_now P old new before passes = from passes.0 passes.1 passes.2
     from : (more : List Moment) → new ≡ more ++ old → Each (Leaves P) more → (image : List ℕ) → images new image → P image
     from [] is each image h = before image (subst (λ (ms : List Moment). images ms image) is h)
     from (m ∷ more) is each image h = each.0 image (subst (λ (ms : List Moment). images ms image) is h)
-
-pub passes_from_goes : (P : Moment → Type 0) (old new : List Moment) → Goes P old new → Passes P old new
-passes_from_goes P [] new goes = ([], goes, tt)
-passes_from_goes P (m ∷ past) new goes = goes
 
 -- ---- a disk that tells
 
@@ -140,10 +132,14 @@ module _ (step : Moment → Moment) (before : List ℕ) where
   synced_goes [] mid new (Err e) reads told adds syncs kept = kept ∙ adds
   synced_goes (m ∷ past) mid new (Ok x) reads told adds syncs kept =
       let last : new ≡ settled (step m).reads ∷ step m ∷ m ∷ past = subst (λ (l : List Moment). new ≡ added after_sync l) adds syncs in
-      let is : (step m).reads ≡ (step (settled before)).reads = ap (λ (n : Moment). (step n).reads) told in
-      (settled (step m).reads ∷ step m ∷ [], last,
-       (λ image h. subst (λ (l : List ℕ). IsImage (step (settled before)) l) (sym is ∙ sym (image_of_settled (step m).reads image h)) reads,
-        (within_step m told, tt)))
+      let is : (step m).reads ≡ (step (settled before)).reads = ap (λ (n : Moment). (step n).reads) told in (
+        settled (step m).reads ∷ step m ∷ [],
+        last,
+        (
+          λ image h. subst (λ (l : List ℕ). IsImage (step (settled before)) l) (sym is ∙ sym (image_of_settled (step m).reads image h)) reads,
+          (within_step m told, tt),
+        ),
+      )
   synced_goes (m ∷ past) mid new (Err e) reads told adds syncs kept = step_goes (m ∷ past) new told (kept ∙ adds)
 
 -- ---- images of a log that is changed
@@ -185,7 +181,7 @@ image_of_gate front at gate behind image is h =
 pub image_of_cut : (kept rest image : List ℕ) (len : ℕ) → len ≡ length kept → IsImage (after_cut len (settled (kept ++ rest))) image → (d : List ℕ) × (image ≡ kept ++ d)
 image_of_cut kept rest image len is h =
     let known : take len (map (λ b. Some b) (kept ++ rest)) ≡ map (λ b. Some b) kept ++ [] =
-        take-map (λ b. Some b) len (kept ++ rest) ∙ ap (λ (l : List ℕ). map (λ b. Some b) l) (take_at kept rest len (sym is)) ∙ sym (append-nil (map (λ b. Some b) kept)) in
+    take-map (λ b. Some b) len (kept ++ rest) ∙ ap (λ (l : List ℕ). map (λ b. Some b) l) (take_at kept rest len (sym is)) ∙ sym (append-nil (map (λ b. Some b) kept)) in
     let found = matches_front kept [] image (subst (λ (s : List (Option ℕ)). Matches s image) known h.0) in
     (found.0, found.1)
 

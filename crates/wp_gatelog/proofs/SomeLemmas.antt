@@ -45,16 +45,18 @@ unfolding counted
 number_spelled behind within small = be_bytes_8 (take 8 behind) (from_be_bytes w64 (take 8 behind)) (length-take-le 8 behind within) (take_bytes 8 behind within small) refl
 
 whole_split : (behind : List ℕ) → 9 + counted behind ≤ length behind → AreBytes behind
-  → (length (take (counted behind) (drop 8 behind)) ≡ counted behind) × (behind ≡ framed (take (counted behind) (drop 8 behind)) ++ drop (counted behind) (drop 8 behind))
+    → (length (take (counted behind) (drop 8 behind)) ≡ counted behind) × (behind ≡ framed (take (counted behind) (drop 8 behind)) ++ drop (counted behind) (drop 8 behind))
 unfolding framed
 whole_split behind whole small =
     let len : ℕ = counted behind in
     let found : List ℕ = take len (drop 8 behind) in
     let rest : List ℕ = drop len (drop 8 behind) in
     let size : length found ≡ len = length-take-le len (drop 8 behind) (omega (arith, whole, length-drop 8 behind)) in
-    let number : to_be_bytes w64 (length found) ≡ take 8 behind = ap (to_be_bytes w64) size ∙ number_spelled behind (omega (arith, whole)) small in
-    (size, sym (take-append-drop 8 behind) ∙ ap (λ (l : List ℕ). take 8 behind ++ l) (sym (take-append-drop len (drop 8 behind)))
-      ∙ ap (λ (l : List ℕ). l ++ (found ++ rest)) (sym number) ∙ sym (append_assoc (to_be_bytes w64 (length found)) found rest))
+    let number : to_be_bytes w64 (length found) ≡ take 8 behind = ap (to_be_bytes w64) size ∙ number_spelled behind (omega (arith, whole)) small in (
+      size,
+      sym (take-append-drop 8 behind) ∙ ap (λ (l : List ℕ). take 8 behind ++ l) (sym (take-append-drop len (drop 8 behind)))
+          ∙ ap (λ (l : List ℕ). l ++ (found ++ rest)) (sym number) ∙ sym (append_assoc (to_be_bytes w64 (length found)) found rest),
+    )
 
 reads_more : (gate : ℕ) (found rest behind : List ℕ) → IsOpen (record { gate = gate; bytes = found }) → behind ≡ framed found ++ rest → Reads rest → Reads (gate ∷ behind)
 reads_more gate found rest behind opened is reads = record {
@@ -79,8 +81,8 @@ reads_some (suc n) (gate ∷ behind) within some small = elim (cases_eq gate 0) 
         let size : length rest ≡ length behind - 8 - counted behind = length-drop (counted behind) (drop 8 behind) ∙ ap (λ (k : ℕ). k - counted behind) (length-drop 8 behind) in
         let fits = counted_fits behind (omega (arith, whole)) bytes in
         reads_more gate (take (counted behind) (drop 8 behind)) rest behind (record { gate = opens; length_fits = omega (arith, split.0, fits) }) split.1
-          (reads_some n rest (omega (arith, size, whole, within)) (omega (arith, size, whole)) (drop_bytes (counted behind) (drop 8 behind) (drop_bytes 8 behind bytes)))
-    ]
+        (reads_some n rest (omega (arith, size, whole, within)) (omega (arith, size, whole)) (drop_bytes (counted behind) (drop 8 behind) (drop_bytes 8 behind bytes)))
+  ]
 ]
 
 -- ---- the head
@@ -93,7 +95,7 @@ same_list (x ∷ xs) (y ∷ ys) = elim (cases_eq x y) [
   | inl head ↦ elim (same_list xs ys) [
     | inl tail ↦ inl (λ i. head i ∷ tail i)
     | inr other ↦ inr (λ e. other (ap (λ (l : List ℕ). drop 1 l) e))
-    ]
+  ]
   | inr other ↦ inr (λ e. other (cc e))
 ]
 
@@ -105,32 +107,51 @@ module _ (magic : List ℕ) (bytes : List ℕ) (head : ℕ) (opened : head ≢ 0
   read_behind : (id : ℕ) (behind : List ℕ) → bytes ≡ head ∷ (identity magic id ++ behind) → Reads behind → Reading bytes magic
   read_behind id behind is reads =
       let log : bytes ≡ log_of magic id head reads.gated ++ reads.tail =
-          is ∙ ap (λ (l : List ℕ). head ∷ (identity magic id ++ l)) reads.spelling ∙ ap (λ (l : List ℕ). head ∷ l) (sym (append_assoc (identity magic id) (all_gated reads.gated) reads.tail)) in
+      is ∙ ap (λ (l : List ℕ). head ∷ (identity magic id ++ l)) reads.spelling ∙ ap (λ (l : List ℕ). head ∷ l) (sym (append_assoc (identity magic id) (all_gated reads.gated) reads.tail)) in
       elim reads.ends [
-      | inl w ↦ inl (id, records_of reads.gated, inr (head, reads.gated,
-          record { behind = w.0; spelling = log ∙ ap (λ (l : List ℕ). log_of magic id head reads.gated ++ l) w.1; head_open = opened; gates_open = reads.gates_open }, refl))
-      | inr w ↦ inr (inr (length reads.gated, record {
-          id = id; head = head; gated = reads.gated; gate = w.0; behind = w.1;
-          spelling = log ∙ ap (λ (l : List ℕ). log_of magic id head reads.gated ++ l) w.4;
-          head_open = opened; gates_open = reads.gates_open; before = refl; gate_open = w.2; short = w.3;
-        }))
+        | inl w ↦ inl (
+          id,
+          records_of reads.gated,
+          inr (
+            head,
+            reads.gated,
+            record { behind = w.0; spelling = log ∙ ap (λ (l : List ℕ). log_of magic id head reads.gated ++ l) w.1; head_open = opened; gates_open = reads.gates_open },
+            refl,
+          ),
+        )
+        | inr w ↦ inr (inr (
+          length reads.gated,
+          record {
+            id = id;
+            head = head;
+            gated = reads.gated;
+            gate = w.0;
+            behind = w.1;
+            spelling = log ∙ ap (λ (l : List ℕ). log_of magic id head reads.gated ++ l) w.4;
+            head_open = opened;
+            gates_open = reads.gates_open;
+            before = refl;
+            gate_open = w.2;
+            short = w.3;
+          },
+        ))
       ]
 
   read_made : (tail : List ℕ) → bytes ≡ head ∷ tail → 11 ≤ length bytes → take 4 (drop 1 bytes) ≡ magic → get_or bytes 5 0 ≡ 1 → AreBytes bytes → Reading bytes magic
   read_made tail is size magic_is version small =
       let id : ℕ = from_be_bytes w32 (take 4 (drop 6 bytes)) in
       let number : to_be_bytes w32 id ≡ take 4 (drop 6 bytes) =
-          be_bytes_4 (take 4 (drop 6 bytes)) id (length-take-le 4 (drop 6 bytes) (omega (arith, size, length-drop 6 bytes)))
-            (take_bytes 4 (drop 6 bytes) (omega (arith, size, length-drop 6 bytes)) (drop_bytes 6 bytes small)) refl in
+      be_bytes_4 (take 4 (drop 6 bytes)) id (length-take-le 4 (drop 6 bytes) (omega (arith, size, length-drop 6 bytes)))
+      (take_bytes 4 (drop 6 bytes) (omega (arith, size, length-drop 6 bytes)) (drop_bytes 6 bytes small)) refl in
       let first : drop 1 bytes ≡ magic ++ drop 5 bytes =
-          sym (take-append-drop 4 (drop 1 bytes)) ∙ ap (λ (l : List ℕ). l ++ drop 4 (drop 1 bytes)) magic_is ∙ ap (λ (l : List ℕ). magic ++ l) (drop-drop 4 1 bytes) in
+      sym (take-append-drop 4 (drop 1 bytes)) ∙ ap (λ (l : List ℕ). l ++ drop 4 (drop 1 bytes)) magic_is ∙ ap (λ (l : List ℕ). magic ++ l) (drop-drop 4 1 bytes) in
       let second : drop 5 bytes ≡ 1 ∷ drop 6 bytes = drop_more bytes 5 0 (omega (arith, size)) ∙ ap (λ (v : ℕ). v ∷ drop 6 bytes) version in
       let third : drop 6 bytes ≡ to_be_bytes w32 id ++ drop 10 bytes =
-          sym (take-append-drop 4 (drop 6 bytes)) ∙ ap (λ (l : List ℕ). l ++ drop 4 (drop 6 bytes)) (sym number) ∙ ap (λ (l : List ℕ). to_be_bytes w32 id ++ l) (drop-drop 4 6 bytes) in
+      sym (take-append-drop 4 (drop 6 bytes)) ∙ ap (λ (l : List ℕ). l ++ drop 4 (drop 6 bytes)) (sym number) ∙ ap (λ (l : List ℕ). to_be_bytes w32 id ++ l) (drop-drop 4 6 bytes) in
       let fourth = drop_more bytes 10 0 (omega (arith, size)) in
       let behind = identity_spelled magic (drop 1 bytes) (drop 5 bytes) (drop 6 bytes) (drop 10 bytes) (drop 11 bytes) id (get_or bytes 10 0) first second third fourth in
       let whole : bytes ≡ head ∷ (identity magic id ++ drop 10 bytes) =
-          is ∙ ap (λ (l : List ℕ). head ∷ l) (sym (ap (λ (l : List ℕ). drop 1 l) is) ∙ behind ∙ ap (λ (l : List ℕ). identity magic id ++ l) (sym fourth)) in
+      is ∙ ap (λ (l : List ℕ). head ∷ l) (sym (ap (λ (l : List ℕ). drop 1 l) is) ∙ behind ∙ ap (λ (l : List ℕ). identity magic id ++ l) (sym fourth)) in
       read_behind id (drop 10 bytes) whole (reads_some (length (drop 10 bytes)) (drop 10 bytes) (omega arith) (omega (arith, size, length-drop 10 bytes)) (drop_bytes 10 bytes small))
 
   read_head : (tail : List ℕ) → bytes ≡ head ∷ tail → (IsUnmade bytes → ⊥) → AreBytes bytes → Reading bytes magic
@@ -141,8 +162,8 @@ module _ (magic : List ℕ) (bytes : List ℕ) (head : ℕ) (opened : head ≢ 0
       | inl magic_is ↦ elim (cases_eq (get_or bytes 5 0) 1) [
         | inr other ↦ inr (inl (record { made = is_made; wrong = inr (inr other) }))
         | inl version ↦ read_made tail is size magic_is version small
-        ]
       ]
+    ]
   ]
 
 pub some_reading : (bytes magic : List ℕ) → length magic ≡ 4 → ((i : ℕ) → get_or bytes i 0 < 256) → Reading bytes magic

@@ -39,7 +39,7 @@ Rests magic log records = IfTold log.moments (IsAtRest magic log.id log.end reco
 abbrev pub Grows : List ℕ → List ℕ → List ℕ → Type 0
 Grows front bytes image = (behind : List ℕ) × (
     (image ≡ front ++ 0 ∷ behind)
-  ⊎ ((gate : ℕ) × IsOpen (record { gate = gate; bytes = bytes }) × (image ≡ front ++ gate ∷ (framed bytes ++ 0 ∷ behind))))
+    ⊎ ((gate : ℕ) × IsOpen (record { gate = gate; bytes = bytes }) × (image ≡ front ++ gate ∷ (framed bytes ++ 0 ∷ behind))))
 
 -- a crash leaves the records, or those and the new one
 abbrev pub BeforeOrAfter : List ℕ → ℕ → List (List ℕ) → List ℕ → List ℕ → Type 0

@@ -40,23 +40,23 @@ IsOnlySynced old new (Cut index) = new ≡ added after_sync old
 abbrev pub Keeps : List ℕ → ℕ → ℕ → List Gated → List ℕ → Type 0
 Keeps magic id head gated image =
     Spells image magic id (records_of gated)
-  ⊎ ((head ≢ 1) × Spells image magic id [])
-  ⊎ ((before : List Gated) × (last : Gated) × (gated ≡ before ++ last ∷ []) × (last.gate ≢ 1) × Spells image magic id (records_of before))
+    ⊎ ((head ≢ 1) × Spells image magic id [])
+    ⊎ ((before : List Gated) × (last : Gated) × (gated ≡ before ++ last ∷ []) × (last.gate ≢ 1) × Spells image magic id (records_of before))
 
 -- While a log is opened, a crash leaves what was found; or, where no log was made, one without records; or a log that is
 -- mended.
 abbrev pub Survives : List ℕ → ℕ → List ℕ → List ℕ → Type 0
 Survives magic asked found image =
     (image ≡ found)
-  ⊎ (IsUnmade found × Spells image magic asked [])
-  ⊎ ((id head : ℕ) × (gated : List Gated) × Stands magic id head gated found × Keeps magic id head gated image)
+    ⊎ (IsUnmade found × Spells image magic asked [])
+    ⊎ ((id head : ℕ) × (gated : List Gated) × Stands magic id head gated found × Keeps magic id head gated image)
 
 -- the same, byte by byte
 abbrev pub Mends : List ℕ → ℕ → List ℕ → List ℕ → Type 0
 Mends magic asked found image =
     (image ≡ found)
-  ⊎ (IsUnmade found × Spells image magic asked [])
-  ⊎ ((id head : ℕ) × (gated : List Gated) × Stands magic id head gated found × Mended magic id head gated image)
+    ⊎ (IsUnmade found × Spells image magic asked [])
+    ⊎ ((id head : ℕ) × (gated : List Gated) × Stands magic id head gated found × Mended magic id head gated image)
 
 -- at each moment of an opening a crash leaves what survives it
 abbrev pub SurvivesThrough : List ℕ → ℕ → List Moment → List Moment → Type 0
@@ -65,7 +65,7 @@ SurvivesThrough magic asked old new = IfTold old (λ m. Passes (Leaves (Survives
 -- at each moment of an opening acknowledged records stand there as before, with a further one or without
 abbrev pub StaysThrough : List ℕ → List Moment → List Moment → Type 0
 StaysThrough magic old new = IfTold old (λ m. (id : ℕ) (records : List (List ℕ)) (bytes : List ℕ)
-  → KeepsAcknowledged magic id records bytes m.reads → Passes (Leaves (KeepsAcknowledged magic id records bytes)) old new)
+    → KeepsAcknowledged magic id records bytes m.reads → Passes (Leaves (KeepsAcknowledged magic id records bytes)) old new)
 
 -- a log is mended whose head was read
 abbrev pub MendsMade : List ℕ → ℕ → ℕ → List ℕ → List ℕ → Type 0

@@ -10,15 +10,14 @@ ghost use Rattle.wp_gatelog.specs.Moments.{Goes, Leaves};
 ghost use Rattle.wp_gatelog.specs.Opening.{IsFound, IsRefused, IsOnlySynced, SurvivesThrough, StaysThrough};
 ghost use Rattle.wp_gatelog.specs.Spelling.{Spells, frame_of, framed};
 
-use std::alloc::Global;
-use std::marker::Model;
-use wp_outside::{Disk, Failed};
-
 use crate::device::write_synced;
 use crate::error::{DiskRefused, LogError};
 use crate::gate::OPEN;
 use crate::open::{Found, find};
 use crate::record::Record;
+use std::alloc::Global;
+use std::marker::Model;
+use wp_outside::{Disk, Failed};
 
 #[derive(Clone, Copy, Debug, PartialEq, Eq)]
 pub enum AppendError {
@@ -46,13 +45,13 @@ impl<D: Disk> Model for GateLog<D> {
     ghost Value = { State };
 
     ghost view = { λ l. record {
-        moments = D.moments l.disk;
-        faults = D.faults l.disk;
-        id = l.id;
-        found = l.records.items;
-        count = l.count;
-        end = l.end;
-        closed = l.closed
+      moments = D.moments l.disk;
+      faults = D.faults l.disk;
+      id = l.id;
+      found = l.records.items;
+      count = l.count;
+      end = l.end;
+      closed = l.closed;
     } };
 
     ghost invariant = { λ l. (l.count ≤ l.end) × (l.end ≤ 2 ^ 62) };
@@ -61,7 +60,12 @@ impl<D: Disk> Model for GateLog<D> {
 impl<D: Disk> GateLog<D> {
     /// Opens the log that stands on the disk, and mends what a crash left of it. Where none was made, a new one is made,
     /// under this id.
-    pub fn open(alloc: Global, mut disk: D, magic: [u8; 4], id: u32) -> Result<GateLog<D>, DiskRefused<D, LogError>>
+    pub fn open(
+        alloc: Global,
+        mut disk: D,
+        magic: [u8; 4],
+        id: u32,
+    ) -> Result<GateLog<D>, DiskRefused<D, LogError>>
         // The records are those that the disk spelled as it was handed in, and after it they are all that a crash leaves.
         ensures found { IfOk result (λ log. IfTold (D.moments disk) (λ m. IsFound magic id m.reads log.id log.found)) }
         ensures rests { IfOk result (λ log. Rests magic log log.found) }
@@ -84,7 +88,14 @@ impl<D: Disk> GateLog<D> {
         match find(alloc, &mut disk, magic, id) {
             Ok(Found { id, records, end }) => {
                 let count = records.len() as u64;
-                Ok(GateLog { disk, records, id, end, count, closed: false })
+                Ok(GateLog {
+                    disk,
+                    records,
+                    id,
+                    end,
+                    count,
+                    closed: false,
+                })
             }
             Err(why) => Err(DiskRefused { disk, why }),
         }

@@ -9,7 +9,8 @@ const MAGIC: [u8; 4] = *b"WPLG";
 const RECORD: &[u8; 12] = b"\0\0\0\x01\x01\x01\x01\x01k\0\x011";
 
 /// The log of store 1 with that record.
-const LOG: &[u8; 32] = b"\x01WPLG\x01\0\0\0\x01\x01\0\0\0\0\0\0\0\x0c\0\0\0\x01\x01\x01\x01\x01k\0\x011\0";
+const LOG: &[u8; 32] =
+    b"\x01WPLG\x01\0\0\0\x01\x01\0\0\0\0\0\0\0\x0c\0\0\0\x01\x01\x01\x01\x01k\0\x011\0";
 
 fn open(alloc: Global, bytes: &[u8], fails: &[u64]) -> Result<GateLog<MemDisk>, LogError> {
     let disk = MemDisk::new(
@@ -55,12 +56,28 @@ fn what_is_no_log_is_refused(rt: HostRuntime) -> Result<(), Fail> {
     for (what, bytes, want) in [
         ("a whole log", LOG.as_slice(), Ok(1)),
         ("a closed head", b"\0WPLG\x03".as_slice(), Ok(0)),
-        ("another magic", b"\x01XPLG\x01\0\0\0\x01\0".as_slice(), Err(LogError::BadHead)),
-        ("version 3", b"\x01WPLG\x03\0\0\0\x01\0".as_slice(), Err(LogError::BadHead)),
+        (
+            "another magic",
+            b"\x01XPLG\x01\0\0\0\x01\0".as_slice(),
+            Err(LogError::BadHead),
+        ),
+        (
+            "version 3",
+            b"\x01WPLG\x03\0\0\0\x01\0".as_slice(),
+            Err(LogError::BadHead),
+        ),
         ("five bytes", b"\x01WPLG".as_slice(), Err(LogError::BadHead)),
         ("20 bytes", &LOG[..20], cut),
-        ("a length that no disk has", b"\x01WPLG\x01\0\0\0\x01\x01\xff\xff\xff\xff\xff\xff\xff\xff".as_slice(), cut),
-        ("an empty record", b"\x01WPLG\x01\0\0\0\x01\x01\0\0\0\0\0\0\0\0\0".as_slice(), Ok(1)),
+        (
+            "a length that no disk has",
+            b"\x01WPLG\x01\0\0\0\x01\x01\xff\xff\xff\xff\xff\xff\xff\xff".as_slice(),
+            cut,
+        ),
+        (
+            "an empty record",
+            b"\x01WPLG\x01\0\0\0\x01\x01\0\0\0\0\0\0\0\0\0".as_slice(),
+            Ok(1),
+        ),
     ] {
         assert_eq!(rt; count_found(alloc, bytes), want, "at {what}");
     }
@@ -88,8 +105,16 @@ fn a_failed_append_closes_the_log(rt: HostRuntime) -> Result<(), Fail> {
     let record = frame(alloc, RECORD)?;
     for call in [8, 10] {
         let mut log = open(alloc, LOG, &[call])?;
-        assert_eq!(rt; log.append(&record), Err(AppendError::DiskFault), "at call {call}");
-        assert_eq!(rt; log.append(&record), Err(AppendError::Closed(1)), "after call {call}");
+        assert_eq!(rt;
+            log.append(&record),
+            Err(AppendError::DiskFault),
+            "at call {call}"
+        );
+        assert_eq!(rt;
+            log.append(&record),
+            Err(AppendError::Closed(1)),
+            "after call {call}"
+        );
         let disk = log.into_disk();
         assert_eq!(rt; disk.bytes().len(), 53, "after call {call}");
     }
