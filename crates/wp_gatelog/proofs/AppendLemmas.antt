@@ -4,10 +4,10 @@ use Rattle.std.proofs.lemmas.Bool.{cases_eq}
 use Rattle.std.proofs.lemmas.List.{append-nil, append_assoc, map_push, length-replicate}
 use Rattle.std.specs.Int.{w64, to_be_bytes}
 use Rattle.wp_outside.specs.Disk.{Moment, IsImage, settled, after_write, write_end, IfTold, Each, Passes}
-use Rattle.wp_gatelog.specs.Log.{State, Grows, BeforeOrAfter, IsAcknowledged, IsAtRest, last_gate}
+use Rattle.wp_gatelog.specs.Log.{State, Grows, KeepsAcknowledged, IsAcknowledged, IsAtRest, last_gate}
 use Rattle.wp_gatelog.specs.Moments.{Leaves, Within, Goes}
 use Rattle.wp_gatelog.specs.Spelling.{Gated, IsOpen, framed, frame_of, identity, all_gated, log_of, records_of}
-use Rattle.wp_gatelog.proofs.MomentLemmas.{image_behind, image_of_gate, reads_behind, put_gate, goes_map, passes_from_goes, told_map, told_as}
+use Rattle.wp_gatelog.proofs.MomentLemmas.{image_behind, image_of_gate, reads_behind, put_gate, goes_map, told_map, told_as}
 
 pub length-framed : (bytes : List ℕ) → length (framed bytes) ≡ 8 + length bytes
 unfolding framed
@@ -38,8 +38,8 @@ pub grows_opened : (front bytes : List ℕ) (at gate : ℕ) → at ≡ length fr
 grows_opened front bytes at gate is fits m within image h =
     let found = image_of_gate front at gate (frame_of bytes) image is (within image h) in
     elim (cases_eq found.0 0) [
-    | inl shut ↦ (frame_of bytes ++ found.1, inl (found.2 ∙ ap (λ (g : ℕ). front ++ g ∷ (frame_of bytes ++ found.1)) shut))
-    | inr opened ↦ (found.1, inr (found.0, record { gate = opened; length_fits = fits }, found.2 ∙ ap (λ (l : List ℕ). front ++ found.0 ∷ l) (append_assoc (framed bytes) (0 ∷ []) found.1)))
+      | inl shut ↦ (frame_of bytes ++ found.1, inl (found.2 ∙ ap (λ (g : ℕ). front ++ g ∷ (frame_of bytes ++ found.1)) shut))
+      | inr opened ↦ (found.1, inr (found.0, record { gate = opened; length_fits = fits }, found.2 ∙ ap (λ (l : List ℕ). front ++ found.0 ∷ l) (append_assoc (framed bytes) (0 ∷ []) found.1)))
     ]
 
 -- ---- the log
@@ -82,16 +82,16 @@ abbrev pub AppendDone : ℕ → List ℕ → List Moment → List Moment → Typ
 AppendDone end bytes old new = (front : List ℕ) → end ≡ length front → IfTold old (λ m. m ≡ settled (front ++ 0 ∷ [])) → IfTold new (λ m. m ≡ settled (front ++ 1 ∷ (framed bytes ++ 0 ∷ [])))
 
 module _ (magic : List ℕ) (id end : ℕ) (records : List (List ℕ)) (bytes : List ℕ) where
-  pub append_passes : (old new : List Moment) → AppendGoes end bytes old new → IfTold old (IsAtRest magic id end records) → Passes (Leaves (BeforeOrAfter magic id records bytes)) old new
+  pub append_passes : (old new : List Moment) → AppendGoes end bytes old new → IfTold old (IsAtRest magic id end records) → Passes (Leaves (KeepsAcknowledged magic id records bytes)) old new
   append_passes [] new goes rest = ([], goes (replicate end 0) (sym (length-replicate end 0)) tt, tt)
   append_passes (m ∷ past) new goes rest =
       let P : Moment → Type 0 = Leaves (Grows (log_of magic id 1 rest.gated) bytes) in
-      let Q : Moment → Type 0 = Leaves (BeforeOrAfter magic id records bytes) in
+      let Q : Moment → Type 0 = Leaves (KeepsAcknowledged magic id records bytes) in
       goes_map P Q (λ n leaves image h. record { gated = rest.gated; acknowledged = rest.acknowledged; grows = leaves image h })
-        (m ∷ past) new (goes (log_of magic id 1 rest.gated) rest.place rest.settled_on)
+      (m ∷ past) new (goes (log_of magic id 1 rest.gated) rest.place rest.settled_on)
 
   at_rest_more : (frame : List ℕ) → frame ≡ frame_of bytes → length bytes < 2 ^ 64 → (gated : List Gated) → IsAcknowledged gated records → end ≡ length (log_of magic id 1 gated)
-    → (m : Moment) → m ≡ settled (log_of magic id 1 gated ++ 1 ∷ (framed bytes ++ 0 ∷ [])) → IsAtRest magic id (end + length frame) (records ++ bytes ∷ []) m
+      → (m : Moment) → m ≡ settled (log_of magic id 1 gated ++ 1 ∷ (framed bytes ++ 0 ∷ [])) → IsAtRest magic id (end + length frame) (records ++ bytes ∷ []) m
   at_rest_more frame is fits gated acknowledged place m on =
       let more = log_more magic id 1 gated 1 bytes in
       record {
@@ -102,11 +102,11 @@ module _ (magic : List ℕ) (id end : ℕ) (records : List (List ℕ)) (bytes : 
       }
 
   pub append_rests : (frame : List ℕ) → frame ≡ frame_of bytes → length bytes < 2 ^ 64 → (old new : List Moment) → AppendGoes end bytes old new → AppendDone end bytes old new
-    → IfTold old (IsAtRest magic id end records) → IfTold new (IsAtRest magic id (end + length frame) (records ++ bytes ∷ []))
+      → IfTold old (IsAtRest magic id end records) → IfTold new (IsAtRest magic id (end + length frame) (records ++ bytes ∷ []))
   append_rests frame is fits [] new goes done rest =
       let none : new ≡ [] = goes (replicate end 0) (sym (length-replicate end 0)) tt in
       subst (λ (ms : List Moment). IfTold ms (IsAtRest magic id (end + length frame) (records ++ bytes ∷ []))) (sym none) tt
   append_rests frame is fits (m ∷ past) new goes done rest =
       let P : Moment → Type 0 = λ n. n ≡ settled (log_of magic id 1 rest.gated ++ 1 ∷ (framed bytes ++ 0 ∷ [])) in
       told_map P (IsAtRest magic id (end + length frame) (records ++ bytes ∷ []))
-        (at_rest_more frame is fits rest.gated rest.acknowledged rest.place) new (done (log_of magic id 1 rest.gated) rest.place rest.settled_on)
+      (at_rest_more frame is fits rest.gated rest.acknowledged rest.place) new (done (log_of magic id 1 rest.gated) rest.place rest.settled_on)

@@ -30,7 +30,7 @@ four_bytes (a ∷ b ∷ c ∷ d ∷ []) e = refl
 four_bytes (a ∷ b ∷ c ∷ d ∷ x ∷ xs) e = absurd (omega arith)
 
 pub identity_written : (magic number : List ℕ) (id : ℕ) → length magic ≡ 4 → number ≡ to_be_bytes w32 id
-  → get_or magic 0 0 ∷ get_or magic 1 0 ∷ get_or magic 2 0 ∷ get_or magic 3 0 ∷ 1 ∷ get_or number 0 0 ∷ get_or number 1 0 ∷ get_or number 2 0 ∷ get_or number 3 0 ∷ 0 ∷ [] ≡ identity magic id ++ 0 ∷ []
+    → get_or magic 0 0 ∷ get_or magic 1 0 ∷ get_or magic 2 0 ∷ get_or magic 3 0 ∷ 1 ∷ get_or number 0 0 ∷ get_or number 1 0 ∷ get_or number 2 0 ∷ get_or number 3 0 ∷ 0 ∷ [] ≡ identity magic id ++ 0 ∷ []
 unfolding identity
 identity_written magic number id four is =
     let length_number : length number ≡ 4 = ap length is in
@@ -62,12 +62,15 @@ head_from_front magic bytes Bad h = record {
     | inr w ↦ inr (elim w [
       | inl other ↦ inl (λ e. other (magic_from_front bytes ∙ e))
       | inr other ↦ inr (λ e. other (get_or-take 11 bytes 5 0 (omega arith) ∙ e))
-      ])
+    ])
   ];
 }
-head_from_front magic bytes (Made gate id) h =
-    (h.0, h.1 ++ drop 11 bytes, h.2,
-     sym (take-append-drop 11 bytes) ∙ ap (λ (l : List ℕ). l ++ drop 11 bytes) h.3 ∙ ap (λ (l : List ℕ). gate ∷ l) (append_assoc (identity magic id) (h.0 ∷ h.1) (drop 11 bytes)))
+head_from_front magic bytes (Made gate id) h = (
+  h.0,
+  h.1 ++ drop 11 bytes,
+  h.2,
+  sym (take-append-drop 11 bytes) ∙ ap (λ (l : List ℕ). l ++ drop 11 bytes) h.3 ∙ ap (λ (l : List ℕ). gate ∷ l) (append_assoc (identity magic id) (h.0 ∷ h.1) (drop 11 bytes)),
+)
 
 -- a read of eleven bytes shows the head
 pub head_read : (magic buf bytes : List ℕ) (n : ℕ) (head : Head) → length buf ≡ 11 → IsHead magic (take n buf) head → IsRead bytes 0 buf n → IsHead magic bytes head

@@ -1,9 +1,11 @@
 pub mod AppendLemmas
 pub mod HeadLemmas
+pub mod LawLemmas
 pub mod MakeLemmas
 pub mod MendLemmas
 pub mod MomentLemmas
 pub mod OpenLemmas
 pub mod ParseLemmas
 pub mod ScanLemmas
+pub mod SomeLemmas
 pub mod SurvivalLemmas

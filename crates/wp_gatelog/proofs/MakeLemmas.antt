@@ -10,35 +10,9 @@ use Rattle.wp_gatelog.proofs.MomentLemmas.{image_behind, image_of_cut, image_of_
 
 -- ---- a closed gate alone
 
-short_unmade : (bytes : List ℕ) → length bytes ≤ 1 → IsUnmade bytes
-short_unmade [] short = tt
-short_unmade (gate ∷ []) short = tt
-short_unmade (gate ∷ byte ∷ bytes) short = absurd (omega arith)
-
 closed_unmade : (bytes : List ℕ) → IsUnmade (0 ∷ bytes)
 closed_unmade [] = tt
 closed_unmade (byte ∷ bytes) = refl
-
-pub unmade_written : (before : List ℕ) → length before ≤ 1 → (m : Moment) → Within (after_write 0 (0 ∷ []) (settled before)) m → Leaves IsUnmade m
-unmade_written before short m within image h = short_unmade image (omega (arith, (within image h).1))
-
-pub reads_closed : (before : List ℕ) → length before ≤ 1 → (after_write 0 (0 ∷ []) (settled before)).reads ≡ 0 ∷ []
-reads_closed before short = ap (λ (l : List ℕ). 0 ∷ l) (drop_all 1 before short)
-
--- a longer one begins with a closed gate
-split_unmade : (before : List ℕ) → 1 < length before → IsUnmade before → (rest : List ℕ) × (before ≡ (0 ∷ []) ++ rest)
-split_unmade [] long unmade = absurd (omega arith)
-split_unmade (gate ∷ []) long unmade = absurd (omega arith)
-split_unmade (gate ∷ byte ∷ bytes) long unmade = (byte ∷ bytes, λ i. unmade i ∷ byte ∷ bytes)
-
-pub unmade_cut : (before : List ℕ) → 1 < length before → IsUnmade before → (m : Moment) → Within (after_cut 1 (settled before)) m → Leaves IsUnmade m
-unmade_cut before long unmade m within image h =
-    let split = split_unmade before long unmade in
-    let found = image_of_cut (0 ∷ []) split.0 image 1 refl (subst (λ (l : List ℕ). IsImage (after_cut 1 (settled l)) image) split.1 (within image h)) in
-    subst IsUnmade (sym found.1) (closed_unmade found.0)
-
-pub taken_closed : (before : List ℕ) → 1 < length before → IsUnmade before → take 1 before ≡ 0 ∷ []
-taken_closed before long unmade = ap (λ (l : List ℕ). take 1 l) (split_unmade before long unmade).1
 
 -- ---- the rest of the head, and then its gate
 
@@ -60,13 +34,18 @@ pub none_opened : (magic : List ℕ) (id : ℕ) (m : Moment) → Within (after_w
 none_opened magic id m within image h =
     let found = image_of_gate [] 0 0 (identity magic id ++ 0 ∷ []) image refl (within image h) in
     elim (cases_eq found.0 0) [
-    | inl shut ↦ unmade_none magic id image (subst IsUnmade (sym (found.2 ∙ ap (λ (g : ℕ). g ∷ ((identity magic id ++ 0 ∷ []) ++ found.1)) shut)) (closed_unmade ((identity magic id ++ 0 ∷ []) ++ found.1)))
-    | inr opened ↦ inr (found.0, [], record {
-        behind = found.1;
-        spelling = found.2 ∙ ap (λ (l : List ℕ). found.0 ∷ l) (append_assoc (identity magic id) (0 ∷ []) found.1) ∙ sym (log_of_none magic id found.0 found.1);
-        head_open = opened;
-        gates_open = tt;
-      }, refl)
+      | inl shut ↦ unmade_none magic id image (subst IsUnmade (sym (found.2 ∙ ap (λ (g : ℕ). g ∷ ((identity magic id ++ 0 ∷ []) ++ found.1)) shut)) (closed_unmade ((identity magic id ++ 0 ∷ []) ++ found.1)))
+      | inr opened ↦ inr (
+        found.0,
+        [],
+        record {
+          behind = found.1;
+          spelling = found.2 ∙ ap (λ (l : List ℕ). found.0 ∷ l) (append_assoc (identity magic id) (0 ∷ []) found.1) ∙ sym (log_of_none magic id found.0 found.1);
+          head_open = opened;
+          gates_open = tt;
+        },
+        refl,
+      )
     ]
 
 pub reads_made : (magic : List ℕ) (id : ℕ) → (after_write 0 (1 ∷ []) (settled (0 ∷ (identity magic id ++ 0 ∷ [])))).reads ≡ log_of magic id 1 [] ++ 0 ∷ []

@@ -39,7 +39,7 @@ each_but_last [] last each = (tt, each.0)
 each_but_last (g ∷ before) last each = let rest = each_but_last before last each.1 in ((each.0, rest.0), rest.1)
 
 pub keeps_more : (magic : List ℕ) (id head : ℕ) (before : List Gated) (gate : ℕ) (found more image : List ℕ) → image ≡ log_of magic id head before ++ gate ∷ (framed found ++ 0 ∷ more)
-  → image ≡ log_of magic id head (before ++ record { gate = gate; bytes = found } ∷ []) ++ 0 ∷ more
+    → image ≡ log_of magic id head (before ++ record { gate = gate; bytes = found } ∷ []) ++ 0 ∷ more
 keeps_more magic id head before gate found more image is =
     is ∙ sym (append_assoc (log_of magic id head before) (gate ∷ framed found) (0 ∷ more)) ∙ ap (λ (l : List ℕ). l ++ 0 ∷ more) (sym (log_more magic id head before gate found))
 
@@ -82,9 +82,15 @@ module _ (magic : List ℕ) (id head : ℕ) (records : List (List ℕ)) (end len
           last = last_gate_more 1 before 1 found;
           same = log.same ∙ ap records_of log.last_is.2 ∙ map_push (λ (g : Gated). g.bytes) before (record { gate = gate.byte; bytes = found }) ∙ sym (map_push (λ (g : Gated). g.bytes) before (record { gate = 1; bytes = found }));
         };
-        place = omega (arith, log.place, ap (λ (gs : List Gated). length (log_of magic id head gs)) log.last_is.2,
-          ap length (log_more magic id head before gate.byte found), ap length (log_more magic id 1 before 1 found),
-          length-append (log_of magic id head before) (gate.byte ∷ framed found), length-append (log_of magic id 1 before) (1 ∷ framed found));
+        place = omega (
+          arith,
+          log.place,
+          ap (λ (gs : List Gated). length (log_of magic id head gs)) log.last_is.2,
+          ap length (log_more magic id head before gate.byte found),
+          ap length (log_more magic id 1 before 1 found),
+          length-append (log_of magic id head before) (gate.byte ∷ framed found),
+          length-append (log_of magic id 1 before) (1 ∷ framed found),
+        );
         settled_on = on ∙ ap settled (keeps_more magic id 1 before 1 found [] (log_of magic id 1 before ++ 1 ∷ (framed found ++ 0 ∷ [])) refl);
       }
 

@@ -1,7 +1,7 @@
 -- The moments of one change and its sync, and the images that they leave.
 use Rattle.std.proofs.Common.{◌≡◌, ◌⊎◌, inl, inr, ℕ, zero, suc, ◌+◌, ◌-◌, ◌≤◌, min, max, List, [], ◌∷◌, ◌++◌, map, length, take, drop, Option, None, Some, Result, Ok, Err, OnOk, OnErr, refl, sym, ◌∙◌, ap, subst, arith, length-append, length-drop, length-take}
 use Rattle.std.proofs.lemmas.List.{append-nil, append_assoc, drop_all, take-map, take_at, map-append, length-map}
-use Rattle.wp_outside.specs.Disk.{Moment, Matches, IsImage, settled, put, hide, hide_at, write_end, after_write, after_cut, after_sync, IfTold, Adds, Tears, Each, Passes}
+use Rattle.wp_outside.specs.Disk.{Moment, Matches, IsImage, settled, put, hide, hide_at, write_end, after_write, after_cut, after_sync, IfTold, added, Tears, Each, Passes, images}
 use Rattle.wp_gatelog.specs.Moments.{Leaves, Within, Goes}
 
 -- ---- moments, one after another
@@ -9,10 +9,6 @@ use Rattle.wp_gatelog.specs.Moments.{Leaves, Within, Goes}
 each_append : (P : Moment → Type 0) (xs ys : List Moment) → Each P xs → Each P ys → Each P (xs ++ ys)
 each_append P [] ys p q = q
 each_append P (x ∷ xs) ys p q = (p.0, each_append P xs ys p.1 q)
-
-pub goes_nowhere : (P : Moment → Type 0) (old : List Moment) → Goes P old old
-goes_nowhere P [] = refl
-goes_nowhere P (m ∷ past) = ([], refl, tt)
 
 goes_on_from : (P : Moment → Type 0) (m : Moment) (past more new : List Moment) → Each P more → Goes P (more ++ m ∷ past) new → Goes P (m ∷ past) new
 goes_on_from P m past [] new each second = second
@@ -32,9 +28,16 @@ pub goes_map : (P Q : Moment → Type 0) → ((m : Moment) → P m → Q m) → 
 goes_map P Q f [] new goes = goes
 goes_map P Q f (m ∷ past) new goes = (goes.0, goes.1, each_map P Q f goes.0 goes.2)
 
-pub passes_from_goes : (P : Moment → Type 0) (old new : List Moment) → Goes P old new → Passes P old new
-passes_from_goes P [] new goes = ([], goes, tt)
-passes_from_goes P (m ∷ past) new goes = goes
+pub passes_map : (P Q : Moment → Type 0) → ((m : Moment) → P m → Q m) → (old new : List Moment) → Passes P old new → Passes Q old new
+passes_map P Q f old new passes = (passes.0, passes.1, each_map P Q f passes.0 passes.2)
+
+-- what holds of what a crash left before, and at each moment since, holds of what it leaves now
+pub left_now : (P : List ℕ → Type 0) (old new : List Moment) → ((image : List ℕ) → images old image → P image) → Passes (Leaves P) old new → (image : List ℕ) → images new image → P image
+left_now P old new before passes = from passes.0 passes.1 passes.2
+  where
+    from : (more : List Moment) → new ≡ more ++ old → Each (Leaves P) more → (image : List ℕ) → images new image → P image
+    from [] is each image h = before image (subst (λ (ms : List Moment). images ms image) is h)
+    from (m ∷ more) is each image h = each.0 image (subst (λ (ms : List Moment). images ms image) is h)
 
 -- ---- a disk that tells
 
@@ -113,26 +116,30 @@ module _ (step : Moment → Moment) (before : List ℕ) where
   within_step m is image h = subst (λ (n : Moment). IsImage (step n) image) is h
 
   pub torn_goes : (old new : List Moment) → IfTold old (λ m. m ≡ settled before) → Tears step old new → Goes (Within (step (settled before))) old new
-  torn_goes [] new told torn = torn
+  torn_goes [] new told torn = elim torn [ inl same ↦ same | inr w ↦ w.1 ]
   torn_goes (m ∷ past) new told torn = elim torn [
     | inl same ↦ ([], same, tt)
     | inr w ↦ (record (step m) { reads = w.0 } ∷ [], w.1, (λ image h. within_step m told image h, tt))
   ]
 
-  pub step_goes : (old new : List Moment) → IfTold old (λ m. m ≡ settled before) → Adds step old new → Goes (Within (step (settled before))) old new
+  pub step_goes : (old new : List Moment) → IfTold old (λ m. m ≡ settled before) → new ≡ added step old → Goes (Within (step (settled before))) old new
   step_goes [] new told adds = adds
   step_goes (m ∷ past) new told adds = (step m ∷ [], adds, (within_step m told, tt))
 
   -- the step was made, and then a sync, or not
-  pub synced_goes : {T E : Type 0} (old mid new : List Moment) (result : Result T E) → IsImage (step (settled before)) (step (settled before)).reads → IfTold old (λ m. m ≡ settled before) → Adds step old mid → OnOk result (Adds after_sync mid new) → OnErr result (new ≡ mid) → Goes (Within (step (settled before))) old new
-  synced_goes [] mid new (Ok x) reads told adds syncs kept = subst (λ (l : List Moment). Adds after_sync l new) adds syncs
+  pub synced_goes : {T E : Type 0} (old mid new : List Moment) (result : Result T E) → IsImage (step (settled before)) (step (settled before)).reads → IfTold old (λ m. m ≡ settled before) → mid ≡ added step old → OnOk result (new ≡ added after_sync mid) → OnErr result (new ≡ mid) → Goes (Within (step (settled before))) old new
+  synced_goes [] mid new (Ok x) reads told adds syncs kept = subst (λ (l : List Moment). new ≡ added after_sync l) adds syncs
   synced_goes [] mid new (Err e) reads told adds syncs kept = kept ∙ adds
   synced_goes (m ∷ past) mid new (Ok x) reads told adds syncs kept =
-      let last : new ≡ settled (step m).reads ∷ step m ∷ m ∷ past = subst (λ (l : List Moment). Adds after_sync l new) adds syncs in
-      let is : (step m).reads ≡ (step (settled before)).reads = ap (λ (n : Moment). (step n).reads) told in
-      (settled (step m).reads ∷ step m ∷ [], last,
-       (λ image h. subst (λ (l : List ℕ). IsImage (step (settled before)) l) (sym is ∙ sym (image_of_settled (step m).reads image h)) reads,
-        (within_step m told, tt)))
+      let last : new ≡ settled (step m).reads ∷ step m ∷ m ∷ past = subst (λ (l : List Moment). new ≡ added after_sync l) adds syncs in
+      let is : (step m).reads ≡ (step (settled before)).reads = ap (λ (n : Moment). (step n).reads) told in (
+        settled (step m).reads ∷ step m ∷ [],
+        last,
+        (
+          λ image h. subst (λ (l : List ℕ). IsImage (step (settled before)) l) (sym is ∙ sym (image_of_settled (step m).reads image h)) reads,
+          (within_step m told, tt),
+        ),
+      )
   synced_goes (m ∷ past) mid new (Err e) reads told adds syncs kept = step_goes (m ∷ past) new told (kept ∙ adds)
 
 -- ---- images of a log that is changed
@@ -174,7 +181,7 @@ image_of_gate front at gate behind image is h =
 pub image_of_cut : (kept rest image : List ℕ) (len : ℕ) → len ≡ length kept → IsImage (after_cut len (settled (kept ++ rest))) image → (d : List ℕ) × (image ≡ kept ++ d)
 image_of_cut kept rest image len is h =
     let known : take len (map (λ b. Some b) (kept ++ rest)) ≡ map (λ b. Some b) kept ++ [] =
-        take-map (λ b. Some b) len (kept ++ rest) ∙ ap (λ (l : List ℕ). map (λ b. Some b) l) (take_at kept rest len (sym is)) ∙ sym (append-nil (map (λ b. Some b) kept)) in
+    take-map (λ b. Some b) len (kept ++ rest) ∙ ap (λ (l : List ℕ). map (λ b. Some b) l) (take_at kept rest len (sym is)) ∙ sym (append-nil (map (λ b. Some b) kept)) in
     let found = matches_front kept [] image (subst (λ (s : List (Option ℕ)). Matches s image) known h.0) in
     (found.0, found.1)
 

@@ -10,9 +10,10 @@ use Rattle.wp_gatelog.proofs.ScanLemmas.{counted_is}
 
 -- lists of equal lengths
 pub same_parts : {A : Type 0} (a b x y : List A) → length a ≡ length b → a ++ x ≡ b ++ y → (a ≡ b) × (x ≡ y)
-same_parts a b x y size is =
-    (sym (take_at a x (length b) size) ∙ ap (λ (l : List _). take (length b) l) is ∙ take_at b y (length b) refl,
-     sym (drop_at a x (length b) size) ∙ ap (λ (l : List _). drop (length b) l) is ∙ drop_at b y (length b) refl)
+same_parts a b x y size is = (
+  sym (take_at a x (length b) size) ∙ ap (λ (l : List _). take (length b) l) is ∙ take_at b y (length b) refl,
+  sym (drop_at a x (length b) size) ∙ ap (λ (l : List _). drop (length b) l) is ∙ drop_at b y (length b) refl,
+)
 
 counted_framed : (bytes rest : List ℕ) → length bytes < 2 ^ 64 → counted (framed bytes ++ rest) ≡ length bytes
 unfolding framed
@@ -75,11 +76,11 @@ pub record SameLog (magic : List ℕ) (id other h k : ℕ) (gs hs : List Gated) 
   pub behind : t ≡ u
 
 pub same_log : (magic : List ℕ) (id other h k : ℕ) (gs hs : List Gated) (t u : List ℕ) → Each IsOpen gs → Each IsOpen hs → Stops t → Stops u
-  → log_of magic id h gs ++ t ≡ log_of magic other k hs ++ u → SameLog magic id other h k gs hs t u
+    → log_of magic id h gs ++ t ≡ log_of magic other k hs ++ u → SameLog magic id other h k gs hs t u
 same_log magic id other h k gs hs t u eg eh st su is =
     let head : h ≡ k = cc in
     let rest : (identity magic id ++ all_gated gs) ++ t ≡ (identity magic other ++ all_gated hs) ++ u = cc in
     let split = same_parts (identity magic id) (identity magic other) (all_gated gs ++ t) (all_gated hs ++ u) (length-identities magic id other)
-      (sym (append_assoc (identity magic id) (all_gated gs) t) ∙ rest ∙ append_assoc (identity magic other) (all_gated hs) u) in
+    (sym (append_assoc (identity magic id) (all_gated gs) t) ∙ rest ∙ append_assoc (identity magic other) (all_gated hs) u) in
     let behind = same_gated gs hs t u eg eh st su split.1 in
     record { head = head; named = split.0; gated = behind.0; behind = behind.1 }

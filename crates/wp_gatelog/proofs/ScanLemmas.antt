@@ -43,19 +43,26 @@ unfolding counted
 counted_is len bytes fits = ap (λ (l : List ℕ). from_be_bytes w64 l) (take_at (to_be_bytes w64 len) bytes 8 refl) ∙ from_be_bytes-to_be_bytes_8 len fits
 
 pub next_cut : (bytes : List ℕ) (gate len : ℕ) → length bytes - 9 ≤ len → IsStart (take 9 bytes) (start.Open gate len) → IsNext bytes next.Cut
-next_cut bytes gate len short h =
-    (gate, to_be_bytes w64 len ++ drop 9 bytes, h.1, start_split bytes gate len h,
-     omega (arith, counted_is len (drop 9 bytes) h.2, length-append (to_be_bytes w64 len) (drop 9 bytes), length-drop 9 bytes))
+next_cut bytes gate len short h = (
+  gate,
+  to_be_bytes w64 len ++ drop 9 bytes,
+  h.1,
+  start_split bytes gate len h,
+  omega (arith, counted_is len (drop 9 bytes) h.2, length-append (to_be_bytes w64 len) (drop 9 bytes), length-drop 9 bytes),
+)
 
 pub next_open : (bytes : List ℕ) (gate len : ℕ) (found : List ℕ) → len < length bytes - 9 → IsStart (take 9 bytes) (start.Open gate len) → found ≡ take len (drop 9 bytes) → IsNext bytes (next.Open gate found)
 unfolding framed
 next_open bytes gate len found room h is =
     let rest : List ℕ = drop 9 bytes in
-    let size : length found ≡ len = ap length is ∙ length-take-le len rest (omega (arith, length-drop 9 bytes)) in
-    (drop len rest, record { gate = h.1; length_fits = omega (arith, h.2) }, omega (arith, length-drop len rest, length-drop 9 bytes),
-     start_split bytes gate len h ∙ ap (λ (l : List ℕ). gate ∷ (to_be_bytes w64 len ++ l)) (sym (take-append-drop len rest) ∙ ap (λ (l : List ℕ). l ++ drop len rest) (sym is))
-     ∙ ap (λ (k : ℕ). gate ∷ (to_be_bytes w64 k ++ (found ++ drop len rest))) (sym size)
-     ∙ ap (λ (l : List ℕ). gate ∷ l) (sym (append_assoc (to_be_bytes w64 (length found)) found (drop len rest))))
+    let size : length found ≡ len = ap length is ∙ length-take-le len rest (omega (arith, length-drop 9 bytes)) in (
+      drop len rest,
+      record { gate = h.1; length_fits = omega (arith, h.2) },
+      omega (arith, length-drop len rest, length-drop 9 bytes),
+      start_split bytes gate len h ∙ ap (λ (l : List ℕ). gate ∷ (to_be_bytes w64 len ++ l)) (sym (take-append-drop len rest) ∙ ap (λ (l : List ℕ). l ++ drop len rest) (sym is))
+          ∙ ap (λ (k : ℕ). gate ∷ (to_be_bytes w64 k ++ (found ++ drop len rest))) (sym size)
+          ∙ ap (λ (l : List ℕ). gate ∷ l) (sym (append_assoc (to_be_bytes w64 (length found)) found (drop len rest))),
+    )
 
 -- ---- record after record
 
@@ -64,28 +71,18 @@ module _ (bytes : List ℕ) where
   read_none = record { gated = []; spelling = refl; gates_open = tt; same = refl; place = refl; last_is = refl }
 
   pub read_more : (records : List (List ℕ)) (last : Option Gate) (end gate : ℕ) (found : List ℕ) → HasRead (drop 10 bytes) (drop end bytes) records last end → IsNext (drop end bytes) (next.Open gate found)
-    → HasRead (drop 10 bytes) (drop (end + (9 + length found)) bytes) (records ++ found ∷ []) (Some (record { at = end; byte = gate })) (end + (9 + length found))
+      → HasRead (drop 10 bytes) (drop (end + (9 + length found)) bytes) (records ++ found ∷ []) (Some (record { at = end; byte = gate })) (end + (9 + length found))
   read_more records last end gate found read next =
       let size : length (gate ∷ framed found) ≡ 9 + length found = omega (arith, length-framed found) in
       let rest : drop (end + (9 + length found)) bytes ≡ next.0 =
-          sym (drop-drop (9 + length found) end bytes) ∙ ap (λ (l : List ℕ). drop (9 + length found) l) next.3 ∙ drop_at (gate ∷ framed found) next.0 (9 + length found) size in
+      sym (drop-drop (9 + length found) end bytes) ∙ ap (λ (l : List ℕ). drop (9 + length found) l) next.3 ∙ drop_at (gate ∷ framed found) next.0 (9 + length found) size in
       let more = all_gated_more read.gated gate found in
       record {
         gated = read.gated ++ record { gate = gate; bytes = found } ∷ [];
         spelling = read.spelling ∙ ap (λ (l : List ℕ). all_gated read.gated ++ l) next.3 ∙ sym (append_assoc (all_gated read.gated) (gate ∷ framed found) next.0)
-          ∙ ap (λ (l : List ℕ). l ++ next.0) (sym more) ∙ ap (λ (l : List ℕ). all_gated (read.gated ++ record { gate = gate; bytes = found } ∷ []) ++ l) (sym rest);
+            ∙ ap (λ (l : List ℕ). l ++ next.0) (sym more) ∙ ap (λ (l : List ℕ). all_gated (read.gated ++ record { gate = gate; bytes = found } ∷ []) ++ l) (sym rest);
         gates_open = records_more read.gated gate found read.gates_open next.1;
         same = ap (λ (l : List (List ℕ)). l ++ found ∷ []) read.same ∙ sym (map_push (λ (g : Gated). g.bytes) read.gated (record { gate = gate; bytes = found }));
         place = omega (arith, read.place, ap length more, length-append (all_gated read.gated) (gate ∷ framed found), size);
         last_is = (read.gated, found, refl, read.place);
       }
-
-  pub read_done : (records : List (List ℕ)) (last : Option Gate) (end : ℕ) → HasRead (drop 10 bytes) (drop end bytes) records last end → IsNext (drop end bytes) next.Closed
-    → (behind : List ℕ) × HasRead (drop 10 bytes) (0 ∷ behind) records last end
-  read_done records last end read next = (next.0, subst (λ (l : List ℕ). HasRead (drop 10 bytes) l records last end) next.1 read)
-
-  pub read_cut : (records : List (List ℕ)) (last : Option Gate) (end : ℕ) → HasRead (drop 10 bytes) (drop end bytes) records last end → IsNext (drop end bytes) next.Cut
-    → IsReadFault (drop 10 bytes) (error.Cut (length records))
-  read_cut records last end read next =
-      (read.gated, next.0, next.1, read.gates_open, sym (length-map read.gated (λ (g : Gated). g.bytes)) ∙ ap length (sym read.same), next.2, next.4,
-       read.spelling ∙ ap (λ (l : List ℕ). all_gated read.gated ++ l) next.3)

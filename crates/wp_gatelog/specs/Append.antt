@@ -14,5 +14,5 @@ pub record Appended (old new : State) (len : ℕ) : Type 0 where
 -- the records that stood when an append failed.
 abbrev pub Refuses : State → State → AppendError → Type 0
 Refuses old new DiskFault =
-  (old.closed ≡ false) × Rose old.faults new.faults × (new ≡ record old { moments = new.moments; faults = new.faults; closed = true })
+    (old.closed ≡ false) × Rose old.faults new.faults × (new ≡ record old { moments = new.moments; faults = new.faults; closed = true })
 Refuses old new (Closed n) = (old.closed ≡ true) × (n ≡ old.count) × (new ≡ old)

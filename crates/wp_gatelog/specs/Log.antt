@@ -1,7 +1,7 @@
 -- An open log.
 use Rattle.std.specs.Prelude.{◌≡◌, ◌≢◌, ◌⊎◌, ℕ, Bool, List, [], ◌∷◌, ◌++◌, length}
 use Rattle.wp_outside.specs.Disk.{Moment, IfTold, Each, settled}
-use Rattle.wp_gatelog.specs.Spelling.{Gated, IsOpen, framed, frame_of, log_of, records_of}
+use Rattle.wp_gatelog.specs.Spelling.{Gated, IsOpen, framed, frame_of, log_of, records_of, Spells}
 
 pub record State : Type 0 where
   pub moments : List Moment  -- its disk's
@@ -39,10 +39,15 @@ Rests magic log records = IfTold log.moments (IsAtRest magic log.id log.end reco
 abbrev pub Grows : List ℕ → List ℕ → List ℕ → Type 0
 Grows front bytes image = (behind : List ℕ) × (
     (image ≡ front ++ 0 ∷ behind)
-  ⊎ ((gate : ℕ) × IsOpen (record { gate = gate; bytes = bytes }) × (image ≡ front ++ gate ∷ (framed bytes ++ 0 ∷ behind))))
+    ⊎ ((gate : ℕ) × IsOpen (record { gate = gate; bytes = bytes }) × (image ≡ front ++ gate ∷ (framed bytes ++ 0 ∷ behind))))
 
--- the records stand there acknowledged, and behind them nothing, or the new one whole
-pub record BeforeOrAfter (magic : List ℕ) (id : ℕ) (records : List (List ℕ)) (bytes image : List ℕ) : Type 0 where
+-- a crash leaves the records, or those and the new one
+abbrev pub BeforeOrAfter : List ℕ → ℕ → List (List ℕ) → List ℕ → List ℕ → Type 0
+BeforeOrAfter magic id records bytes image = Spells image magic id records ⊎ Spells image magic id (records ++ bytes ∷ [])
+
+-- The records stand there acknowledged, and behind them nothing, or the new one whole: so they stand after an opening
+-- too, whenever it breaks off.
+pub record KeepsAcknowledged (magic : List ℕ) (id : ℕ) (records : List (List ℕ)) (bytes image : List ℕ) : Type 0 where
   pub gated : List Gated
   pub acknowledged : IsAcknowledged gated records
   pub grows : Grows (log_of magic id 1 gated) bytes image

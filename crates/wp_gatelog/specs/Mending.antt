@@ -27,6 +27,6 @@ Reopens front byte behind image = (byte ≢ 1) × (gate : ℕ) × (more : List �
 abbrev pub Mended : List ℕ → ℕ → ℕ → List Gated → List ℕ → Type 0
 Mended magic id head gated image =
     KeepsFront (log_of magic id head gated) image
-  ⊎ ((head ≢ 1) × (gate : ℕ) × KeepsFront (log_of magic id gate gated) image)
-  ⊎ ((before : List Gated) × (last : Gated) × (gate : ℕ) × (gated ≡ before ++ last ∷ []) × (last.gate ≢ 1)
+    ⊎ ((head ≢ 1) × (gate : ℕ) × KeepsFront (log_of magic id gate gated) image)
+    ⊎ ((before : List Gated) × (last : Gated) × (gate : ℕ) × (gated ≡ before ++ last ∷ []) × (last.gate ≢ 1)
     × KeepsFront (log_of magic id 1 (before ++ record { gate = gate; bytes = last.bytes } ∷ [])) image)

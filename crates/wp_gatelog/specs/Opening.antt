@@ -1,10 +1,10 @@
 -- What an opening finds, and what it leaves.
 use Rattle.std.specs.Prelude.{◌≡◌, ◌≢◌, ◌⊎◌, ℕ, List, [], ◌∷◌, ◌++◌, ⊤}
-use Rattle.wp_outside.specs.Disk.{Moment, IfTold, Passes, Adds, after_sync}
+use Rattle.wp_outside.specs.Disk.{Moment, IfTold, Passes, added, after_sync}
 use Rattle.wp_gatelog.specs.declared.error.LogError.{LogError}
 use Rattle.wp_gatelog.specs.declared.error.LogError.TheVariants.{Memory, DiskFault, BadHead, Cut}
 use Rattle.wp_gatelog.specs.Damage.{IsBadHead, IsCut}
-use Rattle.wp_gatelog.specs.Log.{BeforeOrAfter}
+use Rattle.wp_gatelog.specs.Log.{KeepsAcknowledged}
 use Rattle.wp_gatelog.specs.Mending.{Mended}
 use Rattle.wp_gatelog.specs.Moments.{Leaves}
 use Rattle.wp_gatelog.specs.Spelling.{Gated, IsUnmade, Stands, Spells, records_of}
@@ -30,33 +30,33 @@ IsUntouched old new (Cut index) = new ≡ old
 
 -- the refusal comes after nothing but a sync, but where the disk failed
 abbrev pub IsOnlySynced : List Moment → List Moment → LogError → Type 0
-IsOnlySynced old new Memory = Adds after_sync old new
+IsOnlySynced old new Memory = new ≡ added after_sync old
 IsOnlySynced old new DiskFault = ⊤
-IsOnlySynced old new BadHead = Adds after_sync old new
-IsOnlySynced old new (Cut index) = Adds after_sync old new
+IsOnlySynced old new BadHead = new ≡ added after_sync old
+IsOnlySynced old new (Cut index) = new ≡ added after_sync old
 
 -- While a log is mended, a crash leaves its records. Where its head's gate was not 01, it may leave none, and where the
 -- last record's was not, it may leave all but that record.
 abbrev pub Keeps : List ℕ → ℕ → ℕ → List Gated → List ℕ → Type 0
 Keeps magic id head gated image =
     Spells image magic id (records_of gated)
-  ⊎ ((head ≢ 1) × Spells image magic id [])
-  ⊎ ((before : List Gated) × (last : Gated) × (gated ≡ before ++ last ∷ []) × (last.gate ≢ 1) × Spells image magic id (records_of before))
+    ⊎ ((head ≢ 1) × Spells image magic id [])
+    ⊎ ((before : List Gated) × (last : Gated) × (gated ≡ before ++ last ∷ []) × (last.gate ≢ 1) × Spells image magic id (records_of before))
 
 -- While a log is opened, a crash leaves what was found; or, where no log was made, one without records; or a log that is
 -- mended.
 abbrev pub Survives : List ℕ → ℕ → List ℕ → List ℕ → Type 0
 Survives magic asked found image =
     (image ≡ found)
-  ⊎ (IsUnmade found × Spells image magic asked [])
-  ⊎ ((id head : ℕ) × (gated : List Gated) × Stands magic id head gated found × Keeps magic id head gated image)
+    ⊎ (IsUnmade found × Spells image magic asked [])
+    ⊎ ((id head : ℕ) × (gated : List Gated) × Stands magic id head gated found × Keeps magic id head gated image)
 
 -- the same, byte by byte
 abbrev pub Mends : List ℕ → ℕ → List ℕ → List ℕ → Type 0
 Mends magic asked found image =
     (image ≡ found)
-  ⊎ (IsUnmade found × Spells image magic asked [])
-  ⊎ ((id head : ℕ) × (gated : List Gated) × Stands magic id head gated found × Mended magic id head gated image)
+    ⊎ (IsUnmade found × Spells image magic asked [])
+    ⊎ ((id head : ℕ) × (gated : List Gated) × Stands magic id head gated found × Mended magic id head gated image)
 
 -- at each moment of an opening a crash leaves what survives it
 abbrev pub SurvivesThrough : List ℕ → ℕ → List Moment → List Moment → Type 0
@@ -65,7 +65,7 @@ SurvivesThrough magic asked old new = IfTold old (λ m. Passes (Leaves (Survives
 -- at each moment of an opening acknowledged records stand there as before, with a further one or without
 abbrev pub StaysThrough : List ℕ → List Moment → List Moment → Type 0
 StaysThrough magic old new = IfTold old (λ m. (id : ℕ) (records : List (List ℕ)) (bytes : List ℕ)
-  → BeforeOrAfter magic id records bytes m.reads → Passes (Leaves (BeforeOrAfter magic id records bytes)) old new)
+    → KeepsAcknowledged magic id records bytes m.reads → Passes (Leaves (KeepsAcknowledged magic id records bytes)) old new)
 
 -- a log is mended whose head was read
 abbrev pub MendsMade : List ℕ → ℕ → ℕ → List ℕ → List ℕ → Type 0

@@ -34,7 +34,7 @@ EndsWithin at len (next.Open gate found) = at + 9 + length found < len
 abbrev pub IsLast : Option Gate → List Gated → Type 0
 IsLast None gated = gated ≡ []
 IsLast (Some last) gated = (before : List Gated) × (found : List ℕ)
-  × (gated ≡ before ++ record { gate = last.byte; bytes = found } ∷ []) × (last.at ≡ 10 + length (all_gated before))
+    × (gated ≡ before ++ record { gate = last.byte; bytes = found } ∷ []) × (last.at ≡ 10 + length (all_gated before))
 
 -- these records were read of the bytes behind the head, and rest is left
 pub record HasRead (bytes rest : List ℕ) (records : List (List ℕ)) (last : Option Gate) (end : ℕ) : Type 0 where
@@ -51,4 +51,4 @@ IsReadFault bytes error.Memory = ⊤
 IsReadFault bytes error.DiskFault = ⊤
 IsReadFault bytes error.BadHead = ⊥
 IsReadFault bytes (error.Cut index) = (gated : List Gated) × (gate : ℕ) × (behind : List ℕ) × Each IsOpen gated
-  × (length gated ≡ index) × (gate ≢ 0) × IsShort behind × (bytes ≡ all_gated gated ++ gate ∷ behind)
+    × (length gated ≡ index) × (gate ≢ 0) × IsShort behind × (bytes ≡ all_gated gated ++ gate ∷ behind)

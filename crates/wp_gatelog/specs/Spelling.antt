@@ -58,4 +58,4 @@ records_of gated = map (λ g. g.bytes) gated
 abbrev pub Spells : List ℕ → List ℕ → ℕ → List (List ℕ) → Type 0
 Spells bytes magic id records =
     (IsUnmade bytes × (records ≡ []))
-  ⊎ ((head : ℕ) × (gated : List Gated) × Stands magic id head gated bytes × (records ≡ records_of gated))
+    ⊎ ((head : ℕ) × (gated : List Gated) × Stands magic id head gated bytes × (records ≡ records_of gated))

@@ -1,7 +1,7 @@
 //! A change of a disk, and the sync behind it.
 
 ghost use Rattle.std.specs.Prelude.{◌≡◌, ℕ, ◌≤◌, ◌^◌, [], List, take, OnOk};
-ghost use Rattle.wp_outside.specs.Disk.{IfTold, settled, after_write, after_cut, write_end};
+ghost use Rattle.wp_outside.specs.Disk.{IfTold, settled, added, after_write, after_cut, after_sync, write_end};
 ghost use Rattle.wp_outside.specs.Faults.{HasCause};
 ghost use Rattle.wp_gatelog.specs.Moments.{Goes, Within};
 
@@ -13,6 +13,7 @@ pub fn write_synced<D: Disk>(disk: &mut D, at: u64, bytes: &[u8]) -> Result<(), 
         → Goes (Within (after_write at bytes.now (settled before))) (D.moments disk.old) (D.moments disk.new) }
     ensures done { (before : List ℕ) → IfTold (D.moments disk.old) (λ m. m ≡ settled before)
         → OnOk result (IfTold (D.moments disk.new) (λ m. m ≡ settled (after_write at bytes.now (settled before)).reads)) }
+    ensures calls { OnOk result (D.moments disk.new ≡ added after_sync (added (after_write at bytes.now) (D.moments disk.old))) }
     ensures bounded { OnOk result (write_end at bytes.now ≤ 2 ^ 62) }
     ensures untold { D.moments disk.old ≡ [] → D.moments disk.new ≡ [] }
     ensures cause { HasCause (D.faults disk.old) (D.faults disk.new) result }

@@ -6,10 +6,9 @@ ghost use Rattle.wp_outside.specs.Faults.{HasCause};
 ghost use Rattle.wp_gatelog.specs.Heads.{IsHead};
 ghost use Rattle.wp_gatelog.specs.Spelling.{identity};
 
+use crate::gate::CLOSED;
 use wp_fields::Fields;
 use wp_outside::{Disk, Failed};
-
-use crate::gate::CLOSED;
 
 /// How many bytes stand before the first record's gate.
 pub const HEAD_LEN: u64 = 10;

@@ -5,6 +5,7 @@ mod device;
 mod error;
 mod gate;
 mod head;
+mod laws;
 mod log;
 mod make;
 mod mend;
@@ -13,5 +14,9 @@ mod record;
 mod scan;
 
 pub use error::{DiskRefused, LogError};
+pub use laws::{acknowledged_records_are_spelled, bytes_are_read_in_one_way};
 pub use log::{AppendError, GateLog};
 pub use record::{Record, frame};
+
+#[cfg(test)]
+mod tests;

@@ -1,24 +1,23 @@
 //! A log that stands open.
 
 ghost use Rattle.std.specs.Prelude.{◌≡◌, ℕ, ◌+◌, ◌≤◌, ◌^◌, [], ◌∷◌, ◌++◌, List, length, false, IfOk, IfErr, OnOk, MatchResult};
-ghost use Rattle.wp_outside.specs.Disk.{IfTold, Passes, settled, images};
+ghost use Rattle.wp_outside.specs.Disk.{IfTold, Passes, settled, images, added, after_write, after_sync};
 ghost use Rattle.wp_outside.specs.Faults.{HasCause};
 ghost use Rattle.wp_gatelog.specs.Append.{Appended, Refuses};
 ghost use Rattle.wp_gatelog.specs.Errors.{FaultRose};
-ghost use Rattle.wp_gatelog.specs.Log.{Grows, BeforeOrAfter, IsFrame, Rests};
+ghost use Rattle.wp_gatelog.specs.Log.{Grows, BeforeOrAfter, KeepsAcknowledged, IsFrame, Rests};
 ghost use Rattle.wp_gatelog.specs.Moments.{Goes, Leaves};
 ghost use Rattle.wp_gatelog.specs.Opening.{IsFound, IsRefused, IsOnlySynced, SurvivesThrough, StaysThrough};
 ghost use Rattle.wp_gatelog.specs.Spelling.{Spells, frame_of, framed};
-
-use std::alloc::Global;
-use std::marker::Model;
-use wp_outside::{Disk, Failed};
 
 use crate::device::write_synced;
 use crate::error::{DiskRefused, LogError};
 use crate::gate::OPEN;
 use crate::open::{Found, find};
 use crate::record::Record;
+use std::alloc::Global;
+use std::marker::Model;
+use wp_outside::{Disk, Failed};
 
 #[derive(Clone, Copy, Debug, PartialEq, Eq)]
 pub enum AppendError {
@@ -46,13 +45,13 @@ impl<D: Disk> Model for GateLog<D> {
     ghost Value = { State };
 
     ghost view = { λ l. record {
-        moments = D.moments l.disk;
-        faults = D.faults l.disk;
-        id = l.id;
-        found = l.records.items;
-        count = l.count;
-        end = l.end;
-        closed = l.closed
+      moments = D.moments l.disk;
+      faults = D.faults l.disk;
+      id = l.id;
+      found = l.records.items;
+      count = l.count;
+      end = l.end;
+      closed = l.closed;
     } };
 
     ghost invariant = { λ l. (l.count ≤ l.end) × (l.end ≤ 2 ^ 62) };
@@ -61,7 +60,12 @@ impl<D: Disk> Model for GateLog<D> {
 impl<D: Disk> GateLog<D> {
     /// Opens the log that stands on the disk, and mends what a crash left of it. Where none was made, a new one is made,
     /// under this id.
-    pub fn open(alloc: Global, mut disk: D, magic: [u8; 4], id: u32) -> Result<GateLog<D>, DiskRefused<D, LogError>>
+    pub fn open(
+        alloc: Global,
+        mut disk: D,
+        magic: [u8; 4],
+        id: u32,
+    ) -> Result<GateLog<D>, DiskRefused<D, LogError>>
         // The records are those that the disk spelled as it was handed in, and after it they are all that a crash leaves.
         ensures found { IfOk result (λ log. IfTold (D.moments disk) (λ m. IsFound magic id m.reads log.id log.found)) }
         ensures rests { IfOk result (λ log. Rests magic log log.found) }
@@ -75,7 +79,7 @@ impl<D: Disk> GateLog<D> {
         // A crash on the way takes nothing that an opening or an append has acknowledged.
         ensures any_moment { MatchResult result (λ log. SurvivesThrough magic id (D.moments disk) log.moments)
             (λ refused. SurvivesThrough magic id (D.moments disk) (D.moments refused.disk)) }
-        ensures acknowledged { MatchResult result (λ log. StaysThrough magic (D.moments disk) log.moments)
+        ensures kept { MatchResult result (λ log. StaysThrough magic (D.moments disk) log.moments)
             (λ refused. StaysThrough magic (D.moments disk) (D.moments refused.disk)) }
 
         ensures fault { IfErr result (λ refused. FaultRose (D.faults disk) (D.faults refused.disk) refused.why) }
@@ -84,7 +88,14 @@ impl<D: Disk> GateLog<D> {
         match find(alloc, &mut disk, magic, id) {
             Ok(Found { id, records, end }) => {
                 let count = records.len() as u64;
-                Ok(GateLog { disk, records, id, end, count, closed: false })
+                Ok(GateLog {
+                    disk,
+                    records,
+                    id,
+                    end,
+                    count,
+                    closed: false,
+                })
             }
             Err(why) => Err(DiskRefused { disk, why }),
         }
@@ -115,15 +126,28 @@ impl<D: Disk> GateLog<D> {
     pub fn append(&mut self, frame: &[u8]) -> Result<(), AppendError>
         requires { IsFrame frame.now }
 
-        // At each moment a crash leaves the records before it, or those and the new one, whole.
+        // At each moment since its beginning a crash leaves the records before it, or those and the new one, whole.
         ensures any_moment { (magic : List ℕ) (records : List (List ℕ)) (bytes : List ℕ)
             → frame.now ≡ frame_of bytes → Rests magic self.old records
             → Passes (Leaves (BeforeOrAfter magic self.old.id records bytes)) self.old.moments self.new.moments }
+        ensures left { (magic : List ℕ) (records : List (List ℕ)) (bytes : List ℕ)
+            → frame.now ≡ frame_of bytes → Rests magic self.old records
+            → (image : List ℕ) → images self.new.moments image → BeforeOrAfter magic self.old.id records bytes image }
+        ensures kept { (magic : List ℕ) (records : List (List ℕ)) (bytes : List ℕ)
+            → frame.now ≡ frame_of bytes → Rests magic self.old records
+            → Passes (Leaves (KeepsAcknowledged magic self.old.id records bytes)) self.old.moments self.new.moments }
 
         // Once it is acknowledged, a crash leaves the new record.
-        ensures acknowledged { OnOk result ((magic : List ℕ) (records : List (List ℕ)) (bytes : List ℕ)
+        ensures rests { OnOk result ((magic : List ℕ) (records : List (List ℕ)) (bytes : List ℕ)
             → frame.now ≡ frame_of bytes → Rests magic self.old records
             → Rests magic self.new (records ++ bytes ∷ [])) }
+        ensures spelled { OnOk result ((magic : List ℕ) (records : List (List ℕ)) (bytes : List ℕ)
+            → frame.now ≡ frame_of bytes → Rests magic self.old records
+            → (image : List ℕ) → images self.new.moments image → Spells image magic self.new.id (records ++ bytes ∷ [])) }
+
+        // Four calls: the frame behind the closed gate, a sync, that gate, a sync.
+        ensures calls { OnOk result (self.new.moments ≡ added after_sync (added (after_write self.old.end (1 ∷ []))
+            (added after_sync (added (after_write (self.old.end + 1) frame.now) self.old.moments)))) }
 
         ensures ok { OnOk result (Appended self.old self.new (length frame.now)) }
         ensures err { IfErr result (Refuses self.old self.new) }
@@ -165,6 +189,8 @@ fn append_frame<D: Disk>(disk: &mut D, end: u64, frame: &[u8]) -> Result<(), Fai
     ensures done { (front bytes : List ℕ) → frame.now ≡ frame_of bytes → end ≡ length front
         → IfTold (D.moments disk.old) (λ m. m ≡ settled (front ++ 0 ∷ []))
         → OnOk result (IfTold (D.moments disk.new) (λ m. m ≡ settled (front ++ 1 ∷ (framed bytes ++ 0 ∷ [])))) }
+    ensures calls { OnOk result (D.moments disk.new ≡ added after_sync (added (after_write end (1 ∷ []))
+        (added after_sync (added (after_write (end + 1) frame.now) (D.moments disk.old))))) }
     ensures bounded { OnOk result (end + 1 + length frame.now ≤ 2 ^ 62) }
     ensures cause { HasCause (D.faults disk.old) (D.faults disk.new) result }
 {

@@ -7,11 +7,10 @@ ghost use Rattle.wp_gatelog.specs.Moments.{Goes, Leaves};
 ghost use Rattle.wp_gatelog.specs.Heads.{SpellsNone};
 ghost use Rattle.wp_gatelog.specs.Spelling.{IsUnmade, log_of};
 
-use wp_outside::{Disk, Failed};
-
 use crate::device::{cut_synced, write_synced};
 use crate::gate::{CLOSED, OPEN};
 use crate::head::head_bytes;
+use wp_outside::{Disk, Failed};
 
 /// Makes a log without records on a disk of so many bytes. Its head's gate stays closed until the rest of the head is
 /// on the disk for good.

@@ -7,11 +7,10 @@ ghost use Rattle.wp_gatelog.specs.Log.{IsAtRest};
 ghost use Rattle.wp_gatelog.specs.Mending.{IsReadLog, KeepsFront, Reopens, Mended};
 ghost use Rattle.wp_gatelog.specs.Moments.{Goes, Leaves};
 
-use wp_outside::{Disk, Failed};
-
 use crate::device::{cut_synced, write_synced};
 use crate::gate::{Gate, OPEN};
 use crate::scan::Scan;
+use wp_outside::{Disk, Failed};
 
 /// Cuts what stands behind the gate that ends the log, and opens its head's gate and the last record's gate wholly.
 /// `len` is how many bytes the disk has, `head` the head's gate.

@@ -8,15 +8,14 @@ ghost use Rattle.wp_gatelog.specs.Log.{IsAtRest};
 ghost use Rattle.wp_gatelog.specs.Moments.{Goes, Leaves};
 ghost use Rattle.wp_gatelog.specs.Opening.{IsFound, IsRefused, IsUntouched, IsOnlySynced, Mends, MendsMade};
 
-use std::alloc::Global;
-use wp_outside::Disk;
-
 use crate::error::LogError;
 use crate::head::{HEAD_LEN, Head, read_head};
 use crate::make::make;
 use crate::mend::mend;
 use crate::record::Record;
 use crate::scan::{Scan, read_records};
+use std::alloc::Global;
+use wp_outside::Disk;
 
 /// What an opening found.
 #[derive(Drop)]
@@ -27,7 +26,12 @@ pub struct Found {
 }
 
 /// Syncs the disk, and then makes a log, or reads and mends the one that is there.
-pub fn find<D: Disk>(alloc: Global, disk: &mut D, magic: [u8; 4], id: u32) -> Result<Found, LogError>
+pub fn find<D: Disk>(
+    alloc: Global,
+    disk: &mut D,
+    magic: [u8; 4],
+    id: u32,
+) -> Result<Found, LogError>
     requires { length magic ≡ 4 }
     ensures passed { IfTold (D.moments disk.old) (λ m. Goes (Leaves (Mends magic id m.reads)) (D.moments disk.old) (D.moments disk.new)) }
     ensures found { IfOk result (λ found. IfTold (D.moments disk.old) (λ m. IsFound magic id m.reads found.id found.records.items)) }
@@ -44,7 +48,12 @@ pub fn find<D: Disk>(alloc: Global, disk: &mut D, magic: [u8; 4], id: u32) -> Re
 }
 
 /// Makes a log, or reads and mends the one that is there, on a disk that has all of its bytes for good.
-pub fn open_synced<D: Disk>(alloc: Global, disk: &mut D, magic: [u8; 4], id: u32) -> Result<Found, LogError>
+pub fn open_synced<D: Disk>(
+    alloc: Global,
+    disk: &mut D,
+    magic: [u8; 4],
+    id: u32,
+) -> Result<Found, LogError>
     requires { length magic ≡ 4 }
     ensures passed { (bytes : List ℕ) → IfTold (D.moments disk.old) (λ m. m ≡ settled bytes)
         → Goes (Leaves (Mends magic id bytes)) (D.moments disk.old) (D.moments disk.new) }
@@ -64,18 +73,32 @@ pub fn open_synced<D: Disk>(alloc: Global, disk: &mut D, magic: [u8; 4], id: u32
     match read_head(disk, &magic)? {
         Head::Unmade => {
             make(disk, len, magic, id)?;
-            Ok(Found { id, records: Vec::new(alloc), end: HEAD_LEN })
+            Ok(Found {
+                id,
+                records: Vec::new(alloc),
+                end: HEAD_LEN,
+            })
         }
         Head::Bad => Err(LogError::BadHead),
         Head::Made { gate, id } => {
-            let Scan { records, last: _, end } = open_made(alloc, disk, len, gate, id)?;
+            let Scan {
+                records,
+                last: _,
+                end,
+            } = open_made(alloc, disk, len, gate, id)?;
             Ok(Found { id, records, end })
         }
     }
 }
 
 /// Reads and mends the records of a log whose head was read, on a disk that has all of its `len` bytes for good.
-pub fn open_made<D: Disk>(alloc: Global, disk: &mut D, len: u64, head: u8, id: u32) -> Result<Scan, LogError>
+pub fn open_made<D: Disk>(
+    alloc: Global,
+    disk: &mut D,
+    len: u64,
+    head: u8,
+    id: u32,
+) -> Result<Scan, LogError>
     requires { len ≤ 2 ^ 62 }
     ensures passed { (magic bytes : List ℕ) → BeginsLog magic id head len bytes
         → IfTold (D.moments disk.old) (λ m. m ≡ settled bytes)

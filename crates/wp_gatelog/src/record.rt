@@ -3,11 +3,10 @@
 ghost use Rattle.std.specs.Prelude.{◌≡◌, ℕ, List, IfOk};
 ghost use Rattle.wp_gatelog.specs.Spelling.{frame_of};
 
+use crate::gate::CLOSED;
 use std::alloc::{AllocError, Global};
 use std::marker::Model;
 use wp_fields::{push_piece, push_u8, push_u64};
-
-use crate::gate::CLOSED;
 
 /// A record that stood in a log. Clauses see its bytes.
 #[derive(Drop)]

@@ -5,14 +5,13 @@ ghost use Rattle.wp_outside.specs.Disk.{IfTold};
 ghost use Rattle.wp_gatelog.specs.Errors.{FaultRose, IsOutside};
 ghost use Rattle.wp_gatelog.specs.Scanning.{IsStart, IsNext, EndsWithin, HasRead, IsReadFault};
 
-use std::alloc::Global;
-use wp_fields::Fields;
-use wp_outside::Disk;
-
 use crate::error::LogError;
 use crate::gate::{CLOSED, Gate};
 use crate::head::HEAD_LEN;
 use crate::record::Record;
+use std::alloc::Global;
+use wp_fields::Fields;
+use wp_outside::Disk;
 
 /// How many bytes a gate and the length behind it take.
 const START_LEN: u64 = 9;
@@ -62,9 +61,14 @@ pub fn read_records<D: Disk>(alloc: Global, disk: &mut D, len: u64) -> Result<Sc
     'gates: loop {
         match read_next(alloc, disk, end, len)? {
             Next::Closed => return Ok(Scan { records, last, end }),
-            Next::Cut => return Err(LogError::Cut { index: records.len() as u64 }),
+            Next::Cut => return Err(LogError::Cut {
+                index: records.len() as u64,
+            }),
             Next::Open { gate, record } => {
-                last = Some(Gate { at: end, byte: gate });
+                last = Some(Gate {
+                    at: end,
+                    byte: gate,
+                });
                 end += START_LEN + record.bytes().len() as u64;
                 records.push(record)?;
             }
@@ -87,12 +91,18 @@ fn read_next<D: Disk>(alloc: Global, disk: &mut D, at: u64, len: u64) -> Result<
     match start_of(&bytes[..read]) {
         Start::Closed => Ok(Next::Closed),
         Start::Short => Ok(Next::Cut),
-        Start::Open { gate, len: record_len } => {
+        Start::Open {
+            gate,
+            len: record_len,
+        } => {
             if (len - at).saturating_sub(START_LEN) <= record_len {
                 return Ok(Next::Cut);
             }
             match read_bytes(alloc, disk, at + START_LEN, record_len)? {
-                Some(bytes) => Ok(Next::Open { gate, record: Record::of(bytes) }),
+                Some(bytes) => Ok(Next::Open {
+                    gate,
+                    record: Record::of(bytes),
+                }),
                 None => Ok(Next::Cut),
             }
         }
@@ -117,7 +127,12 @@ fn start_of(bytes: &[u8]) -> Start
 }
 
 /// Reads so many bytes from `at` on, or none where there are fewer.
-fn read_bytes<D: Disk>(alloc: Global, disk: &mut D, at: u64, len: u64) -> Result<Option<Vec<u8>>, LogError>
+fn read_bytes<D: Disk>(
+    alloc: Global,
+    disk: &mut D,
+    at: u64,
+    len: u64,
+) -> Result<Option<Vec<u8>>, LogError>
     requires { at + len ≤ 2 ^ 63 - 1 }
     ensures found { IfOk result (λ found. IfTold (D.moments disk.old) (λ m. at + len ≤ length m.reads
         → IsSomeAnd found (λ bytes. bytes.items ≡ take len (drop at m.reads)))) }

@@ -11,18 +11,18 @@ use Rattle.wp_gatelog.proofs.make.make.Goals as goal
 pub returns-in_err-write_synced-clause-passed : goal.returns-in_err-write_synced-clause-passed
 returns-in_err-write_synced-clause-passed g c = λ before unmade len_is told.
     goes_on (Leaves (SpellsNone c.args.magic c.args.id)) _ _ _
-      (goes_map _ _ (none_closed c.args.magic c.args.id) _ _ (c.close_head.ensures.passed before unmade len_is told))
-      (goes_map _ _ (none_staged c.args.magic c.head_bytes.result c.args.id) _ _ (c.write_synced.ensures.passed (0 ∷ []) (c.in_ok-close_head.ensures.done before unmade len_is told)))
+    (goes_map _ _ (none_closed c.args.magic c.args.id) _ _ (c.close_head.ensures.passed before unmade len_is told))
+    (goes_map _ _ (none_staged c.args.magic c.head_bytes.result c.args.id) _ _ (c.write_synced.ensures.passed (0 ∷ []) (c.in_ok-close_head.ensures.done before unmade len_is told)))
 
 pub returns-clause-passed : goal.returns-clause-passed
 returns-clause-passed g c = λ before unmade len_is told.
     let closed = c.in_ok-close_head.ensures.done before unmade len_is told in
     let staged = told_as _ _ (0 ∷ (identity c.args.magic c.args.id ++ 0 ∷ [])) (reads_behind (0 ∷ []) c.head_bytes.result 1 refl ∙ ap (λ (l : List ℕ). 0 ∷ l) c.head_bytes.ensures) (c.in_ok-write_synced.ensures.done (0 ∷ []) closed) in
     goes_on (Leaves (SpellsNone c.args.magic c.args.id)) _ _ _
-      (goes_on (Leaves (SpellsNone c.args.magic c.args.id)) _ _ _
-        (goes_map _ _ (none_closed c.args.magic c.args.id) _ _ (c.close_head.ensures.passed before unmade len_is told))
-        (goes_map _ _ (none_staged c.args.magic c.head_bytes.result c.args.id) _ _ (c.write_synced.ensures.passed (0 ∷ []) closed)))
-      (goes_map _ _ (none_opened c.args.magic c.args.id) _ _ (c.write_synced-2.ensures.passed (0 ∷ (identity c.args.magic c.args.id ++ 0 ∷ [])) staged))
+    (goes_on (Leaves (SpellsNone c.args.magic c.args.id)) _ _ _
+    (goes_map _ _ (none_closed c.args.magic c.args.id) _ _ (c.close_head.ensures.passed before unmade len_is told))
+    (goes_map _ _ (none_staged c.args.magic c.head_bytes.result c.args.id) _ _ (c.write_synced.ensures.passed (0 ∷ []) closed)))
+    (goes_map _ _ (none_opened c.args.magic c.args.id) _ _ (c.write_synced-2.ensures.passed (0 ∷ (identity c.args.magic c.args.id ++ 0 ∷ [])) staged))
 
 pub returns-clause-done : goal.returns-clause-done
 returns-clause-done g c = λ before unmade len_is told.

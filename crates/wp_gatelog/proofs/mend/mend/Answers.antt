@@ -12,39 +12,39 @@ use Rattle.wp_gatelog.proofs.mend.mend.Goals as goal
 pub returns-in_err-cut_behind-clause-passed : goal.returns-in_err-cut_behind-clause-passed
 returns-in_err-cut_behind-clause-passed g c = λ magic id bytes log told.
     goes_map _ (Leaves (Mended magic id c.args.head log.gated)) (mended_cut magic id c.args.head log.gated) _ _
-      (c.cut_behind.ensures.passed (log_of magic id c.args.head log.gated) log.stands.behind log.place (log.size ∙ ap length log.stands.spelling) (told_as _ _ _ log.stands.spelling told))
+    (c.cut_behind.ensures.passed (log_of magic id c.args.head log.gated) log.stands.behind log.place (log.size ∙ ap length log.stands.spelling) (told_as _ _ _ log.stands.spelling told))
 
 pub returns-in_err-open_wholly-clause-passed : goal.returns-in_err-open_wholly-clause-passed
 returns-in_err-open_wholly-clause-passed g c = λ magic id bytes log told.
     let cut = goes_map _ (Leaves (Mended magic id c.args.head log.gated)) (mended_cut magic id c.args.head log.gated) _ _
-      (c.cut_behind.ensures.passed (log_of magic id c.args.head log.gated) log.stands.behind log.place (log.size ∙ ap length log.stands.spelling) (told_as _ _ _ log.stands.spelling told)) in
+    (c.cut_behind.ensures.passed (log_of magic id c.args.head log.gated) log.stands.behind log.place (log.size ∙ ap length log.stands.spelling) (told_as _ _ _ log.stands.spelling told)) in
     let headless = (c.in_ok-cut_behind.ensures.done (log_of magic id c.args.head log.gated) log.stands.behind log.place (log.size ∙ ap length log.stands.spelling) (told_as _ _ _ log.stands.spelling told)) in
     let head = goes_map _ (Leaves (Mended magic id c.args.head log.gated)) (mended_head magic id c.args.head log.gated) _ _
-      (c.open_wholly.ensures.passed [] ((identity magic id ++ all_gated log.gated) ++ 0 ∷ []) refl headless) in
+    (c.open_wholly.ensures.passed [] ((identity magic id ++ all_gated log.gated) ++ 0 ∷ []) refl headless) in
     goes_on (Leaves (Mended magic id c.args.head log.gated)) _ _ _ cut head
 
 pub returns-in-Some-clause-passed : goal.returns-in-Some-clause-passed
 returns-in-Some-clause-passed g c = λ magic id bytes log told.
     let cut = goes_map _ (Leaves (Mended magic id c.args.head log.gated)) (mended_cut magic id c.args.head log.gated) _ _
-      (c.cut_behind.ensures.passed (log_of magic id c.args.head log.gated) log.stands.behind log.place (log.size ∙ ap length log.stands.spelling) (told_as _ _ _ log.stands.spelling told)) in
+    (c.cut_behind.ensures.passed (log_of magic id c.args.head log.gated) log.stands.behind log.place (log.size ∙ ap length log.stands.spelling) (told_as _ _ _ log.stands.spelling told)) in
     let headless = (c.in_ok-cut_behind.ensures.done (log_of magic id c.args.head log.gated) log.stands.behind log.place (log.size ∙ ap length log.stands.spelling) (told_as _ _ _ log.stands.spelling told)) in
     let head = goes_map _ (Leaves (Mended magic id c.args.head log.gated)) (mended_head magic id c.args.head log.gated) _ _
-      (c.open_wholly.ensures.passed [] ((identity magic id ++ all_gated log.gated) ++ 0 ∷ []) refl headless) in
+    (c.open_wholly.ensures.passed [] ((identity magic id ++ all_gated log.gated) ++ 0 ∷ []) refl headless) in
     let whole = (c.in_ok-open_wholly.ensures.done [] ((identity magic id ++ all_gated log.gated) ++ 0 ∷ []) refl headless) in
     let last = rw c.in-Some.is at log.last_is in
     let split = told_as _ _ _ (last_split magic id c.args.head log.gated c.in-Some.gate last) whole in
     let place = last_place magic id c.args.head log.gated c.in-Some.gate last log.magic_size in
     goes_on (Leaves (Mended magic id c.args.head log.gated)) _ _ _ (goes_on (Leaves (Mended magic id c.args.head log.gated)) _ _ _ cut head)
-      (goes_map _ (Leaves (Mended magic id c.args.head log.gated)) (mended_last magic id c.args.head log.gated c.in-Some.gate last) _ _
-        (c.open_wholly-in-Some.ensures.passed (log_of magic id 1 last.0) (framed last.1 ++ 0 ∷ []) place split))
+    (goes_map _ (Leaves (Mended magic id c.args.head log.gated)) (mended_last magic id c.args.head log.gated c.in-Some.gate last) _ _
+    (c.open_wholly-in-Some.ensures.passed (log_of magic id 1 last.0) (framed last.1 ++ 0 ∷ []) place split))
 
 pub returns-in-None-clause-passed : goal.returns-in-None-clause-passed
 returns-in-None-clause-passed g c = λ magic id bytes log told.
     let cut = goes_map _ (Leaves (Mended magic id c.args.head log.gated)) (mended_cut magic id c.args.head log.gated) _ _
-      (c.cut_behind.ensures.passed (log_of magic id c.args.head log.gated) log.stands.behind log.place (log.size ∙ ap length log.stands.spelling) (told_as _ _ _ log.stands.spelling told)) in
+    (c.cut_behind.ensures.passed (log_of magic id c.args.head log.gated) log.stands.behind log.place (log.size ∙ ap length log.stands.spelling) (told_as _ _ _ log.stands.spelling told)) in
     let headless = (c.in_ok-cut_behind.ensures.done (log_of magic id c.args.head log.gated) log.stands.behind log.place (log.size ∙ ap length log.stands.spelling) (told_as _ _ _ log.stands.spelling told)) in
     let head = goes_map _ (Leaves (Mended magic id c.args.head log.gated)) (mended_head magic id c.args.head log.gated) _ _
-      (c.open_wholly.ensures.passed [] ((identity magic id ++ all_gated log.gated) ++ 0 ∷ []) refl headless) in
+    (c.open_wholly.ensures.passed [] ((identity magic id ++ all_gated log.gated) ++ 0 ∷ []) refl headless) in
     goes_on (Leaves (Mended magic id c.args.head log.gated)) _ _ _ cut head
 
 pub returns-in-Some-clause-done : goal.returns-in-Some-clause-done
@@ -55,7 +55,7 @@ returns-in-Some-clause-done g c = λ magic id bytes read told.
     let split = told_as _ _ _ (last_split magic id c.args.head log.gated c.in-Some.gate log.last_is) whole in
     let place = last_place magic id c.args.head log.gated c.in-Some.gate log.last_is log.magic_size in
     on_ok_weaker _ (told_map _ (IsAtRest magic id c.args.scan.now.end c.args.scan.now.records.items) (rests_last magic id c.args.head c.args.scan.now.records.items c.args.scan.now.end c.args.len bytes c.in-Some.gate log) _)
-      (c.open_wholly-in-Some.ensures.done (log_of magic id 1 log.last_is.0) (framed log.last_is.1 ++ 0 ∷ []) place split)
+    (c.open_wholly-in-Some.ensures.done (log_of magic id 1 log.last_is.0) (framed log.last_is.1 ++ 0 ∷ []) place split)
 
 pub returns-in-None-clause-done : goal.returns-in-None-clause-done
 returns-in-None-clause-done g c = λ magic id bytes read told.

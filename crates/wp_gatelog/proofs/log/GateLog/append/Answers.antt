@@ -1,17 +1,41 @@
-use Rattle.std.proofs.Common.{◌≡◌, ◌+◌, ◌∷◌, [], ◌++◌, ℕ, List, length, arith}
-use Rattle.wp_gatelog.specs.Log.{State, Rests}
+use Rattle.std.proofs.Common.{◌≡◌, ◌⊎◌, inl, ◌+◌, ◌∷◌, [], ◌++◌, ℕ, List, length, arith}
 use Rattle.wp_gatelog.proofs.AppendLemmas.{append_passes, append_rests, fits_frame}
+use Rattle.wp_gatelog.proofs.SurvivalLemmas.{passes_before_or_after, left_before_or_after, rest_spells}
 use Rattle.wp_gatelog.proofs.log.GateLog.append.Goals as goal
+
+pub returns-in-Ok-clause-kept : goal.returns-in-Ok-clause-kept
+returns-in-Ok-clause-kept g c = rw (← c.self.view_is) (λ magic records bytes is rest.
+    append_passes magic c.self.inside.id c.self.inside.end records bytes _ _ (λ front. c.append_frame.ensures.passed front bytes is) rest)
 
 pub returns-in-Ok-clause-any_moment : goal.returns-in-Ok-clause-any_moment
 returns-in-Ok-clause-any_moment g c = rw (← c.self.view_is) (λ magic records bytes is rest.
+    passes_before_or_after magic c.self.inside.id records bytes _ _ (append_passes magic c.self.inside.id c.self.inside.end records bytes _ _ (λ front. c.append_frame.ensures.passed front bytes is) rest))
+
+pub returns-in-Ok-clause-left : goal.returns-in-Ok-clause-left
+returns-in-Ok-clause-left g c = rw (← c.self.view_is) (λ magic records bytes is rest.
+    left_before_or_after magic c.self.inside.id c.self.inside.end records bytes _ _ rest (append_passes magic c.self.inside.id c.self.inside.end records bytes _ _ (λ front. c.append_frame.ensures.passed front bytes is) rest))
+
+pub returns-in-Err-clause-kept : goal.returns-in-Err-clause-kept
+returns-in-Err-clause-kept g c = rw (← c.self.view_is) (λ magic records bytes is rest.
     append_passes magic c.self.inside.id c.self.inside.end records bytes _ _ (λ front. c.append_frame.ensures.passed front bytes is) rest)
 
 pub returns-in-Err-clause-any_moment : goal.returns-in-Err-clause-any_moment
 returns-in-Err-clause-any_moment g c = rw (← c.self.view_is) (λ magic records bytes is rest.
-    append_passes magic c.self.inside.id c.self.inside.end records bytes _ _ (λ front. c.append_frame.ensures.passed front bytes is) rest)
+    passes_before_or_after magic c.self.inside.id records bytes _ _ (append_passes magic c.self.inside.id c.self.inside.end records bytes _ _ (λ front. c.append_frame.ensures.passed front bytes is) rest))
 
-pub returns-in-Ok-clause-acknowledged : goal.returns-in-Ok-clause-acknowledged
-returns-in-Ok-clause-acknowledged g c = rw (← c.self.view_is) (λ magic records bytes is rest.
+pub returns-in-Err-clause-left : goal.returns-in-Err-clause-left
+returns-in-Err-clause-left g c = rw (← c.self.view_is) (λ magic records bytes is rest.
+    left_before_or_after magic c.self.inside.id c.self.inside.end records bytes _ _ rest (append_passes magic c.self.inside.id c.self.inside.end records bytes _ _ (λ front. c.append_frame.ensures.passed front bytes is) rest))
+
+pub returns-in-Ok-clause-rests : goal.returns-in-Ok-clause-rests
+returns-in-Ok-clause-rests g c = rw (← c.self.view_is) (λ magic records bytes is rest.
     let fits = fits_frame c.args.frame.now bytes is (omega (arith, c.in-Ok.ensures.bounded)) in
     append_rests magic c.self.inside.id c.self.inside.end records bytes c.args.frame.now is fits _ _ (λ front. c.append_frame.ensures.passed front bytes is) (λ front. c.in-Ok.ensures.done front bytes is) rest)
+
+pub returns-in-Ok-clause-spelled : goal.returns-in-Ok-clause-spelled
+returns-in-Ok-clause-spelled g c = rw (← c.self.view_is) (λ magic records bytes is rest.
+    let fits = fits_frame c.args.frame.now bytes is (omega (arith, c.in-Ok.ensures.bounded)) in
+    rest_spells magic c.self.inside.id (c.self.inside.end + length c.args.frame.now) (records ++ bytes ∷ []) _ (append_rests magic c.self.inside.id c.self.inside.end records bytes c.args.frame.now is fits _ _ (λ front. c.append_frame.ensures.passed front bytes is) (λ front. c.in-Ok.ensures.done front bytes is) rest))
+
+pub returns-then-self-clause-left : goal.returns-then-self-clause-left
+returns-then-self-clause-left g c = λ magic records bytes is rest image h. inl (rest_spells magic _ _ records _ rest image h)

@@ -7,11 +7,11 @@ returns-in-Ok-clause-spelled g c = rest_spells c.args.magic _ _ _ _ c.in-Ok.ensu
 pub returns-in-Ok-clause-any_moment : goal.returns-in-Ok-clause-any_moment
 returns-in-Ok-clause-any_moment g c = survives_through c.args.magic c.args.id _ _ c.find.ensures.passed
 
-pub returns-in-Ok-clause-acknowledged : goal.returns-in-Ok-clause-acknowledged
-returns-in-Ok-clause-acknowledged g c = stays_through c.args.magic c.args.id _ _ c.find.ensures.passed
+pub returns-in-Ok-clause-kept : goal.returns-in-Ok-clause-kept
+returns-in-Ok-clause-kept g c = stays_through c.args.magic c.args.id _ _ c.find.ensures.passed
 
 pub returns-in-Err-clause-any_moment : goal.returns-in-Err-clause-any_moment
 returns-in-Err-clause-any_moment g c = survives_through c.args.magic c.args.id _ _ c.find.ensures.passed
 
-pub returns-in-Err-clause-acknowledged : goal.returns-in-Err-clause-acknowledged
-returns-in-Err-clause-acknowledged g c = stays_through c.args.magic c.args.id _ _ c.find.ensures.passed
+pub returns-in-Err-clause-kept : goal.returns-in-Err-clause-kept
+returns-in-Err-clause-kept g c = stays_through c.args.magic c.args.id _ _ c.find.ensures.passed

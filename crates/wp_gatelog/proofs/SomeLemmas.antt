@@ -1,0 +1,175 @@
+-- Any bytes are a log, or have a bad head, or have a cut record.
+use Rattle.std.proofs.Common.{◌≡◌, ◌≢◌, ◌⊎◌, inl, inr, ℕ, zero, suc, ◌+◌, ◌-◌, ◌<◌, ◌≤◌, ◌^◌, List, [], ◌∷◌, ◌++◌, length, take, drop, get_or, refl, sym, ◌∙◌, ap, subst, arith, length-append, length-take, length-drop}
+use Rattle.std.proofs.lemmas.Bool.{cases_eq, cases_lt}
+use Rattle.std.proofs.lemmas.List.{append_assoc, take-append-drop, drop-drop, drop_more, length-take-le, get_or-drop, get_or-take, get_or_past}
+use Rattle.std.proofs.lemmas.Nat.{be_bytes_4, be_bytes_8}
+use Rattle.std.specs.Int.{w32, w64, to_be_bytes, from_be_bytes}
+use Rattle.wp_outside.specs.Disk.{Each}
+use Rattle.wp_gatelog.specs.Damage.{IsBadHead, IsCut, IsShort, counted}
+use Rattle.wp_gatelog.specs.Spelling.{Gated, IsOpen, framed, identity, all_gated, log_of, records_of, IsUnmade, Stands, Spells}
+use Rattle.wp_gatelog.proofs.HeadLemmas.{identity_spelled}
+
+abbrev AreBytes : List ℕ → Type 0
+AreBytes bytes = (i : ℕ) → get_or bytes i 0 < 256
+
+drop_bytes : (n : ℕ) (bytes : List ℕ) → AreBytes bytes → AreBytes (drop n bytes)
+drop_bytes n bytes small i = rw (get_or-drop n bytes i 0) (small (n + i))
+
+take_bytes : (n : ℕ) (bytes : List ℕ) → n ≤ length bytes → AreBytes bytes → (i : ℕ) → get_or (take n bytes) i 0 < 256
+take_bytes n bytes within small i = elim (cases_lt i n) [
+  | inl below ↦ rw (get_or-take n bytes i 0 below) (small i)
+  | inr past ↦ rw (get_or_past (take n bytes) i 0 (omega (arith, length-take n bytes))) (omega arith)
+]
+
+-- ---- the records
+
+-- a closed gate, or an open one without a whole record behind it
+abbrev Ends : List ℕ → Type 0
+Ends tail = ((behind : List ℕ) × (tail ≡ 0 ∷ behind)) ⊎ ((gate : ℕ) × (behind : List ℕ) × (gate ≢ 0) × IsShort behind × (tail ≡ gate ∷ behind))
+
+record Reads (bytes : List ℕ) : Type 0 where
+  gated : List Gated
+  tail : List ℕ
+  gates_open : Each IsOpen gated
+  spelling : bytes ≡ all_gated gated ++ tail
+  ends : Ends tail
+
+counted_fits : (behind : List ℕ) → 8 ≤ length behind → AreBytes behind → counted behind < 2 ^ 64
+unfolding counted
+counted_fits behind within small =
+    let b = take_bytes 8 behind within small in
+    omega (arith, b 0, b 1, b 2, b 3, b 4, b 5, b 6, b 7)
+
+number_spelled : (behind : List ℕ) → 8 ≤ length behind → AreBytes behind → to_be_bytes w64 (counted behind) ≡ take 8 behind
+unfolding counted
+number_spelled behind within small = be_bytes_8 (take 8 behind) (from_be_bytes w64 (take 8 behind)) (length-take-le 8 behind within) (take_bytes 8 behind within small) refl
+
+whole_split : (behind : List ℕ) → 9 + counted behind ≤ length behind → AreBytes behind
+    → (length (take (counted behind) (drop 8 behind)) ≡ counted behind) × (behind ≡ framed (take (counted behind) (drop 8 behind)) ++ drop (counted behind) (drop 8 behind))
+unfolding framed
+whole_split behind whole small =
+    let len : ℕ = counted behind in
+    let found : List ℕ = take len (drop 8 behind) in
+    let rest : List ℕ = drop len (drop 8 behind) in
+    let size : length found ≡ len = length-take-le len (drop 8 behind) (omega (arith, whole, length-drop 8 behind)) in
+    let number : to_be_bytes w64 (length found) ≡ take 8 behind = ap (to_be_bytes w64) size ∙ number_spelled behind (omega (arith, whole)) small in (
+      size,
+      sym (take-append-drop 8 behind) ∙ ap (λ (l : List ℕ). take 8 behind ++ l) (sym (take-append-drop len (drop 8 behind)))
+          ∙ ap (λ (l : List ℕ). l ++ (found ++ rest)) (sym number) ∙ sym (append_assoc (to_be_bytes w64 (length found)) found rest),
+    )
+
+reads_more : (gate : ℕ) (found rest behind : List ℕ) → IsOpen (record { gate = gate; bytes = found }) → behind ≡ framed found ++ rest → Reads rest → Reads (gate ∷ behind)
+reads_more gate found rest behind opened is reads = record {
+  gated = record { gate = gate; bytes = found } ∷ reads.gated;
+  tail = reads.tail;
+  gates_open = (opened, reads.gates_open);
+  spelling = ap (λ (l : List ℕ). gate ∷ l) (is ∙ ap (λ (l : List ℕ). framed found ++ l) reads.spelling ∙ sym (append_assoc (framed found) (all_gated reads.gated) reads.tail));
+  ends = reads.ends;
+}
+
+reads_some : (n : ℕ) (bytes : List ℕ) → length bytes ≤ n → 0 < length bytes → AreBytes bytes → Reads bytes
+reads_some zero bytes within some small = absurd (omega arith)
+reads_some (suc n) [] within some small = absurd (omega arith)
+reads_some (suc n) (gate ∷ behind) within some small = elim (cases_eq gate 0) [
+  | inl shut ↦ record { gated = []; tail = gate ∷ behind; gates_open = tt; spelling = refl; ends = inl (behind, λ i. shut i ∷ behind) }
+  | inr opens ↦ elim (cases_lt (length behind) (9 + counted behind)) [
+    | inl short ↦ record { gated = []; tail = gate ∷ behind; gates_open = tt; spelling = refl; ends = inr (gate, behind, opens, short, refl) }
+    | inr whole ↦
+        let bytes : AreBytes behind = λ i. small (suc i) in
+        let split = whole_split behind whole bytes in
+        let rest : List ℕ = drop (counted behind) (drop 8 behind) in
+        let size : length rest ≡ length behind - 8 - counted behind = length-drop (counted behind) (drop 8 behind) ∙ ap (λ (k : ℕ). k - counted behind) (length-drop 8 behind) in
+        let fits = counted_fits behind (omega (arith, whole)) bytes in
+        reads_more gate (take (counted behind) (drop 8 behind)) rest behind (record { gate = opens; length_fits = omega (arith, split.0, fits) }) split.1
+        (reads_some n rest (omega (arith, size, whole, within)) (omega (arith, size, whole)) (drop_bytes (counted behind) (drop 8 behind) (drop_bytes 8 behind bytes)))
+  ]
+]
+
+-- ---- the head
+
+same_list : (xs ys : List ℕ) → (xs ≡ ys) ⊎ (xs ≢ ys)
+same_list [] [] = inl refl
+same_list [] (y ∷ ys) = inr (λ e. cc e)
+same_list (x ∷ xs) [] = inr (λ e. cc e)
+same_list (x ∷ xs) (y ∷ ys) = elim (cases_eq x y) [
+  | inl head ↦ elim (same_list xs ys) [
+    | inl tail ↦ inl (λ i. head i ∷ tail i)
+    | inr other ↦ inr (λ e. other (ap (λ (l : List ℕ). drop 1 l) e))
+  ]
+  | inr other ↦ inr (λ e. other (cc e))
+]
+
+-- what any bytes are
+abbrev pub Reading : List ℕ → List ℕ → Type 0
+Reading bytes magic = ((id : ℕ) × (records : List (List ℕ)) × Spells bytes magic id records) ⊎ IsBadHead magic bytes ⊎ ((index : ℕ) × IsCut magic index bytes)
+
+module _ (magic : List ℕ) (bytes : List ℕ) (head : ℕ) (opened : head ≢ 0) where
+  read_behind : (id : ℕ) (behind : List ℕ) → bytes ≡ head ∷ (identity magic id ++ behind) → Reads behind → Reading bytes magic
+  read_behind id behind is reads =
+      let log : bytes ≡ log_of magic id head reads.gated ++ reads.tail =
+      is ∙ ap (λ (l : List ℕ). head ∷ (identity magic id ++ l)) reads.spelling ∙ ap (λ (l : List ℕ). head ∷ l) (sym (append_assoc (identity magic id) (all_gated reads.gated) reads.tail)) in
+      elim reads.ends [
+        | inl w ↦ inl (
+          id,
+          records_of reads.gated,
+          inr (
+            head,
+            reads.gated,
+            record { behind = w.0; spelling = log ∙ ap (λ (l : List ℕ). log_of magic id head reads.gated ++ l) w.1; head_open = opened; gates_open = reads.gates_open },
+            refl,
+          ),
+        )
+        | inr w ↦ inr (inr (
+          length reads.gated,
+          record {
+            id = id;
+            head = head;
+            gated = reads.gated;
+            gate = w.0;
+            behind = w.1;
+            spelling = log ∙ ap (λ (l : List ℕ). log_of magic id head reads.gated ++ l) w.4;
+            head_open = opened;
+            gates_open = reads.gates_open;
+            before = refl;
+            gate_open = w.2;
+            short = w.3;
+          },
+        ))
+      ]
+
+  read_made : (tail : List ℕ) → bytes ≡ head ∷ tail → 11 ≤ length bytes → take 4 (drop 1 bytes) ≡ magic → get_or bytes 5 0 ≡ 1 → AreBytes bytes → Reading bytes magic
+  read_made tail is size magic_is version small =
+      let id : ℕ = from_be_bytes w32 (take 4 (drop 6 bytes)) in
+      let number : to_be_bytes w32 id ≡ take 4 (drop 6 bytes) =
+      be_bytes_4 (take 4 (drop 6 bytes)) id (length-take-le 4 (drop 6 bytes) (omega (arith, size, length-drop 6 bytes)))
+      (take_bytes 4 (drop 6 bytes) (omega (arith, size, length-drop 6 bytes)) (drop_bytes 6 bytes small)) refl in
+      let first : drop 1 bytes ≡ magic ++ drop 5 bytes =
+      sym (take-append-drop 4 (drop 1 bytes)) ∙ ap (λ (l : List ℕ). l ++ drop 4 (drop 1 bytes)) magic_is ∙ ap (λ (l : List ℕ). magic ++ l) (drop-drop 4 1 bytes) in
+      let second : drop 5 bytes ≡ 1 ∷ drop 6 bytes = drop_more bytes 5 0 (omega (arith, size)) ∙ ap (λ (v : ℕ). v ∷ drop 6 bytes) version in
+      let third : drop 6 bytes ≡ to_be_bytes w32 id ++ drop 10 bytes =
+      sym (take-append-drop 4 (drop 6 bytes)) ∙ ap (λ (l : List ℕ). l ++ drop 4 (drop 6 bytes)) (sym number) ∙ ap (λ (l : List ℕ). to_be_bytes w32 id ++ l) (drop-drop 4 6 bytes) in
+      let fourth = drop_more bytes 10 0 (omega (arith, size)) in
+      let behind = identity_spelled magic (drop 1 bytes) (drop 5 bytes) (drop 6 bytes) (drop 10 bytes) (drop 11 bytes) id (get_or bytes 10 0) first second third fourth in
+      let whole : bytes ≡ head ∷ (identity magic id ++ drop 10 bytes) =
+      is ∙ ap (λ (l : List ℕ). head ∷ l) (sym (ap (λ (l : List ℕ). drop 1 l) is) ∙ behind ∙ ap (λ (l : List ℕ). identity magic id ++ l) (sym fourth)) in
+      read_behind id (drop 10 bytes) whole (reads_some (length (drop 10 bytes)) (drop 10 bytes) (omega arith) (omega (arith, size, length-drop 10 bytes)) (drop_bytes 10 bytes small))
+
+  read_head : (tail : List ℕ) → bytes ≡ head ∷ tail → (IsUnmade bytes → ⊥) → AreBytes bytes → Reading bytes magic
+  read_head tail is is_made small = elim (cases_lt (length bytes) 11) [
+    | inl short ↦ inr (inl (record { made = is_made; wrong = inl short }))
+    | inr size ↦ elim (same_list (take 4 (drop 1 bytes)) magic) [
+      | inr other ↦ inr (inl (record { made = is_made; wrong = inr (inl other) }))
+      | inl magic_is ↦ elim (cases_eq (get_or bytes 5 0) 1) [
+        | inr other ↦ inr (inl (record { made = is_made; wrong = inr (inr other) }))
+        | inl version ↦ read_made tail is size magic_is version small
+      ]
+    ]
+  ]
+
+pub some_reading : (bytes magic : List ℕ) → length magic ≡ 4 → ((i : ℕ) → get_or bytes i 0 < 256) → Reading bytes magic
+some_reading [] magic four small = inl (0, [], inl (tt, refl))
+some_reading (gate ∷ []) magic four small = inl (0, [], inl (tt, refl))
+some_reading (gate ∷ byte ∷ bytes) magic four small = elim (cases_eq gate 0) [
+  | inl shut ↦ inl (0, [], inl (shut, refl))
+  | inr opened ↦ read_head magic (gate ∷ byte ∷ bytes) gate opened (byte ∷ bytes) refl opened small
+]

@@ -1,0 +1,36 @@
+//! Bytes are read in one way.
+
+ghost use Rattle.std.specs.Prelude.{◌≡◌, ◌⊎◌, ℕ, ◌<◌, ◌^◌, List, length, slice_index};
+ghost use Rattle.wp_outside.specs.Disk.{Moment};
+ghost use Rattle.wp_gatelog.specs.Damage.{IsBadHead, IsCut};
+ghost use Rattle.wp_gatelog.specs.Log.{IsAtRest, KeepsAcknowledged, BeforeOrAfter};
+ghost use Rattle.wp_gatelog.specs.Moments.{Leaves};
+ghost use Rattle.wp_gatelog.specs.Spelling.{IsUnmade, Spells};
+
+/// Bytes spell records, or have a bad head, or have a record that is cut: one of these, in one way.
+pub fn bytes_are_read_in_one_way()
+    ensures one_list { (bytes magic : List ℕ) (id other : ℕ) (records others : List (List ℕ))
+        → Spells bytes magic id records → Spells bytes magic other others → records ≡ others }
+    ensures one_id { (bytes magic : List ℕ) (id other : ℕ) (records others : List (List ℕ))
+        → (IsUnmade bytes → ⊥) → id < 2 ^ 32 → other < 2 ^ 32
+        → Spells bytes magic id records → Spells bytes magic other others → id ≡ other }
+    ensures one_index { (bytes magic : List ℕ) (index other : ℕ)
+        → IsCut magic index bytes → IsCut magic other bytes → index ≡ other }
+    ensures spelled_or_cut { (bytes magic : List ℕ) (id index : ℕ) (records : List (List ℕ))
+        → Spells bytes magic id records → IsCut magic index bytes → ⊥ }
+    ensures spelled_or_bad { (bytes magic : List ℕ) (id : ℕ) (records : List (List ℕ))
+        → length magic ≡ 4 → Spells bytes magic id records → IsBadHead magic bytes → ⊥ }
+    ensures cut_or_bad { (bytes magic : List ℕ) (index : ℕ)
+        → length magic ≡ 4 → IsCut magic index bytes → IsBadHead magic bytes → ⊥ }
+    ensures some { (bytes magic : List ℕ) → length magic ≡ 4 → ((i : ℕ) → slice_index bytes i < 256)
+        → ((id : ℕ) × (records : List (List ℕ)) × Spells bytes magic id records) ⊎ IsBadHead magic bytes ⊎ ((index : ℕ) × IsCut magic index bytes) }
+{}
+
+/// What a crash leaves of a log at rest has its records acknowledged, and what has records acknowledged spells them, with
+/// a further one or without.
+pub fn acknowledged_records_are_spelled()
+    ensures at_rest { (magic : List ℕ) (id end : ℕ) (records : List (List ℕ)) (bytes : List ℕ) (m : Moment)
+        → IsAtRest magic id end records m → Leaves (KeepsAcknowledged magic id records bytes) m }
+    ensures spelled { (magic : List ℕ) (id : ℕ) (records : List (List ℕ)) (bytes image : List ℕ)
+        → KeepsAcknowledged magic id records bytes image → BeforeOrAfter magic id records bytes image }
+{}
