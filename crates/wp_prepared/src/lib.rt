@@ -1,9 +1,10 @@
 //! The prepared tables: which transactions are prepared and not yet taken out.
 //!
-//! A prepared transaction has the number of its Prepare entry. Above the evicted bound these numbers stand in
-//! the prepared heap. Before the bound is stored as m, each number at most m moves to the delayed set, where a
-//! reader finds that its pair may have been evicted without being lost. A pair that is evicted while its number
-//! still stands here is kept in the delayed commits. A number leaves all three at once.
+//! A prepared transaction goes by the number of its Prepare entry. Above the evicted bound these numbers stand in
+//! the prepared heap. A number up to the bound that has no word in the commit cache is taken for committed, unless
+//! the delayed set has it: so each number at most m moves there before the bound is stored as m. The pair of a
+//! committed number may be evicted while the number still stands here. It is then kept in the delayed commits, by
+//! which a reader decides. A number leaves all three at once.
 #![tactic(auto)]
 
 pub use prepared::Prepared;
