@@ -1,13 +1,13 @@
 -- A script has no more commands than bytes, since each has a line, and the first line of a part is none.
-use Rattle.std.proofs.Common.{◌≡◌, ℕ, suc, ◌+◌, ◌≤◌, eqb, List, [], ◌∷◌, ◌++◌, length, map, Option, Some, None, refl, ap, arith}
-use Rattle.std.specs.List.{flat_map, filter_map, count_by, AllZip}
+use Rattle.std.proofs.Common.{◌≡◌, ℕ, suc, ◌+◌, ◌≤◌, eqb, List, [], ◌∷◌, length, Option, Some, None, refl, ap, arith}
+use Rattle.std.specs.List.{flat_map, filter_map, AllZip}
 use Rattle.std.proofs.lemmas.List.{length-append, length-map}
 use Rattle.std.proofs.lemmas.List.Splits.{length-slice_split}
 use Rattle.std.proofs.lemmas.List.Sums.{count_by-le-length}
 use Rattle.wp_text.specs.declared.line.Statement.{Statement}
 use Rattle.wp_text.specs.declared.line.Statement.TheVariants as statement
 use Rattle.wp_text.specs.declared.script.Part.{Part}
-use Rattle.wp_text.specs.Grammar.{lines_of, Means, statements_of, Spell, IsScript, commands_of}
+use Rattle.wp_text.specs.Grammar.{lines_of, Means, statements_of, IsScript, commands_of}
 
 statement_count : (parts : List Part) → length (flat_map statements_of parts) ≡ length (commands_of parts) + length parts
 statement_count [] = refl

@@ -1,5 +1,5 @@
 -- A line that is read means what is read, and one that is refused is wrong.
-use Rattle.std.proofs.Common.{◌≡◌, ℕ, ◌<◌, ◌≤◌, Bool, true, false, cond, ltb, List, length, Option, Result, Ok, Err, refl, ap, subst, inl, inr, ◌∙◌}
+use Rattle.std.proofs.Common.{◌≡◌, ℕ, false, cond, ltb, List, length, Option, Ok, Err, refl, subst, inl, inr, ◌∙◌}
 use Rattle.std.specs.List.{list_all}
 use Rattle.std.proofs.lemmas.Bool.{ltb-true, ltb-false, lt-ltb, le-ltb}
 use Rattle.wp_text.specs.declared.fault.Why.{Why}
@@ -9,7 +9,7 @@ use Rattle.wp_text.specs.declared.line.TheConstants.{MOST_LINE_BYTES}
 use Rattle.wp_text.specs.Grammar.{is_line_byte, IsText, words_of, is_passed_over, Means}
 use Rattle.wp_text.specs.Faults.{AreWrong, IsWrong}
 use Rattle.wp_text.specs.Reading.{statement_of, line_of}
-use Rattle.wp_text.proofs.Results.{chosen, ok_is, err_is, ok_or_err}
+use Rattle.wp_text.proofs.Results.{chosen, err_is}
 use Rattle.wp_text.proofs.StatementLaws.{says, refuses, says_again, unknown_again, range_again}
 
 pub means : (line : List ℕ) (meaning : Option Statement) → line_of line ≡ Ok meaning → Means line meaning

@@ -3,12 +3,11 @@ use Rattle.std.proofs.Common.{◌≡◌, ℕ, suc, ◌+◌, ◌<◌, List, [], �
 use Rattle.std.specs.List.{enumerate_from}
 use Rattle.std.proofs.lemmas.List.{drop_all}
 use Rattle.std.proofs.lemmas.List.FromFn.{length-enumerate_from, get_or-enumerate_from}
-use Rattle.wp_text.specs.declared.fault.Why.{Why}
 use Rattle.wp_text.specs.declared.fault.Fault.{Fault}
 use Rattle.wp_text.specs.declared.fault.LineError.{LineError}
 use Rattle.wp_text.specs.declared.fault.LineError.TheVariants as errors
 use Rattle.wp_text.specs.declared.script.Part.{Part}
-use Rattle.wp_text.specs.Reading.{◌>>=◌, Fails, in_line, with_line, with_lines, script_error}
+use Rattle.wp_text.specs.Reading.{Fails, with_line, with_lines, script_error}
 use Rattle.wp_text.specs.Faults.{FailsWith}
 
 -- this turn's line is the first of those that are left

@@ -1,13 +1,13 @@
 -- A statement that is placed stands behind the others, and one that is refused is misplaced.
-use Rattle.std.proofs.Common.{◌≡◌, ◌≢◌, ℕ, suc, ◌+◌, ◌-◌, ◌<◌, ◌≤◌, Bool, true, false, cond, ◌||◌, ltb, List, [], ◌∷◌, ◌++◌, length, map, get_or, set, Option, Some, None, Result, Ok, Err, refl, sym, ap, subst, ◌∙◌, inl, inr, ◌⊎◌, append_assoc, arith}
+use Rattle.std.proofs.Common.{◌≡◌, ◌≢◌, ℕ, suc, ◌+◌, ◌<◌, ◌≤◌, Bool, true, false, cond, ◌||◌, ltb, List, [], ◌∷◌, ◌++◌, length, map, get_or, set, Option, Some, None, Result, Ok, Err, refl, sym, ap, subst, ◌∙◌, inl, inr, append_assoc, arith}
 use Rattle.std.specs.List.{flat_map, filter_map, list_any, AllPairs, Contains}
 use Rattle.std.specs.Str.{bytes_eq}
 use Rattle.std.specs.Cmp.Lexicographic.{same_text}
 use Rattle.std.proofs.Math.ListN.{get_or-append}
 use Rattle.std.proofs.Math.Seq.{get_or-append_seam}
-use Rattle.std.proofs.lemmas.Bool.{ltb-true, ltb-false, lt-ltb, le-ltb}
+use Rattle.std.proofs.lemmas.Bool.{ltb-true, ltb-false, le-ltb}
 use Rattle.std.proofs.lemmas.Cmp.{nat_list_eq_equiv}
-use Rattle.std.proofs.lemmas.List.{append-nil, length-append, length-map, length_push, map-append, map_push}
+use Rattle.std.proofs.lemmas.List.{append-nil, length-append, length-map, length_push, map_push}
 use Rattle.std.proofs.lemmas.List.Concat.{flat_map-append}
 use Rattle.std.proofs.lemmas.List.Elements.{filter_map-append, Contains-get_or}
 use Rattle.std.proofs.lemmas.List.Quantifiers.{all_pairs_push}
@@ -21,8 +21,8 @@ use Rattle.wp_text.specs.declared.script.Command.{Command}
 use Rattle.wp_text.specs.declared.script.Part.{Part}
 use Rattle.wp_text.specs.Grammar.{statements_of, clients}
 use Rattle.wp_text.specs.Faults.{IsMisplaced}
-use Rattle.wp_text.specs.Reading.{◌>>=◌, has_client, with_client, with_command, with_statement}
-use Rattle.wp_text.proofs.Results.{bind_ok, bind_err, chosen, failed, ok_is, err_is, ok_or_err, either}
+use Rattle.wp_text.specs.Reading.{has_client, with_client, with_command, with_statement}
+use Rattle.wp_text.proofs.Results.{bind_ok, bind_err, chosen, ok_is, err_is, ok_or_err, either}
 
 -- the part with one more command
 abbrev pub with_one : Part → Command → Part
@@ -109,13 +109,13 @@ unfolding with_command
 command_placed [] new c e = absurd cc
 command_placed (part ∷ []) new c e =
     let one_more : flat_map statements_of (with_one part c ∷ []) ≡ flat_map statements_of (part ∷ []) ++ statement.Command c ∷ [] =
-        append-nil (statements_of (with_one part c)) ∙ ap (λ (x : List Statement). statement.Client part.client ∷ x) (map_push (λ x. statement.Command x) part.commands c) ∙ sym (ap (λ (x : List Statement). x ++ statement.Command c ∷ []) (append-nil (statements_of part))) in
+    append-nil (statements_of (with_one part c)) ∙ ap (λ (x : List Statement). statement.Client part.client ∷ x) (map_push (λ x. statement.Command x) part.commands c) ∙ sym (ap (λ (x : List Statement). x ++ statement.Command c ∷ []) (append-nil (statements_of part))) in
     subst (λ (x : List Part). Commanded (part ∷ []) c x) (ok_is (with_one part c ∷ []) new e) (record { statements = one_more; clients = refl })
 command_placed (part ∷ second ∷ others) new c e =
     let b = bind_ok (with_command (second ∷ others) c) (λ (behind : List Part). Ok (part ∷ behind)) new e in
     let more = command_placed (second ∷ others) b.0 c b.1 in
     let grouped : flat_map statements_of (part ∷ b.0) ≡ flat_map statements_of (part ∷ second ∷ others) ++ statement.Command c ∷ [] =
-        ap (λ (x : List Statement). statements_of part ++ x) more.statements ∙ sym (append_assoc (statements_of part) (flat_map statements_of (second ∷ others)) (statement.Command c ∷ [])) in
+    ap (λ (x : List Statement). statements_of part ++ x) more.statements ∙ sym (append_assoc (statements_of part) (flat_map statements_of (second ∷ others)) (statement.Command c ∷ [])) in
     subst (λ (x : List Part). Commanded (part ∷ second ∷ others) c x) (ok_is (part ∷ b.0) new b.2) (record { statements = grouped; clients = ap (λ (x : List (List ℕ)). part.client ∷ x) more.clients })
 
 pub placed : (parts new : List Part) (s : Statement) → Fits parts → with_statement parts s ≡ Ok new → Placed parts s new

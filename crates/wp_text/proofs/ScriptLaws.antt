@@ -1,5 +1,5 @@
 -- What is read of bytes is a script or its first fault, and each of these is read so.
-use Rattle.std.proofs.Common.{◌≡◌, ◌≢◌, ℕ, zero, suc, ◌+◌, ◌<◌, ◌≤◌, Bool, true, false, cond, ltb, List, [], ◌∷◌, ◌++◌, length, Option, Some, None, Result, Ok, Err, refl, sym, ap, subst, ◌∙◌, inl, inr, ◌⊎◌, append_assoc, add-one, arith}
+use Rattle.std.proofs.Common.{◌≡◌, ℕ, zero, suc, ◌+◌, ◌≤◌, ltb, List, [], ◌∷◌, ◌++◌, length, Option, Some, None, Result, Ok, Err, refl, sym, ap, subst, ◌∙◌, inl, inr, append_assoc, arith}
 use Rattle.std.specs.List.{flat_map, filter_map, AllZip}
 use Rattle.std.proofs.lemmas.Bool.{ltb-true, ltb-false, lt-ltb, le-ltb}
 use Rattle.std.proofs.lemmas.List.{append-nil, length_push}
@@ -8,14 +8,14 @@ use Rattle.wp_text.specs.declared.fault.Fault.{Fault}
 use Rattle.wp_text.specs.declared.fault.Why.{Why}
 use Rattle.wp_text.specs.declared.fault.Why.TheVariants.{TooLong}
 use Rattle.wp_text.specs.declared.line.Statement.{Statement}
-use Rattle.wp_text.specs.declared.read.TheConstants.{MOST_BYTES, MOST_CLIENTS}
+use Rattle.wp_text.specs.declared.read.TheConstants.{MOST_BYTES}
 use Rattle.wp_text.specs.declared.script.Part.{Part}
 use Rattle.wp_text.specs.Grammar.{lines_of, Means, statements_of, Spell, IsScript}
-use Rattle.wp_text.specs.Faults.{IsMisplaced, IsWrongBehind, IsFirstWrong, IsFault}
-use Rattle.wp_text.specs.Reading.{◌>>=◌, line_of, with_statement, with_meaning, with_line, in_line, with_lines, script_of}
+use Rattle.wp_text.specs.Faults.{IsWrongBehind, IsFirstWrong, IsFault}
+use Rattle.wp_text.specs.Reading.{line_of, with_meaning, with_line, in_line, with_lines, script_of}
 use Rattle.wp_text.proofs.Results.{bind_ok, bind_err, chosen, done, failed, ok_is, err_is, ok_or_err}
 use Rattle.wp_text.proofs.LineLaws.{means, is_wrong, means_again, is_wrong_again}
-use Rattle.wp_text.proofs.Placing.{Fits, Placed, placed, refused, refused_again, placed_again, same_parts}
+use Rattle.wp_text.proofs.Placing.{Fits, placed, refused, refused_again, placed_again, same_parts}
 
 -- ---- lines that spell parts
 

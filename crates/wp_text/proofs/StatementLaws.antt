@@ -1,5 +1,5 @@
 -- Words that are read as a statement are its words, and its words are read as it.
-use Rattle.std.proofs.Common.{◌≡◌, ℕ, Bool, true, false, cond, ◌&&◌, List, [], ◌∷◌, Option, Some, None, Result, Ok, Err, refl, sym, ap, subst, ◌∙◌, inl, inr, ◌⊎◌, rules}
+use Rattle.std.proofs.Common.{◌≡◌, ℕ, Bool, true, false, ◌&&◌, List, [], ◌∷◌, Option, Some, None, Result, Ok, Err, refl, sym, ap, subst, ◌∙◌, inl, inr, ◌⊎◌}
 use Rattle.std.specs.List.{find}
 use Rattle.std.specs.Str.{bytes_eq}
 use Rattle.std.specs.Cmp.Lexicographic.{same_text}
@@ -11,12 +11,11 @@ use Rattle.wp_text.specs.declared.keyword.Keyword.TheVariants as keyword
 use Rattle.wp_text.specs.declared.keyword.TheConstants.{KEYWORDS}
 use Rattle.wp_text.specs.declared.line.Statement.{Statement}
 use Rattle.wp_text.specs.declared.line.Statement.TheVariants as statement
-use Rattle.wp_text.specs.declared.script.Command.{Command}
 use Rattle.wp_text.specs.declared.script.Command.TheVariants as command
 use Rattle.wp_text.specs.Grammar.{statement_words, is_in_range, is_passed_over, Say}
 use Rattle.wp_text.specs.Faults.{IsNoStatement, IsOutOfRange, AreWrong}
 use Rattle.wp_text.specs.Reading.{◌>>=◌, keyword_text, keyword_named, one_word, two_words, statement_with, statement_named, statement_of}
-use Rattle.wp_text.proofs.Results.{bind_ok, bind_err, chosen, done, failed, ok_is, err_is, ok_or_err, either}
+use Rattle.wp_text.proofs.Results.{bind_ok, bind_err, chosen, failed, ok_is, err_is, ok_or_err, either}
 
 -- ---- a statement's words are read as it, or are out of range
 

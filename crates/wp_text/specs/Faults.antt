@@ -25,12 +25,13 @@ pub record IsOutOfRange (words : List (List ℕ)) : Type 0 where
   pub written : words ≡ statement_words statement
   pub range : is_in_range statement ≡ false
 
+-- what is wrong with the words of a line
 abbrev pub AreWrong : List (List ℕ) → Why → Type 0
 AreWrong words BadCommand = IsNoStatement words
 AreWrong words BadWord = IsOutOfRange words
 AreWrong words why = ⊥
 
--- what is wrong with a line, wherever it stands
+-- What is wrong with a line, wherever it stands. The order in which the reasons are named is that of these cases.
 abbrev pub IsWrong : List ℕ → Why → Type 0
 IsWrong line LineLong = MOST_LINE_BYTES < length line
 IsWrong line BadByte = (length line ≤ MOST_LINE_BYTES) × (list_all is_line_byte line ≡ false)
@@ -38,7 +39,8 @@ IsWrong line why = IsText line × (is_passed_over (words_of line) ≡ false) × 
 
 -- ---- a line behind others
 
--- what is wrong with a statement where it stands, behind these parts
+-- What is wrong with a statement behind these parts. A client that stands there already is named before the number of
+-- clients.
 abbrev pub IsMisplaced : List Part → Statement → Why → Type 0
 IsMisplaced parts (statement.Command command) NoClient = parts ≡ []
 IsMisplaced parts (statement.Client name) ClientTwice = Contains (clients parts) name
@@ -70,6 +72,7 @@ IsErrorOf bytes (errors.Fault fault) = IsFault bytes fault.line fault.why
 
 -- ---- what a call returned
 
+-- it failed with this answer, or memory ran out
 abbrev pub FailsWith : ScriptError → Result (List Part) Fault → Type 0
 FailsWith errors.Memory answer = Unit {0}
 FailsWith (errors.Fault fault) answer = answer ≡ Err fault
@@ -81,7 +84,7 @@ GivesScript (Err error) answer = FailsWith error answer
 
 -- ---- what the definitions say of each other
 
--- Bytes are a script with these parts and no others, or have this fault and no other.
+-- The bytes are a script with one list of parts, or have one fault, and not both.
 pub record HasOneReading (bytes : List ℕ) : Type 0 where
   pub one_script : (first second : List Part) → IsScript bytes first → IsScript bytes second → first ≡ second
   pub one_fault : (first second : Fault) → IsFault bytes first.line first.why → IsFault bytes second.line second.why → first ≡ second

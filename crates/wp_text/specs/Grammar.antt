@@ -1,5 +1,5 @@
--- The grammar of scripts.
-use Rattle.std.specs.Prelude.{◌≡◌, ◌≢◌, ℕ, ◌≤◌, ◌==◌, Bool, true, false, not, ◌&&◌, List, [], ◌∷◌, length, map, nat_eq, nat_le, codes, Option, Some, None}
+-- The grammar of scripts: which bytes spell which parts.
+use Rattle.std.specs.Prelude.{◌≡◌, ◌≢◌, ℕ, ◌≤◌, ◌==◌, Bool, true, not, ◌&&◌, List, [], ◌∷◌, length, map, nat_eq, nat_le, codes, Option, Some, None}
 use Rattle.std.specs.List.{list_all, filter, filter_map, flat_map, slice_split, AllPairs, AllZip, starts_with}
 use Rattle.wp_model.specs.Word.{is_word}
 use Rattle.wp_text.specs.declared.line.Statement.{Statement}
@@ -10,7 +10,8 @@ use Rattle.wp_text.specs.declared.script.Command.{Command}
 use Rattle.wp_text.specs.declared.script.Command.TheVariants as command
 use Rattle.wp_text.specs.declared.script.Part.{Part}
 
--- the lines of a script, without their ends; what stands behind the last end is a line too
+-- The lines of a script, without their ends. What stands behind the last end is a line too: where it is empty, it
+-- says nothing.
 abbrev pub lines_of : List ℕ → List (List ℕ)
 lines_of bytes = slice_split (λ b. b == 0x0A) bytes
 
@@ -20,7 +21,7 @@ lines_of bytes = slice_split (λ b. b == 0x0A) bytes
 abbrev pub is_line_byte : ℕ → Bool
 is_line_byte b = nat_le 0x20 b && nat_le b 0x7E
 
--- few enough such bytes
+-- the line has few enough bytes, all of them such
 pub record IsText (line : List ℕ) : Type 0 where
   pub short : length line ≤ MOST_LINE_BYTES
   pub printable : list_all is_line_byte line ≡ true
@@ -40,11 +41,12 @@ command_words (command.Put key value) = codes "put" ∷ key ∷ value ∷ []
 command_words (command.Del key) = codes "del" ∷ key ∷ []
 command_words (command.Get key) = codes "get" ∷ key ∷ []
 
+-- the words that a statement is written with
 abbrev pub statement_words : Statement → List (List ℕ)
 statement_words (statement.Client name) = codes "client" ∷ name ∷ []
 statement_words (statement.Command command) = command_words command
 
--- its keys, values and names are in range
+-- the keys, values and names of a command are in range
 abbrev pub is_command_in_range : Command → Bool
 is_command_in_range (command.Put key value) = is_word 64 key && is_word 256 value
 is_command_in_range (command.Del key) = is_word 64 key
@@ -59,20 +61,22 @@ abbrev pub Say : List (List ℕ) → Option Statement → Type 0
 Say words None = is_passed_over words ≡ true
 Say words (Some statement) = (words ≡ statement_words statement) × (is_in_range statement ≡ true)
 
+-- The line is a text whose words say this.
 pub record Means (line : List ℕ) (meaning : Option Statement) : Type 0 where
   pub text : IsText line
   pub words : Say (words_of line) meaning
 
 -- ---- a script
 
--- the statements of a client's part
+-- the statements of a part: its client, then its commands
 abbrev pub statements_of : Part → List Statement
 statements_of part = statement.Client part.client ∷ map (λ c. statement.Command c) part.commands
 
 abbrev pub clients : List Part → List (List ℕ)
 clients parts = map (λ part. part.client) parts
 
--- The lines spell these parts, one behind the other.
+-- The lines spell these parts: each line means nothing or a statement, and the statements are those of the parts, in
+-- order. No client has two parts.
 pub record Spell (lines : List (List ℕ)) (parts : List Part) : Type 0 where
   pub meanings : List (Option Statement)
   pub each : AllZip Means lines meanings

@@ -1,5 +1,6 @@
--- How a script is read, line by line: each reader gives a value, or the first fault.
-use Rattle.std.specs.Prelude.{◌≡◌, ℕ, ◌+◌, Bool, ◌==◌, ◌&&◌, List, [], ◌∷◌, ◌++◌, length, map, nat_lt, nat_le, codes, Option, Some, None, Result, Ok, Err, if◌then◌else◌}
+-- How a script is read, line by line: each step gives a value, or the first fault. The reader's own functions say in
+-- these words what they return; what a script and its first fault are is said apart from them.
+use Rattle.std.specs.Prelude.{◌≡◌, ℕ, ◌+◌, Bool, ◌&&◌, List, [], ◌∷◌, ◌++◌, length, nat_lt, codes, Option, Some, None, Result, Ok, Err, if◌then◌else◌}
 use Rattle.std.specs.List.{list_all, find, list_any}
 use Rattle.std.specs.Str.{bytes_eq}
 use Rattle.wp_model.specs.Word.{is_word}
@@ -40,6 +41,7 @@ Gives view (Err e) read = Fails e read
 
 -- ---- words
 
+-- the word that begins a statement
 abbrev pub keyword_text : Keyword → List ℕ
 keyword_text keyword.Client = codes "client"
 keyword_text keyword.Put = codes "put"
@@ -49,10 +51,12 @@ keyword_text keyword.Get = codes "get"
 unfoldable pub keyword_named : List ℕ → Option Keyword
 keyword_named word = find (λ keyword. bytes_eq (keyword_text keyword) word) KEYWORDS
 
+-- one word, of at most so many bytes
 unfoldable pub one_word : ℕ → List (List ℕ) → Result (List ℕ) Why
 one_word most (word ∷ []) = if is_word most word then Ok word else Err BadWord
 one_word most _ = Err BadCommand
 
+-- two words, of at most so many bytes each
 unfoldable pub two_words : ℕ → ℕ → List (List ℕ) → Result (List ℕ × List ℕ) Why
 two_words most_first most_second (first ∷ second ∷ []) = if is_word most_first first && is_word most_second second then Ok (first, second) else Err BadWord
 two_words most_first most_second _ = Err BadCommand
@@ -72,24 +76,29 @@ statement_with keyword.Get words = do
   key ← one_word 64 words
   Ok (statement.Command (command.Get key))
 
+-- the same where the first word names a keyword
 unfoldable pub statement_named : Option Keyword → List (List ℕ) → Result (Option Statement) Why
 statement_named None words = Err BadCommand
 statement_named (Some keyword) words = do
   statement ← statement_with keyword words
   Ok (Some statement)
 
+-- what all words of a line say
 unfoldable pub statement_of : List (List ℕ) → Result (Option Statement) Why
 statement_of [] = Ok None
 statement_of (first ∷ others) = if is_passed_over (first ∷ others) then Ok None else statement_named (keyword_named first) others
 
 -- ---- lines
 
+-- what the line says
 unfoldable pub line_of : List ℕ → Result (Option Statement) Why
 line_of line = if nat_lt MOST_LINE_BYTES (length line) then Err LineLong else (if list_all is_line_byte line then statement_of (words_of line) else Err BadByte)
 
+-- the client has a part already
 abbrev pub has_client : List Part → List ℕ → Bool
 has_client parts name = list_any (λ part. bytes_eq name part.client) parts
 
+-- the parts with one more, of this client
 unfoldable pub with_client : List Part → List ℕ → Result (List Part) Why
 with_client parts name = if has_client parts name then Err ClientTwice else (if nat_lt (length parts) MOST_CLIENTS then Ok (parts ++ record { client = name; commands = [] } ∷ []) else Err ManyClients)
 
@@ -101,6 +110,7 @@ with_command (part ∷ second ∷ others) command = do
   behind ← with_command (second ∷ others) command
   Ok (part ∷ behind)
 
+-- the parts with what a statement adds, or a line
 unfoldable pub with_statement : List Part → Statement → Result (List Part) Why
 with_statement parts (statement.Client name) = with_client parts name
 with_statement parts (statement.Command command) = with_command parts command
@@ -116,6 +126,7 @@ with_line parts line = do
 
 -- ---- a script
 
+-- a fault is that of this line
 abbrev pub in_line : {A : Type 0} → ℕ → Result A Why → Result A Fault
 in_line line (Ok x) = Ok x
 in_line line (Err why) = Err (record { line = line; why = why })
@@ -127,8 +138,11 @@ with_lines before parts (line ∷ lines) = do
   now ← in_line (before + 1) (with_line parts line)
   with_lines (before + 1) now lines
 
+-- what the bytes are read as
 unfoldable pub script_of : List ℕ → Result (List Part) Fault
 script_of bytes = if nat_lt MOST_BYTES (length bytes) then Err (record { line = 0; why = TooLong }) else with_lines 0 [] (lines_of bytes)
+
+-- ---- errors, from one type to the next
 
 abbrev pub script_error : ℕ → LineError → ScriptError
 script_error line errors.Memory = script.Memory

@@ -29,6 +29,9 @@ impl Keyword {
     pub fn named(word: &[u8]) -> Option<Keyword>
         ensures { result ≡ keyword_named word.now }
     {
-        KEYWORDS.iter().copied().find(|keyword| keyword.text() == word)
+        KEYWORDS
+            .iter()
+            .copied()
+            .find(|keyword| keyword.text() == word)
     }
 }

@@ -30,7 +30,9 @@ fn is_text(line: &[u8]) -> bool
 fn words<'a>(alloc: Global, line: &'a [u8]) -> Result<Vec<&'a [u8]>, AllocError>
     ensures { IfOk result (λ words. map (λ word. word.now) words.items ≡ words_of line.now) }
 {
-    line.split(|b| *b == b' ').filter(|word| !word.is_empty()).collect(alloc)
+    line.split(|b| *b == b' ')
+        .filter(|word| !word.is_empty())
+        .collect(alloc)
 }
 
 #[tactic(auto, unfolding(crate::specs::Reading::one_word))]
@@ -57,11 +59,7 @@ fn two_words<const FIRST: usize, const SECOND: usize>(
 }
 
 #[tactic(auto, unfolding(crate::specs::Reading::statement_with))]
-fn statement_with(
-    alloc: Global,
-    keyword: Keyword,
-    words: &[&[u8]],
-) -> Result<Statement, LineError>
+fn statement_with(alloc: Global, keyword: Keyword, words: &[&[u8]]) -> Result<Statement, LineError>
     ensures { Gives (λ s. s) result (statement_with keyword (map (λ word. word.now) words.now)) }
 {
     Ok(match keyword {

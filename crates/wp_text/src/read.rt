@@ -10,7 +10,7 @@ use std::alloc::Global;
 use wp_model::Name;
 
 /// How many bytes a script may have.
-pub const MOST_BYTES: usize = 1048576;
+pub const MOST_BYTES: usize = 1 << 20;
 
 /// How many clients a script may have.
 pub const MOST_CLIENTS: usize = 16;
@@ -101,5 +101,4 @@ pub fn read_script(alloc: Global, bytes: &[u8]) -> Result<Script, ScriptError>
 /// Bytes are a script with one list of parts, or have one fault, and not both.
 pub fn one_reading()
     ensures { (bytes : List ℕ) → HasOneReading bytes }
-{
-}
+{}

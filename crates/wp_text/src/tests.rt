@@ -22,7 +22,11 @@ const SHORT_SCRIPTS: [(&[u8], usize, Why); 17] = [
     (b"put k 1", 1, Why::NoClient),
     (b"# no client\n\ndel k\nfly", 3, Why::NoClient),
     (b"client a\nclient a", 2, Why::ClientTwice),
-    (b"client a\nput k 1\nclient b\n client  a ", 4, Why::ClientTwice),
+    (
+        b"client a\nput k 1\nclient b\n client  a ",
+        4,
+        Why::ClientTwice,
+    ),
     (
         b"client a\nclient b\nclient c\nclient d\nclient e\nclient f\nclient g\nclient h\nclient i\nclient j\nclient k\nclient l\nclient m\nclient n\nclient o\nclient p\nclient q\n",
         17,
@@ -39,7 +43,11 @@ const SHORT_SCRIPTS: [(&[u8], usize, Why); 17] = [
 fn the_first_fault_is_named(rt: HostRuntime) {
     for (bytes, line, why) in SHORT_SCRIPTS {
         let fault = ScriptError::Fault(Fault { line, why });
-        assert_eq!(rt; read_script(rt.alloc(), bytes).err(), Some(fault), "line {line}: {why}");
+        assert_eq!(rt;
+            read_script(rt.alloc(), bytes).err(),
+            Some(fault),
+            "line {line}: {why}"
+        );
     }
 }
 
@@ -67,11 +75,14 @@ fn lengths_have_their_limits(rt: HostRuntime) -> Result<(), Fail> {
     Ok(())
 }
 
-const SCRIPT: &[u8] = b"# two clients\n\n  client alice  \nput k  #1\nget k\nclient bob\nclient carol\n#put k 2\ndel k";
+const SCRIPT: &[u8] =
+    b"# two clients\n\n  client alice  \nput k  #1\nget k\nclient bob\nclient carol\n#put k 2\ndel k";
 
 #[test]
 fn a_script_is_read(rt: HostRuntime) -> Result<(), Fail> {
-    let script = read_script(rt.alloc(), SCRIPT).ok().ok_or("it is a script")?;
+    let script = read_script(rt.alloc(), SCRIPT)
+        .ok()
+        .ok_or("it is a script")?;
     let [alice, bob, carol] = script.as_slice() else {
         return Err(Fail::from("there are three clients"));
     };
@@ -115,16 +126,23 @@ fn faults_have_their_texts(rt: HostRuntime) -> Result<(), Fail> {
         line: 17,
         why: Why::ManyClients,
     });
-    assert_eq!(rt; format!(in rt.alloc(); "{error}")?.as_str(), "script line 17: many clients");
+    assert_eq!(rt;
+        format!(in rt.alloc(); "{error}")?.as_str(),
+        "script line 17: many clients"
+    );
     Ok(())
 }
 
-const REPLIES: &[u8] = b"client alice\nput @1\ndel @2\nget v @18446744073709551615\nmissing @0\nfull 3 4\nfault log\nstopped 5\n";
+const REPLIES: &[u8] =
+    b"client alice\nput @1\ndel @2\nget v @18446744073709551615\nmissing @0\nfull 3 4\nfault log\nstopped 5\n";
 
 #[test]
 fn replies_have_their_lines(rt: HostRuntime) -> Result<(), Fail> {
     let mut text = Vec::new(rt.alloc());
-    client_line(&mut text, &Name::read(rt.alloc(), b"alice").ok().ok_or("a name")?)?;
+    client_line(
+        &mut text,
+        &Name::read(rt.alloc(), b"alice").ok().ok_or("a name")?,
+    )?;
     let value = Value::read(rt.alloc(), b"v").ok().ok_or("a value")?;
     for reply in [
         Reply::Put(1),
@@ -150,12 +168,18 @@ fn a_history_has_its_lines(rt: HostRuntime) -> Result<(), Fail> {
     let key = Key::read(rt.alloc(), b"k").ok().ok_or("a key")?;
     let other = Key::read(rt.alloc(), b"b").ok().ok_or("a key")?;
     let value = Value::read(rt.alloc(), b"v").ok().ok_or("a value")?;
-    batch.set(Change::Put(key, value)).ok().ok_or("there is room")?;
+    batch
+        .set(Change::Put(key, value))
+        .ok()
+        .ok_or("there is room")?;
     batch.set(Change::Del(other)).ok().ok_or("there is room")?;
     let mut text = Vec::new(rt.alloc());
     history_line(&mut text, 1, &Entry::Write(batch))?;
     history_line(&mut text, 2, &Entry::Write(Batch::new(rt.alloc())))?;
     end_line(&mut text, 2, 0)?;
-    assert_eq!(rt; text.as_slice(), b"1 write del b put k v\n2 write\nend 2 0\n".as_slice());
+    assert_eq!(rt;
+        text.as_slice(),
+        b"1 write del b put k v\n2 write\nend 2 0\n".as_slice()
+    );
     Ok(())
 }

@@ -1,4 +1,4 @@
-use Rattle.std.proofs.Common.{◌≡◌, ◌-◌, ◌++◌, ◌∷◌, [], arith}
+use Rattle.std.proofs.Common.{◌-◌, arith}
 use Rattle.std.specs.Vec.{vec_len}
 use Rattle.wp_text.proofs.Placing.{with_command_last}
 use Rattle.wp_text.proofs.read.add_command.Goals as goal
