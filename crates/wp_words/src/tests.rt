@@ -75,7 +75,8 @@ fn command_lines_are_refused(rt: HostRuntime) -> Result<(), Fail> {
     for line in REFUSED {
         assert_eq!(rt; line_choice(rt.alloc(), line)?, None, "{line}");
     }
-    assert_eq!(rt; choice_of(rt.alloc(), [].as_slice())?, None, "no words");
+    let none: Vec<String> = Vec::new(rt.alloc());
+    assert_eq!(rt; choice_of(rt.alloc(), &none)?, None, "no words");
     Ok(())
 }
 
