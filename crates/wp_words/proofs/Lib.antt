@@ -1,3 +1,5 @@
 mod Entries
+mod Literals
 mod Numerals
 mod Refusals
+mod Uniqueness

@@ -1,5 +1,5 @@
 -- Which texts are a number in decimal digits.
-use Rattle.std.proofs.Common.{arith, ap, sym, ◌∙◌, ◌≡◌, ◌≢◌, ◌<◌, ◌≤◌, ◌^◌, ℕ, List, [], ◌∷◌, length, get_or, decimal, Result, Ok, Err, IfSome, IfNone, inl, inr}
+use Rattle.std.proofs.Common.{arith, ap, sym, ◌∙◌, ◌≡◌, ◌≢◌, ◌<◌, ◌≤◌, ◌^◌, ℕ, List, length, get_or, decimal, Result, Ok, Err, IfSome, IfNone, inl, inr}
 use Rattle.std.specs.Result.{result_ok}
 use Rattle.std.specs.Str.Parse.{AllDigits, ParsesUnsigned, digits_value}
 use Rattle.std.proofs.lemmas.Bool.{cases_lt}
@@ -12,7 +12,7 @@ pub record IsPlain (text : List ℕ) : Type 0 where
   pub unsigned : get_or text 0 0 ≢ 43
   pub unpadded : get_or text 0 0 ≡ 48 → length text ≤ 1
 
-own : IsNumeralModel (AllDigits 10) (digits_value 10)
+pub own : IsNumeralModel (AllDigits 10) (digits_value 10)
 own = numerals_by_value _ tells_digits
 
 module _ {E : Type 0} where

@@ -1,5 +1,5 @@
 -- The commands and options of the program, as `clap` reads words by them.
-use Rattle.std.specs.Prelude.{List, [], ◌∷◌, Some, codes, true}
+use Rattle.std.specs.Prelude.{[], ◌∷◌, Some, codes, true}
 use Rattle.clap.specs.Words.{App, Rule, Text, new_app, new_rule, with_rule, with_subcommand}
 use Rattle.clap.specs.Simple.{on_top}
 

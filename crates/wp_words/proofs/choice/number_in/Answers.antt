@@ -1,4 +1,4 @@
-use Rattle.std.proofs.Common.{arith, rules, ap, ◌∙◌, ◌≡◌, ◌<◌, ◌^◌, ℕ, inl, inr, Some, None, decimal}
+use Rattle.std.proofs.Common.{arith, rules, ap, ◌∙◌, ◌≡◌, ◌<◌, ◌^◌, inl, inr, Some, None, decimal}
 use Rattle.clap.specs.Words.{found_of, first_of, rows_of}
 use Rattle.wp_words.proofs.Entries.{entry_is, one_number}
 use Rattle.wp_words.proofs.choice.number_in.Goals as goal

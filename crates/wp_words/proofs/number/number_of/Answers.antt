@@ -1,4 +1,4 @@
-use Rattle.std.proofs.Common.{arith, ap, sym, ◌∙◌, ◌≡◌, ◌<◌, ◌^◌, ℕ, get_or, inl, inr}
+use Rattle.std.proofs.Common.{arith, sym, ◌∙◌, ◌≡◌, get_or, inl, inr}
 use Rattle.wp_words.proofs.Numerals.{IsPlain, decimal_is_plain, parsed_is_spelled, unparsed_spells_none}
 use Rattle.wp_words.proofs.number.number_of.Goals as goal
 use Rattle.wp_words.proofs.number.number_of.Goals.{then-first-eq43-via-then-first-eq43, then-first-eq43-via-else-first-eq43+then-text-gt1}
