@@ -11,10 +11,11 @@ use Rattle.wp_text.specs.declared.script.Command.{Command}
 use Rattle.wp_text.specs.declared.script.Part.{Part}
 use Rattle.wp_text.specs.declared.reply.Reply.{Reply}
 use Rattle.wp_run.specs.Session.{IsAnswer, IsSession, last_after, acknowledged, is_fault, is_stopped}
+use Rattle.wp_run.specs.Legal.{AreLegal}
 use Rattle.wp_run.specs.Current.{Between, AreCurrent, IsCurrent, after_reply}
 use Rattle.wp_run.specs.Transcript.{AreSessions, IsExact, all_replies, Explains}
-use Rattle.wp_run.specs.Engine.{State, between, Steps, Runs, AllRun}
-use Rattle.wp_run.proofs.StepLemmas.{Later, Later-equal, Later-same, Later-trans, Steps-later, means, bit, AreLegal, Counts, counts}
+use Rattle.wp_run.specs.Engine.{State, bit, between, Later, Steps, Runs, AllRun}
+use Rattle.wp_run.proofs.StepLemmas.{Later-equal, Later-same, Later-trans, Steps-later, means, Counts, counts}
 
 -- ---- runs
 
@@ -51,7 +52,7 @@ is_session old new final last (c ∷ commands) (a ∷ answers) le (mid, step, re
     let same : mid.limit ≡ old.limit = (Steps-later old mid c a step).limited in
     (here.0, subst (λ (k : ℕ). IsSession final.entries k (last_after last a) commands answers) same (is_session mid new final (last_after last a) commands answers here.1 rest later))
 
-AllRun-later : (old new : State) (parts : List Part) (sessions : List (List Reply)) → AllRun old parts sessions new → Later old new
+pub AllRun-later : (old new : State) (parts : List Part) (sessions : List (List Reply)) → AllRun old parts sessions new → Later old new
 AllRun-later old new parts sessions h = Runs-later old new (all_commands parts) (all_replies sessions) (Runs-all old new parts sessions h)
 
 are_sessions : (old new final : State) (opened : ℕ) (parts : List Part) (sessions : List (List Reply)) → opened ≤ length old.entries → AllRun old parts sessions new → Later new final → AreSessions final.entries old.limit opened parts sessions
@@ -73,7 +74,7 @@ pub record Totals (old new : State) (answers : List Reply) : Type 0 where
   pub failed : count_by is_fault answers + bit old.stopped ≡ bit new.stopped
   pub told : list_any is_stopped answers ≡ true → new.stopped ≡ true
   pub current : AreCurrent old.limit (between old) answers
-  pub few : length old.entries ≤ old.limit → length new.entries ≤ old.limit
+  pub few : (bound : ℕ) → old.limit < bound → length old.entries < bound → length new.entries < bound
   pub legal : AreLegal old.entries → AreLegal new.entries
 
 range-append : (a k m : ℕ) → range_with_len a k ++ range_with_len (a + k) m ≡ range_with_len a (k + m)
@@ -91,7 +92,7 @@ totals old new [] [] e = record {
   failed = rw e (omega arith);
   told = λ t. absurd cc;
   current = tt;
-  few = λ le. rw e le;
+  few = λ bound fits lt. rw e lt;
   legal = λ legal. rw e legal;
 }
 totals old new [] (a ∷ answers) h = absurd h
@@ -111,7 +112,7 @@ totals old new (c ∷ commands) (a ∷ answers) (mid, step, rest) =
       failed = omega (arith, sum_by-cons (λ x. cond (is_fault x) 1 0) a answers, one.failed, more.failed);
       told = λ t. elim (or_cases _ _ t) [ inl here ↦ all.stopped (one.told here) | inr there ↦ more.told there ];
       current = (one.current, subst (λ (b : Between). AreCurrent old.limit b answers) (sym one.onward) (subst (λ (k : ℕ). AreCurrent k (between mid) answers) same more.current));
-      few = λ le. rw (← same) (more.few (rw same (one.few le)));
+      few = λ bound fits lt. more.few bound (rw same fits) (one.few bound fits lt);
       legal = λ legal. more.legal (one.legal legal);
     }
 
@@ -142,12 +143,11 @@ exact_of old new (p ∷ parts) (answers ∷ []) (mid, run, rest) fresh = subst (
 exact_of old new parts (answers ∷ others ∷ more) h fresh = tt
 
 -- what the clients are answered one after another, from a store whose log has not failed
-pub explained : (old new : State) (parts : List Part) (sessions : List (List Reply)) → AllRun old parts sessions new → old.stopped ≡ false → AreLegal old.entries → length old.entries ≤ old.limit → old.limit < 2 ^ 32 → Explains old.limit (bit new.stopped) parts old.entries new.entries sessions
+pub explained : (old new : State) (parts : List Part) (sessions : List (List Reply)) → AllRun old parts sessions new → old.stopped ≡ false → AreLegal old.entries → length old.entries < 2 ^ 32 → old.limit < 2 ^ 32 → Explains old.limit (bit new.stopped) parts old.entries new.entries sessions
 explained old new parts sessions h fresh legal few small =
     let total = totals old new (all_commands parts) (all_replies sessions) (Runs-all old new parts sessions h) in
-    let le : length new.entries ≤ old.limit = total.few few in
     record {
-      legal = record { few = omega arith; each = total.legal legal };
+      legal = record { few = total.few (2 ^ 32) small few; each = total.legal legal };
       begins = (AllRun-later old new parts sessions h).grows;
       answered = are_sessions old new new (length old.entries) parts sessions (omega arith) h (Later-same new);
       paired = λ n above within. rw total.numbers (count_once n (length old.entries + 1) total.added (omega arith) (omega (arith, total.longer)));

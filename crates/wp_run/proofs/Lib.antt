@@ -4,3 +4,5 @@ pub mod Explained
 pub mod TextLemmas
 pub mod WriteLemmas
 pub mod ReadLemmas
+pub mod TopLemmas
+pub mod LogLemmas

@@ -3,7 +3,7 @@ use Rattle.std.proofs.Common.{◌≡◌, ℕ, zero, suc, ◌+◌, ◌-◌, ◌^�
 use Rattle.std.specs.Prelude.{slice_get}
 use Rattle.std.specs.List.{range_with_len, count_by}
 use Rattle.std.proofs.Math.Seq.{take-append_seam}
-use Rattle.std.proofs.lemmas.Bool.{cases_lt}
+use Rattle.std.proofs.lemmas.Bool.{cases_lt, cases_Bool}
 use Rattle.std.proofs.lemmas.Option.{slice_get_within}
 use Rattle.std.proofs.lemmas.List.{append-nil, take-append-le}
 use Rattle.wp_model.specs.declared.change.Change.{Change}
@@ -17,44 +17,78 @@ use Rattle.wp_text.specs.declared.reply.Reply.{Reply}
 use Rattle.wp_text.specs.declared.reply.Reply.TheVariants as reply
 use Rattle.wp_run.specs.Session.{IsWritten, IsRead, IsFull, IsWriteRefusal, IsAnswer, last_after, acknowledged, is_fault, is_stopped}
 use Rattle.wp_run.specs.Current.{Between, IsCurrent, after_reply}
-use Rattle.wp_run.specs.Engine.{State, between, Adds, Refuses, Reads, Steps}
+use Rattle.wp_run.specs.Legal.{AreLegal}
+use Rattle.wp_outside.specs.Faults.{Rose}
+use Rattle.wp_run.specs.Engine.{State, bit, between, Later, Adds, Refuses, Reads, Steps}
 
--- The store later on: its entries have grown, unless its log had failed.
-pub record Later (old new : State) : Type 0 where
-  pub grows : (more : List Entry) × (new.entries ≡ old.entries ++ more)
-  pub stays : old.stopped ≡ true → new.entries ≡ old.entries
-  pub stopped : old.stopped ≡ true → new.stopped ≡ true
-  pub limited : new.limit ≡ old.limit
+false_is_true : {P : Type 0} (b : Bool) → b ≡ false → b ≡ true → P
+false_is_true true e f = absurd cc
+false_is_true false e f = absurd cc
 
 pub Later-same : (s : State) → Later s s
-Later-same s = record { grows = ([], sym (append-nil s.entries)); stays = λ e. refl; stopped = λ e. e; limited = refl }
+Later-same s = record {
+  grows = ([], sym (append-nil s.entries));
+  stays = λ e. refl;
+  stopped = λ e. e;
+  rose = λ e f. false_is_true s.stopped e f;
+  counted = omega arith;
+  limited = refl;
+  named = refl;
+}
 
 pub Later-equal : (old new : State) → new ≡ old → Later old new
 Later-equal old new e = subst (λ (s : State). Later old s) (sym e) (Later-same old)
+
+pub Later-kept : (old mid new : State) → Later old mid → new ≡ mid → Later old new
+Later-kept old mid new later e = subst (λ (s : State). Later old s) (sym e) later
+
+rose_between : (a b c : ℕ) → a ≤ b → Rose b c → Rose a c
+rose_between a b c le h = omega arith
+
+rose_before : (a b c : ℕ) → Rose a b → b ≤ c → Rose a c
+rose_before a b c h le = omega arith
+
+-- which of two steps stopped the log
+rose_on : (old mid new : State) → Later old mid → Later mid new → old.stopped ≡ false → new.stopped ≡ true → Rose old.faults new.faults
+rose_on old mid new a b fresh now =
+    elim (cases_Bool mid.stopped) [
+      | inl first ↦ rose_before old.faults mid.faults new.faults (a.rose fresh first) b.counted
+      | inr second ↦ rose_between old.faults mid.faults new.faults a.counted (b.rose second now)
+    ]
 
 pub Later-trans : (old mid new : State) → Later old mid → Later mid new → Later old new
 Later-trans old mid new a b = record {
   grows = (a.grows.0 ++ b.grows.0, b.grows.1 ∙ ap (λ (xs : List Entry). xs ++ b.grows.0) a.grows.1 ∙ append_assoc old.entries a.grows.0 b.grows.0);
   stays = λ e. b.stays (a.stopped e) ∙ a.stays e;
   stopped = λ e. b.stopped (a.stopped e);
+  rose = rose_on old mid new a b;
+  counted = omega (arith, a.counted, b.counted);
   limited = b.limited ∙ a.limited;
+  named = b.named ∙ a.named;
 }
 
-false_is_true : {P : Type 0} (b : Bool) → b ≡ false → b ≡ true → P
-false_is_true true e f = absurd cc
-false_is_true false e f = absurd cc
-
 Adds-later : (old new : State) (made : Change) (n : ℕ) → Adds old new made n → Later old new
-Adds-later old new made n h = subst (λ (s : State). Later old s) (sym h.3) (record {
-  grows = (entry.Write (made ∷ []) ∷ [], refl);
+Adds-later old new made n h = record {
+  grows = (entry.Write (made ∷ []) ∷ [], ap (λ (s : State). s.entries) h.3);
   stays = λ e. false_is_true old.stopped h.0 e;
-  stopped = λ e. e;
-  limited = refl;
-})
+  stopped = λ e. false_is_true old.stopped h.0 e;
+  rose = λ e f. false_is_true new.stopped (ap (λ (s : State). s.stopped) h.3 ∙ e) f;
+  counted = h.4;
+  limited = ap (λ (s : State). s.limit) h.3;
+  named = ap (λ (s : State). s.id) h.3;
+}
 
 Refuses-later : (old new : State) (answer : Reply) → Refuses old new answer → Later old new
 Refuses-later old new (reply.Full published said) h = Later-equal old new h.0
-Refuses-later old new reply.FaultLog h = subst (λ (s : State). Later old s) (sym h.2) (record { grows = ([], sym (append-nil old.entries)); stays = λ e. refl; stopped = λ e. refl; limited = refl })
+Refuses-later old new reply.FaultLog h = record {
+  grows = ([], ap (λ (s : State). s.entries) h.2 ∙ sym (append-nil old.entries));
+  stays = λ e. ap (λ (s : State). s.entries) h.2;
+  stopped = λ e. ap (λ (s : State). s.stopped) h.2;
+  rose = λ e f. h.3;
+  counted = h.4;
+  limited = ap (λ (s : State). s.limit) h.2;
+  named = ap (λ (s : State). s.id) h.2;
+}
 Refuses-later old new (reply.Stopped published) h = Later-equal old new h.0
 Refuses-later old new (reply.Put n) h = absurd h
 Refuses-later old new (reply.Del n) h = absurd h
@@ -130,13 +164,6 @@ means old new final last (command.Get key) answer le h later = absurd h
 
 -- ---- what a command adds to the counts
 
-abbrev pub bit : Bool → ℕ
-bit false = 0
-bit true = 1
-
-abbrev pub AreLegal : List Entry → Type 0
-AreLegal entries = (n : ℕ) (e : Entry) → slice_get entries n ≡ Some e → IsLegalBehind (take n entries) e
-
 pub record Counts (old new : State) (answer : Reply) : Type 0 where
   pub added : ℕ
   pub longer : length new.entries ≡ length old.entries + added
@@ -145,7 +172,7 @@ pub record Counts (old new : State) (answer : Reply) : Type 0 where
   pub told : is_stopped answer ≡ true → old.stopped ≡ true
   pub current : IsCurrent old.limit (between old) answer
   pub onward : after_reply (between old) answer ≡ between new
-  pub few : length old.entries ≤ old.limit → length new.entries ≤ old.limit
+  pub few : (bound : ℕ) → old.limit < bound → length old.entries < bound → length new.entries < bound
   pub legal : AreLegal old.entries → AreLegal new.entries
 
 slice_get-front : (xs ys : List Entry) (n : ℕ) → n < length xs → slice_get (xs ++ ys) n ≡ slice_get xs n
@@ -178,7 +205,7 @@ counts_adds old new made n answer h number fault stop current onward =
       told = λ t. false_is_true (is_stopped answer) stop t;
       current = current;
       onward = onward ∙ rw (h.3, h.2, length-append old.entries (e ∷ [])) refl;
-      few = λ le. omega (arith, longer, h.1);
+      few = λ bound fits lt. omega (arith, longer, h.1);
       legal = λ legal. rw h.3 (AreLegal-push old.entries e legal refl);
     }
 
@@ -191,7 +218,7 @@ counts_stays old new answer same number fault stop current onward = record {
   told = stop;
   current = current;
   onward = onward ∙ ap between (sym same);
-  few = λ le. rw same le;
+  few = λ bound fits lt. rw same lt;
   legal = λ legal. rw same legal;
 }
 
@@ -205,7 +232,7 @@ counts_refused old new reply.FaultLog h = record {
   told = λ t. absurd cc;
   current = (h.0, omega (arith, h.1));
   onward = ap between (sym h.2);
-  few = λ le. rw h.2 le;
+  few = λ bound fits lt. rw h.2 lt;
   legal = λ legal. rw h.2 legal;
 }
 counts_refused old new (reply.Stopped published) h = counts_stays old new (reply.Stopped published) h.0 refl refl (λ t. h.1) (h.1, h.2) refl

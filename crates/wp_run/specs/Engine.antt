@@ -10,24 +10,41 @@ use Rattle.wp_text.specs.declared.script.Command.TheVariants as command
 use Rattle.wp_text.specs.declared.script.Part.{Part}
 use Rattle.wp_text.specs.declared.reply.Reply.{Reply}
 use Rattle.wp_text.specs.declared.reply.Reply.TheVariants as reply
+use Rattle.wp_outside.specs.Faults.{Rose}
 use Rattle.wp_run.specs.Current.{Between}
 
 pub record State : Type 0 where
   pub entries : List Entry  -- the history so far
   pub stopped : Bool  -- the log has failed
   pub limit : ℕ  -- the greatest number of an entry
+  pub id : ℕ  -- the store's
+  pub faults : ℕ  -- how often the log's device has failed
+
+abbrev pub bit : Bool → ℕ
+bit false = 0
+bit true = 1
 
 abbrev pub between : State → Between
 between s = record { published = length s.entries; stopped = s.stopped }
 
+-- The store later on: its entries have grown, unless its log had failed; once it fails, its device's count has risen.
+pub record Later (old new : State) : Type 0 where
+  pub grows : (more : List Entry) × (new.entries ≡ old.entries ++ more)
+  pub stays : old.stopped ≡ true → new.entries ≡ old.entries
+  pub stopped : old.stopped ≡ true → new.stopped ≡ true
+  pub rose : old.stopped ≡ false → new.stopped ≡ true → Rose old.faults new.faults
+  pub counted : old.faults ≤ new.faults
+  pub limited : new.limit ≡ old.limit
+  pub named : new.id ≡ old.id
+
 -- the change became the next entry
 abbrev pub Adds : State → State → Change → ℕ → Type 0
-Adds old new written n = (old.stopped ≡ false) × (length old.entries < old.limit) × (n ≡ length old.entries + 1) × (new ≡ record old { entries = old.entries ++ entry.Write (written ∷ []) ∷ [] })
+Adds old new written n = (old.stopped ≡ false) × (length old.entries < old.limit) × (n ≡ length old.entries + 1) × (new ≡ record old { entries = old.entries ++ entry.Write (written ∷ []) ∷ []; faults = new.faults }) × (old.faults ≤ new.faults)
 
 -- a write was refused
 abbrev pub Refuses : State → State → Reply → Type 0
 Refuses old new (reply.Full published said) = (new ≡ old) × (old.stopped ≡ false) × (old.limit ≤ length old.entries) × (published ≡ length old.entries) × (said ≡ old.limit)
-Refuses old new reply.FaultLog = (old.stopped ≡ false) × (length old.entries < old.limit) × (new ≡ record old { stopped = true })
+Refuses old new reply.FaultLog = (old.stopped ≡ false) × (length old.entries < old.limit) × (new ≡ record old { stopped = true; faults = new.faults }) × Rose old.faults new.faults × (old.faults ≤ new.faults)
 Refuses old new (reply.Stopped published) = (new ≡ old) × (old.stopped ≡ true) × (published ≡ length old.entries)
 Refuses old new (reply.Put n) = ⊥
 Refuses old new (reply.Del n) = ⊥

@@ -2,6 +2,11 @@ pub mod Session
 pub mod Current
 pub mod Transcript
 pub mod Engine
-pub mod Outside
-pub mod Words
 pub mod Write
+pub mod Legal
+pub mod Log
+pub mod Opening
+pub mod Outside
+pub mod Status
+pub mod Run
+pub mod Told

@@ -1,55 +1,151 @@
 -- What a call of the program's top call did, by the status that it ended with.
-use Rattle.std.specs.Prelude.{◌≡◌, ℕ, List, [], Option}
+use Rattle.std.specs.Prelude.{◌≡◌, ◌⊎◌, ℕ, zero, suc, ◌≤◌, List, [], ◌++◌, Option, Result, Ok, Err}
 use Rattle.std.specs.Io.KnownBytes.{Appends}
 use Rattle.wp_model.specs.declared.entry.Entry.{Entry}
+use Rattle.wp_outside.specs.declared.disk.Device.{Device}
+use Rattle.wp_outside.specs.declared.disk.Device.TheVariants as device
+use Rattle.wp_outside.specs.Disk.{Moment, IfTold}
 use Rattle.wp_outside.specs.Sink.{AppendsPrefix}
+use Rattle.wp_gatelog.specs.Moments.{Leaves}
+use Rattle.wp_gatelog.specs.Spelling.{IsUnmade}
+use Rattle.wp_gatelog.specs.Opening.{SurvivesThrough}
 use Rattle.wp_text.specs.declared.fault.Fault.{Fault}
 use Rattle.wp_text.specs.declared.script.Part.{Part}
-use Rattle.wp_text.specs.Grammar.{IsScript, IsFault}
+use Rattle.wp_text.specs.Grammar.{IsScript}
+use Rattle.wp_text.specs.Faults.{IsFault}
+use Rattle.wp_words.specs.declared.choice.Action.{Action}
+use Rattle.wp_words.specs.declared.choice.Action.TheVariants as action
+use Rattle.wp_words.specs.declared.choice.Choice.{Choice}
+use Rattle.wp_words.specs.Choice.{IsChoice, IsTaken}
+use Rattle.wp_run.specs.declared.opening.Bad.{Bad}
 use Rattle.wp_run.specs.declared.outside.TheConstants.{MOST_TAKEN}
-use Rattle.wp_run.specs.declared.run.TheConstants.{LIMIT}
 use Rattle.wp_run.specs.declared.status.Status.{Status}
 use Rattle.wp_run.specs.declared.status.Status.TheVariants as status
+use Rattle.wp_run.specs.Log.{MAGIC, IsLogOf, IsLogOrNext}
+use Rattle.wp_run.specs.Opening.{IsDamaged}
 use Rattle.wp_run.specs.Outside.{Takes}
 use Rattle.wp_run.specs.Transcript.{IsTranscript}
 
--- The text answers the script that was read: from left, what the source held, to rest, what it holds afterwards.
-pub record Answers (left rest : Option (List ℕ)) (text : List ℕ) : Type 0 where
-  pub bytes : List ℕ
-  pub taken : Takes MOST_TAKEN left rest bytes
-  pub script : List Part
-  pub spelled : IsScript bytes script
+-- ---- a store
+
+-- What a crash leaves of the log: the history; or, once the log has failed, it or it and one entry more, whole.
+abbrev pub KeptBy : ℕ → ℕ → List Entry → Moment → Type 0
+KeptBy zero id history m = Leaves (IsLogOf id history) m
+KeptBy (suc faults) id history m = Leaves (IsLogOrNext id history) m
+
+-- The text answers the script over the store whose log told these moments before and tells those after it. Asked is
+-- the id that a new log gets; so many times the log failed.
+pub record Tells (limit asked faults : ℕ) (script : List Part) (before after : List Moment) (text : List ℕ) : Type 0 where
+  pub id : ℕ
+  pub made : IfTold before (λ m. IsUnmade m.reads → id ≡ asked)
+  pub opened : List Entry
+  pub found : IfTold before (λ m. IsLogOf id opened m.reads)
   pub history : List Entry
-  pub told : IsTranscript LIMIT 0 script [] history text
+  pub told : IsTranscript limit faults script opened history text
+  pub kept : IfTold after (KeptBy faults id history)
 
--- the bytes read are no script, and this is their first fault
-abbrev pub IsOutsideGrammar : Option (List ℕ) → Option (List ℕ) → Fault → Type 0
-IsOutsideGrammar left rest fault = (bytes : List ℕ) × Takes MOST_TAKEN left rest bytes × IsFault bytes fault
+-- The run broke off. The log was opened, and a crash leaves each entry that was acknowledged.
+pub record Breaks (before after : List Moment) : Type 0 where
+  pub id : ℕ
+  pub opened : List Entry
+  pub found : IfTold before (λ m. IsLogOf id opened m.reads)
+  pub history : List Entry
+  pub begins : (added : List Entry) × (history ≡ opened ++ added)
+  pub kept : IfTold after (Leaves (IsLogOrNext id history))
 
--- Why a call ended so. Taken: the command line is one that the program takes. The other two: the count of faults of
--- the source, and of the sink, rose in this call. Want of memory needs no cause.
-abbrev pub IsCause : (taken source_rose sink_rose : Type 0) → Option (List ℕ) → Option (List ℕ) → Status → Type 0
-IsCause taken source_rose sink_rose left rest status.Ok = taken
-IsCause taken source_rose sink_rose left rest status.Words = ¬ taken
-IsCause taken source_rose sink_rose left rest status.Memory = taken
-IsCause taken source_rose sink_rose left rest status.SourceFault = taken × source_rose
-IsCause taken source_rose sink_rose left rest status.SinkFault = taken × sink_rose
-IsCause taken source_rose sink_rose left rest (status.Script fault) = taken × IsOutsideGrammar left rest fault
-
--- What was written: with Ok the whole text that answers the script, with SinkFault a prefix of one.
-abbrev pub Writes : (left rest old new : Option (List ℕ)) → Status → Type 0
-Writes left rest old new status.Ok = (text : List ℕ) × Answers left rest text × Appends old new text
-Writes left rest old new status.SinkFault = (text : List ℕ) × Answers left rest text × AppendsPrefix old new text
-Writes left rest old new status.Words = Unit {0}
-Writes left rest old new status.Memory = Unit {0}
-Writes left rest old new status.SourceFault = Unit {0}
-Writes left rest old new (status.Script fault) = Unit {0}
+-- How serving a script ended, why, what was written and what the log keeps.
+abbrev pub Serves : (limit asked : ℕ) → List Part → (before after : List Moment) → (log_rose sink_rose : Type 0) → (old new : Option (List ℕ)) → Status → Type 0
+Serves limit asked script before after log_rose sink_rose old new status.Ok = (text : List ℕ) × Tells limit asked 0 script before after text × Appends old new text
+Serves limit asked script before after log_rose sink_rose old new status.LogFault = log_rose × (text : List ℕ) × Tells limit asked 1 script before after text × Appends old new text
+Serves limit asked script before after log_rose sink_rose old new status.SinkFault = sink_rose × (faults : ℕ) × (1 ≤ faults → log_rose) × (text : List ℕ) × Tells limit asked faults script before after text × AppendsPrefix old new text
+Serves limit asked script before after log_rose sink_rose old new status.Memory = SurvivesThrough MAGIC asked before after ⊎ Breaks before after
+Serves limit asked script before after log_rose sink_rose old new (status.Contents damage) = SurvivesThrough MAGIC asked before after × IfTold before (λ m. IsDamaged m.reads damage)
+Serves limit asked script before after log_rose sink_rose old new (status.OpenFault device.Log) = SurvivesThrough MAGIC asked before after × log_rose
+Serves limit asked script before after log_rose sink_rose old new (status.OpenFault device.Manifest) = ⊥
+Serves limit asked script before after log_rose sink_rose old new (status.OpenFault device.Tables) = ⊥
+Serves limit asked script before after log_rose sink_rose old new status.Words = ⊥
+Serves limit asked script before after log_rose sink_rose old new status.SourceFault = ⊥
+Serves limit asked script before after log_rose sink_rose old new (status.Script fault) = ⊥
 
 -- with this status the sink was not called
 abbrev pub IsSilent : Status → Type 0
 IsSilent status.Ok = ⊥
 IsSilent status.SinkFault = ⊥
+IsSilent status.LogFault = ⊥
 IsSilent status.Words = Unit {0}
 IsSilent status.Memory = Unit {0}
 IsSilent status.SourceFault = Unit {0}
 IsSilent (status.Script fault) = Unit {0}
+IsSilent (status.Contents damage) = Unit {0}
+IsSilent (status.OpenFault d) = Unit {0}
+
+-- with this status no device was called
+abbrev pub IsUnopened : Status → Type 0
+IsUnopened status.Words = Unit {0}
+IsUnopened status.SourceFault = Unit {0}
+IsUnopened (status.Script fault) = Unit {0}
+IsUnopened status.Ok = ⊥
+IsUnopened status.SinkFault = ⊥
+IsUnopened status.LogFault = ⊥
+IsUnopened status.Memory = ⊥
+IsUnopened (status.Contents damage) = ⊥
+IsUnopened (status.OpenFault d) = ⊥
+
+-- ---- the program
+
+-- The script that a choice runs: that which the source held; or none, where the store is only shown and the source is
+-- not called.
+abbrev pub IsScriptOf : Action → (untouched : Type 0) → (left rest : Option (List ℕ)) → List Part → Type 0
+IsScriptOf action.Run untouched left rest script = (bytes : List ℕ) × Takes MOST_TAKEN left rest bytes × IsScript bytes script
+IsScriptOf action.Show untouched left rest script = untouched × (script ≡ [])
+
+-- the bytes read are no script, and this is their first fault
+abbrev pub IsOutsideGrammar : (left rest : Option (List ℕ)) → Fault → Type 0
+IsOutsideGrammar left rest fault = (bytes : List ℕ) × Takes MOST_TAKEN left rest bytes × IsFault bytes fault.line fault.why
+
+-- what reading the script of a choice gave
+abbrev pub IsReadAs : Action → (source_rose untouched : Type 0) → (left rest : Option (List ℕ)) → Result (List Part) Status → Type 0
+IsReadAs action source_rose untouched left rest (Ok script) = IsScriptOf action untouched left rest script
+IsReadAs action source_rose untouched left rest (Err status.Memory) = Unit {0}
+IsReadAs action source_rose untouched left rest (Err status.SourceFault) = source_rose
+IsReadAs action source_rose untouched left rest (Err (status.Script fault)) = IsOutsideGrammar left rest fault
+IsReadAs action source_rose untouched left rest (Err status.Ok) = ⊥
+IsReadAs action source_rose untouched left rest (Err status.Words) = ⊥
+IsReadAs action source_rose untouched left rest (Err status.SinkFault) = ⊥
+IsReadAs action source_rose untouched left rest (Err status.LogFault) = ⊥
+IsReadAs action source_rose untouched left rest (Err (status.Contents damage)) = ⊥
+IsReadAs action source_rose untouched left rest (Err (status.OpenFault d)) = ⊥
+
+-- What a call was given and what it left, as far as its end tells of them.
+pub record Outside : Type 1 where
+  pub words : List (List ℕ)  -- of the command line
+  pub left : Option (List ℕ)  -- what the source held
+  pub rest : Option (List ℕ)  -- what it holds now
+  pub untouched : Type 0  -- the source was not called
+  pub source_rose : Type 0  -- the source failed
+  pub log : List Moment  -- the log's moments before
+  pub log_now : List Moment
+  pub log_rose : Type 0  -- the log's device failed
+  pub written : Option (List ℕ)  -- what the sink held
+  pub written_now : Option (List ℕ)
+  pub sink_rose : Type 0  -- the sink failed
+
+-- a choice of the words had its script served so
+pub record IsServed (o : Outside) (end : Status) : Type 0 where
+  pub choice : Choice
+  pub chosen : IsChoice o.words choice
+  pub script : List Part
+  pub read : IsScriptOf choice.action o.untouched o.left o.rest script
+  pub served : Serves choice.limit choice.id script o.log o.log_now o.log_rose o.sink_rose o.written o.written_now end
+
+-- want of memory came before the log was opened, or as its script was served
+abbrev pub IsBrokenOff : Outside → Type 0
+IsBrokenOff o = (o.log_now ≡ o.log) ⊎ ((asked : ℕ) × (SurvivesThrough MAGIC asked o.log o.log_now ⊎ Breaks o.log o.log_now))
+
+-- How a call ended, why, what was written and what the log keeps.
+abbrev pub Ends : Outside → Status → Type 0
+Ends o status.Words = ¬ IsTaken o.words
+Ends o status.SourceFault = IsTaken o.words × o.source_rose
+Ends o (status.Script fault) = IsTaken o.words × IsOutsideGrammar o.left o.rest fault
+Ends o status.Memory = IsBrokenOff o
+Ends o end = IsServed o end

@@ -10,3 +10,6 @@ code_of status.Memory = 3
 code_of status.SourceFault = 4
 code_of status.SinkFault = 5
 code_of (status.Script fault) = 6
+code_of status.LogFault = 7
+code_of (status.Contents bad) = 9
+code_of (status.OpenFault device) = 10

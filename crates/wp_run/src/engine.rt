@@ -1,12 +1,18 @@
-ghost use Rattle.std.specs.Prelude.{◌≡◌, ◌≤◌, ◌^◌, ◌<◌, [], false, IfOk, OnErr, MatchResult};
-ghost use Rattle.wp_model.specs.declared.entry.Entry.{Entry};
+ghost use Rattle.std.specs.Prelude.{◌≡◌, ℕ, ◌+◌, ◌≤◌, ◌<◌, ◌^◌, [], ◌∷◌, false, IfOk, OnErr};
+ghost use Rattle.wp_entry.specs.Record.{IsRecord, record_bytes};
+ghost use Rattle.wp_gatelog.specs.Spelling.{frame_of};
 ghost use Rattle.wp_run.specs.Engine.{State, Steps};
+ghost use Rattle.wp_run.specs.Log.{Keeps};
 ghost use Rattle.wp_run.specs.Write.{Writes, IsRefusalOf};
 ghost use Rattle.wp_run.specs.declared.engine.WriteError.TheVariants.{Memory};
 
 use std::alloc::{AllocError, AllocFailed, Global};
 use std::marker::Model;
+use std::slice;
+use wp_entry::write_record;
+use wp_gatelog::{AppendError, GateLog, frame};
 use wp_model::{Batch, Change, Entry, Key, Seq, value_at};
+use wp_outside::Disk;
 use wp_text::{Command, Reply};
 
 /// Why a change was not written.
@@ -16,6 +22,10 @@ enum WriteError {
     Memory,
     /// The next number would pass the limit.
     NumbersFull { published: Seq, limit: Seq },
+    /// The log's device failed, and the log is closed from now on.
+    LogFault,
+    /// The log was closed before; this is the number published.
+    Stopped(Seq),
 }
 
 impl From<AllocError> for WriteError {
@@ -34,29 +44,50 @@ impl<T: Drop> From<AllocFailed<T>> for WriteError {
     }
 }
 
-/// The store on one thread: the list of its entries, searched for each read.
+/// The store on one thread: its log, and the list of its entries, which is searched for each read. An entry is on the
+/// list once its record is in the log.
 #[derive(Drop)]
-pub(crate) struct Engine {
+pub(crate) struct Engine<D: Disk> {
+    log: GateLog<D>,
     entries: Vec<Entry>,
+    stopped: bool,
     limit: Seq,
 }
 
-impl Model for Engine {
-    ghost use Rattle.std.specs.Prelude.{false};
+impl<D: Disk> Model for Engine<D> {
+    ghost use Rattle.std.specs.Prelude.{◌≡◌, ◌<◌, ◌^◌};
     ghost use Rattle.wp_run.specs.Engine.{State};
+    ghost use Rattle.wp_run.specs.Log.{IsWhole};
 
     ghost Value = { State };
 
-    ghost view = { λ e. record { entries = e.entries.items; stopped = false; limit = e.limit } };
+    ghost view = { λ e. record { entries = e.entries.items; stopped = e.stopped; limit = e.limit; id = e.log.id; faults = e.log.faults } };
+
+    ghost invariant = { λ e. IsWhole e.log e.entries.items e.stopped e.limit };
 }
 
-impl Engine {
-    /// A store without entries, whose numbers end at the limit.
-    pub(crate) fn new(alloc: Global, limit: Seq) -> Engine
-        ensures { result ≡ record { entries = []; stopped = false; limit = limit } }
+/// The frame of the entry's record.
+fn framed(alloc: Global, n: Seq, entry: &Entry) -> Result<Vec<u8>, AllocError>
+    requires { n < 2 ^ 32 }
+    ensures record { IfOk result (λ _. IsRecord n (entry.now ∷ [])) }
+    ensures frame { IfOk result (λ f. f.items ≡ frame_of (record_bytes n (entry.now ∷ []))) }
+{
+    let record = write_record(alloc, n, slice::from_ref(entry))?;
+    Ok(frame(alloc, &record)?)
+}
+
+impl<D: Disk> Engine<D> {
+    /// A store with this log and the entries that it spells. Numbers end at the limit.
+    pub(crate) fn new(log: GateLog<D>, entries: Vec<Entry>, limit: Seq) -> Engine<D>
+        requires keeps { Keeps log entries.items }
+        requires running { log.closed ≡ false }
+        requires limit { limit < 2 ^ 32 }
+        ensures { result ≡ record { entries = entries.items; stopped = false; limit = limit; id = log.id; faults = log.faults } }
     {
         Engine {
-            entries: Vec::new(alloc),
+            log,
+            entries,
+            stopped: false,
             limit,
         }
     }
@@ -68,18 +99,51 @@ impl Engine {
         &self.entries
     }
 
+    /// Whether the log has failed.
+    pub(crate) fn is_stopped(&self) -> bool
+        ensures { result ≡ self.now.stopped }
+    {
+        self.stopped
+    }
+
+    /// Gives the log back.
+    pub(crate) fn into_log(self) -> GateLog<D>
+        ensures keeps { Keeps result self.entries }
+        ensures closed { result.closed ≡ self.stopped }
+        ensures id { result.id ≡ self.id }
+        ensures faults { result.faults ≡ self.faults }
+    {
+        let Engine { log, .. } = self;
+        log
+    }
+
     fn write(&mut self, alloc: Global, change: Change) -> Result<Seq, WriteError>
         ensures { Writes self.old self.new change result }
     {
         let published = self.entries.len() as u64;
+        if self.stopped {
+            return Err(WriteError::Stopped(published));
+        }
         if self.limit <= published {
             return Err(WriteError::NumbersFull {
                 published,
                 limit: self.limit,
             });
         }
-        self.entries.push(Entry::Write(Batch::of(alloc, change)?))?;
-        Ok(published + 1)
+        let entry = Entry::Write(Batch::of(alloc, change)?);
+        let frame = framed(alloc, published + 1, &entry)?;
+        self.entries.reserve(1)?;
+        match self.log.append(&frame) {
+            Ok(()) => {
+                self.entries.push(entry).unwrap();
+                Ok(published + 1)
+            }
+            Err(AppendError::DiskFault) => {
+                self.stopped = true;
+                Err(WriteError::LogFault)
+            }
+            Err(AppendError::Closed(_)) => unreachable!(),
+        }
     }
 
     fn read(&self, alloc: Global, key: &Key) -> Result<Reply, AllocError>
@@ -120,5 +184,7 @@ fn refusal_of(error: WriteError) -> Result<Reply, AllocError>
     match error {
         WriteError::Memory => Err(AllocError),
         WriteError::NumbersFull { published, limit } => Ok(Reply::Full { published, limit }),
+        WriteError::LogFault => Ok(Reply::FaultLog),
+        WriteError::Stopped(published) => Ok(Reply::Stopped(published)),
     }
 }

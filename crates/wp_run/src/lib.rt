@@ -1,8 +1,19 @@
-//! The program's top call.
+//! The program: a script with one part per client is run over one store, whose log is on a device.
+//!
+//! The top call is `run`. It takes what it does from the words of a command line, opens the store's log, answers the
+//! clients of the script one after another and writes their replies and the history. The text is built whole before its
+//! first byte is written.
 #![tactic(auto)]
 
 mod engine;
+mod opening;
 mod outside;
+mod serve;
 mod session;
+mod status;
+mod top_call;
 mod transcript;
-mod words;
+
+pub use opening::Bad;
+pub use status::Status;
+pub use top_call::{Ended, run};

@@ -1,28 +1,36 @@
 ghost use Rattle.std.specs.Prelude.{◌≡◌};
 ghost use Rattle.wp_run.specs.Status.{code_of};
 
+use crate::opening::Bad;
 use std::alloc::{AllocError, Global};
+use wp_outside::Device;
 use wp_text::Fault;
 
 /// How a call of `run` ended.
-#[derive(Clone, Copy, Debug, PartialEq, Eq)]
+#[derive(Debug, Drop, PartialEq, Eq)]
 pub enum Status {
     /// The whole text was written.
     Ok,
     /// The command line is none that the program takes. Nothing was read, written or opened.
     Words,
-    /// Out of memory. Nothing was written.
+    /// Out of memory. Nothing was written. The log has every entry whose append was acknowledged.
     Memory,
-    /// The script could not be read. Nothing was written.
+    /// The script could not be read. Nothing was written or opened.
     SourceFault,
     /// The text could not be written whole. A prefix of it was written.
     SinkFault,
-    /// The bytes read are no script; this is the first fault. Nothing was written.
+    /// The bytes read are no script; this is the first fault. Nothing was written or opened.
     Script(Fault),
+    /// The log's device failed in the run, and the text says at which command. The whole text was written.
+    LogFault,
+    /// What the devices hold stands outside the formats. Nothing was written.
+    Contents(Bad),
+    /// The device failed while the store was opened. Nothing was written, and no entry was added.
+    OpenFault(Device),
 }
 
 impl Status {
-    /// The exit status of the program: 0 for `Ok`, else 2 to 6.
+    /// The exit status of the program: 0 for `Ok`, else 2 to 10.
     pub fn code(&self) -> u8
         ensures { result ≡ code_of self.now }
     {
@@ -33,18 +41,34 @@ impl Status {
             Status::SourceFault => 4,
             Status::SinkFault => 5,
             Status::Script(_) => 6,
+            Status::LogFault => 7,
+            Status::Contents(_) => 9,
+            Status::OpenFault(_) => 10,
         }
     }
 
     /// The line, without its end, that tells a status other than `Ok` on standard error. That of `Ok` is never shown.
     pub fn line(&self, alloc: Global) -> Result<Vec<u8>, AllocError> {
-        match self {
-            Status::Ok => Vec::from_slice(alloc, b"wp: ok"),
-            Status::Words => Vec::from_slice(alloc, b"wp: words not accepted"),
-            Status::Memory => Vec::from_slice(alloc, b"wp: out of memory"),
-            Status::SourceFault => Vec::from_slice(alloc, b"wp: script could not be read"),
-            Status::SinkFault => Vec::from_slice(alloc, b"wp: output could not be written"),
-            Status::Script(fault) => Ok(format!(in alloc; "wp: {fault}")?.into_bytes()),
-        }
+        let text = match self {
+            Status::Ok => "wp: ok".to_string(alloc)?,
+            Status::Words => "wp: words not accepted".to_string(alloc)?,
+            Status::Memory => "wp: out of memory".to_string(alloc)?,
+            Status::SourceFault => "wp: script could not be read".to_string(alloc)?,
+            Status::SinkFault => "wp: output could not be written".to_string(alloc)?,
+            Status::Script(fault) => format!(in alloc; "wp: {fault}")?,
+            Status::LogFault => "wp: log fault".to_string(alloc)?,
+            Status::Contents(bad) => format!(in alloc; "wp: contents: {bad}")?,
+            Status::OpenFault(device) => format!(in alloc; "wp: opening failed: {}", name_of(*device))?,
+        };
+        Ok(text.into_bytes())
+    }
+}
+
+/// The word that names a device.
+pub(crate) fn name_of(device: Device) -> &'static str {
+    match device {
+        Device::Log => "log",
+        Device::Manifest => "manifest",
+        Device::Tables => "tables",
     }
 }

@@ -1,6 +1,9 @@
 use Rattle.std.proofs.Common.{take}
-use Rattle.wp_run.specs.Engine.{Runs}
+use Rattle.wp_run.specs.Engine.{Later, Runs}
 use Rattle.wp_run.proofs.session.run_session.Given as goal
 
 abbrev pub invariant-loop-command : goal.invariant-loop-command
-invariant-loop-command l = Runs l.initial.engine (take l.command-index l.commands) l.replies.items l.engine
+invariant-loop-command g l = record {
+  runs : Runs l.initial.engine (take l.command-index l.commands) l.replies.items l.engine;
+  later : Later l.initial.engine l.engine;
+}

@@ -1,0 +1,151 @@
+-- From a run of all clients to how a call ends.
+use Rattle.std.proofs.Common.{◌≡◌, ℕ, ◌^◌, ◌<◌, ◌≤◌, Bool, true, false, List, [], ◌∷◌, length, map, Option, Some, refl, sym, ap, subst, ◌∙◌, inl, inr, arith}
+use Rattle.wp_model.specs.declared.entry.Entry.{Entry}
+use Rattle.wp_outside.specs.Disk.{Moment, IfTold}
+use Rattle.wp_outside.specs.Faults.{Rose}
+use Rattle.wp_gatelog.specs.Moments.{Leaves}
+use Rattle.wp_gatelog.specs.Log.{State as LogState}
+use Rattle.wp_gatelog.specs.Spelling.{IsUnmade}
+use Rattle.wp_text.specs.declared.reply.Reply.{Reply}
+use Rattle.wp_text.specs.declared.script.Part.{Part}
+use Rattle.wp_run.specs.declared.status.Status.{Status}
+use Rattle.wp_run.specs.declared.status.Status.TheVariants as status
+use Rattle.wp_run.specs.declared.opening.OpenError.{OpenError}
+use Rattle.wp_run.specs.declared.opening.OpenError.TheVariants as open_error
+use Rattle.wp_outside.specs.declared.disk.Device.TheVariants as device
+use Rattle.wp_gatelog.specs.Opening.{SurvivesThrough}
+use Rattle.wp_run.specs.Opening.{IsOpenCause, IsStatusOf}
+use Rattle.wp_run.specs.Legal.{AreLegal}
+use Rattle.wp_run.specs.Log.{MAGIC, IsLogOf, IsLogOrNext, Keeps}
+use Rattle.wp_run.specs.Transcript.{Explains, IsTranscript, text_of}
+use Rattle.wp_run.specs.Engine.{State, bit, Later, AllRun}
+use Rattle.wp_run.specs.Run.{KeptBy, Tells, Breaks, Serves}
+use Rattle.wp_run.specs.Told.{IsTold, IsToldAs, HasTold, HasBroken, Finishes}
+use Rattle.wp_run.proofs.Explained.{AllRun-later, explained}
+use Rattle.wp_run.proofs.LogLemmas.{keeps_history}
+
+-- each client has one list of replies
+pub AllRun-length : (old new : State) (parts : List Part) (sessions : List (List Reply)) → AllRun old parts sessions new → length parts ≡ length sessions
+AllRun-length old new [] [] h = refl
+AllRun-length old new [] (a ∷ sessions) h = absurd h
+AllRun-length old new (p ∷ parts) [] h = absurd h
+AllRun-length old new (p ∷ parts) (a ∷ sessions) (mid, run, rest) = omega (arith, AllRun-length mid new parts sessions rest)
+
+-- ---- what the log keeps
+
+pub kept_by : (log : LogState) (entries : List Entry) (stopped : Bool) → Keeps log entries → log.closed ≡ stopped → IfTold log.moments (KeptBy (bit stopped) log.id entries)
+kept_by log entries false keeps is = keeps_history log entries keeps is
+kept_by log entries true keeps is = keeps.left is
+
+or_next : (id : ℕ) (entries : List Entry) (moments : List Moment) → IfTold moments (Leaves (IsLogOf id entries)) → IfTold moments (Leaves (IsLogOrNext id entries))
+or_next id entries [] h = tt
+or_next id entries (m ∷ past) h = λ image is. (entries, inl refl, h image is)
+
+pub kept_anyway : (log : LogState) (entries : List Entry) (stopped : Bool) → Keeps log entries → log.closed ≡ stopped → IfTold log.moments (Leaves (IsLogOrNext log.id entries))
+kept_anyway log entries false keeps is = or_next log.id entries log.moments (keeps_history log entries keeps is)
+kept_anyway log entries true keeps is = keeps.left is
+
+-- ---- what the clients were told
+
+-- the store as it was opened
+pub record IsOpened (state : State) (asked : ℕ) (before : List Moment) : Type 0 where
+  pub running : state.stopped ≡ false
+  pub legal : AreLegal state.entries
+  pub few : length state.entries < 2 ^ 32
+  pub limit : state.limit < 2 ^ 32
+  pub found : IfTold before (λ m. IsLogOf state.id state.entries m.reads)
+  pub made : IfTold before (λ m. IsUnmade m.reads → state.id ≡ asked)
+
+is_transcript : (old new : State) (script : List Part) (text : List ℕ) (asked : ℕ) (before : List Moment) → IsOpened old asked before → IsTold old new script text → IsTranscript old.limit (bit new.stopped) script old.entries new.entries text
+is_transcript old new script text asked before opened (sessions, run, is) = (sessions, explained old new script sessions run opened.running opened.legal opened.few opened.limit, is)
+
+tells : (old new : State) (script : List Part) (text : List ℕ) (asked : ℕ) (before after : List Moment) (stopped : Bool) → IsOpened old asked before → IsTold old new script text → IfTold after (KeptBy (bit new.stopped) new.id new.entries) → new.stopped ≡ stopped → Tells old.limit asked (bit stopped) script before after text
+tells old new script text asked before after stopped opened told kept is =
+    let later = AllRun-later old new script told.0 told.1 in
+    record {
+      id = old.id;
+      made = opened.made;
+      opened = old.entries;
+      found = opened.found;
+      history = new.entries;
+      told = subst (λ (b : Bool). IsTranscript old.limit (bit b) script old.entries new.entries text) is (is_transcript old new script text asked before opened told);
+      kept = subst (λ (n : ℕ). IfTold after (KeptBy (bit stopped) n new.entries)) later.named (subst (λ (b : Bool). IfTold after (KeptBy (bit b) new.id new.entries)) is kept);
+    }
+
+-- once the log has failed its device's count has risen
+rose : (old new : State) (script : List Part) (text : List ℕ) (now first : ℕ) → IsTold old new script text → old.stopped ≡ false → first ≤ old.faults → new.faults ≡ now → new.stopped ≡ true → Rose first now
+rose old new script text now first told running le is stopped =
+    let later = AllRun-later old new script told.0 told.1 in
+    let up : Rose old.faults now = subst (λ (n : ℕ). Rose old.faults n) is (later.rose running stopped) in
+    omega (arith, up)
+
+bit_is : (stopped : Bool) → 1 ≤ bit stopped → stopped ≡ true
+bit_is true le = refl
+bit_is false le = absurd (omega arith)
+
+breaks : (old : State) (asked : ℕ) (before after : List Moment) → IsOpened old asked before → HasBroken old after → Breaks before after
+breaks old asked before after opened broken = record {
+  id = old.id;
+  opened = old.entries;
+  found = opened.found;
+  history = broken.new.entries;
+  begins = broken.later.grows;
+  kept = subst (λ (n : ℕ). IfTold after (Leaves (IsLogOrNext n broken.new.entries))) broken.later.named broken.kept;
+}
+
+pub serves : (old : State) (asked : ℕ) (script : List Part) (before after : List Moment) (first now : ℕ) (sink_rose : Type 0) (written written_now : Option (List ℕ)) (end : Status) → IsOpened old asked before → first ≤ old.faults → Finishes old script after now sink_rose written written_now end → Serves old.limit asked script before after (Rose first now) sink_rose written written_now end
+serves old asked script before after first now sink_rose written written_now status.Memory opened le h = inr (breaks old asked before after opened h)
+serves old asked script before after first now sink_rose written written_now status.Ok opened le h =
+    (h.text, tells old h.new script h.text asked before after false opened h.told h.kept h.ended.0, h.ended.1)
+serves old asked script before after first now sink_rose written written_now status.LogFault opened le h =
+    (rose old h.new script h.text now first h.told opened.running le h.faults h.ended.0, h.text, tells old h.new script h.text asked before after true opened h.told h.kept h.ended.0, h.ended.1)
+serves old asked script before after first now sink_rose written written_now status.SinkFault opened le h =
+    (h.ended.0, bit h.new.stopped, (λ up. rose old h.new script h.text now first h.told opened.running le h.faults (bit_is h.new.stopped up)), h.text, tells old h.new script h.text asked before after h.new.stopped opened h.told h.kept refl, h.ended.1)
+serves old asked script before after first now sink_rose written written_now status.Words opened le h = absurd h.ended
+serves old asked script before after first now sink_rose written written_now status.SourceFault opened le h = absurd h.ended
+serves old asked script before after first now sink_rose written written_now (status.Script fault) opened le h = absurd h.ended
+serves old asked script before after first now sink_rose written written_now (status.Contents damage) opened le h = absurd h.ended
+serves old asked script before after first now sink_rose written written_now (status.OpenFault d) opened le h = absurd h.ended
+
+pub serves_opened : (state : State) (limit asked : ℕ) (log : LogState) (entries : List Entry) (script : List Part) (before after : List Moment) (first now : ℕ) (sink_rose : Type 0) (written written_now : Option (List ℕ)) (end : Status)
+    → state ≡ record { entries = entries; stopped = false; limit = limit; id = log.id; faults = log.faults } → limit < 2 ^ 32
+    → IfTold before (λ m. IsLogOf log.id entries m.reads) → IfTold before (λ m. IsUnmade m.reads → log.id ≡ asked) → AreLegal entries → length entries < 2 ^ 32 → first ≤ log.faults
+    → Finishes state script after now sink_rose written written_now end → Serves limit asked script before after (Rose first now) sink_rose written written_now end
+serves_opened state limit asked log entries script before after first now sink_rose written written_now end is small found made legal few le h =
+    let opened : State = record { entries = entries; stopped = false; limit = limit; id = log.id; faults = log.faults } in
+    serves opened asked script before after first now sink_rose written written_now end (record { running = refl; legal = legal; few = few; limit = small; found = found; made = made }) le
+        (subst (λ (s : State). Finishes s script after now sink_rose written written_now end) is h)
+
+pub serves_refused : (why : OpenError) (end : Status) (limit asked : ℕ) (script : List Part) (before after : List Moment) (log_rose sink_rose : Type 0) (written written_now : Option (List ℕ))
+    → IsStatusOf why end → IsOpenCause log_rose before why → SurvivesThrough MAGIC asked before after → Serves limit asked script before after log_rose sink_rose written written_now end
+serves_refused open_error.Memory end limit asked script before after log_rose sink_rose written written_now is cause survives = rw is (inl survives)
+serves_refused (open_error.OpenFault device.Log) end limit asked script before after log_rose sink_rose written written_now is cause survives = rw is (survives, cause)
+serves_refused (open_error.OpenFault device.Manifest) end limit asked script before after log_rose sink_rose written written_now is cause survives = absurd cause
+serves_refused (open_error.OpenFault device.Tables) end limit asked script before after log_rose sink_rose written written_now is cause survives = absurd cause
+serves_refused (open_error.Contents damage) end limit asked script before after log_rose sink_rose written written_now is cause survives = rw is (survives, cause)
+
+-- ---- what an open store did
+
+finishes_told : (old : State) (script : List Part) (log : List Moment) (faults : ℕ) (sink_rose : Type 0) (written written_now : Option (List ℕ)) (end : Status) → HasTold old script log faults sink_rose written written_now end → Finishes old script log faults sink_rose written written_now end
+finishes_told old script log faults sink_rose written written_now status.Memory h = absurd h.ended
+finishes_told old script log faults sink_rose written written_now end h = h
+
+pub finishes : (old new : State) (script : List Part) (text : List ℕ) (log : LogState) (moments : List Moment) (faults : ℕ) (stopped : Bool) (sink_rose : Type 0) (written written_now : Option (List ℕ)) (end : Status)
+    → IsTold old new script text → Keeps log new.entries → log.closed ≡ new.stopped → log.id ≡ new.id → log.faults ≡ new.faults → moments ≡ log.moments → faults ≡ log.faults → stopped ≡ new.stopped
+    → IsToldAs stopped sink_rose written written_now text end → Finishes old script moments faults sink_rose written written_now end
+finishes old new script text log moments faults stopped sink_rose written written_now end told keeps closed id counted same now is ended =
+    finishes_told old script moments faults sink_rose written written_now end (record {
+      new = new;
+      text = text;
+      told = told;
+      kept = rw same (subst (λ (n : ℕ). IfTold log.moments (KeptBy (bit new.stopped) n new.entries)) id (kept_by log new.entries new.stopped keeps closed));
+      faults = sym counted ∙ sym now;
+      ended = subst (λ (b : Bool). IsToldAs b sink_rose written written_now text end) is ended;
+    })
+
+pub breaks_off : (old new : State) (log : LogState) (moments : List Moment) → Later old new → Keeps log new.entries → log.closed ≡ new.stopped → log.id ≡ new.id → moments ≡ log.moments → HasBroken old moments
+breaks_off old new log moments later keeps closed id same = record {
+  new = new;
+  later = later;
+  kept = rw same (subst (λ (n : ℕ). IfTold log.moments (Leaves (IsLogOrNext n new.entries))) id (kept_anyway log new.entries new.stopped keeps closed));
+}

@@ -1,0 +1,112 @@
+ghost use Rattle.std.specs.Prelude.{◌≡◌, ◌≤◌, map};
+ghost use Rattle.std.specs.String.{string_bytes};
+ghost use Rattle.wp_outside.specs.Faults.{Rose};
+ghost use Rattle.wp_run.specs.Run.{Outside, Ends, IsReadAs, IsSilent, IsUnopened};
+
+use crate::outside::{ReadError, read_all};
+use crate::serve::{Served, serve};
+use crate::status::Status;
+use std::alloc::{AllocError, Global};
+use std::sync::Wait;
+use std::thread::Threads;
+use wp_outside::{Disk, Disks, Gate, Sink, Source};
+use wp_text::{Script, ScriptError, read_script};
+use wp_words::{Action, choice_of};
+
+/// How a call ended, and the devices that it was handed.
+pub struct Ended<D> {
+    pub status: Status,
+    pub disks: Disks<D>,
+}
+
+/// The script that the source holds.
+fn script_in<S: Source>(alloc: Global, source: &mut S) -> Result<Script, Status>
+    ensures read { IsReadAs Action.Run (Rose (S.faults source.old) (S.faults source.new)) (source.new ≡ source.old) (S.left source.old) (S.left source.new) result }
+    ensures later { S.faults source.old ≤ S.faults source.new }
+{
+    match read_all(alloc, source) {
+        Ok(bytes) => match read_script(alloc, &bytes) {
+            Ok(script) => Ok(script),
+            Err(ScriptError::Memory) => Err(Status::Memory),
+            Err(ScriptError::Fault(fault)) => Err(Status::Script(fault)),
+        },
+        Err(ReadError::Memory) => Err(Status::Memory),
+        Err(ReadError::Fault) => Err(Status::SourceFault),
+    }
+}
+
+/// The script that is to be run. To show a store is to run none, and the source is not called.
+fn script_of<S: Source>(alloc: Global, action: Action, source: &mut S) -> Result<Script, Status>
+    ensures read { IsReadAs action (Rose (S.faults source.old) (S.faults source.new)) (source.new ≡ source.old) (S.left source.old) (S.left source.new) result }
+    ensures later { S.faults source.old ≤ S.faults source.new }
+{
+    match action {
+        Action::Run => script_in(alloc, source),
+        Action::Show => Ok(Script::new(Vec::new(alloc))),
+    }
+}
+
+/// Runs the program on the words of its command line, of which the first is its name. Of the devices only the log is
+/// called so far.
+pub fn run<R: Threads + Wait + Sync, D: Disk + Send, S: Source, K: Sink, G: Gate + Sync>(
+    _rt: &R,
+    alloc: Global,
+    words: &[String],
+    disks: Disks<D>,
+    source: &mut S,
+    sink: &mut K,
+    _gate: &G,
+) -> Ended<D>
+    // How the call ended and why, what was written and what the log keeps, by the status.
+    ensures ends { Ends (record {
+        words = map string_bytes words.now;
+        left = S.left source.old;
+        rest = S.left source.new;
+        untouched = source.new ≡ source.old;
+        source_rose = Rose (S.faults source.old) (S.faults source.new);
+        log = D.moments disks.log;
+        log_now = D.moments result.disks.log;
+        log_rose = Rose (D.faults disks.log) (D.faults result.disks.log);
+        written = K.contents sink.old;
+        written_now = K.contents sink.new;
+        sink_rose = Rose (K.faults sink.old) (K.faults sink.new);
+    }) result.status }
+    ensures silent { IsSilent result.status → sink.new ≡ sink.old }
+    ensures unread { result.status ≡ Status.Words → source.new ≡ source.old }
+    ensures unopened { IsUnopened result.status → result.disks ≡ disks }
+    ensures manifest { result.disks.manifest ≡ disks.manifest }
+    ensures tables { result.disks.tables ≡ disks.tables }
+    ensures source_later { S.faults source.old ≤ S.faults source.new }
+    ensures sink_later { K.faults sink.old ≤ K.faults sink.new }
+    ensures log_later { D.faults disks.log ≤ D.faults result.disks.log }
+{
+    let choice = match choice_of(alloc, words) {
+        Ok(Some(choice)) => choice,
+        Ok(None) => {
+            let status = Status::Words;
+            return Ended { status, disks };
+        }
+        Err(AllocError) => {
+            let status = Status::Memory;
+            return Ended { status, disks };
+        }
+    };
+    let script = match script_of(alloc, choice.action, source) {
+        Ok(script) => script,
+        Err(status) => return Ended { status, disks },
+    };
+    let Disks {
+        log,
+        manifest,
+        tables,
+    } = disks;
+    let Served { status, disk } = serve(alloc, choice.limit, choice.id, script.as_slice(), log, sink);
+    Ended {
+        status,
+        disks: Disks {
+            log: disk,
+            manifest,
+            tables,
+        },
+    }
+}
