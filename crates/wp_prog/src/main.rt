@@ -1,7 +1,7 @@
 //! The program `wp`: a script's clients run over the store in the current folder.
 #![tactic(auto)]
 
-use std::env;
+use std::env::{self, Env};
 use std::io::{self, Write};
 use std::process::ExitCode;
 use wp_outside::{Disks, OpenGate};
@@ -20,6 +20,12 @@ fn words<R: Env + AllocGlobal>(rt: &R) -> Result<Vec<String>, Status> {
     }
 }
 
+fn tell(rt: &HostRuntime, status: &Status) -> io::Result<()> {
+    let mut line = status.line(rt.alloc())?;
+    line.push(b'\n')?;
+    rt.stderr().write_all(&line)
+}
+
 fn main(rt: HostRuntime) -> ExitCode {
     let alloc = rt.alloc();
     let status = match words(&rt) {
@@ -36,9 +42,8 @@ fn main(rt: HostRuntime) -> ExitCode {
         Err(status) => status,
     };
     if status != Status::Ok {
-        if let Ok(line) = status.line(alloc) {
-            let _ = writeln!(rt.stderr(), "{}", line);
-        }
+        // Where not even this can be said, the exit status still does.
+        let _ = tell(&rt, &status);
     }
     ExitCode::from(status.code())
 }

@@ -14,6 +14,7 @@ use wp_text::{Script, ScriptError, read_script};
 use wp_words::{Action, choice_of};
 
 /// How a call ended, and the devices that it was handed.
+#[derive(Drop)]
 pub struct Ended<D> {
     pub status: Status,
     pub disks: Disks<D>,
