@@ -1,8 +1,8 @@
 //! What a command line chooses.
 
-ghost use Rattle.std.specs.Prelude.{◌≡◌, ◌≤◌, ◌↔◌, ℕ, IfNone, IfOk, IfSome, MatchOption, Some, codes, map, string_bytes};
+ghost use Rattle.std.specs.Prelude.{◌≡◌, ℕ, IfNone, IfOk, IfSome, map, string_bytes};
 ghost use Rattle.clap.specs.Words.{found_of, rows_of, subcommand_rows_of};
-ghost use Rattle.wp_words.specs.Choice.{HasEntries, HasNumber, IsChoice, IsEntered, IsTaken, command_name};
+ghost use Rattle.wp_words.specs.Choice.{HasNumber, IsChoice, IsEntered, IsTaken, command_name};
 
 use crate::command_set::command_set;
 use crate::number::number_of;
@@ -27,12 +27,12 @@ pub struct Choice {
     pub bits: u32,
     /// The greatest number that an entry may have; 1 to 4294967295.
     pub limit: u64,
-    /// The store's number, which its devices bear; 1 to 4294967295.
+    /// The number of the store, which its log and its manifest bear; 1 to 4294967295.
     pub id: u32,
 }
 
 /// What the words choose, or `None` where they are refused. The first word is the program's name and is not
-/// looked at.
+/// looked at. The error is want of memory, which may also come before a refusal.
 pub fn choice_of(alloc: Global, words: &[String]) -> Result<Option<Choice>, AllocError>
     ensures taken { IfOk result (λ answer. IfSome answer (IsChoice (map string_bytes words.now))) }
     ensures refused { IfOk result (λ answer. IfNone answer (¬ IsTaken (map string_bytes words.now))) }
@@ -72,7 +72,8 @@ fn action_of(name: &str) -> Option<Action>
 /// The number of an option's entry, if it is one and lies in its range.
 fn number_in(entries: &ArgMatches<'_>, name: &str, least: u64, most: u64) -> Option<u64>
     ensures number { IfSome result (HasNumber (rows_of (found_of entries.now)) name.now least most) }
-    ensures none { IfNone result ((number : ℕ) → ¬ HasNumber (rows_of (found_of entries.now)) name.now least most number) }
+    ensures none { IfNone result ((number : ℕ)
+        → ¬ HasNumber (rows_of (found_of entries.now)) name.now least most number) }
 {
     let number = number_of(entries.get_str(name)?)?;
     if least <= number && number <= most {

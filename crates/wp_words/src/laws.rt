@@ -14,7 +14,7 @@ pub fn commands_alone_are_taken()
         (record { action = Action.Show; bits = 10; limit = 4294967295; id = 1 }) }
 {}
 
-/// Words without a command, a request for help and numbers out of range are refused.
+/// Words without a command, a request for help and a number out of its range are refused.
 pub fn other_words_are_refused()
     ensures no_words { ¬ IsTaken [] }
     ensures no_command { ¬ IsTaken (codes "wp" ∷ []) }
@@ -25,5 +25,6 @@ pub fn other_words_are_refused()
 
 /// Words choose one thing at most.
 pub fn words_choose_once()
-    ensures { (words : List Text) (one other : _) → IsChoice words one → IsChoice words other → one ≡ other }
+    ensures { (words : List Text) (one other : _)
+        → IsChoice words one → IsChoice words other → one ≡ other }
 {}

@@ -1,8 +1,9 @@
 //! The command line of `wp`: which command a list of words chooses, with its numbers, or that they are refused.
 //!
 //! The commands are `run` and `show`, and each takes `--bits`, `--limit` and `--id`. `clap` decides which
-//! words these commands take; a number is stricter here than its parser is. The program has no help and no
-//! version. The crate stands apart from the program's run, because what rests on `clap` takes long to check.
+//! words these commands take. The numbers are read here: decimal digits with no sign and no leading zero. The
+//! program has no help and no version. The crate stands apart from the program's run, because what rests on
+//! `clap` takes long to check.
 #![tactic(auto)]
 
 mod choice;

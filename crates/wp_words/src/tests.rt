@@ -2,22 +2,31 @@ use super::*;
 use std::alloc::{AllocError, Global};
 use std::test::*;
 
+// The default of `--limit`.
+const MOST: u64 = 4_294_967_295;
+
 static TAKEN: [(&str, Action, u32, u64, u32); 15] = [
-    ("wp run", Action::Run, 10, 4_294_967_295, 1),
-    ("wp show", Action::Show, 10, 4_294_967_295, 1),
-    ("anything run", Action::Run, 10, 4_294_967_295, 1),
-    ("wp run --bits 3", Action::Run, 3, 4_294_967_295, 1),
-    ("wp run --bits=3", Action::Run, 3, 4_294_967_295, 1),
-    ("wp run --bits 3 --id 7", Action::Run, 3, 4_294_967_295, 7),
-    ("wp run --id=7 --bits=3", Action::Run, 3, 4_294_967_295, 7),
+    ("wp run", Action::Run, 10, MOST, 1),
+    ("wp show", Action::Show, 10, MOST, 1),
+    ("anything run", Action::Run, 10, MOST, 1),
+    ("wp run --bits 3", Action::Run, 3, MOST, 1),
+    ("wp run --bits=3", Action::Run, 3, MOST, 1),
+    ("wp run --bits 3 --id 7", Action::Run, 3, MOST, 7),
+    ("wp run --id=7 --bits=3", Action::Run, 3, MOST, 7),
     ("wp show --limit 5 --id 2 --bits 1", Action::Show, 1, 5, 2),
-    ("wp run --bits 3 --", Action::Run, 3, 4_294_967_295, 1),
-    ("wp run --bits 0", Action::Run, 0, 4_294_967_295, 1),
-    ("wp run --bits 16", Action::Run, 16, 4_294_967_295, 1),
+    ("wp run --bits 3 --", Action::Run, 3, MOST, 1),
+    ("wp run --bits 0", Action::Run, 0, MOST, 1),
+    ("wp run --bits 16", Action::Run, 16, MOST, 1),
     ("wp run --limit 1", Action::Run, 10, 1, 1),
-    ("wp run --limit 4294967295", Action::Run, 10, 4_294_967_295, 1),
-    ("wp run --id 1", Action::Run, 10, 4_294_967_295, 1),
-    ("wp run --id 4294967295", Action::Run, 10, 4_294_967_295, 4_294_967_295),
+    ("wp run --limit 4294967295", Action::Run, 10, MOST, 1),
+    ("wp run --id 1", Action::Run, 10, MOST, 1),
+    (
+        "wp run --id 4294967295",
+        Action::Run,
+        10,
+        MOST,
+        4_294_967_295,
+    ),
 ];
 
 // Two spaces in a row, or one at the end, stand for an empty word.
@@ -64,7 +73,12 @@ static REFUSED: [&str; 37] = [
 #[test]
 fn command_lines_are_taken(rt: HostRuntime) -> Result<(), Fail> {
     for (line, action, bits, limit, id) in TAKEN {
-        let choice = Choice { action, bits, limit, id };
+        let choice = Choice {
+            action,
+            bits,
+            limit,
+            id,
+        };
         assert_eq!(rt; line_choice(rt.alloc(), line)?, Some(choice), "{line}");
     }
     Ok(())
