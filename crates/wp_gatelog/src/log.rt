@@ -19,15 +19,18 @@ use std::alloc::Global;
 use std::marker::Model;
 use wp_outside::{Disk, Failed};
 
+/// Why a record was not acknowledged.
 #[derive(Clone, Copy, Debug, PartialEq, Eq)]
 pub enum AppendError {
+    /// The disk failed, so the record may stand in the log or not. The log is closed from now on: open it again.
     DiskFault,
 
-    /// An append failed before, and so many records stood then.
+    /// An append of this value failed before, and so many records were acknowledged by then.
     Closed(u64),
 }
 
-/// A log on a disk of its own.
+/// An open log. Clauses see its disk's moments and faults, its id, the records that it found, how many it has now, and
+/// whether it is closed.
 #[derive(Drop)]
 pub struct GateLog<D: Disk> {
     disk: D,
@@ -58,8 +61,8 @@ impl<D: Disk> Model for GateLog<D> {
 }
 
 impl<D: Disk> GateLog<D> {
-    /// Opens the log that stands on the disk, and mends what a crash left of it. Where none was made, a new one is made,
-    /// under this id.
+    /// Opens the log that stands on the disk, and mends what a crash left of it. Where none was made, one is made, with
+    /// this id. A log is of one kind, which its magic names.
     pub fn open(
         alloc: Global,
         mut disk: D,
@@ -101,7 +104,7 @@ impl<D: Disk> GateLog<D> {
         }
     }
 
-    /// The store's id, as the log's head has it.
+    /// The id in the log's head.
     pub fn id(&self) -> u32
         ensures { result ≡ self.now.id }
     {
@@ -122,7 +125,7 @@ impl<D: Disk> GateLog<D> {
         self.count
     }
 
-    /// Adds the record of the frame.
+    /// Adds the record whose frame this is. It takes no memory.
     pub fn append(&mut self, frame: &[u8]) -> Result<(), AppendError>
         requires { IsFrame frame.now }
 

@@ -27,7 +27,7 @@ pub fn make<D: Disk>(disk: &mut D, len: u64, magic: [u8; 4], id: u32) -> Result<
     write_synced(disk, 0, &[OPEN])
 }
 
-/// Leaves a closed gate and nothing behind it. A gate that is closed already is not written again.
+/// Leaves a closed gate and nothing behind it. A closed gate with bytes behind it is not written again: they are cut.
 fn close_head<D: Disk>(disk: &mut D, len: u64) -> Result<(), Failed>
     ensures passed { (before : List ℕ) → IsUnmade before → len ≡ length before → IfTold (D.moments disk.old) (λ m. m ≡ settled before)
         → Goes (Leaves IsUnmade) (D.moments disk.old) (D.moments disk.new) }

@@ -98,7 +98,7 @@ fn an_opening_mends_gates_and_cuts_what_stands_behind(rt: HostRuntime) -> Result
     Ok(())
 }
 
-// The sixth call is the last one of the opening; the eighth and the tenth are the syncs of the append.
+// The opening makes six calls of the disk; the second and the fourth call of an append are its syncs.
 #[test]
 fn a_failed_append_closes_the_log(rt: HostRuntime) -> Result<(), Fail> {
     let alloc = rt.alloc();
