@@ -69,15 +69,17 @@ impl<D: Disk> GateLog<D> {
         magic: [u8; 4],
         id: u32,
     ) -> Result<GateLog<D>, DiskRefused<D, LogError>>
-        // The records are those that the disk spelled as it was handed in, and after it they are all that a crash leaves.
+        // The records are those that the disk spelled as it was handed in, and a crash from now on leaves them.
         ensures found { IfOk result (λ log. IfTold (D.moments disk) (λ m. IsFound magic id m.reads log.id log.found)) }
         ensures rests { IfOk result (λ log. Rests magic log log.found) }
-        ensures spelled { IfOk result (λ log. (image : List ℕ) → images log.moments image → Spells image magic log.id log.found) }
+        ensures spelled { IfOk result (λ log. (image : List ℕ) → images log.moments image
+            → Spells image magic log.id log.found) }
         ensures fresh { IfOk result (λ log. (log.count ≡ length log.found) × (log.closed ≡ false)) }
 
         // Each refusal of the bytes comes where they are so.
         ensures refused { IfErr result (λ refused. IfTold (D.moments disk) (λ m. IsRefused magic m.reads refused.why)) }
-        ensures untouched { IfErr result (λ refused. IsOnlySynced (D.moments disk) (D.moments refused.disk) refused.why) }
+        ensures untouched { IfErr result (λ refused.
+            IsOnlySynced (D.moments disk) (D.moments refused.disk) refused.why) }
 
         // A crash on the way takes nothing that an opening or an append has acknowledged.
         ensures any_moment { MatchResult result (λ log. SurvivesThrough magic id (D.moments disk) log.moments)
@@ -86,7 +88,8 @@ impl<D: Disk> GateLog<D> {
             (λ refused. StaysThrough magic (D.moments disk) (D.moments refused.disk)) }
 
         ensures fault { IfErr result (λ refused. FaultRose (D.faults disk) (D.faults refused.disk) refused.why) }
-        ensures later { MatchResult result (λ log. D.faults disk ≤ log.faults) (λ refused. D.faults disk ≤ D.faults refused.disk) }
+        ensures later { MatchResult result (λ log. D.faults disk ≤ log.faults)
+            (λ refused. D.faults disk ≤ D.faults refused.disk) }
     {
         match find(alloc, &mut disk, magic, id) {
             Ok(Found { id, records, end }) => {
@@ -146,7 +149,8 @@ impl<D: Disk> GateLog<D> {
             → Rests magic self.new (records ++ bytes ∷ [])) }
         ensures spelled { OnOk result ((magic : List ℕ) (records : List (List ℕ)) (bytes : List ℕ)
             → frame.now ≡ frame_of bytes → Rests magic self.old records
-            → (image : List ℕ) → images self.new.moments image → Spells image magic self.new.id (records ++ bytes ∷ [])) }
+            → (image : List ℕ) → images self.new.moments image
+            → Spells image magic self.new.id (records ++ bytes ∷ [])) }
 
         // Four calls: the frame behind the closed gate, a sync, that gate, a sync.
         ensures calls { OnOk result (self.new.moments ≡ added after_sync (added (after_write self.old.end (1 ∷ []))
