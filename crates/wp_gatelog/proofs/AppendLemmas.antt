@@ -1,13 +1,13 @@
 -- One record more.
-use Rattle.std.proofs.Common.{◌≡◌, ◌⊎◌, inl, inr, ℕ, ◌+◌, ◌<◌, ◌≤◌, ◌^◌, List, [], ◌∷◌, ◌++◌, map, length, replicate, refl, sym, ◌∙◌, ap, subst, arith, length-append}
+use Rattle.std.proofs.Common.{◌≡◌, inl, inr, ℕ, ◌+◌, ◌<◌, ◌≤◌, ◌^◌, List, [], ◌∷◌, ◌++◌, length, replicate, refl, sym, ◌∙◌, ap, subst, arith, length-append}
 use Rattle.std.proofs.lemmas.Bool.{cases_eq}
 use Rattle.std.proofs.lemmas.List.{append-nil, append_assoc, map_push, length-replicate}
 use Rattle.std.specs.Int.{w64, to_be_bytes}
-use Rattle.wp_outside.specs.Disk.{Moment, IsImage, settled, after_write, write_end, IfTold, Each, Passes}
-use Rattle.wp_gatelog.specs.Log.{State, Grows, KeepsAcknowledged, IsAcknowledged, IsAtRest, last_gate}
+use Rattle.wp_outside.specs.Disk.{Moment, settled, after_write, write_end, IfTold, Each, Passes}
+use Rattle.wp_gatelog.specs.Log.{Grows, KeepsAcknowledged, IsAcknowledged, IsAtRest, last_gate}
 use Rattle.wp_gatelog.specs.Moments.{Leaves, Within, Goes}
-use Rattle.wp_gatelog.specs.Spelling.{Gated, IsOpen, framed, frame_of, identity, all_gated, log_of, records_of}
-use Rattle.wp_gatelog.proofs.MomentLemmas.{image_behind, image_of_gate, reads_behind, put_gate, goes_map, told_map, told_as}
+use Rattle.wp_gatelog.specs.Spelling.{Gated, IsOpen, framed, frame_of, identity, all_gated, log_of}
+use Rattle.wp_gatelog.proofs.MomentLemmas.{image_behind, image_of_gate, reads_behind, goes_map, told_map}
 
 pub length-framed : (bytes : List ℕ) → length (framed bytes) ≡ 8 + length bytes
 unfolding framed

@@ -1,14 +1,12 @@
 -- The head of a log.
-use Rattle.std.proofs.Common.{◌≡◌, ◌≢◌, ◌⊎◌, inl, inr, ℕ, zero, suc, ◌+◌, ◌-◌, ◌<◌, ◌≤◌, min, List, [], ◌∷◌, ◌++◌, length, take, drop, get_or, refl, sym, ◌∙◌, ap, subst, arith, length-append, length-take}
+use Rattle.std.proofs.Common.{◌≡◌, inl, inr, ℕ, min, List, [], ◌∷◌, ◌++◌, length, take, drop, get_or, refl, sym, ◌∙◌, ap, subst, arith, length-append, length-take}
 use Rattle.std.proofs.lemmas.List.{append_assoc, take-append-drop, take_min, take-take, drop-take, get_or-take}
 use Rattle.std.specs.Int.{w32, to_be_bytes}
-use Rattle.wp_outside.specs.Disk.{Moment, IsRead, IfTold}
+use Rattle.wp_outside.specs.Disk.{IsRead}
 use Rattle.wp_gatelog.specs.declared.head.Head.{Head}
 use Rattle.wp_gatelog.specs.declared.head.Head.TheVariants.{Unmade, Bad, Made}
-use Rattle.wp_gatelog.specs.Damage.{IsBadHead}
 use Rattle.wp_gatelog.specs.Heads.{IsHead}
 use Rattle.wp_gatelog.specs.Spelling.{identity, IsUnmade}
-use Rattle.wp_gatelog.proofs.MomentLemmas.{told_map}
 
 pub length-identity : (magic : List ℕ) (id : ℕ) → length magic ≡ 4 → length (identity magic id) ≡ 9
 unfolding identity

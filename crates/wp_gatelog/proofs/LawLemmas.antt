@@ -1,14 +1,12 @@
 -- Bytes are a log, or have a bad head, or have a cut record, and in one way.
-use Rattle.std.proofs.Common.{◌≡◌, ◌≢◌, ◌⊎◌, inl, inr, ℕ, zero, suc, ◌+◌, ◌-◌, ◌<◌, ◌≤◌, ◌^◌, List, [], ◌∷◌, ◌++◌, length, take, drop, get_or, refl, sym, ◌∙◌, ap, subst, arith, length-append, length-take, length-drop}
-use Rattle.std.proofs.lemmas.Bool.{cases_eq}
-use Rattle.std.proofs.lemmas.List.{append_assoc, append_cancel_left, take_at, get_or_at, length-map}
+use Rattle.std.proofs.Common.{◌≡◌, ◌≢◌, inl, inr, ℕ, ◌<◌, ◌≤◌, ◌^◌, List, [], ◌∷◌, ◌++◌, length, take, drop, get_or, refl, sym, ◌∙◌, ap, subst, arith, length-append}
+use Rattle.std.proofs.lemmas.List.{append_assoc, append_cancel_left, take_at, get_or_at}
 use Rattle.std.proofs.lemmas.Nat.{from_be_bytes-to_be_bytes_4}
 use Rattle.std.specs.Int.{w32, to_be_bytes, from_be_bytes}
-use Rattle.wp_outside.specs.Disk.{Each}
-use Rattle.wp_gatelog.specs.Damage.{IsBadHead, IsCut, IsShort}
-use Rattle.wp_gatelog.specs.Spelling.{Gated, IsOpen, framed, identity, all_gated, log_of, records_of, IsUnmade, Stands, Spells}
+use Rattle.wp_gatelog.specs.Damage.{IsBadHead, IsCut}
+use Rattle.wp_gatelog.specs.Spelling.{Gated, identity, all_gated, records_of, IsUnmade, Stands, Spells}
 use Rattle.wp_gatelog.proofs.HeadLemmas.{length-identity}
-use Rattle.wp_gatelog.proofs.ParseLemmas.{same_log, SameLog, same_parts, Stops}
+use Rattle.wp_gatelog.proofs.ParseLemmas.{same_log, SameLog}
 
 -- ---- a log and what ends it
 

@@ -1,12 +1,12 @@
 -- A log is made.
-use Rattle.std.proofs.Common.{◌≡◌, ◌⊎◌, inl, inr, ℕ, ◌+◌, ◌<◌, ◌≤◌, max, List, [], ◌∷◌, ◌++◌, length, take, drop, refl, sym, ◌∙◌, ap, subst, arith}
+use Rattle.std.proofs.Common.{◌≡◌, inl, inr, ℕ, List, [], ◌∷◌, ◌++◌, refl, sym, ◌∙◌, ap, subst}
 use Rattle.std.proofs.lemmas.Bool.{cases_eq}
-use Rattle.std.proofs.lemmas.List.{append-nil, append_assoc, drop_all}
-use Rattle.wp_outside.specs.Disk.{Moment, IsImage, settled, put, after_write, after_cut}
+use Rattle.std.proofs.lemmas.List.{append-nil, append_assoc}
+use Rattle.wp_outside.specs.Disk.{Moment, settled, after_write}
 use Rattle.wp_gatelog.specs.Moments.{Leaves, Within}
 use Rattle.wp_gatelog.specs.Heads.{SpellsNone}
-use Rattle.wp_gatelog.specs.Spelling.{identity, log_of, IsUnmade, Stands, Spells}
-use Rattle.wp_gatelog.proofs.MomentLemmas.{image_behind, image_of_cut, image_of_gate, reads_behind, put_gate}
+use Rattle.wp_gatelog.specs.Spelling.{identity, log_of, IsUnmade}
+use Rattle.wp_gatelog.proofs.MomentLemmas.{image_behind, image_of_gate, put_gate}
 
 -- ---- a closed gate alone
 

@@ -1,13 +1,13 @@
 -- A log is mended.
-use Rattle.std.proofs.Common.{◌≡◌, ◌≢◌, ◌⊎◌, inl, inr, ℕ, ◌+◌, ◌<◌, ◌≤◌, List, [], ◌∷◌, ◌++◌, length, take, Option, None, Some, refl, sym, ◌∙◌, ap, subst, arith, length-append}
+use Rattle.std.proofs.Common.{◌≡◌, ◌≢◌, inl, inr, ℕ, ◌+◌, List, [], ◌∷◌, ◌++◌, length, take, None, Some, refl, sym, ◌∙◌, ap, subst, arith, length-append}
 use Rattle.std.proofs.lemmas.List.{append_assoc, take_at, map_push}
 use Rattle.wp_outside.specs.Disk.{Moment, IsImage, settled, after_write, after_cut, Each}
 use Rattle.wp_gatelog.specs.declared.gate.Gate.{Gate}
-use Rattle.wp_gatelog.specs.Log.{IsAcknowledged, IsAtRest, last_gate}
+use Rattle.wp_gatelog.specs.Log.{IsAtRest, last_gate}
 use Rattle.wp_gatelog.specs.Mending.{IsReadLog, KeepsFront, Reopens, Mended}
 use Rattle.wp_gatelog.specs.Moments.{Leaves, Within}
 use Rattle.wp_gatelog.specs.Scanning.{IsLast}
-use Rattle.wp_gatelog.specs.Spelling.{Gated, IsOpen, framed, identity, all_gated, log_of, records_of, Stands}
+use Rattle.wp_gatelog.specs.Spelling.{Gated, IsOpen, framed, identity, all_gated, log_of, records_of}
 use Rattle.wp_gatelog.proofs.AppendLemmas.{records_more, last_gate_more, log_more}
 use Rattle.wp_gatelog.proofs.HeadLemmas.{length-identity}
 use Rattle.wp_gatelog.proofs.MomentLemmas.{image_of_cut, image_of_gate}

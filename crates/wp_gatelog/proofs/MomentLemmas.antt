@@ -1,7 +1,7 @@
 -- The moments of one change and its sync, and the images that they leave.
-use Rattle.std.proofs.Common.{◌≡◌, ◌⊎◌, inl, inr, ℕ, zero, suc, ◌+◌, ◌-◌, ◌≤◌, min, max, List, [], ◌∷◌, ◌++◌, map, length, take, drop, Option, None, Some, Result, Ok, Err, OnOk, OnErr, refl, sym, ◌∙◌, ap, subst, arith, length-append, length-drop, length-take}
-use Rattle.std.proofs.lemmas.List.{append-nil, append_assoc, drop_all, take-map, take_at, map-append, length-map}
-use Rattle.wp_outside.specs.Disk.{Moment, Matches, IsImage, settled, put, hide, hide_at, write_end, after_write, after_cut, after_sync, IfTold, added, Tears, Each, Passes, images}
+use Rattle.std.proofs.Common.{◌≡◌, inl, inr, ℕ, zero, suc, ◌+◌, ◌≤◌, max, List, [], ◌∷◌, ◌++◌, map, length, take, drop, Option, None, Some, Result, Ok, Err, OnOk, OnErr, refl, sym, ◌∙◌, ap, subst, arith, length-append, length-drop, length-take}
+use Rattle.std.proofs.lemmas.List.{append-nil, append_assoc, drop_all, take-map, take_at, length-map}
+use Rattle.wp_outside.specs.Disk.{Moment, Matches, IsImage, settled, put, hide, hide_at, after_write, after_cut, after_sync, IfTold, added, Tears, Each, Passes, images}
 use Rattle.wp_gatelog.specs.Moments.{Leaves, Within, Goes}
 
 -- ---- moments, one after another

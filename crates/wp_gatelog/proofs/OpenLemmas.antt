@@ -1,11 +1,10 @@
 -- A log is opened.
-use Rattle.std.proofs.Common.{◌≡◌, ◌≢◌, ◌⊎◌, inl, inr, ℕ, ◌+◌, ◌<◌, ◌≤◌, List, [], ◌∷◌, ◌++◌, length, drop, Option, Result, Ok, Err, IfOk, IfErr, refl, sym, ◌∙◌, ap, subst, arith, length-append}
+use Rattle.std.proofs.Common.{◌≡◌, inl, inr, ℕ, ◌<◌, List, [], ◌∷◌, ◌++◌, length, drop, Option, Result, Ok, Err, IfOk, IfErr, refl, sym, ◌∙◌, ap, subst, arith, length-append}
 use Rattle.std.proofs.lemmas.List.{append_assoc, drop_at}
-use Rattle.wp_outside.specs.Disk.{Moment, settled, IfTold, added, after_sync, Each}
+use Rattle.wp_outside.specs.Disk.{Moment, settled, IfTold, added, after_sync}
 use Rattle.wp_gatelog.specs.declared.error.LogError.{LogError}
 use Rattle.wp_gatelog.specs.declared.error.LogError.TheVariants.{Memory, DiskFault, BadHead, Cut}
 use Rattle.wp_gatelog.specs.declared.gate.Gate.{Gate}
-use Rattle.wp_gatelog.specs.Damage.{IsShort}
 use Rattle.wp_gatelog.specs.declared.head.Head.TheVariants.{Unmade, Made}
 use Rattle.wp_gatelog.specs.Heads.{BeginsLog, IsHead, SpellsNone}
 use Rattle.wp_gatelog.specs.Log.{IsAtRest}
@@ -13,7 +12,7 @@ use Rattle.wp_gatelog.specs.Mending.{IsReadLog, Mended}
 use Rattle.wp_gatelog.specs.Moments.{Leaves, Goes}
 use Rattle.wp_gatelog.specs.Opening.{IsFound, IsRefused, Mends, MendsMade}
 use Rattle.wp_gatelog.specs.Scanning.{HasRead, IsReadFault}
-use Rattle.wp_gatelog.specs.Spelling.{Gated, IsOpen, identity, all_gated, log_of, IsUnmade, Stands}
+use Rattle.wp_gatelog.specs.Spelling.{Gated, identity, all_gated, log_of, IsUnmade}
 use Rattle.wp_gatelog.proofs.HeadLemmas.{length-identity}
 use Rattle.wp_gatelog.proofs.MomentLemmas.{goes_on, goes_map, told_map, told_both, told_three, told_goes, told_new, image_of_settled}
 

@@ -1,18 +1,16 @@
 -- The records of a log, read one after another.
-use Rattle.std.proofs.Common.{◌≡◌, ◌≢◌, ◌⊎◌, inl, inr, ℕ, zero, suc, ◌+◌, ◌-◌, ◌<◌, ◌≤◌, ◌^◌, min, List, [], ◌∷◌, ◌++◌, length, take, drop, Option, Some, None, refl, sym, ◌∙◌, ap, subst, arith, length-append, length-take, length-drop}
-use Rattle.std.proofs.lemmas.List.{append-nil, append_assoc, take-append-drop, take_min, take_at, drop_at, drop-drop, nil_from_length, length-take-le, length-map, map_push}
+use Rattle.std.proofs.Common.{◌≡◌, inl, inr, ℕ, ◌+◌, ◌-◌, ◌<◌, ◌≤◌, ◌^◌, min, List, [], ◌∷◌, ◌++◌, length, take, drop, Option, Some, None, refl, sym, ◌∙◌, ap, subst, arith, length-append, length-take, length-drop}
+use Rattle.std.proofs.lemmas.List.{append-nil, append_assoc, take-append-drop, take_min, take_at, drop_at, drop-drop, nil_from_length, length-take-le, map_push}
 use Rattle.std.proofs.lemmas.Nat.{from_be_bytes-to_be_bytes_8}
 use Rattle.std.specs.Int.{w64, to_be_bytes, from_be_bytes}
-use Rattle.wp_outside.specs.Disk.{Moment, IsRead, IfTold, Each}
-use Rattle.wp_gatelog.specs.declared.error.LogError.TheVariants as error
+use Rattle.wp_outside.specs.Disk.{IsRead}
 use Rattle.wp_gatelog.specs.declared.gate.Gate.{Gate}
-use Rattle.wp_gatelog.specs.declared.scan.Next.{Next}
 use Rattle.wp_gatelog.specs.declared.scan.Next.TheVariants as next
 use Rattle.wp_gatelog.specs.declared.scan.Start.{Start}
 use Rattle.wp_gatelog.specs.declared.scan.Start.TheVariants as start
-use Rattle.wp_gatelog.specs.Damage.{IsShort, counted}
-use Rattle.wp_gatelog.specs.Scanning.{IsStart, IsNext, HasRead, IsReadFault}
-use Rattle.wp_gatelog.specs.Spelling.{Gated, IsOpen, framed, all_gated, records_of}
+use Rattle.wp_gatelog.specs.Damage.{counted}
+use Rattle.wp_gatelog.specs.Scanning.{IsStart, IsNext, HasRead}
+use Rattle.wp_gatelog.specs.Spelling.{Gated, framed, all_gated}
 use Rattle.wp_gatelog.proofs.AppendLemmas.{length-framed, records_more, all_gated_more}
 
 -- ---- one gate

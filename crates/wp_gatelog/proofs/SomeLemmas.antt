@@ -1,12 +1,12 @@
 -- Any bytes are a log, or have a bad head, or have a cut record.
-use Rattle.std.proofs.Common.{◌≡◌, ◌≢◌, ◌⊎◌, inl, inr, ℕ, zero, suc, ◌+◌, ◌-◌, ◌<◌, ◌≤◌, ◌^◌, List, [], ◌∷◌, ◌++◌, length, take, drop, get_or, refl, sym, ◌∙◌, ap, subst, arith, length-append, length-take, length-drop}
+use Rattle.std.proofs.Common.{◌≡◌, ◌≢◌, ◌⊎◌, inl, inr, ℕ, zero, suc, ◌+◌, ◌-◌, ◌<◌, ◌≤◌, ◌^◌, List, [], ◌∷◌, ◌++◌, length, take, drop, get_or, refl, sym, ◌∙◌, ap, arith, length-take, length-drop}
 use Rattle.std.proofs.lemmas.Bool.{cases_eq, cases_lt}
 use Rattle.std.proofs.lemmas.List.{append_assoc, take-append-drop, drop-drop, drop_more, length-take-le, get_or-drop, get_or-take, get_or_past}
 use Rattle.std.proofs.lemmas.Nat.{be_bytes_4, be_bytes_8}
 use Rattle.std.specs.Int.{w32, w64, to_be_bytes, from_be_bytes}
 use Rattle.wp_outside.specs.Disk.{Each}
 use Rattle.wp_gatelog.specs.Damage.{IsBadHead, IsCut, IsShort, counted}
-use Rattle.wp_gatelog.specs.Spelling.{Gated, IsOpen, framed, identity, all_gated, log_of, records_of, IsUnmade, Stands, Spells}
+use Rattle.wp_gatelog.specs.Spelling.{Gated, IsOpen, framed, identity, all_gated, log_of, records_of, IsUnmade, Spells}
 use Rattle.wp_gatelog.proofs.HeadLemmas.{identity_spelled}
 
 abbrev AreBytes : List ℕ → Type 0

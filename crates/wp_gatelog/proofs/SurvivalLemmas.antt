@@ -1,8 +1,8 @@
 -- What a crash leaves while a log is opened, in terms of its records.
-use Rattle.std.proofs.Common.{◌≡◌, ◌≢◌, ◌⊎◌, inl, inr, ℕ, ◌+◌, ◌<◌, ◌≤◌, ◌^◌, List, [], ◌∷◌, ◌++◌, map, length, refl, sym, ◌∙◌, ap, subst, arith, length-append}
+use Rattle.std.proofs.Common.{◌≡◌, ◌≢◌, inl, inr, ℕ, ◌<◌, ◌^◌, List, [], ◌∷◌, ◌++◌, length, refl, sym, ◌∙◌, ap, subst, arith, length-append}
 use Rattle.std.proofs.lemmas.Bool.{cases_eq}
 use Rattle.std.proofs.lemmas.List.{append_assoc, map_push, same_from_push}
-use Rattle.wp_outside.specs.Disk.{Moment, IfTold, IsImage, images, settled, Each, Passes}
+use Rattle.wp_outside.specs.Disk.{Moment, IfTold, IsImage, images, Each, Passes}
 use Rattle.wp_gatelog.specs.Log.{IsAcknowledged, IsAtRest, BeforeOrAfter, KeepsAcknowledged, Grows, last_gate}
 use Rattle.wp_gatelog.specs.Mending.{KeepsFront, Mended}
 use Rattle.wp_gatelog.specs.Moments.{Leaves, Goes}
@@ -11,7 +11,7 @@ use Rattle.wp_gatelog.specs.Spelling.{Gated, IsOpen, framed, identity, all_gated
 use Rattle.wp_gatelog.proofs.AppendLemmas.{records_more, log_more, last_gate_more}
 use Rattle.wp_gatelog.proofs.MendLemmas.{each_but_last, keeps_more}
 use Rattle.wp_gatelog.proofs.MomentLemmas.{goes_map, passes_map, left_now, image_of_settled}
-use Rattle.wp_gatelog.proofs.ParseLemmas.{same_log, SameLog}
+use Rattle.wp_gatelog.proofs.ParseLemmas.{same_log}
 
 -- ---- gates of any byte
 

@@ -1,5 +1,5 @@
 -- What an append leaves of the log.
-use Rattle.std.specs.Prelude.{◌≡◌, ℕ, ◌+◌, length, true, false, List}
+use Rattle.std.specs.Prelude.{◌≡◌, ℕ, ◌+◌, true, false}
 use Rattle.wp_outside.specs.Faults.{Rose}
 use Rattle.wp_gatelog.specs.declared.log.AppendError.{AppendError}
 use Rattle.wp_gatelog.specs.declared.log.AppendError.TheVariants.{DiskFault, Closed}

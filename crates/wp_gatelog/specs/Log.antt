@@ -1,5 +1,5 @@
 -- An open log.
-use Rattle.std.specs.Prelude.{◌≡◌, ◌≢◌, ◌⊎◌, ℕ, Bool, List, [], ◌∷◌, ◌++◌, length}
+use Rattle.std.specs.Prelude.{◌≡◌, ◌⊎◌, ℕ, Bool, List, [], ◌∷◌, ◌++◌, length}
 use Rattle.wp_outside.specs.Disk.{Moment, IfTold, Each, settled}
 use Rattle.wp_gatelog.specs.Spelling.{Gated, IsOpen, framed, frame_of, log_of, records_of, Spells}
 

@@ -12,8 +12,10 @@ pub fn write_synced<D: Disk>(disk: &mut D, at: u64, bytes: &[u8]) -> Result<(), 
     ensures passed { (before : List ℕ) → IfTold (D.moments disk.old) (λ m. m ≡ settled before)
         → Goes (Within (after_write at bytes.now (settled before))) (D.moments disk.old) (D.moments disk.new) }
     ensures done { (before : List ℕ) → IfTold (D.moments disk.old) (λ m. m ≡ settled before)
-        → OnOk result (IfTold (D.moments disk.new) (λ m. m ≡ settled (after_write at bytes.now (settled before)).reads)) }
-    ensures calls { OnOk result (D.moments disk.new ≡ added after_sync (added (after_write at bytes.now) (D.moments disk.old))) }
+        → OnOk result (IfTold (D.moments disk.new)
+        (λ m. m ≡ settled (after_write at bytes.now (settled before)).reads)) }
+    ensures calls { OnOk result
+        (D.moments disk.new ≡ added after_sync (added (after_write at bytes.now) (D.moments disk.old))) }
     ensures bounded { OnOk result (write_end at bytes.now ≤ 2 ^ 62) }
     ensures untold { D.moments disk.old ≡ [] → D.moments disk.new ≡ [] }
     ensures cause { HasCause (D.faults disk.old) (D.faults disk.new) result }

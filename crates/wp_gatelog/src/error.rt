@@ -1,4 +1,4 @@
-//! Why a log could not be opened.
+//! Refusals.
 
 ghost use Rattle.std.specs.Prelude.{◌≡◌};
 ghost use Rattle.wp_gatelog.specs.declared.error.LogError.TheVariants.{DiskFault, Memory};
@@ -6,12 +6,13 @@ ghost use Rattle.wp_gatelog.specs.declared.error.LogError.TheVariants.{DiskFault
 use std::alloc::{AllocError, AllocFailed};
 use wp_outside::Failed;
 
+/// Why a log could not be opened.
 #[derive(Clone, Copy, Debug, PartialEq, Eq)]
 pub enum LogError {
     Memory,
     DiskFault,
 
-    /// There is no whole head, or it has another magic or another version.
+    /// The head is cut, or has another magic or another version.
     BadHead,
 
     /// Behind an open gate the record with this index, from 0 on, or the gate behind it is not there whole.

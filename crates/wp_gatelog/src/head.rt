@@ -51,7 +51,8 @@ fn head_of(bytes: &[u8], magic: &[u8]) -> Head
 /// The id behind this magic and version, where they stand behind the head's gate and a further gate follows.
 fn id_of(bytes: &[u8], magic: &[u8]) -> Option<u32>
     requires { length magic.now ≡ 4 }
-    ensures found { IfSome result (λ id. (next : ℕ) × (rest : List ℕ) × (bytes.now ≡ identity magic.now id ++ next ∷ rest)) }
+    ensures found { IfSome result (λ id.
+        (next : ℕ) × (rest : List ℕ) × (bytes.now ≡ identity magic.now id ++ next ∷ rest)) }
     ensures none { IfNone result
         ((length bytes.now < 10) ⊎ (take 4 bytes.now ≢ magic.now) ⊎ (slice_index bytes.now 4 ≢ 1)) }
 {

@@ -23,11 +23,12 @@ pub fn bytes_are_read_in_one_way()
     ensures cut_or_bad { (bytes magic : List ℕ) (index : ℕ)
         → length magic ≡ 4 → IsCut magic index bytes → IsBadHead magic bytes → ⊥ }
     ensures some { (bytes magic : List ℕ) → length magic ≡ 4 → ((i : ℕ) → slice_index bytes i < 256)
-        → ((id : ℕ) × (records : List (List ℕ)) × Spells bytes magic id records) ⊎ IsBadHead magic bytes ⊎ ((index : ℕ) × IsCut magic index bytes) }
+        → ((id : ℕ) × (records : List (List ℕ)) × Spells bytes magic id records)
+        ⊎ IsBadHead magic bytes ⊎ ((index : ℕ) × IsCut magic index bytes) }
 {}
 
-/// What a crash leaves of a log at rest has its records acknowledged, and what has records acknowledged spells them, with
-/// a further one or without.
+/// What a crash leaves of a log at rest has its records acknowledged, and what has records acknowledged spells them,
+/// with a further one or without.
 pub fn acknowledged_records_are_spelled()
     ensures at_rest { (magic : List ℕ) (id end : ℕ) (records : List (List ℕ)) (bytes : List ℕ) (m : Moment)
         → IsAtRest magic id end records m → Leaves (KeepsAcknowledged magic id records bytes) m }

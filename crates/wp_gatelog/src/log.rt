@@ -19,15 +19,18 @@ use std::alloc::Global;
 use std::marker::Model;
 use wp_outside::{Disk, Failed};
 
+/// Why a record was not acknowledged.
 #[derive(Clone, Copy, Debug, PartialEq, Eq)]
 pub enum AppendError {
+    /// The disk failed, so the record may stand in the log or not. The log is closed from now on: open it again.
     DiskFault,
 
-    /// An append failed before, and so many records stood then.
+    /// An append of this value failed before, and so many records were acknowledged by then.
     Closed(u64),
 }
 
-/// A log on a disk of its own.
+/// An open log. Clauses see its disk's moments and faults, its id, the records that it found, how many it has now, and
+/// whether it is closed.
 #[derive(Drop)]
 pub struct GateLog<D: Disk> {
     disk: D,
@@ -58,23 +61,25 @@ impl<D: Disk> Model for GateLog<D> {
 }
 
 impl<D: Disk> GateLog<D> {
-    /// Opens the log that stands on the disk, and mends what a crash left of it. Where none was made, a new one is made,
-    /// under this id.
+    /// Opens the log that stands on the disk, and mends what a crash left of it. Where none was made, one is made, with
+    /// this id. A log is of one kind, which its magic names.
     pub fn open(
         alloc: Global,
         mut disk: D,
         magic: [u8; 4],
         id: u32,
     ) -> Result<GateLog<D>, DiskRefused<D, LogError>>
-        // The records are those that the disk spelled as it was handed in, and after it they are all that a crash leaves.
+        // The records are those that the disk spelled as it was handed in, and a crash from now on leaves them.
         ensures found { IfOk result (λ log. IfTold (D.moments disk) (λ m. IsFound magic id m.reads log.id log.found)) }
         ensures rests { IfOk result (λ log. Rests magic log log.found) }
-        ensures spelled { IfOk result (λ log. (image : List ℕ) → images log.moments image → Spells image magic log.id log.found) }
+        ensures spelled { IfOk result (λ log. (image : List ℕ) → images log.moments image
+            → Spells image magic log.id log.found) }
         ensures fresh { IfOk result (λ log. (log.count ≡ length log.found) × (log.closed ≡ false)) }
 
         // Each refusal of the bytes comes where they are so.
         ensures refused { IfErr result (λ refused. IfTold (D.moments disk) (λ m. IsRefused magic m.reads refused.why)) }
-        ensures untouched { IfErr result (λ refused. IsOnlySynced (D.moments disk) (D.moments refused.disk) refused.why) }
+        ensures untouched { IfErr result (λ refused.
+            IsOnlySynced (D.moments disk) (D.moments refused.disk) refused.why) }
 
         // A crash on the way takes nothing that an opening or an append has acknowledged.
         ensures any_moment { MatchResult result (λ log. SurvivesThrough magic id (D.moments disk) log.moments)
@@ -83,7 +88,8 @@ impl<D: Disk> GateLog<D> {
             (λ refused. StaysThrough magic (D.moments disk) (D.moments refused.disk)) }
 
         ensures fault { IfErr result (λ refused. FaultRose (D.faults disk) (D.faults refused.disk) refused.why) }
-        ensures later { MatchResult result (λ log. D.faults disk ≤ log.faults) (λ refused. D.faults disk ≤ D.faults refused.disk) }
+        ensures later { MatchResult result (λ log. D.faults disk ≤ log.faults)
+            (λ refused. D.faults disk ≤ D.faults refused.disk) }
     {
         match find(alloc, &mut disk, magic, id) {
             Ok(Found { id, records, end }) => {
@@ -101,7 +107,7 @@ impl<D: Disk> GateLog<D> {
         }
     }
 
-    /// The store's id, as the log's head has it.
+    /// The id in the log's head.
     pub fn id(&self) -> u32
         ensures { result ≡ self.now.id }
     {
@@ -122,7 +128,7 @@ impl<D: Disk> GateLog<D> {
         self.count
     }
 
-    /// Adds the record of the frame.
+    /// Adds the record whose frame this is. It takes no memory.
     pub fn append(&mut self, frame: &[u8]) -> Result<(), AppendError>
         requires { IsFrame frame.now }
 
@@ -143,7 +149,8 @@ impl<D: Disk> GateLog<D> {
             → Rests magic self.new (records ++ bytes ∷ [])) }
         ensures spelled { OnOk result ((magic : List ℕ) (records : List (List ℕ)) (bytes : List ℕ)
             → frame.now ≡ frame_of bytes → Rests magic self.old records
-            → (image : List ℕ) → images self.new.moments image → Spells image magic self.new.id (records ++ bytes ∷ [])) }
+            → (image : List ℕ) → images self.new.moments image
+            → Spells image magic self.new.id (records ++ bytes ∷ [])) }
 
         // Four calls: the frame behind the closed gate, a sync, that gate, a sync.
         ensures calls { OnOk result (self.new.moments ≡ added after_sync (added (after_write self.old.end (1 ∷ []))

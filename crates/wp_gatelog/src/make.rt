@@ -15,9 +15,11 @@ use wp_outside::{Disk, Failed};
 /// Makes a log without records on a disk of so many bytes. Its head's gate stays closed until the rest of the head is
 /// on the disk for good.
 pub fn make<D: Disk>(disk: &mut D, len: u64, magic: [u8; 4], id: u32) -> Result<(), Failed>
-    ensures passed { (before : List ℕ) → IsUnmade before → len ≡ length before → IfTold (D.moments disk.old) (λ m. m ≡ settled before)
+    ensures passed { (before : List ℕ) → IsUnmade before → len ≡ length before
+        → IfTold (D.moments disk.old) (λ m. m ≡ settled before)
         → Goes (Leaves (SpellsNone magic id)) (D.moments disk.old) (D.moments disk.new) }
-    ensures done { (before : List ℕ) → IsUnmade before → len ≡ length before → IfTold (D.moments disk.old) (λ m. m ≡ settled before)
+    ensures done { (before : List ℕ) → IsUnmade before → len ≡ length before
+        → IfTold (D.moments disk.old) (λ m. m ≡ settled before)
         → OnOk result (IfTold (D.moments disk.new) (λ m. m ≡ settled (log_of magic id 1 [] ++ 0 ∷ []))) }
     ensures untold { D.moments disk.old ≡ [] → D.moments disk.new ≡ [] }
     ensures cause { HasCause (D.faults disk.old) (D.faults disk.new) result }
@@ -27,11 +29,13 @@ pub fn make<D: Disk>(disk: &mut D, len: u64, magic: [u8; 4], id: u32) -> Result<
     write_synced(disk, 0, &[OPEN])
 }
 
-/// Leaves a closed gate and nothing behind it. A gate that is closed already is not written again.
+/// Leaves a closed gate and nothing behind it. A closed gate with bytes behind it is not written again: they are cut.
 fn close_head<D: Disk>(disk: &mut D, len: u64) -> Result<(), Failed>
-    ensures passed { (before : List ℕ) → IsUnmade before → len ≡ length before → IfTold (D.moments disk.old) (λ m. m ≡ settled before)
+    ensures passed { (before : List ℕ) → IsUnmade before → len ≡ length before
+        → IfTold (D.moments disk.old) (λ m. m ≡ settled before)
         → Goes (Leaves IsUnmade) (D.moments disk.old) (D.moments disk.new) }
-    ensures done { (before : List ℕ) → IsUnmade before → len ≡ length before → IfTold (D.moments disk.old) (λ m. m ≡ settled before)
+    ensures done { (before : List ℕ) → IsUnmade before → len ≡ length before
+        → IfTold (D.moments disk.old) (λ m. m ≡ settled before)
         → OnOk result (IfTold (D.moments disk.new) (λ m. m ≡ settled (0 ∷ []))) }
     ensures untold { D.moments disk.old ≡ [] → D.moments disk.new ≡ [] }
     ensures cause { HasCause (D.faults disk.old) (D.faults disk.new) result }

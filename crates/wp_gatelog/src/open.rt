@@ -33,9 +33,12 @@ pub fn find<D: Disk>(
     id: u32,
 ) -> Result<Found, LogError>
     requires { length magic ≡ 4 }
-    ensures passed { IfTold (D.moments disk.old) (λ m. Goes (Leaves (Mends magic id m.reads)) (D.moments disk.old) (D.moments disk.new)) }
-    ensures found { IfOk result (λ found. IfTold (D.moments disk.old) (λ m. IsFound magic id m.reads found.id found.records.items)) }
-    ensures rests { IfOk result (λ found. IfTold (D.moments disk.new) (IsAtRest magic found.id found.end found.records.items)) }
+    ensures passed { IfTold (D.moments disk.old) (λ m.
+        Goes (Leaves (Mends magic id m.reads)) (D.moments disk.old) (D.moments disk.new)) }
+    ensures found { IfOk result (λ found. IfTold (D.moments disk.old)
+        (λ m. IsFound magic id m.reads found.id found.records.items)) }
+    ensures rests { IfOk result (λ found. IfTold (D.moments disk.new)
+        (IsAtRest magic found.id found.end found.records.items)) }
     ensures refused { IfErr result (λ why. IfTold (D.moments disk.old) (λ m. IsRefused magic m.reads why)) }
     ensures untouched { IfErr result (IsOnlySynced (D.moments disk.old) (D.moments disk.new)) }
     ensures places { IfOk result (λ found. (vec_len found.records ≤ found.end) × (found.end ≤ 2 ^ 62)) }
@@ -58,7 +61,8 @@ pub fn open_synced<D: Disk>(
     ensures passed { (bytes : List ℕ) → IfTold (D.moments disk.old) (λ m. m ≡ settled bytes)
         → Goes (Leaves (Mends magic id bytes)) (D.moments disk.old) (D.moments disk.new) }
     ensures found { (bytes : List ℕ) → IfTold (D.moments disk.old) (λ m. m ≡ settled bytes)
-        → IfOk result (λ found. IfTold (D.moments disk.old) (λ _. IsFound magic id bytes found.id found.records.items)) }
+        → IfOk result (λ found. IfTold (D.moments disk.old)
+        (λ _. IsFound magic id bytes found.id found.records.items)) }
     ensures rests { (bytes : List ℕ) → IfTold (D.moments disk.old) (λ m. m ≡ settled bytes)
         → IfOk result (λ found. IfTold (D.moments disk.new) (IsAtRest magic found.id found.end found.records.items)) }
     ensures refused { (bytes : List ℕ) → IfTold (D.moments disk.old) (λ m. m ≡ settled bytes)

@@ -34,7 +34,7 @@ impl Record {
     }
 }
 
-/// The frame of a record, which `append` writes.
+/// The frame of a record with these bytes: what an append writes for it.
 #[tactic(auto, unfolding(crate::specs::Spelling::framed))]
 pub fn frame(alloc: Global, bytes: &[u8]) -> Result<Vec<u8>, AllocError>
     ensures { IfOk result (λ frame. frame.items ≡ frame_of bytes.now) }

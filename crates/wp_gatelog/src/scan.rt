@@ -49,7 +49,8 @@ pub fn read_records<D: Disk>(alloc: Global, disk: &mut D, len: u64) -> Result<Sc
     requires bounded { len ≤ 2 ^ 62 }
     ensures found { IfOk result (λ scan. IfTold (D.moments disk.old) (λ m. len ≡ length m.reads
         → (behind : List ℕ) × HasRead (drop 10 m.reads) (0 ∷ behind) scan.records.items scan.last scan.end)) }
-    ensures refused { IfErr result (λ why. IfTold (D.moments disk.old) (λ m. len ≡ length m.reads → IsReadFault (drop 10 m.reads) why)) }
+    ensures refused { IfErr result (λ why. IfTold (D.moments disk.old) (λ m. len ≡ length m.reads
+        → IsReadFault (drop 10 m.reads) why)) }
     ensures places { IfOk result (λ scan. (vec_len scan.records ≤ scan.end) × (scan.end < len)) }
     ensures kept { D.moments disk.new ≡ D.moments disk.old }
     ensures fault { IfErr result (FaultRose (D.faults disk.old) (D.faults disk.new)) }
@@ -80,7 +81,8 @@ pub fn read_records<D: Disk>(alloc: Global, disk: &mut D, len: u64) -> Result<Sc
 fn read_next<D: Disk>(alloc: Global, disk: &mut D, at: u64, len: u64) -> Result<Next, LogError>
     requires within { at < len }
     requires bounded { len ≤ 2 ^ 62 }
-    ensures found { IfOk result (λ next. IfTold (D.moments disk.old) (λ m. len ≡ length m.reads → IsNext (drop at m.reads) next)) }
+    ensures found { IfOk result (λ next. IfTold (D.moments disk.old) (λ m. len ≡ length m.reads
+        → IsNext (drop at m.reads) next)) }
     ensures within { IfOk result (EndsWithin at len) }
     ensures kept { D.moments disk.new ≡ D.moments disk.old }
     ensures refused { IfErr result (IsOutside (D.faults disk.old) (D.faults disk.new)) }

@@ -26,6 +26,8 @@ fn open(alloc: Global, bytes: &[u8], fails: &[u64]) -> Result<GateLog<MemDisk>, 
     }
 }
 
+fn goes_to_a_thread<T: Send>(_value: &T) {}
+
 fn count_found(alloc: Global, bytes: &[u8]) -> Result<usize, LogError> {
     let log = open(alloc, bytes, &[])?;
     Ok(log.records().len())
@@ -35,6 +37,7 @@ fn count_found(alloc: Global, bytes: &[u8]) -> Result<usize, LogError> {
 fn a_log_is_written_and_read_as_its_format_says(rt: HostRuntime) -> Result<(), Fail> {
     let alloc = rt.alloc();
     let mut log = open(alloc, b"", &[])?;
+    goes_to_a_thread(&log);
     assert_eq!(rt; log.count(), 0);
     let record = frame(alloc, RECORD)?;
     assert_eq!(rt; log.append(&record), Ok(()));
@@ -98,7 +101,7 @@ fn an_opening_mends_gates_and_cuts_what_stands_behind(rt: HostRuntime) -> Result
     Ok(())
 }
 
-// The sixth call is the last one of the opening; the eighth and the tenth are the syncs of the append.
+// The opening makes six calls of the disk; the second and the fourth call of an append are its syncs.
 #[test]
 fn a_failed_append_closes_the_log(rt: HostRuntime) -> Result<(), Fail> {
     let alloc = rt.alloc();

@@ -1,9 +1,8 @@
-use Rattle.std.proofs.Common.{◌≡◌, ◌+◌, ◌∷◌, [], ◌++◌, ◌<◌, ◌^◌, ℕ, List, length, ap, subst, sym, ◌∙◌, arith, length-append}
+use Rattle.std.proofs.Common.{◌+◌, ◌∷◌, [], ◌++◌, ℕ, List, ap, ◌∙◌, arith}
 use Rattle.std.proofs.lemmas.Result.{on_ok_weaker}
-use Rattle.wp_outside.specs.Disk.{settled, after_write, Moment}
-use Rattle.wp_gatelog.specs.Spelling.{frame_of, framed}
+use Rattle.wp_gatelog.specs.Spelling.{frame_of}
 use Rattle.wp_gatelog.specs.Log.{Grows}
-use Rattle.wp_gatelog.specs.Moments.{Leaves, Within, Goes}
+use Rattle.wp_gatelog.specs.Moments.{Leaves}
 use Rattle.wp_gatelog.proofs.AppendLemmas.{grows_staged, reads_staged, grows_opened, fits_disk}
 use Rattle.wp_gatelog.proofs.MomentLemmas.{goes_map, goes_on, put_gate, told_as}
 use Rattle.wp_gatelog.proofs.log.append_frame.Goals as goal

@@ -1,9 +1,8 @@
-use Rattle.std.proofs.Common.{◌≡◌, ◌∙◌, ◌∷◌, [], ◌++◌, ℕ, List, refl, ap, sym}
+use Rattle.std.proofs.Common.{◌∙◌, ◌∷◌, [], ◌++◌, ℕ, List, refl, ap}
 use Rattle.std.proofs.lemmas.Result.{on_ok_weaker}
-use Rattle.wp_outside.specs.Disk.{settled}
-use Rattle.wp_gatelog.specs.Moments.{Leaves, Goes}
+use Rattle.wp_gatelog.specs.Moments.{Leaves}
 use Rattle.wp_gatelog.specs.Heads.{SpellsNone}
-use Rattle.wp_gatelog.specs.Spelling.{identity, IsUnmade}
+use Rattle.wp_gatelog.specs.Spelling.{identity}
 use Rattle.wp_gatelog.proofs.MakeLemmas.{none_closed, none_staged, none_opened, reads_made}
 use Rattle.wp_gatelog.proofs.MomentLemmas.{goes_map, goes_on, told_as, reads_behind}
 use Rattle.wp_gatelog.proofs.make.make.Goals as goal

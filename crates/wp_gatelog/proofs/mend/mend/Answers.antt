@@ -1,9 +1,8 @@
-use Rattle.std.proofs.Common.{◌≡◌, ◌∙◌, ◌∷◌, [], ◌++◌, ℕ, List, Some, None, length, refl, ap, sym}
+use Rattle.std.proofs.Common.{◌∙◌, ◌∷◌, [], ◌++◌, length, refl, ap}
 use Rattle.std.proofs.lemmas.Result.{on_ok_weaker}
-use Rattle.wp_outside.specs.Disk.{settled, Moment, IfTold}
 use Rattle.wp_gatelog.specs.Log.{IsAtRest}
-use Rattle.wp_gatelog.specs.Mending.{IsReadLog, Mended}
-use Rattle.wp_gatelog.specs.Moments.{Leaves, Goes}
+use Rattle.wp_gatelog.specs.Mending.{Mended}
+use Rattle.wp_gatelog.specs.Moments.{Leaves}
 use Rattle.wp_gatelog.specs.Spelling.{identity, all_gated, framed, log_of}
 use Rattle.wp_gatelog.proofs.MendLemmas.{mended_cut, mended_head, mended_last, last_split, last_place, rests_last, rests_none}
 use Rattle.wp_gatelog.proofs.MomentLemmas.{goes_map, goes_on, told_as, told_map}

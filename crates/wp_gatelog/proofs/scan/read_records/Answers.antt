@@ -1,8 +1,7 @@
-use Rattle.std.proofs.Common.{◌≡◌, ◌∙◌, ◌+◌, ◌<◌, ◌++◌, ◌∷◌, [], ℕ, List, Some, Option, length, drop, ap, sym, rules, arith}
+use Rattle.std.proofs.Common.{◌≡◌, ◌∙◌, ◌+◌, ◌++◌, ◌∷◌, [], Some, length, drop, ap, arith}
 use Rattle.wp_outside.specs.Disk.{Moment, IfTold}
-use Rattle.wp_gatelog.specs.declared.gate.Gate.{Gate}
 use Rattle.wp_gatelog.specs.declared.scan.Next.TheVariants as next
-use Rattle.wp_gatelog.specs.Scanning.{IsNext, HasRead, EndsWithin}
+use Rattle.wp_gatelog.specs.Scanning.{IsNext, HasRead}
 use Rattle.wp_gatelog.proofs.MomentLemmas.{told_both}
 use Rattle.wp_gatelog.proofs.ScanLemmas.{read_more}
 use Rattle.wp_gatelog.proofs.scan.read_records.Goals as goal

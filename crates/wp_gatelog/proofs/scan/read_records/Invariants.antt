@@ -1,4 +1,4 @@
-use Rattle.std.proofs.Common.{◌≡◌, ◌+◌, ◌-◌, ◌<◌, ◌≤◌, length, drop, vec_len}
+use Rattle.std.proofs.Common.{◌≡◌, ◌-◌, ◌<◌, ◌≤◌, length, drop, vec_len}
 use Rattle.wp_outside.specs.Disk.{IfTold}
 use Rattle.wp_gatelog.specs.Scanning.{HasRead}
 use Rattle.wp_gatelog.proofs.scan.read_records.Given as goal

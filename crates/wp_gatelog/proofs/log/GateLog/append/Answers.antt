@@ -1,4 +1,4 @@
-use Rattle.std.proofs.Common.{◌≡◌, ◌⊎◌, inl, ◌+◌, ◌∷◌, [], ◌++◌, ℕ, List, length, arith}
+use Rattle.std.proofs.Common.{inl, ◌+◌, ◌∷◌, [], ◌++◌, length, arith}
 use Rattle.wp_gatelog.proofs.AppendLemmas.{append_passes, append_rests, fits_frame}
 use Rattle.wp_gatelog.proofs.SurvivalLemmas.{passes_before_or_after, left_before_or_after, rest_spells}
 use Rattle.wp_gatelog.proofs.log.GateLog.append.Goals as goal
