@@ -1,7 +1,9 @@
-use std::alloc::{AllocError, Global};
+use std::alloc::{AllocError, AllocGlobal, Global};
+use std::sync::Wait;
 use std::test::Fail;
+use std::thread::Threads;
 use wp_outside::{Disks, MemDisk, MemSink, MemSource, OpenGate};
-use wp_run::{Ended, Status, run};
+use wp_run::{Ended, run};
 
 /// The log of store 1 with the put of `1` under `k` as its entry 1.
 const LOG: &[u8; 32] =
@@ -14,6 +16,7 @@ const FIRST: &str = "client a\nput @1\nget 1 @1\nhistory\n1 write put k 1\nend 1
 const ROOM: u64 = 4096;
 
 /// What is handed to a run.
+#[derive(Clone, Copy, Drop)]
 struct Given<'a> {
     words: &'a [&'a str],
     script: &'a [u8],
@@ -35,7 +38,8 @@ fn script<'a>(script: &'a str, log: &'a [u8]) -> Given<'a> {
     }
 }
 
-struct Seen {
+#[derive(Drop)]
+struct Outcome {
     code: u8,
     line: Vec<u8>,
     text: Vec<u8>,
@@ -46,7 +50,7 @@ fn disk(alloc: Global, bytes: &[u8], fails: &[u64]) -> Result<MemDisk, AllocErro
     MemDisk::new(alloc, bytes.to_vec(alloc)?, ROOM, 1000, fails.to_vec(alloc)?)
 }
 
-fn seen(rt: &HostRuntime, given: &Given<'_>) -> Result<Seen, AllocError> {
+fn seen<R: Threads + Wait + Sync + AllocGlobal>(rt: &R, given: &Given<'_>) -> Result<Outcome, AllocError> {
     let alloc = rt.alloc();
     let mut words = Vec::new(alloc);
     for word in given.words {
@@ -60,7 +64,7 @@ fn seen(rt: &HostRuntime, given: &Given<'_>) -> Result<Seen, AllocError> {
     let mut source = MemSource::new(given.script.to_vec(alloc)?, given.source_fails.to_vec(alloc)?);
     let mut sink = MemSink::new(alloc, given.sink_room, Vec::new(alloc))?;
     let Ended { status, disks } = run(rt, alloc, &words, disks, &mut source, &mut sink, &OpenGate);
-    Ok(Seen {
+    Ok(Outcome {
         code: status.code(),
         line: status.line(alloc)?,
         text: sink.bytes().to_vec(alloc)?,
@@ -72,12 +76,12 @@ fn seen(rt: &HostRuntime, given: &Given<'_>) -> Result<Seen, AllocError> {
 fn first_script_is_answered_and_kept(rt: HostRuntime) -> Result<(), Fail> {
     let first = seen(&rt, &script("client a\nput k 1\nget k\n", &[]))?;
     assert_eq!(rt; first.code, 0);
-    assert_eq!(rt; first.text, FIRST.as_bytes());
-    assert_eq!(rt; first.log, LOG.as_slice());
+    assert_eq!(rt; first.text.as_slice(), FIRST.as_bytes());
+    assert_eq!(rt; first.log.as_slice(), LOG.as_slice());
 
     let again = seen(&rt, &script("client a\nget k\n", &first.log))?;
-    assert_eq!(rt; again.text, b"client a\nget 1 @1\nhistory\n1 write put k 1\nend 1 0\n".as_slice());
-    assert_eq!(rt; again.log, LOG.as_slice());
+    assert_eq!(rt; again.text.as_slice(), b"client a\nget 1 @1\nhistory\n1 write put k 1\nend 1 0\n".as_slice());
+    assert_eq!(rt; again.log.as_slice(), LOG.as_slice());
     Ok(())
 }
 
@@ -99,9 +103,9 @@ fn refused_command_lines_touch_nothing(rt: HostRuntime) -> Result<(), Fail> {
         };
         let seen = seen(&rt, &given)?;
         assert_eq!(rt; seen.code, 2);
-        assert_eq!(rt; seen.line, b"wp: words not accepted".as_slice());
-        assert_eq!(rt; seen.text, b"".as_slice());
-        assert_eq!(rt; seen.log, LOG.as_slice());
+        assert_eq!(rt; seen.line.as_slice(), b"wp: words not accepted".as_slice());
+        assert_eq!(rt; seen.text.as_slice(), b"".as_slice());
+        assert_eq!(rt; seen.log.as_slice(), LOG.as_slice());
     }
     Ok(())
 }
@@ -115,14 +119,14 @@ fn source_that_fails_ends_the_run_before_the_log(rt: HostRuntime) -> Result<(), 
     };
     let seen = seen(&rt, &given)?;
     assert_eq!(rt; seen.code, 4);
-    assert_eq!(rt; seen.line, b"wp: script could not be read".as_slice());
-    assert_eq!(rt; seen.text, b"".as_slice());
-    assert_eq!(rt; seen.log, b"".as_slice());
+    assert_eq!(rt; seen.line.as_slice(), b"wp: script could not be read".as_slice());
+    assert_eq!(rt; seen.text.as_slice(), b"".as_slice());
+    assert_eq!(rt; seen.log.as_slice(), b"".as_slice());
     Ok(())
 }
 
 /// A store is shown without its source, which would fail.
-fn shown(rt: &HostRuntime, log: &[u8]) -> Result<Seen, AllocError> {
+fn shown<R: Threads + Wait + Sync + AllocGlobal>(rt: &R, log: &[u8]) -> Result<Outcome, AllocError> {
     let given = Given {
         words: &["wp", "show"],
         source_fails: &[1],
@@ -139,12 +143,12 @@ fn sink_that_fails_leaves_a_prefix_and_the_entry(rt: HostRuntime) -> Result<(), 
     };
     let first = seen(&rt, &given)?;
     assert_eq!(rt; first.code, 5);
-    assert_eq!(rt; first.line, b"wp: output could not be written".as_slice());
-    assert_eq!(rt; first.text, b"clien".as_slice());
+    assert_eq!(rt; first.line.as_slice(), b"wp: output could not be written".as_slice());
+    assert_eq!(rt; first.text.as_slice(), b"clien".as_slice());
 
     let show = shown(&rt, &first.log)?;
     assert_eq!(rt; show.code, 0);
-    assert_eq!(rt; show.text, b"history\n1 write put k 1\nend 1 0\n".as_slice());
+    assert_eq!(rt; show.text.as_slice(), b"history\n1 write put k 1\nend 1 0\n".as_slice());
     Ok(())
 }
 
@@ -159,9 +163,9 @@ fn scripts_are_answered_or_refused_by_line(rt: HostRuntime) -> Result<(), Fail> 
     ] {
         let seen = seen(&rt, &script(text, &[]))?;
         assert_eq!(rt; seen.code, code);
-        assert_eq!(rt; seen.line, line.as_bytes());
+        assert_eq!(rt; seen.line.as_slice(), line.as_bytes());
         let want: &[u8] = if code == 0 { b"history\nend 0 0\n" } else { b"" };
-        assert_eq!(rt; seen.text, want);
+        assert_eq!(rt; seen.text.as_slice(), want);
     }
     Ok(())
 }
@@ -174,7 +178,7 @@ fn limit_is_the_last_number(rt: HostRuntime) -> Result<(), Fail> {
     };
     let seen = seen(&rt, &given)?;
     assert_eq!(rt; seen.code, 0);
-    assert_eq!(rt; seen.text, b"client a\nput @1\nput @2\ndel @3\nfull 3 3\nmissing @3\nhistory\n1 write put k 1\n2 write put k 2\n3 write del k\nend 3 0\n".as_slice());
+    assert_eq!(rt; seen.text.as_slice(), b"client a\nput @1\nput @2\ndel @3\nfull 3 3\nmissing @3\nhistory\n1 write put k 1\n2 write put k 2\n3 write del k\nend 3 0\n".as_slice());
     assert_eq!(rt; seen.log.get(9), Some(&7));
     Ok(())
 }
@@ -194,7 +198,7 @@ fn longest_words_are_stored(rt: HostRuntime) -> Result<(), Fail> {
         let seen = seen(&rt, &given)?;
         assert_eq!(rt; seen.code, code);
         if code == 6 {
-            assert_eq!(rt; seen.line, b"wp: script line 2: bad word".as_slice());
+            assert_eq!(rt; seen.line.as_slice(), b"wp: script line 2: bad word".as_slice());
         } else {
             assert_eq!(rt; shown(&rt, &seen.log)?.code, 0);
         }
@@ -207,9 +211,9 @@ fn what_a_crash_left_is_mended_or_named(rt: HostRuntime) -> Result<(), Fail> {
     let alloc = rt.alloc();
     let mut longer = LOG.to_vec(alloc)?;
     longer.extend_from_slice(b"\xff\xff")?;
-    assert_eq!(rt; shown(&rt, &longer)?.log, LOG.as_slice());
+    assert_eq!(rt; shown(&rt, &longer)?.log.as_slice(), LOG.as_slice());
     let next = seen(&rt, &script("client b\nput k 2\n", &longer))?;
-    assert_eq!(rt; next.text, b"client b\nput @2\nhistory\n1 write put k 1\n2 write put k 2\nend 2 0\n".as_slice());
+    assert_eq!(rt; next.text.as_slice(), b"client b\nput @2\nhistory\n1 write put k 1\n2 write put k 2\nend 2 0\n".as_slice());
 
     for (log, line) in [
         (&LOG[..20], "wp: contents: bad record 0 short"),
@@ -217,14 +221,14 @@ fn what_a_crash_left_is_mended_or_named(rt: HostRuntime) -> Result<(), Fail> {
     ] {
         let seen = shown(&rt, log)?;
         assert_eq!(rt; seen.code, 9);
-        assert_eq!(rt; seen.line, line.as_bytes());
-        assert_eq!(rt; seen.text, b"".as_slice());
-        assert_eq!(rt; seen.log, log);
+        assert_eq!(rt; seen.line.as_slice(), line.as_bytes());
+        assert_eq!(rt; seen.text.as_slice(), b"".as_slice());
+        assert_eq!(rt; seen.log.as_slice(), log);
     }
     Ok(())
 }
 
-/// The histories of the sweeps: a put of 1, of 2 and of 3.
+/// The histories of the sweep: a put of 1, of 2 and of 3.
 const HISTORIES: [&str; 4] = [
     "history\nend 0 0\n",
     "history\n1 write put k 1\nend 1 0\n",
@@ -232,72 +236,77 @@ const HISTORIES: [&str; 4] = [
     "history\n1 write put k 1\n2 write put k 2\n3 write put k 3\nend 3 0\n",
 ];
 
-const SWEPT: &str = "client a\nput k 1\nput k 2\nget k\nput k 3\n";
+/// Runs the sweep's script on a new store whose log's device fails at this call, and shows what the log keeps.
+fn swept<R: Threads + Wait + Sync + AllocGlobal>(
+    rt: &R,
+    call: u64,
+) -> Result<(Outcome, Outcome), AllocError> {
+    let given = Given {
+        log_fails: &[call],
+        ..script("client a\nput k 1\nput k 2\nget k\nput k 3\n", &[])
+    };
+    let outcome = seen(rt, &given)?;
+    let show = shown(rt, &outcome.log)?;
+    Ok((outcome, show))
+}
 
-/// The replies to that script where the append of its first, second or third put fails, or none does.
-const REPLIES: [&str; 4] = [
-    "client a\nfault log\nstopped 0\nmissing @0\nstopped 0\n",
-    "client a\nput @1\nfault log\nget 1 @1\nstopped 1\n",
-    "client a\nput @1\nput @2\nget 2 @2\nfault log\n",
-    "client a\nput @1\nput @2\nget 2 @2\nput @3\n",
-];
+/// The log keeps the entries that were acknowledged, or those and the next one.
+fn keeps(show: &Outcome, before: &str, after: &str) -> bool {
+    show.text.as_slice() == before.as_bytes() || show.text.as_slice() == after.as_bytes()
+}
 
 #[test]
-fn each_call_of_the_log_may_fail(rt: HostRuntime) -> Result<(), Fail> {
-    let alloc = rt.alloc();
-    // How many calls end the opening, or each of the three appends.
-    let mut unopened = 0;
-    let mut ended = [0, 0, 0, 0];
-    for call in 1..30 {
-        let given = Given {
-            log_fails: &[call],
-            ..script(SWEPT, &[])
-        };
-        let seen = seen(&rt, &given)?;
-        let show = shown(&rt, &seen.log)?;
-        assert_eq!(rt; show.code, 0);
-        if seen.code == 10 {
-            unopened += 1;
-            assert_eq!(rt; seen.line, b"wp: opening failed: log".as_slice());
-            assert_eq!(rt; seen.text, b"".as_slice());
-            assert_eq!(rt; show.text, HISTORIES[0].as_bytes());
-        } else {
-            let mut found = false;
-            for i in 0..4 {
-                let mut text = REPLIES[i].as_bytes().to_vec(alloc)?;
-                text.extend_from_slice(HISTORIES[i].as_bytes())?;
-                if seen.text == text {
-                    found = true;
-                    ended[i] += 1;
-                    assert_eq!(rt; seen.code, if i == 3 { 0 } else { 7 });
-                    assert!(rt; show.text == HISTORIES[i].as_bytes() || (i < 3 && show.text == HISTORIES[i + 1].as_bytes()));
-                }
-            }
-            assert!(rt; found);
-        }
+fn each_call_of_the_opening_may_fail(rt: HostRuntime) -> Result<(), Fail> {
+    for call in 1..10 {
+        let (outcome, show) = swept(&rt, call)?;
+        assert_eq!(rt; outcome.code, 10);
+        assert_eq!(rt; outcome.line.as_slice(), b"wp: opening failed: log".as_slice());
+        assert_eq!(rt; outcome.text.as_slice(), b"".as_slice());
+        assert_eq!(rt; show.text.as_slice(), HISTORIES[0].as_bytes());
     }
-    assert!(rt; unopened > 0);
-    assert_eq!(rt; ended[..3], [4, 4, 4]);
     Ok(())
 }
 
 #[test]
-fn each_length_of_a_torn_append_opens_to_the_entry_before(rt: HostRuntime) -> Result<(), Fail> {
+fn each_call_of_an_append_may_fail(rt: HostRuntime) -> Result<(), Fail> {
+    for call in 10..14 {
+        let (outcome, show) = swept(&rt, call)?;
+        assert_eq!(rt; outcome.code, 7);
+        assert_eq!(rt; outcome.text.as_slice(), b"client a\nfault log\nstopped 0\nmissing @0\nstopped 0\nhistory\nend 0 0\n".as_slice());
+        assert!(rt; keeps(&show, HISTORIES[0], HISTORIES[1]));
+    }
+    for call in 14..18 {
+        let (outcome, show) = swept(&rt, call)?;
+        assert_eq!(rt; outcome.line.as_slice(), b"wp: log fault".as_slice());
+        assert_eq!(rt; outcome.text.as_slice(), b"client a\nput @1\nfault log\nget 1 @1\nstopped 1\nhistory\n1 write put k 1\nend 1 0\n".as_slice());
+        assert!(rt; keeps(&show, HISTORIES[1], HISTORIES[2]));
+    }
+    let (outcome, show) = swept(&rt, 22)?;
+    assert_eq!(rt; outcome.code, 0);
+    assert_eq!(rt; show.text.as_slice(), HISTORIES[3].as_bytes());
+    Ok(())
+}
+
+/// So many bytes of a log whose second append was broken off before its gate, and one byte behind them.
+fn torn(alloc: Global, whole: &[u8], len: usize, junk: u8) -> Result<Vec<u8>, AllocError> {
+    let mut bytes = Vec::new(alloc);
+    bytes.extend_from_slice(&LOG[..31])?;
+    bytes.push(0)?;
+    bytes.extend_from_slice(whole.get(32..len).unwrap_or(&[]))?;
+    bytes.push(junk)?;
+    Ok(bytes)
+}
+
+#[test]
+fn torn_append_opens_to_the_entry_before(rt: HostRuntime) -> Result<(), Fail> {
     let alloc = rt.alloc();
     let whole = seen(&rt, &script("client a\nput k 2\n", LOG))?.log;
-    for len in 32..=whole.len() {
-        for junk in [0, 1, 255] {
-            let mut torn = whole.to_vec(alloc)?;
-            torn.truncate(len);
-            if let Some(gate) = torn.get_mut(31) {
-                *gate = 0;
-            }
-            torn.push(junk)?;
-            let show = shown(&rt, &torn)?;
-            assert_eq!(rt; show.text, HISTORIES[1].as_bytes());
-            assert_eq!(rt; show.log, LOG.as_slice());
-        }
+    assert_eq!(rt; whole.len(), 53);
+    for len in 32..54 {
+        let show = shown(&rt, &torn(alloc, &whole, len, 255)?)?;
+        assert_eq!(rt; show.text.as_slice(), HISTORIES[1].as_bytes());
+        assert_eq!(rt; show.log.as_slice(), LOG.as_slice());
     }
-    assert_eq!(rt; shown(&rt, &whole)?.text, HISTORIES[2].as_bytes());
+    assert_eq!(rt; shown(&rt, &whole)?.text.as_slice(), HISTORIES[2].as_bytes());
     Ok(())
 }
