@@ -47,10 +47,19 @@ struct Outcome {
 }
 
 fn disk(alloc: Global, bytes: &[u8], fails: &[u64]) -> Result<MemDisk, AllocError> {
-    MemDisk::new(alloc, bytes.to_vec(alloc)?, ROOM, 1000, fails.to_vec(alloc)?)
+    MemDisk::new(
+        alloc,
+        bytes.to_vec(alloc)?,
+        ROOM,
+        1000,
+        fails.to_vec(alloc)?,
+    )
 }
 
-fn seen<R: Threads + Wait + Sync + AllocGlobal>(rt: &R, given: &Given<'_>) -> Result<Outcome, AllocError> {
+fn seen<R: Threads + Wait + Sync + AllocGlobal>(
+    rt: &R,
+    given: &Given<'_>,
+) -> Result<Outcome, AllocError> {
     let alloc = rt.alloc();
     let mut words = Vec::new(alloc);
     for word in given.words {
@@ -61,7 +70,10 @@ fn seen<R: Threads + Wait + Sync + AllocGlobal>(rt: &R, given: &Given<'_>) -> Re
         manifest: disk(alloc, &[], &[])?,
         tables: disk(alloc, &[], &[])?,
     };
-    let mut source = MemSource::new(given.script.to_vec(alloc)?, given.source_fails.to_vec(alloc)?);
+    let mut source = MemSource::new(
+        given.script.to_vec(alloc)?,
+        given.source_fails.to_vec(alloc)?,
+    );
     let mut sink = MemSink::new(alloc, given.sink_room, Vec::new(alloc))?;
     let Ended { status, disks } = run(rt, alloc, &words, disks, &mut source, &mut sink, &OpenGate);
     Ok(Outcome {
@@ -80,7 +92,10 @@ fn first_script_is_answered_and_kept(rt: HostRuntime) -> Result<(), Fail> {
     assert_eq!(rt; first.log.as_slice(), LOG.as_slice());
 
     let again = seen(&rt, &script("client a\nget k\n", &first.log))?;
-    assert_eq!(rt; again.text.as_slice(), b"client a\nget 1 @1\nhistory\n1 write put k 1\nend 1 0\n".as_slice());
+    assert_eq!(rt;
+        again.text.as_slice(),
+        b"client a\nget 1 @1\nhistory\n1 write put k 1\nend 1 0\n".as_slice()
+    );
     assert_eq!(rt; again.log.as_slice(), LOG.as_slice());
     Ok(())
 }
@@ -119,14 +134,20 @@ fn source_that_fails_ends_the_run_before_the_log(rt: HostRuntime) -> Result<(), 
     };
     let seen = seen(&rt, &given)?;
     assert_eq!(rt; seen.code, 4);
-    assert_eq!(rt; seen.line.as_slice(), b"wp: script could not be read".as_slice());
+    assert_eq!(rt;
+        seen.line.as_slice(),
+        b"wp: script could not be read".as_slice()
+    );
     assert_eq!(rt; seen.text.as_slice(), b"".as_slice());
     assert_eq!(rt; seen.log.as_slice(), b"".as_slice());
     Ok(())
 }
 
 /// A store is shown without its source, which would fail.
-fn shown<R: Threads + Wait + Sync + AllocGlobal>(rt: &R, log: &[u8]) -> Result<Outcome, AllocError> {
+fn shown<R: Threads + Wait + Sync + AllocGlobal>(
+    rt: &R,
+    log: &[u8],
+) -> Result<Outcome, AllocError> {
     let given = Given {
         words: &["wp", "show"],
         source_fails: &[1],
@@ -143,12 +164,18 @@ fn sink_that_fails_leaves_a_prefix_and_the_entry(rt: HostRuntime) -> Result<(), 
     };
     let first = seen(&rt, &given)?;
     assert_eq!(rt; first.code, 5);
-    assert_eq!(rt; first.line.as_slice(), b"wp: output could not be written".as_slice());
+    assert_eq!(rt;
+        first.line.as_slice(),
+        b"wp: output could not be written".as_slice()
+    );
     assert_eq!(rt; first.text.as_slice(), b"clien".as_slice());
 
     let show = shown(&rt, &first.log)?;
     assert_eq!(rt; show.code, 0);
-    assert_eq!(rt; show.text.as_slice(), b"history\n1 write put k 1\nend 1 0\n".as_slice());
+    assert_eq!(rt;
+        show.text.as_slice(),
+        b"history\n1 write put k 1\nend 1 0\n".as_slice()
+    );
     Ok(())
 }
 
@@ -158,13 +185,25 @@ fn scripts_are_answered_or_refused_by_line(rt: HostRuntime) -> Result<(), Fail> 
         ("", 0, "wp: ok"),
         ("client a\nput k\n", 6, "wp: script line 2: bad command"),
         ("put k 1\n", 6, "wp: script line 1: no client"),
-        ("client a\nprepare t k\n", 6, "wp: script line 2: bad command"),
-        ("client a\n# none\nclient a\n", 6, "wp: script line 3: client twice"),
+        (
+            "client a\nprepare t k\n",
+            6,
+            "wp: script line 2: bad command",
+        ),
+        (
+            "client a\n# none\nclient a\n",
+            6,
+            "wp: script line 3: client twice",
+        ),
     ] {
         let seen = seen(&rt, &script(text, &[]))?;
         assert_eq!(rt; seen.code, code);
         assert_eq!(rt; seen.line.as_slice(), line.as_bytes());
-        let want: &[u8] = if code == 0 { b"history\nend 0 0\n" } else { b"" };
+        let want: &[u8] = if code == 0 {
+            b"history\nend 0 0\n"
+        } else {
+            b""
+        };
         assert_eq!(rt; seen.text.as_slice(), want);
     }
     Ok(())
@@ -178,7 +217,10 @@ fn limit_is_the_last_number(rt: HostRuntime) -> Result<(), Fail> {
     };
     let seen = seen(&rt, &given)?;
     assert_eq!(rt; seen.code, 0);
-    assert_eq!(rt; seen.text.as_slice(), b"client a\nput @1\nput @2\ndel @3\nfull 3 3\nmissing @3\nhistory\n1 write put k 1\n2 write put k 2\n3 write del k\nend 3 0\n".as_slice());
+    assert_eq!(rt;
+        seen.text.as_slice(),
+        b"client a\nput @1\nput @2\ndel @3\nfull 3 3\nmissing @3\nhistory\n1 write put k 1\n2 write put k 2\n3 write del k\nend 3 0\n".as_slice()
+    );
     assert_eq!(rt; seen.log.get(9), Some(&7));
     Ok(())
 }
@@ -198,7 +240,10 @@ fn longest_words_are_stored(rt: HostRuntime) -> Result<(), Fail> {
         let seen = seen(&rt, &given)?;
         assert_eq!(rt; seen.code, code);
         if code == 6 {
-            assert_eq!(rt; seen.line.as_slice(), b"wp: script line 2: bad word".as_slice());
+            assert_eq!(rt;
+                seen.line.as_slice(),
+                b"wp: script line 2: bad word".as_slice()
+            );
         } else {
             assert_eq!(rt; shown(&rt, &seen.log)?.code, 0);
         }
@@ -213,11 +258,17 @@ fn what_a_crash_left_is_mended_or_named(rt: HostRuntime) -> Result<(), Fail> {
     longer.extend_from_slice(b"\xff\xff")?;
     assert_eq!(rt; shown(&rt, &longer)?.log.as_slice(), LOG.as_slice());
     let next = seen(&rt, &script("client b\nput k 2\n", &longer))?;
-    assert_eq!(rt; next.text.as_slice(), b"client b\nput @2\nhistory\n1 write put k 1\n2 write put k 2\nend 2 0\n".as_slice());
+    assert_eq!(rt;
+        next.text.as_slice(),
+        b"client b\nput @2\nhistory\n1 write put k 1\n2 write put k 2\nend 2 0\n".as_slice()
+    );
 
     for (log, line) in [
         (&LOG[..20], "wp: contents: bad record 0 short"),
-        (b"\x01WPMF\x01\0\0\0\x01\0".as_slice(), "wp: contents: bad head log"),
+        (
+            b"\x01WPMF\x01\0\0\0\x01\0".as_slice(),
+            "wp: contents: bad head log",
+        ),
     ] {
         let seen = shown(&rt, log)?;
         assert_eq!(rt; seen.code, 9);
@@ -260,7 +311,10 @@ fn each_call_of_the_opening_may_fail(rt: HostRuntime) -> Result<(), Fail> {
     for call in 1..10 {
         let (outcome, show) = swept(&rt, call)?;
         assert_eq!(rt; outcome.code, 10);
-        assert_eq!(rt; outcome.line.as_slice(), b"wp: opening failed: log".as_slice());
+        assert_eq!(rt;
+            outcome.line.as_slice(),
+            b"wp: opening failed: log".as_slice()
+        );
         assert_eq!(rt; outcome.text.as_slice(), b"".as_slice());
         assert_eq!(rt; show.text.as_slice(), HISTORIES[0].as_bytes());
     }
@@ -272,13 +326,19 @@ fn each_call_of_an_append_may_fail(rt: HostRuntime) -> Result<(), Fail> {
     for call in 10..14 {
         let (outcome, show) = swept(&rt, call)?;
         assert_eq!(rt; outcome.code, 7);
-        assert_eq!(rt; outcome.text.as_slice(), b"client a\nfault log\nstopped 0\nmissing @0\nstopped 0\nhistory\nend 0 0\n".as_slice());
+        assert_eq!(rt;
+            outcome.text.as_slice(),
+            b"client a\nfault log\nstopped 0\nmissing @0\nstopped 0\nhistory\nend 0 0\n".as_slice()
+        );
         assert!(rt; keeps(&show, HISTORIES[0], HISTORIES[1]));
     }
     for call in 14..18 {
         let (outcome, show) = swept(&rt, call)?;
         assert_eq!(rt; outcome.line.as_slice(), b"wp: log fault".as_slice());
-        assert_eq!(rt; outcome.text.as_slice(), b"client a\nput @1\nfault log\nget 1 @1\nstopped 1\nhistory\n1 write put k 1\nend 1 0\n".as_slice());
+        assert_eq!(rt;
+            outcome.text.as_slice(),
+            b"client a\nput @1\nfault log\nget 1 @1\nstopped 1\nhistory\n1 write put k 1\nend 1 0\n".as_slice()
+        );
         assert!(rt; keeps(&show, HISTORIES[1], HISTORIES[2]));
     }
     let (outcome, show) = swept(&rt, 22)?;
@@ -307,6 +367,9 @@ fn torn_append_opens_to_the_entry_before(rt: HostRuntime) -> Result<(), Fail> {
         assert_eq!(rt; show.text.as_slice(), HISTORIES[1].as_bytes());
         assert_eq!(rt; show.log.as_slice(), LOG.as_slice());
     }
-    assert_eq!(rt; shown(&rt, &whole)?.text.as_slice(), HISTORIES[2].as_bytes());
+    assert_eq!(rt;
+        shown(&rt, &whole)?.text.as_slice(),
+        HISTORIES[2].as_bytes()
+    );
     Ok(())
 }

@@ -1,8 +1,7 @@
 -- What the clients are answered one after another on one thread is explained by the entries at the end.
-use Rattle.std.proofs.Common.{◌≡◌, ℕ, zero, suc, ◌+◌, ◌-◌, ◌^◌, ◌<◌, ◌≤◌, ◌==◌, Bool, true, false, cond, eqb, List, [], ◌∷◌, ◌++◌, length, Option, Some, None, refl, sym, ap, add-one, add-zero, zero-add, subst, ◌∙◌, append_assoc, arith, length-append, inl, inr}
+use Rattle.std.proofs.Common.{◌≡◌, ℕ, zero, suc, ◌+◌, ◌^◌, ◌<◌, ◌≤◌, ◌==◌, Bool, true, false, cond, eqb, List, [], ◌∷◌, ◌++◌, length, refl, sym, ap, add-zero, zero-add, subst, ◌∙◌, arith, length-append, inl, inr}
 use Rattle.std.specs.Prelude.{count_by}
 use Rattle.std.specs.List.{range_with_len, flat_map, list_any}
-use Rattle.std.proofs.lemmas.List.{append-nil}
 use Rattle.std.proofs.lemmas.List.Concat.{flat_map-cons}
 use Rattle.std.proofs.lemmas.Bool.{cases_eq, eq-eqb, ne_eqb, or_cases}
 use Rattle.std.proofs.lemmas.List.Sums.{sum_by-cons}
@@ -10,12 +9,12 @@ use Rattle.wp_model.specs.declared.entry.Entry.{Entry}
 use Rattle.wp_text.specs.declared.script.Command.{Command}
 use Rattle.wp_text.specs.declared.script.Part.{Part}
 use Rattle.wp_text.specs.declared.reply.Reply.{Reply}
-use Rattle.wp_run.specs.Session.{IsAnswer, IsSession, last_after, acknowledged, is_fault, is_stopped}
+use Rattle.wp_run.specs.Session.{IsSession, last_after, acknowledged, is_fault, is_stopped}
 use Rattle.wp_run.specs.Legal.{AreLegal}
-use Rattle.wp_run.specs.Current.{Between, AreCurrent, IsCurrent, after_reply}
+use Rattle.wp_run.specs.Current.{Between, AreCurrent}
 use Rattle.wp_run.specs.Transcript.{AreSessions, IsExact, all_replies, Explains}
-use Rattle.wp_run.specs.Engine.{State, bit, between, Later, Steps, Runs, AllRun}
-use Rattle.wp_run.proofs.StepLemmas.{Later-equal, Later-same, Later-trans, Steps-later, means, Counts, counts}
+use Rattle.wp_run.specs.Engine.{State, bit, between, Later, Runs, AllRun}
+use Rattle.wp_run.proofs.StepLemmas.{Later-equal, Later-same, Later-trans, Steps-later, means, counts}
 
 -- ---- runs
 
@@ -61,9 +60,10 @@ are_sessions old new final opened [] (a ∷ sessions) le h later = absurd h
 are_sessions old new final opened (p ∷ parts) [] le h later = absurd h
 are_sessions old new final opened (p ∷ parts) (a ∷ sessions) le (mid, run, rest) later =
     let first = Runs-later old mid p.commands a run in
-    let longer : length mid.entries ≡ length old.entries + length first.grows.0 = ap (λ (xs : List Entry). length xs) first.grows.1 ∙ length-append old.entries first.grows.0 in
-    (is_session old mid final opened p.commands a le run (Later-trans mid new final (AllRun-later mid new parts sessions rest) later),
-     subst (λ (k : ℕ). AreSessions final.entries k opened parts sessions) first.limited (are_sessions mid new final opened parts sessions (omega arith) rest later))
+    let longer : length mid.entries ≡ length old.entries + length first.grows.0 = ap (λ (xs : List Entry). length xs) first.grows.1 ∙ length-append old.entries first.grows.0 in (
+      is_session old mid final opened p.commands a le run (Later-trans mid new final (AllRun-later mid new parts sessions rest) later),
+      subst (λ (k : ℕ). AreSessions final.entries k opened parts sessions) first.limited (are_sessions mid new final opened parts sessions (omega arith) rest later),
+    )
 
 -- ---- counts over a whole run
 
@@ -107,8 +107,8 @@ totals old new (c ∷ commands) (a ∷ answers) (mid, step, rest) =
       added = one.added + more.added;
       longer = omega (arith, one.longer, more.longer);
       numbers =
-        let next : length mid.entries + 1 ≡ (length old.entries + 1) + one.added = omega (arith, one.longer) in
-        rw (one.numbers, more.numbers, next) (range-append (length old.entries + 1) one.added more.added);
+          let next : length mid.entries + 1 ≡ (length old.entries + 1) + one.added = omega (arith, one.longer) in
+          rw (one.numbers, more.numbers, next) (range-append (length old.entries + 1) one.added more.added);
       failed = omega (arith, sum_by-cons (λ x. cond (is_fault x) 1 0) a answers, one.failed, more.failed);
       told = λ t. elim (or_cases _ _ t) [ inl here ↦ all.stopped (one.told here) | inr there ↦ more.told there ];
       current = (one.current, subst (λ (b : Between). AreCurrent old.limit b answers) (sym one.onward) (subst (λ (k : ℕ). AreCurrent k (between mid) answers) same more.current));

@@ -1,7 +1,7 @@
 -- What an append makes of a log that spells a history.
-use Rattle.std.proofs.Common.{◌≡◌, ℕ, zero, suc, ◌+◌, ◌-◌, ◌<◌, ◌≤◌, ◌^◌, Bool, true, false, List, [], ◌∷◌, ◌++◌, length, get_or, take, map, Some, refl, sym, ap, subst, ◌∙◌, append_assoc, inl, inr, arith, length-append}
+use Rattle.std.proofs.Common.{◌≡◌, ℕ, zero, suc, ◌+◌, ◌-◌, ◌<◌, ◌≤◌, ◌^◌, true, false, List, [], ◌∷◌, ◌++◌, length, get_or, take, map, Some, refl, sym, ap, subst, ◌∙◌, append_assoc, inl, inr, arith, length-append}
 use Rattle.std.specs.Prelude.{◌⊎◌, slice_get}
-use Rattle.std.proofs.lemmas.List.{append-nil, map_push, take_more}
+use Rattle.std.proofs.lemmas.List.{append-nil, take_more}
 use Rattle.wp_model.specs.declared.entry.Entry.{Entry}
 use Rattle.wp_model.specs.declared.entry.Entry.TheVariants.{Write}
 use Rattle.wp_model.specs.Batch.{is_batch}
@@ -10,10 +10,10 @@ use Rattle.std.specs.List.{list_all}
 use Rattle.std.proofs.lemmas.Bool.{and_parts}
 use Rattle.wp_outside.specs.Disk.{Moment, Matches, IsImage, settled, IfTold, Each, Passes}
 use Rattle.wp_entry.specs.Record.{IsRecord, record_bytes, is_change, is_entry}
-use Rattle.wp_gatelog.specs.Spelling.{Gated, IsOpen, Stands, Spells, framed, frame_of, identity, all_gated, log_of, records_of}
+use Rattle.wp_gatelog.specs.Spelling.{Spells, frame_of, log_of}
 use Rattle.wp_gatelog.specs.Moments.{Leaves}
-use Rattle.wp_gatelog.specs.Log.{State as LogState, IsAcknowledged, IsAtRest, Rests, Grows, BeforeOrAfter}
-use Rattle.wp_run.specs.Log.{MAGIC, AreEntries, IsLogOf, IsOrNext, IsLogOrNext, Keeps, IsWhole}
+use Rattle.wp_gatelog.specs.Log.{State as LogState, IsAtRest, Rests, BeforeOrAfter}
+use Rattle.wp_run.specs.Log.{MAGIC, AreEntries, IsLogOf, IsLogOrNext, Keeps}
 
 -- ---- entries and records
 
@@ -22,9 +22,14 @@ AreEntries-push first [] entries added is one =
     let here : first + length entries ≡ first = rw is (omega arith) in
     (added, [], ap (λ (xs : List Entry). xs ++ added) is ∙ sym (append-nil added), subst (λ (n : ℕ). IsRecord n added) here one, ap (λ (n : ℕ). record_bytes n added) here, refl)
 AreEntries-push first (r ∷ records) entries added (front, rest, parts, is, bytes, more) one =
-    let far : first + length entries ≡ (first + length front) + length rest = omega (arith, ap (λ (xs : List Entry). length xs) parts, length-append front rest) in
-    (front, rest ++ added, ap (λ (xs : List Entry). xs ++ added) parts ∙ append_assoc front rest added, is, bytes,
-     subst (λ (n : ℕ). AreEntries (first + length front) (records ++ record_bytes n added ∷ []) (rest ++ added)) (sym far) (AreEntries-push (first + length front) records rest added more (subst (λ (n : ℕ). IsRecord n added) far one)))
+    let far : first + length entries ≡ (first + length front) + length rest = omega (arith, ap (λ (xs : List Entry). length xs) parts, length-append front rest) in (
+      front,
+      rest ++ added,
+      ap (λ (xs : List Entry). xs ++ added) parts ∙ append_assoc front rest added,
+      is,
+      bytes,
+      subst (λ (n : ℕ). AreEntries (first + length front) (records ++ record_bytes n added ∷ []) (rest ++ added)) (sym far) (AreEntries-push (first + length front) records rest added more (subst (λ (n : ℕ). IsRecord n added) far one)),
+    )
 
 -- one record more was read
 pub AreEntries-more : (records : List (List ℕ)) (i n : ℕ) (here : List ℕ) (entries added : List Entry) → i < length records → here ≡ get_or records i here → n ≡ length entries + 1 → AreEntries 1 (take i records) entries → IsRecord n added → here ≡ record_bytes n added → AreEntries 1 (take (i + 1) records) (entries ++ added)

@@ -1,5 +1,5 @@
 -- What one command does to the store on one thread, and what its reply means in every later history.
-use Rattle.std.proofs.Common.{◌≡◌, ℕ, zero, suc, ◌+◌, ◌-◌, ◌^◌, ◌<◌, ◌≤◌, Bool, true, false, cond, List, [], ◌∷◌, ◌++◌, length, get_or, take, Option, Some, None, fold, refl, sym, ap, add-one, subst, ◌∙◌, append_assoc, arith, length-append, inl, inr}
+use Rattle.std.proofs.Common.{◌≡◌, ℕ, zero, suc, ◌+◌, ◌<◌, ◌≤◌, Bool, true, false, List, [], ◌∷◌, ◌++◌, length, take, Option, Some, None, fold, refl, sym, ap, add-one, subst, ◌∙◌, append_assoc, arith, length-append, inl, inr}
 use Rattle.std.specs.Prelude.{slice_get}
 use Rattle.std.specs.List.{range_with_len, count_by}
 use Rattle.std.proofs.Math.Seq.{take-append_seam}
@@ -15,11 +15,11 @@ use Rattle.wp_text.specs.declared.script.Command.{Command}
 use Rattle.wp_text.specs.declared.script.Command.TheVariants as command
 use Rattle.wp_text.specs.declared.reply.Reply.{Reply}
 use Rattle.wp_text.specs.declared.reply.Reply.TheVariants as reply
-use Rattle.wp_run.specs.Session.{IsWritten, IsRead, IsFull, IsWriteRefusal, IsAnswer, last_after, acknowledged, is_fault, is_stopped}
-use Rattle.wp_run.specs.Current.{Between, IsCurrent, after_reply}
+use Rattle.wp_run.specs.Session.{IsWritten, IsRead, IsWriteRefusal, IsAnswer, last_after, acknowledged, is_fault, is_stopped}
+use Rattle.wp_run.specs.Current.{IsCurrent, after_reply}
 use Rattle.wp_run.specs.Legal.{AreLegal}
 use Rattle.wp_outside.specs.Faults.{Rose}
-use Rattle.wp_run.specs.Engine.{State, bit, between, Later, Adds, Refuses, Reads, Steps}
+use Rattle.wp_run.specs.Engine.{State, bit, between, Later, Adds, Refuses, Steps}
 
 false_is_true : {P : Type 0} (b : Bool) → b ≡ false → b ≡ true → P
 false_is_true true e f = absurd cc
@@ -126,11 +126,13 @@ written : (old new final : State) (last : ℕ) (made : Change) (n : ℕ) → las
 written old new final last made n le h later =
     let e = entry.Write (made ∷ []) in
     let grown : new.entries ≡ old.entries ++ e ∷ [] = ap (λ (s : State). s.entries) h.3 in
-    let whole : final.entries ≡ old.entries ++ e ∷ later.grows.0 = later.grows.1 ∙ ap (λ (xs : List Entry). xs ++ later.grows.0) grown ∙ append_assoc old.entries (e ∷ []) later.grows.0 in
-    (record {
-      fresh = omega (arith, h.2);
-      there = rw (h.2, whole) (entry_at-next old.entries later.grows.0 e);
-    }, omega (arith, h.2, ap (λ (xs : List Entry). length xs) grown, length-append old.entries (e ∷ [])))
+    let whole : final.entries ≡ old.entries ++ e ∷ later.grows.0 = later.grows.1 ∙ ap (λ (xs : List Entry). xs ++ later.grows.0) grown ∙ append_assoc old.entries (e ∷ []) later.grows.0 in (
+      record {
+        fresh = omega (arith, h.2);
+        there = rw (h.2, whole) (entry_at-next old.entries later.grows.0 e);
+      },
+      omega (arith, h.2, ap (λ (xs : List Entry). length xs) grown, length-append old.entries (e ∷ [])),
+    )
 
 read : (old final : State) (last : ℕ) (key : List ℕ) (value : Option (List ℕ)) (n : ℕ) → last ≤ length old.entries → n ≡ length old.entries → value_at old.entries key n ≡ value → Later old final → IsRead final.entries last key value n
 read old final last key value n le at gives later = record {
@@ -185,12 +187,12 @@ AreLegal-push before e legal behind n x at =
     elim (cases_lt n (length before)) [
       | inl lt ↦ rw (take-append-le n before (e ∷ []) (omega arith)) (legal n x (sym (slice_get-front before (e ∷ []) n lt) ∙ at))
       | inr le ↦
-        let bound : n < length (before ++ e ∷ []) = slice_get_within (before ++ e ∷ []) n x at in
-        let last : n ≡ length before = omega (arith, length-append before (e ∷ [])) in
-        let same : Some x ≡ Some e = sym at ∙ ap (slice_get (before ++ e ∷ [])) last ∙ slice_get-seam before [] e in
-        let is : x ≡ e = cc in
-        let front : take n (before ++ e ∷ []) ≡ before = rw last (take-append_seam before (e ∷ [])) in
-        rw (is, front) behind
+          let bound : n < length (before ++ e ∷ []) = slice_get_within (before ++ e ∷ []) n x at in
+          let last : n ≡ length before = omega (arith, length-append before (e ∷ [])) in
+          let same : Some x ≡ Some e = sym at ∙ ap (slice_get (before ++ e ∷ [])) last ∙ slice_get-seam before [] e in
+          let is : x ≡ e = cc in
+          let front : take n (before ++ e ∷ []) ≡ before = rw last (take-append_seam before (e ∷ [])) in
+          rw (is, front) behind
     ]
 
 counts_adds : (old new : State) (made : Change) (n : ℕ) (answer : Reply) → Adds old new made n → acknowledged answer ≡ n ∷ [] → count_by is_fault (answer ∷ []) ≡ 0 → is_stopped answer ≡ false → IsCurrent old.limit (between old) answer → after_reply (between old) answer ≡ record (between old) { published = n } → Counts old new answer

@@ -1,5 +1,5 @@
 -- From a run of all clients to how a call ends.
-use Rattle.std.proofs.Common.{◌≡◌, ℕ, ◌^◌, ◌<◌, ◌≤◌, Bool, true, false, List, [], ◌∷◌, length, map, Option, Some, refl, sym, ap, subst, ◌∙◌, inl, inr, arith}
+use Rattle.std.proofs.Common.{◌≡◌, ℕ, ◌^◌, ◌<◌, ◌≤◌, Bool, true, false, List, [], ◌∷◌, length, Option, refl, sym, subst, ◌∙◌, inl, inr, arith}
 use Rattle.wp_model.specs.declared.entry.Entry.{Entry}
 use Rattle.wp_outside.specs.Disk.{Moment, IfTold}
 use Rattle.wp_outside.specs.Faults.{Rose}
@@ -17,7 +17,7 @@ use Rattle.wp_gatelog.specs.Opening.{SurvivesThrough}
 use Rattle.wp_run.specs.Opening.{IsOpenCause, IsStatusOf}
 use Rattle.wp_run.specs.Legal.{AreLegal}
 use Rattle.wp_run.specs.Log.{MAGIC, IsLogOf, IsLogOrNext, Keeps}
-use Rattle.wp_run.specs.Transcript.{Explains, IsTranscript, text_of}
+use Rattle.wp_run.specs.Transcript.{IsTranscript}
 use Rattle.wp_run.specs.Engine.{State, bit, Later, AllRun}
 use Rattle.wp_run.specs.Run.{KeptBy, Tells, Breaks, Serves}
 use Rattle.wp_run.specs.Told.{IsTold, IsToldAs, HasTold, HasBroken, Finishes}
@@ -114,7 +114,7 @@ pub serves_opened : (state : State) (limit asked : ℕ) (log : LogState) (entrie
 serves_opened state limit asked log entries script before after first now sink_rose written written_now end is small found made legal few le h =
     let opened : State = record { entries = entries; stopped = false; limit = limit; id = log.id; faults = log.faults } in
     serves opened asked script before after first now sink_rose written written_now end (record { running = refl; legal = legal; few = few; limit = small; found = found; made = made }) le
-        (subst (λ (s : State). Finishes s script after now sink_rose written written_now end) is h)
+    (subst (λ (s : State). Finishes s script after now sink_rose written written_now end) is h)
 
 pub serves_refused : (why : OpenError) (end : Status) (limit asked : ℕ) (script : List Part) (before after : List Moment) (log_rose sink_rose : Type 0) (written written_now : Option (List ℕ))
     → IsStatusOf why end → IsOpenCause log_rose before why → SurvivesThrough MAGIC asked before after → Serves limit asked script before after log_rose sink_rose written written_now end

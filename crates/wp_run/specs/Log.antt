@@ -1,11 +1,11 @@
 -- The log of a store: records that spell its history.
 use Rattle.std.specs.Prelude.{◌≡◌, ℕ, ◌+◌, ◌^◌, ◌<◌, Bool, false, true, List, [], ◌∷◌, ◌++◌, length, codes, ◌⊎◌}
 use Rattle.wp_model.specs.declared.entry.Entry.{Entry}
-use Rattle.wp_outside.specs.Disk.{Moment, IfTold}
+use Rattle.wp_outside.specs.Disk.{IfTold}
 use Rattle.wp_entry.specs.Record.{IsRecord, record_bytes}
 use Rattle.wp_gatelog.specs.Spelling.{Spells}
 use Rattle.wp_gatelog.specs.Moments.{Leaves}
-use Rattle.wp_gatelog.specs.Log.{State as LogState, Rests, BeforeOrAfter}
+use Rattle.wp_gatelog.specs.Log.{State as LogState, Rests}
 
 -- the first four bytes behind the head's gate
 abbrev pub MAGIC : List ℕ

@@ -1,10 +1,8 @@
 -- How a store is opened, and why it is not.
 use Rattle.std.specs.Prelude.{◌≡◌, ℕ, ◌+◌, List, length, take, Some, Err, slice_get, ◌⊎◌}
 use Rattle.wp_model.specs.declared.entry.Entry.{Entry}
-use Rattle.wp_outside.specs.declared.disk.Device.{Device}
 use Rattle.wp_outside.specs.declared.disk.Device.TheVariants as device
 use Rattle.wp_outside.specs.Disk.{Moment, IfTold}
-use Rattle.wp_outside.specs.Faults.{Rose}
 use Rattle.wp_entry.specs.declared.error.RecordError.{RecordError}
 use Rattle.wp_entry.specs.Reading.{record_at}
 use Rattle.wp_gatelog.specs.declared.error.LogError.{LogError}

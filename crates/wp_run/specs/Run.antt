@@ -2,7 +2,6 @@
 use Rattle.std.specs.Prelude.{◌≡◌, ◌⊎◌, ℕ, zero, suc, ◌≤◌, List, [], ◌++◌, Option, Result, Ok, Err}
 use Rattle.std.specs.Io.KnownBytes.{Appends}
 use Rattle.wp_model.specs.declared.entry.Entry.{Entry}
-use Rattle.wp_outside.specs.declared.disk.Device.{Device}
 use Rattle.wp_outside.specs.declared.disk.Device.TheVariants as device
 use Rattle.wp_outside.specs.Disk.{Moment, IfTold}
 use Rattle.wp_outside.specs.Sink.{AppendsPrefix}
@@ -17,7 +16,6 @@ use Rattle.wp_words.specs.declared.choice.Action.{Action}
 use Rattle.wp_words.specs.declared.choice.Action.TheVariants as action
 use Rattle.wp_words.specs.declared.choice.Choice.{Choice}
 use Rattle.wp_words.specs.Choice.{IsChoice, IsTaken}
-use Rattle.wp_run.specs.declared.opening.Bad.{Bad}
 use Rattle.wp_run.specs.declared.outside.TheConstants.{MOST_TAKEN}
 use Rattle.wp_run.specs.declared.status.Status.{Status}
 use Rattle.wp_run.specs.declared.status.Status.TheVariants as status

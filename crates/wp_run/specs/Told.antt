@@ -2,7 +2,6 @@
 use Rattle.std.specs.Prelude.{◌≡◌, ℕ, Bool, true, false, List, Option}
 use Rattle.std.specs.Io.KnownBytes.{Appends}
 use Rattle.wp_outside.specs.Disk.{Moment, IfTold}
-use Rattle.wp_outside.specs.Faults.{Rose}
 use Rattle.wp_outside.specs.Sink.{AppendsPrefix}
 use Rattle.wp_gatelog.specs.Moments.{Leaves}
 use Rattle.wp_text.specs.declared.reply.Reply.{Reply}

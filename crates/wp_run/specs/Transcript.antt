@@ -1,5 +1,5 @@
 -- A transcript: the replies of all clients, and the one history that explains them.
-use Rattle.std.specs.Prelude.{◌≡◌, ℕ, ◌+◌, ◌<◌, ◌≤◌, ◌==◌, Bool, true, false, List, [], ◌∷◌, ◌++◌, length, count_by, codes}
+use Rattle.std.specs.Prelude.{◌≡◌, ℕ, ◌<◌, ◌≤◌, ◌==◌, true, false, List, [], ◌∷◌, ◌++◌, length, count_by, codes}
 use Rattle.std.specs.List.{flat_map, list_any}
 use Rattle.wp_model.specs.declared.entry.Entry.{Entry}
 use Rattle.wp_model.specs.History.{IsLegal}
@@ -7,7 +7,7 @@ use Rattle.wp_text.specs.declared.script.Part.{Part}
 use Rattle.wp_text.specs.declared.reply.Reply.{Reply}
 use Rattle.wp_text.specs.Lines.{client_line, reply_line, entry_lines, end_line, line_end}
 use Rattle.wp_run.specs.Session.{IsSession, acknowledged, is_fault, is_stopped}
-use Rattle.wp_run.specs.Current.{Between, AreCurrent}
+use Rattle.wp_run.specs.Current.{AreCurrent}
 
 -- each part has one session, which begins with the opening history
 abbrev pub AreSessions : List Entry → ℕ → ℕ → List Part → List (List Reply) → Type 0

@@ -1,5 +1,5 @@
 -- How the store on one thread takes a change, or refuses it.
-use Rattle.std.specs.Prelude.{◌≡◌, ℕ, ◌≤◌, length, Result, Ok, Err}
+use Rattle.std.specs.Prelude.{◌≡◌, ℕ, Result, Ok, Err}
 use Rattle.std.specs.declared.alloc.AllocError.{AllocError}
 use Rattle.wp_model.specs.declared.change.Change.{Change}
 use Rattle.wp_text.specs.declared.reply.Reply.{Reply}

@@ -58,7 +58,10 @@ impl Status {
             Status::Script(fault) => format!(in alloc; "wp: {fault}")?,
             Status::LogFault => "wp: log fault".to_string(alloc)?,
             Status::Contents(bad) => format!(in alloc; "wp: contents: {bad}")?,
-            Status::OpenFault(device) => format!(in alloc; "wp: opening failed: {}", name_of(*device))?,
+            Status::OpenFault(device) => format!(in alloc;
+                "wp: opening failed: {}",
+                name_of(*device)
+            )?,
         };
         Ok(text.into_bytes())
     }

@@ -60,17 +60,17 @@ pub fn run<R: Threads + Wait + Sync, D: Disk + Send, S: Source, K: Sink, G: Gate
 ) -> Ended<D>
     // How the call ended and why, what was written and what the log keeps, by the status.
     ensures ends { Ends (record {
-        words = map string_bytes words.now;
-        left = S.left source.old;
-        rest = S.left source.new;
-        untouched = source.new ≡ source.old;
-        source_rose = Rose (S.faults source.old) (S.faults source.new);
-        log = D.moments disks.log;
-        log_now = D.moments result.disks.log;
-        log_rose = Rose (D.faults disks.log) (D.faults result.disks.log);
-        written = K.contents sink.old;
-        written_now = K.contents sink.new;
-        sink_rose = Rose (K.faults sink.old) (K.faults sink.new);
+      words = map string_bytes words.now;
+      left = S.left source.old;
+      rest = S.left source.new;
+      untouched = source.new ≡ source.old;
+      source_rose = Rose (S.faults source.old) (S.faults source.new);
+      log = D.moments disks.log;
+      log_now = D.moments result.disks.log;
+      log_rose = Rose (D.faults disks.log) (D.faults result.disks.log);
+      written = K.contents sink.old;
+      written_now = K.contents sink.new;
+      sink_rose = Rose (K.faults sink.old) (K.faults sink.new);
     }) result.status }
     ensures silent { IsSilent result.status → sink.new ≡ sink.old }
     ensures unread { result.status ≡ Status.Words → source.new ≡ source.old }
@@ -101,7 +101,14 @@ pub fn run<R: Threads + Wait + Sync, D: Disk + Send, S: Source, K: Sink, G: Gate
         manifest,
         tables,
     } = disks;
-    let Served { status, disk } = serve(alloc, choice.limit, choice.id, script.as_slice(), log, sink);
+    let Served { status, disk } = serve(
+        alloc,
+        choice.limit,
+        choice.id,
+        script.as_slice(),
+        log,
+        sink,
+    );
     Ended {
         status,
         disks: Disks {

@@ -1,5 +1,4 @@
-use Rattle.std.proofs.Common.{◌≡◌, ◌≤◌, List, ℕ, ◌++◌, length}
-use Rattle.std.specs.Io.KnownBytes.{Appends}
+use Rattle.std.proofs.Common.{◌≤◌, length}
 use Rattle.wp_run.proofs.WriteLemmas.{Wrote}
 use Rattle.wp_run.proofs.outside.write_all.Given as goal
 

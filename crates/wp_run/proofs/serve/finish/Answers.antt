@@ -4,8 +4,8 @@ use Rattle.wp_run.proofs.serve.finish.Goals as goal
 pub returns-in-Ok-clause-finishes : goal.returns-in-Ok-clause-finishes
 returns-in-Ok-clause-finishes g c =
     finishes c.args.engine c.text_of-text.new.engine c.args.parts.now c.in-Ok.text.items c.into_log.result _ _ c.is_stopped-stopped.result _ _ _ c.tell-status.result
-        c.in-Ok.ensures.told c.into_log.ensures.keeps c.into_log.ensures.closed c.into_log.ensures.id c.into_log.ensures.faults c.into_disk-disk.ensures.moments c.into_disk-disk.ensures.faults c.is_stopped-stopped.ensures
-        (rw c.deref.ensures.value at c.tell-status.ensures.told)
+    c.in-Ok.ensures.told c.into_log.ensures.keeps c.into_log.ensures.closed c.into_log.ensures.id c.into_log.ensures.faults c.into_disk-disk.ensures.moments c.into_disk-disk.ensures.faults c.is_stopped-stopped.ensures
+    (rw c.deref.ensures.value at c.tell-status.ensures.told)
 
 pub returns-in-Err-clause-finishes : goal.returns-in-Err-clause-finishes
 returns-in-Err-clause-finishes g c =
