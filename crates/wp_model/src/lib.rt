@@ -5,13 +5,11 @@
 mod batch;
 mod change;
 mod entry;
-mod history;
 mod word;
 
 pub use batch::{Batch, MOST_KEYS, SetError};
 pub use change::Change;
 pub use entry::Entry;
-pub use history::value_at;
 pub use word::{Key, Name, Value, Word, WordError};
 
 /// The number of an entry, from 1 on. 0 stands for the empty history.

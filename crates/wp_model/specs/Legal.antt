@@ -1,0 +1,82 @@
+-- A legal history: each entry may stand behind those before it.
+use Rattle.std.specs.Prelude.{◌≡◌, ℕ, ◌^◌, ◌<◌, true, List, [], ◌∷◌, length, take, map, Option, Some, None, slice_get}
+use Rattle.wp_model.specs.declared.change.Change.{Change}
+use Rattle.wp_model.specs.declared.change.Change.TheVariants.{Put, Del}
+use Rattle.wp_model.specs.declared.entry.Entry.{Entry}
+use Rattle.wp_model.specs.declared.entry.Entry.TheVariants.{Write, Prepare, Commit, Undo, Close}
+use Rattle.wp_model.specs.Batch.{key_of, is_batch}
+use Rattle.wp_model.specs.History.{batch_at, is_undecided, named, holder_of, newest}
+
+-- ---- what an entry keeps
+
+-- the changes that an entry keeps, whether they are committed or not
+abbrev pub kept_by : Entry → List Change
+kept_by (Write batch) = batch
+kept_by (Prepare name batch) = batch
+kept_by (Undo p batch) = batch
+kept_by other = []
+
+-- ---- the four points
+
+-- a decision, and an undo, names an undecided prepare
+abbrev pub NamesUndecided : List Entry → Entry → Type 0
+NamesUndecided before (Commit p) = is_undecided before p ≡ true
+NamesUndecided before (Undo p batch) = is_undecided before p ≡ true
+NamesUndecided before (Close p) = is_undecided before p ≡ true
+NamesUndecided before other = Unit {0}
+
+-- the prepare that the last entry undoes, if it undoes one
+abbrev pub undone_last : List Entry → Option ℕ
+undone_last [] = None
+undone_last (Undo p batch ∷ []) = Some p
+undone_last (other ∷ []) = None
+undone_last (first ∷ second ∷ others) = undone_last (second ∷ others)
+
+-- the Close of a prepare follows its Undo at once, and stands nowhere else
+abbrev pub UndoIsClosed : List Entry → Entry → Type 0
+UndoIsClosed before (Close p) = undone_last before ≡ Some p
+UndoIsClosed before other = undone_last before ≡ None
+
+-- the change that leaves under a key this value, or none
+abbrev pub change_that_leaves : List ℕ → Option (List ℕ) → Change
+change_that_leaves key (Some value) = Put key value
+change_that_leaves key None = Del key
+
+-- what the keys of a batch have in the store: a deletion for a missing one
+abbrev pub prior : List Entry → List Change → List Change
+prior history batch = map (λ change. change_that_leaves (key_of change) (newest history (key_of change))) batch
+
+-- an Undo holds what the keys of its prepare had before it
+abbrev pub RestoresPrior : List Entry → Entry → Type 0
+RestoresPrior before (Undo p batch) = batch ≡ prior before (batch_at before p)
+RestoresPrior before other = Unit {0}
+
+-- no undecided prepare holds a key of the changes
+abbrev pub AreFree : List Entry → List Change → Type 0
+AreFree before [] = Unit {0}
+AreFree before (change ∷ changes) = (holder_of before (key_of change) ≡ None) × AreFree before changes
+
+-- what is written or prepared has no key of an undecided prepare, and none of these has the same name
+abbrev pub KeysAreFree : List Entry → Entry → Type 0
+KeysAreFree before (Write batch) = AreFree before batch
+KeysAreFree before (Prepare name batch) = AreFree before batch × (named before name ≡ None)
+KeysAreFree before other = Unit {0}
+
+-- ---- together
+
+-- the entry may stand right behind these
+pub record IsLegalBehind (before : List Entry) (entry : Entry) : Type 0 where
+  pub batch : is_batch (kept_by entry) ≡ true
+  pub names_undecided : NamesUndecided before entry
+  pub undo_is_closed : UndoIsClosed before entry
+  pub restores_prior : RestoresPrior before entry
+  pub keys_are_free : KeysAreFree before entry
+
+-- each entry may stand behind those before it
+abbrev pub AreLegal : List Entry → Type 0
+AreLegal history = (n : ℕ) (entry : Entry) → slice_get history n ≡ Some entry → IsLegalBehind (take n history) entry
+
+-- A legal history: few enough entries for their numbers, and each may stand behind those before it.
+pub record IsLegal (history : List Entry) : Type 0 where
+  pub few : length history < 2 ^ 32
+  pub each : AreLegal history
