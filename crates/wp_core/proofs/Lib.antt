@@ -1,2 +1,4 @@
 pub mod Growth
 pub mod Undecided
+pub mod Undone
+pub mod Newest

@@ -1,5 +1,5 @@
 -- The undecided prepares of a legal history, and what an entry more makes of them.
-use Rattle.std.proofs.Common.{◌≡◌, ℕ, zero, suc, ◌+◌, ◌<◌, ◌≤◌, Bool, true, false, ◌&&◌, ◌||◌, not, cond, eqb, List, [], ◌∷◌, ◌++◌, length, Some, None, refl, sym, ap, ◌∙◌, subst, inl, inr, add-one, arith}
+use Rattle.std.proofs.Common.{◌≡◌, ℕ, zero, suc, ◌+◌, ◌^◌, ◌<◌, ◌≤◌, Bool, true, false, ◌&&◌, ◌||◌, not, cond, eqb, List, [], ◌∷◌, ◌++◌, length, Some, None, refl, sym, ap, ◌∙◌, subst, inl, inr, add-one, arith}
 use Rattle.std.specs.List.{list_any, filter, range_with_len}
 use Rattle.std.proofs.lemmas.Bool.{cases_lt, cases_Bool, cases_eq, and_parts, and_from, or_left, or_right, eqb-true, eq-eqb, ne_eqb, false_from_ne_true}
 use Rattle.std.proofs.lemmas.List.{append-nil}
@@ -11,7 +11,8 @@ use Rattle.wp_model.specs.declared.entry.Entry.TheVariants.{Write, Prepare, Comm
 use Rattle.wp_model.specs.History.{entry_at, is_prepare, decides, is_undecided, undecided}
 use Rattle.wp_model.specs.Legal.{IsLegal, IsLegalBehind, NamesUndecided, UndoIsClosed, undone_last}
 use Rattle.wp_core.specs.Growth.{without, undecided_behind}
-use Rattle.wp_core.proofs.Growth.{entry_at_old, entry_at_next, length_next, prepared_within, decides_undecided, decided_next, decided_prepared, undecided_prepared}
+use Rattle.wp_core.specs.History.{IsLegalWith}
+use Rattle.wp_core.proofs.Growth.{entry_at_old, entry_at_next, length_next, legal_next, prepared_within, decides_undecided, decided_next, decided_prepared, undecided_prepared}
 
 -- ---- numbers in a row
 
@@ -129,4 +130,14 @@ close_follows history p batch behind = record {
   undo_is_closed = undone_by history p batch;
   restores_prior = tt;
   keys_are_free = tt;
+}
+
+-- ---- the numbers that are kept
+
+pub grows_with : (history : List Entry) (numbers : List ℕ) (entry : Entry) (n : ℕ) (grown : List Entry) (left : List ℕ)
+    → IsLegalWith history numbers → IsLegalBehind history entry → n ≡ length history → length history + 1 < 2 ^ 32
+    → grown ≡ history ++ entry ∷ [] → left ≡ undecided_behind numbers (n + 1) entry → IsLegalWith grown left
+grows_with history numbers entry n grown left kept behind number few grown-is left-is = record {
+  legal = rw grown-is (legal_next history entry kept.legal behind few);
+  numbered = rw (left-is, grown-is, kept.numbered, number) (sym (undecided_next history entry kept.legal behind.names_undecided));
 }

@@ -3,7 +3,7 @@ ghost use Rattle.std.specs.Vec.{vec_capacity};
 ghost use Rattle.std.specs.Option.{option_copied};
 ghost use Rattle.wp_model.specs.History.{entry_at, undecided};
 ghost use Rattle.wp_model.specs.Legal.{IsLegal, IsLegalBehind};
-ghost use Rattle.wp_core.specs.Growth.{undecided_behind};
+ghost use Rattle.wp_core.specs.Growth.{without, undecided_behind};
 
 use std::alloc::{AllocError, Global};
 use std::marker::Model;
@@ -30,6 +30,14 @@ impl Model for History {
         × (vec_len h.entries + h.room ≤ vec_capacity h.entries) × (vec_len h.undecided + h.room ≤ vec_capacity h.undecided) };
 }
 
+fn take_out(numbers: &mut Vec<Seq>, p: Seq)
+    ensures numbers { numbers.new.items ≡ without numbers.old.items p }
+    ensures len { vec_len numbers.new ≤ vec_len numbers.old }
+    ensures capacity { vec_capacity numbers.new ≡ vec_capacity numbers.old }
+{
+    numbers.retain(|q| *q != p);
+}
+
 /// Keeps the numbers of the undecided prepares, once the entry with that number stands behind.
 fn note_undecided(undecided: &mut Vec<Seq>, number: Seq, entry: &Entry)
     requires { vec_len undecided.old + 1 ≤ vec_capacity undecided.old }
@@ -39,7 +47,7 @@ fn note_undecided(undecided: &mut Vec<Seq>, number: Seq, entry: &Entry)
 {
     match entry {
         Entry::Prepare(_, _) => undecided.push(number).unwrap(),
-        Entry::Commit(p) | Entry::Close(p) => undecided.retain(|q| *q != *p),
+        Entry::Commit(p) | Entry::Close(p) => take_out(undecided, *p),
         Entry::Write(_) | Entry::Undo(_, _) => {}
     }
 }

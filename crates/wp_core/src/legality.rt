@@ -2,9 +2,20 @@
 ghost use Rattle.std.specs.Prelude.{◌≡◌, ◌↔◌, true};
 ghost use Rattle.wp_model.specs.History.{is_undecided, batch_at, newest};
 ghost use Rattle.wp_model.specs.Legal.{AreFree, IsLegalBehind, undone_last, change_that_leaves, prior};
+ghost use Rattle.wp_core.specs.Growth.{undone_by};
 
 use crate::history::History;
 use wp_model::{Batch, Change, Entry, Key, Seq};
+
+/// The prepare that the entry undoes.
+fn undone_by(entry: &Entry) -> Option<Seq>
+    ensures { result ≡ undone_by entry.now }
+{
+    match entry {
+        Entry::Undo(p, _) => Some(*p),
+        Entry::Write(_) | Entry::Prepare(_, _) | Entry::Commit(_) | Entry::Close(_) => None,
+    }
+}
 
 impl History {
     /// Whether the entry may stand behind those of the history.
@@ -25,13 +36,11 @@ impl History {
     }
 
     /// The prepare that the last entry undoes.
+    #[tactic(auto, using(crate::proofs::Undone::undone_at_last, crate::proofs::Undone::none_undone))]
     fn undone_last(&self) -> Option<Seq>
         ensures { result ≡ undone_last self.now.entries }
     {
-        match self.entries().last() {
-            Some(Entry::Undo(p, _)) => Some(*p),
-            _ => None,
-        }
+        undone_by(self.entries().last()?)
     }
 
     fn is_undecided(&self, p: Seq) -> bool
