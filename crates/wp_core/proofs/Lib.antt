@@ -4,3 +4,6 @@ pub mod Undone
 pub mod Newest
 pub mod Free
 pub mod Prior
+pub mod Counting
+pub mod Held
+pub mod Above
