@@ -63,9 +63,17 @@ closed_by history (Commit q) p closed undone = absurd cc
 closed_by history (Undo q batch) p closed undone = absurd cc
 closed_by history (Close q) p closed undone = let same : q ≡ p = cc in eq-eqb q p same
 
--- so before any other entry nothing at all stands above under the key
-pub none_above : (history : List Entry) (entry : Entry) (key : List ℕ) (p q : ℕ) → NoneAbove history → UndoIsClosed history entry → Holds history key p → decides p entry ≡ false → p < q → version_at history q key ≡ None
-none_above history entry key p q none closed holds other lt =
+-- where no undo ends the history, nothing at all stands above under the key
+pub none_above : (history : List Entry) (key : List ℕ) (p q : ℕ) → NoneAbove history → undone_last history ≡ None → Holds history key p → p < q → version_at history q key ≡ None
+none_above history key p q none ended holds lt =
+    elim (none.above key p q holds lt) [
+      | inl nothing ↦ nothing
+      | inr undo ↦ absurd cc
+    ]
+
+-- nor where the next entry does not close the prepare
+none_above_others : (history : List Entry) (entry : Entry) (key : List ℕ) (p q : ℕ) → NoneAbove history → UndoIsClosed history entry → Holds history key p → decides p entry ≡ false → p < q → version_at history q key ≡ None
+none_above_others history entry key p q none closed holds other lt =
     elim (none.above key p q holds lt) [
       | inl nothing ↦ nothing
       | inr undo ↦ let it = closed_by history entry p closed undo.1 in absurd cc
@@ -85,11 +93,10 @@ not_changed changes key never =
 pub held_once : (history : List Entry) (key : List ℕ) (p q : ℕ) → NoneAbove history → undone_last history ≡ None → Holds history key p → Holds history key q → p < q → ⊥
 held_once history key p q none ended holds other lt =
     let version = version_held history key q other.undecided in
+    let nothing = none_above history key p q none ended holds lt in
     let changed = other.changed in
-    elim (none.above key p q holds lt) [
-      | inl nothing ↦ let missing : is_changed (batch_at history q) key ≡ false = ap is_some (sym version ∙ nothing) in absurd cc
-      | inr undo ↦ absurd cc
-    ]
+    let missing : is_changed (batch_at history q) key ≡ false = ap is_some (sym version ∙ nothing) in
+    absurd cc
 
 pub same_holder : (history : List Entry) (key : List ℕ) (p q : ℕ) → NoneAbove history → undone_last history ≡ None → Holds history key p → Holds history key q → q ≡ p
 same_holder history key p q none ended holds other =
@@ -133,7 +140,7 @@ none_above_at history entry key p q none behind holds other lt =
         | inr undone ↦ inr (next ∙ sym (length_next history entry), undone_next history entry ∙ undone)
       ]
       | inr apart ↦ elim apart [
-        | inl below ↦ inl (version_at_old history (entry ∷ []) q key (omega arith) ∙ none_above history entry key p q none behind.undo_is_closed holds other lt)
+        | inl below ↦ inl (version_at_old history (entry ∷ []) q key (omega arith) ∙ none_above_others history entry key p q none behind.undo_is_closed holds other lt)
         | inr past ↦ inl (version_at_past (history ++ entry ∷ []) q key (omega (arith, length_next history entry)))
       ]
     ]

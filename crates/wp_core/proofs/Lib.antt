@@ -7,3 +7,4 @@ pub mod Prior
 pub mod Counting
 pub mod Held
 pub mod Above
+pub mod NewestVersion

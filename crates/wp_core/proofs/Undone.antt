@@ -39,3 +39,23 @@ undone_at_last (first ∷ second ∷ others) entry at =
 pub none_undone : (history : List Entry) → slice_get history (length history - 1) ≡ None → None ≡ undone_last history
 none_undone [] at = refl
 none_undone (first ∷ others) at = let there = slice_get-get_or (first ∷ others) (length (first ∷ others) - 1) first (omega arith) in absurd cc
+
+-- the undo of p ends the history
+pub record LastUndo (history : List Entry) (p : ℕ) : Type 0 where
+  pub front : List Entry
+  pub batch : List Change
+  pub is : history ≡ front ++ Undo p batch ∷ []
+
+last_undo_alone : (entry : Entry) (p : ℕ) → undone_by entry ≡ Some p → LastUndo (entry ∷ []) p
+last_undo_alone (Write batch) p undone = absurd cc
+last_undo_alone (Prepare name batch) p undone = absurd cc
+last_undo_alone (Commit q) p undone = absurd cc
+last_undo_alone (Undo q batch) p undone = let same : q ≡ p = cc in record { front = []; batch = batch; is = ap (λ (r : ℕ). Undo r batch ∷ []) same }
+last_undo_alone (Close q) p undone = absurd cc
+
+pub last_undo : (history : List Entry) (p : ℕ) → undone_last history ≡ Some p → LastUndo history p
+last_undo [] p undone = absurd cc
+last_undo (first ∷ []) p undone = last_undo_alone first p (sym (undone_alone first) ∙ undone)
+last_undo (first ∷ second ∷ others) p undone =
+    let rest = last_undo (second ∷ others) p (sym (undone_behind_two first second others) ∙ undone) in
+    record { front = first ∷ rest.front; batch = rest.batch; is = ap (λ (h : List Entry). first ∷ h) rest.is }
