@@ -1,5 +1,5 @@
 -- No version of a key stands above an undecided prepare of it but its own undo, and that ends the history.
-use Rattle.std.proofs.Common.{◌≡◌, ℕ, zero, suc, ◌+◌, ◌<◌, ◌≤◌, Bool, true, false, ◌&&◌, not, List, [], ◌∷◌, ◌++◌, length, Option, Some, None, ◌⊎◌, refl, sym, ap, ◌∙◌, subst, inl, inr, ⊎_elim, add-one, arith}
+use Rattle.std.proofs.Common.{◌≡◌, ℕ, ◌+◌, ◌<◌, ◌≤◌, true, false, not, List, [], ◌∷◌, ◌++◌, length, Option, Some, None, ◌⊎◌, refl, sym, ap, ◌∙◌, inl, inr, arith}
 use Rattle.std.specs.Prelude.{option_map, is_some}
 use Rattle.std.proofs.lemmas.Bool.{cases_lt, cases_Bool, cases_order, and_parts, not-true, eq-eqb}
 use Rattle.wp_model.specs.declared.change.Change.{Change}
@@ -7,7 +7,7 @@ use Rattle.wp_model.specs.declared.entry.Entry.{Entry}
 use Rattle.wp_model.specs.declared.entry.Entry.TheVariants.{Write, Prepare, Commit, Undo, Close}
 use Rattle.wp_model.specs.Batch.{change_to}
 use Rattle.wp_model.specs.History.{entry_at, is_prepare, prepared_batch, batch_at, decides, is_undecided, is_changed, newest}
-use Rattle.wp_model.specs.Legal.{kept_by, IsLegal, IsLegalBehind, NamesUndecided, UndoIsClosed, RestoresPrior, KeysAreFree, AreFree, undone_last, prior}
+use Rattle.wp_model.specs.Legal.{kept_by, IsLegal, IsLegalBehind, UndoIsClosed, undone_last, prior}
 use Rattle.wp_model.specs.Versions.{version_in, version_at}
 use Rattle.wp_core.specs.Growth.{undone_by}
 use Rattle.wp_core.proofs.Growth.{entry_at_next, entry_at_past, length_next, by_growth, undecided_prepared}

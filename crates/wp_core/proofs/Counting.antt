@@ -1,19 +1,18 @@
 -- Which entries are committed once the first entries of a history stand, whatever follows.
-use Rattle.std.proofs.Common.{◌≡◌, ℕ, zero, suc, ◌+◌, ◌<◌, ◌≤◌, Bool, true, false, ◌||◌, not, cond, List, [], ◌∷◌, ◌++◌, length, get_or, take, drop, Option, Some, None, refl, sym, ap, ◌∙◌, subst, inl, inr, add-one, length-append, arith}
-use Rattle.std.specs.Prelude.{option_map, nat_lt}
+use Rattle.std.proofs.Common.{◌≡◌, ℕ, zero, suc, ◌+◌, ◌<◌, ◌≤◌, Bool, true, false, ◌||◌, not, cond, List, [], ◌∷◌, ◌++◌, length, get_or, take, Option, Some, None, refl, sym, ap, ◌∙◌, inl, inr, length-append, arith}
+use Rattle.std.specs.Prelude.{option_map}
 use Rattle.std.specs.List.{list_any, position, position_or_len}
 use Rattle.std.proofs.Math.ListN.{get_or-append}
 use Rattle.std.proofs.lemmas.Bool.{cases_lt, cond-true, lt-ltb, or_left, or_right}
 use Rattle.std.proofs.lemmas.List.{length-take-le}
 use Rattle.std.proofs.lemmas.List.Quantifiers.{position-Some}
 use Rattle.std.proofs.lemmas.Option.{slice_get-get_or}
-use Rattle.wp_model.specs.declared.change.Change.{Change}
 use Rattle.wp_model.specs.declared.entry.Entry.{Entry}
 use Rattle.wp_model.specs.declared.entry.Entry.TheVariants.{Write, Prepare, Commit, Undo, Close}
 use Rattle.wp_model.specs.History.{entry_at, decides}
 use Rattle.wp_model.specs.Legal.{IsLegal, IsLegalBehind}
-use Rattle.wp_model.specs.Versions.{version_in, version_at, decision_in, decision_of, IsCommittedAt}
-use Rattle.wp_core.specs.Committed.{counts_in, counts, committed_version}
+use Rattle.wp_model.specs.Versions.{version_in, version_at, decision_in, IsCommittedAt}
+use Rattle.wp_core.specs.Committed.{counts_in, counts}
 use Rattle.wp_core.proofs.Growth.{entry_at_old, entry_at_past, decides_undecided}
 use Rattle.wp_core.proofs.Undecided.{undecided_within}
 

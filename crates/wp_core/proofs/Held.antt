@@ -1,23 +1,16 @@
 -- Which keys undecided prepares hold, and what may stand above them.
-use Rattle.std.proofs.Common.{◌≡◌, ℕ, zero, suc, ◌+◌, ◌<◌, ◌≤◌, Bool, true, false, ◌&&◌, not, cond, eqb, List, [], ◌∷◌, ◌++◌, length, Option, Some, None, ◌⊎◌, refl, sym, ap, ◌∙◌, subst, inl, inr, ⊎_elim, add-one, arith}
+use Rattle.std.proofs.Common.{◌≡◌, ℕ, Bool, true, false, cond, eqb, List, [], ◌∷◌, Option, Some, None, refl, sym, ap, ◌∙◌, ⊎_elim}
 use Rattle.std.specs.Prelude.{option_map, is_some, if◌then◌else◌}
 use Rattle.std.specs.List.{list_any, find}
 use Rattle.std.specs.Str.{bytes_eq}
-use Rattle.std.proofs.lemmas.Bool.{cases_lt, cases_order, and_parts, or_cases, eqb-true, not-true}
+use Rattle.std.proofs.lemmas.Bool.{or_cases, eqb-true}
 use Rattle.std.proofs.lemmas.Slice.Eq.{bytes_eq-Decides}
 use Rattle.wp_model.specs.declared.change.Change.{Change}
 use Rattle.wp_model.specs.declared.entry.Entry.{Entry}
-use Rattle.wp_model.specs.declared.entry.Entry.TheVariants.{Write, Prepare, Commit, Undo, Close}
 use Rattle.wp_model.specs.Batch.{key_of, value_of, change_to}
-use Rattle.wp_model.specs.History.{entry_at, is_prepare, prepared_batch, batch_at, decides, is_undecided, undecided, is_changed, holder_of, newest}
-use Rattle.wp_model.specs.Legal.{kept_by, IsLegal, IsLegalBehind, NamesUndecided, UndoIsClosed, KeysAreFree, AreFree, undone_last, change_that_leaves, prior}
-use Rattle.wp_model.specs.Versions.{version_in, version_at}
-use Rattle.wp_core.specs.Growth.{undone_by}
-use Rattle.wp_core.proofs.Growth.{entry_at_old, entry_at_next, entry_at_past, length_next, by_growth, undecided_prepared}
-use Rattle.wp_core.proofs.Undecided.{undecided_within, undecided_old, is_undecided_by_list}
-use Rattle.wp_core.proofs.Undone.{undone_next}
-use Rattle.wp_core.proofs.Newest.{batch_at_old}
-use Rattle.wp_core.proofs.Counting.{version_at_old}
+use Rattle.wp_model.specs.History.{batch_at, is_undecided, undecided, is_changed, holder_of, newest}
+use Rattle.wp_model.specs.Legal.{AreFree, change_that_leaves, prior}
+use Rattle.wp_core.proofs.Undecided.{is_undecided_by_list}
 
 -- ---- free keys
 

@@ -1,7 +1,6 @@
 -- What the store has under a key, entry by entry.
-use Rattle.std.proofs.Common.{◌≡◌, ℕ, zero, suc, ◌+◌, ◌<◌, ◌≤◌, List, [], ◌∷◌, ◌++◌, length, get_or, take, drop, Option, Some, None, refl, sym, ap, ◌∙◌, subst, append_assoc, add-one, arith}
-use Rattle.std.specs.Prelude.{fold, unwrap_or, slice_get}
-use Rattle.std.proofs.Math.Seq.{take-suc, take-length}
+use Rattle.std.proofs.Common.{◌≡◌, ℕ, ◌+◌, ◌<◌, ◌≤◌, List, [], ◌∷◌, ◌++◌, length, get_or, take, drop, Option, Some, None, refl, sym, ap, ◌∙◌, subst, append_assoc}
+use Rattle.std.specs.Prelude.{fold, unwrap_or}
 use Rattle.std.proofs.lemmas.List.{take-append-drop, take_more}
 use Rattle.std.proofs.lemmas.Option.{slice_get-get_or}
 use Rattle.std.proofs.lemmas.List.Sums.{fold-append}
@@ -9,9 +8,9 @@ use Rattle.wp_model.specs.declared.change.Change.{Change}
 use Rattle.wp_model.specs.declared.entry.Entry.{Entry}
 use Rattle.wp_model.specs.declared.entry.Entry.TheVariants.{Write, Prepare, Commit, Undo, Close}
 use Rattle.wp_model.specs.Batch.{change_to}
-use Rattle.wp_model.specs.History.{prepared_batch, batch_at, changes_of, value_after, newest, value_at}
+use Rattle.wp_model.specs.History.{prepared_batch, batch_at, changes_of, value_after, newest}
 use Rattle.wp_model.specs.Legal.{IsLegal, IsLegalBehind, NamesUndecided}
-use Rattle.wp_core.proofs.Growth.{entry_at_old, by_growth, legal_before, behind_front}
+use Rattle.wp_core.proofs.Growth.{entry_at_old, by_growth, legal_before}
 use Rattle.wp_core.proofs.Undecided.{undecided_within}
 
 pub batch_at_old : (history more : List Entry) (p : ℕ) → p ≤ length history → batch_at (history ++ more) p ≡ batch_at history p

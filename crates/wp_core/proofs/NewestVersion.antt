@@ -1,16 +1,17 @@
 -- The newest committed version of a key is the store's value.
-use Rattle.std.proofs.Common.{◌≡◌, ℕ, zero, suc, ◌+◌, ◌<◌, ◌≤◌, Bool, true, false, ◌||◌, not, cond, eqb, List, [], ◌∷◌, ◌++◌, length, take, drop, Option, Some, None, ◌⊎◌, refl, sym, ap, ◌∙◌, subst, inl, inr, add-one, arith}
+use Rattle.std.proofs.Common.{◌≡◌, ℕ, zero, suc, ◌+◌, ◌<◌, ◌≤◌, Bool, true, false, ◌||◌, cond, List, [], ◌∷◌, ◌++◌, length, take, drop, Option, Some, None, refl, sym, ap, ◌∙◌, subst, inl, inr, arith}
 use Rattle.std.specs.Prelude.{option_map, unwrap_or}
 use Rattle.std.specs.List.{list_any}
 use Rattle.std.proofs.Math.Seq.{take-append_seam}
-use Rattle.std.proofs.lemmas.Bool.{cases_lt, cases_Bool, cases_order, or_right, eqb-true, eq-eqb, ne_eqb}
+use Rattle.std.proofs.lemmas.List.{take-append-drop, length-take-le}
+use Rattle.std.proofs.lemmas.Bool.{cases_lt, cases_Bool, cases_eq, cases_order, or_right, eqb-true, eq-eqb, ne_eqb}
 use Rattle.wp_model.specs.declared.change.Change.{Change}
 use Rattle.wp_model.specs.declared.entry.Entry.{Entry}
 use Rattle.wp_model.specs.declared.entry.Entry.TheVariants.{Write, Prepare, Commit, Undo, Close}
 use Rattle.wp_model.specs.Batch.{change_to}
-use Rattle.wp_model.specs.History.{entry_at, is_prepare, batch_at, decides, is_undecided, is_changed, changes_of, newest, value_at}
-use Rattle.wp_model.specs.Legal.{kept_by, IsLegal, IsLegalBehind, NamesUndecided, undone_last, prior}
-use Rattle.wp_model.specs.Versions.{version_in, version_at, IsCommittedAt, IsNewestCommitted, HasNoneCommitted}
+use Rattle.wp_model.specs.History.{entry_at, is_prepare, batch_at, decides, is_undecided, newest, value_at}
+use Rattle.wp_model.specs.Legal.{kept_by, IsLegal, IsLegalBehind, undone_last, prior}
+use Rattle.wp_model.specs.Versions.{version_in, version_at, IsNewestCommitted, HasNoneCommitted}
 use Rattle.wp_core.specs.Committed.{counts_in, counts, committed_version}
 use Rattle.wp_core.proofs.Growth.{entry_at_old, entry_at_next, entry_at_past, length_next, by_growth, legal_before, behind_front, undecided_prepared, decided_next}
 use Rattle.wp_core.proofs.Undecided.{undecided_within, never_decided}
@@ -18,7 +19,7 @@ use Rattle.wp_core.proofs.Undone.{last_undo}
 use Rattle.wp_core.proofs.Newest.{newest_next, batch_at_old}
 use Rattle.wp_core.proofs.Counting.{counts_within, counts_from, committed_from, version_at_old}
 use Rattle.wp_core.proofs.Held.{prior_to}
-use Rattle.wp_core.proofs.Above.{Holds, NoneAbove, legal_none_above, none_above, version_held, version_at_next, is_changed_from}
+use Rattle.wp_core.proofs.Above.{Holds, NoneAbove, legal_none_above, none_above, version_held, is_changed_from}
 
 -- ---- what is committed, with an entry more
 
@@ -236,3 +237,82 @@ lawful_none key = record {
 
 pub legal_lawful : (history : List Entry) → IsLegal history → (key : List ℕ) → IsLawful history key
 legal_lawful history legal key = by_growth (λ h. IsLawful h key) (lawful_none key) (λ h entry _ before behind lawful. lawful_next h entry key before behind lawful) history legal
+
+-- ---- by the first entries, searched backwards
+
+-- no entry above p has a version of the key that counts
+pub record NoneCountsAbove (front : List Entry) (key : List ℕ) (p : ℕ) : Type 0 where
+  pub above : (q : ℕ) → p < q → committed_version front q key ≡ None
+
+pub none_counts_start : (history : List Entry) (key : List ℕ) (n : ℕ) → n ≤ length history → NoneCountsAbove (take n history) key n
+none_counts_start history key n le = record { above = λ q lt. none_counts_past (take n history) q key (omega (arith, length-take-le n history le)) }
+
+pub none_counts_below : (front : List Entry) (key : List ℕ) (p q : ℕ) → p ≡ q + 1 → NoneCountsAbove front key p → committed_version front p key ≡ None → NoneCountsAbove front key q
+none_counts_below front key p q next none here = record {
+  above = λ r lt. elim (cases_eq r p) [
+    | inl same ↦ rw same here
+    | inr other ↦ none.above r (omega arith)
+  ];
+}
+
+-- the version of the key at p is the newest one that is committed at n, and it is the store's value there
+pub record IsNewest (history : List Entry) (key : List ℕ) (n p : ℕ) (value : Option (List ℕ)) : Type 0 where
+  pub newest : IsNewestCommitted history key n p
+  pub there : version_at history p key ≡ Some value
+  pub stored : value_at history key n ≡ value
+
+version_counted : (front : List Entry) (p : ℕ) (key : List ℕ) (value : Option (List ℕ)) → committed_version front p key ≡ Some value → (counts front p ≡ true) × (version_at front p key ≡ Some value)
+version_counted front p key value e =
+    elim (counts front p) as (λ b. cond b (version_at front p key) None ≡ Some value → (b ≡ true) × (version_at front p key ≡ Some value)) [
+      | true ↦ λ here. (refl, here)
+      | false ↦ λ here. absurd cc
+    ] e
+
+newest_of : (front more : List Entry) (key : List ℕ) (p : ℕ) (value : Option (List ℕ)) → IsLegal (front ++ more) → committed_version front p key ≡ Some value → NoneCountsAbove front key p → IsNewest (front ++ more) key (length front) p value
+newest_of front more key p value legal here none =
+    let counted = version_counted front p key value here in
+    let there : version_at (front ++ more) p key ≡ Some value = version_at_old front more p key (counts_within front p counted.0) ∙ counted.1 in
+    record {
+      newest = record {
+        value = value;
+        there = there;
+        committed = committed_from front more p counted.0;
+        newest = λ q lt committed.
+            let counts_q = counts_from front more q legal committed in
+            version_at_old front more q key (counts_within front q counts_q) ∙ sym (ap (λ (b : Bool). cond b (version_at front q key) None) counts_q) ∙ none.above q lt;
+      };
+      there = there;
+      stored = ap (λ (h : List Entry). newest h key) (take-append_seam front more) ∙ sym ((legal_lawful front (legal_before front more legal) key).newest_counts p value here none.above);
+    }
+
+pub newest_found : (history : List Entry) (key : List ℕ) (n p : ℕ) (value : Option (List ℕ)) → IsLegal history → n ≤ length history → Some value ≡ committed_version (take n history) p key → NoneCountsAbove (take n history) key p → IsNewest history key n p value
+newest_found history key n p value legal le here none =
+    let whole = take-append-drop n history in
+    let P : List Entry → ℕ → Type 0 = λ h m. IsNewest h key m p value in
+    let found = newest_of (take n history) (drop n history) key p value (subst IsLegal (sym whole) legal) (sym here) none in
+    subst (λ (m : ℕ). P history m) (length-take-le n history le) (subst (λ (h : List Entry). P h (length (take n history))) whole found)
+
+-- the key has no version that is committed at n, and the store has nothing under it there
+pub record IsNoneNewest (history : List Entry) (key : List ℕ) (n : ℕ) : Type 0 where
+  pub none : HasNoneCommitted history key n
+  pub missing : value_at history key n ≡ None
+
+none_newest_of : (front more : List Entry) (key : List ℕ) → IsLegal (front ++ more) → NoneCountsAbove front key 0 → IsNoneNewest (front ++ more) key (length front)
+none_newest_of front more key legal none =
+    let nowhere : (p : ℕ) → committed_version front p key ≡ None = λ p. elim (cases_eq p 0) [
+      | inl start ↦ rw start (no_version_counts front 0 key refl)
+      | inr other ↦ none.above p (omega arith)
+    ] in
+    record {
+      none = λ p committed.
+          let counts_p = counts_from front more p legal committed in
+          version_at_old front more p key (counts_within front p counts_p) ∙ sym (ap (λ (b : Bool). cond b (version_at front p key) None) counts_p) ∙ nowhere p;
+      missing = ap (λ (h : List Entry). newest h key) (take-append_seam front more) ∙ (legal_lawful front (legal_before front more legal) key).none_counts nowhere;
+    }
+
+pub none_found : (history : List Entry) (key : List ℕ) (n p : ℕ) → IsLegal history → n ≤ length history → p ≡ 0 → NoneCountsAbove (take n history) key p → IsNoneNewest history key n
+none_found history key n p legal le start none =
+    let whole = take-append-drop n history in
+    let above : NoneCountsAbove (take n history) key 0 = subst (NoneCountsAbove (take n history) key) start none in
+    let found = none_newest_of (take n history) (drop n history) key (subst IsLegal (sym whole) legal) above in
+    subst (λ (m : ℕ). IsNoneNewest history key m) (length-take-le n history le) (subst (λ (h : List Entry). IsNoneNewest h key (length (take n history))) whole found)

@@ -1,7 +1,7 @@
 -- The undecided prepares of a legal history, and what an entry more makes of them.
-use Rattle.std.proofs.Common.{◌≡◌, ℕ, zero, suc, ◌+◌, ◌^◌, ◌<◌, ◌≤◌, Bool, true, false, ◌&&◌, ◌||◌, not, cond, eqb, List, [], ◌∷◌, ◌++◌, length, Some, None, refl, sym, ap, ◌∙◌, subst, inl, inr, add-one, arith}
+use Rattle.std.proofs.Common.{◌≡◌, ℕ, zero, suc, ◌+◌, ◌^◌, ◌<◌, ◌≤◌, Bool, true, false, ◌&&◌, ◌||◌, not, cond, eqb, List, [], ◌∷◌, ◌++◌, length, Some, refl, sym, ap, ◌∙◌, inl, inr, add-one, arith}
 use Rattle.std.specs.List.{list_any, filter, range_with_len}
-use Rattle.std.proofs.lemmas.Bool.{cases_lt, cases_Bool, cases_eq, and_parts, and_from, or_left, or_right, eqb-true, eq-eqb, ne_eqb, false_from_ne_true}
+use Rattle.std.proofs.lemmas.Bool.{cases_eq, and_from, or_left, or_right, eqb-true, eq-eqb, ne_eqb, false_from_ne_true}
 use Rattle.std.proofs.lemmas.List.{append-nil}
 use Rattle.std.proofs.lemmas.List.Elements.{filter-append}
 use Rattle.std.proofs.lemmas.Map.Views.{any-filter_same}
@@ -9,7 +9,7 @@ use Rattle.wp_model.specs.declared.change.Change.{Change}
 use Rattle.wp_model.specs.declared.entry.Entry.{Entry}
 use Rattle.wp_model.specs.declared.entry.Entry.TheVariants.{Write, Prepare, Commit, Undo, Close}
 use Rattle.wp_model.specs.History.{entry_at, is_prepare, decides, is_undecided, undecided}
-use Rattle.wp_model.specs.Legal.{IsLegal, IsLegalBehind, NamesUndecided, UndoIsClosed, undone_last}
+use Rattle.wp_model.specs.Legal.{IsLegal, IsLegalBehind, NamesUndecided, undone_last}
 use Rattle.wp_core.specs.Growth.{without, undecided_behind}
 use Rattle.wp_core.specs.History.{IsLegalWith}
 use Rattle.wp_core.proofs.Growth.{entry_at_old, entry_at_next, length_next, legal_next, prepared_within, decides_undecided, decided_next, decided_prepared, undecided_prepared}
@@ -89,9 +89,9 @@ undecided_split history entry legal names =
     let next = length history + 1 in
     let test : ℕ → Bool = is_undecided (history ++ entry ∷ []) in
     let numbers : range_with_len 1 (length (history ++ entry ∷ [])) ≡ range_with_len 1 (length history) ++ next ∷ [] =
-        ap (range_with_len 1) (length_next history entry) ∙ range_more 1 (length history) ∙ ap (λ (m : ℕ). range_with_len 1 (length history) ++ m ∷ []) (omega arith) in
+    ap (range_with_len 1) (length_next history entry) ∙ range_more 1 (length history) ∙ ap (λ (m : ℕ). range_with_len 1 (length history) ++ m ∷ []) (omega arith) in
     let old : filter test (range_with_len 1 (length history)) ≡ filter (λ k. not (decides k entry)) (undecided history) =
-        filter_range test (λ k. is_undecided history k && not (decides k entry)) 1 (length history) (λ k le lt. undecided_old history entry k (omega arith)) ∙ filter_both (is_undecided history) (λ k. not (decides k entry)) (range_with_len 1 (length history)) in
+    filter_range test (λ k. is_undecided history k && not (decides k entry)) 1 (length history) (λ k le lt. undecided_old history entry k (omega arith)) ∙ filter_both (is_undecided history) (λ k. not (decides k entry)) (range_with_len 1 (length history)) in
     let last : filter test (next ∷ []) ≡ cond (is_prepare (Some entry)) (next ∷ []) [] = ap (λ (b : Bool). cond b (next ∷ []) []) (undecided_at_next history entry legal (not_decided_by history entry names)) in
     ap (filter test) numbers ∙ filter-append test (range_with_len 1 (length history)) (next ∷ []) ∙ ap (λ (xs : List ℕ). xs ++ filter test (next ∷ [])) old ∙ ap (λ (xs : List ℕ). filter (λ k. not (decides k entry)) (undecided history) ++ xs) last
 

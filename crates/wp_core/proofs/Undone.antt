@@ -1,5 +1,5 @@
 -- What the last entry undoes.
-use Rattle.std.proofs.Common.{◌≡◌, ℕ, zero, suc, ◌+◌, ◌-◌, ◌<◌, ◌≤◌, List, [], ◌∷◌, ◌++◌, length, Option, Some, None, refl, sym, ap, ◌∙◌, arith}
+use Rattle.std.proofs.Common.{◌≡◌, ℕ, suc, ◌-◌, List, [], ◌∷◌, ◌++◌, length, Some, None, refl, sym, ap, ◌∙◌, arith}
 use Rattle.std.specs.Prelude.{slice_get}
 use Rattle.std.proofs.lemmas.Option.{slice_get-get_or}
 use Rattle.wp_model.specs.declared.change.Change.{Change}
@@ -32,8 +32,8 @@ undone_at_last [] entry at = absurd cc
 undone_at_last (first ∷ []) entry at = let same : first ≡ entry = cc in rw (← same) (sym (undone_alone first))
 undone_at_last (first ∷ second ∷ others) entry at =
     let at_rest : slice_get (second ∷ others) (length (second ∷ others) - 1) ≡ Some entry =
-        let index : suc (suc (length others)) - 1 ≡ suc (suc (length others) - 1) = omega arith in
-        rw index at at in
+    let index : suc (suc (length others)) - 1 ≡ suc (suc (length others) - 1) = omega arith in
+    rw index at at in
     undone_at_last (second ∷ others) entry at_rest ∙ sym (undone_behind_two first second others)
 
 pub none_undone : (history : List Entry) → slice_get history (length history - 1) ≡ None → None ≡ undone_last history

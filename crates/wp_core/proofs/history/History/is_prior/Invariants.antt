@@ -1,4 +1,4 @@
-use Rattle.std.proofs.Common.{◌≡◌, take, length}
+use Rattle.std.proofs.Common.{◌≡◌, take}
 use Rattle.wp_model.specs.Legal.{prior}
 use Rattle.wp_core.proofs.history.History.is_prior.Given as goal
 

@@ -1,4 +1,4 @@
-use Rattle.std.proofs.Common.{◌≡◌, ◌≤◌, length, take}
+use Rattle.std.proofs.Common.{◌≡◌, ◌≤◌, take}
 use Rattle.wp_model.specs.History.{newest}
 use Rattle.wp_core.proofs.history.History.value_at.Given as goal
 
