@@ -55,12 +55,6 @@ impl History {
         undone_by(self.entries().last()?)
     }
 
-    fn is_undecided(&self, p: Seq) -> bool
-        ensures { result ≡ is_undecided self.now.entries p }
-    {
-        self.undecided().contains(&p)
-    }
-
     fn are_free(&self, batch: &Batch) -> bool
         ensures free { (result ≡ true) ↔ AreFree self.now.entries batch.now }
         ensures batch { is_batch batch.now ≡ true }

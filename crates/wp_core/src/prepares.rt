@@ -7,6 +7,13 @@ use crate::history::History;
 use wp_model::{Batch, Entry, Key, Name, Seq};
 
 impl History {
+    /// Whether the number is that of an undecided prepare.
+    pub fn is_undecided(&self, p: Seq) -> bool
+        ensures { result ≡ is_undecided self.now.entries p }
+    {
+        self.undecided().contains(&p)
+    }
+
     /// The name of an undecided prepare.
     pub fn name_at(&self, p: Seq) -> &Name
         requires { is_undecided self.now.entries p ≡ true }
