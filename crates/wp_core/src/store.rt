@@ -57,6 +57,7 @@ impl History {
     {
         let mut batch = Batch::new(alloc);
         for change in self.batch_at(p).changes() {
+            // It has no more keys than that batch, so only memory can be missing.
             batch
                 .set(self.restoring(alloc, change.key())?)
                 .map_err(|_| AllocError)?;
