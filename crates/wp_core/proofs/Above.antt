@@ -34,7 +34,7 @@ pub record NoneAbove (history : List Entry) : Type 0 where
 version_at_past : (history : List Entry) (q : ℕ) (key : List ℕ) → length history < q → version_at history q key ≡ None
 version_at_past history q key past = ap (λ (at : Option Entry). version_in at key) (entry_at_past history q past)
 
-pub version_at_next : (history : List Entry) (entry : Entry) (key : List ℕ) → version_at (history ++ entry ∷ []) (length history + 1) key ≡ change_to (kept_by entry) key
+version_at_next : (history : List Entry) (entry : Entry) (key : List ℕ) → version_at (history ++ entry ∷ []) (length history + 1) key ≡ change_to (kept_by entry) key
 version_at_next history entry key = ap (λ (at : Option Entry). version_in at key) (entry_at_next history entry)
 
 version_of_prepare : (at : Option Entry) (key : List ℕ) → is_prepare at ≡ true → version_in at key ≡ change_to (prepared_batch at) key
@@ -50,7 +50,7 @@ pub version_held : (history : List Entry) (key : List ℕ) (p : ℕ) → is_unde
 version_held history key p undecided = version_of_prepare (entry_at history p) key (undecided_prepared history p undecided)
 
 -- what held a key with an entry more held it before, and is not decided by the entry
-pub held_before : (history : List Entry) (entry : Entry) (key : List ℕ) (p : ℕ) → p ≤ length history → Holds (history ++ entry ∷ []) key p → Holds history key p × (decides p entry ≡ false)
+held_before : (history : List Entry) (entry : Entry) (key : List ℕ) (p : ℕ) → p ≤ length history → Holds (history ++ entry ∷ []) key p → Holds history key p × (decides p entry ≡ false)
 held_before history entry key p le holds =
     let both = and_parts (is_undecided history p) (not (decides p entry)) (sym (undecided_old history entry p le) ∙ holds.undecided) in
     (record { undecided = both.0; changed = ap (λ (batch : List Change). is_changed batch key) (sym (batch_at_old history (entry ∷ []) p le)) ∙ holds.changed }, not-true (decides p entry) both.1)
@@ -90,7 +90,7 @@ not_changed changes key never =
     ] refl
 
 -- two undecided prepares hold no key together
-pub held_once : (history : List Entry) (key : List ℕ) (p q : ℕ) → NoneAbove history → undone_last history ≡ None → Holds history key p → Holds history key q → p < q → ⊥
+held_once : (history : List Entry) (key : List ℕ) (p q : ℕ) → NoneAbove history → undone_last history ≡ None → Holds history key p → Holds history key q → p < q → ⊥
 held_once history key p q none ended holds other lt =
     let version = version_held history key q other.undecided in
     let nothing = none_above history key p q none ended holds lt in
@@ -98,7 +98,7 @@ held_once history key p q none ended holds other lt =
     let missing : is_changed (batch_at history q) key ≡ false = ap is_some (sym version ∙ nothing) in
     absurd cc
 
-pub same_holder : (history : List Entry) (key : List ℕ) (p q : ℕ) → NoneAbove history → undone_last history ≡ None → Holds history key p → Holds history key q → q ≡ p
+same_holder : (history : List Entry) (key : List ℕ) (p q : ℕ) → NoneAbove history → undone_last history ≡ None → Holds history key p → Holds history key q → q ≡ p
 same_holder history key p q none ended holds other =
     elim (cases_order q p) [
       | inl same ↦ same

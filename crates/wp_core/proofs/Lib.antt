@@ -2,7 +2,6 @@ pub mod Growth
 pub mod Undecided
 pub mod Undone
 pub mod Newest
-pub mod Free
 pub mod Prior
 pub mod Counting
 pub mod Held

@@ -17,7 +17,7 @@ pub batch_at_old : (history more : List Entry) (p : ℕ) → p ≤ length histor
 batch_at_old history more p le = ap prepared_batch (entry_at_old history more p le)
 
 -- an entry makes the same changes, whatever stands behind
-pub changes_stay : (history more : List Entry) (entry : Entry) → NamesUndecided history entry → changes_of (history ++ more) entry ≡ changes_of history entry
+changes_stay : (history more : List Entry) (entry : Entry) → NamesUndecided history entry → changes_of (history ++ more) entry ≡ changes_of history entry
 changes_stay history more (Write batch) names = refl
 changes_stay history more (Prepare name batch) names = refl
 changes_stay history more (Commit p) names = batch_at_old history more p (undecided_within history p names).1
@@ -57,13 +57,13 @@ newest_next history entry key legal names = one_more (history ++ entry ∷ []) h
 
 -- ---- backwards from an entry
 
-pub legal_take : (history : List Entry) (n : ℕ) → IsLegal history → IsLegal (take n history)
+legal_take : (history : List Entry) (n : ℕ) → IsLegal history → IsLegal (take n history)
 legal_take history n legal = legal_before (take n history) (drop n history) (subst IsLegal (sym (take-append-drop n history)) legal)
 
-pub behind_at : (history : List Entry) (i : ℕ) (here : Entry) → IsLegal history → i < length history → here ≡ get_or history i here → IsLegalBehind (take i history) here
+behind_at : (history : List Entry) (i : ℕ) (here : Entry) → IsLegal history → i < length history → here ≡ get_or history i here → IsLegalBehind (take i history) here
 behind_at history i here legal lt is = legal.each i here (slice_get-get_or history i here lt ∙ ap (λ (e : Entry). Some e) (sym is))
 
-pub take_next : (history : List Entry) (i : ℕ) (here : Entry) → i < length history → here ≡ get_or history i here → take (i + 1) history ≡ take i history ++ here ∷ []
+take_next : (history : List Entry) (i : ℕ) (here : Entry) → i < length history → here ≡ get_or history i here → take (i + 1) history ≡ take i history ++ here ∷ []
 take_next history i here lt is = take_more history i here lt ∙ ap (λ (e : Entry). take i history ++ e ∷ []) (sym is)
 
 changes_here : (history : List Entry) (i : ℕ) (here : Entry) → NamesUndecided (take i history) here → changes_of (take i history) here ≡ changes_of history here

@@ -23,10 +23,10 @@ use Rattle.wp_core.proofs.Above.{Holds, NoneAbove, legal_none_above, none_above,
 
 -- ---- what is committed, with an entry more
 
-pub none_counts_past : (history : List Entry) (q : ℕ) (key : List ℕ) → length history < q → committed_version history q key ≡ None
+none_counts_past : (history : List Entry) (q : ℕ) (key : List ℕ) → length history < q → committed_version history q key ≡ None
 none_counts_past history q key past = ap (λ (at : Option Entry). cond (counts_in history q at) (version_in at key) None) (entry_at_past history q past)
 
-pub no_version_counts : (history : List Entry) (q : ℕ) (key : List ℕ) → version_at history q key ≡ None → committed_version history q key ≡ None
+no_version_counts : (history : List Entry) (q : ℕ) (key : List ℕ) → version_at history q key ≡ None → committed_version history q key ≡ None
 no_version_counts history q key none =
     elim (counts history q) as (λ b. cond b (version_at history q key) None ≡ None) [
       | true ↦ none
@@ -235,7 +235,7 @@ lawful_none key = record {
   none_counts = λ none. refl;
 }
 
-pub legal_lawful : (history : List Entry) → IsLegal history → (key : List ℕ) → IsLawful history key
+legal_lawful : (history : List Entry) → IsLegal history → (key : List ℕ) → IsLawful history key
 legal_lawful history legal key = by_growth (λ h. IsLawful h key) (lawful_none key) (λ h entry _ before behind lawful. lawful_next h entry key before behind lawful) history legal
 
 -- ---- by the first entries, searched backwards
@@ -243,17 +243,6 @@ legal_lawful history legal key = by_growth (λ h. IsLawful h key) (lawful_none k
 -- no entry above p has a version of the key that counts
 pub record NoneCountsAbove (front : List Entry) (key : List ℕ) (p : ℕ) : Type 0 where
   pub above : (q : ℕ) → p < q → committed_version front q key ≡ None
-
-pub none_counts_start : (history : List Entry) (key : List ℕ) (n : ℕ) → n ≤ length history → NoneCountsAbove (take n history) key n
-none_counts_start history key n le = record { above = λ q lt. none_counts_past (take n history) q key (omega (arith, length-take-le n history le)) }
-
-pub none_counts_below : (front : List Entry) (key : List ℕ) (p q : ℕ) → p ≡ q + 1 → NoneCountsAbove front key p → committed_version front p key ≡ None → NoneCountsAbove front key q
-none_counts_below front key p q next none here = record {
-  above = λ r lt. elim (cases_eq r p) [
-    | inl same ↦ rw same here
-    | inr other ↦ none.above r (omega arith)
-  ];
-}
 
 -- the version of the key at p is the newest one that is committed at n, and it is the store's value there
 pub record IsNewest (history : List Entry) (key : List ℕ) (n p : ℕ) (value : Option (List ℕ)) : Type 0 where

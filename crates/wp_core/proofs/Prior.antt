@@ -30,7 +30,7 @@ same_del : (key other : List ℕ) (r : Bool) → r ≡ pointwise ◌==◌ other 
 same_del key other true e = let told : other ≡ key = told_text other key true e in (λ _. ap (λ (k : List ℕ). Del k) told, λ _. refl)
 same_del key other false e = (λ no. absurd cc, λ same. let equal : other ≡ key = cc in absurd (told_text other key false e equal))
 
-pub newest_whole : (history : List Entry) (key : List ℕ) (n : ℕ) → n ≡ length history → value_at history key n ≡ newest history key
+newest_whole : (history : List Entry) (key : List ℕ) (n : ℕ) → n ≡ length history → value_at history key n ≡ newest history key
 newest_whole history key n whole = rw (whole, take-length history) refl
 
 pub put_restores : (history : List Entry) (key other value old : List ℕ) (n : ℕ) (change : Change) (r : Bool) → n ≡ length history → Some old ≡ value_at history key n → change ≡ Put other value → true ≡ pointwise ◌==◌ other key → r ≡ pointwise ◌==◌ value old

@@ -1,5 +1,5 @@
 -- The undecided prepares of a legal history, and what an entry more makes of them.
-use Rattle.std.proofs.Common.{◌≡◌, ℕ, zero, suc, ◌+◌, ◌^◌, ◌<◌, ◌≤◌, Bool, true, false, ◌&&◌, ◌||◌, not, cond, eqb, List, [], ◌∷◌, ◌++◌, length, Some, refl, sym, ap, ◌∙◌, inl, inr, add-one, arith}
+use Rattle.std.proofs.Common.{◌≡◌, ℕ, zero, suc, ◌+◌, ◌^◌, ◌<◌, ◌≤◌, Bool, true, false, ◌&&◌, ◌||◌, not, cond, eqb, List, [], ◌∷◌, ◌++◌, length, Some, refl, sym, ap, ◌∙◌, subst, inl, inr, add-one, arith}
 use Rattle.std.specs.List.{list_any, filter, range_with_len}
 use Rattle.std.proofs.lemmas.Bool.{cases_eq, and_from, or_left, or_right, eqb-true, eq-eqb, ne_eqb, false_from_ne_true}
 use Rattle.std.proofs.lemmas.List.{append-nil}
@@ -134,10 +134,12 @@ close_follows history p batch behind = record {
 
 -- ---- the numbers that are kept
 
-pub grows_with : (history : List Entry) (numbers : List ℕ) (entry : Entry) (n : ℕ) (grown : List Entry) (left : List ℕ)
-    → IsLegalWith history numbers → IsLegalBehind history entry → n ≡ length history → length history + 1 < 2 ^ 32
+pub grows_with : (history old : List Entry) (numbers : List ℕ) (entry : Entry) (n : ℕ) (grown : List Entry) (left : List ℕ)
+    → IsLegalWith history numbers → history ≡ old → IsLegalBehind old entry → n ≡ length old → length old + 1 < 2 ^ 32
     → grown ≡ history ++ entry ∷ [] → left ≡ undecided_behind numbers (n + 1) entry → IsLegalWith grown left
-grows_with history numbers entry n grown left kept behind number few grown-is left-is = record {
-  legal = rw grown-is (legal_next history entry kept.legal behind few);
-  numbered = rw (left-is, grown-is, kept.numbered, number) (sym (undecided_next history entry kept.legal behind.names_undecided));
-}
+grows_with history old numbers entry n grown left kept same behind number few grown-is left-is =
+    let kept_old : IsLegalWith old numbers = subst (λ (h : List Entry). IsLegalWith h numbers) same kept in
+    record {
+      legal = rw (grown-is, same) (legal_next old entry kept_old.legal behind few);
+      numbered = rw (left-is, grown-is, same, kept_old.numbered, number) (sym (undecided_next old entry kept_old.legal behind.names_undecided));
+    }
