@@ -1,0 +1,69 @@
+//! The undecided prepares: their names, their batches and the keys that they hold.
+ghost use Rattle.std.specs.Prelude.{◌≡◌, true};
+ghost use Rattle.std.specs.Str.{bytes_eq};
+ghost use Rattle.wp_model.specs.History.{batch_at, name_at, is_prepare, entry_at, is_changed, is_undecided, named, holder_of};
+
+use crate::history::History;
+use wp_model::{Batch, Entry, Key, Name, Seq};
+
+impl History {
+    /// The name of an undecided prepare.
+    pub fn name_at(&self, p: Seq) -> &Name
+        requires { is_undecided self.now.entries p ≡ true }
+        ensures { result.now ≡ name_at self.now.entries p }
+    {
+        match self.entry_at(p) {
+            Some(Entry::Prepare(name, _)) => name,
+            _ => unreachable!(),
+        }
+    }
+
+    /// The batch of an undecided prepare.
+    pub fn batch_at(&self, p: Seq) -> &Batch
+        requires { is_undecided self.now.entries p ≡ true }
+        ensures { result.now ≡ batch_at self.now.entries p }
+    {
+        match self.entry_at(p) {
+            Some(Entry::Prepare(_, batch)) => batch,
+            _ => unreachable!(),
+        }
+    }
+
+    fn has_name(&self, p: Seq, name: &Name) -> bool
+        ensures { is_prepare (entry_at self.now.entries p) ≡ true → result ≡ bytes_eq (name_at self.now.entries p) name.now }
+    {
+        match self.entry_at(p) {
+            Some(Entry::Prepare(other, _)) => other == name,
+            _ => false,
+        }
+    }
+
+    fn changes_key(&self, p: Seq, key: &Key) -> bool
+        ensures { result ≡ is_changed (batch_at self.now.entries p) key.now }
+    {
+        match self.entry_at(p) {
+            Some(Entry::Prepare(_, batch)) => batch.get(key).is_some(),
+            _ => false,
+        }
+    }
+
+    /// The undecided prepare of that name.
+    pub fn named(&self, name: &Name) -> Option<Seq>
+        ensures { result ≡ named self.now.entries name.now }
+    {
+        self.undecided()
+            .iter()
+            .copied()
+            .find(|p| self.has_name(*p, name))
+    }
+
+    /// The undecided prepare that holds the key.
+    pub fn holder_of(&self, key: &Key) -> Option<Seq>
+        ensures { result ≡ holder_of self.now.entries key.now }
+    {
+        self.undecided()
+            .iter()
+            .copied()
+            .find(|p| self.changes_key(*p, key))
+    }
+}
