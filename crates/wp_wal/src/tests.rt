@@ -1,4 +1,5 @@
-ghost use Rattle.std.specs.Prelude.{[], IfOk};
+ghost use Rattle.std.specs.Prelude.{ℕ, ◌<◌, ◌^◌, [], IfOk};
+ghost use Rattle.wp_entry.specs.Record.{FormRecord};
 ghost use Rattle.wp_wal.specs.Wal.{Keeps};
 
 use super::*;
@@ -30,46 +31,48 @@ fn open(alloc: Global, bytes: &[u8], fails: &[u64]) -> Result<(Wal<MemDisk>, His
     }
 }
 
-fn put_k_1(alloc: Global) -> Result<Entry, Fail> {
+fn put_k_1(alloc: Global) -> Result<[Entry; 1], Fail>
+    ensures { IfOk result (λ entries. (due : ℕ) → due < 2 ^ 32 → FormRecord due entries) }
+{
     let key = Key::read(alloc, b"k")?;
     let value = Value::read(alloc, b"1")?;
-    Ok(Entry::Write(Batch::of(alloc, Change::Put(key, value))?))
+    Ok([Entry::Write(Batch::of(alloc, Change::Put(key, value))?)])
 }
 
 fn goes_to_a_thread<T: Send>(_value: &T) {}
 
 #[test]
-fn an_entry_that_is_appended_is_found_again(rt: HostRuntime) -> Result<(), Fail> {
-    let alloc = rt.alloc();
-    let (mut wal, history) = open(alloc, b"", &[])?;
+fn an_entry_that_is_appended_stands_in_the_log(rt: HostRuntime) -> Result<(), Fail> {
+    let (mut wal, history) = open(rt.alloc(), b"", &[])?;
     goes_to_a_thread(&wal);
-    assert_eq!(rt; history.entries().len(), 0);
-    let entry = [put_k_1(alloc)?];
-    wal.reserve(&entry)?;
+    assert!(rt; history.published() == 0);
+    wal.reserve(&put_k_1(rt.alloc())?)?;
     assert_eq!(rt; wal.append(), Ok(()));
-    let disk = wal.into_disk();
-    assert_eq!(rt; disk.bytes(), LOG.as_slice());
-
-    let (wal, history) = open(alloc, LOG, &[])?;
-    assert_eq!(rt; wal.id(), 1);
-    let found = format!(in alloc; "{:?}", history.entries())?;
-    assert_eq!(rt; found.as_str(), format!(in alloc; "{entry:?}")?.as_str());
+    assert_eq!(rt; wal.into_disk().bytes(), LOG.as_slice());
     Ok(())
 }
 
-// The opening makes six calls of the disk; the second and the fourth call of an append are its syncs.
+#[test]
+fn an_entry_that_stands_in_the_log_is_found(rt: HostRuntime) -> Result<(), Fail> {
+    let (wal, history) = open(rt.alloc(), LOG, &[])?;
+    assert_eq!(rt; wal.id(), 1);
+    let found = format!(in rt.alloc(); "{:?}", history.entries())?;
+    let written = format!(in rt.alloc(); "{:?}", put_k_1(rt.alloc())?)?;
+    assert_eq!(rt; found.as_str(), written.as_str());
+    Ok(())
+}
+
+// The opening makes six calls of the disk; the second one of an append is its first sync.
 #[test]
 fn an_append_that_failed_closes_the_log(rt: HostRuntime) -> Result<(), Fail> {
-    let alloc = rt.alloc();
-    for call in [8, 10] {
-        let (mut wal, history) = open(alloc, LOG, &[call])?;
-        assert_eq!(rt; history.entries().len(), 1);
-        let entry = [put_k_1(alloc)?];
-        wal.reserve(&entry)?;
-        assert_eq!(rt; wal.append(), Err(AppendError::DiskFault));
-        wal.reserve(&entry)?;
-        assert_eq!(rt; wal.append(), Err(AppendError::Closed(1)));
-    }
+    let (mut wal, history) = open(rt.alloc(), LOG, &[8])?;
+    assert!(rt; history.published() == 1);
+    wal.reserve(&put_k_1(rt.alloc())?)?;
+    let Err(AppendError::DiskFault) = wal.append() else {
+        panic!(rt; "the append fails")
+    };
+    wal.reserve(&put_k_1(rt.alloc())?)?;
+    assert_eq!(rt; wal.append(), Err(AppendError::Closed(1)));
     Ok(())
 }
 
@@ -81,23 +84,31 @@ fn refusal(alloc: Global, behind: &[u8]) -> Result<WalError, Fail> {
 }
 
 #[test]
-fn records_that_spell_no_legal_history_are_refused(rt: HostRuntime) -> Result<(), Fail> {
-    let alloc = rt.alloc();
-    let short = WalError::BadRecord {
-        index: 0,
-        why: RecordError::Short,
-    };
-    assert_eq!(rt;
-        refusal(alloc, b"\x01\xff\xff\xff\xff\xff\xff\xff\xff")?,
-        short
-    );
-    assert_eq!(rt; refusal(alloc, b"\x01\0\0\0\0\0\0\0\0\0")?, short);
-    let illegal = WalError::Illegal { number: 2 };
-    let commit =
-        b"\x01\0\0\0\0\0\0\0\x0c\0\0\0\x01\x01\x01\x01\x01k\0\x011\x01\0\0\0\0\0\0\0\x09\0\0\0\x02\x03\0\0\0\x01\0";
-    assert_eq!(rt; refusal(alloc, commit)?, illegal);
-    let undo =
-        b"\x01\0\0\0\0\0\0\0\x0e\0\0\0\x01\x02\x01t\x01\x01\x01k\0\x012\x01\0\0\0\0\0\0\0\x10\0\0\0\x02\x04\0\0\0\x01\x01\x01\x01k\0\x019\0";
-    assert_eq!(rt; refusal(alloc, undo)?, illegal);
+fn bytes_that_are_no_record_are_refused(rt: HostRuntime) -> Result<(), Fail> {
+    for behind in [
+        b"\x01\xff\xff\xff\xff\xff\xff\xff\xff".as_slice(),
+        b"\x01\0\0\0\0\0\0\0\0\0".as_slice(),
+    ] {
+        let short = WalError::BadRecord {
+            index: 0,
+            why: RecordError::Short,
+        };
+        assert_eq!(rt; refusal(rt.alloc(), behind)?, short);
+    }
+    Ok(())
+}
+
+// A commit of a write, and an undo that restores a value that was not there.
+#[test]
+fn entries_that_are_illegal_are_refused(rt: HostRuntime) -> Result<(), Fail> {
+    for behind in [
+        b"\x01\0\0\0\0\0\0\0\x0c\0\0\0\x01\x01\x01\x01\x01k\0\x011\x01\0\0\0\0\0\0\0\x09\0\0\0\x02\x03\0\0\0\x01\0".as_slice(),
+        b"\x01\0\0\0\0\0\0\0\x0e\0\0\0\x01\x02\x01t\x01\x01\x01k\0\x012\x01\0\0\0\0\0\0\0\x10\0\0\0\x02\x04\0\0\0\x01\x01\x01\x01k\0\x019\0".as_slice(),
+    ] {
+        assert_eq!(rt;
+            refusal(rt.alloc(), behind)?,
+            WalError::Illegal { number: 2 }
+        );
+    }
     Ok(())
 }
