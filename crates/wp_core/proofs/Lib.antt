@@ -1,0 +1,10 @@
+pub mod Growth
+pub mod Undecided
+pub mod Undone
+pub mod Newest
+pub mod Free
+pub mod Prior
+pub mod Counting
+pub mod Held
+pub mod Above
+pub mod NewestVersion

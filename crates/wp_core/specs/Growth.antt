@@ -1,5 +1,5 @@
--- What an entry more leaves undecided.
-use Rattle.std.specs.Prelude.{ℕ, ◌==◌, not, List, [], ◌∷◌, ◌++◌}
+-- What an entry more leaves undecided, and what it undoes.
+use Rattle.std.specs.Prelude.{ℕ, ◌==◌, not, List, [], ◌∷◌, ◌++◌, Option, Some, None}
 use Rattle.std.specs.List.{filter}
 use Rattle.wp_model.specs.declared.entry.Entry.{Entry}
 use Rattle.wp_model.specs.declared.entry.Entry.TheVariants.{Write, Prepare, Commit, Undo, Close}
@@ -16,3 +16,8 @@ undecided_behind numbers n (Prepare name batch) = numbers ++ n ∷ []
 undecided_behind numbers n (Commit p) = without numbers p
 undecided_behind numbers n (Undo p batch) = numbers
 undecided_behind numbers n (Close p) = without numbers p
+
+-- the prepare that an entry undoes, if it undoes one
+abbrev pub undone_by : Entry → Option ℕ
+undone_by (Undo p batch) = Some p
+undone_by other = None

@@ -3,7 +3,7 @@ ghost use Rattle.std.specs.Vec.{vec_capacity};
 ghost use Rattle.std.specs.Option.{option_copied};
 ghost use Rattle.wp_model.specs.History.{entry_at, undecided};
 ghost use Rattle.wp_model.specs.Legal.{IsLegal, IsLegalBehind};
-ghost use Rattle.wp_core.specs.Growth.{undecided_behind};
+ghost use Rattle.wp_core.specs.Growth.{without, undecided_behind};
 
 use std::alloc::{AllocError, Global};
 use std::marker::Model;
@@ -30,6 +30,22 @@ impl Model for History {
         × (vec_len h.entries + h.room ≤ vec_capacity h.entries) × (vec_len h.undecided + h.room ≤ vec_capacity h.undecided) };
 }
 
+/// The entry with that number, if there is one.
+pub(crate) fn entry_at(entries: &[Entry], n: Seq) -> Option<&Entry>
+    ensures { option_copied result ≡ entry_at entries.now n }
+{
+    let before = n.checked_sub(1)?;
+    entries.get(usize::try_from(before).ok()?)
+}
+
+fn take_out(numbers: &mut Vec<Seq>, p: Seq)
+    ensures numbers { numbers.new.items ≡ without numbers.old.items p }
+    ensures len { vec_len numbers.new ≤ vec_len numbers.old }
+    ensures capacity { vec_capacity numbers.new ≡ vec_capacity numbers.old }
+{
+    numbers.retain(|q| *q != p);
+}
+
 /// Keeps the numbers of the undecided prepares, once the entry with that number stands behind.
 fn note_undecided(undecided: &mut Vec<Seq>, number: Seq, entry: &Entry)
     requires { vec_len undecided.old + 1 ≤ vec_capacity undecided.old }
@@ -39,7 +55,7 @@ fn note_undecided(undecided: &mut Vec<Seq>, number: Seq, entry: &Entry)
 {
     match entry {
         Entry::Prepare(_, _) => undecided.push(number).unwrap(),
-        Entry::Commit(p) | Entry::Close(p) => undecided.retain(|q| *q != *p),
+        Entry::Commit(p) | Entry::Close(p) => take_out(undecided, *p),
         Entry::Write(_) | Entry::Undo(_, _) => {}
     }
 }
@@ -84,8 +100,7 @@ impl History {
     pub fn entry_at(&self, n: Seq) -> Option<&Entry>
         ensures { option_copied result ≡ entry_at self.now.entries n }
     {
-        let before = n.checked_sub(1)?;
-        self.entries.get(usize::try_from(before).ok()?)
+        entry_at(&self.entries, n)
     }
 
     /// Takes the memory for `n` pushes.

@@ -11,5 +11,7 @@ pub mod laws;
 mod legality;
 mod prepares;
 mod store;
+#[cfg(test)]
+mod tests;
 
 pub use history::History;

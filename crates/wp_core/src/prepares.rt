@@ -1,12 +1,19 @@
 //! The undecided prepares: their names, their batches and the keys that they hold.
 ghost use Rattle.std.specs.Prelude.{◌≡◌, true};
 ghost use Rattle.std.specs.Str.{bytes_eq};
-ghost use Rattle.wp_model.specs.History.{batch_at, name_at, is_prepare, entry_at, is_changed, is_undecided, named, holder_of};
+ghost use Rattle.wp_model.specs.History.{batch_at, name_at, is_changed, is_undecided, named, holder_of};
 
 use crate::history::History;
 use wp_model::{Batch, Entry, Key, Name, Seq};
 
 impl History {
+    /// Whether the number is that of an undecided prepare.
+    pub fn is_undecided(&self, p: Seq) -> bool
+        ensures { result ≡ is_undecided self.now.entries p }
+    {
+        self.undecided().contains(&p)
+    }
+
     /// The name of an undecided prepare.
     pub fn name_at(&self, p: Seq) -> &Name
         requires { is_undecided self.now.entries p ≡ true }
@@ -30,11 +37,12 @@ impl History {
     }
 
     fn has_name(&self, p: Seq, name: &Name) -> bool
-        ensures { is_prepare (entry_at self.now.entries p) ≡ true → result ≡ bytes_eq (name_at self.now.entries p) name.now }
+        ensures { result ≡ bytes_eq (name_at self.now.entries p) name.now }
     {
         match self.entry_at(p) {
             Some(Entry::Prepare(other, _)) => other == name,
-            _ => false,
+            // What is no prepare has the empty name, which no transaction has.
+            _ => name.bytes().is_empty(),
         }
     }
 

@@ -50,6 +50,7 @@ impl History {
     }
 
     /// What the keys of an undecided prepare have in the store: the batch of its undo.
+    #[tactic(auto, using(crate::proofs::Prior::prior_more))]
     pub fn prior(&self, alloc: Global, p: Seq) -> Result<Batch, AllocError>
         requires { is_undecided self.now.entries p ≡ true }
         ensures { IfOk result (λ batch. batch ≡ prior self.now.entries (batch_at self.now.entries p)) }

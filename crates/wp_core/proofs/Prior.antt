@@ -1,0 +1,110 @@
+-- What the keys of a batch have in the store: the batch of an undo.
+use Rattle.std.proofs.Common.{◌≡◌, ℕ, ◌+◌, ◌<◌, Bool, true, false, ◌&&◌, List, [], ◌∷◌, ◌++◌, length, get_or, take, drop, Option, Some, None, refl, sym, ap, ◌∙◌}
+use Rattle.std.specs.Prelude.{◌==◌, nat_le}
+use Rattle.std.specs.declared.cmp.Ordering.{Ordering}
+use Rattle.std.specs.declared.cmp.Ordering.TheVariants.{Less, Equal, Greater}
+use Rattle.std.specs.Ordering.{is_lt, ordering_reverse}
+use Rattle.std.specs.Cmp.Lexicographic.{pointwise, told_text}
+use Rattle.std.proofs.Math.Seq.{take-length}
+use Rattle.std.proofs.lemmas.Bool.{and_parts, and_from}
+use Rattle.std.proofs.lemmas.Cmp.{nat_list_cmp_total}
+use Rattle.std.proofs.lemmas.List.{take_more, take-append-drop, map-append}
+use Rattle.wp_model.specs.declared.batch.TheConstants.{MOST_KEYS}
+use Rattle.wp_model.specs.declared.change.Change.{Change}
+use Rattle.wp_model.specs.declared.change.Change.TheVariants.{Put, Del}
+use Rattle.wp_model.specs.declared.entry.Entry.{Entry}
+use Rattle.wp_model.specs.Batch.{key_cmp, key_of, with_change, are_ascending, is_batch}
+use Rattle.wp_model.specs.History.{newest, value_at}
+use Rattle.wp_model.specs.Legal.{change_that_leaves, prior}
+
+-- ---- one change
+
+abbrev Same : Bool → Change → Change → Type 0
+Same r change other = (r ≡ true → change ≡ other) × (change ≡ other → r ≡ true)
+
+same_put : (key value old : List ℕ) (r : Bool) → r ≡ pointwise ◌==◌ value old → Same r (Put key value) (Put key old)
+same_put key value old true e = let told : value ≡ old = told_text value old true e in (λ _. ap (Put key) told, λ _. refl)
+same_put key value old false e = (λ no. absurd cc, λ same. let equal : value ≡ old = cc in absurd (told_text value old false e equal))
+
+same_del : (key other : List ℕ) (r : Bool) → r ≡ pointwise ◌==◌ other key → Same r (Del other) (Del key)
+same_del key other true e = let told : other ≡ key = told_text other key true e in (λ _. ap (λ (k : List ℕ). Del k) told, λ _. refl)
+same_del key other false e = (λ no. absurd cc, λ same. let equal : other ≡ key = cc in absurd (told_text other key false e equal))
+
+pub newest_whole : (history : List Entry) (key : List ℕ) (n : ℕ) → n ≡ length history → value_at history key n ≡ newest history key
+newest_whole history key n whole = rw (whole, take-length history) refl
+
+pub put_restores : (history : List Entry) (key other value old : List ℕ) (n : ℕ) (change : Change) (r : Bool) → n ≡ length history → Some old ≡ value_at history key n → change ≡ Put other value → true ≡ pointwise ◌==◌ other key → r ≡ pointwise ◌==◌ value old
+    → Same r change (change_that_leaves key (newest history key))
+put_restores history key other value old n change r whole found put keys values =
+    let store : newest history key ≡ Some old = sym (newest_whole history key n whole) ∙ sym found in
+    let key-is : other ≡ key = told_text other key true keys in
+    rw (put, store, key-is) (same_put key value old r values)
+
+pub del_restores : (history : List Entry) (key other : List ℕ) (n : ℕ) (change : Change) (r : Bool) → n ≡ length history → None ≡ value_at history key n → change ≡ Del other → r ≡ pointwise ◌==◌ other key
+    → Same r change (change_that_leaves key (newest history key))
+del_restores history key other n change r whole found del keys =
+    let store : newest history key ≡ None = sym (newest_whole history key n whole) ∙ sym found in
+    rw (del, store) (same_del key other r keys)
+
+-- ---- ascending changes
+
+less_from_test : (o : Ordering) → is_lt o ≡ true → o ≡ Less
+less_from_test Less h = refl
+less_from_test Equal h = absurd cc
+less_from_test Greater h = absurd cc
+
+ascending_parts : (first second : Change) (others : List Change) → are_ascending (first ∷ second ∷ others) ≡ true → (is_lt (key_cmp (key_of first) (key_of second)) ≡ true) × (are_ascending (second ∷ others) ≡ true)
+ascending_parts first second others h = and_parts (is_lt (key_cmp (key_of first) (key_of second))) (are_ascending (second ∷ others)) h
+
+ascending_rest : (first : Change) (others : List Change) → are_ascending (first ∷ others) ≡ true → are_ascending others ≡ true
+ascending_rest first [] h = refl
+ascending_rest first (second ∷ others) h = (ascending_parts first second others h).1
+
+ascending_front : (changes more : List Change) → are_ascending (changes ++ more) ≡ true → are_ascending changes ≡ true
+ascending_front [] more h = refl
+ascending_front (first ∷ []) more h = refl
+ascending_front (first ∷ second ∷ others) more h =
+    let parts = ascending_parts first second (others ++ more) h in
+    and_from _ _ parts.0 (ascending_front (second ∷ others) more parts.1)
+
+first_below_last : (first : Change) (others : List Change) (last : Change) → are_ascending (first ∷ others ++ last ∷ []) ≡ true → key_cmp (key_of first) (key_of last) ≡ Less
+first_below_last first [] last h = less_from_test _ (ascending_parts first last [] h).0
+first_below_last first (second ∷ others) last h =
+    let parts = ascending_parts first second (others ++ last ∷ []) h in
+    nat_list_cmp_total.trans (key_of first) (key_of second) (key_of last) (less_from_test _ parts.0) (first_below_last second others last parts.1)
+
+with_change_last : (changes : List Change) (last : Change) → are_ascending (changes ++ last ∷ []) ≡ true → with_change changes last ≡ changes ++ last ∷ []
+with_change_last [] last h = refl
+with_change_last (first ∷ others) last h =
+    let above : key_cmp (key_of last) (key_of first) ≡ Greater = nat_list_cmp_total.antisymm (key_of last) (key_of first) ∙ ap ordering_reverse (first_below_last first others last h) in
+    rw above (ap (λ (rest : List Change). first ∷ rest) (with_change_last others last (ascending_rest first (others ++ last ∷ []) h)))
+
+-- ---- change by change
+
+key_stays : (key : List ℕ) (value : Option (List ℕ)) → key_of (change_that_leaves key value) ≡ key
+key_stays key (Some value) = refl
+key_stays key None = refl
+
+abbrev restored : List Entry → Change → Change
+restored history change = change_that_leaves (key_of change) (newest history (key_of change))
+
+prior_ascending : (history : List Entry) (changes : List Change) → are_ascending (prior history changes) ≡ are_ascending changes
+prior_ascending history [] = refl
+prior_ascending history (first ∷ []) = refl
+prior_ascending history (first ∷ second ∷ others) =
+    let Q : List ℕ → List ℕ → Bool → Bool = λ a b rest. is_lt (key_cmp a b) && rest in
+    ap (λ (a : List ℕ). Q a (key_of (restored history second)) (are_ascending (prior history (second ∷ others)))) (key_stays (key_of first) (newest history (key_of first)))
+    ∙ ap (λ (b : List ℕ). Q (key_of first) b (are_ascending (prior history (second ∷ others)))) (key_stays (key_of second) (newest history (key_of second)))
+    ∙ ap (Q (key_of first) (key_of second)) (prior_ascending history (second ∷ others))
+
+prior_take : (history : List Entry) (changes : List Change) (i : ℕ) (here : Change) → i < length changes → here ≡ get_or changes i here → prior history (take (i + 1) changes) ≡ prior history (take i changes) ++ restored history here ∷ []
+prior_take history changes i here lt is =
+    ap (prior history) (take_more changes i here lt ∙ ap (λ (c : Change). take i changes ++ c ∷ []) (sym is)) ∙ map-append (restored history) (take i changes) (here ∷ [])
+
+pub prior_more : (history : List Entry) (changes : List Change) (i : ℕ) (here : Change) → i < length changes → here ≡ get_or changes i here → is_batch changes ≡ true
+    → with_change (prior history (take i changes)) (restored history here) ≡ prior history (take (i + 1) changes)
+prior_more history changes i here lt is batch =
+    let whole : are_ascending (take (i + 1) changes ++ drop (i + 1) changes) ≡ true = rw (take-append-drop (i + 1) changes) (and_parts (nat_le (length changes) MOST_KEYS) (are_ascending changes) batch).1 in
+    let front : are_ascending (prior history (take (i + 1) changes)) ≡ true = prior_ascending history (take (i + 1) changes) ∙ ascending_front (take (i + 1) changes) (drop (i + 1) changes) whole in
+    let step = prior_take history changes i here lt is in
+    with_change_last (prior history (take i changes)) (restored history here) (ap are_ascending (sym step) ∙ front) ∙ sym step
