@@ -1,10 +1,13 @@
 -- Entries and the records that spell them, one record after the other.
 use Rattle.std.proofs.Common.{◌≡◌, ℕ, ◌+◌, ◌<◌, List, [], ◌∷◌, ◌++◌, length, get_or, take, refl, sym, ap, subst, ◌∙◌, append_assoc, arith, length-append}
 use Rattle.std.proofs.lemmas.List.{append-nil, take_more}
+use Rattle.std.proofs.lemmas.Option.{slice_get_read}
 use Rattle.wp_model.specs.declared.entry.Entry.{Entry}
 use Rattle.wp_entry.specs.Record.{IsRecord, record_bytes}
+use Rattle.wp_wal.specs.declared.error.WalError.{WalError}
+use Rattle.wp_wal.specs.declared.error.WalError.TheVariants.{Memory, DiskFault, BadHead, BadRecord, Illegal}
 use Rattle.wp_wal.specs.Spelling.{AreEntries}
-use Rattle.wp_wal.specs.Reading.{TakesRecord}
+use Rattle.wp_wal.specs.Reading.{TakesRecord, StandsAt, IsRefusedRecord, IsRecordCause}
 
 -- ---- one record more
 
@@ -33,3 +36,16 @@ pub AreEntries-more : (records : List (List ℕ)) (i : ℕ) (here : List ℕ) (h
 AreEntries-more records i here history longer lt is so_far takes =
     let piece : take (i + 1) records ≡ take i records ++ record_bytes (length history + 1) takes.entries ∷ [] = take_more records i here lt ∙ ap (λ (x : List ℕ). take i records ++ x ∷ []) (sym is ∙ takes.spelling) in
     rw (takes.behind, piece) (AreEntries-behind (take i records) history takes.entries so_far takes.is)
+
+-- ---- a record that is refused
+
+pub refused_cause : (records : List (List ℕ)) (i : ℕ) (here : List ℕ) (history : List Entry) (why : WalError) → i < length records → here ≡ get_or records i here → AreEntries 1 (take i records) history → IsRefusedRecord history i here why → IsRecordCause records why
+refused_cause records i here history Memory lt is so_far refused = tt
+refused_cause records i here history DiskFault lt is so_far refused = absurd refused
+refused_cause records i here history BadHead lt is so_far refused = absurd refused
+refused_cause records i here history (BadRecord index why) lt is so_far refused =
+    let stands : StandsAt records i history here = record { before = so_far; there = slice_get_read records (length records) i here refl lt is } in
+    rw refused.0 (history, here, stands, refused.1)
+refused_cause records i here history (Illegal number) lt is so_far refused =
+    let stands : StandsAt records i history here = record { before = so_far; there = slice_get_read records (length records) i here refl lt is } in
+    (i, history, here, stands, refused)
