@@ -48,7 +48,7 @@ state_of log due reserved = record {
   reserved = reserved;
 }
 
--- the numbers of the entries that are reserved fit in four bytes
+-- the numbers before the next one fit in four bytes, those of the entries that are reserved too
 abbrev pub HasNumbers : ℕ → Option Reserved → Type 0
 HasNumbers due None = due ≤ 2 ^ 32
 HasNumbers due (Some reserved) = due + reserved.count ≤ 2 ^ 32

@@ -128,6 +128,7 @@ impl<D: Disk> Wal<D> {
 
         ensures ok { OnOk result (IfSome self.old.reserved (Appended self.old self.new)) }
         ensures err { IfErr result (Refuses self.old self.new) }
+        ensures spent { self.new.reserved ≡ None }
         ensures later { self.old.faults ≤ self.new.faults }
     {
         let Some(reserved) = self.reserved.take() else {
