@@ -8,8 +8,8 @@ use Rattle.std.proofs.lemmas.Nat.{be_bytes_2, be_bytes_4, from_be_bytes-to_be_by
 use Rattle.wp_model.specs.Word.{is_word, is_word_byte}
 use Rattle.wp_entry.specs.declared.error.RecordError.{RecordError}
 use Rattle.wp_entry.specs.declared.error.RecordError.TheVariants.{Short, BadWord}
-use Rattle.wp_entry.specs.Record.{value_bytes}
-use Rattle.wp_entry.specs.Reading.{◌>>=◌, byte_at, number_at, word_at, value_at}
+use Rattle.wp_entry.specs.Record.{word_bytes, value_bytes}
+use Rattle.wp_entry.specs.Reading.{◌>>=◌, byte_at, number_at, word_at, short_word_at, value_at}
 
 -- ---- steps that met no fault
 
@@ -123,6 +123,18 @@ word_again most word rest is =
     let in_range : (eqb (length word) 0 || ltb most (length word)) ≡ false = or_from _ _ (ne_eqb _ _ (λ zero. omega arith)) (le-ltb _ _ range.1) in
     let long : ltb (length (word ++ rest)) (length word) ≡ false = le-ltb _ _ (omega (arith, length-append word rest)) in
     rw (in_range, long, take_at word rest (length word) refl, drop_at word rest (length word) refl, is) refl
+
+pub short_word_takes : (most : ℕ) (bytes : List ℕ) (x : List ℕ × List ℕ) → AreBytes bytes → short_word_at most bytes ≡ Ok x → Begins bytes (word_bytes x.0) x.1 × (is_word most x.0 ≡ true)
+unfolding short_word_at
+short_word_takes most bytes x h e =
+    let s = step_ok (byte_at bytes) (λ len. word_at most len.0 len.1) x e in
+    let len = byte_takes bytes s.0 h s.1 in
+    let word = word_takes most s.0.0 s.0.1 x len.behind s.2 in
+    (rw word.1 (Begins-then bytes (s.0.0 ∷ []) s.0.1 x.0 x.1 len word.0), word.2)
+
+pub short_word_again : (most : ℕ) (word rest : List ℕ) → is_word most word ≡ true → short_word_at most (word_bytes word ++ rest) ≡ Ok (word, rest)
+unfolding short_word_at
+short_word_again most word rest is = word_again most word rest is
 
 pub value_takes : (bytes : List ℕ) (x : List ℕ × List ℕ) → AreBytes bytes → value_at bytes ≡ Ok x → Begins bytes (value_bytes x.0) x.1 × (is_word 256 x.0 ≡ true)
 unfolding value_at

@@ -1,14 +1,15 @@
 -- Reading a record from left to right, with the first fault that is met.
-use Rattle.std.specs.Prelude.{◌≡◌, ℕ, zero, suc, Bool, true, ◌||◌, List, [], ◌∷◌, ◌++◌, length, take, drop, Result, Ok, Err, nat_lt, ◌==◌, if◌then◌else◌}
+use Rattle.std.specs.Prelude.{◌≡◌, ℕ, zero, suc, Bool, true, ◌||◌, List, [], ◌∷◌, ◌++◌, length, take, drop, Result, Ok, Err, nat_lt, nat_le, ◌==◌, if◌then◌else◌}
 use Rattle.std.specs.Int.{Width, w16, w32, byte_len, from_be_bytes}
 use Rattle.std.specs.Ordering.{is_lt}
 use Rattle.wp_model.specs.declared.batch.TheConstants.{MOST_KEYS}
 use Rattle.wp_model.specs.declared.change.Change.{Change}
 use Rattle.wp_model.specs.declared.change.Change.TheVariants.{Put, Del}
 use Rattle.wp_model.specs.declared.entry.Entry.{Entry}
-use Rattle.wp_model.specs.declared.entry.Entry.TheVariants.{Write}
+use Rattle.wp_model.specs.declared.entry.Entry.TheVariants.{Write, Prepare, Commit, Undo, Close}
 use Rattle.wp_model.specs.Word.{is_word}
 use Rattle.wp_model.specs.Batch.{key_cmp, key_of}
+use Rattle.wp_entry.specs.declared.layout.TheConstants.{LAST_NUMBER}
 use Rattle.wp_entry.specs.declared.error.RecordError.{RecordError}
 use Rattle.wp_entry.specs.declared.error.RecordError.TheVariants.{Memory, Short, BadNumber, BadKind, BadWord, Extra}
 
@@ -35,6 +36,12 @@ word_at most len bytes =
     else (if is_word most (take len bytes) then Ok (take len bytes, drop len bytes)
     else Err BadWord))
 
+-- a word of one to `most` bytes behind its one byte length
+unfoldable pub short_word_at : ℕ → List ℕ → Result (List ℕ × List ℕ) RecordError
+short_word_at most bytes = do
+  len ← byte_at bytes
+  word_at most len.0 len.1
+
 unfoldable pub value_at : List ℕ → Result (List ℕ × List ℕ) RecordError
 value_at bytes = do
   len ← number_at w16 bytes
@@ -49,8 +56,7 @@ is_above_last (first ∷ second ∷ others) key = is_above_last (second ∷ othe
 -- the key of a change that stands behind those of the batch
 unfoldable pub next_key_at : List Change → List ℕ → Result (List ℕ × List ℕ) RecordError
 next_key_at batch bytes = do
-  len ← byte_at bytes
-  key ← word_at 64 len.0 len.1
+  key ← short_word_at 64 bytes
   if is_above_last batch key.0 then Ok key else Err BadWord
 
 -- a change that stands behind those of the batch
@@ -91,16 +97,46 @@ write_at bytes = do
   batch ← batch_at bytes
   Ok (Write batch.0 ∷ [], batch.1)
 
+-- one Prepare
+unfoldable pub prepare_at : List ℕ → Result (List Entry × List ℕ) RecordError
+prepare_at bytes = do
+  name ← short_word_at 32 bytes
+  batch ← batch_at name.1
+  Ok (Prepare name.0 batch.0 ∷ [], batch.1)
+
+-- the number of an entry before the one with the number that is due
+unfoldable pub earlier_at : ℕ → List ℕ → Result (ℕ × List ℕ) RecordError
+earlier_at due bytes = do
+  number ← number_at w32 bytes
+  if number.0 == 0 || nat_le due number.0 then Err BadWord else Ok number
+
+-- one Commit
+unfoldable pub commit_at : ℕ → List ℕ → Result (List Entry × List ℕ) RecordError
+commit_at due bytes = do
+  p ← earlier_at due bytes
+  Ok (Commit p.0 ∷ [], p.1)
+
+-- an Undo and its Close, which has a number too
+unfoldable pub rollback_at : ℕ → List ℕ → Result (List Entry × List ℕ) RecordError
+rollback_at due bytes =
+    if nat_le LAST_NUMBER due then Err BadWord
+    else (earlier_at due bytes >>= λ p. batch_at p.1 >>= λ batch. Ok (Undo p.0 batch.0 ∷ Close p.0 ∷ [], batch.1))
+
 -- the entries of a record of that kind
-unfoldable pub entries_at : ℕ → List ℕ → Result (List Entry × List ℕ) RecordError
-entries_at kind bytes = if kind == 1 then write_at bytes else Err (BadKind kind)
+unfoldable pub entries_at : ℕ → ℕ → List ℕ → Result (List Entry × List ℕ) RecordError
+entries_at due kind bytes =
+    if kind == 1 then write_at bytes
+    else (if kind == 2 then prepare_at bytes
+    else (if kind == 3 then commit_at due bytes
+    else (if kind == 4 then rollback_at due bytes
+    else Err (BadKind kind))))
 
 -- all of the bytes
 unfoldable pub record_at : ℕ → List ℕ → Result (List Entry) RecordError
 record_at due bytes = do
   rest ← behind_number due bytes
   kind ← byte_at rest
-  entries ← entries_at kind.0 kind.1
+  entries ← entries_at due kind.0 kind.1
   if length entries.1 == 0 then Ok entries.0 else Err (Extra (length entries.1))
 
 -- ---- what a function gave

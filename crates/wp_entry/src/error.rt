@@ -19,7 +19,8 @@ pub enum RecordError {
     /// No record is of that kind, or a change begins with that byte, which is neither 00 nor 01.
     #[error("kind {0}")]
     BadKind(u8),
-    /// A length, a count or a byte of a word is out of range, or a key is not above the one before it.
+    /// A length, a count or a byte of a word is out of range, a key is not above the one before it, a number is none
+    /// of an earlier entry, or there is no number for the entry behind an Undo.
     #[error("word")]
     BadWord,
     /// So many bytes follow the record.

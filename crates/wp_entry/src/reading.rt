@@ -8,6 +8,7 @@ ghost use Rattle.wp_entry.specs.Reading.{
   byte_at,
   number_at,
   word_at,
+  short_word_at,
   value_at,
   is_above_last,
   next_key_at,
@@ -16,12 +17,16 @@ ghost use Rattle.wp_entry.specs.Reading.{
   batch_at,
   behind_number,
   write_at,
+  prepare_at,
+  earlier_at,
+  commit_at,
+  rollback_at,
   entries_at,
   record_at,
 };
 
 use crate::error::RecordError;
-use crate::layout::{DELETION, PUT, WRITE};
+use crate::layout::{COMMIT, DELETION, LAST_NUMBER, PREPARE, PUT, ROLLBACK, WRITE};
 use std::alloc::Global;
 use wp_fields::Fields;
 use wp_model::{Batch, Change, Entry, Key, MOST_KEYS, Seq, SetError, Value, Word};
@@ -47,6 +52,18 @@ fn word<const MOST: usize>(
     Ok(Word::read(alloc, bytes)?)
 }
 
+/// The word of at most `MOST` bytes behind its one byte length.
+#[tactic(auto, unfolding(crate::specs::Reading::short_word_at))]
+fn short_word<const MOST: usize>(
+    alloc: Global,
+    fields: &mut Fields<'_>,
+) -> Result<Word<MOST>, RecordError>
+    ensures { Gives (λ word. (word, fields.new)) result (short_word_at MOST fields.old) }
+{
+    let len = byte(fields)?;
+    word(alloc, fields, len as usize)
+}
+
 #[tactic(auto, unfolding(crate::specs::Reading::value_at))]
 fn value(alloc: Global, fields: &mut Fields<'_>) -> Result<Value, RecordError>
     ensures { Gives (λ value. (value, fields.new)) result (value_at fields.old) }
@@ -69,8 +86,7 @@ fn next_key(alloc: Global, fields: &mut Fields<'_>, batch: &Batch) -> Result<Key
     ensures read { Gives (λ key. (key, fields.new)) result (next_key_at batch.now fields.old) }
     ensures above { IfOk result (λ key. is_above_last batch.now key ≡ true) }
 {
-    let len = byte(fields)?;
-    let key = word(alloc, fields, len as usize)?;
+    let key = short_word(alloc, fields)?;
     if !is_above_last(batch, &key) {
         return Err(RecordError::BadWord);
     }
@@ -150,12 +166,61 @@ fn one_write(alloc: Global, fields: &mut Fields<'_>) -> Result<Vec<Entry>, Recor
     Ok(vec![in alloc; write]?)
 }
 
+#[tactic(auto, unfolding(crate::specs::Reading::prepare_at))]
+fn one_prepare(alloc: Global, fields: &mut Fields<'_>) -> Result<Vec<Entry>, RecordError>
+    ensures { Gives (λ entries. (entries.items, fields.new)) result (prepare_at fields.old) }
+{
+    let name = short_word(alloc, fields)?;
+    let prepare = Entry::Prepare(name, batch(alloc, fields)?);
+    Ok(vec![in alloc; prepare]?)
+}
+
+/// The number of an entry before the one with the number that is due.
+#[tactic(auto, unfolding(crate::specs::Reading::earlier_at))]
+fn earlier(fields: &mut Fields<'_>, due: Seq) -> Result<Seq, RecordError>
+    ensures { Gives (λ p. (p, fields.new)) result (earlier_at due fields.old) }
+{
+    let p = u64::from(fields.u32().ok_or(RecordError::Short)?);
+    if p == 0 || p >= due {
+        return Err(RecordError::BadWord);
+    }
+    Ok(p)
+}
+
+#[tactic(auto, unfolding(crate::specs::Reading::commit_at))]
+fn one_commit(alloc: Global, fields: &mut Fields<'_>, due: Seq) -> Result<Vec<Entry>, RecordError>
+    ensures { Gives (λ entries. (entries.items, fields.new)) result (commit_at due fields.old) }
+{
+    let commit = Entry::Commit(earlier(fields, due)?);
+    Ok(vec![in alloc; commit]?)
+}
+
+#[tactic(auto, unfolding(crate::specs::Reading::rollback_at))]
+fn one_rollback(alloc: Global, fields: &mut Fields<'_>, due: Seq) -> Result<Vec<Entry>, RecordError>
+    ensures { Gives (λ entries. (entries.items, fields.new)) result (rollback_at due fields.old) }
+{
+    if due >= LAST_NUMBER {
+        return Err(RecordError::BadWord);
+    }
+    let p = earlier(fields, due)?;
+    let undo = Entry::Undo(p, batch(alloc, fields)?);
+    Ok(vec![in alloc; undo, Entry::Close(p)]?)
+}
+
 #[tactic(auto, unfolding(crate::specs::Reading::entries_at))]
-fn entries(alloc: Global, fields: &mut Fields<'_>, kind: u8) -> Result<Vec<Entry>, RecordError>
-    ensures { Gives (λ entries. (entries.items, fields.new)) result (entries_at kind fields.old) }
+fn entries(
+    alloc: Global,
+    fields: &mut Fields<'_>,
+    due: Seq,
+    kind: u8,
+) -> Result<Vec<Entry>, RecordError>
+    ensures { Gives (λ entries. (entries.items, fields.new)) result (entries_at due kind fields.old) }
 {
     match kind {
         WRITE => one_write(alloc, fields),
+        PREPARE => one_prepare(alloc, fields),
+        COMMIT => one_commit(alloc, fields, due),
+        ROLLBACK => one_rollback(alloc, fields, due),
         other => Err(RecordError::BadKind(other)),
     }
 }
@@ -167,7 +232,7 @@ fn record(alloc: Global, bytes: &[u8], first: Seq) -> Result<Vec<Entry>, RecordE
     let mut fields = Fields::of(bytes);
     due_number(&mut fields, first)?;
     let kind = byte(&mut fields)?;
-    let entries = entries(alloc, &mut fields, kind)?;
+    let entries = entries(alloc, &mut fields, first, kind)?;
     match fields.left() {
         0 => Ok(entries),
         extra => Err(RecordError::Extra(extra)),

@@ -1,0 +1,158 @@
+-- What an append makes of a log that keeps a history.
+use Rattle.std.proofs.Common.{◌≡◌, ℕ, ◌+◌, ◌≤◌, true, false, List, [], ◌∷◌, ◌++◌, length, map, Option, Some, None, refl, ap, subst, ◌∙◌, inl, inr, arith, length-append}
+use Rattle.std.specs.Prelude.{IfSome}
+use Rattle.wp_model.specs.declared.entry.Entry.{Entry}
+use Rattle.wp_outside.specs.Disk.{Moment, Matches, IsImage, settled, IfTold, Each, Passes}
+use Rattle.wp_entry.specs.Record.{IsRecord, record_bytes}
+use Rattle.wp_gatelog.specs.declared.log.AppendError.{AppendError}
+use Rattle.wp_gatelog.specs.declared.log.AppendError.TheVariants.{DiskFault, Closed}
+use Rattle.wp_gatelog.specs.Append.{Appended as LogAppended, Refuses as LogRefuses}
+use Rattle.wp_gatelog.specs.Log.{State as LogState, IsAtRest, Rests, BeforeOrAfter}
+use Rattle.wp_gatelog.specs.Moments.{Leaves}
+use Rattle.wp_gatelog.specs.Spelling.{Spells, frame_of, log_of}
+use Rattle.wp_wal.specs.Spelling.{MAGIC, AreEntries, IsLogOf, IsLogOrNext}
+use Rattle.wp_wal.specs.Wal.{Reserved, reserved_of, State, state_of, Keeps, IsReserved, Appended, KeepsWhenRefused}
+use Rattle.wp_wal.proofs.EntriesLemmas.{AreEntries-behind}
+use Rattle.wp_wal.proofs.FrameLemmas.{length-frame_of}
+
+-- ---- images
+
+matches_whole : (bytes image : List ℕ) → Matches (map (λ b. Some b) bytes) image → length image ≤ length bytes → image ≡ bytes
+matches_whole [] [] h le = refl
+matches_whole [] (b ∷ image) h le = absurd (omega arith)
+matches_whole (x ∷ bytes) [] h le = absurd h
+matches_whole (x ∷ bytes) (b ∷ image) h le =
+    let rest = matches_whole bytes image h.1 (omega arith) in
+    ap (λ (y : ℕ). y ∷ image) h.0 ∙ ap (λ (ys : List ℕ). x ∷ ys) rest
+
+rests_spells : (magic : List ℕ) (id end : ℕ) (records : List (List ℕ)) (m : Moment) → IsAtRest magic id end records m → Leaves (λ image. Spells image magic id records) m
+rests_spells magic id end records m rests image is =
+    let whole = log_of magic id 1 rests.gated ++ 0 ∷ [] in
+    let on : IsImage (settled whole) image = subst (λ (s : Moment). IsImage s image) rests.settled_on is in
+    let same : image ≡ whole = matches_whole whole image on.0 on.1 in
+    inr (1, rests.gated, record { behind = []; spelling = same; head_open = λ e. absurd cc; gates_open = rests.acknowledged.gates_open }, rests.acknowledged.same)
+
+-- at rest, a crash leaves the history
+rests_history : (id end : ℕ) (records : List (List ℕ)) (history : List Entry) (moments : List Moment) → AreEntries 1 records history → IfTold moments (IsAtRest MAGIC id end records) → IfTold moments (Leaves (IsLogOf id history))
+rests_history id end records history [] spelled rests = tt
+rests_history id end records history (m ∷ past) spelled rests = λ image is. (records, rests_spells MAGIC id end records m rests image is, spelled)
+
+pub running_history : (wal : State) (history next : List Entry) → Keeps wal history next → wal.closed ≡ false → IfTold wal.moments (Leaves (IsLogOf wal.id history))
+running_history wal history next keeps running = rests_history wal.id wal.end keeps.records history wal.moments keeps.spelled (keeps.rests running)
+
+-- ---- moments
+
+each_other : (P Q : List ℕ → Type 0) (moments : List Moment) → ((image : List ℕ) → P image → Q image) → Each (Leaves P) moments → Each (Leaves Q) moments
+each_other P Q [] implies each = tt
+each_other P Q (m ∷ more) implies each = (λ image is. implies image (each.0 image is), each_other P Q more implies each.1)
+
+told_other : (P Q : List ℕ → Type 0) (moments : List Moment) → ((image : List ℕ) → P image → Q image) → IfTold moments (Leaves P) → IfTold moments (Leaves Q)
+told_other P Q [] implies told = tt
+told_other P Q (m ∷ past) implies told = λ image is. implies image (told image is)
+
+-- what each moment since then leaves, and that one too, the newest leaves
+left_now : (P : List ℕ → Type 0) (old new : List Moment) → IfTold old (Leaves P) → Passes (Leaves P) old new → IfTold new (Leaves P)
+left_now P old new before ([], is, each) = rw is before
+left_now P old new before (m ∷ more, is, each) = rw is each.0
+
+-- ---- the record behind the history
+
+-- The frame is that of the record of the next entries, which stands reserved with their count.
+record IsNext (history next : List Entry) (due count : ℕ) (frame : List ℕ) : Type 0 where
+  framed : frame ≡ frame_of (record_bytes (length history + 1) next)
+  numbered : due ≡ length history + 1
+  counted : count ≡ length next
+  is : IsRecord (length history + 1) next
+
+next_reserved : (log : LogState) (due : ℕ) (reserved : Option Reserved) (r : Reserved) (frame : List ℕ) (history next : List Entry) → reserved ≡ Some r → frame ≡ frame_of r.bytes → IsReserved (state_of log due reserved) history next → IsNext history next due r.count frame
+next_reserved log due reserved r frame history next there framed is =
+    let numbered : due ≡ length history + 1 = is.keeps.numbered in
+    let stands : reserved ≡ Some (reserved_of due next) = is.reserved in
+    let same : r ≡ reserved_of due next = cc in
+    record {
+      framed = framed ∙ ap (λ (s : Reserved). frame_of s.bytes) same ∙ ap (λ (n : ℕ). frame_of (record_bytes n next)) numbered;
+      numbered = numbered;
+      counted = ap (λ (s : Reserved). s.count) same;
+      is = subst (λ (n : ℕ). IsRecord n next) numbered is.is;
+    }
+
+-- before or after, an image spells the history or it with the next entries
+grown_history : (id : ℕ) (records : List (List ℕ)) (history next : List Entry) (image : List ℕ) → AreEntries 1 records history → IsRecord (length history + 1) next → BeforeOrAfter MAGIC id records (record_bytes (length history + 1) next) image → IsLogOrNext id history next image
+grown_history id records history next image spelled one h =
+    elim h [
+      | inl before ↦ inl (records, before, spelled)
+      | inr after ↦ inr (records ++ record_bytes (length history + 1) next ∷ [], after, AreEntries-behind records history next spelled one)
+    ]
+
+-- ---- an append of the gate log, as its contract says it
+
+-- at each moment a crash leaves its records, or those and the new one
+abbrev pub GrowsThrough : LogState → LogState → List ℕ → Type 0
+GrowsThrough old new frame = (magic : List ℕ) (records : List (List ℕ)) (bytes : List ℕ) → frame ≡ frame_of bytes → Rests magic old records → Passes (Leaves (BeforeOrAfter magic old.id records bytes)) old.moments new.moments
+
+-- in the end it is at rest with the new one
+abbrev pub RestsBehind : LogState → LogState → List ℕ → Type 0
+RestsBehind old new frame = (magic : List ℕ) (records : List (List ℕ)) (bytes : List ℕ) → frame ≡ frame_of bytes → Rests magic old records → Rests magic new (records ++ bytes ∷ [])
+
+-- ---- an append
+
+pub appended_reserved : (old new : LogState) (due : ℕ) (reserved : Option Reserved) (r : Reserved) (frame : List ℕ) → reserved ≡ Some r → frame ≡ frame_of r.bytes → LogAppended old new (length frame)
+    → IfSome reserved (Appended (state_of old due reserved) (state_of new (due + r.count) None))
+appended_reserved old new due reserved r frame there framed appended =
+    let size : length frame ≡ length r.bytes + 9 = ap (λ (xs : List ℕ). length xs) framed ∙ length-frame_of r.bytes in
+    let grown : new.end ≡ old.end + length frame = ap (λ (s : LogState). s.end) appended.changed in
+    let end : new.end ≡ old.end + length r.bytes + 9 = omega arith in
+    let id : new.id ≡ old.id = ap (λ (s : LogState). s.id) appended.changed in
+    let count : new.count ≡ old.count + 1 = ap (λ (s : LogState). s.count) appended.changed in
+    let closed : new.closed ≡ old.closed = ap (λ (s : LogState). s.closed) appended.changed in
+    rw there (record { was_open = appended.was_open; changed = rw (end, id, count, closed) refl })
+
+pub passes_history : (old new : LogState) (due : ℕ) (reserved : Option Reserved) (r : Reserved) (frame : List ℕ) → reserved ≡ Some r → frame ≡ frame_of r.bytes → GrowsThrough old new frame
+    → (history next : List Entry) → IsReserved (state_of old due reserved) history next → Passes (Leaves (IsLogOrNext old.id history next)) old.moments new.moments
+passes_history old new due reserved r frame there framed grows history next is =
+    let one = next_reserved old due reserved r frame history next there framed is in
+    let records = is.keeps.records in
+    let bytes = record_bytes (length history + 1) next in
+    let passed = grows MAGIC records bytes one.framed (is.keeps.rests is.running) in
+    (passed.0, passed.1, each_other (BeforeOrAfter MAGIC old.id records bytes) (IsLogOrNext old.id history next) passed.0 (λ image h. grown_history old.id records history next image is.keeps.spelled one.is h) passed.2)
+
+pub keeps_appended : (old new : LogState) (due : ℕ) (reserved : Option Reserved) (r : Reserved) (frame : List ℕ) (len : ℕ) → reserved ≡ Some r → frame ≡ frame_of r.bytes → LogAppended old new len → RestsBehind old new frame
+    → (history next : List Entry) → IsReserved (state_of old due reserved) history next → Keeps (state_of new (due + r.count) None) (history ++ next) []
+keeps_appended old new due reserved r frame len there framed appended rests history next is =
+    let one = next_reserved old due reserved r frame history next there framed is in
+    let records = is.keeps.records in
+    let bytes = record_bytes (length history + 1) next in
+    let count : new.count ≡ old.count + 1 = ap (λ (s : LogState). s.count) appended.changed in
+    let before : old.count ≡ length records = is.keeps.counted in
+    let running : new.closed ≡ old.closed = ap (λ (s : LogState). s.closed) appended.changed in
+    let was_open = appended.was_open in
+    record {
+      records = records ++ bytes ∷ [];
+      spelled = AreEntries-behind records history next is.keeps.spelled one.is;
+      counted = omega (arith, count, before, length-append records (bytes ∷ []));
+      numbered = omega (arith, one.numbered, one.counted, length-append history next);
+      rests = λ _. rests MAGIC records bytes one.framed (is.keeps.rests is.running);
+      left = λ closed. absurd cc;
+    }
+
+keeps_failed : (old new : LogState) (due : ℕ) (reserved : Option Reserved) (r : Reserved) (frame : List ℕ) → reserved ≡ Some r → frame ≡ frame_of r.bytes → LogRefuses old new DiskFault → GrowsThrough old new frame
+    → (history next : List Entry) → IsReserved (state_of old due reserved) history next → Keeps (state_of new due None) history next
+keeps_failed old new due reserved r frame there framed refuses grows history next is =
+    let passed = passes_history old new due reserved r frame there framed grows history next is in
+    let before = told_other (IsLogOf old.id history) (IsLogOrNext old.id history next) old.moments (λ image h. inl h) (running_history (state_of old due reserved) history [] is.keeps is.running) in
+    let same : new.id ≡ old.id = ap (λ (s : LogState). s.id) refuses.2 in
+    let closed : new.closed ≡ true = ap (λ (s : LogState). s.closed) refuses.2 in
+    let count : new.count ≡ old.count = ap (λ (s : LogState). s.count) refuses.2 in
+    record {
+      records = is.keeps.records;
+      spelled = is.keeps.spelled;
+      counted = count ∙ is.keeps.counted;
+      numbered = is.keeps.numbered;
+      rests = λ reopened. absurd cc;
+      left = λ _. rw same (left_now (IsLogOrNext old.id history next) old.moments new.moments before passed);
+    }
+
+pub keeps_refused : (old new : LogState) (due : ℕ) (reserved : Option Reserved) (r : Reserved) (frame : List ℕ) (why : AppendError) → reserved ≡ Some r → frame ≡ frame_of r.bytes → LogRefuses old new why → GrowsThrough old new frame
+    → KeepsWhenRefused (state_of old due reserved) (state_of new due None) why
+keeps_refused old new due reserved r frame DiskFault there framed refuses grows = keeps_failed old new due reserved r frame there framed refuses grows
+keeps_refused old new due reserved r frame (Closed n) there framed refuses grows = tt

@@ -1,0 +1,51 @@
+-- Entries and the records that spell them, one record after the other.
+use Rattle.std.proofs.Common.{◌≡◌, ℕ, ◌+◌, ◌<◌, List, [], ◌∷◌, ◌++◌, length, get_or, take, refl, sym, ap, subst, ◌∙◌, append_assoc, arith, length-append}
+use Rattle.std.proofs.lemmas.List.{append-nil, take_more}
+use Rattle.std.proofs.lemmas.Option.{slice_get_read}
+use Rattle.wp_model.specs.declared.entry.Entry.{Entry}
+use Rattle.wp_entry.specs.Record.{IsRecord, record_bytes}
+use Rattle.wp_wal.specs.declared.error.WalError.{WalError}
+use Rattle.wp_wal.specs.declared.error.WalError.TheVariants.{Memory, DiskFault, BadHead, BadRecord, Illegal}
+use Rattle.wp_wal.specs.Spelling.{AreEntries}
+use Rattle.wp_wal.specs.Reading.{TakesRecord, StandsAt, IsRefusedRecord, IsRecordCause}
+
+-- ---- one record more
+
+push : (first : ℕ) (records : List (List ℕ)) (entries added : List Entry) → AreEntries first records entries → IsRecord (first + length entries) added → AreEntries first (records ++ record_bytes (first + length entries) added ∷ []) (entries ++ added)
+push first [] entries added is one =
+    let here : first + length entries ≡ first = rw is (omega arith) in
+    (added, [], ap (λ (xs : List Entry). xs ++ added) is ∙ sym (append-nil added), subst (λ (n : ℕ). IsRecord n added) here one, ap (λ (n : ℕ). record_bytes n added) here, refl)
+push first (r ∷ records) entries added (front, rest, parts, is, bytes, more) one =
+    let far : first + length entries ≡ (first + length front) + length rest = omega (arith, ap (λ (xs : List Entry). length xs) parts, length-append front rest) in (
+      front,
+      rest ++ added,
+      ap (λ (xs : List Entry). xs ++ added) parts ∙ append_assoc front rest added,
+      is,
+      bytes,
+      subst (λ (n : ℕ). AreEntries (first + length front) (records ++ record_bytes n added ∷ []) (rest ++ added)) (sym far) (push (first + length front) records rest added more (subst (λ (n : ℕ). IsRecord n added) far one)),
+    )
+
+-- a record behind those of a history
+pub AreEntries-behind : (records : List (List ℕ)) (history next : List Entry) → AreEntries 1 records history → IsRecord (length history + 1) next → AreEntries 1 (records ++ record_bytes (length history + 1) next ∷ []) (history ++ next)
+AreEntries-behind records history next spelled one =
+    let place : 1 + length history ≡ length history + 1 = omega arith in
+    subst (λ (n : ℕ). AreEntries 1 (records ++ record_bytes n next ∷ []) (history ++ next)) place (push 1 records history next spelled (subst (λ (n : ℕ). IsRecord n next) (sym place) one))
+
+-- one record more was read
+pub AreEntries-more : (records : List (List ℕ)) (i : ℕ) (here : List ℕ) (history longer : List Entry) → i < length records → here ≡ get_or records i here → AreEntries 1 (take i records) history → TakesRecord history longer here → AreEntries 1 (take (i + 1) records) longer
+AreEntries-more records i here history longer lt is so_far takes =
+    let piece : take (i + 1) records ≡ take i records ++ record_bytes (length history + 1) takes.entries ∷ [] = take_more records i here lt ∙ ap (λ (x : List ℕ). take i records ++ x ∷ []) (sym is ∙ takes.spelling) in
+    rw (takes.behind, piece) (AreEntries-behind (take i records) history takes.entries so_far takes.is)
+
+-- ---- a record that is refused
+
+pub refused_cause : (records : List (List ℕ)) (i : ℕ) (here : List ℕ) (history : List Entry) (why : WalError) → i < length records → here ≡ get_or records i here → AreEntries 1 (take i records) history → IsRefusedRecord history i here why → IsRecordCause records why
+refused_cause records i here history Memory lt is so_far refused = tt
+refused_cause records i here history DiskFault lt is so_far refused = absurd refused
+refused_cause records i here history BadHead lt is so_far refused = absurd refused
+refused_cause records i here history (BadRecord index why) lt is so_far refused =
+    let stands : StandsAt records i history here = record { before = so_far; there = slice_get_read records (length records) i here refl lt is } in
+    rw refused.0 (history, here, stands, refused.1)
+refused_cause records i here history (Illegal number) lt is so_far refused =
+    let stands : StandsAt records i history here = record { before = so_far; there = slice_get_read records (length records) i here refl lt is } in
+    (i, history, here, stands, refused)

@@ -1,0 +1,5 @@
+pub mod Spelling
+pub mod Reading
+pub mod Errors
+pub mod Opening
+pub mod Wal

@@ -1,0 +1,28 @@
+-- Why a log is not opened.
+use Rattle.std.specs.Prelude.{◌≡◌, ◌⊎◌, ℕ, List}
+use Rattle.wp_outside.specs.Disk.{Moment, IfTold}
+use Rattle.wp_entry.specs.declared.error.RecordError.{RecordError}
+use Rattle.wp_entry.specs.declared.error.RecordError.TheVariants.{Short}
+use Rattle.wp_gatelog.specs.Damage.{IsBadHead, IsCut}
+use Rattle.wp_gatelog.specs.Spelling.{Spells}
+use Rattle.wp_wal.specs.declared.error.WalError.{WalError}
+use Rattle.wp_wal.specs.declared.error.WalError.TheVariants.{Memory, DiskFault, BadHead, BadRecord, Illegal}
+use Rattle.wp_wal.specs.Spelling.{MAGIC}
+use Rattle.wp_wal.specs.Reading.{IsBadRecord, IsIllegal}
+
+-- record index of the log's bytes is cut; or none is, and it is the first that is no record
+abbrev pub IsBadLog : List ℕ → ℕ → RecordError → Type 0
+IsBadLog bytes index why = (IsCut MAGIC index bytes × (why ≡ Short)) ⊎ ((id : ℕ) × (records : List (List ℕ)) × Spells bytes MAGIC id records × IsBadRecord records index why)
+
+-- the log's bytes spell records, and the entry with this number is the first that is illegal
+abbrev pub IsIllegalLog : List ℕ → ℕ → Type 0
+IsIllegalLog bytes number = (id : ℕ) × (records : List (List ℕ)) × Spells bytes MAGIC id records × IsIllegal records number
+
+-- Why the log was not opened: its disk's count of faults rose, or where that tells its bytes they are damaged. Want of
+-- memory needs no cause.
+abbrev pub IsOpenCause : (rose : Type 0) → List Moment → WalError → Type 0
+IsOpenCause rose moments Memory = Unit {0}
+IsOpenCause rose moments DiskFault = rose
+IsOpenCause rose moments BadHead = IfTold moments (λ m. IsBadHead MAGIC m.reads)
+IsOpenCause rose moments (BadRecord index why) = IfTold moments (λ m. IsBadLog m.reads index why)
+IsOpenCause rose moments (Illegal number) = IfTold moments (λ m. IsIllegalLog m.reads number)

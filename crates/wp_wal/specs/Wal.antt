@@ -1,0 +1,97 @@
+-- An open log that keeps a history, and what an append makes of it.
+use Rattle.std.specs.Prelude.{◌≡◌, ℕ, ◌+◌, ◌-◌, ◌^◌, ◌≤◌, Bool, true, false, List, [], length, take, drop, Option, Some, None}
+use Rattle.wp_model.specs.declared.entry.Entry.{Entry}
+use Rattle.wp_outside.specs.Disk.{Moment, IfTold}
+use Rattle.wp_outside.specs.Faults.{Rose}
+use Rattle.wp_entry.specs.Record.{IsRecord, record_bytes}
+use Rattle.wp_gatelog.specs.declared.log.AppendError.{AppendError}
+use Rattle.wp_gatelog.specs.declared.log.AppendError.TheVariants.{DiskFault, Closed}
+use Rattle.wp_gatelog.specs.Log.{State as LogState, IsAtRest}
+use Rattle.wp_gatelog.specs.Moments.{Leaves}
+use Rattle.wp_wal.specs.Spelling.{MAGIC, AreEntries, IsLogOrNext}
+
+-- ---- the log
+
+-- a record that stands ready for the next append
+pub record Reserved : Type 0 where
+  pub bytes : List ℕ
+  pub count : ℕ  -- its entries
+
+-- the record of these entries, of which the first has that number
+abbrev pub reserved_of : ℕ → List Entry → Reserved
+reserved_of first entries = record { bytes = record_bytes first entries; count = length entries }
+
+-- the record whose frame this is: it stands behind eight bytes of length and before a gate
+abbrev pub framed_in : List ℕ → List ℕ
+framed_in frame = take (length frame - 9) (drop 8 frame)
+
+pub record State : Type 0 where
+  pub moments : List Moment  -- its disk's
+  pub faults : ℕ  -- its disk's
+  pub id : ℕ
+  pub end : ℕ  -- the place of the gate that ends it
+  pub closed : Bool  -- an append has failed
+  pub count : ℕ  -- of its records
+  pub due : ℕ  -- the number of the next entry
+  pub reserved : Option Reserved
+
+-- a gate log whose next entry has that number
+abbrev pub state_of : LogState → ℕ → Option Reserved → State
+state_of log due reserved = record {
+  moments = log.moments;
+  faults = log.faults;
+  id = log.id;
+  end = log.end;
+  closed = log.closed;
+  count = log.count;
+  due = due;
+  reserved = reserved;
+}
+
+-- the numbers before the next one fit in four bytes, those of the entries that are reserved too
+abbrev pub HasNumbers : ℕ → Option Reserved → Type 0
+HasNumbers due None = due ≤ 2 ^ 32
+HasNumbers due (Some reserved) = due + reserved.count ≤ 2 ^ 32
+
+-- The log keeps the history: it is at rest with records that spell it; or, once an append has failed, a crash leaves
+-- those, or those and one that spells the next entries, whole.
+pub record Keeps (wal : State) (history next : List Entry) : Type 0 where
+  pub records : List (List ℕ)
+  pub spelled : AreEntries 1 records history
+  pub counted : wal.count ≡ length records
+  pub numbered : wal.due ≡ length history + 1
+  pub rests : wal.closed ≡ false → IfTold wal.moments (IsAtRest MAGIC wal.id wal.end records)
+  pub left : wal.closed ≡ true → IfTold wal.moments (Leaves (IsLogOrNext wal.id history next))
+
+-- ---- appending
+
+-- The log keeps the history, and the record of the next entries stands reserved.
+pub record IsReserved (wal : State) (history next : List Entry) : Type 0 where
+  pub keeps : Keeps wal history []
+  pub running : wal.closed ≡ false
+  pub is : IsRecord wal.due next
+  pub reserved : wal.reserved ≡ Some (reserved_of wal.due next)
+
+-- the record that stood reserved is in the log: with nine bytes of its frame, the length and a gate
+pub record Appended (old new : State) (added : Reserved) : Type 0 where
+  pub was_open : old.closed ≡ false
+  pub changed : new ≡ record old {
+    moments = new.moments;
+    faults = new.faults;
+    end = old.end + length added.bytes + 9;
+    count = old.count + 1;
+    due = old.due + added.count;
+    reserved = None;
+  }
+
+-- The disk failed, and the log is closed from now on. Or it was closed before: nothing changes, and n is the count of
+-- its records.
+abbrev pub Refuses : State → State → AppendError → Type 0
+Refuses old new DiskFault =
+    (old.closed ≡ false) × Rose old.faults new.faults × (new ≡ record old { moments = new.moments; faults = new.faults; closed = true; reserved = None })
+Refuses old new (Closed n) = (old.closed ≡ true) × (n ≡ old.count) × (new ≡ record old { reserved = None })
+
+-- after a fault a crash leaves the history, or it and the next entries
+abbrev pub KeepsWhenRefused : State → State → AppendError → Type 0
+KeepsWhenRefused old new DiskFault = (history next : List Entry) → IsReserved old history next → Keeps new history next
+KeepsWhenRefused old new (Closed n) = Unit {0}

@@ -1,0 +1,63 @@
+//! Reading the history that records spell.
+ghost use Rattle.std.specs.Prelude.{◌≡◌, ◌+◌, ◌≤◌, ◌<◌, ◌^◌, ◌++◌, length, IfOk, IfErr, OnOk};
+ghost use Rattle.wp_entry.specs.Record.{IsRecord};
+ghost use Rattle.wp_wal.specs.Spelling.{AreEntries};
+ghost use Rattle.wp_wal.specs.Reading.{IsRecordCause, IsRefusedRecord, IsIllegalAmong, TakesRecord};
+
+use crate::error::WalError;
+use std::alloc::Global;
+use wp_core::History;
+use wp_entry::{RecordError, read_record};
+use wp_gatelog::Record;
+use wp_model::{Entry, Seq};
+
+/// Puts the entries behind the history, up to the first that may not stand there: the error is its number.
+fn take_entries(history: &mut History, entries: Vec<Entry>) -> Result<(), Seq>
+    requires few { length history.old.entries + length entries.items < 2 ^ 32 }
+    requires room { length entries.items ≤ history.old.room }
+    ensures ok { OnOk result (history.new.entries ≡ history.old.entries ++ entries.items) }
+    ensures err { IfErr result (IsIllegalAmong history.old.entries entries.items) }
+{
+    for entry in entries {
+        if !history.is_legal_next(&entry) {
+            return Err(history.entries().len() as u64 + 1);
+        }
+        history.push(entry);
+    }
+    Ok(())
+}
+
+/// Puts the entries behind the history that the record with this index is.
+fn take_record(
+    alloc: Global,
+    history: &mut History,
+    index: u64,
+    bytes: &[u8],
+) -> Result<(), WalError>
+    ensures ok { OnOk result (TakesRecord history.old.entries history.new.entries bytes.now) }
+    ensures err { IfErr result (IsRefusedRecord history.old.entries index bytes.now) }
+{
+    let due = history.entries().len() as u64 + 1;
+    let entries = match read_record(alloc, bytes, due) {
+        Ok(entries) => entries,
+        Err(RecordError::Memory) => return Err(WalError::Memory),
+        Err(why) => return Err(WalError::BadRecord { index, why }),
+    };
+    history.reserve(entries.len())?;
+    match take_entries(history, entries) {
+        Ok(()) => Ok(()),
+        Err(number) => Err(WalError::Illegal { number }),
+    }
+}
+
+/// The history that the records spell.
+pub(crate) fn history_of(alloc: Global, records: &[Record]) -> Result<History, WalError>
+    ensures ok { IfOk result (λ history. AreEntries 1 records.now history.entries) }
+    ensures err { IfErr result (IsRecordCause records.now) }
+{
+    let mut history = History::new(alloc);
+    for (i, record) in records.iter().enumerate() {
+        take_record(alloc, &mut history, i as u64, record.bytes())?;
+    }
+    Ok(history)
+}

@@ -1,0 +1,154 @@
+//! A write-ahead log that stands open.
+ghost use Rattle.std.specs.Prelude.{◌≡◌, ◌+◌, ◌≤◌, ◌++◌, List, [], Some, None, true, false, is_some, length, IfOk, IfErr, IfSome, OnOk, OnErr, MatchResult};
+ghost use Rattle.wp_model.specs.declared.entry.Entry.{Entry};
+ghost use Rattle.wp_model.specs.Legal.{IsLegal};
+ghost use Rattle.wp_outside.specs.Disk.{IfTold, Passes};
+ghost use Rattle.wp_outside.specs.Faults.{Rose};
+ghost use Rattle.wp_entry.specs.Record.{FormRecord, IsRecord};
+ghost use Rattle.wp_gatelog.specs.Moments.{Leaves};
+ghost use Rattle.wp_gatelog.specs.Opening.{SurvivesThrough};
+ghost use Rattle.wp_gatelog.specs.Spelling.{IsUnmade};
+ghost use Rattle.wp_wal.specs.Spelling.{MAGIC, IsLogOf, IsLogOrNext};
+ghost use Rattle.wp_wal.specs.Opening.{IsOpenCause};
+ghost use Rattle.wp_wal.specs.Wal.{Keeps, IsReserved, Appended, Refuses, KeepsWhenRefused, reserved_of};
+
+use crate::error::WalError;
+use crate::read::history_of;
+use crate::reserved::Reserved;
+use std::alloc::{AllocError, Global};
+use std::marker::Model;
+use wp_core::History;
+use wp_gatelog::{AppendError, DiskRefused, GateLog};
+use wp_model::{Entry, Seq};
+use wp_outside::Disk;
+
+/// The first four bytes behind the gate of the log's head.
+const LOG_MAGIC: [u8; 4] = *b"WPLG";
+
+/// An open log whose records spell a history. Clauses see its disk's moments and faults, its id, where it ends,
+/// whether it is closed, how many records it has, the number that the next entry gets, and the record that stands
+/// reserved.
+#[derive(Drop)]
+pub struct Wal<D: Disk> {
+    alloc: Global,
+    log: GateLog<D>,
+    due: Seq,
+    reserved: Option<Reserved>,
+}
+
+impl<D: Disk> Model for Wal<D> {
+    ghost use Rattle.wp_wal.specs.Wal.{State, state_of, HasNumbers};
+
+    ghost Value = { State };
+
+    ghost view = { λ w. state_of w.log w.due w.reserved };
+
+    ghost invariant = { λ w. HasNumbers w.due w.reserved };
+}
+
+impl<D: Disk> Wal<D> {
+    /// Opens the log that stands on the disk, or makes it with this id, and reads the history that it spells.
+    pub fn open(
+        alloc: Global,
+        disk: D,
+        id: u32,
+    ) -> Result<(Wal<D>, History), DiskRefused<D, WalError>>
+        ensures keeps { IfOk result (λ opened. Keeps opened.0 opened.1.entries []) }
+        ensures fresh { IfOk result (λ opened. (opened.0.closed ≡ false) × (opened.0.reserved ≡ None)) }
+        ensures legal { IfOk result (λ opened. IsLegal opened.1.entries) }
+
+        // The history is the one that the disk spelled as it was handed in, and the id the one in its head.
+        ensures found { IfOk result (λ opened. IfTold (D.moments disk) (λ m. IsLogOf opened.0.id opened.1.entries m.reads)) }
+        ensures made { IfOk result (λ opened. IfTold (D.moments disk) (λ m. IsUnmade m.reads → opened.0.id ≡ id)) }
+
+        ensures cause { IfErr result (λ refused. IsOpenCause (Rose (D.faults disk) (D.faults refused.disk)) (D.moments disk) refused.why) }
+
+        // A crash on the way takes nothing that an opening or an append has acknowledged.
+        ensures survives { MatchResult result (λ opened. SurvivesThrough MAGIC id (D.moments disk) opened.0.moments)
+            (λ refused. SurvivesThrough MAGIC id (D.moments disk) (D.moments refused.disk)) }
+        ensures later { MatchResult result (λ opened. D.faults disk ≤ opened.0.faults) (λ refused. D.faults disk ≤ D.faults refused.disk) }
+    {
+        let log = match GateLog::open(alloc, disk, LOG_MAGIC, id) {
+            Ok(log) => log,
+            Err(DiskRefused { disk, why }) => {
+                let why = WalError::from(why);
+                return Err(DiskRefused { disk, why });
+            }
+        };
+        match history_of(alloc, log.records()) {
+            Ok(history) => {
+                let due = history.published() + 1;
+                let wal = Wal {
+                    alloc,
+                    log,
+                    due,
+                    reserved: None,
+                };
+                Ok((wal, history))
+            }
+            Err(why) => {
+                let disk = log.into_disk();
+                Err(DiskRefused { disk, why })
+            }
+        }
+    }
+
+    /// The id in the log's head.
+    pub fn id(&self) -> u32
+        ensures { result ≡ self.now.id }
+    {
+        self.log.id()
+    }
+
+    /// Makes the record of the entries for the next append, in place of the one that stood reserved. Their numbers are
+    /// the next ones.
+    pub fn reserve(&mut self, entries: &[Entry]) -> Result<(), AllocError>
+        requires { FormRecord self.old.due entries.now }
+        ensures ok { OnOk result (self.new ≡ record self.old { reserved = Some (reserved_of self.old.due entries.now) }) }
+        ensures record { OnOk result (IsRecord self.old.due entries.now) }
+        ensures err { OnErr result (self.new ≡ self.old) }
+    {
+        self.reserved = Some(Reserved::of(self.alloc, self.due, entries)?);
+        Ok(())
+    }
+
+    /// Puts the record that stands reserved into the log. It takes no memory. Whatever it answers, none stands
+    /// reserved afterwards; after a fault the log is closed, and is to be opened again.
+    pub fn append(&mut self) -> Result<(), AppendError>
+        requires { is_some self.old.reserved ≡ true }
+
+        // At each moment since its beginning a crash leaves the history, or it and the new entries, whole.
+        ensures any_moment { (history entries : List Entry) → IsReserved self.old history entries
+            → Passes (Leaves (IsLogOrNext self.old.id history entries)) self.old.moments self.new.moments }
+
+        // Once it is acknowledged, a crash leaves the new entries; and after a fault still one of the two.
+        ensures keeps { OnOk result ((history entries : List Entry) → IsReserved self.old history entries
+            → Keeps self.new (history ++ entries) []) }
+        ensures kept { IfErr result (KeepsWhenRefused self.old self.new) }
+
+        ensures ok { OnOk result (IfSome self.old.reserved (Appended self.old self.new)) }
+        ensures err { IfErr result (Refuses self.old self.new) }
+        ensures spent { self.new.reserved ≡ None }
+        ensures later { self.old.faults ≤ self.new.faults }
+    {
+        let Some(reserved) = self.reserved.take() else {
+            unreachable!()
+        };
+        self.log.append(reserved.frame())?;
+        self.due += reserved.count();
+        Ok(())
+    }
+
+    /// Gives the disk back.
+    pub fn into_disk(self) -> D
+        ensures moments { D.moments result ≡ self.moments }
+        ensures faults { D.faults result ≡ self.faults }
+
+        // Until an append has failed, a crash leaves the history.
+        ensures left { (history next : List Entry) → Keeps self history next → self.closed ≡ false
+            → IfTold self.moments (Leaves (IsLogOf self.id history)) }
+    {
+        let Wal { log, .. } = self;
+        log.into_disk()
+    }
+}
