@@ -64,8 +64,11 @@ is_command_in_range (command.GetAt key name) = is_word 64 key && is_word 32 name
 is_command_in_range (command.Snap name) = is_word 32 name
 is_command_in_range (command.Free name) = is_word 32 name
 is_command_in_range (command.Begin name) = is_word 32 name
+is_command_in_range command.Prepare = true
+is_command_in_range command.Commit = true
+is_command_in_range command.Rollback = true
+is_command_in_range command.Leave = true
 is_command_in_range (command.Take name) = is_word 32 name
-is_command_in_range other = true
 
 abbrev pub is_in_range : Statement → Bool
 is_in_range (statement.Client name) = is_word 32 name
