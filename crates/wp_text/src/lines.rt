@@ -1,4 +1,4 @@
-ghost use Rattle.std.specs.Prelude.{◌≡◌, ◌++◌, OnOk, decimal};
+ghost use Rattle.std.specs.Prelude.{◌≡◌, ◌++◌, OnOk, codes, decimal};
 ghost use Rattle.wp_text.specs.Lines as text;
 
 use crate::reply::Reply;
@@ -30,6 +30,18 @@ fn push_with_word<const MOST: usize>(
     out.extend_from_slice(word.bytes())
 }
 
+fn push_word_at<const MOST: usize>(
+    out: &mut Vec<u8>,
+    text: &[u8],
+    word: &Word<MOST>,
+    n: Seq,
+) -> Result<(), AllocError>
+    ensures { OnOk result (out.new.items ≡ out.old.items ++ text.now ++ word.now ++ codes " @" ++ decimal n) }
+{
+    push_with_word(out, text, word)?;
+    push_with_number(out, b" @", n)
+}
+
 /// Appends the line that begins a client's part.
 pub fn client_line(out: &mut Vec<u8>, name: &Name) -> Result<(), AllocError>
     ensures { OnOk result (out.new.items ≡ out.old.items ++ text.client_line name.now) }
@@ -45,10 +57,7 @@ fn push_reply(out: &mut Vec<u8>, reply: &Reply) -> Result<(), AllocError>
         Reply::Put(n) => push_with_number(out, b"put @", *n),
         Reply::Del(n) => push_with_number(out, b"del @", *n),
         Reply::Held => out.extend_from_slice(b"held"),
-        Reply::Got(value, n) => {
-            push_with_word(out, b"get ", value)?;
-            push_with_number(out, b" @", *n)
-        }
+        Reply::Got(value, n) => push_word_at(out, b"get ", value, *n),
         Reply::Missing(n) => push_with_number(out, b"missing @", *n),
         Reply::GotOwn(value) => {
             push_with_word(out, b"get ", value)?;
@@ -68,10 +77,7 @@ fn push_reply(out: &mut Vec<u8>, reply: &Reply) -> Result<(), AllocError>
         Reply::Taken(name) => push_with_word(out, b"taken ", name),
         Reply::TooMany => out.extend_from_slice(b"toomany"),
         Reply::Busy(name) => push_with_word(out, b"busy txn ", name),
-        Reply::Unknown { name, at } => {
-            push_with_word(out, b"unknown ", name)?;
-            push_with_number(out, b" @", *at)
-        }
+        Reply::Unknown { name, at } => push_word_at(out, b"unknown ", name, *at),
         Reply::UnknownSnapshot(name) => push_with_word(out, b"unknown ", name),
         Reply::Full { published, limit } => {
             push_with_number(out, b"full ", *published)?;
