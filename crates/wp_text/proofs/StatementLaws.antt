@@ -1,5 +1,5 @@
 -- Words that are read as a statement are its words, and its words are read as it.
-use Rattle.std.proofs.Common.{◌≡◌, ℕ, Bool, true, false, ◌&&◌, List, [], ◌∷◌, Option, Some, None, Result, Ok, Err, refl, sym, ap, subst, ◌∙◌, inl, inr, ◌⊎◌}
+use Rattle.std.proofs.Common.{◌≡◌, ℕ, Bool, true, false, ◌&&◌, List, [], ◌∷◌, Option, Some, None, Result, Ok, Err, codes, refl, sym, ap, subst, ◌∙◌, inl, inr, ◌⊎◌}
 use Rattle.std.specs.List.{find}
 use Rattle.std.specs.Str.{bytes_eq}
 use Rattle.std.specs.Cmp.Lexicographic.{same_text}
@@ -11,27 +11,46 @@ use Rattle.wp_text.specs.declared.keyword.Keyword.TheVariants as keyword
 use Rattle.wp_text.specs.declared.keyword.TheConstants.{KEYWORDS}
 use Rattle.wp_text.specs.declared.line.Statement.{Statement}
 use Rattle.wp_text.specs.declared.line.Statement.TheVariants as statement
+use Rattle.wp_text.specs.declared.script.Command.{Command}
 use Rattle.wp_text.specs.declared.script.Command.TheVariants as command
-use Rattle.wp_text.specs.Grammar.{statement_words, is_in_range, is_passed_over, Say}
+use Rattle.wp_text.specs.Grammar.{command_words, statement_words, is_command_in_range, is_in_range, is_passed_over, Say}
 use Rattle.wp_text.specs.Faults.{IsNoStatement, IsOutOfRange, AreWrong}
-use Rattle.wp_text.specs.Reading.{◌>>=◌, keyword_text, keyword_named, one_word, two_words, statement_with, statement_named, statement_of}
+use Rattle.wp_text.specs.Reading.{◌>>=◌, keyword_text, keyword_named, one_word, two_words, alone, get_with, statement_with, statement_named, statement_of}
 use Rattle.wp_text.proofs.Results.{bind_ok, bind_err, chosen, failed, ok_is, err_is, ok_or_err, either}
 
 -- ---- a statement's words are read as it, or are out of range
 
 pub in_range_again : (s : Statement) → is_in_range s ≡ true → statement_of (statement_words s) ≡ Ok (Some s)
-unfolding statement_of statement_named keyword_named statement_with one_word two_words
+unfolding statement_of statement_named keyword_named statement_with alone get_with one_word two_words
 in_range_again (statement.Client name) range = rw range refl
 in_range_again (statement.Command (command.Put key value)) range = rw range refl
 in_range_again (statement.Command (command.Del key)) range = rw range refl
 in_range_again (statement.Command (command.Get key)) range = rw range refl
+in_range_again (statement.Command (command.GetAt key name)) range = rw range refl
+in_range_again (statement.Command (command.Snap name)) range = rw range refl
+in_range_again (statement.Command (command.Free name)) range = rw range refl
+in_range_again (statement.Command (command.Begin name)) range = rw range refl
+in_range_again (statement.Command command.Prepare) range = refl
+in_range_again (statement.Command command.Commit) range = refl
+in_range_again (statement.Command command.Rollback) range = refl
+in_range_again (statement.Command command.Leave) range = refl
+in_range_again (statement.Command (command.Take name)) range = rw range refl
 
 pub out_of_range_again : (s : Statement) → is_in_range s ≡ false → statement_of (statement_words s) ≡ Err BadWord
-unfolding statement_of statement_named keyword_named statement_with one_word two_words
+unfolding statement_of statement_named keyword_named statement_with alone get_with one_word two_words
 out_of_range_again (statement.Client name) range = rw range refl
 out_of_range_again (statement.Command (command.Put key value)) range = rw range refl
 out_of_range_again (statement.Command (command.Del key)) range = rw range refl
 out_of_range_again (statement.Command (command.Get key)) range = rw range refl
+out_of_range_again (statement.Command (command.GetAt key name)) range = rw range refl
+out_of_range_again (statement.Command (command.Snap name)) range = rw range refl
+out_of_range_again (statement.Command (command.Free name)) range = rw range refl
+out_of_range_again (statement.Command (command.Begin name)) range = rw range refl
+out_of_range_again (statement.Command command.Prepare) range = absurd cc
+out_of_range_again (statement.Command command.Commit) range = absurd cc
+out_of_range_again (statement.Command command.Rollback) range = absurd cc
+out_of_range_again (statement.Command command.Leave) range = absurd cc
+out_of_range_again (statement.Command (command.Take name)) range = rw range refl
 
 -- ---- words behind a keyword
 
@@ -81,54 +100,89 @@ two_words_fail most_first most_second (first ∷ second ∷ third ∷ words) why
 abbrev Written : List (List ℕ) → Statement → Type 0
 Written words s = (words ≡ statement_words s) × (is_in_range s ≡ true)
 
--- behind a keyword that is followed by one word, which makes the statement
-one_word_written : (most : ℕ) (text : List ℕ) (make : List ℕ → Statement) (made : (w : List ℕ) → (statement_words (make w) ≡ text ∷ w ∷ []) × (is_in_range (make w) ≡ is_word most w))
-    → (words : List (List ℕ)) (s : Statement) → (one_word most words >>= λ w. Ok (make w)) ≡ Ok s → Written (text ∷ words) s
-one_word_written most text make made words s e =
-    let b = bind_ok (one_word most words) (λ w. Ok (make w)) s e in
-    let t = one_word_takes most words b.0 b.1 in
-    subst (λ (x : Statement). Written (text ∷ words) x) (ok_is (make b.0) s b.2) (ap (λ (x : List (List ℕ)). text ∷ x) t.0 ∙ sym (made b.0).0, (made b.0).1 ∙ t.1)
+-- what reading the words gives: the statement that is written with them, or what is wrong with them
+record Reads (words : List (List ℕ)) (read : Result Statement Why) : Type 0 where
+  takes : (s : Statement) → read ≡ Ok s → Written words s
+  fails : (why : Why) → read ≡ Err why → (why ≡ BadCommand) ⊎ ((why ≡ BadWord) × IsOutOfRange words)
 
-one_word_refused : (most : ℕ) (text : List ℕ) (make : List ℕ → Statement) (made : (w : List ℕ) → (statement_words (make w) ≡ text ∷ w ∷ []) × (is_in_range (make w) ≡ is_word most w))
-    → (words : List (List ℕ)) (why : Why) → (one_word most words >>= λ w. Ok (make w)) ≡ Err why → (why ≡ BadCommand) ⊎ ((why ≡ BadWord) × IsOutOfRange (text ∷ words))
-one_word_refused most text make made words why e =
-    elim (bind_err (one_word most words) (λ w. Ok (make w)) why e) [
-      | inl first ↦ elim (one_word_fails most words why first) [
-        | inl command ↦ inl command
-        | inr word ↦ let w = word.1.0 in inr (word.0, record { statement = make w; written = ap (λ (x : List (List ℕ)). text ∷ x) word.1.1 ∙ sym (made w).0; range = (made w).1 ∙ word.1.2 })
-      ]
-      | inr second ↦ absurd (ok_or_err (make second.0) why second.2)
+-- one word behind the keyword
+one_word_read : (most : ℕ) (text : List ℕ) (make : List ℕ → Statement) (made : (w : List ℕ) → (statement_words (make w) ≡ text ∷ w ∷ []) × (is_in_range (make w) ≡ is_word most w))
+    → (words : List (List ℕ)) → Reads (text ∷ words) (one_word most words >>= λ w. Ok (make w))
+one_word_read most text make made words = record {
+  takes = λ s e.
+      let b = bind_ok (one_word most words) (λ w. Ok (make w)) s e in
+      let t = one_word_takes most words b.0 b.1 in
+      subst (λ (x : Statement). Written (text ∷ words) x) (ok_is (make b.0) s b.2) (ap (λ (x : List (List ℕ)). text ∷ x) t.0 ∙ sym (made b.0).0, (made b.0).1 ∙ t.1);
+  fails = λ why e. elim (bind_err (one_word most words) (λ w. Ok (make w)) why e) [
+    | inl first ↦ elim (one_word_fails most words why first) [
+      | inl command ↦ inl command
+      | inr word ↦ let w = word.1.0 in inr (word.0, record { statement = make w; written = ap (λ (x : List (List ℕ)). text ∷ x) word.1.1 ∙ sym (made w).0; range = (made w).1 ∙ word.1.2 })
+    ]
+    | inr second ↦ absurd (ok_or_err (make second.0) why second.2)
+  ];
+}
+
+-- two words, which all words are made of
+two_words_read : (most_first most_second : ℕ) (all words : List (List ℕ)) (make : List ℕ → List ℕ → Statement)
+    → (made : (a b : List ℕ) → words ≡ a ∷ b ∷ [] → (all ≡ statement_words (make a b)) × (is_in_range (make a b) ≡ (is_word most_first a && is_word most_second b)))
+    → Reads all (two_words most_first most_second words >>= λ both. Ok (make both.0 both.1))
+two_words_read most_first most_second all words make made = record {
+  takes = λ s e.
+      let b = bind_ok (two_words most_first most_second words) (λ both. Ok (make both.0 both.1)) s e in
+      let t = two_words_take most_first most_second words b.0 b.1 in
+      let m = made b.0.0 b.0.1 t.0 in
+      subst (λ (x : Statement). Written all x) (ok_is (make b.0.0 b.0.1) s b.2) (m.0, m.1 ∙ t.1);
+  fails = λ why e. elim (bind_err (two_words most_first most_second words) (λ both. Ok (make both.0 both.1)) why e) [
+    | inl first ↦ elim (two_words_fail most_first most_second words why first) [
+      | inl command ↦ inl command
+      | inr word ↦ let m = made word.1.0 word.1.1 word.1.2 in inr (word.0, record { statement = make word.1.0 word.1.1; written = m.0; range = m.1 ∙ word.1.3 })
+    ]
+    | inr second ↦ absurd (ok_or_err (make second.0.0 second.0.1) why second.2)
+  ];
+}
+
+-- nothing behind the keyword
+alone_read : (text : List ℕ) (c : Command) → (command_words c ≡ text ∷ []) × (is_command_in_range c ≡ true) → (words : List (List ℕ)) → Reads (text ∷ words) (alone c words)
+unfolding alone
+alone_read text c made [] = record {
+  takes = λ s e. subst (λ (x : Statement). Written (text ∷ []) x) (ok_is (statement.Command c) s e) (sym made.0, made.1);
+  fails = λ why e. absurd (ok_or_err (statement.Command c) why e);
+}
+alone_read text c made (word ∷ words) = record {
+  takes = λ s e. absurd cc;
+  fails = λ why e. inl cc;
+}
+
+-- a key, the word `at` and a name
+get_at_read : (key at name : List ℕ) → Reads (codes "get" ∷ key ∷ at ∷ name ∷ []) (get_with (key ∷ at ∷ name ∷ []))
+unfolding get_with
+get_at_read key at name =
+    elim (either (bytes_eq at (codes "at"))) [
+      | inl so ↦
+          let is : at ≡ codes "at" = same_text at (codes "at") (sym so) in
+          rw so (two_words_read 64 32 (codes "get" ∷ key ∷ at ∷ name ∷ []) (key ∷ name ∷ []) (λ a b. statement.Command (command.GetAt a b)) (λ a b e. (cc, refl)))
+      | inr other ↦ rw other (record { takes = λ s e. absurd cc; fails = λ why e. inl cc })
     ]
 
-put_written : (words : List (List ℕ)) (s : Statement) → (two_words 64 256 words >>= λ both. Ok (statement.Command (command.Put both.0 both.1))) ≡ Ok s → Written (keyword_text keyword.Put ∷ words) s
-put_written words s e =
-    let b = bind_ok (two_words 64 256 words) (λ both. Ok (statement.Command (command.Put both.0 both.1))) s e in
-    let t = two_words_take 64 256 words b.0 b.1 in
-    subst (λ (x : Statement). Written (keyword_text keyword.Put ∷ words) x) (ok_is (statement.Command (command.Put b.0.0 b.0.1)) s b.2) (ap (λ (x : List (List ℕ)). keyword_text keyword.Put ∷ x) t.0, t.1)
+get_read : (words : List (List ℕ)) → Reads (codes "get" ∷ words) (get_with words)
+unfolding get_with
+get_read (key ∷ at ∷ name ∷ []) = get_at_read key at name
+get_read words = one_word_read 64 (codes "get") (λ w. statement.Command (command.Get w)) (λ w. (refl, refl)) words
 
-put_refused : (words : List (List ℕ)) (why : Why) → (two_words 64 256 words >>= λ both. Ok (statement.Command (command.Put both.0 both.1))) ≡ Err why → (why ≡ BadCommand) ⊎ ((why ≡ BadWord) × IsOutOfRange (keyword_text keyword.Put ∷ words))
-put_refused words why e =
-    elim (bind_err (two_words 64 256 words) (λ both. Ok (statement.Command (command.Put both.0 both.1))) why e) [
-      | inl first ↦ elim (two_words_fail 64 256 words why first) [
-        | inl command ↦ inl command
-        | inr word ↦ inr (word.0, record { statement = statement.Command (command.Put word.1.0 word.1.1); written = ap (λ (x : List (List ℕ)). keyword_text keyword.Put ∷ x) word.1.2; range = word.1.3 })
-      ]
-      | inr second ↦ absurd (ok_or_err (statement.Command (command.Put second.0.0 second.0.1)) why second.2)
-    ]
-
-behind_keyword_takes : (k : Keyword) (words : List (List ℕ)) (s : Statement) → statement_with k words ≡ Ok s → Written (keyword_text k ∷ words) s
+behind_keyword : (k : Keyword) (words : List (List ℕ)) → Reads (keyword_text k ∷ words) (statement_with k words)
 unfolding statement_with
-behind_keyword_takes keyword.Client words s e = one_word_written 32 (keyword_text keyword.Client) (λ w. statement.Client w) (λ w. (refl, refl)) words s e
-behind_keyword_takes keyword.Put words s e = put_written words s e
-behind_keyword_takes keyword.Del words s e = one_word_written 64 (keyword_text keyword.Del) (λ w. statement.Command (command.Del w)) (λ w. (refl, refl)) words s e
-behind_keyword_takes keyword.Get words s e = one_word_written 64 (keyword_text keyword.Get) (λ w. statement.Command (command.Get w)) (λ w. (refl, refl)) words s e
-
-behind_keyword_fails : (k : Keyword) (words : List (List ℕ)) (why : Why) → statement_with k words ≡ Err why → (why ≡ BadCommand) ⊎ ((why ≡ BadWord) × IsOutOfRange (keyword_text k ∷ words))
-unfolding statement_with
-behind_keyword_fails keyword.Client words why e = one_word_refused 32 (keyword_text keyword.Client) (λ w. statement.Client w) (λ w. (refl, refl)) words why e
-behind_keyword_fails keyword.Put words why e = put_refused words why e
-behind_keyword_fails keyword.Del words why e = one_word_refused 64 (keyword_text keyword.Del) (λ w. statement.Command (command.Del w)) (λ w. (refl, refl)) words why e
-behind_keyword_fails keyword.Get words why e = one_word_refused 64 (keyword_text keyword.Get) (λ w. statement.Command (command.Get w)) (λ w. (refl, refl)) words why e
+behind_keyword keyword.Client words = one_word_read 32 (keyword_text keyword.Client) (λ w. statement.Client w) (λ w. (refl, refl)) words
+behind_keyword keyword.Put words = two_words_read 64 256 (keyword_text keyword.Put ∷ words) words (λ a b. statement.Command (command.Put a b)) (λ a b e. (ap (λ (x : List (List ℕ)). keyword_text keyword.Put ∷ x) e, refl))
+behind_keyword keyword.Del words = one_word_read 64 (keyword_text keyword.Del) (λ w. statement.Command (command.Del w)) (λ w. (refl, refl)) words
+behind_keyword keyword.Get words = get_read words
+behind_keyword keyword.Snap words = one_word_read 32 (keyword_text keyword.Snap) (λ w. statement.Command (command.Snap w)) (λ w. (refl, refl)) words
+behind_keyword keyword.Free words = one_word_read 32 (keyword_text keyword.Free) (λ w. statement.Command (command.Free w)) (λ w. (refl, refl)) words
+behind_keyword keyword.Begin words = one_word_read 32 (keyword_text keyword.Begin) (λ w. statement.Command (command.Begin w)) (λ w. (refl, refl)) words
+behind_keyword keyword.Prepare words = alone_read (keyword_text keyword.Prepare) command.Prepare (refl, refl) words
+behind_keyword keyword.Commit words = alone_read (keyword_text keyword.Commit) command.Commit (refl, refl) words
+behind_keyword keyword.Rollback words = alone_read (keyword_text keyword.Rollback) command.Rollback (refl, refl) words
+behind_keyword keyword.Leave words = alone_read (keyword_text keyword.Leave) command.Leave (refl, refl) words
+behind_keyword keyword.Take words = one_word_read 32 (keyword_text keyword.Take) (λ w. statement.Command (command.Take w)) (λ w. (refl, refl)) words
 
 -- ---- all words of a line
 
@@ -149,7 +203,7 @@ unfolding statement_named
 named_says first others None meaning named e = absurd cc
 named_says first others (Some k) meaning named e =
     let b = bind_ok (statement_with k others) (λ s. Ok (Some s)) meaning e in
-    let t = behind_keyword_takes k others b.0 b.1 in
+    let t = (behind_keyword k others).takes b.0 b.1 in
     subst (λ (x : Option Statement). Say (first ∷ others) x) (ok_is (Some b.0) meaning b.2) (subst (λ (w : List ℕ). Written (w ∷ others) b.0) (keyword_is first k named) t)
 
 -- what is read is what the words say
@@ -177,7 +231,7 @@ named_refuses first others None why named e whole =
     subst (λ (x : Why). AreWrong (first ∷ others) x) is (unknown (first ∷ others) (rw is whole))
 named_refuses first others (Some k) why named e whole =
     elim (bind_err (statement_with k others) (λ s. Ok (Some s)) why e) [
-      | inl fails ↦ elim (behind_keyword_fails k others why fails) [
+      | inl fails ↦ elim ((behind_keyword k others).fails why fails) [
         | inl command ↦ subst (λ (x : Why). AreWrong (first ∷ others) x) (sym command) (unknown (first ∷ others) (rw command at whole))
         | inr word ↦ subst (λ (x : Why). AreWrong (first ∷ others) x) (sym word.0) (subst (λ (w : List ℕ). IsOutOfRange (w ∷ others)) (keyword_is first k named) word.1)
       ]

@@ -40,6 +40,15 @@ abbrev pub command_words : Command → List (List ℕ)
 command_words (command.Put key value) = codes "put" ∷ key ∷ value ∷ []
 command_words (command.Del key) = codes "del" ∷ key ∷ []
 command_words (command.Get key) = codes "get" ∷ key ∷ []
+command_words (command.GetAt key name) = codes "get" ∷ key ∷ codes "at" ∷ name ∷ []
+command_words (command.Snap name) = codes "snap" ∷ name ∷ []
+command_words (command.Free name) = codes "free" ∷ name ∷ []
+command_words (command.Begin name) = codes "begin" ∷ name ∷ []
+command_words command.Prepare = codes "prepare" ∷ []
+command_words command.Commit = codes "commit" ∷ []
+command_words command.Rollback = codes "rollback" ∷ []
+command_words command.Leave = codes "leave" ∷ []
+command_words (command.Take name) = codes "take" ∷ name ∷ []
 
 -- the words that a statement is written with
 abbrev pub statement_words : Statement → List (List ℕ)
@@ -51,6 +60,15 @@ abbrev pub is_command_in_range : Command → Bool
 is_command_in_range (command.Put key value) = is_word 64 key && is_word 256 value
 is_command_in_range (command.Del key) = is_word 64 key
 is_command_in_range (command.Get key) = is_word 64 key
+is_command_in_range (command.GetAt key name) = is_word 64 key && is_word 32 name
+is_command_in_range (command.Snap name) = is_word 32 name
+is_command_in_range (command.Free name) = is_word 32 name
+is_command_in_range (command.Begin name) = is_word 32 name
+is_command_in_range command.Prepare = true
+is_command_in_range command.Commit = true
+is_command_in_range command.Rollback = true
+is_command_in_range command.Leave = true
+is_command_in_range (command.Take name) = is_word 32 name
 
 abbrev pub is_in_range : Statement → Bool
 is_in_range (statement.Client name) = is_word 32 name

@@ -20,23 +20,59 @@ numbered n = codes "@" ++ decimal n
 abbrev pub client_line : List ℕ → List ℕ
 client_line name = codes "client " ++ name ++ line_end
 
+-- ---- replies
+
+abbrev pub reply_words : Reply → List ℕ
+reply_words (reply.Put n) = codes "put " ++ numbered n
+reply_words (reply.Del n) = codes "del " ++ numbered n
+reply_words reply.Held = codes "held"
+reply_words (reply.Got value n) = codes "get " ++ value ++ codes " " ++ numbered n
+reply_words (reply.Missing n) = codes "missing " ++ numbered n
+reply_words (reply.GotOwn value) = codes "get " ++ value ++ codes " own"
+reply_words reply.MissingOwn = codes "missing own"
+reply_words (reply.Snapped n) = codes "snap " ++ numbered n
+reply_words reply.Freed = codes "freed"
+reply_words reply.Begun = codes "begun"
+reply_words (reply.Prepared n) = codes "prepare " ++ numbered n
+reply_words (reply.Committed n) = codes "commit " ++ numbered n
+reply_words reply.Dropped = codes "dropped"
+reply_words (reply.RolledBack n) = codes "rollback " ++ numbered n
+reply_words reply.Left = codes "left"
+reply_words reply.Took = codes "took"
+reply_words reply.State = codes "state"
+reply_words (reply.Taken name) = codes "taken " ++ name
+reply_words reply.TooMany = codes "toomany"
+reply_words (reply.Busy name) = codes "busy txn " ++ name
+reply_words (reply.Unknown name at) = codes "unknown " ++ name ++ codes " " ++ numbered at
+reply_words (reply.UnknownSnapshot name) = codes "unknown " ++ name
+reply_words (reply.Full published limit) = codes "full " ++ decimal published ++ codes " " ++ decimal limit
+reply_words reply.FaultLog = codes "fault log"
+reply_words (reply.Stopped published) = codes "stopped " ++ decimal published
+
 abbrev pub reply_line : Reply → List ℕ
-reply_line (reply.Put n) = codes "put " ++ numbered n ++ line_end
-reply_line (reply.Del n) = codes "del " ++ numbered n ++ line_end
-reply_line (reply.Got value n) = codes "get " ++ value ++ codes " " ++ numbered n ++ line_end
-reply_line (reply.Missing n) = codes "missing " ++ numbered n ++ line_end
-reply_line (reply.Full published limit) = codes "full " ++ decimal published ++ codes " " ++ decimal limit ++ line_end
-reply_line reply.FaultLog = codes "fault log" ++ line_end
-reply_line (reply.Stopped published) = codes "stopped " ++ decimal published ++ line_end
+reply_line reply = reply_words reply ++ line_end
+
+-- ---- the history
 
 -- a change behind what stands before it in its line
 abbrev pub change_words : Change → List ℕ
 change_words (change.Put key value) = codes " put " ++ key ++ codes " " ++ value
 change_words (change.Del key) = codes " del " ++ key
 
+abbrev pub changes_words : List Change → List ℕ
+changes_words changes = flat_map change_words changes
+
+-- an entry behind its number
+abbrev pub entry_words : Entry → List ℕ
+entry_words (entry.Write batch) = codes " write" ++ changes_words batch
+entry_words (entry.Prepare name batch) = codes " prepare " ++ name ++ changes_words batch
+entry_words (entry.Commit p) = codes " commit " ++ decimal p
+entry_words (entry.Undo p batch) = codes " undo " ++ decimal p ++ changes_words batch
+entry_words (entry.Close p) = codes " close " ++ decimal p
+
 -- the line of the n-th entry
 abbrev pub entry_line : ℕ → Entry → List ℕ
-entry_line n (entry.Write batch) = decimal n ++ codes " write" ++ flat_map change_words batch ++ line_end
+entry_line n entry = decimal n ++ entry_words entry ++ line_end
 
 -- the lines of the entries, of which the first has this number
 abbrev pub entry_lines : ℕ → List Entry → List ℕ

@@ -47,6 +47,14 @@ keyword_text keyword.Client = codes "client"
 keyword_text keyword.Put = codes "put"
 keyword_text keyword.Del = codes "del"
 keyword_text keyword.Get = codes "get"
+keyword_text keyword.Snap = codes "snap"
+keyword_text keyword.Free = codes "free"
+keyword_text keyword.Begin = codes "begin"
+keyword_text keyword.Prepare = codes "prepare"
+keyword_text keyword.Commit = codes "commit"
+keyword_text keyword.Rollback = codes "rollback"
+keyword_text keyword.Leave = codes "leave"
+keyword_text keyword.Take = codes "take"
 
 unfoldable pub keyword_named : List ℕ → Option Keyword
 keyword_named word = find (λ keyword. bytes_eq (keyword_text keyword) word) KEYWORDS
@@ -61,6 +69,16 @@ unfoldable pub two_words : ℕ → ℕ → List (List ℕ) → Result (List ℕ 
 two_words most_first most_second (first ∷ second ∷ []) = if is_word most_first first && is_word most_second second then Ok (first, second) else Err BadWord
 two_words most_first most_second _ = Err BadCommand
 
+-- the command, where it has no words of its own
+unfoldable pub alone : Command → List (List ℕ) → Result Statement Why
+alone command [] = Ok (statement.Command command)
+alone command (word ∷ words) = Err BadCommand
+
+-- what reads a key: at a snapshot, or as it is now
+unfoldable pub get_with : List (List ℕ) → Result Statement Why
+get_with (key ∷ at ∷ name ∷ []) = if bytes_eq at (codes "at") then (two_words 64 32 (key ∷ name ∷ []) >>= λ both. Ok (statement.Command (command.GetAt both.0 both.1))) else Err BadCommand
+get_with words = one_word 64 words >>= λ key. Ok (statement.Command (command.Get key))
+
 -- the statement with these words behind its keyword
 unfoldable pub statement_with : Keyword → List (List ℕ) → Result Statement Why
 statement_with keyword.Client words = do
@@ -72,9 +90,23 @@ statement_with keyword.Put words = do
 statement_with keyword.Del words = do
   key ← one_word 64 words
   Ok (statement.Command (command.Del key))
-statement_with keyword.Get words = do
-  key ← one_word 64 words
-  Ok (statement.Command (command.Get key))
+statement_with keyword.Get words = get_with words
+statement_with keyword.Snap words = do
+  name ← one_word 32 words
+  Ok (statement.Command (command.Snap name))
+statement_with keyword.Free words = do
+  name ← one_word 32 words
+  Ok (statement.Command (command.Free name))
+statement_with keyword.Begin words = do
+  name ← one_word 32 words
+  Ok (statement.Command (command.Begin name))
+statement_with keyword.Prepare words = alone command.Prepare words
+statement_with keyword.Commit words = alone command.Commit words
+statement_with keyword.Rollback words = alone command.Rollback words
+statement_with keyword.Leave words = alone command.Leave words
+statement_with keyword.Take words = do
+  name ← one_word 32 words
+  Ok (statement.Command (command.Take name))
 
 -- the same where the first word names a keyword
 unfoldable pub statement_named : Option Keyword → List (List ℕ) → Result (Option Statement) Why

@@ -18,7 +18,8 @@ pub enum Why {
     /// One of the bytes is outside the space to `~`.
     #[error("bad byte")]
     BadByte,
-    /// No command begins with the first word, or it has another number of words.
+    /// No command begins with the first word, or it has another number of words, or the third of four words that
+    /// begin with `get` is not `at`.
     #[error("bad command")]
     BadCommand,
     /// A key, a value or a name is too long.

@@ -8,9 +8,30 @@ pub enum Keyword {
     Put,
     Del,
     Get,
+    Snap,
+    Free,
+    Begin,
+    Prepare,
+    Commit,
+    Rollback,
+    Leave,
+    Take,
 }
 
-const KEYWORDS: [Keyword; 4] = [Keyword::Client, Keyword::Put, Keyword::Del, Keyword::Get];
+const KEYWORDS: [Keyword; 12] = [
+    Keyword::Client,
+    Keyword::Put,
+    Keyword::Del,
+    Keyword::Get,
+    Keyword::Snap,
+    Keyword::Free,
+    Keyword::Begin,
+    Keyword::Prepare,
+    Keyword::Commit,
+    Keyword::Rollback,
+    Keyword::Leave,
+    Keyword::Take,
+];
 
 impl Keyword {
     fn text(self) -> &'static [u8]
@@ -21,6 +42,14 @@ impl Keyword {
             Keyword::Put => b"put",
             Keyword::Del => b"del",
             Keyword::Get => b"get",
+            Keyword::Snap => b"snap",
+            Keyword::Free => b"free",
+            Keyword::Begin => b"begin",
+            Keyword::Prepare => b"prepare",
+            Keyword::Commit => b"commit",
+            Keyword::Rollback => b"rollback",
+            Keyword::Leave => b"leave",
+            Keyword::Take => b"take",
         }
     }
 

@@ -1,7 +1,7 @@
 ghost use Rattle.std.specs.Prelude.{◌≡◌, map, IfOk};
 ghost use Rattle.std.specs.List.{list_all};
 ghost use Rattle.wp_text.specs.Grammar.{is_line_byte, words_of};
-ghost use Rattle.wp_text.specs.Reading.{Gives, one_word, two_words, statement_with, statement_of, line_of};
+ghost use Rattle.wp_text.specs.Reading.{Gives, one_word, two_words, alone, get_with, statement_with, statement_of, line_of};
 
 use crate::fault::{LineError, Why};
 use crate::keyword::Keyword;
@@ -58,6 +58,30 @@ fn two_words<const FIRST: usize, const SECOND: usize>(
     }
 }
 
+#[tactic(auto, unfolding(crate::specs::Reading::alone))]
+fn alone(words: &[&[u8]], command: Command) -> Result<Statement, LineError>
+    ensures { Gives (λ s. s) result (alone command (map (λ word. word.now) words.now)) }
+{
+    match words {
+        [] => Ok(Statement::Command(command)),
+        _ => Err(LineError::Wrong(Why::BadCommand)),
+    }
+}
+
+#[tactic(auto, unfolding(crate::specs::Reading::get_with))]
+fn get_with(alloc: Global, words: &[&[u8]]) -> Result<Statement, LineError>
+    ensures { Gives (λ s. s) result (get_with (map (λ word. word.now) words.now)) }
+{
+    let [key, at, name] = words else {
+        return Ok(Statement::Command(Command::Get(one_word(alloc, words)?)));
+    };
+    if *at != b"at".as_slice() {
+        return Err(LineError::Wrong(Why::BadCommand));
+    }
+    let (key, name) = two_words(alloc, &[*key, *name])?;
+    Ok(Statement::Command(Command::GetAt(key, name)))
+}
+
 #[tactic(auto, unfolding(crate::specs::Reading::statement_with))]
 fn statement_with(alloc: Global, keyword: Keyword, words: &[&[u8]]) -> Result<Statement, LineError>
     ensures { Gives (λ s. s) result (statement_with keyword (map (λ word. word.now) words.now)) }
@@ -69,7 +93,15 @@ fn statement_with(alloc: Global, keyword: Keyword, words: &[&[u8]]) -> Result<St
             Statement::Command(Command::Put(key, value))
         }
         Keyword::Del => Statement::Command(Command::Del(one_word(alloc, words)?)),
-        Keyword::Get => Statement::Command(Command::Get(one_word(alloc, words)?)),
+        Keyword::Get => get_with(alloc, words)?,
+        Keyword::Snap => Statement::Command(Command::Snap(one_word(alloc, words)?)),
+        Keyword::Free => Statement::Command(Command::Free(one_word(alloc, words)?)),
+        Keyword::Begin => Statement::Command(Command::Begin(one_word(alloc, words)?)),
+        Keyword::Prepare => alone(words, Command::Prepare)?,
+        Keyword::Commit => alone(words, Command::Commit)?,
+        Keyword::Rollback => alone(words, Command::Rollback)?,
+        Keyword::Leave => alone(words, Command::Leave)?,
+        Keyword::Take => Statement::Command(Command::Take(one_word(alloc, words)?)),
     })
 }
 

@@ -1,10 +1,9 @@
-ghost use Rattle.std.specs.Prelude.{◌≡◌, ◌++◌, OnOk, decimal};
-ghost use Rattle.std.specs.List.{flat_map};
+ghost use Rattle.std.specs.Prelude.{◌≡◌, ◌++◌, OnOk, codes, decimal};
 ghost use Rattle.wp_text.specs.Lines as text;
 
 use crate::reply::Reply;
 use std::alloc::{AllocError, Global};
-use wp_model::{Batch, Change, Entry, Name, Seq};
+use wp_model::{Batch, Change, Entry, Name, Seq, Word};
 
 fn push_number(out: &mut Vec<u8>, n: Seq) -> Result<(), AllocError>
     ensures { OnOk result (out.new.items ≡ out.old.items ++ decimal n) }
@@ -13,50 +12,87 @@ fn push_number(out: &mut Vec<u8>, n: Seq) -> Result<(), AllocError>
     out.extend_from_slice(digits.format(n).as_bytes())
 }
 
+fn push_with_number(out: &mut Vec<u8>, text: &[u8], n: Seq) -> Result<(), AllocError>
+    ensures { OnOk result (out.new.items ≡ out.old.items ++ text.now ++ decimal n) }
+{
+    out.extend_from_slice(text)?;
+    push_number(out, n)
+}
+
+fn push_with_word<const MOST: usize>(
+    out: &mut Vec<u8>,
+    text: &[u8],
+    word: &Word<MOST>,
+) -> Result<(), AllocError>
+    ensures { OnOk result (out.new.items ≡ out.old.items ++ text.now ++ word.now) }
+{
+    out.extend_from_slice(text)?;
+    out.extend_from_slice(word.bytes())
+}
+
+fn push_word_at<const MOST: usize>(
+    out: &mut Vec<u8>,
+    text: &[u8],
+    word: &Word<MOST>,
+    n: Seq,
+) -> Result<(), AllocError>
+    ensures { OnOk result (out.new.items ≡ out.old.items ++ text.now ++ word.now ++ codes " @" ++ decimal n) }
+{
+    push_with_word(out, text, word)?;
+    push_with_number(out, b" @", n)
+}
+
 /// Appends the line that begins a client's part.
 pub fn client_line(out: &mut Vec<u8>, name: &Name) -> Result<(), AllocError>
     ensures { OnOk result (out.new.items ≡ out.old.items ++ text.client_line name.now) }
 {
-    out.extend_from_slice(b"client ")?;
-    out.extend_from_slice(name.bytes())?;
+    push_with_word(out, b"client ", name)?;
     out.extend_from_slice(b"\n")
+}
+
+fn push_reply(out: &mut Vec<u8>, reply: &Reply) -> Result<(), AllocError>
+    ensures { OnOk result (out.new.items ≡ out.old.items ++ text.reply_words reply.now) }
+{
+    match reply {
+        Reply::Put(n) => push_with_number(out, b"put @", *n),
+        Reply::Del(n) => push_with_number(out, b"del @", *n),
+        Reply::Held => out.extend_from_slice(b"held"),
+        Reply::Got(value, n) => push_word_at(out, b"get ", value, *n),
+        Reply::Missing(n) => push_with_number(out, b"missing @", *n),
+        Reply::GotOwn(value) => {
+            push_with_word(out, b"get ", value)?;
+            out.extend_from_slice(b" own")
+        }
+        Reply::MissingOwn => out.extend_from_slice(b"missing own"),
+        Reply::Snapped(n) => push_with_number(out, b"snap @", *n),
+        Reply::Freed => out.extend_from_slice(b"freed"),
+        Reply::Begun => out.extend_from_slice(b"begun"),
+        Reply::Prepared(n) => push_with_number(out, b"prepare @", *n),
+        Reply::Committed(n) => push_with_number(out, b"commit @", *n),
+        Reply::Dropped => out.extend_from_slice(b"dropped"),
+        Reply::RolledBack(n) => push_with_number(out, b"rollback @", *n),
+        Reply::Left => out.extend_from_slice(b"left"),
+        Reply::Took => out.extend_from_slice(b"took"),
+        Reply::State => out.extend_from_slice(b"state"),
+        Reply::Taken(name) => push_with_word(out, b"taken ", name),
+        Reply::TooMany => out.extend_from_slice(b"toomany"),
+        Reply::Busy(name) => push_with_word(out, b"busy txn ", name),
+        Reply::Unknown { name, at } => push_word_at(out, b"unknown ", name, *at),
+        Reply::UnknownSnapshot(name) => push_with_word(out, b"unknown ", name),
+        Reply::Full { published, limit } => {
+            push_with_number(out, b"full ", *published)?;
+            push_with_number(out, b" ", *limit)
+        }
+        Reply::FaultLog => out.extend_from_slice(b"fault log"),
+        Reply::Stopped(n) => push_with_number(out, b"stopped ", *n),
+    }
 }
 
 /// Appends the line of a reply.
 pub fn reply_line(out: &mut Vec<u8>, reply: &Reply) -> Result<(), AllocError>
     ensures { OnOk result (out.new.items ≡ out.old.items ++ text.reply_line reply.now) }
 {
-    match reply {
-        Reply::Put(n) => {
-            out.extend_from_slice(b"put @")?;
-            push_number(out, *n)?;
-        }
-        Reply::Del(n) => {
-            out.extend_from_slice(b"del @")?;
-            push_number(out, *n)?;
-        }
-        Reply::Got(value, n) => {
-            out.extend_from_slice(b"get ")?;
-            out.extend_from_slice(value.bytes())?;
-            out.extend_from_slice(b" @")?;
-            push_number(out, *n)?;
-        }
-        Reply::Missing(n) => {
-            out.extend_from_slice(b"missing @")?;
-            push_number(out, *n)?;
-        }
-        Reply::Full { published, limit } => {
-            out.extend_from_slice(b"full ")?;
-            push_number(out, *published)?;
-            out.extend_from_slice(b" ")?;
-            push_number(out, *limit)?;
-        }
-        Reply::FaultLog => out.extend_from_slice(b"fault log")?,
-        Reply::Stopped(n) => {
-            out.extend_from_slice(b"stopped ")?;
-            push_number(out, *n)?;
-        }
-    }
+    push_reply(out, reply)?;
     out.extend_from_slice(b"\n")
 }
 
@@ -65,20 +101,15 @@ fn push_change(out: &mut Vec<u8>, change: &Change) -> Result<(), AllocError>
 {
     match change {
         Change::Put(key, value) => {
-            out.extend_from_slice(b" put ")?;
-            out.extend_from_slice(key.bytes())?;
-            out.extend_from_slice(b" ")?;
-            out.extend_from_slice(value.bytes())
+            push_with_word(out, b" put ", key)?;
+            push_with_word(out, b" ", value)
         }
-        Change::Del(key) => {
-            out.extend_from_slice(b" del ")?;
-            out.extend_from_slice(key.bytes())
-        }
+        Change::Del(key) => push_with_word(out, b" del ", key),
     }
 }
 
 fn push_batch(out: &mut Vec<u8>, batch: &Batch) -> Result<(), AllocError>
-    ensures { OnOk result (out.new.items ≡ out.old.items ++ flat_map text.change_words batch.now) }
+    ensures { OnOk result (out.new.items ≡ out.old.items ++ text.changes_words batch.now) }
 {
     for change in batch.changes() {
         push_change(out, change)?;
@@ -86,17 +117,33 @@ fn push_batch(out: &mut Vec<u8>, batch: &Batch) -> Result<(), AllocError>
     Ok(())
 }
 
+fn push_entry(out: &mut Vec<u8>, entry: &Entry) -> Result<(), AllocError>
+    ensures { OnOk result (out.new.items ≡ out.old.items ++ text.entry_words entry.now) }
+{
+    match entry {
+        Entry::Write(batch) => {
+            out.extend_from_slice(b" write")?;
+            push_batch(out, batch)
+        }
+        Entry::Prepare(name, batch) => {
+            push_with_word(out, b" prepare ", name)?;
+            push_batch(out, batch)
+        }
+        Entry::Commit(p) => push_with_number(out, b" commit ", *p),
+        Entry::Undo(p, batch) => {
+            push_with_number(out, b" undo ", *p)?;
+            push_batch(out, batch)
+        }
+        Entry::Close(p) => push_with_number(out, b" close ", *p),
+    }
+}
+
 /// Appends the line of a history's entry.
 pub fn history_line(out: &mut Vec<u8>, n: Seq, entry: &Entry) -> Result<(), AllocError>
     ensures { OnOk result (out.new.items ≡ out.old.items ++ text.entry_line n entry.now) }
 {
     push_number(out, n)?;
-    match entry {
-        Entry::Write(batch) => {
-            out.extend_from_slice(b" write")?;
-            push_batch(out, batch)?;
-        }
-    }
+    push_entry(out, entry)?;
     out.extend_from_slice(b"\n")
 }
 
@@ -104,9 +151,7 @@ pub fn history_line(out: &mut Vec<u8>, n: Seq, entry: &Entry) -> Result<(), Allo
 pub fn end_line(out: &mut Vec<u8>, published: Seq, undecided: u64) -> Result<(), AllocError>
     ensures { OnOk result (out.new.items ≡ out.old.items ++ text.end_line published undecided) }
 {
-    out.extend_from_slice(b"end ")?;
-    push_number(out, published)?;
-    out.extend_from_slice(b" ")?;
-    push_number(out, undecided)?;
+    push_with_number(out, b"end ", published)?;
+    push_with_number(out, b" ", undecided)?;
     out.extend_from_slice(b"\n")
 }

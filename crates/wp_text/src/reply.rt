@@ -1,4 +1,4 @@
-use wp_model::{Seq, Value};
+use wp_model::{Name, Seq, Value};
 
 /// What a client is answered for one command. Each number is that of an entry of the one history, 0 before the first.
 #[derive(Debug, Drop)]
@@ -7,11 +7,47 @@ pub enum Reply {
     Put(Seq),
     /// The deletion stands in the history, as the entry with this number.
     Del(Seq),
-    /// What the history leaves under the key at this number.
+    /// The change is in the batch of the client's transaction.
+    Held,
+    /// What is committed under the key at this number.
     Got(Value, Seq),
-    /// The history leaves nothing under the key at this number.
+    /// Nothing is committed under the key at this number.
     Missing(Seq),
-    /// The next number would pass the limit: the number published, and the limit.
+    /// What the client's own transaction puts under the key.
+    GotOwn(Value),
+    /// The client's own transaction deletes the key.
+    MissingOwn,
+    /// The snapshot is taken, at this number.
+    Snapped(Seq),
+    /// The snapshot is released.
+    Freed,
+    /// The transaction has begun.
+    Begun,
+    /// The transaction is prepared, by the entry with this number.
+    Prepared(Seq),
+    /// The transaction is committed, by the entry with this number.
+    Committed(Seq),
+    /// The transaction is gone. It was not prepared, so the history has nothing of it.
+    Dropped,
+    /// The prepared transaction is rolled back. The entry with this number closes it.
+    RolledBack(Seq),
+    /// The prepared transaction is no client's.
+    Left,
+    /// The prepared transaction is the client's.
+    Took,
+    /// The command has no place in the state of the client's session.
+    State,
+    /// The name, of a transaction or a snapshot, is in use.
+    Taken(Name),
+    /// The batch has no room for another key, or there is none for another snapshot.
+    TooMany,
+    /// The transaction of this name holds the key.
+    Busy(Name),
+    /// At this number no prepared transaction has the name.
+    Unknown { name: Name, at: Seq },
+    /// The client has no snapshot of this label.
+    UnknownSnapshot(Name),
+    /// A number that the command needs would pass the limit: the number published, and the limit.
     Full { published: Seq, limit: Seq },
     /// The log failed while it took the entry. It takes no more in this run.
     FaultLog,

@@ -9,8 +9,26 @@ pub enum Command {
     Put(Key, Value),
     /// Delete the key.
     Del(Key),
-    /// Read the key.
+    /// Read the key: what the client's own transaction says of it, else what a fresh snapshot does.
     Get(Key),
+    /// Read the key at the client's snapshot of this label.
+    GetAt(Key, Name),
+    /// Take a snapshot under this label.
+    Snap(Name),
+    /// Release the snapshot of this label.
+    Free(Name),
+    /// Begin a transaction of this name.
+    Begin(Name),
+    /// Prepare the transaction.
+    Prepare,
+    /// Commit the transaction, prepared or not.
+    Commit,
+    /// Undo the transaction, prepared or not.
+    Rollback,
+    /// Leave the prepared transaction to whoever takes it.
+    Leave,
+    /// Take the prepared transaction of this name.
+    Take(Name),
 }
 
 /// The commands of one client, in order.

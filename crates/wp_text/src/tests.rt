@@ -1,16 +1,14 @@
 use super::*;
 use std::alloc::Global;
 use std::test::*;
-use wp_model::{Batch, Change, Entry, Key, Name, Value};
+use wp_model::{Batch, Change, Entry, Word};
 
 const SHORT_SCRIPTS: [(&[u8], usize, Why); 17] = [
     (b"client a\nput k 1\x01\n", 2, Why::BadByte),
     (b"client a\nput k 1\r\n", 2, Why::BadByte),
     (b"# \t\nget k to s", 1, Why::BadByte),
     (b"client a\nfly k", 2, Why::BadCommand),
-    (b"client a\nget k to s", 2, Why::BadCommand),
     (b"client a\nput k\n", 2, Why::BadCommand),
-    (b"client a\nput k v w\n", 2, Why::BadCommand),
     (b"client a b", 1, Why::BadCommand),
     (b"client a\n\n# x\nPUT k 1", 4, Why::BadCommand),
     (
@@ -21,6 +19,8 @@ const SHORT_SCRIPTS: [(&[u8], usize, Why); 17] = [
     (b"client 123456789012345678901234567890123", 1, Why::BadWord),
     (b"put k 1", 1, Why::NoClient),
     (b"# no client\n\ndel k\nfly", 3, Why::NoClient),
+    (b"commit\nclient a", 1, Why::NoClient),
+    (b"get k at s", 1, Why::NoClient),
     (b"client a\nclient a", 2, Why::ClientTwice),
     (
         b"client a\nput k 1\nclient b\n client  a ",
@@ -49,6 +49,73 @@ fn the_first_fault_is_named(rt: HostRuntime) {
             "line {line}: {why}"
         );
     }
+}
+
+const WRONG_COMMANDS: [(&str, Why); 34] = [
+    ("del", Why::BadCommand),
+    ("get", Why::BadCommand),
+    ("snap", Why::BadCommand),
+    ("free", Why::BadCommand),
+    ("begin", Why::BadCommand),
+    ("take", Why::BadCommand),
+    ("put", Why::BadCommand),
+    ("put k v w", Why::BadCommand),
+    ("del k l", Why::BadCommand),
+    ("get k l", Why::BadCommand),
+    ("get k at", Why::BadCommand),
+    ("get k to s", Why::BadCommand),
+    ("get k AT s", Why::BadCommand),
+    ("get k at s t", Why::BadCommand),
+    ("snap s t", Why::BadCommand),
+    ("free s t", Why::BadCommand),
+    ("begin s t", Why::BadCommand),
+    ("take s t", Why::BadCommand),
+    ("prepare x", Why::BadCommand),
+    ("commit x", Why::BadCommand),
+    ("rollback x", Why::BadCommand),
+    ("leave x", Why::BadCommand),
+    ("snaps s", Why::BadCommand),
+    ("begin 123456789012345678901234567890123 u", Why::BadCommand),
+    (
+        "get 12345678901234567890123456789012345678901234567890123456789012345 to s",
+        Why::BadCommand,
+    ),
+    (
+        "put 12345678901234567890123456789012345678901234567890123456789012345 1",
+        Why::BadWord,
+    ),
+    (
+        "del 12345678901234567890123456789012345678901234567890123456789012345",
+        Why::BadWord,
+    ),
+    (
+        "get 12345678901234567890123456789012345678901234567890123456789012345",
+        Why::BadWord,
+    ),
+    (
+        "get 12345678901234567890123456789012345678901234567890123456789012345 at s",
+        Why::BadWord,
+    ),
+    ("get k at 123456789012345678901234567890123", Why::BadWord),
+    ("snap 123456789012345678901234567890123", Why::BadWord),
+    ("free 123456789012345678901234567890123", Why::BadWord),
+    ("begin 123456789012345678901234567890123", Why::BadWord),
+    ("take 123456789012345678901234567890123", Why::BadWord),
+];
+
+#[test]
+fn a_command_has_its_words(rt: HostRuntime) -> Result<(), Fail> {
+    for (command, why) in WRONG_COMMANDS {
+        let mut script = Vec::from_slice(rt.alloc(), b"client a\n")?;
+        script.extend_from_slice(command.as_bytes())?;
+        let fault = ScriptError::Fault(Fault { line: 2, why });
+        assert_eq!(rt;
+            read_script(rt.alloc(), &script).err(),
+            Some(fault),
+            "{command}: {why}"
+        );
+    }
+    Ok(())
 }
 
 fn filled(alloc: Global, len: usize, byte: u8) -> Result<Vec<u8>, Fail> {
@@ -99,6 +166,69 @@ fn a_script_is_read(rt: HostRuntime) -> Result<(), Fail> {
     Ok(())
 }
 
+const COMMANDS: &[u8] = b"client a
+put k1 v1
+del k2
+get k3
+get at at 12345678901234567890123456789012
+snap s5
+free s6
+begin t7
+prepare
+commit
+rollback
+leave
+take t12
+";
+
+const COMMANDS_READ: [(&str, &[u8], &[u8]); 12] = [
+    ("put", b"k1", b"v1"),
+    ("del", b"k2", b""),
+    ("get", b"k3", b""),
+    ("get at", b"at", b"12345678901234567890123456789012"),
+    ("snap", b"s5", b""),
+    ("free", b"s6", b""),
+    ("begin", b"t7", b""),
+    ("prepare", b"", b""),
+    ("commit", b"", b""),
+    ("rollback", b"", b""),
+    ("leave", b"", b""),
+    ("take", b"t12", b""),
+];
+
+fn told(command: &Command) -> (&str, &[u8], &[u8]) {
+    match command {
+        Command::Put(key, value) => ("put", key.bytes(), value.bytes()),
+        Command::Del(key) => ("del", key.bytes(), b""),
+        Command::Get(key) => ("get", key.bytes(), b""),
+        Command::GetAt(key, snapshot) => ("get at", key.bytes(), snapshot.bytes()),
+        Command::Snap(name) => ("snap", name.bytes(), b""),
+        Command::Free(name) => ("free", name.bytes(), b""),
+        Command::Begin(name) => ("begin", name.bytes(), b""),
+        Command::Prepare => ("prepare", b"", b""),
+        Command::Commit => ("commit", b"", b""),
+        Command::Rollback => ("rollback", b"", b""),
+        Command::Leave => ("leave", b"", b""),
+        Command::Take(name) => ("take", name.bytes(), b""),
+    }
+}
+
+#[test]
+fn every_command_is_read(rt: HostRuntime) -> Result<(), Fail> {
+    let script = read_script(rt.alloc(), COMMANDS)
+        .ok()
+        .ok_or("it is a script")?;
+    let [part] = script.as_slice() else {
+        return Err(Fail::from("there is one client"));
+    };
+    let commands = part.commands.as_slice();
+    assert_eq!(rt; commands.len(), COMMANDS_READ.len());
+    for (command, read) in commands.iter().zip(COMMANDS_READ) {
+        assert_eq!(rt; told(command), read);
+    }
+    Ok(())
+}
+
 #[test]
 fn scripts_may_be_empty(rt: HostRuntime) -> Result<(), Fail> {
     for (bytes, count) in [(b"".as_slice(), 0), (b"\n# x", 0), (b"client a", 1)] {
@@ -133,53 +263,143 @@ fn faults_have_their_texts(rt: HostRuntime) -> Result<(), Fail> {
     Ok(())
 }
 
-const REPLIES: &[u8] =
-    b"client alice\nput @1\ndel @2\nget v @18446744073709551615\nmissing @0\nfull 3 4\nfault log\nstopped 5\n";
+fn word<const MOST: usize>(alloc: Global, text: &str) -> Result<Word<MOST>, Fail> {
+    Ok(Word::read(alloc, text.as_bytes()).ok().ok_or("a word")?)
+}
+
+fn line_of(alloc: Global, reply: &Reply) -> Result<Vec<u8>, Fail> {
+    let mut text = Vec::new(alloc);
+    reply_line(&mut text, reply)?;
+    Ok(text)
+}
 
 #[test]
 fn replies_have_their_lines(rt: HostRuntime) -> Result<(), Fail> {
-    let mut text = Vec::new(rt.alloc());
-    client_line(
-        &mut text,
-        &Name::read(rt.alloc(), b"alice").ok().ok_or("a name")?,
-    )?;
-    let value = Value::read(rt.alloc(), b"v").ok().ok_or("a value")?;
-    for reply in [
-        Reply::Put(1),
-        Reply::Del(2),
-        Reply::Got(value, u64::MAX),
-        Reply::Missing(0),
-        Reply::Full {
-            published: 3,
-            limit: 4,
-        },
-        Reply::FaultLog,
-        Reply::Stopped(5),
+    let alloc = rt.alloc();
+    for (reply, line) in [
+        (Reply::Put(1), "put @1\n"),
+        (Reply::Del(2), "del @2\n"),
+        (Reply::Held, "held\n"),
+        (
+            Reply::Got(word(alloc, "v")?, u64::MAX),
+            "get v @18446744073709551615\n",
+        ),
+        (Reply::Missing(0), "missing @0\n"),
+        (Reply::GotOwn(word(alloc, "v")?), "get v own\n"),
+        (Reply::MissingOwn, "missing own\n"),
+        (Reply::Snapped(3), "snap @3\n"),
+        (Reply::Freed, "freed\n"),
+        (Reply::Begun, "begun\n"),
+        (Reply::Prepared(4), "prepare @4\n"),
+        (Reply::Committed(5), "commit @5\n"),
+        (Reply::Dropped, "dropped\n"),
+        (Reply::RolledBack(6), "rollback @6\n"),
+        (Reply::Left, "left\n"),
+        (Reply::Took, "took\n"),
     ] {
-        reply_line(&mut text, &reply)?;
+        assert_eq!(rt;
+            line_of(alloc, &reply)?.as_slice(),
+            line.as_bytes(),
+            "{line}"
+        );
     }
-    assert_eq!(rt; text.as_slice(), REPLIES);
     Ok(())
 }
 
 #[test]
-fn a_history_has_its_lines(rt: HostRuntime) -> Result<(), Fail> {
-    let mut batch = Batch::new(rt.alloc());
-    let key = Key::read(rt.alloc(), b"k").ok().ok_or("a key")?;
-    let other = Key::read(rt.alloc(), b"b").ok().ok_or("a key")?;
-    let value = Value::read(rt.alloc(), b"v").ok().ok_or("a value")?;
+fn refusals_have_their_lines(rt: HostRuntime) -> Result<(), Fail> {
+    let alloc = rt.alloc();
+    for (reply, line) in [
+        (Reply::State, "state\n"),
+        (Reply::Taken(word(alloc, "t")?), "taken t\n"),
+        (Reply::TooMany, "toomany\n"),
+        (Reply::Busy(word(alloc, "t")?), "busy txn t\n"),
+        (
+            Reply::Unknown {
+                name: word(alloc, "u")?,
+                at: 7,
+            },
+            "unknown u @7\n",
+        ),
+        (Reply::UnknownSnapshot(word(alloc, "s")?), "unknown s\n"),
+        (
+            Reply::Full {
+                published: 8,
+                limit: 9,
+            },
+            "full 8 9\n",
+        ),
+        (Reply::FaultLog, "fault log\n"),
+        (Reply::Stopped(10), "stopped 10\n"),
+    ] {
+        assert_eq!(rt;
+            line_of(alloc, &reply)?.as_slice(),
+            line.as_bytes(),
+            "{line}"
+        );
+    }
+    Ok(())
+}
+
+fn two_changes(alloc: Global) -> Result<Batch, Fail> {
+    let mut batch = Batch::new(alloc);
     batch
-        .set(Change::Put(key, value))
+        .set(Change::Put(word(alloc, "k")?, word(alloc, "v")?))
         .ok()
         .ok_or("there is room")?;
-    batch.set(Change::Del(other)).ok().ok_or("there is room")?;
+    batch
+        .set(Change::Del(word(alloc, "b")?))
+        .ok()
+        .ok_or("there is room")?;
+    Ok(batch)
+}
+
+#[test]
+fn entries_have_their_lines(rt: HostRuntime) -> Result<(), Fail> {
+    let alloc = rt.alloc();
+    for (n, entry, line) in [
+        (
+            1,
+            Entry::Write(two_changes(alloc)?),
+            "1 write del b put k v\n",
+        ),
+        (2, Entry::Write(Batch::new(alloc)), "2 write\n"),
+        (
+            3,
+            Entry::Prepare(word(alloc, "t")?, two_changes(alloc)?),
+            "3 prepare t del b put k v\n",
+        ),
+        (
+            4,
+            Entry::Prepare(word(alloc, "u")?, Batch::new(alloc)),
+            "4 prepare u\n",
+        ),
+        (5, Entry::Commit(4), "5 commit 4\n"),
+        (
+            6,
+            Entry::Undo(3, two_changes(alloc)?),
+            "6 undo 3 del b put k v\n",
+        ),
+        (7, Entry::Close(3), "7 close 3\n"),
+        (8, Entry::Undo(1, Batch::new(alloc)), "8 undo 1\n"),
+        (
+            u64::MAX,
+            Entry::Commit(10),
+            "18446744073709551615 commit 10\n",
+        ),
+    ] {
+        let mut text = Vec::new(alloc);
+        history_line(&mut text, n, &entry)?;
+        assert_eq!(rt; text.as_slice(), line.as_bytes(), "{line}");
+    }
+    Ok(())
+}
+
+#[test]
+fn a_transcript_has_its_other_lines(rt: HostRuntime) -> Result<(), Fail> {
     let mut text = Vec::new(rt.alloc());
-    history_line(&mut text, 1, &Entry::Write(batch))?;
-    history_line(&mut text, 2, &Entry::Write(Batch::new(rt.alloc())))?;
-    end_line(&mut text, 2, 0)?;
-    assert_eq!(rt;
-        text.as_slice(),
-        b"1 write del b put k v\n2 write\nend 2 0\n".as_slice()
-    );
+    client_line(&mut text, &word(rt.alloc(), "alice")?)?;
+    end_line(&mut text, 18, 2)?;
+    assert_eq!(rt; text.as_slice(), b"client alice\nend 18 2\n".as_slice());
     Ok(())
 }
