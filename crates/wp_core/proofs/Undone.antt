@@ -22,10 +22,13 @@ undone_behind_two (Commit p) second others = refl
 undone_behind_two (Undo p batch) second others = refl
 undone_behind_two (Close p) second others = refl
 
+pub undone_behind : (front others : List Entry) (entry : Entry) → undone_last (front ++ entry ∷ others) ≡ undone_last (entry ∷ others)
+undone_behind [] others entry = refl
+undone_behind (first ∷ []) others entry = undone_behind_two first entry others
+undone_behind (first ∷ second ∷ front) others entry = undone_behind_two first second (front ++ entry ∷ others) ∙ undone_behind (second ∷ front) others entry
+
 pub undone_next : (history : List Entry) (entry : Entry) → undone_last (history ++ entry ∷ []) ≡ undone_by entry
-undone_next [] entry = undone_alone entry
-undone_next (first ∷ []) entry = undone_behind_two first entry [] ∙ undone_alone entry
-undone_next (first ∷ second ∷ others) entry = undone_behind_two first second (others ++ entry ∷ []) ∙ undone_next (second ∷ others) entry
+undone_next history entry = undone_behind history [] entry ∙ undone_alone entry
 
 pub undone_at_last : (history : List Entry) (entry : Entry) → slice_get history (length history - 1) ≡ Some entry → undone_by entry ≡ undone_last history
 undone_at_last [] entry at = absurd cc

@@ -4,7 +4,7 @@ ghost use Rattle.wp_model.specs.declared.change.Change.{Change};
 ghost use Rattle.wp_model.specs.declared.entry.Entry.{Entry};
 ghost use Rattle.wp_model.specs.declared.entry.Entry.TheVariants.{Prepare, Undo, Close};
 ghost use Rattle.wp_model.specs.History.{undecided, is_undecided, name_at, batch_at, value_at};
-ghost use Rattle.wp_model.specs.Legal.{IsLegal, IsLegalBehind};
+ghost use Rattle.wp_model.specs.Legal.{IsLegal, IsLegalBehind, undone_last};
 ghost use Rattle.wp_core.specs.Growth.{undecided_behind};
 
 /// A legal history grows by each entry that may stand behind it.
@@ -38,4 +38,10 @@ pub fn old_numbers_stay()
     ensures batches { (history more : List Entry) (p : ℕ) → p ≤ length history → batch_at (history ++ more) p ≡ batch_at history p }
     ensures values { (history more : List Entry) (key : List ℕ) (n : ℕ) → n ≤ length history
         → value_at (history ++ more) key n ≡ value_at history key n }
+{}
+
+/// What stands at the end says what a history undoes last.
+pub fn last_entry_undoes()
+    ensures { (front others : List Entry) (entry : Entry)
+        → undone_last (front ++ entry ∷ others) ≡ undone_last (entry ∷ others) }
 {}

@@ -1,81 +1,112 @@
 -- What the clients are answered one after another on one thread is explained by the entries at the end.
-use Rattle.std.proofs.Common.{◌≡◌, ℕ, zero, suc, ◌+◌, ◌^◌, ◌<◌, ◌≤◌, ◌==◌, Bool, true, false, cond, eqb, List, [], ◌∷◌, ◌++◌, length, refl, sym, ap, add-zero, zero-add, subst, ◌∙◌, arith, length-append, inl, inr}
-use Rattle.std.specs.Prelude.{count_by}
+use Rattle.std.proofs.Common.{◌≡◌, ℕ, zero, suc, ◌+◌, ◌^◌, ◌<◌, ◌≤◌, ◌==◌, Bool, true, false, cond, eqb, List, [], ◌∷◌, ◌++◌, length, take, Option, Some, None, refl, sym, ap, add-zero, zero-add, subst, ◌∙◌, append_assoc, arith, length-append, inl, inr, if◌then◌else◌}
+use Rattle.std.specs.Prelude.{count_by, unwrap_or, IfSome}
 use Rattle.std.specs.List.{range_with_len, flat_map, list_any}
-use Rattle.std.proofs.lemmas.List.Concat.{flat_map-cons}
+use Rattle.std.proofs.lemmas.List.Concat.{flat_map-cons, flat_map-append}
+use Rattle.std.proofs.lemmas.List.Folds.{list_any-append}
 use Rattle.std.proofs.lemmas.Bool.{cases_eq, eq-eqb, ne_eqb, or_cases}
-use Rattle.std.proofs.lemmas.List.Sums.{sum_by-cons}
+use Rattle.std.proofs.lemmas.List.Sums.{sum_by-cons, sum_by-append}
+use Rattle.std.proofs.Math.Seq.{take-append_seam}
 use Rattle.wp_model.specs.declared.entry.Entry.{Entry}
+use Rattle.wp_model.specs.Legal.{IsLegal}
 use Rattle.wp_text.specs.declared.script.Command.{Command}
 use Rattle.wp_text.specs.declared.script.Part.{Part}
 use Rattle.wp_text.specs.declared.reply.Reply.{Reply}
-use Rattle.wp_run.specs.Session.{IsSession, last_after, acknowledged, is_fault, is_stopped}
-use Rattle.wp_run.specs.Legal.{AreLegal}
-use Rattle.wp_run.specs.Current.{Between, AreCurrent}
+use Rattle.wp_run.specs.Client.{Client, new_client}
+use Rattle.wp_run.specs.Due.{Store, IsReply, acknowledged, added, is_fault, store_after, client_after}
+use Rattle.wp_run.specs.Session.{fresh_in, last_after, store_at, IsAnswer, IsSession, is_stopped}
+use Rattle.wp_run.specs.Current.{RunsAlone}
 use Rattle.wp_run.specs.Transcript.{AreSessions, IsExact, all_replies, Explains}
-use Rattle.wp_run.specs.Engine.{State, bit, between, Later, Runs, AllRun}
-use Rattle.wp_run.proofs.StepLemmas.{Later-equal, Later-same, Later-trans, Steps-later, means, counts}
+use Rattle.wp_run.specs.Engine.{State, bit, store_of, Later, Steps, Runs, IsRun, AllRun}
+use Rattle.wp_run.proofs.LaterLemmas.{Later-equal, Later-same, Later-trans, Steps-later}
 
 -- ---- runs
 
-pub Runs-later : (old new : State) (commands : List Command) (answers : List Reply) → Runs old commands answers new → Later old new
-Runs-later old new [] [] e = Later-equal old new e
-Runs-later old new [] (a ∷ answers) h = absurd h
-Runs-later old new (c ∷ commands) [] h = absurd h
-Runs-later old new (c ∷ commands) (a ∷ answers) (mid, step, rest) = Later-trans old mid new (Steps-later old mid c a step) (Runs-later mid new commands answers rest)
-
-Runs-append : (old mid new : State) (front : List Command) (first : List Reply) (commands : List Command) (answers : List Reply) → Runs old front first mid → Runs mid commands answers new → Runs old (front ++ commands) (first ++ answers) new
-Runs-append old mid new [] [] commands answers e rest = subst (λ (s : State). Runs s commands answers new) e rest
-Runs-append old mid new [] (a ∷ first) commands answers h rest = absurd h
-Runs-append old mid new (c ∷ front) [] commands answers h rest = absurd h
-Runs-append old mid new (c ∷ front) (a ∷ first) commands answers (next, step, h) rest = (next, step, Runs-append next mid new front first commands answers h rest)
-
-abbrev all_commands : List Part → List Command
-all_commands parts = flat_map (λ p. p.commands) parts
-
-Runs-all : (old new : State) (parts : List Part) (sessions : List (List Reply)) → AllRun old parts sessions new → Runs old (all_commands parts) (all_replies sessions) new
-Runs-all old new [] [] e = e
-Runs-all old new [] (a ∷ sessions) h = absurd h
-Runs-all old new (p ∷ parts) [] h = absurd h
-Runs-all old new (p ∷ parts) (a ∷ sessions) (mid, run, rest) =
-    rw (flat_map-cons (λ (q : Part). q.commands) p parts, flat_map-cons (λ (xs : List Reply). xs) a sessions) (Runs-append old mid new p.commands a (all_commands parts) (all_replies sessions) run (Runs-all mid new parts sessions rest))
-
--- ---- sessions
-
-is_session : (old new final : State) (last : ℕ) (commands : List Command) (answers : List Reply) → last ≤ length old.entries → Runs old commands answers new → Later new final → IsSession final.entries old.limit last commands answers
-is_session old new final last [] [] le h later = tt
-is_session old new final last [] (a ∷ answers) le h later = absurd h
-is_session old new final last (c ∷ commands) [] le h later = absurd h
-is_session old new final last (c ∷ commands) (a ∷ answers) le (mid, step, rest) later =
-    let here = means old mid final last c a le step (Later-trans mid new final (Runs-later mid new commands answers rest) later) in
-    let same : mid.limit ≡ old.limit = (Steps-later old mid c a step).limited in
-    (here.0, subst (λ (k : ℕ). IsSession final.entries k (last_after last a) commands answers) same (is_session mid new final (last_after last a) commands answers here.1 rest later))
+pub Runs-later : (old new : State) (was now : Client) (commands : List Command) (answers : List Reply) → Runs old was commands answers new now → Later old new
+Runs-later old new was now [] [] e = Later-equal old new e.0
+Runs-later old new was now [] (a ∷ answers) h = absurd h
+Runs-later old new was now (c ∷ commands) [] h = absurd h
+Runs-later old new was now (c ∷ commands) (a ∷ answers) (mid, next, step, rest) = Later-trans old mid new (Steps-later old mid was next c a step) (Runs-later mid new next now commands answers rest)
 
 pub AllRun-later : (old new : State) (parts : List Part) (sessions : List (List Reply)) → AllRun old parts sessions new → Later old new
-AllRun-later old new parts sessions h = Runs-later old new (all_commands parts) (all_replies sessions) (Runs-all old new parts sessions h)
+AllRun-later old new [] [] e = Later-equal old new e
+AllRun-later old new [] (a ∷ sessions) h = absurd h
+AllRun-later old new (p ∷ parts) [] h = absurd h
+AllRun-later old new (p ∷ parts) (a ∷ sessions) (mid, (last, run), rest) = Later-trans old mid new (Runs-later old mid new_client last p.commands a run) (AllRun-later mid new parts sessions rest)
+
+longer_by : (old new : State) → Later old new → length old.entries ≤ length new.entries
+longer_by old new later = omega (arith, ap (λ (xs : List Entry). length xs) later.grows.1, length-append old.entries later.grows.0)
+
+-- ---- answers
+
+last_within : (old new last : ℕ) (number : Option ℕ) → last ≤ old → old ≤ new → IfSome number (λ n. (old ≤ n) × (n ≤ new)) → (last ≤ unwrap_or number last) × (unwrap_or number last ≤ new)
+last_within old new last (Some n) le longer within = (omega (arith, within.0), within.1)
+last_within old new last None le longer within = (omega arith, omega arith)
+
+-- a command's reply in every later history
+answered : (old new final : State) (last : ℕ) (was now : Client) (c : Command) (answer : Reply) → last ≤ length old.entries → Steps old was c answer new now → Later new final
+    → (given : IsAnswer final.entries old.limit last was c answer) × (client_after (take given.at final.entries) was c answer ≡ now) × (last_after last c answer ≤ length new.entries)
+answered old new final last was now c answer le step later =
+    let new_is = added (store_of old) was c answer in
+    let whole : final.entries ≡ (old.entries ++ new_is) ++ later.grows.0 = later.grows.1 ∙ ap (λ (xs : List Entry). xs ++ later.grows.0) step.entries in
+    let split : final.entries ≡ old.entries ++ (new_is ++ later.grows.0) = whole ∙ append_assoc old.entries new_is later.grows.0 in
+    let front : take (length old.entries) final.entries ≡ old.entries = ap (λ (xs : List Entry). take (length old.entries) xs) split ∙ take-append_seam old.entries (new_is ++ later.grows.0) in
+    let size : length (old.entries ++ new_is) ≡ length old.entries + length new_is = length-append old.entries new_is in
+    let both : take (length old.entries + length new_is) final.entries ≡ old.entries ++ new_is =
+    ap (λ (n : ℕ). take n final.entries) (sym size) ∙ ap (λ (xs : List Entry). take (length (old.entries ++ new_is)) xs) whole ∙ take-append_seam (old.entries ++ new_is) later.grows.0 in
+    let all = Later-trans old new final (Steps-later old new was now c answer step) later in
+    let first = last_within (length old.entries) (length new.entries) last (fresh_in c answer) le (longer_by old new (Steps-later old new was now c answer step)) step.fresh in
+    let at = store_at final.entries old.limit old.stopped (length old.entries) in
+    let same : at ≡ store_of old = ap (λ (h : List Entry). record { history = h; stopped = old.stopped; limit = old.limit }) front in (
+      record {
+        at = length old.entries;
+        seen = le;
+        within = longer_by old final all;
+        stopped = old.stopped;
+        replied = subst (λ (s : Store). IsReply s was c answer) (sym same) step.replied;
+        stands = subst (λ (s : Store). take (length old.entries + length (added s was c answer)) final.entries ≡ take (length old.entries) final.entries ++ added s was c answer) (sym same) (rw front both);
+        ended = λ s. ap (λ (xs : List Entry). length xs) (sym (all.stays s));
+        rises = first.0;
+      },
+      ap (λ (h : List Entry). client_after h was c answer) front ∙ sym step.client,
+      first.1,
+    )
+
+is_session : (old new final : State) (last : ℕ) (was now : Client) (commands : List Command) (answers : List Reply) → last ≤ length old.entries → Runs old was commands answers new now → Later new final → IsSession final.entries old.limit last was commands answers
+is_session old new final last was now [] [] le h later = tt
+is_session old new final last was now [] (a ∷ answers) le h later = absurd h
+is_session old new final last was now (c ∷ commands) [] le h later = absurd h
+is_session old new final last was now (c ∷ commands) (a ∷ answers) le (mid, next, step, rest) later =
+    let here = answered old mid final last was next c a le step (Later-trans mid new final (Runs-later mid new next now commands answers rest) later) in
+    let more = is_session mid new final (last_after last c a) next now commands answers here.2 rest later in
+    (here.0, subst (λ (x : Client). IsSession final.entries old.limit (last_after last c a) x commands answers) (sym here.1) (subst (λ (k : ℕ). IsSession final.entries k (last_after last c a) next commands answers) step.limited more))
 
 are_sessions : (old new final : State) (opened : ℕ) (parts : List Part) (sessions : List (List Reply)) → opened ≤ length old.entries → AllRun old parts sessions new → Later new final → AreSessions final.entries old.limit opened parts sessions
 are_sessions old new final opened [] [] le h later = tt
 are_sessions old new final opened [] (a ∷ sessions) le h later = absurd h
 are_sessions old new final opened (p ∷ parts) [] le h later = absurd h
-are_sessions old new final opened (p ∷ parts) (a ∷ sessions) le (mid, run, rest) later =
-    let first = Runs-later old mid p.commands a run in
-    let longer : length mid.entries ≡ length old.entries + length first.grows.0 = ap (λ (xs : List Entry). length xs) first.grows.1 ∙ length-append old.entries first.grows.0 in (
-      is_session old mid final opened p.commands a le run (Later-trans mid new final (AllRun-later mid new parts sessions rest) later),
+are_sessions old new final opened (p ∷ parts) (a ∷ sessions) le (mid, (last, run), rest) later =
+    let first = Runs-later old mid new_client last p.commands a run in
+    let longer = longer_by old mid first in (
+      is_session old mid final opened new_client last p.commands a le run (Later-trans mid new final (AllRun-later mid new parts sessions rest) later),
       subst (λ (k : ℕ). AreSessions final.entries k opened parts sessions) first.limited (are_sessions mid new final opened parts sessions (omega arith) rest later),
     )
 
--- ---- counts over a whole run
+-- ---- counts
 
 pub record Totals (old new : State) (answers : List Reply) : Type 0 where
-  pub added : ℕ
-  pub longer : length new.entries ≡ length old.entries + added
-  pub numbers : flat_map acknowledged answers ≡ range_with_len (length old.entries + 1) added
+  pub count : ℕ
+  pub longer : length new.entries ≡ length old.entries + count
+  pub numbers : flat_map acknowledged answers ≡ range_with_len (length old.entries + 1) count
   pub failed : count_by is_fault answers + bit old.stopped ≡ bit new.stopped
   pub told : list_any is_stopped answers ≡ true → new.stopped ≡ true
-  pub current : AreCurrent old.limit (between old) answers
-  pub few : (bound : ℕ) → old.limit < bound → length old.entries < bound → length new.entries < bound
-  pub legal : AreLegal old.entries → AreLegal new.entries
+
+fault_counts : (answer : Reply) (before now : Bool) → now ≡ (if is_fault answer then true else before) → (is_fault answer ≡ true → before ≡ false) → cond (is_fault answer) 1 0 + bit before ≡ bit now
+fault_counts answer before now is running = by (is_fault answer) is running
+  where
+    by : (fault : Bool) → now ≡ (if fault then true else before) → (fault ≡ true → before ≡ false) → cond fault 1 0 + bit before ≡ bit now
+    by true is running = rw (is, running refl) refl
+    by false is running = rw is (omega arith)
 
 range-append : (a k m : ℕ) → range_with_len a k ++ range_with_len (a + k) m ≡ range_with_len a (k + m)
 range-append a zero m = rw (add-zero, zero-add) refl
@@ -84,37 +115,46 @@ range-append a (suc k) m =
     let whole : suc k + m ≡ suc (k + m) = omega arith in
     rw (next, whole) (ap (λ (xs : List ℕ). a ∷ xs) (range-append (a + 1) k m))
 
-pub totals : (old new : State) (commands : List Command) (answers : List Reply) → Runs old commands answers new → Totals old new answers
-totals old new [] [] e = record {
-  added = 0;
-  longer = rw e (omega arith);
-  numbers = refl;
-  failed = rw e (omega arith);
-  told = λ t. absurd cc;
-  current = tt;
-  few = λ bound fits lt. rw e lt;
-  legal = λ legal. rw e legal;
-}
-totals old new [] (a ∷ answers) h = absurd h
-totals old new (c ∷ commands) [] h = absurd h
-totals old new (c ∷ commands) (a ∷ answers) (mid, step, rest) =
-    let one = counts old mid c a step in
-    let more = totals mid new commands answers rest in
-    let later = Runs-later mid new commands answers rest in
-    let all = Later-trans old mid new (Steps-later old mid c a step) later in
-    let same : mid.limit ≡ old.limit = (Steps-later old mid c a step).limited in
+totals_same : (old new : State) → new ≡ old → Totals old new []
+totals_same old new e = record { count = 0; longer = rw e (omega arith); numbers = refl; failed = rw e (omega arith); told = λ t. absurd cc }
+
+run_totals : (old new : State) (was now : Client) (commands : List Command) (answers : List Reply) → Runs old was commands answers new now → Totals old new answers
+run_totals old new was now [] [] e = totals_same old new e.0
+run_totals old new was now [] (a ∷ answers) h = absurd h
+run_totals old new was now (c ∷ commands) [] h = absurd h
+run_totals old new was now (c ∷ commands) (a ∷ answers) (mid, next, step, rest) =
+    let here = length (added (store_of old) was c a) in
+    let longer : length mid.entries ≡ length old.entries + here = ap (λ (xs : List Entry). length xs) step.entries ∙ length-append old.entries (added (store_of old) was c a) in
+    let more = run_totals mid new next now commands answers rest in
+    let later = Runs-later mid new next now commands answers rest in
     record {
-      added = one.added + more.added;
-      longer = omega (arith, one.longer, more.longer);
+      count = here + more.count;
+      longer = omega (arith, longer, more.longer);
       numbers =
-          let next : length mid.entries + 1 ≡ (length old.entries + 1) + one.added = omega (arith, one.longer) in
-          rw (one.numbers, more.numbers, next) (range-append (length old.entries + 1) one.added more.added);
-      failed = omega (arith, sum_by-cons (λ x. cond (is_fault x) 1 0) a answers, one.failed, more.failed);
-      told = λ t. elim (or_cases _ _ t) [ inl here ↦ all.stopped (one.told here) | inr there ↦ more.told there ];
-      current = (one.current, subst (λ (b : Between). AreCurrent old.limit b answers) (sym one.onward) (subst (λ (k : ℕ). AreCurrent k (between mid) answers) same more.current));
-      few = λ bound fits lt. more.few bound (rw same fits) (one.few bound fits lt);
-      legal = λ legal. more.legal (one.legal legal);
+          let from : length mid.entries + 1 ≡ (length old.entries + 1) + here = omega (arith, longer) in
+          rw (flat_map-cons acknowledged a answers, step.numbers, more.numbers, from) (range-append (length old.entries + 1) here more.count);
+      failed = omega (arith, sum_by-cons (λ x. cond (is_fault x) 1 0) a answers, fault_counts a old.stopped mid.stopped step.stopped step.running, more.failed);
+      told = λ t. elim (or_cases _ _ t) [ inl first ↦ later.stopped ((Steps-later old mid was next c a step).stopped (step.told first)) | inr others ↦ more.told others ];
     }
+
+-- one client's answers behind another's
+totals_append : (old mid new : State) (front back : List Reply) → Totals old mid front → Totals mid new back → Later mid new → Totals old new (front ++ back)
+totals_append old mid new front back a b later = record {
+  count = a.count + b.count;
+  longer = omega (arith, a.longer, b.longer);
+  numbers =
+      let from : length mid.entries + 1 ≡ (length old.entries + 1) + a.count = omega (arith, a.longer) in
+      rw (flat_map-append acknowledged front back, a.numbers, b.numbers, from) (range-append (length old.entries + 1) a.count b.count);
+  failed = omega (arith, sum_by-append (λ x. cond (is_fault x) 1 0) front back, a.failed, b.failed);
+  told = λ t. elim (or_cases _ _ (sym (list_any-append is_stopped front back) ∙ t)) [ inl first ↦ later.stopped (a.told first) | inr others ↦ b.told others ];
+}
+
+all_totals : (old new : State) (parts : List Part) (sessions : List (List Reply)) → AllRun old parts sessions new → Totals old new (all_replies sessions)
+all_totals old new [] [] e = totals_same old new e
+all_totals old new [] (a ∷ sessions) h = absurd h
+all_totals old new (p ∷ parts) [] h = absurd h
+all_totals old new (p ∷ parts) (a ∷ sessions) (mid, (last, run), rest) =
+    rw (flat_map-cons (λ (xs : List Reply). xs) a sessions) (totals_append old mid new a (all_replies sessions) (run_totals old mid new_client last p.commands a run) (all_totals mid new parts sessions rest) (AllRun-later mid new parts sessions rest))
 
 -- ---- the pairing
 
@@ -136,21 +176,28 @@ count_once n a (suc k) le lt =
 
 -- ---- the explanation
 
-exact_of : (old new : State) (parts : List Part) (sessions : List (List Reply)) → AllRun old parts sessions new → old.stopped ≡ false → IsExact old.limit (length old.entries) sessions
-exact_of old new parts [] h fresh = tt
-exact_of old new [] (answers ∷ []) h fresh = absurd h
-exact_of old new (p ∷ parts) (answers ∷ []) (mid, run, rest) fresh = subst (λ (b : Bool). AreCurrent old.limit (record { published = length old.entries; stopped = b }) answers) fresh (totals old mid p.commands answers run).current
-exact_of old new parts (answers ∷ others ∷ more) h fresh = tt
+alone : (old new : State) (was now : Client) (commands : List Command) (answers : List Reply) → Runs old was commands answers new now → RunsAlone (store_of old) was commands answers
+alone old new was now [] [] h = tt
+alone old new was now [] (a ∷ answers) h = absurd h
+alone old new was now (c ∷ commands) [] h = absurd h
+alone old new was now (c ∷ commands) (a ∷ answers) (mid, next, step, rest) =
+    let store : store_of mid ≡ store_after (store_of old) was c a =
+    rw (step.entries, step.stopped, step.limited) refl in
+    (step.replied, subst (λ (s : Store). RunsAlone s (client_after old.entries was c a) commands answers) store (subst (λ (x : Client). RunsAlone (store_of mid) x commands answers) step.client (alone mid new next now commands answers rest)))
+
+exact_of : (old new : State) (parts : List Part) (sessions : List (List Reply)) → AllRun old parts sessions new → old.stopped ≡ false → IsExact old.limit old.entries parts sessions
+exact_of old new (p ∷ []) (answers ∷ []) (mid, (last, run), rest) fresh = subst (λ (b : Bool). RunsAlone (record { history = old.entries; stopped = b; limit = old.limit }) new_client p.commands answers) fresh (alone old mid new_client last p.commands answers run)
+exact_of old new parts sessions h fresh = tt
 
 -- what the clients are answered one after another, from a store whose log has not failed
-pub explained : (old new : State) (parts : List Part) (sessions : List (List Reply)) → AllRun old parts sessions new → old.stopped ≡ false → AreLegal old.entries → length old.entries < 2 ^ 32 → old.limit < 2 ^ 32 → Explains old.limit (bit new.stopped) parts old.entries new.entries sessions
-explained old new parts sessions h fresh legal few small =
-    let total = totals old new (all_commands parts) (all_replies sessions) (Runs-all old new parts sessions h) in
+pub explained : (old new : State) (parts : List Part) (sessions : List (List Reply)) → AllRun old parts sessions new → old.stopped ≡ false → IsLegal new.entries → Explains old.limit (bit new.stopped) parts old.entries new.entries sessions
+explained old new parts sessions h fresh legal =
+    let total = all_totals old new parts sessions h in
     record {
-      legal = record { few = total.few (2 ^ 32) small few; each = total.legal legal };
+      legal = legal;
       begins = (AllRun-later old new parts sessions h).grows;
       answered = are_sessions old new new (length old.entries) parts sessions (omega arith) h (Later-same new);
-      paired = λ n above within. rw total.numbers (count_once n (length old.entries + 1) total.added (omega arith) (omega (arith, total.longer)));
+      paired = λ n after within. rw total.numbers (count_once n (length old.entries + 1) total.count (omega arith) (omega (arith, total.longer)));
       failed = omega (arith, total.failed, ap bit fresh);
       stopped = λ t. rw (total.told t) (omega arith);
       exact = exact_of old new parts sessions h fresh;

@@ -1,8 +1,12 @@
-pub mod RunLemmas
+pub mod Found
+pub mod PlanLemmas
+pub mod SaidLemmas
+pub mod EngineLemmas
 pub mod StepLemmas
+pub mod LaterLemmas
+pub mod RunLemmas
 pub mod Explained
 pub mod TextLemmas
-pub mod WriteLemmas
-pub mod ReadLemmas
 pub mod TopLemmas
-pub mod LogLemmas
+pub mod ReadLemmas
+pub mod WriteLemmas

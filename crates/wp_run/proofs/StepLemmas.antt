@@ -1,253 +1,183 @@
--- What one command does to the store on one thread, and what its reply means in every later history.
-use Rattle.std.proofs.Common.{◌≡◌, ℕ, zero, suc, ◌+◌, ◌<◌, ◌≤◌, Bool, true, false, List, [], ◌∷◌, ◌++◌, length, take, Option, Some, None, fold, refl, sym, ap, add-one, subst, ◌∙◌, append_assoc, arith, length-append, inl, inr}
-use Rattle.std.specs.Prelude.{slice_get}
-use Rattle.std.specs.List.{range_with_len, count_by}
-use Rattle.std.proofs.Math.Seq.{take-append_seam}
-use Rattle.std.proofs.lemmas.Bool.{cases_lt, cases_Bool}
-use Rattle.std.proofs.lemmas.Option.{slice_get_within}
-use Rattle.std.proofs.lemmas.List.{append-nil, take-append-le}
+-- What one command does to the store on one thread and to its client.
+use Rattle.std.proofs.Common.{◌≡◌, ℕ, zero, suc, ◌+◌, ◌<◌, ◌≤◌, Bool, true, false, List, [], ◌∷◌, ◌++◌, length, Option, Some, None, refl, sym, ap, ◌∙◌, subst, length-append, arith, inl, inr}
+use Rattle.std.specs.Prelude.{Result, Ok, Err, IfOk, OnOk, IfSome}
+use Rattle.std.specs.List.{range_with_len}
+use Rattle.std.proofs.lemmas.Bool.{lt-ltb, le-ltb}
+use Rattle.std.proofs.lemmas.List.{append-nil}
 use Rattle.wp_model.specs.declared.change.Change.{Change}
-use Rattle.wp_model.specs.declared.change.Change.TheVariants as change
 use Rattle.wp_model.specs.declared.entry.Entry.{Entry}
 use Rattle.wp_model.specs.declared.entry.Entry.TheVariants as entry
-use Rattle.wp_model.specs.History.{entry_at, value_after, value_at, IsLegalBehind}
+use Rattle.wp_outside.specs.Faults.{Rose}
 use Rattle.wp_text.specs.declared.script.Command.{Command}
 use Rattle.wp_text.specs.declared.script.Command.TheVariants as command
 use Rattle.wp_text.specs.declared.reply.Reply.{Reply}
 use Rattle.wp_text.specs.declared.reply.Reply.TheVariants as reply
-use Rattle.wp_run.specs.Session.{IsWritten, IsRead, IsWriteRefusal, IsAnswer, last_after, acknowledged, is_fault, is_stopped}
-use Rattle.wp_run.specs.Current.{IsCurrent, after_reply}
-use Rattle.wp_run.specs.Legal.{AreLegal}
-use Rattle.wp_outside.specs.Faults.{Rose}
-use Rattle.wp_run.specs.Engine.{State, bit, between, Later, Adds, Refuses, Steps}
+use Rattle.wp_run.specs.declared.plan.Plan.{Plan}
+use Rattle.wp_run.specs.declared.plan.Plan.TheVariants.{Say, Log, RollBack}
+use Rattle.wp_run.specs.Client.{Client, Fits, TxnFits}
+use Rattle.wp_run.specs.Due.{Store, logged, reply_to, due, acknowledged, is_logged, is_fault, IsReply, added, settled, client_after}
+use Rattle.wp_run.specs.Session.{number_in, fresh_in, is_stopped}
+use Rattle.wp_run.specs.Engine.{State, store_of, Steps}
+use Rattle.wp_run.specs.Plan.{plan, asked_of}
+use Rattle.wp_run.specs.Write.{Takes, FailsAt, IsFull, HasStopped, Tells}
+use Rattle.wp_run.proofs.PlanLemmas.{Logs}
+use Rattle.wp_run.proofs.SaidLemmas.{IsPlain, plan_says, plan_fits, within_more}
 
-false_is_true : {P : Type 0} (b : Bool) → b ≡ false → b ≡ true → P
+pub false_is_true : {P : Type 0} (b : Bool) → b ≡ false → b ≡ true → P
 false_is_true true e f = absurd cc
 false_is_true false e f = absurd cc
 
-pub Later-same : (s : State) → Later s s
-Later-same s = record {
-  grows = ([], sym (append-nil s.entries));
-  stays = λ e. refl;
-  stopped = λ e. e;
-  rose = λ e f. false_is_true s.stopped e f;
+-- ---- replies that tell entries
+
+faultless : (r : Reply) → is_logged r ≡ true → is_fault r ≡ false
+faultless reply.FaultLog is = absurd cc
+faultless other is = refl
+
+settles : (h : List Entry) (client : Client) (c : Command) (r : Reply) → is_logged r ≡ true → client_after h client c r ≡ settled client r
+settles h client c (reply.Put n) is = refl
+settles h client c (reply.Del n) is = refl
+settles h client c (reply.Prepared n) is = refl
+settles h client c (reply.Committed n) is = refl
+settles h client c (reply.RolledBack n) is = refl
+settles h client c other is = absurd cc
+
+settled_snapshots : (client : Client) (r : Reply) → (settled client r).snapshots ≡ client.snapshots
+settled_snapshots client (reply.Prepared n) = refl
+settled_snapshots client (reply.Committed n) = refl
+settled_snapshots client reply.Dropped = refl
+settled_snapshots client (reply.RolledBack n) = refl
+settled_snapshots client reply.Left = refl
+settled_snapshots client other = refl
+
+-- the log takes so many entries
+logged_takes : (store : Store) (needed : ℕ) (told : Reply) → store.stopped ≡ false → length store.history + needed ≤ store.limit → logged store needed told ≡ told
+logged_takes store needed told running fits = rw (running, le-ltb store.limit (length store.history + needed) fits) refl
+
+logged_full : (store : Store) (needed : ℕ) (told : Reply) → store.stopped ≡ false → store.limit < length store.history + needed → logged store needed told ≡ reply.Full (length store.history) store.limit
+logged_full store needed told running past = rw (running, lt-ltb store.limit (length store.history + needed) past) refl
+
+logged_stopped : (store : Store) (needed : ℕ) (told : Reply) → store.stopped ≡ true → logged store needed told ≡ reply.Stopped (length store.history)
+logged_stopped store needed told stopped = rw stopped refl
+
+-- ---- steps
+
+-- what a plan that asks the log comes to, where the log does not fail
+pub record Asks (s : State) (client : Client) (c : Command) (entries : List Entry) (told : Reply) : Type 0 where
+  pub asked : asked_of (plan s.entries client c) ≡ entries
+  pub replies : due (store_of s) client c ≡ logged (store_of s) (length entries) told
+  pub logs : Logs s.entries client entries told
+
+pub log_asks : (s : State) (client : Client) (c : Command) (e : Entry) (told : Reply) → plan s.entries client c ≡ Log e told → Logs s.entries client (e ∷ []) told → Asks s client c (e ∷ []) told
+log_asks s client c e told planned logs = record { asked = ap asked_of planned; replies = ap (reply_to (store_of s)) planned; logs = logs }
+
+pub rollback_asks : (s : State) (client : Client) (c : Command) (p : ℕ) (batch : List Change) (told : Reply) → plan s.entries client c ≡ RollBack p batch told → Logs s.entries client (entry.Undo p batch ∷ entry.Close p ∷ []) told → Asks s client c (entry.Undo p batch ∷ entry.Close p ∷ []) told
+rollback_asks s client c p batch told planned logs = record { asked = ap asked_of planned; replies = ap (reply_to (store_of s)) planned; logs = logs }
+
+fresh_if_numbered : (P : ℕ → Type 0) (c : Command) (r : Reply) → IfSome (number_in r) P → IfSome (fresh_in c r) P
+fresh_if_numbered P (command.GetAt key label) r is = tt
+fresh_if_numbered P other r is = is
+
+not_stopped : (r : Reply) → is_logged r ≡ true → is_stopped r ≡ false
+not_stopped (reply.Stopped n) is = absurd cc
+not_stopped other is = refl
+
+takes_steps : (old new : State) (was now : Client) (c : Command) (entries : List Entry) (told : Reply) → Asks old was c entries told → Takes old new entries → now ≡ settled was told → Steps old was c told new now
+takes_steps old new was now c entries told asks takes is =
+    let added_is : added (store_of old) was c told ≡ entries = rw (asks.logs.logged, asks.asked) refl in
+    let longer : new.entries ≡ old.entries ++ entries = ap (λ (s : State). s.entries) takes.changed in
+    record {
+      replied = inl (sym (asks.replies ∙ logged_takes (store_of old) (length entries) told takes.running takes.fits));
+      entries = longer ∙ ap (λ (xs : List Entry). old.entries ++ xs) (sym added_is);
+      stopped = ap (λ (s : State). s.stopped) takes.changed ∙ rw (faultless told asks.logs.logged) refl;
+      client = is ∙ sym (settles old.entries was c told asks.logs.logged);
+      rose = λ f. false_is_true (is_fault told) (faultless told asks.logs.logged) f;
+      counted = takes.counted;
+      limited = ap (λ (s : State). s.limit) takes.changed;
+      named = ap (λ (s : State). s.id) takes.changed;
+      numbers = asks.logs.numbers ∙ ap (λ (xs : List Entry). range_with_len (length old.entries + 1) (length xs)) (sym added_is);
+      fresh = rw (longer, length-append old.entries entries) (fresh_if_numbered (λ n. (length old.entries ≤ n) × (n ≤ length old.entries + length entries)) c told asks.logs.fresh);
+      running = λ f. false_is_true (is_fault told) (faultless told asks.logs.logged) f;
+      told = λ t. false_is_true (is_stopped told) (not_stopped told asks.logs.logged) t;
+      stays = λ s. false_is_true old.stopped takes.running s;
+    }
+
+fails_steps : (old new : State) (was : Client) (c : Command) (entries : List Entry) (told : Reply) → Asks old was c entries told → FailsAt old new entries → Steps old was c reply.FaultLog new was
+fails_steps old new was c entries told asks fails = record {
+  replied = inr (refl, ap is_logged (asks.replies ∙ logged_takes (store_of old) (length entries) told fails.running fails.fits) ∙ asks.logs.logged);
+  entries = ap (λ (s : State). s.entries) fails.changed ∙ sym (append-nil old.entries);
+  stopped = ap (λ (s : State). s.stopped) fails.changed;
+  client = refl;
+  rose = λ f. fails.rose;
+  counted = fails.counted;
+  limited = ap (λ (s : State). s.limit) fails.changed;
+  named = ap (λ (s : State). s.id) fails.changed;
+  numbers = refl;
+  fresh = fresh_if_numbered _ c reply.FaultLog tt;
+  running = λ f. fails.running;
+  told = λ t. absurd cc;
+  stays = λ s. false_is_true old.stopped fails.running s;
+}
+
+-- a reply without the log changes nothing of the store
+still_steps : (old : State) (was now : Client) (c : Command) (answer : Reply) → answer ≡ due (store_of old) was c → now ≡ client_after old.entries was c answer → acknowledged answer ≡ [] → is_logged answer ≡ false → is_fault answer ≡ false → (is_stopped answer ≡ true → old.stopped ≡ true) → IfSome (fresh_in c answer) (λ n. n ≡ length old.entries) → Steps old was c answer old now
+still_steps old was now c answer is client none unlogged faultless stopped fresh = record {
+  replied = inl is;
+  entries = rw unlogged (sym (append-nil old.entries));
+  stopped = rw faultless refl;
+  client = client;
+  rose = λ f. false_is_true (is_fault answer) faultless f;
   counted = omega arith;
   limited = refl;
   named = refl;
+  numbers = rw unlogged none;
+  fresh = if_current (fresh_in c answer) (length old.entries) fresh;
+  running = λ f. false_is_true (is_fault answer) faultless f;
+  told = stopped;
+  stays = λ s. refl;
 }
+  where
+    if_current : (number : Option ℕ) (n : ℕ) → IfSome number (λ m. m ≡ n) → IfSome number (λ m. (n ≤ m) × (m ≤ n))
+    if_current (Some m) n at = (omega (arith, at), omega (arith, at))
+    if_current None n at = tt
 
-pub Later-equal : (old new : State) → new ≡ old → Later old new
-Later-equal old new e = subst (λ (s : State). Later old s) (sym e) (Later-same old)
+step_at : (old new : State) (was now : Client) (c : Command) (answer told : Reply) → answer ≡ told → new ≡ old → now ≡ was → Steps old was c told old was → Steps old was c answer new now
+step_at old new was now c answer told a n i step =
+    subst (λ (r : Reply). Steps old was c r new now) (sym a) (subst (λ (s : State). Steps old was c told s now) (sym n) (subst (λ (x : Client). Steps old was c told old x) (sym i) step))
 
-pub Later-kept : (old mid new : State) → Later old mid → new ≡ mid → Later old new
-Later-kept old mid new later e = subst (λ (s : State). Later old s) (sym e) later
+pub told_steps : (old new : State) (was now : Client) (c : Command) (entries : List Entry) (told answer : Reply) → Asks old was c entries told → Tells old was entries told answer new now → Steps old was c answer new now
+told_steps old new was now c entries told answer asks tells = elim tells [
+  | inl accepted ↦ subst (λ (r : Reply). Steps old was c r new now) (sym accepted.1) (takes_steps old new was now c entries told asks accepted.0 accepted.2)
+  | inr (inl failed) ↦ subst (λ (r : Reply). Steps old was c r new now) (sym failed.1) (subst (λ (x : Client). Steps old was c reply.FaultLog new x) (sym failed.2) (fails_steps old new was c entries told asks failed.0))
+  | inr (inr (inl full)) ↦ step_at old new was now c answer (reply.Full (length old.entries) old.limit) full.1 full.0.same full.2
+      (still_steps old was was c (reply.Full (length old.entries) old.limit) (sym (asks.replies ∙ logged_full (store_of old) (length entries) told full.0.running full.0.past)) refl refl refl refl (λ t. absurd cc) (fresh_if_numbered _ c (reply.Full (length old.entries) old.limit) tt))
+  | inr (inr (inr stopped)) ↦ step_at old new was now c answer (reply.Stopped (length old.entries)) stopped.1 stopped.0.same stopped.2
+      (still_steps old was was c (reply.Stopped (length old.entries)) (sym (asks.replies ∙ logged_stopped (store_of old) (length entries) told stopped.0.stopped)) refl refl refl refl (λ t. stopped.0.stopped) (fresh_if_numbered _ c (reply.Stopped (length old.entries)) tt))
+]
 
-rose_between : (a b c : ℕ) → a ≤ b → Rose b c → Rose a c
-rose_between a b c le h = omega arith
+pub told_fits : (old new : State) (was now : Client) (entries : List Entry) (told answer : Reply) → Logs old.entries was entries told → Fits old.entries was → Tells old was entries told answer new now → Fits new.entries now
+told_fits old new was now entries told answer logs fits tells = elim tells [
+  | inl accepted ↦
+      let longer : new.entries ≡ old.entries ++ entries = ap (λ (s : State). s.entries) accepted.0.changed in
+      subst (λ (x : Client). Fits new.entries x) (sym accepted.2) (record {
+        txn = rw longer logs.txn;
+        snapshots = rw (settled_snapshots was told, longer, length-append old.entries entries) (within_more (length old.entries) (length old.entries + length entries) was.snapshots (omega arith) fits.snapshots);
+      })
+  | inr (inl failed) ↦ subst (λ (x : Client). Fits new.entries x) (sym failed.2) (rw (ap (λ (s : State). s.entries) failed.0.changed) fits)
+  | inr (inr (inl full)) ↦ subst (λ (x : Client). Fits new.entries x) (sym full.2) (rw full.0.same fits)
+  | inr (inr (inr stopped)) ↦ subst (λ (x : Client). Fits new.entries x) (sym stopped.2) (rw stopped.0.same fits)
+]
 
-rose_before : (a b c : ℕ) → Rose a b → b ≤ c → Rose a c
-rose_before a b c h le = omega arith
+pub said_steps : (s : State) (was now : Client) (c : Command) (answer : Reply) → plan s.entries was c ≡ Say answer → now ≡ client_after s.entries was c answer → Steps s was c answer s now
+said_steps s was now c answer planned is =
+    let plain = plan_says s.entries was c answer planned in
+    still_steps s was now c answer (sym (ap (reply_to (store_of s)) planned)) is plain.none plain.unlogged plain.faultless (λ t. false_is_true (is_stopped answer) plain.running t) plain.current
 
--- which of two steps stopped the log
-rose_on : (old mid new : State) → Later old mid → Later mid new → old.stopped ≡ false → new.stopped ≡ true → Rose old.faults new.faults
-rose_on old mid new a b fresh now =
-    elim (cases_Bool mid.stopped) [
-      | inl first ↦ rose_before old.faults mid.faults new.faults (a.rose fresh first) b.counted
-      | inr second ↦ rose_between old.faults mid.faults new.faults a.counted (b.rose second now)
-    ]
+-- ---- answers
 
-pub Later-trans : (old mid new : State) → Later old mid → Later mid new → Later old new
-Later-trans old mid new a b = record {
-  grows = (a.grows.0 ++ b.grows.0, b.grows.1 ∙ ap (λ (xs : List Entry). xs ++ b.grows.0) a.grows.1 ∙ append_assoc old.entries a.grows.0 b.grows.0);
-  stays = λ e. b.stays (a.stopped e) ∙ a.stays e;
-  stopped = λ e. b.stopped (a.stopped e);
-  rose = rose_on old mid new a b;
-  counted = omega (arith, a.counted, b.counted);
-  limited = b.limited ∙ a.limited;
-  named = b.named ∙ a.named;
-}
+pub if_tells : {E : Type 0} (r : Result Reply E) (P Q : Reply → Type 0) → IfOk r P → ((answer : Reply) → P answer → Q answer) → IfOk r Q
+if_tells (Ok answer) P Q told turn = turn answer told
+if_tells (Err e) P Q told turn = tt
 
-Adds-later : (old new : State) (made : Change) (n : ℕ) → Adds old new made n → Later old new
-Adds-later old new made n h = record {
-  grows = (entry.Write (made ∷ []) ∷ [], ap (λ (s : State). s.entries) h.3);
-  stays = λ e. false_is_true old.stopped h.0 e;
-  stopped = λ e. false_is_true old.stopped h.0 e;
-  rose = λ e f. false_is_true new.stopped (ap (λ (s : State). s.stopped) h.3 ∙ e) f;
-  counted = h.4;
-  limited = ap (λ (s : State). s.limit) h.3;
-  named = ap (λ (s : State). s.id) h.3;
-}
-
-Refuses-later : (old new : State) (answer : Reply) → Refuses old new answer → Later old new
-Refuses-later old new (reply.Full published said) h = Later-equal old new h.0
-Refuses-later old new reply.FaultLog h = record {
-  grows = ([], ap (λ (s : State). s.entries) h.2 ∙ sym (append-nil old.entries));
-  stays = λ e. ap (λ (s : State). s.entries) h.2;
-  stopped = λ e. ap (λ (s : State). s.stopped) h.2;
-  rose = λ e f. h.3;
-  counted = h.4;
-  limited = ap (λ (s : State). s.limit) h.2;
-  named = ap (λ (s : State). s.id) h.2;
-}
-Refuses-later old new (reply.Stopped published) h = Later-equal old new h.0
-Refuses-later old new (reply.Put n) h = absurd h
-Refuses-later old new (reply.Del n) h = absurd h
-Refuses-later old new (reply.Got value n) h = absurd h
-Refuses-later old new (reply.Missing n) h = absurd h
-
-pub Steps-later : (old new : State) (c : Command) (answer : Reply) → Steps old new c answer → Later old new
-Steps-later old new (command.Put key value) (reply.Put n) h = Adds-later old new _ n h
-Steps-later old new (command.Put key value) answer h = Refuses-later old new answer h
-Steps-later old new (command.Del key) (reply.Del n) h = Adds-later old new _ n h
-Steps-later old new (command.Del key) answer h = Refuses-later old new answer h
-Steps-later old new (command.Get key) (reply.Got value n) h = Later-equal old new h.0
-Steps-later old new (command.Get key) (reply.Missing n) h = Later-equal old new h.0
-Steps-later old new (command.Get key) answer h = absurd h
-
--- ---- histories that have grown
-
-values_same : (one other : List Entry) (key : List ℕ) (before : Option (List ℕ)) (entries : List Entry) → fold (value_after one key) before entries ≡ fold (value_after other key) before entries
-values_same one other key before [] = refl
-values_same one other key before (entry.Write batch ∷ entries) = values_same one other key (value_after one key before (entry.Write batch)) entries
-
-pub value_at-grown : (front more : List Entry) (key : List ℕ) (n : ℕ) → n ≤ length front → value_at (front ++ more) key n ≡ value_at front key n
-value_at-grown front more key n le = rw (take-append-le n front more le) (values_same (front ++ more) front key None (take n front))
-
-slice_get-seam : (front more : List Entry) (e : Entry) → slice_get (front ++ e ∷ more) (length front) ≡ Some e
-slice_get-seam [] more e = refl
-slice_get-seam (x ∷ front) more e = slice_get-seam front more e
-
-pub entry_at-next : (front more : List Entry) (e : Entry) → entry_at (front ++ e ∷ more) (length front + 1) ≡ Some e
-entry_at-next front more e = rw add-one (slice_get-seam front more e)
-
--- ---- what a reply means in every later history
-
-written : (old new final : State) (last : ℕ) (made : Change) (n : ℕ) → last ≤ length old.entries → Adds old new made n → Later new final → IsWritten final.entries last made n × (n ≤ length new.entries)
-written old new final last made n le h later =
-    let e = entry.Write (made ∷ []) in
-    let grown : new.entries ≡ old.entries ++ e ∷ [] = ap (λ (s : State). s.entries) h.3 in
-    let whole : final.entries ≡ old.entries ++ e ∷ later.grows.0 = later.grows.1 ∙ ap (λ (xs : List Entry). xs ++ later.grows.0) grown ∙ append_assoc old.entries (e ∷ []) later.grows.0 in (
-      record {
-        fresh = omega (arith, h.2);
-        there = rw (h.2, whole) (entry_at-next old.entries later.grows.0 e);
-      },
-      omega (arith, h.2, ap (λ (xs : List Entry). length xs) grown, length-append old.entries (e ∷ [])),
-    )
-
-read : (old final : State) (last : ℕ) (key : List ℕ) (value : Option (List ℕ)) (n : ℕ) → last ≤ length old.entries → n ≡ length old.entries → value_at old.entries key n ≡ value → Later old final → IsRead final.entries last key value n
-read old final last key value n le at gives later = record {
-  fresh = omega arith;
-  within = omega (arith, ap (λ (xs : List Entry). length xs) later.grows.1, length-append old.entries later.grows.0);
-  left = rw later.grows.1 (value_at-grown old.entries later.grows.0 key n (omega arith)) ∙ gives;
-}
-
-refused : (old new final : State) (last : ℕ) (answer : Reply) → last ≤ length old.entries → Refuses old new answer → Later old new → Later new final → IsWriteRefusal final.entries old.limit last answer × (last_after last answer ≤ length new.entries)
-refused old new final last (reply.Full published said) le h now later =
-    let all = Later-trans old new final now later in
-    let longer : length final.entries ≡ length old.entries + length all.grows.0 = ap (λ (xs : List Entry). length xs) all.grows.1 ∙ length-append old.entries all.grows.0 in
-    (record { fresh = omega (arith, h.3); within = omega (arith, h.3, longer); limit_is = h.4; past = omega (arith, h.2, h.3) }, omega (arith, ap (λ (s : State). length s.entries) h.0))
-refused old new final last reply.FaultLog le h now later = (tt, omega (arith, ap (λ (s : State). length s.entries) h.2))
-refused old new final last (reply.Stopped published) le h now later =
-    let all = Later-trans old new final now later in
-    (h.2 ∙ ap (λ (xs : List Entry). length xs) (sym (all.stays h.1)), omega (arith, ap (λ (s : State). length s.entries) h.0))
-refused old new final last (reply.Put n) le h now later = absurd h
-refused old new final last (reply.Del n) le h now later = absurd h
-refused old new final last (reply.Got value n) le h now later = absurd h
-refused old new final last (reply.Missing n) le h now later = absurd h
-
-pub means : (old new final : State) (last : ℕ) (c : Command) (answer : Reply) → last ≤ length old.entries → Steps old new c answer → Later new final → IsAnswer final.entries old.limit last c answer × (last_after last answer ≤ length new.entries)
-means old new final last (command.Put key value) (reply.Put n) le h later = written old new final last (change.Put key value) n le h later
-means old new final last (command.Put key value) answer le h later = refused old new final last answer le h (Refuses-later old new answer h) later
-means old new final last (command.Del key) (reply.Del n) le h later = written old new final last (change.Del key) n le h later
-means old new final last (command.Del key) answer le h later = refused old new final last answer le h (Refuses-later old new answer h) later
-means old new final last (command.Get key) (reply.Got value n) le h later = (read old final last key (Some value) n le h.1 h.2 (subst (λ (s : State). Later s final) h.0 later), omega (arith, h.1, ap (λ (s : State). length s.entries) h.0))
-means old new final last (command.Get key) (reply.Missing n) le h later = (read old final last key None n le h.1 h.2 (subst (λ (s : State). Later s final) h.0 later), omega (arith, h.1, ap (λ (s : State). length s.entries) h.0))
-means old new final last (command.Get key) answer le h later = absurd h
-
--- ---- what a command adds to the counts
-
-pub record Counts (old new : State) (answer : Reply) : Type 0 where
-  pub added : ℕ
-  pub longer : length new.entries ≡ length old.entries + added
-  pub numbers : acknowledged answer ≡ range_with_len (length old.entries + 1) added
-  pub failed : count_by is_fault (answer ∷ []) + bit old.stopped ≡ bit new.stopped
-  pub told : is_stopped answer ≡ true → old.stopped ≡ true
-  pub current : IsCurrent old.limit (between old) answer
-  pub onward : after_reply (between old) answer ≡ between new
-  pub few : (bound : ℕ) → old.limit < bound → length old.entries < bound → length new.entries < bound
-  pub legal : AreLegal old.entries → AreLegal new.entries
-
-slice_get-front : (xs ys : List Entry) (n : ℕ) → n < length xs → slice_get (xs ++ ys) n ≡ slice_get xs n
-slice_get-front [] ys n lt = absurd (omega arith)
-slice_get-front (x ∷ xs) ys zero lt = refl
-slice_get-front (x ∷ xs) ys (suc n) lt = slice_get-front xs ys n (omega arith)
-
-AreLegal-push : (before : List Entry) (e : Entry) → AreLegal before → IsLegalBehind before e → AreLegal (before ++ e ∷ [])
-AreLegal-push before e legal behind n x at =
-    elim (cases_lt n (length before)) [
-      | inl lt ↦ rw (take-append-le n before (e ∷ []) (omega arith)) (legal n x (sym (slice_get-front before (e ∷ []) n lt) ∙ at))
-      | inr le ↦
-          let bound : n < length (before ++ e ∷ []) = slice_get_within (before ++ e ∷ []) n x at in
-          let last : n ≡ length before = omega (arith, length-append before (e ∷ [])) in
-          let same : Some x ≡ Some e = sym at ∙ ap (slice_get (before ++ e ∷ [])) last ∙ slice_get-seam before [] e in
-          let is : x ≡ e = cc in
-          let front : take n (before ++ e ∷ []) ≡ before = rw last (take-append_seam before (e ∷ [])) in
-          rw (is, front) behind
-    ]
-
-counts_adds : (old new : State) (made : Change) (n : ℕ) (answer : Reply) → Adds old new made n → acknowledged answer ≡ n ∷ [] → count_by is_fault (answer ∷ []) ≡ 0 → is_stopped answer ≡ false → IsCurrent old.limit (between old) answer → after_reply (between old) answer ≡ record (between old) { published = n } → Counts old new answer
-counts_adds old new made n answer h number fault stop current onward =
-    let e = entry.Write (made ∷ []) in
-    let longer : length new.entries ≡ length old.entries + 1 = ap (λ (s : State). length s.entries) h.3 ∙ length-append old.entries (e ∷ []) in
-    record {
-      added = 1;
-      longer = longer;
-      numbers = number ∙ ap (λ (k : ℕ). k ∷ []) h.2;
-      failed = rw (fault, h.3) (omega arith);
-      told = λ t. false_is_true (is_stopped answer) stop t;
-      current = current;
-      onward = onward ∙ rw (h.3, h.2, length-append old.entries (e ∷ [])) refl;
-      few = λ bound fits lt. omega (arith, longer, h.1);
-      legal = λ legal. rw h.3 (AreLegal-push old.entries e legal refl);
-    }
-
-counts_stays : (old new : State) (answer : Reply) → new ≡ old → acknowledged answer ≡ [] → count_by is_fault (answer ∷ []) ≡ 0 → (is_stopped answer ≡ true → old.stopped ≡ true) → IsCurrent old.limit (between old) answer → after_reply (between old) answer ≡ between old → Counts old new answer
-counts_stays old new answer same number fault stop current onward = record {
-  added = 0;
-  longer = rw same (omega arith);
-  numbers = number;
-  failed = rw (fault, same) (omega arith);
-  told = stop;
-  current = current;
-  onward = onward ∙ ap between (sym same);
-  few = λ bound fits lt. rw same lt;
-  legal = λ legal. rw same legal;
-}
-
-counts_refused : (old new : State) (answer : Reply) → Refuses old new answer → Counts old new answer
-counts_refused old new (reply.Full published said) h = counts_stays old new (reply.Full published said) h.0 refl refl (λ t. absurd cc) (h.1, omega (arith, h.2), h.3) refl
-counts_refused old new reply.FaultLog h = record {
-  added = 0;
-  longer = rw h.2 (omega arith);
-  numbers = refl;
-  failed = rw (h.2, h.0) refl;
-  told = λ t. absurd cc;
-  current = (h.0, omega (arith, h.1));
-  onward = ap between (sym h.2);
-  few = λ bound fits lt. rw h.2 lt;
-  legal = λ legal. rw h.2 legal;
-}
-counts_refused old new (reply.Stopped published) h = counts_stays old new (reply.Stopped published) h.0 refl refl (λ t. h.1) (h.1, h.2) refl
-counts_refused old new (reply.Put n) h = absurd h
-counts_refused old new (reply.Del n) h = absurd h
-counts_refused old new (reply.Got value n) h = absurd h
-counts_refused old new (reply.Missing n) h = absurd h
-
-pub counts : (old new : State) (c : Command) (answer : Reply) → Steps old new c answer → Counts old new answer
-counts old new (command.Put key value) (reply.Put n) h = counts_adds old new _ n (reply.Put n) h refl refl refl (h.0, omega (arith, h.1, h.2), h.2) refl
-counts old new (command.Put key value) answer h = counts_refused old new answer h
-counts old new (command.Del key) (reply.Del n) h = counts_adds old new _ n (reply.Del n) h refl refl refl (h.0, omega (arith, h.1, h.2), h.2) refl
-counts old new (command.Del key) answer h = counts_refused old new answer h
-counts old new (command.Get key) (reply.Got value n) h = counts_stays old new (reply.Got value n) h.0 refl refl (λ t. absurd cc) h.1 refl
-counts old new (command.Get key) (reply.Missing n) h = counts_stays old new (reply.Missing n) h.0 refl refl (λ t. absurd cc) h.1 refl
-counts old new (command.Get key) answer h = absurd h
+pub on_tells : {E : Type 0} (r : Result Reply E) (P : Reply → Type 0) (Q : Type 0) → IfOk r P → ((answer : Reply) → P answer → Q) → OnOk r Q
+on_tells (Ok answer) P Q told turn = turn answer told
+on_tells (Err e) P Q told turn = tt

@@ -1,10 +1,10 @@
 -- From a run of all clients to how a call ends.
-use Rattle.std.proofs.Common.{◌≡◌, ℕ, ◌^◌, ◌<◌, ◌≤◌, Bool, true, false, List, [], ◌∷◌, length, Option, refl, sym, subst, ◌∙◌, inl, inr, arith}
+use Rattle.std.proofs.Common.{◌≡◌, ℕ, zero, suc, ◌≤◌, Bool, true, false, List, [], ◌∷◌, length, Option, refl, sym, subst, ◌∙◌, inl, inr, arith}
 use Rattle.wp_model.specs.declared.entry.Entry.{Entry}
+use Rattle.wp_model.specs.Legal.{IsLegal}
 use Rattle.wp_outside.specs.Disk.{Moment, IfTold}
 use Rattle.wp_outside.specs.Faults.{Rose}
 use Rattle.wp_gatelog.specs.Moments.{Leaves}
-use Rattle.wp_gatelog.specs.Log.{State as LogState}
 use Rattle.wp_gatelog.specs.Spelling.{IsUnmade}
 use Rattle.wp_text.specs.declared.reply.Reply.{Reply}
 use Rattle.wp_text.specs.declared.script.Part.{Part}
@@ -15,14 +15,14 @@ use Rattle.wp_run.specs.declared.opening.OpenError.TheVariants as open_error
 use Rattle.wp_outside.specs.declared.disk.Device.TheVariants as device
 use Rattle.wp_gatelog.specs.Opening.{SurvivesThrough}
 use Rattle.wp_run.specs.Opening.{IsOpenCause, IsStatusOf}
-use Rattle.wp_run.specs.Legal.{AreLegal}
-use Rattle.wp_run.specs.Log.{MAGIC, IsLogOf, IsLogOrNext, Keeps}
+use Rattle.wp_wal.specs.Spelling.{MAGIC, IsLogOf}
+use Rattle.wp_wal.specs.Wal.{State as WalState}
+use Rattle.wp_run.specs.Kept.{IsLogOrNext, KeptBy}
 use Rattle.wp_run.specs.Transcript.{IsTranscript}
 use Rattle.wp_run.specs.Engine.{State, bit, Later, AllRun}
-use Rattle.wp_run.specs.Run.{KeptBy, Tells, Breaks, Serves}
+use Rattle.wp_run.specs.Run.{Tells, Breaks, Serves}
 use Rattle.wp_run.specs.Told.{IsTold, IsToldAs, HasTold, HasBroken, Finishes}
 use Rattle.wp_run.proofs.Explained.{AllRun-later, explained}
-use Rattle.wp_run.proofs.LogLemmas.{keeps_history}
 
 -- each client has one list of replies
 pub AllRun-length : (old new : State) (parts : List Part) (sessions : List (List Reply)) → AllRun old parts sessions new → length parts ≡ length sessions
@@ -33,34 +33,27 @@ AllRun-length old new (p ∷ parts) (a ∷ sessions) (mid, run, rest) = omega (a
 
 -- ---- what the log keeps
 
-pub kept_by : (log : LogState) (entries : List Entry) (stopped : Bool) → Keeps log entries → log.closed ≡ stopped → IfTold log.moments (KeptBy (bit stopped) log.id entries)
-kept_by log entries false keeps is = keeps_history log entries keeps is
-kept_by log entries true keeps is = keeps.left is
+or_next : (id faults : ℕ) (entries : List Entry) (m : Moment) → IsLegal entries → KeptBy faults id entries m → Leaves (IsLogOrNext id entries) m
+or_next id zero entries m legal kept = λ image is. (entries, inl refl, legal, kept image is)
+or_next id (suc faults) entries m legal kept = kept
 
-or_next : (id : ℕ) (entries : List Entry) (moments : List Moment) → IfTold moments (Leaves (IsLogOf id entries)) → IfTold moments (Leaves (IsLogOrNext id entries))
-or_next id entries [] h = tt
-or_next id entries (m ∷ past) h = λ image is. (entries, inl refl, h image is)
-
-pub kept_anyway : (log : LogState) (entries : List Entry) (stopped : Bool) → Keeps log entries → log.closed ≡ stopped → IfTold log.moments (Leaves (IsLogOrNext log.id entries))
-kept_anyway log entries false keeps is = or_next log.id entries log.moments (keeps_history log entries keeps is)
-kept_anyway log entries true keeps is = keeps.left is
+kept_anyway : (id faults : ℕ) (entries : List Entry) (moments : List Moment) → IsLegal entries → IfTold moments (KeptBy faults id entries) → IfTold moments (Leaves (IsLogOrNext id entries))
+kept_anyway id faults entries [] legal kept = tt
+kept_anyway id faults entries (m ∷ past) legal kept = or_next id faults entries m legal kept
 
 -- ---- what the clients were told
 
 -- the store as it was opened
 pub record IsOpened (state : State) (asked : ℕ) (before : List Moment) : Type 0 where
   pub running : state.stopped ≡ false
-  pub legal : AreLegal state.entries
-  pub few : length state.entries < 2 ^ 32
-  pub limit : state.limit < 2 ^ 32
   pub found : IfTold before (λ m. IsLogOf state.id state.entries m.reads)
   pub made : IfTold before (λ m. IsUnmade m.reads → state.id ≡ asked)
 
-is_transcript : (old new : State) (script : List Part) (text : List ℕ) (asked : ℕ) (before : List Moment) → IsOpened old asked before → IsTold old new script text → IsTranscript old.limit (bit new.stopped) script old.entries new.entries text
-is_transcript old new script text asked before opened (sessions, run, is) = (sessions, explained old new script sessions run opened.running opened.legal opened.few opened.limit, is)
+is_transcript : (old new : State) (script : List Part) (text : List ℕ) (asked : ℕ) (before : List Moment) → IsOpened old asked before → IsLegal new.entries → IsTold old new script text → IsTranscript old.limit (bit new.stopped) script old.entries new.entries text
+is_transcript old new script text asked before opened legal (sessions, run, is) = (sessions, explained old new script sessions run opened.running legal, is)
 
-tells : (old new : State) (script : List Part) (text : List ℕ) (asked : ℕ) (before after : List Moment) (stopped : Bool) → IsOpened old asked before → IsTold old new script text → IfTold after (KeptBy (bit new.stopped) new.id new.entries) → new.stopped ≡ stopped → Tells old.limit asked (bit stopped) script before after text
-tells old new script text asked before after stopped opened told kept is =
+tells : (old new : State) (script : List Part) (text : List ℕ) (asked : ℕ) (before after : List Moment) (stopped : Bool) → IsOpened old asked before → IsLegal new.entries → IsTold old new script text → IfTold after (KeptBy (bit new.stopped) new.id new.entries) → new.stopped ≡ stopped → Tells old.limit asked (bit stopped) script before after text
+tells old new script text asked before after stopped opened legal told kept is =
     let later = AllRun-later old new script told.0 told.1 in
     record {
       id = old.id;
@@ -68,7 +61,7 @@ tells old new script text asked before after stopped opened told kept is =
       opened = old.entries;
       found = opened.found;
       history = new.entries;
-      told = subst (λ (b : Bool). IsTranscript old.limit (bit b) script old.entries new.entries text) is (is_transcript old new script text asked before opened told);
+      told = subst (λ (b : Bool). IsTranscript old.limit (bit b) script old.entries new.entries text) is (is_transcript old new script text asked before opened legal told);
       kept = subst (λ (n : ℕ). IfTold after (KeptBy (bit stopped) n new.entries)) later.named (subst (λ (b : Bool). IfTold after (KeptBy (bit b) new.id new.entries)) is kept);
     }
 
@@ -96,24 +89,24 @@ breaks old asked before after opened broken = record {
 pub serves : (old : State) (asked : ℕ) (script : List Part) (before after : List Moment) (first now : ℕ) (sink_rose : Type 0) (written written_now : Option (List ℕ)) (end : Status) → IsOpened old asked before → first ≤ old.faults → Finishes old script after now sink_rose written written_now end → Serves old.limit asked script before after (Rose first now) sink_rose written written_now end
 serves old asked script before after first now sink_rose written written_now status.Memory opened le h = inr (breaks old asked before after opened h)
 serves old asked script before after first now sink_rose written written_now status.Ok opened le h =
-    (h.text, tells old h.new script h.text asked before after false opened h.told h.kept h.ended.0, h.ended.1)
+    (h.text, tells old h.new script h.text asked before after false opened h.legal h.told h.kept h.ended.0, h.ended.1)
 serves old asked script before after first now sink_rose written written_now status.LogFault opened le h =
-    (rose old h.new script h.text now first h.told opened.running le h.faults h.ended.0, h.text, tells old h.new script h.text asked before after true opened h.told h.kept h.ended.0, h.ended.1)
+    (rose old h.new script h.text now first h.told opened.running le h.faults h.ended.0, h.text, tells old h.new script h.text asked before after true opened h.legal h.told h.kept h.ended.0, h.ended.1)
 serves old asked script before after first now sink_rose written written_now status.SinkFault opened le h =
-    (h.ended.0, bit h.new.stopped, (λ up. rose old h.new script h.text now first h.told opened.running le h.faults (bit_is h.new.stopped up)), h.text, tells old h.new script h.text asked before after h.new.stopped opened h.told h.kept refl, h.ended.1)
+    (h.ended.0, bit h.new.stopped, (λ up. rose old h.new script h.text now first h.told opened.running le h.faults (bit_is h.new.stopped up)), h.text, tells old h.new script h.text asked before after h.new.stopped opened h.legal h.told h.kept refl, h.ended.1)
 serves old asked script before after first now sink_rose written written_now status.Words opened le h = absurd h.ended
 serves old asked script before after first now sink_rose written written_now status.SourceFault opened le h = absurd h.ended
 serves old asked script before after first now sink_rose written written_now (status.Script fault) opened le h = absurd h.ended
 serves old asked script before after first now sink_rose written written_now (status.Contents damage) opened le h = absurd h.ended
 serves old asked script before after first now sink_rose written written_now (status.OpenFault d) opened le h = absurd h.ended
 
-pub serves_opened : (state : State) (limit asked : ℕ) (log : LogState) (entries : List Entry) (script : List Part) (before after : List Moment) (first now : ℕ) (sink_rose : Type 0) (written written_now : Option (List ℕ)) (end : Status)
-    → state ≡ record { entries = entries; stopped = false; limit = limit; id = log.id; faults = log.faults } → limit < 2 ^ 32
-    → IfTold before (λ m. IsLogOf log.id entries m.reads) → IfTold before (λ m. IsUnmade m.reads → log.id ≡ asked) → AreLegal entries → length entries < 2 ^ 32 → first ≤ log.faults
+pub serves_opened : (state : State) (limit asked : ℕ) (wal : WalState) (entries : List Entry) (script : List Part) (before after : List Moment) (first now : ℕ) (sink_rose : Type 0) (written written_now : Option (List ℕ)) (end : Status)
+    → state ≡ record { entries = entries; stopped = false; limit = limit; id = wal.id; faults = wal.faults }
+    → IfTold before (λ m. IsLogOf wal.id entries m.reads) → IfTold before (λ m. IsUnmade m.reads → wal.id ≡ asked) → first ≤ wal.faults
     → Finishes state script after now sink_rose written written_now end → Serves limit asked script before after (Rose first now) sink_rose written written_now end
-serves_opened state limit asked log entries script before after first now sink_rose written written_now end is small found made legal few le h =
-    let opened : State = record { entries = entries; stopped = false; limit = limit; id = log.id; faults = log.faults } in
-    serves opened asked script before after first now sink_rose written written_now end (record { running = refl; legal = legal; few = few; limit = small; found = found; made = made }) le
+serves_opened state limit asked wal entries script before after first now sink_rose written written_now end is found made le h =
+    let opened : State = record { entries = entries; stopped = false; limit = limit; id = wal.id; faults = wal.faults } in
+    serves opened asked script before after first now sink_rose written written_now end (record { running = refl; found = found; made = made }) le
     (subst (λ (s : State). Finishes s script after now sink_rose written written_now end) is h)
 
 pub serves_refused : (why : OpenError) (end : Status) (limit asked : ℕ) (script : List Part) (before after : List Moment) (log_rose sink_rose : Type 0) (written written_now : Option (List ℕ))
@@ -130,22 +123,19 @@ finishes_told : (old : State) (script : List Part) (log : List Moment) (faults :
 finishes_told old script log faults sink_rose written written_now status.Memory h = absurd h.ended
 finishes_told old script log faults sink_rose written written_now end h = h
 
-pub finishes : (old new : State) (script : List Part) (text : List ℕ) (log : LogState) (moments : List Moment) (faults : ℕ) (stopped : Bool) (sink_rose : Type 0) (written written_now : Option (List ℕ)) (end : Status)
-    → IsTold old new script text → Keeps log new.entries → log.closed ≡ new.stopped → log.id ≡ new.id → log.faults ≡ new.faults → moments ≡ log.moments → faults ≡ log.faults → stopped ≡ new.stopped
+pub finishes : (old new : State) (script : List Part) (text : List ℕ) (moments : List Moment) (faults : ℕ) (stopped : Bool) (sink_rose : Type 0) (written written_now : Option (List ℕ)) (end : Status)
+    → IsTold old new script text → IsLegal new.entries → IfTold moments (KeptBy (bit new.stopped) new.id new.entries) → faults ≡ new.faults → stopped ≡ new.stopped
     → IsToldAs stopped sink_rose written written_now text end → Finishes old script moments faults sink_rose written written_now end
-finishes old new script text log moments faults stopped sink_rose written written_now end told keeps closed id counted same now is ended =
+finishes old new script text moments faults stopped sink_rose written written_now end told legal kept now is ended =
     finishes_told old script moments faults sink_rose written written_now end (record {
       new = new;
       text = text;
       told = told;
-      kept = rw same (subst (λ (n : ℕ). IfTold log.moments (KeptBy (bit new.stopped) n new.entries)) id (kept_by log new.entries new.stopped keeps closed));
-      faults = sym counted ∙ sym now;
+      legal = legal;
+      kept = kept;
+      faults = sym now;
       ended = subst (λ (b : Bool). IsToldAs b sink_rose written written_now text end) is ended;
     })
 
-pub breaks_off : (old new : State) (log : LogState) (moments : List Moment) → Later old new → Keeps log new.entries → log.closed ≡ new.stopped → log.id ≡ new.id → moments ≡ log.moments → HasBroken old moments
-breaks_off old new log moments later keeps closed id same = record {
-  new = new;
-  later = later;
-  kept = rw same (subst (λ (n : ℕ). IfTold log.moments (Leaves (IsLogOrNext n new.entries))) id (kept_anyway log new.entries new.stopped keeps closed));
-}
+pub breaks_off : (old new : State) (moments : List Moment) → Later old new → IsLegal new.entries → IfTold moments (KeptBy (bit new.stopped) new.id new.entries) → HasBroken old moments
+breaks_off old new moments later legal kept = record { new = new; later = later; kept = kept_anyway new.id (bit new.stopped) new.entries moments legal kept }

@@ -1,5 +1,5 @@
 -- What a call of the program's top call did, by the status that it ended with.
-use Rattle.std.specs.Prelude.{◌≡◌, ◌⊎◌, ℕ, zero, suc, ◌≤◌, List, [], ◌++◌, Option, Result, Ok, Err}
+use Rattle.std.specs.Prelude.{◌≡◌, ◌⊎◌, ℕ, ◌≤◌, List, [], ◌++◌, Option, Result, Ok, Err}
 use Rattle.std.specs.Io.KnownBytes.{Appends}
 use Rattle.wp_model.specs.declared.entry.Entry.{Entry}
 use Rattle.wp_outside.specs.declared.disk.Device.TheVariants as device
@@ -19,17 +19,13 @@ use Rattle.wp_words.specs.Choice.{IsChoice, IsTaken}
 use Rattle.wp_run.specs.declared.outside.TheConstants.{MOST_TAKEN}
 use Rattle.wp_run.specs.declared.status.Status.{Status}
 use Rattle.wp_run.specs.declared.status.Status.TheVariants as status
-use Rattle.wp_run.specs.Log.{MAGIC, IsLogOf, IsLogOrNext}
+use Rattle.wp_wal.specs.Spelling.{MAGIC, IsLogOf}
+use Rattle.wp_run.specs.Kept.{IsLogOrNext, KeptBy}
 use Rattle.wp_run.specs.Opening.{IsDamaged}
 use Rattle.wp_run.specs.Outside.{Takes}
 use Rattle.wp_run.specs.Transcript.{IsTranscript}
 
 -- ---- a store
-
--- What a crash leaves of the log: the history; or, once the log has failed, it or it and one entry more, whole.
-abbrev pub KeptBy : ℕ → ℕ → List Entry → Moment → Type 0
-KeptBy zero id history m = Leaves (IsLogOf id history) m
-KeptBy (suc faults) id history m = Leaves (IsLogOrNext id history) m
 
 -- The text answers the script over the store whose log told these moments before and tells those after it. Asked is
 -- the id that a new log gets; so many times the log failed.

@@ -1,6 +1,7 @@
 -- What the clients of a script are told over a store, and what the store's log keeps of it.
 use Rattle.std.specs.Prelude.{◌≡◌, ℕ, Bool, true, false, List, Option}
 use Rattle.std.specs.Io.KnownBytes.{Appends}
+use Rattle.wp_model.specs.Legal.{IsLegal}
 use Rattle.wp_outside.specs.Disk.{Moment, IfTold}
 use Rattle.wp_outside.specs.Sink.{AppendsPrefix}
 use Rattle.wp_gatelog.specs.Moments.{Leaves}
@@ -9,8 +10,7 @@ use Rattle.wp_text.specs.declared.script.Part.{Part}
 use Rattle.wp_run.specs.declared.status.Status.{Status}
 use Rattle.wp_run.specs.declared.status.Status.TheVariants as status
 use Rattle.wp_run.specs.Engine.{State, bit, Later, AllRun}
-use Rattle.wp_run.specs.Log.{IsLogOrNext}
-use Rattle.wp_run.specs.Run.{KeptBy}
+use Rattle.wp_run.specs.Kept.{IsLogOrNext, KeptBy}
 use Rattle.wp_run.specs.Transcript.{text_of}
 
 -- the text of the replies that the clients are given from the one state to the other
@@ -34,6 +34,7 @@ pub record HasTold (old : State) (script : List Part) (log : List Moment) (log_f
   pub new : State
   pub text : List ℕ
   pub told : IsTold old new script text
+  pub legal : IsLegal new.entries
   pub kept : IfTold log (KeptBy (bit new.stopped) new.id new.entries)
   pub faults : new.faults ≡ log_faults
   pub ended : IsToldAs new.stopped sink_rose written written_now text end

@@ -1,12 +1,51 @@
--- How the store on one thread takes a change, or refuses it.
-use Rattle.std.specs.Prelude.{◌≡◌, ℕ, Result, Ok, Err}
+-- How the store on one thread takes entries, or refuses them.
+use Rattle.std.specs.Prelude.{◌≡◌, ◌⊎◌, ℕ, ◌+◌, ◌<◌, ◌≤◌, true, false, List, ◌++◌, length, Result, Ok, Err}
 use Rattle.std.specs.declared.alloc.AllocError.{AllocError}
-use Rattle.wp_model.specs.declared.change.Change.{Change}
+use Rattle.wp_model.specs.declared.entry.Entry.{Entry}
+use Rattle.wp_outside.specs.Faults.{Rose}
 use Rattle.wp_text.specs.declared.reply.Reply.{Reply}
 use Rattle.wp_text.specs.declared.reply.Reply.TheVariants as reply
 use Rattle.wp_run.specs.declared.engine.WriteError.{WriteError}
 use Rattle.wp_run.specs.declared.engine.WriteError.TheVariants.{Memory, NumbersFull, LogFault, Stopped}
-use Rattle.wp_run.specs.Engine.{State, Adds, Refuses}
+use Rattle.wp_run.specs.Client.{Client}
+use Rattle.wp_run.specs.Due.{settled}
+use Rattle.wp_run.specs.Engine.{State}
+
+-- the entries stand in the history
+pub record Takes (old new : State) (entries : List Entry) : Type 0 where
+  pub running : old.stopped ≡ false
+  pub fits : length old.entries + length entries ≤ old.limit
+  pub changed : new ≡ record old { entries = old.entries ++ entries; faults = new.faults }
+  pub counted : old.faults ≤ new.faults
+
+-- the log failed as it took them
+pub record FailsAt (old new : State) (entries : List Entry) : Type 0 where
+  pub running : old.stopped ≡ false
+  pub fits : length old.entries + length entries ≤ old.limit
+  pub changed : new ≡ record old { stopped = true; faults = new.faults }
+  pub rose : Rose old.faults new.faults
+  pub counted : old.faults ≤ new.faults
+
+-- there are too few numbers for them, of which those given are the last one used and the greatest one
+pub record IsFull (old new : State) (entries : List Entry) (published limit : ℕ) : Type 0 where
+  pub running : old.stopped ≡ false
+  pub past : old.limit < length old.entries + length entries
+  pub published_is : published ≡ length old.entries
+  pub limit_is : limit ≡ old.limit
+  pub same : new ≡ old
+
+-- the log had failed before
+pub record HasStopped (old new : State) (published : ℕ) : Type 0 where
+  pub stopped : old.stopped ≡ true
+  pub published_is : published ≡ length old.entries
+  pub same : new ≡ old
+
+abbrev pub Writes : State → State → List Entry → Result (Unit {0}) WriteError → Type 0
+Writes old new entries (Ok done) = Takes old new entries
+Writes old new entries (Err Memory) = new ≡ old
+Writes old new entries (Err (NumbersFull published limit)) = IsFull old new entries published limit
+Writes old new entries (Err LogFault) = FailsAt old new entries
+Writes old new entries (Err (Stopped published)) = HasStopped old new published
 
 -- the reply that tells an error, if it isn't want of memory
 abbrev pub IsRefusalOf : WriteError → Result Reply AllocError → Type 0
@@ -19,9 +58,10 @@ IsRefusalOf LogFault (Err e) = ⊥
 IsRefusalOf (Stopped published) (Ok answer) = answer ≡ reply.Stopped published
 IsRefusalOf (Stopped published) (Err e) = ⊥
 
-abbrev pub Writes : State → State → Change → Result ℕ WriteError → Type 0
-Writes old new change (Ok n) = Adds old new change n
-Writes old new change (Err Memory) = new ≡ old
-Writes old new change (Err (NumbersFull published limit)) = Refuses old new (reply.Full published limit)
-Writes old new change (Err LogFault) = Refuses old new reply.FaultLog
-Writes old new change (Err (Stopped published)) = Refuses old new (reply.Stopped published)
+-- The entries were taken, and the client told so; or they were refused, and the client told why.
+abbrev pub Tells : State → Client → List Entry → Reply → Reply → State → Client → Type 0
+Tells old was entries told answer new now =
+    (Takes old new entries × (answer ≡ told) × (now ≡ settled was told))
+    ⊎ (FailsAt old new entries × (answer ≡ reply.FaultLog) × (now ≡ was))
+    ⊎ (IsFull old new entries (length old.entries) old.limit × (answer ≡ reply.Full (length old.entries) old.limit) × (now ≡ was))
+    ⊎ (HasStopped old new (length old.entries) × (answer ≡ reply.Stopped (length old.entries)) × (now ≡ was))

@@ -5,9 +5,11 @@
 //! first byte is written.
 #![tactic(auto)]
 
+mod client;
 mod engine;
 mod opening;
 mod outside;
+mod plan;
 mod serve;
 mod session;
 mod status;

@@ -33,7 +33,7 @@ fn text_of<D: Disk>(
     ensures later { Later engine.old engine.new }
 {
     let sessions = run_all(alloc, engine, parts)?;
-    let text = transcript(alloc, parts, &sessions, engine.entries())?;
+    let text = transcript(alloc, parts, &sessions, engine.history())?;
     Ok(text)
 }
 
@@ -62,7 +62,8 @@ fn finish<D: Disk, K: Sink>(
 {
     let text = text_of(alloc, &mut engine, parts);
     let stopped = engine.is_stopped();
-    let disk = engine.into_log().into_disk();
+    engine.history();
+    let disk = engine.into_disk();
     match text {
         Ok(text) => {
             let status = tell(sink, &text, stopped);
@@ -101,7 +102,7 @@ pub(crate) fn serve<D: Disk, K: Sink>(
     ensures log_later { D.faults disk ≤ D.faults result.disk }
 {
     match open(alloc, disk, id) {
-        Ok(Opened { log, entries }) => finish(alloc, Engine::new(log, entries, limit), parts, sink),
+        Ok(Opened { wal, history }) => finish(alloc, Engine::new(wal, history, limit), parts, sink),
         Err(DiskRefused { disk, why }) => {
             let status = status_of(why);
             Served { status, disk }

@@ -4,6 +4,7 @@ ghost use Rattle.wp_text.specs.Lines as text;
 ghost use Rattle.wp_run.specs.Transcript.{client_text, client_lines, text_of};
 
 use std::alloc::{AllocError, Global};
+use wp_core::History;
 use wp_model::Entry;
 use wp_text::{Part, Reply, client_line, end_line, history_line, reply_line};
 
@@ -51,15 +52,16 @@ pub(crate) fn transcript(
     alloc: Global,
     parts: &[Part],
     sessions: &[Vec<Reply>],
-    entries: &[Entry],
+    history: &History,
 ) -> Result<Vec<u8>, AllocError>
     requires { length parts.now ≡ length sessions.now }
-    ensures { IfOk result (λ text. text.items ≡ text_of parts.now (map (λ v. v.items) sessions.now) entries.now) }
+    ensures { IfOk result (λ text. text.items ≡ text_of parts.now (map (λ v. v.items) sessions.now) history.now.entries) }
 {
     let mut out = Vec::new(alloc);
     push_clients(&mut out, parts, sessions)?;
     out.extend_from_slice(b"history\n")?;
-    push_history(&mut out, entries)?;
-    end_line(&mut out, entries.len() as u64, 0)?;
+    push_history(&mut out, history.entries())?;
+    let undecided = history.undecided().len() as u64;
+    end_line(&mut out, history.published(), undecided)?;
     Ok(out)
 }

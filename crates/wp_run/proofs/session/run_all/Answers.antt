@@ -1,7 +1,7 @@
 use Rattle.std.proofs.Common.{refl, arith}
 use Rattle.std.proofs.lemmas.List.{map_push}
 use Rattle.wp_run.proofs.RunLemmas.{runs_on}
-use Rattle.wp_run.proofs.StepLemmas.{Later-same, Later-trans}
+use Rattle.wp_run.proofs.LaterLemmas.{Later-same, Later-trans}
 use Rattle.wp_run.proofs.session.run_all.Goals as goal
 
 pub returns-in_err-replies-clause-later : goal.returns-in_err-replies-clause-later

@@ -1,9 +1,11 @@
 use Rattle.std.proofs.Common.{take}
+use Rattle.wp_run.specs.Client.{Fits, new_client}
 use Rattle.wp_run.specs.Engine.{Later, Runs}
 use Rattle.wp_run.proofs.session.run_session.Given as goal
 
 abbrev pub invariant-loop-command : goal.invariant-loop-command
 invariant-loop-command g l = record {
-  runs : Runs l.initial.engine (take l.command-index l.commands) l.replies.items l.engine;
+  runs : Runs l.initial.engine new_client (take l.command-index l.commands) l.replies.items l.engine l.session;
+  fits : Fits l.engine.entries l.session;
   later : Later l.initial.engine l.engine;
 }

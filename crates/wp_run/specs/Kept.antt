@@ -1,0 +1,50 @@
+-- What a store on one thread keeps in its log.
+use Rattle.std.specs.Prelude.{◌≡◌, ◌⊎◌, ℕ, zero, suc, ◌+◌, ◌^◌, ◌<◌, Bool, false, true, List, [], ◌∷◌, ◌++◌, length, None}
+use Rattle.wp_model.specs.declared.entry.Entry.{Entry}
+use Rattle.wp_model.specs.Legal.{IsLegal, IsLegalBehind, undone_last}
+use Rattle.wp_outside.specs.Disk.{Moment}
+use Rattle.wp_entry.specs.Record.{FormRecord, IsRecord}
+use Rattle.wp_gatelog.specs.Moments.{Leaves}
+use Rattle.wp_wal.specs.Spelling.{IsLogOf}
+use Rattle.wp_wal.specs.Wal.{State, Keeps}
+
+-- ---- the log of a history
+
+-- the history, or it and one record more
+abbrev pub IsOrNext : List Entry → List Entry → Type 0
+IsOrNext history longer = (longer ≡ history) ⊎ ((next : List Entry) × IsRecord (length history + 1) next × (longer ≡ history ++ next))
+
+-- the bytes spell the history, or it and one record more, whole, and what they spell is legal
+abbrev pub IsLogOrNext : ℕ → List Entry → List ℕ → Type 0
+IsLogOrNext id history bytes = (longer : List Entry) × IsOrNext history longer × IsLegal longer × IsLogOf id longer bytes
+
+-- What a crash leaves of the log: the history; or, once the log has failed, it or it and one record more, whole.
+abbrev pub KeptBy : ℕ → ℕ → List Entry → Moment → Type 0
+KeptBy zero id history m = Leaves (IsLogOf id history) m
+KeptBy (suc faults) id history m = Leaves (IsLogOrNext id history) m
+
+-- ---- the next record
+
+-- the entries may stand behind the history, one after another
+abbrev pub AreLegalBehind : List Entry → List Entry → Type 0
+AreLegalBehind history [] = Unit {0}
+AreLegalBehind history (entry ∷ entries) = IsLegalBehind history entry × AreLegalBehind (history ++ entry ∷ []) entries
+
+-- The entries may be logged next, as one record, if there are numbers for them.
+pub record AreNext (history entries : List Entry) : Type 0 where
+  pub legal : AreLegalBehind history entries
+  pub form : length history + length entries < 2 ^ 32 → FormRecord (length history + 1) entries
+  pub closed : undone_last (history ++ entries) ≡ None
+
+-- ---- the store
+
+-- The store's fields go together. Once an append has failed, the log may have its record.
+pub record IsWhole (wal : State) (entries : List Entry) (stopped : Bool) (limit : ℕ) : Type 0 where
+  pub failed : List Entry
+  pub keeps : Keeps wal entries failed
+  pub legal : IsLegal (entries ++ failed)
+  pub none : stopped ≡ false → failed ≡ []
+  pub whole : stopped ≡ true → IsRecord (length entries + 1) failed
+  pub state : wal.closed ≡ stopped
+  pub closed : undone_last entries ≡ None
+  pub numbers : limit < 2 ^ 32
