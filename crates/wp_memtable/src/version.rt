@@ -1,7 +1,9 @@
 ghost use Rattle.std.specs.Prelude.{◌≡◌, IfOk};
 ghost use Rattle.std.specs.Option.{option_copied};
+ghost use Rattle.wp_memtable.specs.Versions.{version_cmp};
 
 use std::alloc::{AllocError, Global};
+use std::cmp::Ordering;
 use wp_model::{Key, Seq, Value};
 
 /// What an entry left under a key.
@@ -25,6 +27,15 @@ pub(crate) fn copy_value(value: Option<&Value>, alloc: Global) -> Result<Option<
 }
 
 impl Version {
+    /// How the two stand in order: by key, of one key the greater number first. Their values don't count.
+    pub fn place_cmp(&self, other: &Version) -> Ordering
+        ensures { result ≡ version_cmp self.now other.now }
+    {
+        self.key
+            .cmp(&other.key)
+            .then(other.number.cmp(&self.number))
+    }
+
     /// The same version once more.
     pub fn copy(&self, alloc: Global) -> Result<Version, AllocError>
         ensures { IfOk result (λ version. version ≡ self.now) }
