@@ -1,0 +1,87 @@
+-- The live names, the held keys and the board.
+use Rattle.std.specs.Prelude.{◌≡◌, ℕ, Bool, true, false, List, Option, Some, None, is_some, Result, Ok, Err, if◌then◌else◌, refl}
+use Rattle.std.specs.FinMap as map
+use Rattle.std.specs.Coded.{Coded, code_by, coded×, coded_ℕ, coded_list, coded_option}
+use Rattle.wp_model.specs.Batch.{key_cmp}
+use Rattle.wp_locks.specs.declared.holder.Holder.{Holder}
+use Rattle.wp_locks.specs.declared.error.LockError.{LockError}
+use Rattle.wp_locks.specs.declared.error.LockError.TheVariants.{Memory, Taken, Unknown, InUse, Busy}
+use Rattle.wp_locks.specs.declared.error.TakeRefused.{TakeRefused}
+use Rattle.wp_locks.specs.Holder.{is_same, is_same_txn, holder_code}
+
+-- the live names, each with the client that has it, if one does
+abbrev pub Names : Type 0
+Names = map.FinMap key_cmp (Option (List ℕ))
+
+-- the held keys, each with its holder
+abbrev pub Keys : Type 0
+Keys = map.FinMap key_cmp Holder
+
+-- the labels, each with the number that was told last
+abbrev pub Labels : Type 0
+Labels = map.FinMap key_cmp ℕ
+
+pub record LockTables : Type 0 where
+  pub names : Names
+  pub keys : Keys
+  pub labels : Labels
+
+-- they are stored as their fields, in nested pairs
+abbrev pub tables_code : Coded LockTables
+tables_code =
+    code_by (Names × (Keys × Labels))
+    (coded× (map.code (coded_list coded_ℕ) (coded_option (coded_list coded_ℕ))) (coded× (map.code (coded_list coded_ℕ) holder_code) (map.code (coded_list coded_ℕ) coded_ℕ)))
+    (λ t. (t.names, (t.keys, t.labels)))
+    (λ p. record { names = p.0; keys = p.1.0; labels = p.1.1 })
+    (λ _. refl)
+
+-- no name is live, no key is held and nothing was told
+abbrev pub nothing_held : LockTables
+nothing_held = record { names = map.empty; keys = map.empty; labels = map.empty }
+
+-- what `claim_name` answers, and what it leaves
+abbrev pub Claims : LockTables → List ℕ → List ℕ → Result (Unit {0}) LockError → LockTables → Type 0
+Claims old name client (Ok done) new = (map.get old.names name ≡ None) × (new ≡ record old { names = map.insert old.names name (Some client) })
+Claims old name client (Err Memory) new = (map.get old.names name ≡ None) × (new ≡ old)
+Claims old name client (Err (Taken taken)) new = (is_some (map.get old.names name) ≡ true) × (taken ≡ name) × (new ≡ old)
+Claims old name client (Err (Unknown unknown)) new = ⊥
+Claims old name client (Err (InUse used)) new = ⊥
+Claims old name client (Err (Busy holder)) new = ⊥
+
+-- the names once this one, where it is live, has no client
+abbrev pub names_left : Names → List ℕ → Names
+names_left names name = if is_some (map.get names name) then map.insert names name None else names
+
+-- why `take_name` refused, where this stood under the name
+abbrev pub RefusesTake : Option (Option (List ℕ)) → List ℕ → LockError → Type 0
+RefusesTake None name (Unknown unknown) = unknown ≡ name
+RefusesTake (Some (Some client)) name (InUse used) = used ≡ name
+RefusesTake found name why = ⊥
+
+-- what `take_name` answers, and what it leaves
+abbrev pub TakesName : LockTables → List ℕ → List ℕ → Result (Unit {0}) TakeRefused → LockTables → Type 0
+TakesName old name client (Ok done) new = (map.get old.names name ≡ Some None) × (new ≡ record old { names = map.insert old.names name (Some client) })
+TakesName old name client (Err refused) new = RefusesTake (map.get old.names name) name refused.why × (refused.client ≡ client) × (new ≡ old)
+
+-- whether the key is free for the holder: nobody holds it, or it is the same transaction's
+abbrev pub is_free_for : Option Holder → Holder → Bool
+is_free_for None holder = true
+is_free_for (Some other) holder = is_same_txn other holder
+
+-- what `lock` answers, and what it leaves
+abbrev pub Locking : LockTables → List ℕ → Holder → Result (Unit {0}) LockError → LockTables → Type 0
+Locking old key holder (Ok done) new = (is_free_for (map.get old.keys key) holder ≡ true) × (new ≡ record old { keys = map.insert old.keys key holder })
+Locking old key holder (Err Memory) new = new ≡ old
+Locking old key holder (Err (Busy other)) new = (map.get old.keys key ≡ Some other) × (is_same_txn other holder ≡ false) × (new ≡ old)
+Locking old key holder (Err (Taken taken)) new = ⊥
+Locking old key holder (Err (Unknown unknown)) new = ⊥
+Locking old key holder (Err (InUse used)) new = ⊥
+
+-- a key's holder, where it is not this one
+abbrev pub but : Holder → Option Holder → Option Holder
+but holder None = None
+but holder (Some other) = if is_same other holder then None else Some other
+
+-- just the keys that the holder held are free
+abbrev pub FreesAllOf : Holder → Keys → Keys → Type 0
+FreesAllOf holder old new = (key : List ℕ) → map.get new key ≡ but holder (map.get old key)

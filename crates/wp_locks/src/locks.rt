@@ -1,0 +1,136 @@
+ghost use Rattle.std.specs.Prelude.{◌≡◌, List, ℕ, OnOk, OnErr};
+ghost use Rattle.std.specs.FinMap as map;
+ghost use Rattle.wp_locks.specs.Locks.{nothing_held, Claims, TakesName, Locking, names_left, FreesAllOf};
+
+use crate::error::{LockError, TakeRefused};
+use crate::holder::Holder;
+use std::alloc::{AllocError, Global};
+use std::collections::BTreeMap;
+use std::marker::Model;
+use wp_model::{Key, Name, Seq};
+
+/// The live names, the held keys and the board, which the holder of the locks turn changes.
+#[derive(Drop)]
+pub struct Locks {
+    alloc: Global,
+    /// The live names, each with the client that has it, if one does.
+    names: BTreeMap<Name, Option<Name>>,
+    keys: BTreeMap<Key, Holder>,
+    labels: BTreeMap<Name, Seq>,
+}
+
+impl Model for Locks {
+    ghost use Rattle.wp_locks.specs.Locks.{LockTables, tables_code};
+    ghost use Rattle.std.specs.FinMap as map;
+
+    ghost Value = { LockTables };
+
+    ghost coded = { tables_code };
+
+    ghost view = { λ l. record { names = map.from_entries l.names.entries; keys = map.from_entries l.keys.entries; labels = map.from_entries l.labels.entries } };
+}
+
+impl Locks {
+    pub fn new(alloc: Global) -> Locks
+        ensures { result ≡ nothing_held }
+    {
+        Locks {
+            alloc,
+            names: BTreeMap::new(alloc),
+            keys: BTreeMap::new(alloc),
+            labels: BTreeMap::new(alloc),
+        }
+    }
+
+    /// Makes a name live, for the client.
+    pub fn claim_name(&mut self, name: Name, client: Name) -> Result<(), LockError>
+        ensures { Claims self.old name client result self.new }
+    {
+        if self.names.contains_key(&name) {
+            return Err(LockError::Taken(name));
+        }
+        self.names.insert(name, Some(client))?;
+        Ok(())
+    }
+
+    /// Ends a name.
+    pub fn free_name(&mut self, name: &Name)
+        ensures { self.new ≡ record self.old { names = map.remove self.old.names name.now } }
+    {
+        self.names.remove(name);
+    }
+
+    /// Takes a live name from its client. It stays live.
+    pub fn leave_name(&mut self, name: &Name)
+        ensures { self.new ≡ record self.old { names = names_left self.old.names name.now } }
+    {
+        if let Some(client) = self.names.get_mut(name) {
+            *client = None;
+        }
+    }
+
+    /// Gives a live name that no client has to the client.
+    pub fn take_name(&mut self, name: Name, client: Name) -> Result<(), TakeRefused>
+        ensures { TakesName self.old name client result self.new }
+    {
+        let Some(has) = self.names.get_mut(&name) else {
+            return Err(TakeRefused {
+                client,
+                why: LockError::Unknown(name),
+            });
+        };
+        if has.is_some() {
+            return Err(TakeRefused {
+                client,
+                why: LockError::InUse(name),
+            });
+        }
+        *has = Some(client);
+        Ok(())
+    }
+
+    /// Gives the key to the holder. A transaction that holds it may lock it again.
+    pub fn lock(&mut self, key: &Key, holder: Holder) -> Result<(), LockError>
+        ensures { Locking self.old key.now holder result self.new }
+    {
+        if let Some(other) = self.keys.get(key) {
+            if other.is_same_txn(&holder) {
+                return Ok(());
+            }
+            return Err(LockError::Busy(other.copy(self.alloc)?));
+        }
+        self.keys.insert(key.copy(self.alloc)?, holder)?;
+        Ok(())
+    }
+
+    /// Frees the key, whoever holds it.
+    pub fn unlock(&mut self, key: &Key)
+        ensures { self.new ≡ record self.old { keys = map.remove self.old.keys key.now } }
+    {
+        self.keys.remove(key);
+    }
+
+    /// Frees each key that the holder holds, and no other, in a time that grows with the number of held keys.
+    pub fn unlock_all(&mut self, holder: &Holder)
+        ensures keys { FreesAllOf holder.now self.old.keys self.new.keys }
+        ensures others { self.new ≡ record self.old { keys = self.new.keys } }
+    {
+        self.keys.retain(|_, other| !other.is_same(holder));
+    }
+
+    /// Puts the number under the label, in place of an earlier one.
+    pub fn tell(&mut self, label: Name, at: Seq) -> Result<(), AllocError>
+        ensures ok { OnOk result (self.new ≡ record self.old { labels = map.insert self.old.labels label at }) }
+        ensures err { OnErr result (self.new ≡ self.old) }
+    {
+        self.labels.insert(label, at)?;
+        Ok(())
+    }
+
+    /// The number that was told last under the label.
+    pub fn told(&self, label: &Name) -> Option<Seq>
+        ensures { result ≡ map.get self.now.labels label.now }
+    {
+        self.labels.get(label).copied()
+    }
+}

@@ -1,0 +1,2 @@
+pub mod KeyVersions
+pub mod Listed

@@ -1,0 +1,3 @@
+pub mod KeyVersions
+pub mod Memtable
+pub mod Versions

@@ -1,0 +1,109 @@
+ghost use Rattle.std.specs.Prelude.{◌≡◌, ℕ, ◌+◌, ◌<◌, ◌≤◌, ◌==◌, [], not, IsTrue, OnOk, Some, is_some, length, filter, nat_eq, nat_lt, if◌then◌else◌};
+ghost use Rattle.std.specs.List.{prefix_len};
+ghost use Rattle.std.specs.Map.{lookup};
+ghost use Rattle.std.specs.VecDeque.Iter.{deque_iter_rest};
+ghost use Rattle.wp_memtable.specs.KeyVersions.{AreNewestFirst, has_place};
+
+use std::alloc::{AllocError, Global};
+use std::collections::VecDeque;
+use std::collections::vec_deque::Iter;
+use std::marker::Model;
+use wp_model::{Seq, Value};
+
+/// The versions of one key, the newest first.
+#[derive(Drop)]
+pub struct KeyVersions {
+    newest_first: VecDeque<(Seq, Option<Value>)>,
+}
+
+impl Model for KeyVersions {
+    ghost use Rattle.std.specs.Prelude.{◌-◌};
+    ghost use Rattle.std.specs.VecDeque.{deque_len, deque_capacity};
+    ghost use Rattle.wp_memtable.specs.KeyVersions.{RoomyVersions, roomy_code, AreNewestFirst};
+
+    ghost Value = { RoomyVersions };
+
+    ghost coded = { roomy_code };
+
+    ghost view = { λ k. record { versions = k.newest_first.items; room = deque_capacity k.newest_first - deque_len k.newest_first } };
+
+    ghost invariant = { λ k. AreNewestFirst k.newest_first.items };
+}
+
+/// How many versions are newer than `n`.
+fn newer_than(versions: &VecDeque<(Seq, Option<Value>)>, n: Seq) -> usize
+    ensures { result ≡ prefix_len (λ e. nat_lt n e.0) versions.now.items }
+{
+    let mut i = 0;
+    while let Some((number, _)) = versions.get(i) {
+        if *number <= n {
+            return i;
+        }
+        i += 1;
+    }
+    i
+}
+
+impl KeyVersions {
+    pub fn new(alloc: Global) -> KeyVersions
+        ensures { result.versions ≡ [] }
+    {
+        KeyVersions {
+            newest_first: VecDeque::new(alloc),
+        }
+    }
+
+    pub fn len(&self) -> usize
+        ensures { result ≡ length self.now.versions }
+    {
+        self.newest_first.len()
+    }
+
+    /// Takes the memory for one version more.
+    pub fn reserve(&mut self) -> Result<(), AllocError>
+        ensures ok { OnOk result (0 < self.new.room) }
+        ensures same_versions { self.new.versions ≡ self.old.versions }
+        ensures newest_first { AreNewestFirst self.new.versions }
+    {
+        self.newest_first.reserve(1)
+    }
+
+    /// Puts a version under `n`, in place of one that stands there. Returns how many versions more there are.
+    pub fn put(&mut self, n: Seq, value: Option<Value>) -> usize
+        requires { IsTrue (has_place self.old n) }
+        ensures each { (m : ℕ) → lookup (nat_eq m) self.new.versions ≡ (if n == m then Some value else lookup (nat_eq m) self.old.versions) }
+        ensures count { length self.new.versions ≡ length self.old.versions + result }
+        ensures most { result ≤ 1 }
+        ensures newest_first { AreNewestFirst self.new.versions }
+    {
+        let stood = self.remove(n);
+        let place = newer_than(&self.newest_first, n);
+        self.newest_first.insert(place, (n, value)).unwrap();
+        if stood { 0 } else { 1 }
+    }
+
+    /// Takes the version under `n` out. Returns whether there was one.
+    pub fn remove(&mut self, n: Seq) -> bool
+        ensures stood { result ≡ is_some (lookup (nat_eq n) self.old.versions) }
+        ensures versions { self.new.versions ≡ filter (λ e. not (e.0 == n)) self.old.versions }
+        ensures count { length self.new.versions + (if result then 1 else 0) ≡ length self.old.versions }
+        ensures room { self.old.room + (if result then 1 else 0) ≤ self.new.room }
+        ensures newest_first { AreNewestFirst self.new.versions }
+    {
+        let place = newer_than(&self.newest_first, n);
+        match self.newest_first.get(place) {
+            Some((number, _)) if *number == n => {
+                self.newest_first.remove(place);
+                true
+            }
+            _ => false,
+        }
+    }
+
+    pub fn iter(&self) -> Iter<'_, (Seq, Option<Value>)>
+        ensures rest { deque_iter_rest result ≡ self.now.versions }
+        ensures newest_first { AreNewestFirst self.now.versions }
+    {
+        self.newest_first.iter()
+    }
+}

@@ -1,0 +1,98 @@
+//! How a batch's versions come into memory: first the room for all of them, then the versions.
+ghost use Rattle.std.specs.Prelude.{◌≡◌, ℕ, List, ◌+◌, ◌≤◌, ◌==◌, ◌&&◌, true, Some, IfOk, OnOk, length, map, if◌then◌else◌};
+ghost use Rattle.std.specs.Option.{option_or};
+ghost use Rattle.std.specs.Str.{bytes_eq};
+ghost use Rattle.wp_model.specs.Batch.{change_to, value_of};
+ghost use Rattle.wp_memtable.specs.Versions.{version_at};
+ghost use Rattle.wp_memtable.specs.Memtable.{versions_of, AreWellOrdered, place_at, HavePlaces};
+
+use crate::key_versions::KeyVersions;
+use crate::version::copy_value;
+use std::alloc::{AllocError, Global};
+use std::collections::BTreeMap;
+use wp_model::{Change, Key, Seq, Value};
+
+/// The values that the changes leave, or none for deletions.
+pub fn copy_values(alloc: Global, changes: &[Change]) -> Result<Vec<Option<Value>>, AllocError>
+    ensures { IfOk result (λ values. values.items ≡ map value_of changes.now) }
+{
+    let mut values = Vec::with_capacity(alloc, changes.len())?;
+    for change in changes {
+        values.push(copy_value(change.value(), alloc)?)?;
+    }
+    Ok(values)
+}
+
+/// Takes the memory for one version more of the key.
+fn reserve(
+    alloc: Global,
+    places: &mut BTreeMap<Key, KeyVersions>,
+    key: &Key,
+) -> Result<(), AllocError>
+    requires { AreWellOrdered places.old.entries }
+    ensures place { OnOk result ((n : ℕ) → place_at places.new.entries key.now n ≡ true) }
+    ensures others { OnOk result ((other : List ℕ) (n : ℕ) → place_at places.old.entries other n ≡ true → place_at places.new.entries other n ≡ true) }
+    ensures same_versions { versions_of places.new.entries ≡ versions_of places.old.entries }
+    ensures well_ordered { AreWellOrdered places.new.entries }
+{
+    if let Some(versions) = places.get_mut(key) {
+        return versions.reserve();
+    }
+    let mut versions = KeyVersions::new(alloc);
+    versions.reserve()?;
+    places.insert(key.copy(alloc)?, versions)?;
+    Ok(())
+}
+
+/// Takes the memory for one version more of each key that is changed.
+pub fn reserve_all(
+    alloc: Global,
+    places: &mut BTreeMap<Key, KeyVersions>,
+    changes: &[Change],
+) -> Result<(), AllocError>
+    requires { AreWellOrdered places.old.entries }
+    ensures places { OnOk result ((n : ℕ) → HavePlaces places.new.entries changes.now n) }
+    ensures same_versions { versions_of places.new.entries ≡ versions_of places.old.entries }
+    ensures well_ordered { AreWellOrdered places.new.entries }
+{
+    for change in changes {
+        reserve(alloc, places, change.key())?;
+    }
+    Ok(())
+}
+
+/// Puts a version under the key and `n`. Returns how many versions more there are.
+fn put(places: &mut BTreeMap<Key, KeyVersions>, key: &Key, n: Seq, value: Option<Value>) -> usize
+    requires place { place_at places.old.entries key.now n ≡ true }
+    requires well_ordered { AreWellOrdered places.old.entries }
+    ensures each { (other : List ℕ) (m : ℕ) → version_at (versions_of places.new.entries) other m ≡ (if bytes_eq key.now other && (m == n) then Some value else version_at (versions_of places.old.entries) other m) }
+    ensures places { (other : List ℕ) → place_at places.old.entries other n ≡ true → place_at places.new.entries other n ≡ true }
+    ensures count { length (versions_of places.new.entries) ≡ length (versions_of places.old.entries) + result }
+    ensures most { result ≤ 1 }
+    ensures well_ordered { AreWellOrdered places.new.entries }
+{
+    places.get_mut(key).unwrap().put(n, value)
+}
+
+/// Puts each change under `n`, in memory that was taken before, with the values that the changes leave. Returns
+/// how many versions more there are.
+pub fn put_all(
+    places: &mut BTreeMap<Key, KeyVersions>,
+    n: Seq,
+    changes: &[Change],
+    mut values: Vec<Option<Value>>,
+) -> usize
+    requires values { values.items ≡ map value_of changes.now }
+    requires places { HavePlaces places.old.entries changes.now n }
+    requires well_ordered { AreWellOrdered places.old.entries }
+    ensures each { (key : List ℕ) (m : ℕ) → version_at (versions_of places.new.entries) key m ≡ (if m == n then option_or (change_to changes.now key) (version_at (versions_of places.old.entries) key m) else version_at (versions_of places.old.entries) key m) }
+    ensures count { length (versions_of places.new.entries) ≡ length (versions_of places.old.entries) + result }
+    ensures most { result ≤ length changes.now }
+    ensures well_ordered { AreWellOrdered places.new.entries }
+{
+    let mut more = 0;
+    while let Some(value) = values.pop() {
+        more += put(places, changes[values.len()].key(), n, value);
+    }
+    more
+}

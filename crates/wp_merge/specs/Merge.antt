@@ -1,0 +1,40 @@
+-- Sorted lists of versions, merged.
+use Rattle.std.specs.Prelude.{◌≡◌, ℕ, List, [], ◌∷◌, Option, None}
+use Rattle.std.specs.Option.{option_or}
+use Rattle.std.specs.declared.cmp.Ordering.{Ordering}
+use Rattle.std.specs.declared.cmp.Ordering.TheVariants.{Less, Equal, Greater}
+use Rattle.wp_memtable.specs.declared.version.Version.{Version}
+use Rattle.wp_memtable.specs.Versions.{AreInOrder, version_cmp, version_at}
+
+-- what the first of the lists that has any has under the key and the number
+abbrev pub first_at : List (List Version) → List ℕ → ℕ → Option (Option (List ℕ))
+first_at [] key n = None
+first_at (source ∷ sources) key n = option_or (version_at source key n) (first_at sources key n)
+
+-- all versions of the lists, in order: of several of one key and number the first list's
+pub record AreMerged (sources : List (List Version)) (all : List Version) : Type 0 where
+  pub in_order : AreInOrder all
+  pub each : (key : List ℕ) (n : ℕ) → version_at all key n ≡ first_at sources key n
+
+-- ---- two lists
+
+-- which list's front comes first: Less for the first list's
+abbrev pub front_order : List Version → List Version → Ordering
+front_order [] ys = Greater
+front_order (x ∷ xs) [] = Less
+front_order (x ∷ xs) (y ∷ ys) = version_cmp x y
+
+-- the first list where the order is Less, the second where it is Equal, the third where it is Greater
+abbrev pub by_order : Ordering → List Version → List Version → List Version → List Version
+by_order Less first both second = first
+by_order Equal first both second = both
+by_order Greater first both second = second
+
+-- a version in front of ys, where `rest` merges what comes behind it with such a list
+abbrev pub weave : Version → (List Version → List Version) → List Version → List Version
+weave x rest [] = x ∷ rest []
+weave x rest (y ∷ ys) = by_order (version_cmp x y) (x ∷ rest (y ∷ ys)) (x ∷ rest ys) (y ∷ weave x rest ys)
+
+abbrev pub merge_of : List Version → List Version → List Version
+merge_of [] ys = ys
+merge_of (x ∷ xs) ys = weave x (merge_of xs) ys

@@ -1,0 +1,13 @@
+//! Several sorted lists of versions as one: by key, then newest first.
+//!
+//! Of two versions of one key and number the one of the earlier list stays, so the lists are given with the newest
+//! first: what a later table or the memory says of a number counts. The lists are merged two by two from the last
+//! on, each version moved and none copied. All memory is taken at the making, and the iteration takes none.
+#![tactic(auto)]
+
+pub use merge::Merge;
+
+mod merge;
+#[cfg(test)]
+mod tests;
+mod two;

@@ -1,0 +1,48 @@
+ghost use Rattle.std.specs.Prelude.{◌≡◌, IfOk};
+ghost use Rattle.std.specs.Iterator.{YieldsFirst, item_count};
+ghost use Rattle.wp_merge.specs.Merge.{AreMerged};
+
+use crate::two::merge_two;
+use std::alloc::{AllocError, Global};
+use std::collections::VecDeque;
+use std::marker::Model;
+use wp_memtable::{Version, Versions};
+
+/// The versions of several lists, in order. Of two of the same key and number the earlier list's stays.
+#[derive(Drop)]
+pub struct Merge {
+    versions: VecDeque<Version>,
+}
+
+impl Model for Merge {
+    ghost use Rattle.std.specs.Prelude.{List};
+    ghost use Rattle.wp_memtable.specs.declared.version.Version.{Version};
+
+    ghost Value = { List Version };
+
+    ghost view = { λ m. m.versions.items };
+}
+
+impl Merge {
+    pub fn of(alloc: Global, mut sources: Vec<Versions>) -> Result<Merge, AllocError>
+        ensures { IfOk result (λ merge. AreMerged sources.items merge) }
+    {
+        let mut versions = VecDeque::new(alloc);
+        while let Some(source) = sources.pop() {
+            versions = merge_two(alloc, VecDeque::from_vec(source.into_vec()), versions)?;
+        }
+        Ok(Merge { versions })
+    }
+}
+
+impl Iterator for Merge {
+    type Item = Version;
+
+    ghost next_gives = { YieldsFirst (λ m. m) };
+
+    ghost remaining = { item_count (λ m. m) };
+
+    fn next(&mut self) -> Option<Version> {
+        self.versions.pop_front()
+    }
+}
