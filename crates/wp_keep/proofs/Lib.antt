@@ -1,0 +1,5 @@
+mod Order
+mod Any
+mod Committed
+mod Noted
+mod Ends
