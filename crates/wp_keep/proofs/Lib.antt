@@ -3,3 +3,6 @@ mod Any
 mod Committed
 mod Noted
 mod Ends
+mod Lookups
+mod Undone
+mod Covers

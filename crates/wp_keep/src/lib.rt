@@ -8,10 +8,12 @@
 #![tactic(auto)]
 
 pub use kept::keep;
+pub use laws::keep_covers;
 pub use pair::Pair;
 
 mod commits;
 mod kept;
+mod laws;
 mod lasting;
 mod newer;
 mod pair;
