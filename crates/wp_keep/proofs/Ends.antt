@@ -1,0 +1,67 @@
+-- One version more of those that last, the oldest first.
+use Rattle.std.proofs.Common.{◌≡◌, ℕ, Bool, true, false, ◌&&◌, ◌||◌, not, cond, List, [], ◌∷◌, ◌++◌, reverse, refl, sym, ap, ◌∙◌, subst, append_assoc}
+use Rattle.std.specs.List.{filter}
+use Rattle.std.specs.Str.{bytes_eq}
+use Rattle.std.proofs.lemmas.Bool.{or_parts}
+use Rattle.std.proofs.lemmas.List.{append-nil, reverse-append}
+use Rattle.wp_memtable.specs.declared.version.Version.{Version}
+use Rattle.wp_memtable.specs.Versions.{AreInOrder}
+use Rattle.wp_keep.specs.Keep.{is_settled_deletion, lasts}
+use Rattle.wp_keep.specs.Newer.{any_of, starts_with_key}
+use Rattle.wp_keep.proofs.Order.{IsBefore, placed, same_key}
+use Rattle.wp_keep.proofs.Any.{any_older, none_ahead}
+
+module _ (committed : ℕ → ℕ → Bool) (all : List Version) (floor : ℕ) where
+  -- no deletion that is committed at the floor
+  abbrev says : Version → Bool
+  says w = not (is_settled_deletion committed floor w)
+
+  lasts_by : (front : List Version) (v : Version) (back : List Version) → all ≡ front ++ v ∷ back → AreInOrder all → lasts committed all floor v ≡ (says v || any_of v.key says back)
+  lasts_by front v back split order =
+      ap (λ vs. lasts committed vs floor v) split ∙ any_older says front v back (placed front v back (subst AreInOrder split order))
+
+  first_key_more : (front : List Version) (v : Version) (back : List Version) → all ≡ front ++ v ∷ back → AreInOrder all → (u : Version) → IsBefore u (v ∷ back) → (b : Bool) → b ≡ (says v || any_of v.key says back) → starts_with_key (filter (lasts committed all floor) back) u.key ≡ any_of u.key says back → starts_with_key (cond b (v ∷ filter (lasts committed all floor) back) (filter (lasts committed all floor) back)) u.key ≡ ((bytes_eq v.key u.key && says v) || any_of u.key says back)
+  first_key_more front v back split order u before true e rest = at_key (bytes_eq v.key u.key) refl e
+    where
+      at_key : (b : Bool) → bytes_eq v.key u.key ≡ b → true ≡ (says v || any_of v.key says back) → b ≡ ((b && says v) || any_of u.key says back)
+      at_key true same e = e ∙ ap (λ k. says v || any_of k says back) (same_key v.key u.key same)
+      at_key false other e = sym (none_ahead says v u back (placed front v back (subst AreInOrder split order)).before before.0 other)
+  first_key_more front v back split order u before false e rest = rest ∙ beyond (bytes_eq v.key u.key) (or_parts (says v) (any_of v.key says back) (sym e)).0
+    where
+      beyond : (b : Bool) → says v ≡ false → any_of u.key says back ≡ ((b && says v) || any_of u.key says back)
+      beyond true none = ap (λ x. x || any_of u.key says back) (sym none)
+      beyond false none = refl
+
+  first_key : (front : List Version) (back : List Version) → all ≡ front ++ back → AreInOrder all → (u : Version) → IsBefore u back → starts_with_key (filter (lasts committed all floor) back) u.key ≡ any_of u.key says back
+  first_key front [] split order u before = refl
+  first_key front (v ∷ back) split order u before = first_key_more front v back split order u before (lasts committed all floor v) (lasts_by front v back split order) (first_key (front ++ v ∷ []) back (split ∙ sym (append_assoc front (v ∷ []) back)) order u before.1)
+
+  -- what was passed from the end on, of which these last, the last one first
+  pub record HasLasting (front kept : List Version) : Type 0 where
+    pub back : List Version
+    pub split : all ≡ front ++ back
+    pub lasting : reverse kept ≡ filter (lasts committed all floor) back
+
+  pub lasting_none : HasLasting all []
+  lasting_none = record { back = []; split = sym (append-nil all); lasting = refl }
+
+  pub lasting_more : (front rest kept next : List Version) (v : Version) (b : Bool) → AreInOrder all → front ≡ rest ++ v ∷ [] → b ≡ (says v || starts_with_key (reverse kept) v.key) → next ≡ cond b (kept ++ v ∷ []) kept → HasLasting front kept → HasLasting rest next
+  lasting_more front rest kept next v b order popped test pushed had =
+      record { back = v ∷ had.back; split = split; lasting = ap reverse pushed ∙ by b is }
+    where
+      split : all ≡ rest ++ v ∷ had.back
+      split = had.split ∙ ap (λ vs. vs ++ had.back) popped ∙ append_assoc rest (v ∷ []) had.back
+
+      is : b ≡ lasts committed all floor v
+      is =
+          test
+          ∙ ap (λ vs. says v || starts_with_key vs v.key) had.lasting
+          ∙ ap (λ x. says v || x) (first_key (rest ++ v ∷ []) had.back (had.split ∙ ap (λ vs. vs ++ had.back) popped) order v (placed rest v had.back (subst AreInOrder split order)).before)
+          ∙ sym (lasts_by rest v had.back split order)
+
+      by : (c : Bool) → c ≡ lasts committed all floor v → reverse (cond c (kept ++ v ∷ []) kept) ≡ cond (lasts committed all floor v) (v ∷ filter (lasts committed all floor) had.back) (filter (lasts committed all floor) had.back)
+      by true e = reverse-append kept (v ∷ []) ∙ ap (λ vs. v ∷ vs) had.lasting ∙ ap (λ c. cond c (v ∷ filter (lasts committed all floor) had.back) (filter (lasts committed all floor) had.back)) e
+      by false e = had.lasting ∙ ap (λ c. cond c (v ∷ filter (lasts committed all floor) had.back) (filter (lasts committed all floor) had.back)) e
+
+  pub lasting_all : (front kept : List Version) → front ≡ [] → HasLasting front kept → reverse kept ≡ filter (lasts committed all floor) all
+  lasting_all front kept none had = had.lasting ∙ ap (filter (lasts committed all floor)) (sym (had.split ∙ ap (λ vs. vs ++ had.back) none))

@@ -1,0 +1,8 @@
+mod Order
+mod Any
+mod Committed
+mod Noted
+mod Ends
+mod Lookups
+mod Undone
+mod Covers

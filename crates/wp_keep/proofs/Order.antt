@@ -1,0 +1,118 @@
+-- What the order of versions says of two and of three of them.
+use Rattle.std.proofs.Common.{◌≡◌, ℕ, ◌<◌, Bool, true, false, cond, Less, Equal, Greater, List, [], ◌∷◌, ◌++◌, refl, sym, ap, ◌∙◌}
+use Rattle.std.specs.declared.cmp.Ordering.{Ordering}
+use Rattle.std.specs.Ordering.{nat_cmp, ordering_then, is_eq}
+use Rattle.std.specs.Str.{bytes_eq}
+use Rattle.std.specs.List.{AllByRecursion, filter}
+use Rattle.std.specs.List.Sorted.{IsStrictlySortedBy}
+use Rattle.std.proofs.lemmas.Map.Lookups.{exact_bytes}
+use Rattle.std.proofs.lemmas.Map.Text.{is_eq-slice_cmp}
+use Rattle.std.proofs.lemmas.Cmp.{ranked, tied_itself, nat_list_cmp_total}
+use Rattle.wp_model.specs.Batch.{key_cmp}
+use Rattle.wp_memtable.specs.declared.version.Version.{Version}
+use Rattle.wp_memtable.specs.Versions.{AreInOrder, version_cmp}
+
+equal_from_test : (o : Ordering) → is_eq o ≡ true → o ≡ Equal
+equal_from_test Less h = absurd cc
+equal_from_test Equal h = refl
+equal_from_test Greater h = absurd cc
+
+tied_keys : (a b : List ℕ) → bytes_eq a b ≡ true → key_cmp a b ≡ Equal
+tied_keys a b h = equal_from_test (key_cmp a b) (is_eq-slice_cmp a b ∙ h)
+
+pub same_key : (a b : List ℕ) → bytes_eq a b ≡ true → a ≡ b
+same_key a b h = exact_bytes a b (tied_keys a b h)
+
+pub bytes_eq-same : (a : List ℕ) → bytes_eq a a ≡ true
+bytes_eq-same a = sym (is_eq-slice_cmp a a) ∙ ap is_eq (tied_itself nat_list_cmp_total a)
+
+-- ---- two versions
+
+-- of two versions of a key the one that stands first has the greater number
+pub newer_number : (w v : Version) → version_cmp w v ≡ Less → bytes_eq w.key v.key ≡ true → v.number < w.number
+newer_number w v less same =
+    let numbers : nat_cmp v.number w.number ≡ Less = sym (ap (λ o. ordering_then o (nat_cmp v.number w.number)) (tied_keys w.key v.key same)) ∙ less in
+    ranked v.number w.number Less (sym numbers)
+
+-- ---- three versions
+
+first_less : (o p : Ordering) → ordering_then o p ≡ Less → o ≡ Greater → ⊥
+first_less Less p h e = absurd cc
+first_less Equal p h e = absurd cc
+first_less Greater p h e = absurd cc
+
+-- a version between two of one key is of that key
+pub between : (u v w : Version) → version_cmp u v ≡ Less → version_cmp v w ≡ Less → u.key ≡ w.key → v.key ≡ u.key
+between u v w first second same = by (key_cmp u.key v.key) refl
+  where
+    second_by : (o : Ordering) → key_cmp v.key w.key ≡ o → key_cmp u.key v.key ≡ Less → v.key ≡ u.key
+    second_by Less e less =
+        let across : key_cmp u.key w.key ≡ Less = nat_list_cmp_total.trans u.key v.key w.key less e in
+        let tied : key_cmp u.key w.key ≡ Equal = ap (λ k. key_cmp u.key k) (sym same) ∙ tied_itself nat_list_cmp_total u.key in
+        absurd cc
+    second_by Equal e less = exact_bytes v.key w.key e ∙ sym same
+    second_by Greater e less = absurd (first_less _ _ second e)
+
+    by : (o : Ordering) → key_cmp u.key v.key ≡ o → v.key ≡ u.key
+    by Less e = second_by (key_cmp v.key w.key) refl e
+    by Equal e = sym (exact_bytes u.key v.key e)
+    by Greater e = absurd (first_less _ _ first e)
+
+-- ---- a version in a list
+
+-- all of these stand before v
+abbrev pub IsBehind : Version → List Version → Type 0
+IsBehind v versions = AllByRecursion (λ w. version_cmp w v ≡ Less) versions
+
+-- all of these stand behind v
+abbrev pub IsBefore : Version → List Version → Type 0
+IsBefore v versions = AllByRecursion (λ w. version_cmp v w ≡ Less) versions
+
+pub record IsPlaced (front : List Version) (v : Version) (back : List Version) : Type 0 where
+  pub behind : IsBehind v front
+  pub before : IsBefore v back
+
+pub in_order_parts : (v : Version) (vs : List Version) → AreInOrder (v ∷ vs) → IsBefore v vs × AreInOrder vs
+unfolding IsStrictlySortedBy
+in_order_parts v vs h = h
+
+pub in_order_cons : (v : Version) (vs : List Version) → IsBefore v vs → AreInOrder vs → AreInOrder (v ∷ vs)
+unfolding IsStrictlySortedBy
+in_order_cons v vs before rest = (before, rest)
+
+pub in_order_nil : AreInOrder []
+unfolding IsStrictlySortedBy
+in_order_nil = tt
+
+before_at : (w : Version) (front : List Version) (v : Version) (back : List Version) → IsBefore w (front ++ v ∷ back) → version_cmp w v ≡ Less
+before_at w [] v back h = h.0
+before_at w (x ∷ front) v back h = before_at w front v back h.1
+
+pub placed : (front : List Version) (v : Version) (back : List Version) → AreInOrder (front ++ v ∷ back) → IsPlaced front v back
+placed [] v back h = record { behind = tt; before = (in_order_parts v back h).0 }
+placed (w ∷ front) v back h =
+    let parts = in_order_parts w (front ++ v ∷ back) h in
+    let rest = placed front v back parts.1 in
+    record { behind = (before_at w front v back parts.0, rest.behind); before = rest.before }
+
+pub behind_parts : (u : Version) (front : List Version) (v : Version) → IsBehind u (front ++ v ∷ []) → IsBehind u front × (version_cmp v u ≡ Less)
+behind_parts u [] v h = (tt, h.0)
+behind_parts u (w ∷ front) v h = let rest = behind_parts u front v h.1 in ((h.0, rest.0), rest.1)
+
+-- ---- some of a list
+
+before_filter : (w : Version) (test : Version → Bool) (vs : List Version) → IsBefore w vs → IsBefore w (filter test vs)
+before_filter w test [] h = tt
+before_filter w test (v ∷ vs) h = by (test v) (before_filter w test vs h.1)
+  where
+    by : (b : Bool) → IsBefore w (filter test vs) → IsBefore w (cond b (v ∷ filter test vs) (filter test vs))
+    by true rest = (h.0, rest)
+    by false rest = rest
+
+pub in_order_filter : (test : Version → Bool) (vs : List Version) → AreInOrder vs → AreInOrder (filter test vs)
+in_order_filter test [] h = h
+in_order_filter test (v ∷ vs) h = by (test v) (in_order_parts v vs h).0 (in_order_filter test vs (in_order_parts v vs h).1)
+  where
+    by : (b : Bool) → IsBefore v vs → AreInOrder (filter test vs) → AreInOrder (cond b (v ∷ filter test vs) (filter test vs))
+    by true before rest = in_order_cons v (filter test vs) (before_filter v test vs before) rest
+    by false before rest = rest

@@ -1,0 +1,16 @@
+//! What the versions that stay are enough for, over plain lists.
+ghost use Rattle.std.specs.Prelude.{◌≡◌, ℕ, ◌≤◌, List, ◌++◌};
+ghost use Rattle.wp_model.specs.declared.entry.Entry.{Entry};
+ghost use Rattle.wp_model.specs.Legal.{IsLegal};
+ghost use Rattle.wp_memtable.specs.declared.version.Version.{Version};
+ghost use Rattle.wp_keep.specs.declared.pair.Pair.{Pair};
+ghost use Rattle.wp_keep.specs.Keep.{is_committed, kept_of};
+ghost use Rattle.wp_keep.specs.Covered.{IsCovered, MayGo};
+
+/// Where newer versions with all of these cover a legal history, those with the ones that stay do, from the floor on.
+pub fn keep_covers()
+    ensures { (history : List Entry) (newer versions : List Version) (committed : List Pair) (snapshots : List ℕ) (floor from : ℕ)
+        → IsLegal history → from ≤ floor → MayGo (is_committed committed) history newer versions snapshots floor
+        → IsCovered (newer ++ versions) history snapshots from
+        → IsCovered (newer ++ kept_of (is_committed committed) versions snapshots floor) history snapshots floor }
+{}
