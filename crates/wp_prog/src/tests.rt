@@ -5,6 +5,11 @@ use std::thread::Threads;
 use wp_outside::{Disks, MemDisk, MemSink, MemSource, OpenGate};
 use wp_run::{Ended, run};
 
+mod crashes;
+mod examples;
+mod reopening;
+mod sessions;
+
 /// The log of store 1 with the put of `1` under `k` as its entry 1.
 const LOG: &[u8; 32] =
     b"\x01WPLG\x01\0\0\0\x01\x01\0\0\0\0\0\0\0\x0c\0\0\0\x01\x01\x01\x01\x01k\0\x011\0";

@@ -1,0 +1,274 @@
+//! A script with each kind of record in its log, whose device fails at each call, or which is broken off by a crash at
+//! each moment of an append.
+
+use super::{Given, Outcome, keeps, script, seen, shown};
+use std::alloc::{AllocError, AllocGlobal, Global};
+use std::sync::Wait;
+use std::test::Fail;
+use std::thread::Threads;
+
+const COMMANDS: [&str; 13] = [
+    "put k 1\n",
+    "begin t\n",
+    "put k 2\n",
+    "prepare\n",
+    "commit\n",
+    "begin u\n",
+    "put k 3\n",
+    "prepare\n",
+    "rollback\n",
+    "begin v\n",
+    "put k 4\n",
+    "prepare\n",
+    "leave\n",
+];
+
+/// How many records the script logs.
+const RECORDS: usize = 6;
+
+/// The script once so many of its records are in the log.
+#[derive(Clone, Copy, Drop)]
+struct Stage {
+    /// How many commands bring this about.
+    commands: usize,
+
+    /// What the script is answered where the log fails under the next record.
+    replies: &'static str,
+
+    history: &'static str,
+
+    /// What a client is answered whose one command puts a key that no transaction holds.
+    next: &'static str,
+}
+
+const STAGES: [Stage; 7] = [
+    Stage {
+        commands: 0,
+        replies: "client a\nfault log\nbegun\nheld\nstopped 0\nstopped 0\nstate\nheld\nstopped 0\ndropped\nbegun\nheld\nstopped 0\nstate\n",
+        history: "history\nend 0 0\n",
+        next: "client c\nput @1\n",
+    },
+    Stage {
+        commands: 1,
+        replies: "client a\nput @1\nbegun\nheld\nfault log\nstopped 1\nstate\nheld\nstopped 1\ndropped\nbegun\nheld\nstopped 1\nstate\n",
+        history: "history\n1 write put k 1\nend 1 0\n",
+        next: "client c\nput @2\n",
+    },
+    Stage {
+        commands: 4,
+        replies: "client a\nput @1\nbegun\nheld\nprepare @2\nfault log\nstate\nstate\nstate\nstopped 2\nstate\nstate\nstate\nleft\n",
+        history: "history\n1 write put k 1\n2 prepare t put k 2\nend 2 1\n",
+        next: "client c\nput @3\n",
+    },
+    Stage {
+        commands: 5,
+        replies: "client a\nput @1\nbegun\nheld\nprepare @2\ncommit @3\nbegun\nheld\nfault log\ndropped\nbegun\nheld\nstopped 3\nstate\n",
+        history: "history\n1 write put k 1\n2 prepare t put k 2\n3 commit 2\nend 3 0\n",
+        next: "client c\nput @4\n",
+    },
+    Stage {
+        commands: 8,
+        replies: "client a\nput @1\nbegun\nheld\nprepare @2\ncommit @3\nbegun\nheld\nprepare @4\nfault log\nstate\nstate\nstate\nleft\n",
+        history: "history\n1 write put k 1\n2 prepare t put k 2\n3 commit 2\n4 prepare u put k 3\nend 4 1\n",
+        next: "client c\nput @5\n",
+    },
+    Stage {
+        commands: 9,
+        replies: "client a\nput @1\nbegun\nheld\nprepare @2\ncommit @3\nbegun\nheld\nprepare @4\nrollback @6\nbegun\nheld\nfault log\nstate\n",
+        history: "history\n1 write put k 1\n2 prepare t put k 2\n3 commit 2\n4 prepare u put k 3\n5 undo 4 put k 2\n6 close 4\nend 6 0\n",
+        next: "client c\nput @7\n",
+    },
+    Stage {
+        commands: 12,
+        replies: "client a\nput @1\nbegun\nheld\nprepare @2\ncommit @3\nbegun\nheld\nprepare @4\nrollback @6\nbegun\nheld\nprepare @7\nleft\n",
+        history: "history\n1 write put k 1\n2 prepare t put k 2\n3 commit 2\n4 prepare u put k 3\n5 undo 4 put k 2\n6 close 4\n7 prepare v put k 4\nend 7 1\n",
+        next: "client c\nput @8\n",
+    },
+];
+
+fn stage_after(records: usize) -> Stage {
+    STAGES[records.min(RECORDS)]
+}
+
+/// The script's first commands.
+fn begun(alloc: Global, commands: usize) -> Result<Vec<u8>, AllocError> {
+    let mut text = b"client a\n".to_vec(alloc)?;
+    for command in COMMANDS.iter().take(commands) {
+        text.extend_from_slice(command.as_bytes())?;
+    }
+    Ok(text)
+}
+
+/// Runs the script's first commands on a new store whose log's device fails at this call.
+fn failing<R: Threads + Wait + Sync + AllocGlobal>(
+    rt: &R,
+    commands: usize,
+    call: u64,
+) -> Result<Outcome, AllocError> {
+    let text = begun(rt.alloc(), commands)?;
+    let given = Given {
+        script: &text,
+        log_fails: &[call],
+        ..script("", &[])
+    };
+    seen(rt, &given)
+}
+
+/// The transcript where the log fails behind that stage.
+fn told(alloc: Global, stage: Stage) -> Result<Vec<u8>, AllocError> {
+    let mut text = stage.replies.as_bytes().to_vec(alloc)?;
+    text.extend_from_slice(stage.history.as_bytes())?;
+    Ok(text)
+}
+
+/// The opening takes the calls 1 to 9, and each append four.
+#[test]
+fn each_call_of_each_record_may_fail(rt: HostRuntime) -> Result<(), Fail> {
+    for call in 10..35 {
+        let records = (call as usize - 10) / 4;
+        let before = stage_after(records);
+        let outcome = failing(&rt, COMMANDS.len(), call)?;
+        let code = if records < RECORDS { 7 } else { 0 };
+        assert_eq!(rt; outcome.code, code, "call {call}");
+        assert_eq!(rt;
+            outcome.text.as_slice(),
+            told(rt.alloc(), before)?.as_slice(),
+            "call {call}"
+        );
+        let show = shown(&rt, &outcome.log)?;
+        assert_eq!(rt; show.code, 0, "call {call}");
+        assert!(rt;
+            keeps(&show, before.history, stage_after(records + 1).history),
+            "call {call}"
+        );
+    }
+    Ok(())
+}
+
+/// An append between two stages: the log's bytes before it, and the frame and closed gate that it writes behind them.
+#[derive(Drop)]
+struct Append {
+    before: Stage,
+    after: Stage,
+    old: Vec<u8>,
+    frame: Vec<u8>,
+}
+
+/// The log's bytes at that stage.
+fn logged<R: Threads + Wait + Sync + AllocGlobal>(
+    rt: &R,
+    stage: Stage,
+) -> Result<Vec<u8>, AllocError> {
+    Ok(failing(rt, stage.commands, 0)?.log)
+}
+
+fn append_between<R: Threads + Wait + Sync + AllocGlobal>(
+    rt: &R,
+    before: Stage,
+    after: Stage,
+) -> Result<Append, AllocError> {
+    let old = logged(rt, before)?;
+    let new = logged(rt, after)?;
+    let frame = new.get(old.len()..).unwrap_or(&[]).to_vec(rt.alloc())?;
+    Ok(Append {
+        before,
+        after,
+        old,
+        frame,
+    })
+}
+
+/// What a crash may leave of an append: this gate, so many bytes of the frame, and so many others.
+#[derive(Clone, Copy, Drop)]
+struct Crash {
+    gate: u8,
+    written: usize,
+    junk: usize,
+}
+
+fn image(alloc: Global, append: &Append, crash: Crash) -> Result<Vec<u8>, AllocError> {
+    let mut bytes = append.old.to_vec(alloc)?;
+    bytes.pop();
+    bytes.push(crash.gate)?;
+    bytes.extend_from_slice(append.frame.get(..crash.written).unwrap_or(&[]))?;
+    for _ in 0..crash.junk {
+        bytes.push(0xA5)?;
+    }
+    Ok(bytes)
+}
+
+/// Whether the image opens to the stage, and its store takes a further entry.
+fn opens_to<R: Threads + Wait + Sync + AllocGlobal>(
+    rt: &R,
+    image: &[u8],
+    stage: Stage,
+) -> Result<bool, AllocError> {
+    let show = shown(rt, image)?;
+    let put = seen(rt, &script("client c\nput z 9\n", image))?;
+    Ok(
+        show.code == 0
+            && show.text.as_slice() == stage.history.as_bytes()
+            && put.code == 0
+            && put.text.starts_with(stage.next.as_bytes()),
+    )
+}
+
+/// The first length at which a frame that was torn behind its closed gate, with junk behind it or without, is not passed over.
+fn wrong_tear<R: Threads + Wait + Sync + AllocGlobal>(
+    rt: &R,
+    append: &Append,
+) -> Result<Option<usize>, AllocError> {
+    let len = append.frame.len();
+    for written in 0..len + 1 {
+        for junk in [0, len - written] {
+            let crash = Crash {
+                gate: 0,
+                written,
+                junk,
+            };
+            let image = image(rt.alloc(), append, crash)?;
+            if !opens_to(rt, &image, append.before)? {
+                return Ok(Some(written));
+            }
+        }
+    }
+    Ok(None)
+}
+
+#[test]
+fn what_stands_behind_a_closed_gate_is_passed_over(rt: HostRuntime) -> Result<(), Fail> {
+    for records in 0..RECORDS {
+        let append = append_between(&rt, stage_after(records), stage_after(records + 1))?;
+        assert!(rt; !append.frame.is_empty(), "behind {records} records");
+        assert_eq!(rt; wrong_tear(&rt, &append)?, None, "behind {records} records");
+    }
+    Ok(())
+}
+
+/// The first open gate whose record is not found.
+fn wrong_gate<R: Threads + Wait + Sync + AllocGlobal>(
+    rt: &R,
+    append: &Append,
+) -> Result<Option<u8>, AllocError> {
+    for gate in 1..=255 {
+        let crash = Crash {
+            gate,
+            written: append.frame.len(),
+            junk: 0,
+        };
+        let image = image(rt.alloc(), append, crash)?;
+        if !opens_to(rt, &image, append.after)? {
+            return Ok(Some(gate));
+        }
+    }
+    Ok(None)
+}
+
+#[test]
+fn a_record_behind_any_open_gate_is_found(rt: HostRuntime) -> Result<(), Fail> {
+    for records in 0..RECORDS {
+        let append = append_between(&rt, stage_after(records), stage_after(records + 1))?;
+        assert_eq!(rt; wrong_gate(&rt, &append)?, None, "behind {records} records");
+    }
+    Ok(())
+}
