@@ -1,4 +1,4 @@
-ghost use Rattle.std.specs.Prelude.{◌≡◌, ◌||◌, not, IfOk, reverse};
+ghost use Rattle.std.specs.Prelude.{◌≡◌, ◌||◌, not, ◌++◌, ◌∷◌, [], IfOk, OnOk, reverse, if◌then◌else◌};
 ghost use Rattle.wp_memtable.specs.Versions.{AreInOrder};
 ghost use Rattle.wp_keep.specs.Keep.{by_commits, is_settled_deletion, lasting};
 ghost use Rattle.wp_keep.specs.Newer.{starts_with_key};
@@ -30,11 +30,20 @@ fn ends_with_key(versions: &[Version], key: &Key) -> bool
     }
 }
 
-/// Whether a version stays in front of those that do, the last of which stands next to it.
-fn lasts(version: &Version, kept: &[Version], commits: &Commits, floor: Seq) -> bool
-    ensures { result ≡ (not (is_settled_deletion (by_commits commits.now) floor version.now) || starts_with_key (reverse kept.now) version.now.key) }
+/// Puts a version behind those that last, the last of which stands next to it, where it lasts too.
+fn push_lasting(
+    kept: &mut Vec<Version>,
+    version: Version,
+    commits: &Commits,
+    floor: Seq,
+) -> Result<(), AllocError>
+    ensures { OnOk result (kept.new.items ≡ (if not (is_settled_deletion (by_commits commits.now) floor version) || starts_with_key (reverse kept.old.items) version.key then kept.old.items ++ version ∷ [] else kept.old.items)) }
 {
-    !is_settled_deletion(version, commits, floor) || ends_with_key(kept, &version.key)
+    if is_settled_deletion(&version, commits, floor) && !ends_with_key(kept, &version.key) {
+        return Ok(());
+    }
+    kept.push(version)?;
+    Ok(())
 }
 
 /// Leaves out the deletions that are committed at the floor and have nothing else of their key behind them.
@@ -49,9 +58,7 @@ pub fn lasting(
 {
     let mut kept = Vec::with_capacity(alloc, versions.len())?;
     while let Some(version) = versions.pop() {
-        if lasts(&version, &kept, commits, floor) {
-            kept.push(version)?;
-        }
+        push_lasting(&mut kept, version, commits, floor)?;
     }
     kept.reverse();
     Ok(kept)

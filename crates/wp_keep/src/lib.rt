@@ -8,13 +8,12 @@
 #![tactic(auto)]
 
 pub use kept::keep;
-pub use laws::keep_covers;
 pub use pair::Pair;
 
 mod commits;
 mod kept;
-mod laws;
 mod lasting;
+pub mod laws;
 mod newer;
 mod pair;
 mod staying;
