@@ -14,7 +14,7 @@ const COMMANDS: [&str; 13] = [
     "prepare\n",
     "commit\n",
     "begin u\n",
-    "put k 3\n",
+    "del k\n",
     "prepare\n",
     "rollback\n",
     "begin v\n",
@@ -69,19 +69,19 @@ const STAGES: [Stage; 7] = [
     Stage {
         commands: 8,
         replies: "client a\nput @1\nbegun\nheld\nprepare @2\ncommit @3\nbegun\nheld\nprepare @4\nfault log\nstate\nstate\nstate\nleft\n",
-        history: "history\n1 write put k 1\n2 prepare t put k 2\n3 commit 2\n4 prepare u put k 3\nend 4 1\n",
+        history: "history\n1 write put k 1\n2 prepare t put k 2\n3 commit 2\n4 prepare u del k\nend 4 1\n",
         next: "client c\nput @5\n",
     },
     Stage {
         commands: 9,
         replies: "client a\nput @1\nbegun\nheld\nprepare @2\ncommit @3\nbegun\nheld\nprepare @4\nrollback @6\nbegun\nheld\nfault log\nstate\n",
-        history: "history\n1 write put k 1\n2 prepare t put k 2\n3 commit 2\n4 prepare u put k 3\n5 undo 4 put k 2\n6 close 4\nend 6 0\n",
+        history: "history\n1 write put k 1\n2 prepare t put k 2\n3 commit 2\n4 prepare u del k\n5 undo 4 put k 2\n6 close 4\nend 6 0\n",
         next: "client c\nput @7\n",
     },
     Stage {
         commands: 12,
         replies: "client a\nput @1\nbegun\nheld\nprepare @2\ncommit @3\nbegun\nheld\nprepare @4\nrollback @6\nbegun\nheld\nprepare @7\nleft\n",
-        history: "history\n1 write put k 1\n2 prepare t put k 2\n3 commit 2\n4 prepare u put k 3\n5 undo 4 put k 2\n6 close 4\n7 prepare v put k 4\nend 7 1\n",
+        history: "history\n1 write put k 1\n2 prepare t put k 2\n3 commit 2\n4 prepare u del k\n5 undo 4 put k 2\n6 close 4\n7 prepare v put k 4\nend 7 1\n",
         next: "client c\nput @8\n",
     },
 ];
