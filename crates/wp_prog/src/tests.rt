@@ -61,32 +61,53 @@ fn disk(alloc: Global, bytes: &[u8], fails: &[u64]) -> Result<MemDisk, AllocErro
     )
 }
 
+fn words_of(alloc: Global, words: &[&str]) -> Result<Vec<String>, AllocError> {
+    let mut owned = Vec::new(alloc);
+    for word in words {
+        owned.push(word.to_string(alloc)?)?;
+    }
+    Ok(owned)
+}
+
+fn disks_of(alloc: Global, given: &Given<'_>) -> Result<Disks<MemDisk>, AllocError> {
+    Ok(Disks {
+        log: disk(alloc, given.log, given.log_fails)?,
+        manifest: disk(alloc, &[], &[])?,
+        tables: disk(alloc, &[], &[])?,
+    })
+}
+
+fn source_of(alloc: Global, given: &Given<'_>) -> Result<MemSource, AllocError> {
+    Ok(MemSource::new(
+        given.script.to_vec(alloc)?,
+        given.source_fails.to_vec(alloc)?,
+    ))
+}
+
+fn outcome_of(
+    alloc: Global,
+    ended: &Ended<MemDisk>,
+    sink: &MemSink,
+) -> Result<Outcome, AllocError> {
+    Ok(Outcome {
+        code: ended.status.code(),
+        line: ended.status.line(alloc)?,
+        text: sink.bytes().to_vec(alloc)?,
+        log: ended.disks.log.bytes().to_vec(alloc)?,
+    })
+}
+
 fn seen<R: Threads + Wait + Sync + AllocGlobal>(
     rt: &R,
     given: &Given<'_>,
 ) -> Result<Outcome, AllocError> {
     let alloc = rt.alloc();
-    let mut words = Vec::new(alloc);
-    for word in given.words {
-        words.push(word.to_string(alloc)?)?;
-    }
-    let disks = Disks {
-        log: disk(alloc, given.log, given.log_fails)?,
-        manifest: disk(alloc, &[], &[])?,
-        tables: disk(alloc, &[], &[])?,
-    };
-    let mut source = MemSource::new(
-        given.script.to_vec(alloc)?,
-        given.source_fails.to_vec(alloc)?,
-    );
+    let words = words_of(alloc, given.words)?;
+    let mut source = source_of(alloc, given)?;
     let mut sink = MemSink::new(alloc, given.sink_room, Vec::new(alloc))?;
-    let Ended { status, disks } = run(rt, alloc, &words, disks, &mut source, &mut sink, &OpenGate);
-    Ok(Outcome {
-        code: status.code(),
-        line: status.line(alloc)?,
-        text: sink.bytes().to_vec(alloc)?,
-        log: disks.log.bytes().to_vec(alloc)?,
-    })
+    let disks = disks_of(alloc, given)?;
+    let ended = run(rt, alloc, &words, disks, &mut source, &mut sink, &OpenGate);
+    outcome_of(alloc, &ended, &sink)
 }
 
 #[test]
