@@ -3,7 +3,7 @@ use Rattle.std.proofs.Common.{◌≡◌, ℕ, Bool, true, false, ◌&&◌, ◌||
 use Rattle.std.specs.List.{filter}
 use Rattle.std.specs.Str.{bytes_eq}
 use Rattle.std.proofs.lemmas.Bool.{or_parts}
-use Rattle.std.proofs.lemmas.List.{append-nil, reverse-append}
+use Rattle.std.proofs.lemmas.List.{reverse-append}
 use Rattle.wp_memtable.specs.declared.version.Version.{Version}
 use Rattle.wp_memtable.specs.Versions.{AreInOrder}
 use Rattle.wp_keep.specs.Keep.{is_settled_deletion, lasts}
@@ -42,9 +42,6 @@ module _ (committed : ℕ → ℕ → Bool) (all : List Version) (floor : ℕ) w
     pub split : all ≡ front ++ back
     pub lasting : reverse kept ≡ filter (lasts committed all floor) back
 
-  pub lasting_none : HasLasting all []
-  lasting_none = record { back = []; split = sym (append-nil all); lasting = refl }
-
   pub lasting_more : (front rest kept next : List Version) (v : Version) (b : Bool) → AreInOrder all → front ≡ rest ++ v ∷ [] → b ≡ (says v || starts_with_key (reverse kept) v.key) → next ≡ cond b (kept ++ v ∷ []) kept → HasLasting front kept → HasLasting rest next
   lasting_more front rest kept next v b order popped test pushed had =
       record { back = v ∷ had.back; split = split; lasting = ap reverse pushed ∙ by b is }
@@ -62,6 +59,3 @@ module _ (committed : ℕ → ℕ → Bool) (all : List Version) (floor : ℕ) w
       by : (c : Bool) → c ≡ lasts committed all floor v → reverse (cond c (kept ++ v ∷ []) kept) ≡ cond (lasts committed all floor v) (v ∷ filter (lasts committed all floor) had.back) (filter (lasts committed all floor) had.back)
       by true e = reverse-append kept (v ∷ []) ∙ ap (λ vs. v ∷ vs) had.lasting ∙ ap (λ c. cond c (v ∷ filter (lasts committed all floor) had.back) (filter (lasts committed all floor) had.back)) e
       by false e = had.lasting ∙ ap (λ c. cond c (v ∷ filter (lasts committed all floor) had.back) (filter (lasts committed all floor) had.back)) e
-
-  pub lasting_all : (front kept : List Version) → front ≡ [] → HasLasting front kept → reverse kept ≡ filter (lasts committed all floor) all
-  lasting_all front kept none had = had.lasting ∙ ap (filter (lasts committed all floor)) (sym (had.split ∙ ap (λ vs. vs ++ had.back) none))

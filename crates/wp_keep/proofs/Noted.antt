@@ -26,9 +26,6 @@ pub record IsNoted (noted : Option (List ℕ × ℕ)) (key : List ℕ) (commit :
   pub uncommitted : commit ≡ None → next ≡ noted
   pub committed : (c : ℕ) → commit ≡ Some c → (other : List ℕ) (n : ℕ) → is_above next other n ≡ (bytes_eq key other && (is_above noted key n || is_by commit n))
 
-pub noted_none : (commits : Commits) → HasNoted commits [] None
-noted_none commits = record { each = λ u h n. refl }
-
 or_false : (a : Bool) → a ≡ (a || false)
 or_false true = refl
 or_false false = refl

@@ -80,10 +80,6 @@ pub in_order_cons : (v : Version) (vs : List Version) → IsBefore v vs → AreI
 unfolding IsStrictlySortedBy
 in_order_cons v vs before rest = (before, rest)
 
-pub in_order_nil : AreInOrder []
-unfolding IsStrictlySortedBy
-in_order_nil = tt
-
 before_at : (w : Version) (front : List Version) (v : Version) (back : List Version) → IsBefore w (front ++ v ∷ back) → version_cmp w v ≡ Less
 before_at w [] v back h = h.0
 before_at w (x ∷ front) v back h = before_at w front v back h.1
