@@ -37,52 +37,54 @@ struct Stage {
 
     history: &'static str,
 
-    /// What a client is answered whose one command puts a key that no transaction holds.
+    /// What a client is answered that puts a key which no transaction holds, takes and leaves t and u, and takes and commits v.
     next: &'static str,
 }
+
+const NEXT: &str = "client c\nput z 9\ntake t\nleave\ntake u\nleave\ntake v\ncommit\n";
 
 const STAGES: [Stage; 7] = [
     Stage {
         commands: 0,
         replies: "client a\nfault log\nbegun\nheld\nstopped 0\nstopped 0\nstate\nheld\nstopped 0\ndropped\nbegun\nheld\nstopped 0\nstate\n",
         history: "history\nend 0 0\n",
-        next: "client c\nput @1\n",
+        next: "client c\nput @1\nunknown t @1\nstate\nunknown u @1\nstate\nunknown v @1\nstate\n",
     },
     Stage {
         commands: 1,
         replies: "client a\nput @1\nbegun\nheld\nfault log\nstopped 1\nstate\nheld\nstopped 1\ndropped\nbegun\nheld\nstopped 1\nstate\n",
         history: "history\n1 write put k 1\nend 1 0\n",
-        next: "client c\nput @2\n",
+        next: "client c\nput @2\nunknown t @2\nstate\nunknown u @2\nstate\nunknown v @2\nstate\n",
     },
     Stage {
         commands: 4,
         replies: "client a\nput @1\nbegun\nheld\nprepare @2\nfault log\nstate\nstate\nstate\nstopped 2\nstate\nstate\nstate\nleft\n",
         history: "history\n1 write put k 1\n2 prepare t put k 2\nend 2 1\n",
-        next: "client c\nput @3\n",
+        next: "client c\nput @3\ntook\nleft\nunknown u @3\nstate\nunknown v @3\nstate\n",
     },
     Stage {
         commands: 5,
         replies: "client a\nput @1\nbegun\nheld\nprepare @2\ncommit @3\nbegun\nheld\nfault log\ndropped\nbegun\nheld\nstopped 3\nstate\n",
         history: "history\n1 write put k 1\n2 prepare t put k 2\n3 commit 2\nend 3 0\n",
-        next: "client c\nput @4\n",
+        next: "client c\nput @4\nunknown t @4\nstate\nunknown u @4\nstate\nunknown v @4\nstate\n",
     },
     Stage {
         commands: 8,
         replies: "client a\nput @1\nbegun\nheld\nprepare @2\ncommit @3\nbegun\nheld\nprepare @4\nfault log\nstate\nstate\nstate\nleft\n",
         history: "history\n1 write put k 1\n2 prepare t put k 2\n3 commit 2\n4 prepare u del k\nend 4 1\n",
-        next: "client c\nput @5\n",
+        next: "client c\nput @5\nunknown t @5\nstate\ntook\nleft\nunknown v @5\nstate\n",
     },
     Stage {
         commands: 9,
         replies: "client a\nput @1\nbegun\nheld\nprepare @2\ncommit @3\nbegun\nheld\nprepare @4\nrollback @6\nbegun\nheld\nfault log\nstate\n",
         history: "history\n1 write put k 1\n2 prepare t put k 2\n3 commit 2\n4 prepare u del k\n5 undo 4 put k 2\n6 close 4\nend 6 0\n",
-        next: "client c\nput @7\n",
+        next: "client c\nput @7\nunknown t @7\nstate\nunknown u @7\nstate\nunknown v @7\nstate\n",
     },
     Stage {
         commands: 12,
         replies: "client a\nput @1\nbegun\nheld\nprepare @2\ncommit @3\nbegun\nheld\nprepare @4\nrollback @6\nbegun\nheld\nprepare @7\nleft\n",
         history: "history\n1 write put k 1\n2 prepare t put k 2\n3 commit 2\n4 prepare u del k\n5 undo 4 put k 2\n6 close 4\n7 prepare v put k 4\nend 7 1\n",
-        next: "client c\nput @8\n",
+        next: "client c\nput @8\nunknown t @8\nstate\nunknown u @8\nstate\ntook\ncommit @9\n",
     },
 ];
 
@@ -197,19 +199,19 @@ fn image(alloc: Global, append: &Append, crash: Crash) -> Result<Vec<u8>, AllocE
     Ok(bytes)
 }
 
-/// Whether the image opens to the stage, and its store takes a further entry.
+/// Whether the image opens to the stage, its store takes a further entry, and what is undecided in it is found by name.
 fn opens_to<R: Threads + Wait + Sync + AllocGlobal>(
     rt: &R,
     image: &[u8],
     stage: Stage,
 ) -> Result<bool, AllocError> {
     let show = shown(rt, image)?;
-    let put = seen(rt, &script("client c\nput z 9\n", image))?;
+    let next = seen(rt, &script(NEXT, image))?;
     Ok(
         show.code == 0
             && show.text.as_slice() == stage.history.as_bytes()
-            && put.code == 0
-            && put.text.starts_with(stage.next.as_bytes()),
+            && next.code == 0
+            && next.text.starts_with(stage.next.as_bytes()),
     )
 }
 
