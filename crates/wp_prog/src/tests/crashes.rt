@@ -26,6 +26,18 @@ const COMMANDS: [&str; 13] = [
 /// How many records the script logs.
 const RECORDS: usize = 6;
 
+/// What a log opens to.
+#[derive(Clone, Copy, Drop)]
+struct Opened {
+    history: &'static str,
+
+    /// What `NEXT` is answered.
+    next: &'static str,
+}
+
+/// Puts a key that no transaction holds, and asks for each transaction by its name.
+const NEXT: &str = "client c\nput z 9\ntake t\nleave\ntake u\nleave\ntake v\ncommit\n";
+
 /// The script once so many of its records are in the log.
 #[derive(Clone, Copy, Drop)]
 struct Stage {
@@ -35,58 +47,76 @@ struct Stage {
     /// What the script is answered where the log fails under the next record.
     replies: &'static str,
 
-    history: &'static str,
-
-    /// What a client is answered that puts a key which no transaction holds, takes and leaves t and u, and takes and commits v.
-    next: &'static str,
+    opened: Opened,
 }
-
-const NEXT: &str = "client c\nput z 9\ntake t\nleave\ntake u\nleave\ntake v\ncommit\n";
 
 const STAGES: [Stage; 7] = [
     Stage {
         commands: 0,
         replies: "client a\nfault log\nbegun\nheld\nstopped 0\nstopped 0\nstate\nheld\nstopped 0\ndropped\nbegun\nheld\nstopped 0\nstate\n",
-        history: "history\nend 0 0\n",
-        next: "client c\nput @1\nunknown t @1\nstate\nunknown u @1\nstate\nunknown v @1\nstate\n",
+        opened: Opened {
+            history: "history\nend 0 0\n",
+            next: "client c\nput @1\nunknown t @1\nstate\nunknown u @1\nstate\nunknown v @1\nstate\n",
+        },
     },
     Stage {
         commands: 1,
         replies: "client a\nput @1\nbegun\nheld\nfault log\nstopped 1\nstate\nheld\nstopped 1\ndropped\nbegun\nheld\nstopped 1\nstate\n",
-        history: "history\n1 write put k 1\nend 1 0\n",
-        next: "client c\nput @2\nunknown t @2\nstate\nunknown u @2\nstate\nunknown v @2\nstate\n",
+        opened: Opened {
+            history: "history\n1 write put k 1\nend 1 0\n",
+            next: "client c\nput @2\nunknown t @2\nstate\nunknown u @2\nstate\nunknown v @2\nstate\n",
+        },
     },
     Stage {
         commands: 4,
         replies: "client a\nput @1\nbegun\nheld\nprepare @2\nfault log\nstate\nstate\nstate\nstopped 2\nstate\nstate\nstate\nleft\n",
-        history: "history\n1 write put k 1\n2 prepare t put k 2\nend 2 1\n",
-        next: "client c\nput @3\ntook\nleft\nunknown u @3\nstate\nunknown v @3\nstate\n",
+        opened: Opened {
+            history: "history\n1 write put k 1\n2 prepare t put k 2\nend 2 1\n",
+            next: "client c\nput @3\ntook\nleft\nunknown u @3\nstate\nunknown v @3\nstate\n",
+        },
     },
     Stage {
         commands: 5,
         replies: "client a\nput @1\nbegun\nheld\nprepare @2\ncommit @3\nbegun\nheld\nfault log\ndropped\nbegun\nheld\nstopped 3\nstate\n",
-        history: "history\n1 write put k 1\n2 prepare t put k 2\n3 commit 2\nend 3 0\n",
-        next: "client c\nput @4\nunknown t @4\nstate\nunknown u @4\nstate\nunknown v @4\nstate\n",
+        opened: Opened {
+            history: "history\n1 write put k 1\n2 prepare t put k 2\n3 commit 2\nend 3 0\n",
+            next: "client c\nput @4\nunknown t @4\nstate\nunknown u @4\nstate\nunknown v @4\nstate\n",
+        },
     },
     Stage {
         commands: 8,
         replies: "client a\nput @1\nbegun\nheld\nprepare @2\ncommit @3\nbegun\nheld\nprepare @4\nfault log\nstate\nstate\nstate\nleft\n",
-        history: "history\n1 write put k 1\n2 prepare t put k 2\n3 commit 2\n4 prepare u del k\nend 4 1\n",
-        next: "client c\nput @5\nunknown t @5\nstate\ntook\nleft\nunknown v @5\nstate\n",
+        opened: Opened {
+            history: "history\n1 write put k 1\n2 prepare t put k 2\n3 commit 2\n4 prepare u del k\nend 4 1\n",
+            next: "client c\nput @5\nunknown t @5\nstate\ntook\nleft\nunknown v @5\nstate\n",
+        },
     },
     Stage {
         commands: 9,
         replies: "client a\nput @1\nbegun\nheld\nprepare @2\ncommit @3\nbegun\nheld\nprepare @4\nrollback @6\nbegun\nheld\nfault log\nstate\n",
-        history: "history\n1 write put k 1\n2 prepare t put k 2\n3 commit 2\n4 prepare u del k\n5 undo 4 put k 2\n6 close 4\nend 6 0\n",
-        next: "client c\nput @7\nunknown t @7\nstate\nunknown u @7\nstate\nunknown v @7\nstate\n",
+        opened: Opened {
+            history: "history\n1 write put k 1\n2 prepare t put k 2\n3 commit 2\n4 prepare u del k\n5 undo 4 put k 2\n6 close 4\nend 6 0\n",
+            next: "client c\nput @7\nunknown t @7\nstate\nunknown u @7\nstate\nunknown v @7\nstate\n",
+        },
     },
     Stage {
         commands: 12,
         replies: "client a\nput @1\nbegun\nheld\nprepare @2\ncommit @3\nbegun\nheld\nprepare @4\nrollback @6\nbegun\nheld\nprepare @7\nleft\n",
-        history: "history\n1 write put k 1\n2 prepare t put k 2\n3 commit 2\n4 prepare u del k\n5 undo 4 put k 2\n6 close 4\n7 prepare v put k 4\nend 7 1\n",
-        next: "client c\nput @8\nunknown t @8\nstate\nunknown u @8\nstate\ntook\ncommit @9\n",
+        opened: Opened {
+            history: "history\n1 write put k 1\n2 prepare t put k 2\n3 commit 2\n4 prepare u del k\n5 undo 4 put k 2\n6 close 4\n7 prepare v put k 4\nend 7 1\n",
+            next: "client c\nput @8\nunknown t @8\nstate\nunknown u @8\nstate\ntook\ncommit @9\n",
+        },
     },
 ];
+
+/// Decides what the script leaves undecided, on its log.
+const DECISION: &str = "client c\ntake v\ncommit\n";
+
+/// The store behind that decision.
+const DECIDED: Opened = Opened {
+    history: "history\n1 write put k 1\n2 prepare t put k 2\n3 commit 2\n4 prepare u del k\n5 undo 4 put k 2\n6 close 4\n7 prepare v put k 4\n8 commit 7\nend 8 0\n",
+    next: "client c\nput @9\nunknown t @9\nstate\nunknown u @9\nstate\nunknown v @9\nstate\n",
+};
 
 fn stage_after(records: usize) -> Stage {
     STAGES[records.min(RECORDS)]
@@ -116,10 +146,10 @@ fn failing<R: Threads + Wait + Sync + AllocGlobal>(
     seen(rt, &given)
 }
 
-/// The transcript where the log fails behind that stage.
-fn told(alloc: Global, stage: Stage) -> Result<Vec<u8>, AllocError> {
-    let mut text = stage.replies.as_bytes().to_vec(alloc)?;
-    text.extend_from_slice(stage.history.as_bytes())?;
+/// The transcript of these replies and this history.
+fn told(alloc: Global, replies: &str, history: &str) -> Result<Vec<u8>, AllocError> {
+    let mut text = replies.as_bytes().to_vec(alloc)?;
+    text.extend_from_slice(history.as_bytes())?;
     Ok(text)
 }
 
@@ -134,24 +164,63 @@ fn each_call_of_each_record_may_fail(rt: HostRuntime) -> Result<(), Fail> {
         assert_eq!(rt; outcome.code, code, "call {call}");
         assert_eq!(rt;
             outcome.text.as_slice(),
-            told(rt.alloc(), before)?.as_slice(),
+            told(rt.alloc(), before.replies, before.opened.history)?.as_slice(),
             "call {call}"
         );
         let show = shown(&rt, &outcome.log)?;
         assert_eq!(rt; show.code, 0, "call {call}");
         assert!(rt;
-            keeps(&show, before.history, stage_after(records + 1).history),
+            keeps(
+                &show,
+                before.opened.history,
+                stage_after(records + 1).opened.history
+            ),
             "call {call}"
         );
     }
     Ok(())
 }
 
-/// An append between two stages: the log's bytes before it, and the frame and closed gate that it writes behind them.
+/// The status and the transcript of the decision where the log's device fails at this call.
+///
+/// The opening of a log with six records takes the calls 1 to 15, and the append of the commit four.
+fn decision_told(alloc: Global, call: u64) -> Result<(u8, Vec<u8>), AllocError> {
+    let left = stage_after(RECORDS).opened;
+    let (code, replies, history) = match call {
+        1..=15 => (10, "", ""),
+        16..=19 => (7, "client c\ntook\nfault log\n", left.history),
+        _ => (0, "client c\ntook\ncommit @8\n", DECIDED.history),
+    };
+    Ok((code, told(alloc, replies, history)?))
+}
+
+#[test]
+fn each_call_of_a_reopening_may_fail(rt: HostRuntime) -> Result<(), Fail> {
+    let left = stage_after(RECORDS);
+    let log = logged(&rt, left)?;
+    for call in 1..21 {
+        let given = Given {
+            log_fails: &[call],
+            ..script(DECISION, &log)
+        };
+        let outcome = seen(&rt, &given)?;
+        let (code, text) = decision_told(rt.alloc(), call)?;
+        assert_eq!(rt; outcome.code, code, "call {call}");
+        assert_eq!(rt; outcome.text.as_slice(), text.as_slice(), "call {call}");
+        let show = shown(&rt, &outcome.log)?;
+        assert!(rt;
+            keeps(&show, left.opened.history, DECIDED.history),
+            "call {call}"
+        );
+    }
+    Ok(())
+}
+
+/// What the log opens to before an append and after it, its bytes before, and the frame and closed gate written behind them.
 #[derive(Drop)]
 struct Append {
-    before: Stage,
-    after: Stage,
+    before: Opened,
+    after: Opened,
     old: Vec<u8>,
     frame: Vec<u8>,
 }
@@ -164,16 +233,30 @@ fn logged<R: Threads + Wait + Sync + AllocGlobal>(
     Ok(failing(rt, stage.commands, 0)?.log)
 }
 
-fn append_between<R: Threads + Wait + Sync + AllocGlobal>(
+/// The log's bytes behind the append that follows that stage, and what it opens to then.
+fn appended<R: Threads + Wait + Sync + AllocGlobal>(
     rt: &R,
-    before: Stage,
-    after: Stage,
+    records: usize,
+    old: &[u8],
+) -> Result<(Opened, Vec<u8>), AllocError> {
+    if records < RECORDS {
+        let after = stage_after(records + 1);
+        return Ok((after.opened, logged(rt, after)?));
+    }
+    Ok((DECIDED, seen(rt, &script(DECISION, old))?.log))
+}
+
+/// The append behind so many records: the script's next one, or else that of the decision.
+fn append_behind<R: Threads + Wait + Sync + AllocGlobal>(
+    rt: &R,
+    records: usize,
 ) -> Result<Append, AllocError> {
+    let before = stage_after(records);
     let old = logged(rt, before)?;
-    let new = logged(rt, after)?;
+    let (after, new) = appended(rt, records, &old)?;
     let frame = new.get(old.len()..).unwrap_or(&[]).to_vec(rt.alloc())?;
     Ok(Append {
-        before,
+        before: before.opened,
         after,
         old,
         frame,
@@ -199,19 +282,19 @@ fn image(alloc: Global, append: &Append, crash: Crash) -> Result<Vec<u8>, AllocE
     Ok(bytes)
 }
 
-/// Whether the image opens to the stage, its store takes a further entry, and what is undecided in it is found by name.
+/// Whether the image opens to that, by what is shown of it and by how it goes on.
 fn opens_to<R: Threads + Wait + Sync + AllocGlobal>(
     rt: &R,
     image: &[u8],
-    stage: Stage,
+    due: Opened,
 ) -> Result<bool, AllocError> {
     let show = shown(rt, image)?;
     let next = seen(rt, &script(NEXT, image))?;
     Ok(
         show.code == 0
-            && show.text.as_slice() == stage.history.as_bytes()
+            && show.text.as_slice() == due.history.as_bytes()
             && next.code == 0
-            && next.text.starts_with(stage.next.as_bytes()),
+            && next.text.starts_with(due.next.as_bytes()),
     )
 }
 
@@ -239,8 +322,8 @@ fn wrong_tear<R: Threads + Wait + Sync + AllocGlobal>(
 
 #[test]
 fn what_stands_behind_a_closed_gate_is_passed_over(rt: HostRuntime) -> Result<(), Fail> {
-    for records in 0..RECORDS {
-        let append = append_between(&rt, stage_after(records), stage_after(records + 1))?;
+    for records in 0..=RECORDS {
+        let append = append_behind(&rt, records)?;
         assert!(rt; !append.frame.is_empty(), "behind {records} records");
         assert_eq!(rt; wrong_tear(&rt, &append)?, None, "behind {records} records");
     }
@@ -268,8 +351,8 @@ fn wrong_gate<R: Threads + Wait + Sync + AllocGlobal>(
 
 #[test]
 fn a_record_behind_any_open_gate_is_found(rt: HostRuntime) -> Result<(), Fail> {
-    for records in 0..RECORDS {
-        let append = append_between(&rt, stage_after(records), stage_after(records + 1))?;
+    for records in 0..=RECORDS {
+        let append = append_behind(&rt, records)?;
         assert_eq!(rt; wrong_gate(&rt, &append)?, None, "behind {records} records");
     }
     Ok(())
