@@ -6,8 +6,11 @@ use Rattle.std.proofs.lemmas.Bool.{false≢true, lt-ltb, le-ltb, le-leb, lt-leb,
 use Rattle.std.proofs.lemmas.List.Folds.{list_any-append}
 use Rattle.wp_memtable.specs.declared.version.Version.{Version}
 use Rattle.wp_memtable.specs.Versions.{version_cmp}
-use Rattle.wp_keep.specs.Newer.{any_of}
 use Rattle.wp_keep.proofs.Order.{IsBehind, IsBefore, IsPlaced, same_key, bytes_eq-same, newer_number, between}
+
+-- a version of the key is among them that passes the test
+abbrev pub any_of : List ℕ → (Version → Bool) → List Version → Bool
+any_of key test versions = list_any (λ w. bytes_eq w.key key && test w) versions
 
 or_with : (a b c d : Bool) → a ≡ b → c ≡ d → (a || c) ≡ (b || d)
 or_with a b c d e f = λ i. e i || f i

@@ -7,9 +7,9 @@ use Rattle.std.proofs.lemmas.List.{reverse-append}
 use Rattle.wp_memtable.specs.declared.version.Version.{Version}
 use Rattle.wp_memtable.specs.Versions.{AreInOrder}
 use Rattle.wp_keep.specs.Keep.{is_settled_deletion, lasts}
-use Rattle.wp_keep.specs.Newer.{any_of, starts_with_key}
+use Rattle.wp_keep.specs.Newer.{starts_with_key}
 use Rattle.wp_keep.proofs.Order.{IsBefore, placed, same_key}
-use Rattle.wp_keep.proofs.Any.{any_older, none_ahead}
+use Rattle.wp_keep.proofs.Any.{any_of, any_older, none_ahead}
 
 module _ (committed : ℕ → ℕ → Bool) (all : List Version) (floor : ℕ) where
   -- no deletion that is committed at the floor

@@ -10,9 +10,9 @@ use Rattle.std.proofs.lemmas.List.Elements.{filter-append}
 use Rattle.wp_memtable.specs.declared.version.Version.{Version}
 use Rattle.wp_memtable.specs.Versions.{AreInOrder, version_cmp}
 use Rattle.wp_keep.specs.Keep.{is_by, by_commits, has_newer, is_needed, stays}
-use Rattle.wp_keep.specs.Newer.{any_of, is_above}
+use Rattle.wp_keep.specs.Newer.{is_above}
 use Rattle.wp_keep.proofs.Order.{IsBehind, placed, behind_parts, same_key}
-use Rattle.wp_keep.proofs.Any.{any_newer, none_passed}
+use Rattle.wp_keep.proofs.Any.{any_of, any_newer, none_passed}
 
 abbrev pub Commits : Type 0
 Commits = map.FinMap nat_cmp ℕ

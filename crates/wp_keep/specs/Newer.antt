@@ -1,12 +1,7 @@
 -- What was passed of the versions of a key.
 use Rattle.std.specs.Prelude.{ℕ, Bool, false, ◌&&◌, List, [], ◌∷◌, Option, Some, None, nat_le}
-use Rattle.std.specs.List.{list_any}
 use Rattle.std.specs.Str.{bytes_eq}
 use Rattle.wp_memtable.specs.declared.version.Version.{Version}
-
--- a version of the key is among them that passes the test
-abbrev pub any_of : List ℕ → (Version → Bool) → List Version → Bool
-any_of key test versions = list_any (λ w. bytes_eq w.key key && test w) versions
 
 -- the noted key is this one, and is committed at n by the noted number
 abbrev pub is_above : Option (List ℕ × ℕ) → List ℕ → ℕ → Bool

@@ -252,27 +252,61 @@ fn limit_is_the_last_number(rt: HostRuntime) -> Result<(), Fail> {
 }
 
 #[test]
-fn longest_words_are_stored(rt: HostRuntime) -> Result<(), Fail> {
-    let alloc = rt.alloc();
-    for (len, code) in [(64, 0), (65, 6)] {
-        let mut text = b"client a\nput ".to_vec(alloc)?;
-        text.resize(13 + len, b'k')?;
-        text.push(b' ')?;
-        text.resize(14 + len + 256, b'v')?;
+fn script_of_too_many_bytes_is_refused(rt: HostRuntime) -> Result<(), Fail> {
+    for (len, code, line) in [
+        (1048576, 0, "wp: ok"),
+        (1048577, 6, "wp: script line 0: too long"),
+    ] {
+        let text = vec![in rt.alloc(); b'\n'; len]?;
         let given = Given {
             script: &text,
             ..script("", &[])
         };
         let seen = seen(&rt, &given)?;
         assert_eq!(rt; seen.code, code);
-        if code == 6 {
-            assert_eq!(rt;
-                seen.line.as_slice(),
-                b"wp: script line 2: bad word".as_slice()
-            );
-        } else {
-            assert_eq!(rt; shown(&rt, &seen.log)?.code, 0);
-        }
+        assert_eq!(rt; seen.line.as_slice(), line.as_bytes());
+    }
+    Ok(())
+}
+
+/// The put of the longest value under a key of so many bytes, between these two texts.
+fn longest_put(
+    alloc: Global,
+    before: &str,
+    key_len: usize,
+    after: &str,
+) -> Result<Vec<u8>, AllocError> {
+    let mut text = before.as_bytes().to_vec(alloc)?;
+    text.extend_from_slice(b"put ")?;
+    text.resize(text.len() + key_len, b'k')?;
+    text.push(b' ')?;
+    text.resize(text.len() + 256, b'v')?;
+    text.extend_from_slice(after.as_bytes())?;
+    Ok(text)
+}
+
+#[test]
+fn longest_words_are_stored(rt: HostRuntime) -> Result<(), Fail> {
+    let alloc = rt.alloc();
+    let told = longest_put(
+        alloc,
+        "client a\nput @1\nhistory\n1 write ",
+        64,
+        "\nend 1 0\n",
+    )?;
+    for (key_len, code, line, text) in [
+        (64, 0, "wp: ok", told.as_slice()),
+        (65, 6, "wp: script line 2: bad word", b"".as_slice()),
+    ] {
+        let put = longest_put(alloc, "client a\n", key_len, "\n")?;
+        let given = Given {
+            script: &put,
+            ..script("", &[])
+        };
+        let seen = seen(&rt, &given)?;
+        assert_eq!(rt; seen.code, code);
+        assert_eq!(rt; seen.line.as_slice(), line.as_bytes());
+        assert_eq!(rt; seen.text.as_slice(), text);
     }
     Ok(())
 }
