@@ -81,6 +81,10 @@ AppendGoes end bytes old new = (front : List ℕ) → end ≡ length front → I
 abbrev pub AppendDone : ℕ → List ℕ → List Moment → List Moment → Type 0
 AppendDone end bytes old new = (front : List ℕ) → end ≡ length front → IfTold old (λ m. m ≡ settled (front ++ 0 ∷ [])) → IfTold new (λ m. m ≡ settled (front ++ 1 ∷ (framed bytes ++ 0 ∷ [])))
 
+-- one that doesn't still doesn't
+pub append_untold : (end : ℕ) (bytes : List ℕ) (new : List Moment) → AppendGoes end bytes [] new → new ≡ []
+append_untold end bytes new goes = goes (replicate end 0) (sym (length-replicate end 0)) tt
+
 module _ (magic : List ℕ) (id end : ℕ) (records : List (List ℕ)) (bytes : List ℕ) where
   at_rest_more : (frame : List ℕ) → frame ≡ frame_of bytes → length bytes < 2 ^ 64 → (gated : List Gated) → IsAcknowledged gated records → end ≡ length (log_of magic id 1 gated)
       → (m : Moment) → m ≡ settled (log_of magic id 1 gated ++ 1 ∷ (framed bytes ++ 0 ∷ [])) → IsAtRest magic id (end + length frame) (records ++ bytes ∷ []) m
@@ -96,8 +100,7 @@ module _ (magic : List ℕ) (id end : ℕ) (records : List (List ℕ)) (bytes : 
   pub append_rests : (frame : List ℕ) → frame ≡ frame_of bytes → length bytes < 2 ^ 64 → (old new : List Moment) → AppendGoes end bytes old new → AppendDone end bytes old new
       → IfTold old (IsAtRest magic id end records) → IfTold new (IsAtRest magic id (end + length frame) (records ++ bytes ∷ []))
   append_rests frame is fits [] new goes done rest =
-      let none : new ≡ [] = goes (replicate end 0) (sym (length-replicate end 0)) tt in
-      subst (λ (ms : List Moment). IfTold ms (IsAtRest magic id (end + length frame) (records ++ bytes ∷ []))) (sym none) tt
+      subst (λ (ms : List Moment). IfTold ms (IsAtRest magic id (end + length frame) (records ++ bytes ∷ []))) (sym (append_untold end bytes new goes)) tt
   append_rests frame is fits (m ∷ past) new goes done rest =
       let P : Moment → Type 0 = λ n. n ≡ settled (log_of magic id 1 rest.gated ++ 1 ∷ (framed bytes ++ 0 ∷ [])) in
       told_map P (IsAtRest magic id (end + length frame) (records ++ bytes ∷ []))

@@ -1,15 +1,16 @@
 -- The records that bytes hold, while the log in them is changed.
-use Rattle.std.proofs.Common.{◌≡◌, ◌≢◌, inl, inr, ℕ, ◌<◌, List, [], ◌∷◌, ◌++◌, length, map, refl, sym, ◌∙◌, ap, subst, arith, length-append}
+use Rattle.std.proofs.Common.{◌≡◌, ◌≢◌, inl, inr, ℕ, ◌+◌, ◌<◌, List, [], ◌∷◌, ◌++◌, length, refl, sym, ◌∙◌, ap, subst, arith, length-append}
 use Rattle.std.proofs.lemmas.List.{append-nil, append_assoc, map-append}
-use Rattle.wp_outside.specs.Disk.{Moment, IsImage, settled, Each}
-use Rattle.wp_gatelog.specs.Lasting.{HoldsRecords, Spares}
+use Rattle.wp_outside.specs.Disk.{Moment, IsImage, IfTold, settled, after_write, Each, Passes}
+use Rattle.wp_gatelog.specs.Lasting.{Lasts, HoldsRecords, Spares}
 use Rattle.wp_gatelog.specs.Log.{IsAcknowledged, IsAtRest, last_gate}
 use Rattle.wp_gatelog.specs.Mending.{KeepsFront, Reopens}
 use Rattle.wp_gatelog.specs.Moments.{Leaves}
 use Rattle.wp_gatelog.specs.Spelling.{Gated, IsOpen, framed, identity, all_gated, log_of, records_of, IsUnmade, Spells}
-use Rattle.wp_gatelog.proofs.AppendLemmas.{last_gate_more}
-use Rattle.wp_gatelog.proofs.MendLemmas.{each_but_last, keeps_more}
-use Rattle.wp_gatelog.proofs.MomentLemmas.{image_of_settled}
+use Rattle.wp_gatelog.proofs.AppendLemmas.{AppendGoes, append_untold}
+use Rattle.wp_gatelog.proofs.LastingLemmas.{lasts_passes}
+use Rattle.wp_gatelog.proofs.MendLemmas.{keeps_more}
+use Rattle.wp_gatelog.proofs.MomentLemmas.{image_of_settled, image_behind, image_of_gate, told_map}
 use Rattle.wp_gatelog.proofs.ParseLemmas.{same_parts, same_framed, first_split, length-identities}
 
 -- ---- the front of a log
@@ -83,7 +84,7 @@ still_held magic id other head records gated gate tail image held is =
 -- ---- changes that spare them
 
 -- a change of the gate that ends the log and of what stands behind it
-pub spares_behind : (magic : List ℕ) (id other head : ℕ) (records : List (List ℕ)) (gated : List Gated) (behind : List ℕ) → Each IsOpen gated
+spares_behind : (magic : List ℕ) (id other head : ℕ) (records : List (List ℕ)) (gated : List Gated) (behind : List ℕ) → Each IsOpen gated
     → Spares magic id records (log_of magic other head gated ++ 0 ∷ behind) (λ image. (gate : ℕ) × (tail : List ℕ) × (image ≡ log_of magic other head gated ++ gate ∷ tail))
 spares_behind magic id other head records gated behind each holds image h =
     still_held magic id other head records gated h.0 h.1 image (is_held magic id other head records gated behind each holds) h.2
@@ -91,6 +92,21 @@ spares_behind magic id other head records gated behind each holds image h =
 pub spares_cut : (magic : List ℕ) (id other head : ℕ) (records : List (List ℕ)) (gated : List Gated) (behind : List ℕ) → Each IsOpen gated
     → Spares magic id records (log_of magic other head gated ++ 0 ∷ behind) (KeepsFront (log_of magic other head gated))
 spares_cut magic id other head records gated behind each holds image h = spares_behind magic id other head records gated behind each holds image (0, h.0, h.1)
+
+-- a write behind that gate
+pub spares_frame : (magic : List ℕ) (id other : ℕ) (records : List (List ℕ)) (gated : List Gated) (at : ℕ) (frame : List ℕ) → Each IsOpen gated → at ≡ length (log_of magic other 1 gated) + 1
+    → Spares magic id records (log_of magic other 1 gated ++ 0 ∷ []) (IsImage (after_write at frame (settled (log_of magic other 1 gated ++ 0 ∷ []))))
+spares_frame magic id other records gated at frame each place holds image h =
+    let front : List ℕ = log_of magic other 1 gated in
+    let found = image_behind (front ++ 0 ∷ []) at frame image (omega (arith, length-append front (0 ∷ []))) h in
+    spares_behind magic id other 1 records gated [] each holds image (0, found.0, found.1 ∙ append_assoc front (0 ∷ []) found.0)
+
+-- a write of that gate
+pub spares_gate : (magic : List ℕ) (id other : ℕ) (records : List (List ℕ)) (gated : List Gated) (at : ℕ) (behind : List ℕ) → Each IsOpen gated → at ≡ length (log_of magic other 1 gated)
+    → Spares magic id records (log_of magic other 1 gated ++ 0 ∷ behind) (IsImage (after_write at (1 ∷ []) (settled (log_of magic other 1 gated ++ 0 ∷ behind))))
+spares_gate magic id other records gated at behind each place holds image h =
+    let found = image_of_gate (log_of magic other 1 gated) at 0 behind image place h in
+    spares_behind magic id other 1 records gated behind each holds image (found.0, behind ++ found.1, found.2)
 
 -- where the head's gate is not 01, no records are held
 pub spares_head : (magic : List ℕ) (id head : ℕ) (records : List (List ℕ)) (behind : List ℕ) → Spares magic id records (head ∷ behind) (Reopens [] head behind)
@@ -155,3 +171,22 @@ held_first bytes magic id other records others holds (inr w) =
       w.3 ∙ ap records_of held.parts ∙ map-append (λ (g : Gated). g.bytes) held.held held.rest ∙ ap (λ (rs : List (List ℕ)). rs ++ records_of held.rest) (sym held.acknowledged.same)
           ∙ append_assoc records held.more (records_of held.rest),
     )
+
+-- ---- an append
+
+-- how it lasts from a log at rest
+abbrev pub AppendLasts : List ℕ → ℕ → ℕ → (Moment → Type 0) → List Moment → List Moment → Type 0
+AppendLasts magic id end P old new =
+    (gated : List Gated) → Each IsOpen gated → end ≡ length (log_of magic id 1 gated) → IfTold old (λ m. m ≡ settled (log_of magic id 1 gated ++ 0 ∷ [])) → Lasts P old new
+
+pub append_lasts : (magic : List ℕ) (id other end : ℕ) (records others : List (List ℕ)) (bytes : List ℕ) (old new : List Moment) → AppendGoes end bytes old new → IfTold old (IsAtRest magic other end others)
+    → AppendLasts magic other end (Leaves (HoldsRecords magic id records)) old new → Lasts (Leaves (HoldsRecords magic id records)) old new
+append_lasts magic id other end records others bytes [] new goes rest lasts = ([], append_untold end bytes new goes, tt)
+append_lasts magic id other end records others bytes (m ∷ past) new goes rest lasts = lasts rest.gated rest.acknowledged.gates_open rest.place rest.settled_on
+
+pub append_holds : (magic : List ℕ) (id end : ℕ) (records : List (List ℕ)) (bytes : List ℕ) (old new : List Moment) → AppendGoes end bytes old new → IfTold old (IsAtRest magic id end records)
+    → AppendLasts magic id end (Leaves (HoldsRecords magic id records)) old new → Passes (Leaves (HoldsRecords magic id records)) old new
+append_holds magic id end records bytes old new goes rest lasts =
+    let P : Moment → Type 0 = Leaves (HoldsRecords magic id records) in
+    lasts_passes P old new (told_map (IsAtRest magic id end records) P (rest_holds magic id end records) old rest)
+    (append_lasts magic id id end records records bytes old new goes rest lasts)

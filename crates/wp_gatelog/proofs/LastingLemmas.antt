@@ -1,5 +1,5 @@
 -- What lasts from one moment to the next.
-use Rattle.std.proofs.Common.{◌≡◌, inl, inr, ℕ, List, [], ◌∷◌, ◌++◌, map, Result, Ok, Err, OnOk, OnErr, refl, sym, ◌∙◌, subst, arith}
+use Rattle.std.proofs.Common.{◌≡◌, inl, inr, ℕ, List, [], ◌∷◌, ◌++◌, Result, Ok, Err, OnOk, OnErr, refl, sym, ◌∙◌, subst, arith}
 use Rattle.std.proofs.lemmas.List.{append_assoc}
 use Rattle.wp_outside.specs.Disk.{Moment, IsImage, settled, after_sync, IfTold, added, Tears, Each, Passes, ReadsItself}
 use Rattle.wp_gatelog.specs.Lasting.{PassedOn, Lasts}

@@ -1,14 +1,14 @@
 -- What a crash leaves while a log is opened, in terms of its records.
-use Rattle.std.proofs.Common.{◌≡◌, ◌≢◌, inl, inr, ℕ, List, [], ◌∷◌, ◌++◌, replicate, refl, sym, ◌∙◌, ap, subst}
+use Rattle.std.proofs.Common.{◌≡◌, ◌≢◌, inl, inr, ℕ, List, [], ◌∷◌, ◌++◌, refl, sym, ◌∙◌, ap, subst}
 use Rattle.std.proofs.lemmas.Bool.{cases_eq}
-use Rattle.std.proofs.lemmas.List.{append_assoc, length-replicate, map_push}
+use Rattle.std.proofs.lemmas.List.{append_assoc, map_push}
 use Rattle.wp_outside.specs.Disk.{Moment, IfTold, IsImage, images, Each, Passes}
 use Rattle.wp_gatelog.specs.Log.{IsAcknowledged, IsAtRest, BeforeOrAfter, Grows}
 use Rattle.wp_gatelog.specs.Mending.{KeepsFront, Mended}
 use Rattle.wp_gatelog.specs.Moments.{Leaves, Goes}
 use Rattle.wp_gatelog.specs.Opening.{KeepsMost, Survives, Mends, SurvivesThrough}
-use Rattle.wp_gatelog.specs.Spelling.{Gated, IsOpen, framed, identity, all_gated, log_of, records_of, IsUnmade, Stands, Spells}
-use Rattle.wp_gatelog.proofs.AppendLemmas.{AppendGoes, records_more, log_more}
+use Rattle.wp_gatelog.specs.Spelling.{Gated, IsOpen, framed, identity, all_gated, log_of, records_of, IsUnmade, Spells}
+use Rattle.wp_gatelog.proofs.AppendLemmas.{AppendGoes, append_untold, records_more, log_more}
 use Rattle.wp_gatelog.proofs.MendLemmas.{each_but_last, keeps_more}
 use Rattle.wp_gatelog.proofs.MomentLemmas.{goes_map, left_now, image_of_settled}
 
@@ -96,7 +96,7 @@ left_before_or_after magic id end records bytes old new rest passes =
 -- an append passes such moments
 pub append_passes : (magic : List ℕ) (id end : ℕ) (records : List (List ℕ)) (bytes : List ℕ) (old new : List Moment) → AppendGoes end bytes old new → IfTold old (IsAtRest magic id end records)
     → Passes (Leaves (BeforeOrAfter magic id records bytes)) old new
-append_passes magic id end records bytes [] new goes rest = ([], goes (replicate end 0) (sym (length-replicate end 0)) tt, tt)
+append_passes magic id end records bytes [] new goes rest = ([], append_untold end bytes new goes, tt)
 append_passes magic id end records bytes (m ∷ past) new goes rest =
     goes_map (Leaves (Grows (log_of magic id 1 rest.gated) bytes)) (Leaves (BeforeOrAfter magic id records bytes))
     (λ n leaves image h. before_or_after magic id records bytes rest.gated rest.acknowledged image (leaves image h))
