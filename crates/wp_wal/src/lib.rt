@@ -8,11 +8,13 @@
 #![tactic(auto)]
 
 mod error;
+mod laws;
 mod read;
 mod reserved;
 mod wal;
 
 pub use error::WalError;
+pub use laws::held_history_comes_first;
 pub use wal::Wal;
 
 #[cfg(test)]
