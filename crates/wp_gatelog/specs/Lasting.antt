@@ -11,14 +11,14 @@ abbrev pub PassedOn : (Moment → Type 0) → List Moment → List Moment → Ty
 PassedOn P old [] = ⊤
 PassedOn P old (m ∷ more) = (IfTold (more ++ old) P → P m) × PassedOn P old more
 
--- moments came on top of old, and what had P keeps it from each moment to the next
+-- new is old with further moments on top, and from each moment to the next, in time, what had P keeps it
 abbrev pub Lasts : (Moment → Type 0) → List Moment → List Moment → Type 0
 Lasts P old new = (more : List Moment) × (new ≡ more ++ old) × PassedOn P old more
 
 -- ---- records
 
--- The bytes begin with a log whose acknowledged records are these, or these and more, and a further gate, any byte,
--- stands behind them. Whatever comes behind, an opening finds these first.
+-- The bytes begin with acknowledged records, of which these are the first, and a further gate, any byte, stands behind
+-- them. Whatever comes then, bytes that spell records spell these first.
 pub record HoldsRecords (magic : List ℕ) (id : ℕ) (records : List (List ℕ)) (bytes : List ℕ) : Type 0 where
   pub gated : List Gated
   pub more : List (List ℕ)

@@ -82,8 +82,8 @@ impl<D: Disk> GateLog<D> {
         ensures untouched { IfErr result (λ refused.
             IsOnlySynced (D.moments disk) (D.moments refused.disk) refused.why) }
 
-        // At each moment since its beginning a crash leaves the records that the disk spelled; but while the head's
-        // gate is not 01 it may leave none, and while the last record's is not, all but that one.
+        // At each moment since its beginning a crash leaves the bytes as they were found, or a log of their records; but
+        // where the head's gate was not 01 it may leave none, and where the last record's was not, all but that one.
         ensures any_moment { MatchResult result (λ log. SurvivesThrough magic id (D.moments disk) log.moments)
             (λ refused. SurvivesThrough magic id (D.moments disk) (D.moments refused.disk)) }
 

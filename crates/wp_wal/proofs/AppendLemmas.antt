@@ -1,5 +1,5 @@
 -- What an append makes of a log that keeps a history.
-use Rattle.std.proofs.Common.{◌≡◌, ℕ, ◌+◌, ◌≤◌, true, false, List, [], ◌∷◌, ◌++◌, length, map, Option, Some, None, refl, ap, subst, ◌∙◌, inl, inr, arith, length-append}
+use Rattle.std.proofs.Common.{◌≡◌, ℕ, ◌+◌, ◌≤◌, Bool, true, false, List, [], ◌∷◌, ◌++◌, length, map, Option, Some, None, refl, ap, subst, ◌∙◌, inl, inr, arith, length-append}
 use Rattle.std.proofs.lemmas.List.{append-nil}
 use Rattle.std.specs.Prelude.{IfSome}
 use Rattle.wp_model.specs.declared.entry.Entry.{Entry}
@@ -65,6 +65,14 @@ each_other P Q (m ∷ more) implies each = (λ image is. implies image (each.0 i
 told_other : (P Q : List ℕ → Type 0) (moments : List Moment) → ((image : List ℕ) → P image → Q image) → IfTold moments (Leaves P) → IfTold moments (Leaves Q)
 told_other P Q [] implies told = tt
 told_other P Q (m ∷ past) implies told = λ image is. implies image (told image is)
+
+-- a kept history is held, by an open log and by a closed one
+pub kept_held : (wal : State) (history next : List Entry) → Keeps wal history next → IfTold wal.moments (Leaves (HoldsEntries wal.id history))
+kept_held wal history next keeps = by wal.closed refl
+  where
+    by : (closed : Bool) → wal.closed ≡ closed → IfTold wal.moments (Leaves (HoldsEntries wal.id history))
+    by true is = told_other (λ image. IsLogOrNext wal.id history next image × HoldsEntries wal.id history image) (HoldsEntries wal.id history) wal.moments (λ image h. h.1) (keeps.left is)
+    by false is = told_other (λ image. IsLogOf wal.id history image × HoldsEntries wal.id history image) (HoldsEntries wal.id history) wal.moments (λ image h. h.1) (running_history wal history next keeps is)
 
 -- what each moment since then leaves, and that one too, the newest leaves
 left_now : (P : List ℕ → Type 0) (old new : List Moment) → IfTold old (Leaves P) → Passes (Leaves P) old new → IfTold new (Leaves P)

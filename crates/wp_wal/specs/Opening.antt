@@ -42,11 +42,14 @@ pub record RestsAsSpelled (bytes : List ℕ) (m : Moment) : Type 0 where
 abbrev pub IsLeftAtRest : List Moment → List Moment → Type 0
 IsLeftAtRest old new = IfTold old (λ m. IfTold new (RestsAsSpelled m.reads))
 
--- What a refusal leaves: where no records could be read, after nothing but a sync; and otherwise at rest with the
--- records that stood there, mended. Want of memory and a fault may come on the way.
+-- no records were read, and nothing came but a sync; or they were, and the log is left at rest
+abbrev pub IsSyncedOrAtRest : List Moment → List Moment → Type 0
+IsSyncedOrAtRest old new = (new ≡ added after_sync old) ⊎ IsLeftAtRest old new
+
+-- what a refusal leaves; where the disk failed, that is left open
 abbrev pub LeavesRecords : List Moment → List Moment → WalError → Type 0
-LeavesRecords old new Memory = ⊤
+LeavesRecords old new Memory = IsSyncedOrAtRest old new
 LeavesRecords old new DiskFault = ⊤
 LeavesRecords old new BadHead = new ≡ added after_sync old
-LeavesRecords old new (BadRecord index why) = (new ≡ added after_sync old) ⊎ IsLeftAtRest old new
+LeavesRecords old new (BadRecord index why) = IsSyncedOrAtRest old new
 LeavesRecords old new (Illegal number) = IsLeftAtRest old new

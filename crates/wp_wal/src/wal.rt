@@ -67,8 +67,8 @@ impl<D: Disk> Wal<D> {
         // The bytes are left as they were, or the log in them mended, with all of its records.
         ensures left { IfErr result (λ refused. LeavesRecords (D.moments disk) (D.moments refused.disk) refused.why) }
 
-        // At each moment since its beginning a crash leaves the records that the disk spelled; but while the head's
-        // gate is not 01 it may leave none, and while the last record's is not, all but that one.
+        // At each moment since its beginning a crash leaves the bytes as they were found, or a log of their records; but
+        // where the head's gate was not 01 it may leave none, and where the last record's was not, all but that one.
         ensures survives { MatchResult result (λ opened. SurvivesThrough MAGIC id (D.moments disk) opened.0.moments)
             (λ refused. SurvivesThrough MAGIC id (D.moments disk) (D.moments refused.disk)) }
 
