@@ -3,11 +3,11 @@ use Rattle.std.proofs.Common.{◌≡◌, inl, inr, ℕ, ◌+◌, ◌<◌, ◌≤
 use Rattle.std.proofs.lemmas.Bool.{cases_eq}
 use Rattle.std.proofs.lemmas.List.{append-nil, append_assoc, map_push, length-replicate}
 use Rattle.std.specs.Int.{w64, to_be_bytes}
-use Rattle.wp_outside.specs.Disk.{Moment, settled, after_write, write_end, IfTold, Each, Passes}
-use Rattle.wp_gatelog.specs.Log.{Grows, KeepsAcknowledged, IsAcknowledged, IsAtRest, last_gate}
+use Rattle.wp_outside.specs.Disk.{Moment, settled, after_write, write_end, IfTold, Each}
+use Rattle.wp_gatelog.specs.Log.{Grows, IsAcknowledged, IsAtRest, last_gate}
 use Rattle.wp_gatelog.specs.Moments.{Leaves, Within, Goes}
 use Rattle.wp_gatelog.specs.Spelling.{Gated, IsOpen, framed, frame_of, identity, all_gated, log_of}
-use Rattle.wp_gatelog.proofs.MomentLemmas.{image_behind, image_of_gate, reads_behind, goes_map, told_map}
+use Rattle.wp_gatelog.proofs.MomentLemmas.{image_behind, image_of_gate, reads_behind, told_map}
 
 pub length-framed : (bytes : List ℕ) → length (framed bytes) ≡ 8 + length bytes
 unfolding framed
@@ -81,15 +81,11 @@ AppendGoes end bytes old new = (front : List ℕ) → end ≡ length front → I
 abbrev pub AppendDone : ℕ → List ℕ → List Moment → List Moment → Type 0
 AppendDone end bytes old new = (front : List ℕ) → end ≡ length front → IfTold old (λ m. m ≡ settled (front ++ 0 ∷ [])) → IfTold new (λ m. m ≡ settled (front ++ 1 ∷ (framed bytes ++ 0 ∷ [])))
 
-module _ (magic : List ℕ) (id end : ℕ) (records : List (List ℕ)) (bytes : List ℕ) where
-  pub append_passes : (old new : List Moment) → AppendGoes end bytes old new → IfTold old (IsAtRest magic id end records) → Passes (Leaves (KeepsAcknowledged magic id records bytes)) old new
-  append_passes [] new goes rest = ([], goes (replicate end 0) (sym (length-replicate end 0)) tt, tt)
-  append_passes (m ∷ past) new goes rest =
-      let P : Moment → Type 0 = Leaves (Grows (log_of magic id 1 rest.gated) bytes) in
-      let Q : Moment → Type 0 = Leaves (KeepsAcknowledged magic id records bytes) in
-      goes_map P Q (λ n leaves image h. record { gated = rest.gated; acknowledged = rest.acknowledged; grows = leaves image h })
-      (m ∷ past) new (goes (log_of magic id 1 rest.gated) rest.place rest.settled_on)
+-- one that doesn't still doesn't
+pub append_untold : (end : ℕ) (bytes : List ℕ) (new : List Moment) → AppendGoes end bytes [] new → new ≡ []
+append_untold end bytes new goes = goes (replicate end 0) (sym (length-replicate end 0)) tt
 
+module _ (magic : List ℕ) (id end : ℕ) (records : List (List ℕ)) (bytes : List ℕ) where
   at_rest_more : (frame : List ℕ) → frame ≡ frame_of bytes → length bytes < 2 ^ 64 → (gated : List Gated) → IsAcknowledged gated records → end ≡ length (log_of magic id 1 gated)
       → (m : Moment) → m ≡ settled (log_of magic id 1 gated ++ 1 ∷ (framed bytes ++ 0 ∷ [])) → IsAtRest magic id (end + length frame) (records ++ bytes ∷ []) m
   at_rest_more frame is fits gated acknowledged place m on =
@@ -104,8 +100,7 @@ module _ (magic : List ℕ) (id end : ℕ) (records : List (List ℕ)) (bytes : 
   pub append_rests : (frame : List ℕ) → frame ≡ frame_of bytes → length bytes < 2 ^ 64 → (old new : List Moment) → AppendGoes end bytes old new → AppendDone end bytes old new
       → IfTold old (IsAtRest magic id end records) → IfTold new (IsAtRest magic id (end + length frame) (records ++ bytes ∷ []))
   append_rests frame is fits [] new goes done rest =
-      let none : new ≡ [] = goes (replicate end 0) (sym (length-replicate end 0)) tt in
-      subst (λ (ms : List Moment). IfTold ms (IsAtRest magic id (end + length frame) (records ++ bytes ∷ []))) (sym none) tt
+      subst (λ (ms : List Moment). IfTold ms (IsAtRest magic id (end + length frame) (records ++ bytes ∷ []))) (sym (append_untold end bytes new goes)) tt
   append_rests frame is fits (m ∷ past) new goes done rest =
       let P : Moment → Type 0 = λ n. n ≡ settled (log_of magic id 1 rest.gated ++ 1 ∷ (framed bytes ++ 0 ∷ [])) in
       told_map P (IsAtRest magic id (end + length frame) (records ++ bytes ∷ []))

@@ -1,5 +1,7 @@
 pub mod AppendLemmas
 pub mod HeadLemmas
+pub mod HoldsLemmas
+pub mod LastingLemmas
 pub mod LawLemmas
 pub mod MakeLemmas
 pub mod MendLemmas

@@ -10,7 +10,7 @@ use Rattle.wp_gatelog.proofs.MomentLemmas.{image_behind, image_of_gate, put_gate
 
 -- ---- a closed gate alone
 
-closed_unmade : (bytes : List ℕ) → IsUnmade (0 ∷ bytes)
+pub closed_unmade : (bytes : List ℕ) → IsUnmade (0 ∷ bytes)
 closed_unmade [] = tt
 closed_unmade (byte ∷ bytes) = refl
 

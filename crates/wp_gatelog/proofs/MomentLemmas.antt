@@ -28,9 +28,6 @@ pub goes_map : (P Q : Moment → Type 0) → ((m : Moment) → P m → Q m) → 
 goes_map P Q f [] new goes = goes
 goes_map P Q f (m ∷ past) new goes = (goes.0, goes.1, each_map P Q f goes.0 goes.2)
 
-pub passes_map : (P Q : Moment → Type 0) → ((m : Moment) → P m → Q m) → (old new : List Moment) → Passes P old new → Passes Q old new
-passes_map P Q f old new passes = (passes.0, passes.1, each_map P Q f passes.0 passes.2)
-
 -- what holds of what a crash left before, and at each moment since, holds of what it leaves now
 pub left_now : (P : List ℕ → Type 0) (old new : List Moment) → ((image : List ℕ) → images old image → P image) → Passes (Leaves P) old new → (image : List ℕ) → images new image → P image
 left_now P old new before passes = from passes.0 passes.1 passes.2
@@ -67,7 +64,7 @@ told_as ms x y is told = subst (λ (z : List ℕ). IfTold ms (λ m. m ≡ settle
 
 -- ---- bytes of which all are sure
 
-matches_self : (xs : List ℕ) → Matches (map (λ b. Some b) xs) xs
+pub matches_self : (xs : List ℕ) → Matches (map (λ b. Some b) xs) xs
 matches_self [] = tt
 matches_self (x ∷ xs) = (refl, matches_self xs)
 

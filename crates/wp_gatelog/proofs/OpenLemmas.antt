@@ -7,6 +7,7 @@ use Rattle.wp_gatelog.specs.declared.error.LogError.TheVariants.{Memory, DiskFau
 use Rattle.wp_gatelog.specs.declared.gate.Gate.{Gate}
 use Rattle.wp_gatelog.specs.declared.head.Head.TheVariants.{Unmade, Made}
 use Rattle.wp_gatelog.specs.Heads.{BeginsLog, IsHead, SpellsNone}
+use Rattle.wp_gatelog.specs.Lasting.{Lasts}
 use Rattle.wp_gatelog.specs.Log.{IsAtRest}
 use Rattle.wp_gatelog.specs.Mending.{IsReadLog, Mended}
 use Rattle.wp_gatelog.specs.Moments.{Leaves, Goes}
@@ -14,6 +15,7 @@ use Rattle.wp_gatelog.specs.Opening.{IsFound, IsRefused, Mends, MendsMade}
 use Rattle.wp_gatelog.specs.Scanning.{HasRead, IsReadFault}
 use Rattle.wp_gatelog.specs.Spelling.{Gated, identity, all_gated, log_of, IsUnmade}
 use Rattle.wp_gatelog.proofs.HeadLemmas.{length-identity}
+use Rattle.wp_gatelog.proofs.LastingLemmas.{lasts_told}
 use Rattle.wp_gatelog.proofs.MomentLemmas.{goes_on, goes_map, told_map, told_both, told_three, told_goes, told_new, image_of_settled}
 
 module _ (magic : List ℕ) (id head len : ℕ) (bytes : List ℕ) (begins : BeginsLog magic id head len bytes) where
@@ -95,6 +97,11 @@ module _ (magic : List ℕ) (id head len : ℕ) (bytes : List ℕ) (begins : Beg
         (λ m log. subst (λ (ms : List Moment). Goes P ms new) kept
         (goes_map (Leaves (Mended magic id head log.gated)) P (λ n leaves image h. (log.gated, log.stands, leaves image h)) read new (goes log told_kept)))
 
+    pub logs_last : (P : Moment → Type 0) → (read ≡ [] → new ≡ []) → (IsReadLog magic id head records last end len bytes → IfTold read (λ m. m ≡ settled bytes) → Lasts P read new) → Lasts P old new
+    logs_last P untold lasts =
+        lasts_told P (λ _. IsReadLog magic id head records last end len bytes) old new (λ none. untold (kept ∙ none)) logs
+        (λ m log. subst (λ (ms : List Moment). Lasts P ms new) kept (lasts log told_kept))
+
     pub logs_rest : (read ≡ [] → new ≡ [])
         → (IsReadLog magic id head records last end len bytes → IfTold read (λ m. m ≡ settled bytes) → IfTold new (IsAtRest magic id end records)) → IfTold new (IsAtRest magic id end records)
     logs_rest untold rests =
@@ -150,6 +157,11 @@ module _ (magic : List ℕ) (asked len : ℕ) (bytes : List ℕ) (old read new :
       (λ m f. subst (λ (ms : List Moment). Goes P ms new) kept
       (goes_map (Leaves (SpellsNone magic asked)) P (λ n leaves image h. inr (inl (f.0, leaves image h))) read new (goes f.0 f.1 told_read)))
 
+  pub unmade_lasts : IfTold old (λ m. IsHead magic m.reads Unmade) → (P : Moment → Type 0) → (IsUnmade bytes → len ≡ length bytes → IfTold read (λ m. m ≡ settled bytes) → Lasts P read new) → Lasts P old new
+  unmade_lasts head P lasts =
+      lasts_told P (λ _. IsUnmade bytes × (len ≡ length bytes)) old new (λ none. untold (kept ∙ none)) (unmade head)
+      (λ m f. subst (λ (ms : List Moment). Lasts P ms new) kept (lasts f.0 f.1 told_read))
+
   pub unmade_rests : (records : List (List ℕ)) → length magic ≡ 4 → records ≡ [] → IfTold old (λ m. IsHead magic m.reads Unmade)
       → (IsUnmade bytes → len ≡ length bytes → IfTold read (λ m. m ≡ settled bytes) → IfTold new (λ m. m ≡ settled (log_of magic asked 1 [] ++ 0 ∷ []))) → IfTold new (IsAtRest magic asked 10 records)
   unmade_rests records four none head done =
@@ -168,6 +180,11 @@ module _ (magic : List ℕ) (asked len : ℕ) (bytes : List ℕ) (old read new :
         told_goes P (λ _. BeginsLog magic id head len bytes) old new (λ none. untold (kept ∙ none)) begun
         (λ m begins. subst (λ (ms : List Moment). Goes P ms new) kept
         (goes_map (Leaves (MendsMade magic id head bytes)) P (λ n leaves image h. let w = leaves image h in inr (inr (id, head, w.0, w.1, w.2))) read new (goes begins told_read)))
+
+    pub made_lasts : (P : Moment → Type 0) → (BeginsLog magic id head len bytes → IfTold read (λ m. m ≡ settled bytes) → Lasts P read new) → Lasts P old new
+    made_lasts P lasts =
+        lasts_told P (λ _. BeginsLog magic id head len bytes) old new (λ none. untold (kept ∙ none)) begun
+        (λ m begins. subst (λ (ms : List Moment). Lasts P ms new) kept (lasts begins told_read))
 
     -- what is found behind the head holds of the bytes as they were found
     made_told_of : (P Q : Type 0) → (BeginsLog magic id head len bytes → P → Q) → (BeginsLog magic id head len bytes → IfTold read (λ m. m ≡ settled bytes) → IfTold read (λ _. P)) → IfTold old (λ _. Q)

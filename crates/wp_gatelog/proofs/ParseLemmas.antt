@@ -25,7 +25,7 @@ unfolding framed
 split_framed bytes rest =
     ap (λ (l : List ℕ). drop 8 l) (append_assoc (to_be_bytes w64 (length bytes)) bytes rest) ∙ drop_at (to_be_bytes w64 (length bytes)) (bytes ++ rest) 8 refl
 
-same_framed : (a b x y : List ℕ) → length a < 2 ^ 64 → length b < 2 ^ 64 → framed a ++ x ≡ framed b ++ y → (a ≡ b) × (x ≡ y)
+pub same_framed : (a b x y : List ℕ) → length a < 2 ^ 64 → length b < 2 ^ 64 → framed a ++ x ≡ framed b ++ y → (a ≡ b) × (x ≡ y)
 same_framed a b x y fits_a fits_b is =
     let size : length a ≡ length b = sym (counted_framed a x fits_a) ∙ ap counted is ∙ counted_framed b y fits_b in
     same_parts a b x y size (sym (split_framed a x) ∙ ap (λ (l : List ℕ). drop 8 l) is ∙ split_framed b y)
@@ -45,7 +45,7 @@ whole_goes_on g rest opened some stops = elim stops [
   | inr short ↦ omega (arith, short, counted_framed g.bytes rest opened.length_fits, length-append (framed g.bytes) rest, length-framed g.bytes)
 ]
 
-first_split : (g : Gated) (gs : List Gated) (rest : List ℕ) → all_gated (g ∷ gs) ++ rest ≡ g.gate ∷ (framed g.bytes ++ (all_gated gs ++ rest))
+pub first_split : (g : Gated) (gs : List Gated) (rest : List ℕ) → all_gated (g ∷ gs) ++ rest ≡ g.gate ∷ (framed g.bytes ++ (all_gated gs ++ rest))
 first_split g gs rest = ap (λ (l : List ℕ). g.gate ∷ l) (append_assoc (framed g.bytes) (all_gated gs) rest)
 
 not_whole : (g : Gated) (gs : List Gated) (t u : List ℕ) → IsOpen g → Stops t → Stops u → t ≡ all_gated (g ∷ gs) ++ u → ⊥
@@ -64,7 +64,7 @@ same_gated (g ∷ gs) (h ∷ hs) t u eg eh st su is =
     let rest = same_gated gs hs t u eg.1 eh.1 st su bytes.1 in
     ((λ i. record { gate = gate i; bytes = bytes.0 i } ∷ rest.0 i), rest.1)
 
-length-identities : (magic : List ℕ) (id other : ℕ) → length (identity magic id) ≡ length (identity magic other)
+pub length-identities : (magic : List ℕ) (id other : ℕ) → length (identity magic id) ≡ length (identity magic other)
 unfolding identity
 length-identities magic id other = omega (arith, length-append magic (1 ∷ to_be_bytes w32 id), length-append magic (1 ∷ to_be_bytes w32 other))
 

@@ -2,6 +2,7 @@ pub mod Append
 pub mod Damage
 pub mod Errors
 pub mod Heads
+pub mod Lasting
 pub mod Log
 pub mod Mending
 pub mod Moments

@@ -45,13 +45,6 @@ Grows front bytes image = (behind : List ℕ) × (
 abbrev pub BeforeOrAfter : List ℕ → ℕ → List (List ℕ) → List ℕ → List ℕ → Type 0
 BeforeOrAfter magic id records bytes image = Spells image magic id records ⊎ Spells image magic id (records ++ bytes ∷ [])
 
--- The records stand there acknowledged, and behind them nothing, or the new one whole: so they stand after an opening
--- too, whenever it breaks off.
-pub record KeepsAcknowledged (magic : List ℕ) (id : ℕ) (records : List (List ℕ)) (bytes image : List ℕ) : Type 0 where
-  pub gated : List Gated
-  pub acknowledged : IsAcknowledged gated records
-  pub grows : Grows (log_of magic id 1 gated) bytes image
-
 -- it is what is written for some record
 abbrev pub IsFrame : List ℕ → Type 0
 IsFrame frame = (bytes : List ℕ) × (frame ≡ frame_of bytes)

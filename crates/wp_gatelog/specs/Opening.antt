@@ -4,7 +4,6 @@ use Rattle.wp_outside.specs.Disk.{Moment, IfTold, Passes, added, after_sync}
 use Rattle.wp_gatelog.specs.declared.error.LogError.{LogError}
 use Rattle.wp_gatelog.specs.declared.error.LogError.TheVariants.{Memory, DiskFault, BadHead, Cut}
 use Rattle.wp_gatelog.specs.Damage.{IsBadHead, IsCut}
-use Rattle.wp_gatelog.specs.Log.{KeepsAcknowledged}
 use Rattle.wp_gatelog.specs.Mending.{Mended}
 use Rattle.wp_gatelog.specs.Moments.{Leaves}
 use Rattle.wp_gatelog.specs.Spelling.{Gated, IsUnmade, Stands, Spells, records_of}
@@ -37,8 +36,8 @@ IsOnlySynced old new (Cut index) = new ≡ added after_sync old
 
 -- While a log is mended, a crash leaves its records. Where its head's gate was not 01, it may leave none, and where the
 -- last record's was not, it may leave all but that record.
-abbrev pub Keeps : List ℕ → ℕ → ℕ → List Gated → List ℕ → Type 0
-Keeps magic id head gated image =
+abbrev pub KeepsMost : List ℕ → ℕ → ℕ → List Gated → List ℕ → Type 0
+KeepsMost magic id head gated image =
     Spells image magic id (records_of gated)
     ⊎ ((head ≢ 1) × Spells image magic id [])
     ⊎ ((before : List Gated) × (last : Gated) × (gated ≡ before ++ last ∷ []) × (last.gate ≢ 1) × Spells image magic id (records_of before))
@@ -49,7 +48,7 @@ abbrev pub Survives : List ℕ → ℕ → List ℕ → List ℕ → Type 0
 Survives magic asked found image =
     (image ≡ found)
     ⊎ (IsUnmade found × Spells image magic asked [])
-    ⊎ ((id head : ℕ) × (gated : List Gated) × Stands magic id head gated found × Keeps magic id head gated image)
+    ⊎ ((id head : ℕ) × (gated : List Gated) × Stands magic id head gated found × KeepsMost magic id head gated image)
 
 -- the same, byte by byte
 abbrev pub Mends : List ℕ → ℕ → List ℕ → List ℕ → Type 0
@@ -61,11 +60,6 @@ Mends magic asked found image =
 -- at each moment of an opening a crash leaves what survives it
 abbrev pub SurvivesThrough : List ℕ → ℕ → List Moment → List Moment → Type 0
 SurvivesThrough magic asked old new = IfTold old (λ m. Passes (Leaves (Survives magic asked m.reads)) old new)
-
--- at each moment of an opening acknowledged records stand there as before, with a further one or without
-abbrev pub StaysThrough : List ℕ → List Moment → List Moment → Type 0
-StaysThrough magic old new = IfTold old (λ m. (id : ℕ) (records : List (List ℕ)) (bytes : List ℕ)
-    → KeepsAcknowledged magic id records bytes m.reads → Passes (Leaves (KeepsAcknowledged magic id records bytes)) old new)
 
 -- a log is mended whose head was read
 abbrev pub MendsMade : List ℕ → ℕ → ℕ → List ℕ → List ℕ → Type 0

@@ -1,9 +1,10 @@
 //! Bytes are read in one way.
 
-ghost use Rattle.std.specs.Prelude.{◌≡◌, ◌⊎◌, ℕ, ◌<◌, ◌^◌, List, length, slice_index};
+ghost use Rattle.std.specs.Prelude.{◌≡◌, ◌⊎◌, ℕ, ◌<◌, ◌^◌, List, ◌++◌, length, slice_index};
 ghost use Rattle.wp_outside.specs.Disk.{Moment};
 ghost use Rattle.wp_gatelog.specs.Damage.{IsBadHead, IsCut};
-ghost use Rattle.wp_gatelog.specs.Log.{IsAtRest, KeepsAcknowledged, BeforeOrAfter};
+ghost use Rattle.wp_gatelog.specs.Lasting.{HoldsRecords};
+ghost use Rattle.wp_gatelog.specs.Log.{IsAtRest};
 ghost use Rattle.wp_gatelog.specs.Moments.{Leaves};
 ghost use Rattle.wp_gatelog.specs.Spelling.{IsUnmade, Spells};
 
@@ -27,11 +28,12 @@ pub fn bytes_are_read_in_one_way()
         ⊎ IsBadHead magic bytes ⊎ ((index : ℕ) × IsCut magic index bytes) }
 {}
 
-/// What a crash leaves of a log at rest has its records acknowledged, and what has records acknowledged spells them,
-/// with a further one or without.
-pub fn acknowledged_records_are_spelled()
-    ensures at_rest { (magic : List ℕ) (id end : ℕ) (records : List (List ℕ)) (bytes : List ℕ) (m : Moment)
-        → IsAtRest magic id end records m → Leaves (KeepsAcknowledged magic id records bytes) m }
-    ensures spelled { (magic : List ℕ) (id : ℕ) (records : List (List ℕ)) (bytes image : List ℕ)
-        → KeepsAcknowledged magic id records bytes image → BeforeOrAfter magic id records bytes image }
+/// What a crash leaves of a log at rest holds its records, and in bytes that hold records these are the first that are
+/// spelled.
+pub fn held_records_come_first()
+    ensures at_rest { (magic : List ℕ) (id end : ℕ) (records : List (List ℕ)) (m : Moment)
+        → IsAtRest magic id end records m → Leaves (HoldsRecords magic id records) m }
+    ensures first { (bytes magic : List ℕ) (id other : ℕ) (records others : List (List ℕ))
+        → HoldsRecords magic id records bytes → Spells bytes magic other others
+        → (more : List (List ℕ)) × (others ≡ records ++ more) }
 {}

@@ -21,7 +21,7 @@ mod record;
 mod scan;
 
 pub use error::{DiskRefused, LogError};
-pub use laws::{acknowledged_records_are_spelled, bytes_are_read_in_one_way};
+pub use laws::{bytes_are_read_in_one_way, held_records_come_first};
 pub use log::{AppendError, GateLog};
 pub use record::{Record, frame};
 

@@ -1,14 +1,15 @@
 //! A log that stands open.
 
 ghost use Rattle.std.specs.Prelude.{◌≡◌, ℕ, ◌+◌, ◌≤◌, ◌^◌, [], ◌∷◌, ◌++◌, List, length, false, IfOk, IfErr, OnOk, MatchResult};
-ghost use Rattle.wp_outside.specs.Disk.{IfTold, Passes, settled, images, added, after_write, after_sync};
+ghost use Rattle.wp_outside.specs.Disk.{IfTold, Each, Passes, settled, images, added, after_write, after_sync};
 ghost use Rattle.wp_outside.specs.Faults.{HasCause};
 ghost use Rattle.wp_gatelog.specs.Append.{Appended, Refuses};
 ghost use Rattle.wp_gatelog.specs.Errors.{FaultRose};
-ghost use Rattle.wp_gatelog.specs.Log.{Grows, BeforeOrAfter, KeepsAcknowledged, IsFrame, Rests};
+ghost use Rattle.wp_gatelog.specs.Lasting.{Lasts, HoldsRecords};
+ghost use Rattle.wp_gatelog.specs.Log.{Grows, BeforeOrAfter, IsFrame, Rests};
 ghost use Rattle.wp_gatelog.specs.Moments.{Goes, Leaves};
-ghost use Rattle.wp_gatelog.specs.Opening.{IsFound, IsRefused, IsOnlySynced, SurvivesThrough, StaysThrough};
-ghost use Rattle.wp_gatelog.specs.Spelling.{Spells, frame_of, framed};
+ghost use Rattle.wp_gatelog.specs.Opening.{IsFound, IsRefused, IsOnlySynced, SurvivesThrough};
+ghost use Rattle.wp_gatelog.specs.Spelling.{Gated, IsOpen, Spells, frame_of, framed, log_of};
 
 use crate::device::write_synced;
 use crate::error::{DiskRefused, LogError};
@@ -81,11 +82,17 @@ impl<D: Disk> GateLog<D> {
         ensures untouched { IfErr result (λ refused.
             IsOnlySynced (D.moments disk) (D.moments refused.disk) refused.why) }
 
-        // A crash on the way takes nothing that an opening or an append has acknowledged.
+        // At each moment since its beginning a crash leaves the bytes as they were found, or a log of their records; but
+        // where the head's gate was not 01 it may leave none, and where the last record's was not, all but that one.
         ensures any_moment { MatchResult result (λ log. SurvivesThrough magic id (D.moments disk) log.moments)
             (λ refused. SurvivesThrough magic id (D.moments disk) (D.moments refused.disk)) }
-        ensures kept { MatchResult result (λ log. StaysThrough magic (D.moments disk) log.moments)
-            (λ refused. StaysThrough magic (D.moments disk) (D.moments refused.disk)) }
+
+        // What each crash at one moment would leave acknowledged, each crash at a later moment leaves too.
+        ensures lasts { MatchResult result
+            (λ log. (other : ℕ) (records : List (List ℕ))
+            → Lasts (Leaves (HoldsRecords magic other records)) (D.moments disk) log.moments)
+            (λ refused. (other : ℕ) (records : List (List ℕ))
+            → Lasts (Leaves (HoldsRecords magic other records)) (D.moments disk) (D.moments refused.disk)) }
 
         ensures fault { IfErr result (λ refused. FaultRose (D.faults disk) (D.faults refused.disk) refused.why) }
         ensures later { MatchResult result (λ log. D.faults disk ≤ log.faults)
@@ -139,9 +146,14 @@ impl<D: Disk> GateLog<D> {
         ensures left { (magic : List ℕ) (records : List (List ℕ)) (bytes : List ℕ)
             → frame.now ≡ frame_of bytes → Rests magic self.old records
             → (image : List ℕ) → images self.new.moments image → BeforeOrAfter magic self.old.id records bytes image }
-        ensures kept { (magic : List ℕ) (records : List (List ℕ)) (bytes : List ℕ)
-            → frame.now ≡ frame_of bytes → Rests magic self.old records
-            → Passes (Leaves (KeepsAcknowledged magic self.old.id records bytes)) self.old.moments self.new.moments }
+
+        // What each crash at one moment would leave acknowledged, each crash at a later moment leaves too: the records
+        // that stood, all along. A closed log stays as it is, at rest or not.
+        ensures lasts { (magic : List ℕ) (id : ℕ) (records others : List (List ℕ))
+            → (self.old.closed ≡ false → Rests magic self.old others)
+            → Lasts (Leaves (HoldsRecords magic id records)) self.old.moments self.new.moments }
+        ensures holds { (magic : List ℕ) (records : List (List ℕ)) → Rests magic self.old records
+            → Passes (Leaves (HoldsRecords magic self.old.id records)) self.old.moments self.new.moments }
 
         // Once it is acknowledged, a crash leaves the new record.
         ensures rests { OnOk result ((magic : List ℕ) (records : List (List ℕ)) (bytes : List ℕ)
@@ -152,7 +164,7 @@ impl<D: Disk> GateLog<D> {
             → (image : List ℕ) → images self.new.moments image
             → Spells image magic self.new.id (records ++ bytes ∷ [])) }
 
-        // Four calls: the frame behind the closed gate, a sync, that gate, a sync.
+        // A disk that tells passes four moments: the frame is written behind the closed gate, a sync, that gate, a sync.
         ensures calls { OnOk result (self.new.moments ≡ added after_sync (added (after_write self.old.end (1 ∷ []))
             (added after_sync (added (after_write (self.old.end + 1) frame.now) self.old.moments)))) }
 
@@ -193,6 +205,11 @@ fn append_frame<D: Disk>(disk: &mut D, end: u64, frame: &[u8]) -> Result<(), Fai
     ensures passed { (front bytes : List ℕ) → frame.now ≡ frame_of bytes → end ≡ length front
         → IfTold (D.moments disk.old) (λ m. m ≡ settled (front ++ 0 ∷ []))
         → Goes (Leaves (Grows front bytes)) (D.moments disk.old) (D.moments disk.new) }
+    ensures lasts { (magic : List ℕ) (id : ℕ) (gated : List Gated) → Each IsOpen gated
+        → end ≡ length (log_of magic id 1 gated)
+        → IfTold (D.moments disk.old) (λ m. m ≡ settled (log_of magic id 1 gated ++ 0 ∷ []))
+        → (other : ℕ) (records : List (List ℕ))
+        → Lasts (Leaves (HoldsRecords magic other records)) (D.moments disk.old) (D.moments disk.new) }
     ensures done { (front bytes : List ℕ) → frame.now ≡ frame_of bytes → end ≡ length front
         → IfTold (D.moments disk.old) (λ m. m ≡ settled (front ++ 0 ∷ []))
         → OnOk result (IfTold (D.moments disk.new) (λ m. m ≡ settled (front ++ 1 ∷ (framed bytes ++ 0 ∷ [])))) }

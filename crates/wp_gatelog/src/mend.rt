@@ -3,6 +3,7 @@
 ghost use Rattle.std.specs.Prelude.{◌≡◌, ℕ, ◌<◌, ◌≤◌, ◌^◌, [], ◌∷◌, ◌++◌, List, length, OnOk};
 ghost use Rattle.wp_outside.specs.Disk.{IfTold, settled};
 ghost use Rattle.wp_outside.specs.Faults.{HasCause};
+ghost use Rattle.wp_gatelog.specs.Lasting.{Lasts, HoldsRecords, Spares};
 ghost use Rattle.wp_gatelog.specs.Log.{IsAtRest};
 ghost use Rattle.wp_gatelog.specs.Mending.{IsReadLog, KeepsFront, Reopens, Mended};
 ghost use Rattle.wp_gatelog.specs.Moments.{Goes, Leaves};
@@ -21,6 +22,11 @@ pub fn mend<D: Disk>(disk: &mut D, len: u64, head: u8, scan: &Scan) -> Result<()
         (log : IsReadLog magic id head scan.now.records.items scan.now.last scan.now.end len bytes)
         → IfTold (D.moments disk.old) (λ m. m ≡ settled bytes)
         → Goes (Leaves (Mended magic id head log.gated)) (D.moments disk.old) (D.moments disk.new) }
+    ensures lasts { (magic : List ℕ) (id : ℕ) (bytes : List ℕ)
+        → IsReadLog magic id head scan.now.records.items scan.now.last scan.now.end len bytes
+        → IfTold (D.moments disk.old) (λ m. m ≡ settled bytes)
+        → (other : ℕ) (records : List (List ℕ))
+        → Lasts (Leaves (HoldsRecords magic other records)) (D.moments disk.old) (D.moments disk.new) }
     ensures done { (magic : List ℕ) (id : ℕ) (bytes : List ℕ)
         → IsReadLog magic id head scan.now.records.items scan.now.last scan.now.end len bytes
         → IfTold (D.moments disk.old) (λ m. m ≡ settled bytes)
@@ -43,6 +49,11 @@ fn cut_behind<D: Disk>(disk: &mut D, end: u64, len: u64) -> Result<(), Failed>
     ensures passed { (front behind : List ℕ) → end ≡ length front → len ≡ length (front ++ 0 ∷ behind)
         → IfTold (D.moments disk.old) (λ m. m ≡ settled (front ++ 0 ∷ behind))
         → Goes (Leaves (KeepsFront front)) (D.moments disk.old) (D.moments disk.new) }
+    ensures lasts { (front behind : List ℕ) → end ≡ length front → len ≡ length (front ++ 0 ∷ behind)
+        → IfTold (D.moments disk.old) (λ m. m ≡ settled (front ++ 0 ∷ behind))
+        → (magic : List ℕ) (id : ℕ) (records : List (List ℕ))
+        → Spares magic id records (front ++ 0 ∷ behind) (KeepsFront front)
+        → Lasts (Leaves (HoldsRecords magic id records)) (D.moments disk.old) (D.moments disk.new) }
     ensures done { (front behind : List ℕ) → end ≡ length front → len ≡ length (front ++ 0 ∷ behind)
         → IfTold (D.moments disk.old) (λ m. m ≡ settled (front ++ 0 ∷ behind))
         → OnOk result (IfTold (D.moments disk.new) (λ m. m ≡ settled (front ++ 0 ∷ []))) }
@@ -60,6 +71,11 @@ fn open_wholly<D: Disk>(disk: &mut D, gate: Gate) -> Result<(), Failed>
     ensures passed { (front behind : List ℕ) → gate.at ≡ length front
         → IfTold (D.moments disk.old) (λ m. m ≡ settled (front ++ gate.byte ∷ behind))
         → Goes (Leaves (Reopens front gate.byte behind)) (D.moments disk.old) (D.moments disk.new) }
+    ensures lasts { (front behind : List ℕ) → gate.at ≡ length front
+        → IfTold (D.moments disk.old) (λ m. m ≡ settled (front ++ gate.byte ∷ behind))
+        → (magic : List ℕ) (id : ℕ) (records : List (List ℕ))
+        → Spares magic id records (front ++ gate.byte ∷ behind) (Reopens front gate.byte behind)
+        → Lasts (Leaves (HoldsRecords magic id records)) (D.moments disk.old) (D.moments disk.new) }
     ensures done { (front behind : List ℕ) → gate.at ≡ length front
         → IfTold (D.moments disk.old) (λ m. m ≡ settled (front ++ gate.byte ∷ behind))
         → OnOk result (IfTold (D.moments disk.new) (λ m. m ≡ settled (front ++ 1 ∷ behind))) }

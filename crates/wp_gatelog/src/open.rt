@@ -4,6 +4,7 @@ ghost use Rattle.std.specs.Prelude.{◌≡◌, ℕ, ◌+◌, ◌<◌, ◌≤◌,
 ghost use Rattle.wp_outside.specs.Disk.{IfTold, Passes, settled};
 ghost use Rattle.wp_gatelog.specs.Errors.{FaultRose};
 ghost use Rattle.wp_gatelog.specs.Heads.{BeginsLog};
+ghost use Rattle.wp_gatelog.specs.Lasting.{Lasts, HoldsRecords};
 ghost use Rattle.wp_gatelog.specs.Log.{IsAtRest};
 ghost use Rattle.wp_gatelog.specs.Moments.{Goes, Leaves};
 ghost use Rattle.wp_gatelog.specs.Opening.{IsFound, IsRefused, IsUntouched, IsOnlySynced, Mends, MendsMade};
@@ -35,6 +36,8 @@ pub fn find<D: Disk>(
     requires { length magic ≡ 4 }
     ensures passed { IfTold (D.moments disk.old) (λ m.
         Goes (Leaves (Mends magic id m.reads)) (D.moments disk.old) (D.moments disk.new)) }
+    ensures lasts { (other : ℕ) (records : List (List ℕ))
+        → Lasts (Leaves (HoldsRecords magic other records)) (D.moments disk.old) (D.moments disk.new) }
     ensures found { IfOk result (λ found. IfTold (D.moments disk.old)
         (λ m. IsFound magic id m.reads found.id found.records.items)) }
     ensures rests { IfOk result (λ found. IfTold (D.moments disk.new)
@@ -60,6 +63,9 @@ pub fn open_synced<D: Disk>(
     requires { length magic ≡ 4 }
     ensures passed { (bytes : List ℕ) → IfTold (D.moments disk.old) (λ m. m ≡ settled bytes)
         → Goes (Leaves (Mends magic id bytes)) (D.moments disk.old) (D.moments disk.new) }
+    ensures lasts { (bytes : List ℕ) → IfTold (D.moments disk.old) (λ m. m ≡ settled bytes)
+        → (other : ℕ) (records : List (List ℕ))
+        → Lasts (Leaves (HoldsRecords magic other records)) (D.moments disk.old) (D.moments disk.new) }
     ensures found { (bytes : List ℕ) → IfTold (D.moments disk.old) (λ m. m ≡ settled bytes)
         → IfOk result (λ found. IfTold (D.moments disk.old)
         (λ _. IsFound magic id bytes found.id found.records.items)) }
@@ -107,6 +113,10 @@ pub fn open_made<D: Disk>(
     ensures passed { (magic bytes : List ℕ) → BeginsLog magic id head len bytes
         → IfTold (D.moments disk.old) (λ m. m ≡ settled bytes)
         → Goes (Leaves (MendsMade magic id head bytes)) (D.moments disk.old) (D.moments disk.new) }
+    ensures lasts { (magic bytes : List ℕ) → BeginsLog magic id head len bytes
+        → IfTold (D.moments disk.old) (λ m. m ≡ settled bytes)
+        → (other : ℕ) (records : List (List ℕ))
+        → Lasts (Leaves (HoldsRecords magic other records)) (D.moments disk.old) (D.moments disk.new) }
     ensures found { (magic bytes : List ℕ) → BeginsLog magic id head len bytes
         → IfTold (D.moments disk.old) (λ m. m ≡ settled bytes)
         → IfOk result (λ scan. IfTold (D.moments disk.old) (λ _. IsFound magic id bytes id scan.records.items)) }

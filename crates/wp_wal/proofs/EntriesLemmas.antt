@@ -37,6 +37,22 @@ AreEntries-more records i here history longer lt is so_far takes =
     let piece : take (i + 1) records ≡ take i records ++ record_bytes (length history + 1) takes.entries ∷ [] = take_more records i here lt ∙ ap (λ (x : List ℕ). take i records ++ x ∷ []) (sym is ∙ takes.spelling) in
     rw (takes.behind, piece) (AreEntries-behind (take i records) history takes.entries so_far takes.is)
 
+-- ---- records that begin others
+
+-- records of different entries have different spellings
+abbrev pub SpellingsDiffer : Type 0
+SpellingsDiffer = (first : ℕ) (one other : List Entry) → IsRecord first one → IsRecord first other → record_bytes first one ≡ record_bytes first other → one ≡ other
+
+pub AreEntries-first : SpellingsDiffer → (first : ℕ) (records others : List (List ℕ)) (history longer : List Entry) → AreEntries first records history → AreEntries first (records ++ others) longer → (more : List Entry) × (longer ≡ history ++ more)
+AreEntries-first differ first [] others history longer none all = (longer, ap (λ (xs : List Entry). xs ++ longer) (sym none))
+AreEntries-first differ first (r ∷ records) others history longer (front, rest, parts, is, bytes, more) (other_front, other_rest, other_parts, other_is, other_bytes, other_more) =
+    let same : other_front ≡ front = differ first other_front front other_is is (sym other_bytes ∙ bytes) in
+    let behind = AreEntries-first differ (first + length front) records others rest other_rest more (subst (λ (xs : List Entry). AreEntries (first + length xs) (records ++ others) other_rest) same other_more) in (
+      behind.0,
+      other_parts ∙ ap (λ (xs : List Entry). xs ++ other_rest) same ∙ ap (λ (xs : List Entry). front ++ xs) behind.1 ∙ sym (append_assoc front rest behind.0)
+          ∙ ap (λ (xs : List Entry). xs ++ behind.0) (sym parts),
+    )
+
 -- ---- a record that is refused
 
 pub refused_cause : (records : List (List ℕ)) (i : ℕ) (here : List ℕ) (history : List Entry) (why : WalError) → i < length records → here ≡ get_or records i here → AreEntries 1 (take i records) history → IsRefusedRecord history i here why → IsRecordCause records why

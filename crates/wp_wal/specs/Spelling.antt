@@ -2,6 +2,7 @@
 use Rattle.std.specs.Prelude.{◌≡◌, ◌⊎◌, ℕ, ◌+◌, List, [], ◌∷◌, ◌++◌, length, codes}
 use Rattle.wp_model.specs.declared.entry.Entry.{Entry}
 use Rattle.wp_entry.specs.Record.{IsRecord, record_bytes}
+use Rattle.wp_gatelog.specs.Lasting.{HoldsRecords}
 use Rattle.wp_gatelog.specs.Spelling.{Spells}
 
 -- the first four bytes behind the head's gate
@@ -20,3 +21,7 @@ IsLogOf id history bytes = (records : List (List ℕ)) × Spells bytes MAGIC id 
 -- the bytes spell the history, or it and the next entries, whole
 abbrev pub IsLogOrNext : ℕ → List Entry → List Entry → List ℕ → Type 0
 IsLogOrNext id history next bytes = IsLogOf id history bytes ⊎ IsLogOf id (history ++ next) bytes
+
+-- The bytes begin with acknowledged records that spell the history: whatever comes behind, an opening finds it.
+abbrev pub HoldsEntries : ℕ → List Entry → List ℕ → Type 0
+HoldsEntries id history bytes = (records : List (List ℕ)) × HoldsRecords MAGIC id records bytes × AreEntries 1 records history

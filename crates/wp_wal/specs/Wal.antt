@@ -8,7 +8,7 @@ use Rattle.wp_gatelog.specs.declared.log.AppendError.{AppendError}
 use Rattle.wp_gatelog.specs.declared.log.AppendError.TheVariants.{DiskFault, Closed}
 use Rattle.wp_gatelog.specs.Log.{State as LogState, IsAtRest}
 use Rattle.wp_gatelog.specs.Moments.{Leaves}
-use Rattle.wp_wal.specs.Spelling.{MAGIC, AreEntries, IsLogOrNext}
+use Rattle.wp_wal.specs.Spelling.{MAGIC, AreEntries, IsLogOf, IsLogOrNext, HoldsEntries}
 
 -- ---- the log
 
@@ -53,6 +53,14 @@ abbrev pub HasNumbers : ℕ → Option Reserved → Type 0
 HasNumbers due None = due ≤ 2 ^ 32
 HasNumbers due (Some reserved) = due + reserved.count ≤ 2 ^ 32
 
+-- each image of the moment spells the history, and holds it
+abbrev pub LeavesHistory : ℕ → List Entry → Moment → Type 0
+LeavesHistory id history = Leaves (λ image. IsLogOf id history image × HoldsEntries id history image)
+
+-- each image of the moment spells the history, or it and the next entries, whole; and holds the history
+abbrev pub LeavesHistoryOrNext : ℕ → List Entry → List Entry → Moment → Type 0
+LeavesHistoryOrNext id history next = Leaves (λ image. IsLogOrNext id history next image × HoldsEntries id history image)
+
 -- The log keeps the history: it is at rest with records that spell it; or, once an append has failed, a crash leaves
 -- those, or those and one that spells the next entries, whole.
 pub record Keeps (wal : State) (history next : List Entry) : Type 0 where
@@ -61,7 +69,7 @@ pub record Keeps (wal : State) (history next : List Entry) : Type 0 where
   pub counted : wal.count ≡ length records
   pub numbered : wal.due ≡ length history + 1
   pub rests : wal.closed ≡ false → IfTold wal.moments (IsAtRest MAGIC wal.id wal.end records)
-  pub left : wal.closed ≡ true → IfTold wal.moments (Leaves (IsLogOrNext wal.id history next))
+  pub left : wal.closed ≡ true → IfTold wal.moments (LeavesHistoryOrNext wal.id history next)
 
 -- ---- appending
 

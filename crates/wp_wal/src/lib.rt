@@ -4,15 +4,18 @@
 //! entries may stand behind those before it. The first record that fails is named, and nothing behind it is read.
 //! `reserve` makes what the next append writes, in memory that is taken there; `append` then only calls the disk. So
 //! a store that has reserved all that a commit needs meets no want of memory once its record is in the log. At each
-//! moment a crash leaves the history, or the history and the entries of one record more, whole.
+//! moment a crash leaves the history, or the history and the entries of one record more, whole. And what each crash at
+//! one moment would leave acknowledged, each crash at a later moment leaves too, inside an opening as inside an append.
 #![tactic(auto)]
 
 mod error;
+mod laws;
 mod read;
 mod reserved;
 mod wal;
 
 pub use error::WalError;
+pub use laws::{held_history_comes_first, kept_history_is_held};
 pub use wal::Wal;
 
 #[cfg(test)]

@@ -1,16 +1,17 @@
 //! A write-ahead log that stands open.
-ghost use Rattle.std.specs.Prelude.{◌≡◌, ◌+◌, ◌≤◌, ◌++◌, List, [], Some, None, true, false, is_some, length, IfOk, IfErr, IfSome, OnOk, OnErr, MatchResult};
+ghost use Rattle.std.specs.Prelude.{◌≡◌, ℕ, ◌+◌, ◌≤◌, ◌++◌, List, [], Some, None, true, false, is_some, length, IfOk, IfErr, IfSome, OnOk, OnErr, MatchResult};
 ghost use Rattle.wp_model.specs.declared.entry.Entry.{Entry};
 ghost use Rattle.wp_model.specs.Legal.{IsLegal};
 ghost use Rattle.wp_outside.specs.Disk.{IfTold, Passes};
 ghost use Rattle.wp_outside.specs.Faults.{Rose};
 ghost use Rattle.wp_entry.specs.Record.{FormRecord, IsRecord};
+ghost use Rattle.wp_gatelog.specs.Lasting.{Lasts, HoldsRecords};
 ghost use Rattle.wp_gatelog.specs.Moments.{Leaves};
 ghost use Rattle.wp_gatelog.specs.Opening.{SurvivesThrough};
 ghost use Rattle.wp_gatelog.specs.Spelling.{IsUnmade};
-ghost use Rattle.wp_wal.specs.Spelling.{MAGIC, IsLogOf, IsLogOrNext};
-ghost use Rattle.wp_wal.specs.Opening.{IsOpenCause};
-ghost use Rattle.wp_wal.specs.Wal.{Keeps, IsReserved, Appended, Refuses, KeepsWhenRefused, reserved_of};
+ghost use Rattle.wp_wal.specs.Spelling.{MAGIC, IsLogOf, IsLogOrNext, HoldsEntries};
+ghost use Rattle.wp_wal.specs.Opening.{IsOpenCause, LeavesRecords};
+ghost use Rattle.wp_wal.specs.Wal.{Keeps, IsReserved, LeavesHistory, Appended, Refuses, KeepsWhenRefused, reserved_of};
 
 use crate::error::WalError;
 use crate::read::history_of;
@@ -63,9 +64,20 @@ impl<D: Disk> Wal<D> {
 
         ensures cause { IfErr result (λ refused. IsOpenCause (Rose (D.faults disk) (D.faults refused.disk)) (D.moments disk) refused.why) }
 
-        // A crash on the way takes nothing that an opening or an append has acknowledged.
+        // The bytes are left as they were, or the log in them mended, with all of its records.
+        ensures left { IfErr result (λ refused. LeavesRecords (D.moments disk) (D.moments refused.disk) refused.why) }
+
+        // At each moment since its beginning a crash leaves the bytes as they were found, or a log of their records; but
+        // where the head's gate was not 01 it may leave none, and where the last record's was not, all but that one.
         ensures survives { MatchResult result (λ opened. SurvivesThrough MAGIC id (D.moments disk) opened.0.moments)
             (λ refused. SurvivesThrough MAGIC id (D.moments disk) (D.moments refused.disk)) }
+
+        // What each crash at one moment would leave acknowledged, each crash at a later moment leaves too.
+        ensures lasts { MatchResult result
+            (λ opened. (other : ℕ) (records : List (List ℕ))
+            → Lasts (Leaves (HoldsRecords MAGIC other records)) (D.moments disk) opened.0.moments)
+            (λ refused. (other : ℕ) (records : List (List ℕ))
+            → Lasts (Leaves (HoldsRecords MAGIC other records)) (D.moments disk) (D.moments refused.disk)) }
         ensures later { MatchResult result (λ opened. D.faults disk ≤ opened.0.faults) (λ refused. D.faults disk ≤ D.faults refused.disk) }
     {
         let log = match GateLog::open(alloc, disk, LOG_MAGIC, id) {
@@ -121,6 +133,13 @@ impl<D: Disk> Wal<D> {
         ensures any_moment { (history entries : List Entry) → IsReserved self.old history entries
             → Passes (Leaves (IsLogOrNext self.old.id history entries)) self.old.moments self.new.moments }
 
+        // What each crash at one moment would leave acknowledged, each crash at a later moment leaves too: the history,
+        // all along.
+        ensures lasts { (history next : List Entry) → Keeps self.old history next → (other : ℕ) (records : List (List ℕ))
+            → Lasts (Leaves (HoldsRecords MAGIC other records)) self.old.moments self.new.moments }
+        ensures holds { (history entries : List Entry) → IsReserved self.old history entries
+            → Passes (Leaves (HoldsEntries self.old.id history)) self.old.moments self.new.moments }
+
         // Once it is acknowledged, a crash leaves the new entries; and after a fault still one of the two.
         ensures keeps { OnOk result ((history entries : List Entry) → IsReserved self.old history entries
             → Keeps self.new (history ++ entries) []) }
@@ -146,7 +165,7 @@ impl<D: Disk> Wal<D> {
 
         // Until an append has failed, a crash leaves the history.
         ensures left { (history next : List Entry) → Keeps self history next → self.closed ≡ false
-            → IfTold self.moments (Leaves (IsLogOf self.id history)) }
+            → IfTold self.moments (LeavesHistory self.id history) }
     {
         let Wal { log, .. } = self;
         log.into_disk()

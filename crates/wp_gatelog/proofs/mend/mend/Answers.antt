@@ -1,11 +1,15 @@
-use Rattle.std.proofs.Common.{◌∙◌, ◌∷◌, [], ◌++◌, length, refl, ap}
+use Rattle.std.proofs.Common.{◌∙◌, List, ◌∷◌, [], ◌++◌, length, refl, ap, subst}
 use Rattle.std.proofs.lemmas.Result.{on_ok_weaker}
+use Rattle.wp_outside.specs.Disk.{Each}
 use Rattle.wp_gatelog.specs.Log.{IsAtRest}
 use Rattle.wp_gatelog.specs.Mending.{Mended}
 use Rattle.wp_gatelog.specs.Moments.{Leaves}
-use Rattle.wp_gatelog.specs.Spelling.{identity, all_gated, framed, log_of}
+use Rattle.wp_gatelog.specs.Spelling.{Gated, IsOpen, identity, all_gated, framed, log_of}
 use Rattle.wp_gatelog.proofs.MendLemmas.{mended_cut, mended_head, mended_last, last_split, last_place, rests_last, rests_none}
 use Rattle.wp_gatelog.proofs.MomentLemmas.{goes_map, goes_on, told_as, told_map}
+use Rattle.wp_gatelog.specs.Lasting.{HoldsRecords}
+use Rattle.wp_gatelog.proofs.HoldsLemmas.{spares_cut, spares_head, spares_last}
+use Rattle.wp_gatelog.proofs.LastingLemmas.{lasts_on}
 use Rattle.wp_gatelog.proofs.mend.mend.Goals as goal
 
 pub returns-in_err-cut_behind-clause-passed : goal.returns-in_err-cut_behind-clause-passed
@@ -62,3 +66,39 @@ returns-in-None-clause-done g c = λ magic id bytes read told.
     let headless = (c.in_ok-cut_behind.ensures.done (log_of magic id c.args.head log.gated) log.stands.behind log.place (log.size ∙ ap length log.stands.spelling) (told_as _ _ _ log.stands.spelling told)) in
     let whole = (c.in_ok-open_wholly.ensures.done [] ((identity magic id ++ all_gated log.gated) ++ 0 ∷ []) refl headless) in
     told_map _ (IsAtRest magic id c.args.scan.now.end c.args.scan.now.records.items) (rests_none magic id c.args.head c.args.scan.now.records.items c.args.scan.now.end c.args.len bytes log) _ whole
+
+pub returns-in_err-cut_behind-clause-lasts : goal.returns-in_err-cut_behind-clause-lasts
+returns-in_err-cut_behind-clause-lasts g c = λ magic id bytes log told other records.
+    c.cut_behind.ensures.lasts (log_of magic id c.args.head log.gated) log.stands.behind log.place (log.size ∙ ap length log.stands.spelling) (told_as _ _ _ log.stands.spelling told) magic other records
+    (spares_cut magic other id c.args.head records log.gated log.stands.behind log.stands.gates_open)
+
+pub returns-in_err-open_wholly-clause-lasts : goal.returns-in_err-open_wholly-clause-lasts
+returns-in_err-open_wholly-clause-lasts g c = λ magic id bytes log told other records.
+    let cut = c.cut_behind.ensures.lasts (log_of magic id c.args.head log.gated) log.stands.behind log.place (log.size ∙ ap length log.stands.spelling) (told_as _ _ _ log.stands.spelling told) magic other records
+    (spares_cut magic other id c.args.head records log.gated log.stands.behind log.stands.gates_open) in
+    let headless = c.in_ok-cut_behind.ensures.done (log_of magic id c.args.head log.gated) log.stands.behind log.place (log.size ∙ ap length log.stands.spelling) (told_as _ _ _ log.stands.spelling told) in
+    let head = c.open_wholly.ensures.lasts [] ((identity magic id ++ all_gated log.gated) ++ 0 ∷ []) refl headless magic other records (spares_head magic other c.args.head records ((identity magic id ++ all_gated log.gated) ++ 0 ∷ [])) in
+    lasts_on (Leaves (HoldsRecords magic other records)) _ _ _ cut head
+
+pub returns-in-Some-clause-lasts : goal.returns-in-Some-clause-lasts
+returns-in-Some-clause-lasts g c = λ magic id bytes read told other records.
+    let log = rw c.in-Some.is at read in
+    let cut = c.cut_behind.ensures.lasts (log_of magic id c.args.head log.gated) log.stands.behind log.place (log.size ∙ ap length log.stands.spelling) (told_as _ _ _ log.stands.spelling told) magic other records
+    (spares_cut magic other id c.args.head records log.gated log.stands.behind log.stands.gates_open) in
+    let headless = c.in_ok-cut_behind.ensures.done (log_of magic id c.args.head log.gated) log.stands.behind log.place (log.size ∙ ap length log.stands.spelling) (told_as _ _ _ log.stands.spelling told) in
+    let head = c.open_wholly.ensures.lasts [] ((identity magic id ++ all_gated log.gated) ++ 0 ∷ []) refl headless magic other records (spares_head magic other c.args.head records ((identity magic id ++ all_gated log.gated) ++ 0 ∷ [])) in
+    let whole = c.in_ok-open_wholly.ensures.done [] ((identity magic id ++ all_gated log.gated) ++ 0 ∷ []) refl headless in
+    let last = log.last_is in
+    let split = told_as _ _ _ (last_split magic id c.args.head log.gated c.in-Some.gate last) whole in
+    let place = last_place magic id c.args.head log.gated c.in-Some.gate last log.magic_size in
+    let each = subst (λ (gs : List Gated). Each IsOpen gs) last.2 log.stands.gates_open in
+    lasts_on (Leaves (HoldsRecords magic other records)) _ _ _ (lasts_on (Leaves (HoldsRecords magic other records)) _ _ _ cut head)
+    (c.open_wholly-in-Some.ensures.lasts (log_of magic id 1 last.0) (framed last.1 ++ 0 ∷ []) place split magic other records (spares_last magic other id records last.0 c.in-Some.gate.byte last.1 each))
+
+pub returns-in-None-clause-lasts : goal.returns-in-None-clause-lasts
+returns-in-None-clause-lasts g c = λ magic id bytes log told other records.
+    let cut = c.cut_behind.ensures.lasts (log_of magic id c.args.head log.gated) log.stands.behind log.place (log.size ∙ ap length log.stands.spelling) (told_as _ _ _ log.stands.spelling told) magic other records
+    (spares_cut magic other id c.args.head records log.gated log.stands.behind log.stands.gates_open) in
+    let headless = c.in_ok-cut_behind.ensures.done (log_of magic id c.args.head log.gated) log.stands.behind log.place (log.size ∙ ap length log.stands.spelling) (told_as _ _ _ log.stands.spelling told) in
+    let head = c.open_wholly.ensures.lasts [] ((identity magic id ++ all_gated log.gated) ++ 0 ∷ []) refl headless magic other records (spares_head magic other c.args.head records ((identity magic id ++ all_gated log.gated) ++ 0 ∷ [])) in
+    lasts_on (Leaves (HoldsRecords magic other records)) _ _ _ cut head

@@ -4,7 +4,9 @@ use Rattle.wp_outside.specs.Disk.{settled, Moment}
 use Rattle.wp_gatelog.specs.Opening.{IsRefused}
 use Rattle.wp_gatelog.specs.Scanning.{IsReadFault}
 use Rattle.wp_gatelog.proofs.MomentLemmas.{told_both}
-use Rattle.wp_gatelog.proofs.OpenLemmas.{logs_found, logs_go, logs_rest, log_refused}
+use Rattle.wp_gatelog.proofs.OpenLemmas.{logs_found, logs_go, logs_last, logs_rest, log_refused}
+use Rattle.wp_gatelog.specs.Lasting.{HoldsRecords}
+use Rattle.wp_gatelog.specs.Moments.{Leaves}
 use Rattle.wp_gatelog.proofs.open.open_made.Goals as goal
 
 pub returns-in_err-mend-clause-passed : goal.returns-in_err-mend-clause-passed
@@ -30,3 +32,13 @@ returns-in_err-scan-clause-refused g c = λ magic bytes begins told.
     let Q : Moment → Type 0 = λ m. c.args.len ≡ length m.reads → IsReadFault (drop 10 m.reads) c.in_err-scan.field-0.0 in
     let R : Moment → Type 0 = λ _. IsRefused magic bytes c.in_err-scan.field-0.0 in
     rw (p.1, p.2) (told_both P Q R (log_refused magic c.args.id c.args.head c.args.len bytes begins c.in_err-scan.field-0.0) _ told c.in_err-scan.ensures.refused)
+
+pub returns-in_err-mend-clause-lasts : goal.returns-in_err-mend-clause-lasts
+returns-in_err-mend-clause-lasts g c = λ magic bytes begins told other records.
+    logs_last magic c.args.id c.args.head c.args.len bytes begins _ _ _ _ _ _ c.read_records.ensures.kept told c.in_ok-scan.ensures.found (Leaves (HoldsRecords magic other records)) c.mend.ensures.untold
+    (λ log read. c.mend.ensures.lasts magic c.args.id bytes log read other records)
+
+pub returns-clause-lasts : goal.returns-clause-lasts
+returns-clause-lasts g c = λ magic bytes begins told other records.
+    logs_last magic c.args.id c.args.head c.args.len bytes begins _ _ _ _ _ _ c.read_records.ensures.kept told c.in_ok-scan.ensures.found (Leaves (HoldsRecords magic other records)) c.mend.ensures.untold
+    (λ log read. c.mend.ensures.lasts magic c.args.id bytes log read other records)

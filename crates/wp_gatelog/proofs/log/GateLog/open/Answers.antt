@@ -1,4 +1,4 @@
-use Rattle.wp_gatelog.proofs.SurvivalLemmas.{survives_through, stays_through, rest_spells}
+use Rattle.wp_gatelog.proofs.SurvivalLemmas.{survives_through, rest_spells}
 use Rattle.wp_gatelog.proofs.log.GateLog.open.Goals as goal
 
 pub returns-in-Ok-clause-spelled : goal.returns-in-Ok-clause-spelled
@@ -7,11 +7,5 @@ returns-in-Ok-clause-spelled g c = rest_spells c.args.magic _ _ _ _ c.in-Ok.ensu
 pub returns-in-Ok-clause-any_moment : goal.returns-in-Ok-clause-any_moment
 returns-in-Ok-clause-any_moment g c = survives_through c.args.magic c.args.id _ _ c.find.ensures.passed
 
-pub returns-in-Ok-clause-kept : goal.returns-in-Ok-clause-kept
-returns-in-Ok-clause-kept g c = stays_through c.args.magic c.args.id _ _ c.find.ensures.passed
-
 pub returns-in-Err-clause-any_moment : goal.returns-in-Err-clause-any_moment
 returns-in-Err-clause-any_moment g c = survives_through c.args.magic c.args.id _ _ c.find.ensures.passed
-
-pub returns-in-Err-clause-kept : goal.returns-in-Err-clause-kept
-returns-in-Err-clause-kept g c = stays_through c.args.magic c.args.id _ _ c.find.ensures.passed

@@ -1,0 +1,192 @@
+-- The records that bytes hold, while the log in them is changed.
+use Rattle.std.proofs.Common.{◌≡◌, ◌≢◌, inl, inr, ℕ, ◌+◌, ◌<◌, List, [], ◌∷◌, ◌++◌, length, refl, sym, ◌∙◌, ap, subst, arith, length-append}
+use Rattle.std.proofs.lemmas.List.{append-nil, append_assoc, map-append}
+use Rattle.wp_outside.specs.Disk.{Moment, IsImage, IfTold, settled, after_write, Each, Passes}
+use Rattle.wp_gatelog.specs.Lasting.{Lasts, HoldsRecords, Spares}
+use Rattle.wp_gatelog.specs.Log.{IsAcknowledged, IsAtRest, last_gate}
+use Rattle.wp_gatelog.specs.Mending.{KeepsFront, Reopens}
+use Rattle.wp_gatelog.specs.Moments.{Leaves}
+use Rattle.wp_gatelog.specs.Spelling.{Gated, IsOpen, framed, identity, all_gated, log_of, records_of, IsUnmade, Spells}
+use Rattle.wp_gatelog.proofs.AppendLemmas.{AppendGoes, append_untold}
+use Rattle.wp_gatelog.proofs.LastingLemmas.{lasts_passes}
+use Rattle.wp_gatelog.proofs.MendLemmas.{keeps_more}
+use Rattle.wp_gatelog.proofs.MomentLemmas.{image_of_settled, image_behind, image_of_gate, told_map}
+use Rattle.wp_gatelog.proofs.ParseLemmas.{same_parts, same_framed, first_split, length-identities}
+
+-- ---- the front of a log
+
+all_gated_append : (front rest : List Gated) (tail : List ℕ) → all_gated (front ++ rest) ++ tail ≡ all_gated front ++ (all_gated rest ++ tail)
+all_gated_append [] rest tail = refl
+all_gated_append (g ∷ front) rest tail =
+    first_split g (front ++ rest) tail ∙ ap (λ (l : List ℕ). g.gate ∷ (framed g.bytes ++ l)) (all_gated_append front rest tail)
+    ∙ sym (first_split g front (all_gated rest ++ tail))
+
+log_append : (magic : List ℕ) (id head : ℕ) (front rest : List Gated) (tail : List ℕ) → log_of magic id head (front ++ rest) ++ tail ≡ log_of magic id head front ++ (all_gated rest ++ tail)
+log_append magic id head front rest tail =
+    ap (λ (l : List ℕ). head ∷ l) (append_assoc (identity magic id) (all_gated (front ++ rest)) tail
+    ∙ ap (λ (l : List ℕ). identity magic id ++ l) (all_gated_append front rest tail)
+    ∙ sym (append_assoc (identity magic id) (all_gated front) (all_gated rest ++ tail)))
+
+-- open gates with their records stand before a closed one
+front_gated : (gs hs : List Gated) (t u : List ℕ) → Each IsOpen gs → Each IsOpen hs → all_gated gs ++ t ≡ all_gated hs ++ 0 ∷ u → (rest : List Gated) × (hs ≡ gs ++ rest)
+front_gated [] hs t u eg eh is = (hs, refl)
+front_gated (g ∷ gs) [] t u eg eh is = absurd (eg.0.gate (cc is))
+front_gated (g ∷ gs) (h ∷ hs) t u eg eh is =
+    let both : g.gate ∷ (framed g.bytes ++ (all_gated gs ++ t)) ≡ h.gate ∷ (framed h.bytes ++ (all_gated hs ++ 0 ∷ u)) = sym (first_split g gs t) ∙ is ∙ first_split h hs (0 ∷ u) in
+    let gate : h.gate ≡ g.gate = cc in
+    let behind : framed g.bytes ++ (all_gated gs ++ t) ≡ framed h.bytes ++ (all_gated hs ++ 0 ∷ u) = cc in
+    let bytes = same_framed g.bytes h.bytes (all_gated gs ++ t) (all_gated hs ++ 0 ∷ u) eg.0.length_fits eh.0.length_fits behind in
+    let rest = front_gated gs hs t u eg.1 eh.1 bytes.1 in
+    (rest.0, λ i. record { gate = gate i; bytes = sym bytes.0 i } ∷ rest.1 i)
+
+-- ---- held records in a log
+
+-- the held records are the first of a log, and its head's gate is 01
+record IsHeld (magic : List ℕ) (id other head : ℕ) (records : List (List ℕ)) (gated : List Gated) : Type 0 where
+  held : List Gated
+  more : List (List ℕ)
+  rest : List Gated
+  acknowledged : IsAcknowledged held (records ++ more)
+  opened : head ≡ 1
+  named : identity magic other ≡ identity magic id
+  parts : gated ≡ held ++ rest
+
+is_held : (magic : List ℕ) (id other head : ℕ) (records : List (List ℕ)) (gated : List Gated) (behind : List ℕ) → Each IsOpen gated → HoldsRecords magic id records (log_of magic other head gated ++ 0 ∷ behind) → IsHeld magic id other head records gated
+is_held magic id other head records gated behind each holds =
+    let is = holds.spelling in
+    let opened : head ≡ 1 = cc in
+    let tail : (identity magic other ++ all_gated gated) ++ 0 ∷ behind ≡ (identity magic id ++ all_gated holds.gated) ++ holds.gate ∷ holds.behind = cc in
+    let split = same_parts (identity magic other) (identity magic id) (all_gated gated ++ 0 ∷ behind) (all_gated holds.gated ++ holds.gate ∷ holds.behind) (length-identities magic other id)
+    (sym (append_assoc (identity magic other) (all_gated gated) (0 ∷ behind)) ∙ tail ∙ append_assoc (identity magic id) (all_gated holds.gated) (holds.gate ∷ holds.behind)) in
+    let front = front_gated holds.gated gated (holds.gate ∷ holds.behind) behind holds.acknowledged.gates_open each (sym split.1) in
+    record { held = holds.gated; more = holds.more; rest = front.0; acknowledged = holds.acknowledged; opened = opened; named = split.0; parts = front.1 }
+
+first_byte : (front : List ℕ) (gate : ℕ) (tail : List ℕ) → (byte : ℕ) × (behind : List ℕ) × (front ++ gate ∷ tail ≡ byte ∷ behind)
+first_byte [] gate tail = (gate, tail, refl)
+first_byte (b ∷ front) gate tail = (b, front ++ gate ∷ tail, refl)
+
+-- whatever gate stands behind the log, it holds them
+still_held : (magic : List ℕ) (id other head : ℕ) (records : List (List ℕ)) (gated : List Gated) (gate : ℕ) (tail image : List ℕ) → IsHeld magic id other head records gated → image ≡ log_of magic other head gated ++ gate ∷ tail → HoldsRecords magic id records image
+still_held magic id other head records gated gate tail image held is =
+    let next = first_byte (all_gated held.rest) gate tail in
+    let log : log_of magic other head gated ++ gate ∷ tail ≡ log_of magic id 1 (held.held ++ held.rest) ++ gate ∷ tail =
+    ap (λ (gs : List Gated). log_of magic other head gs ++ gate ∷ tail) held.parts ∙ ap (λ (h : ℕ). log_of magic other h (held.held ++ held.rest) ++ gate ∷ tail) held.opened
+    ∙ ap (λ (l : List ℕ). 1 ∷ ((l ++ all_gated (held.held ++ held.rest)) ++ gate ∷ tail)) held.named in
+    record {
+      gated = held.held;
+      more = held.more;
+      acknowledged = held.acknowledged;
+      gate = next.0;
+      behind = next.1;
+      spelling = is ∙ log ∙ log_append magic id 1 held.held held.rest (gate ∷ tail) ∙ ap (λ (l : List ℕ). log_of magic id 1 held.held ++ l) next.2;
+    }
+
+-- ---- changes that spare them
+
+-- a change of the gate that ends the log and of what stands behind it
+spares_behind : (magic : List ℕ) (id other head : ℕ) (records : List (List ℕ)) (gated : List Gated) (behind : List ℕ) → Each IsOpen gated
+    → Spares magic id records (log_of magic other head gated ++ 0 ∷ behind) (λ image. (gate : ℕ) × (tail : List ℕ) × (image ≡ log_of magic other head gated ++ gate ∷ tail))
+spares_behind magic id other head records gated behind each holds image h =
+    still_held magic id other head records gated h.0 h.1 image (is_held magic id other head records gated behind each holds) h.2
+
+pub spares_cut : (magic : List ℕ) (id other head : ℕ) (records : List (List ℕ)) (gated : List Gated) (behind : List ℕ) → Each IsOpen gated
+    → Spares magic id records (log_of magic other head gated ++ 0 ∷ behind) (KeepsFront (log_of magic other head gated))
+spares_cut magic id other head records gated behind each holds image h = spares_behind magic id other head records gated behind each holds image (0, h.0, h.1)
+
+-- a write behind that gate
+pub spares_frame : (magic : List ℕ) (id other : ℕ) (records : List (List ℕ)) (gated : List Gated) (at : ℕ) (frame : List ℕ) → Each IsOpen gated → at ≡ length (log_of magic other 1 gated) + 1
+    → Spares magic id records (log_of magic other 1 gated ++ 0 ∷ []) (IsImage (after_write at frame (settled (log_of magic other 1 gated ++ 0 ∷ []))))
+spares_frame magic id other records gated at frame each place holds image h =
+    let front : List ℕ = log_of magic other 1 gated in
+    let found = image_behind (front ++ 0 ∷ []) at frame image (omega (arith, length-append front (0 ∷ []))) h in
+    spares_behind magic id other 1 records gated [] each holds image (0, found.0, found.1 ∙ append_assoc front (0 ∷ []) found.0)
+
+-- a write of that gate
+pub spares_gate : (magic : List ℕ) (id other : ℕ) (records : List (List ℕ)) (gated : List Gated) (at : ℕ) (behind : List ℕ) → Each IsOpen gated → at ≡ length (log_of magic other 1 gated)
+    → Spares magic id records (log_of magic other 1 gated ++ 0 ∷ behind) (IsImage (after_write at (1 ∷ []) (settled (log_of magic other 1 gated ++ 0 ∷ behind))))
+spares_gate magic id other records gated at behind each place holds image h =
+    let found = image_of_gate (log_of magic other 1 gated) at 0 behind image place h in
+    spares_behind magic id other 1 records gated behind each holds image (found.0, behind ++ found.1, found.2)
+
+-- where the head's gate is not 01, no records are held
+pub spares_head : (magic : List ℕ) (id head : ℕ) (records : List (List ℕ)) (behind : List ℕ) → Spares magic id records (head ∷ behind) (Reopens [] head behind)
+spares_head magic id head records behind holds image h =
+    let is = holds.spelling in
+    let opened : head ≡ 1 = cc in
+    absurd (h.0 opened)
+
+without_last : (first : ℕ) (before held rest : List Gated) (last : Gated) → last.gate ≢ 1 → last_gate first held ≡ 1 → before ++ last ∷ [] ≡ held ++ rest → (others : List Gated) × (before ≡ held ++ others)
+without_last first before [] rest last odd one is = (before, refl)
+without_last first [] (h ∷ []) rest last odd one is =
+    let same : last ≡ h = cc in
+    absurd (odd (ap (λ (g : Gated). g.gate) same ∙ one))
+without_last first [] (h ∷ k ∷ held) rest last odd one is = cc is
+without_last first (b ∷ before) (h ∷ held) rest last odd one is =
+    let same : b ≡ h = cc in
+    let behind : before ++ last ∷ [] ≡ held ++ rest = cc in
+    let others = without_last h.gate before held rest last odd one behind in
+    (others.0, λ i. same i ∷ others.1 i)
+
+-- a last record whose gate is not 01 is not held
+pub spares_last : (magic : List ℕ) (id other : ℕ) (records : List (List ℕ)) (before : List Gated) (gate : ℕ) (bytes : List ℕ) → Each IsOpen (before ++ record { gate = gate; bytes = bytes } ∷ [])
+    → Spares magic id records (log_of magic other 1 before ++ gate ∷ (framed bytes ++ 0 ∷ [])) (Reopens (log_of magic other 1 before) gate (framed bytes ++ 0 ∷ []))
+spares_last magic id other records before gate bytes each holds image h =
+    let last : Gated = record { gate = gate; bytes = bytes } in
+    let whole = keeps_more magic other 1 before gate bytes [] (log_of magic other 1 before ++ gate ∷ (framed bytes ++ 0 ∷ [])) refl in
+    let held = is_held magic id other 1 records (before ++ last ∷ []) [] each (subst (λ (l : List ℕ). HoldsRecords magic id records l) whole holds) in
+    let others = without_last 1 before held.held held.rest last h.0 held.acknowledged.last held.parts in
+    let shorter : IsHeld magic id other 1 records before = record { held = held.held; more = held.more; rest = others.0; acknowledged = held.acknowledged; opened = held.opened; named = held.named; parts = others.1 } in
+    still_held magic id other 1 records before h.1 ((framed bytes ++ 0 ∷ []) ++ h.2) image shorter h.3
+
+-- ---- bytes without a log, and a log at rest
+
+made_head : (tail bytes : List ℕ) → 0 < length tail → bytes ≡ 1 ∷ tail → IsUnmade bytes → ⊥
+made_head [] bytes some is unmade = omega arith
+made_head (b ∷ tail) bytes some is unmade = cc (subst IsUnmade is unmade)
+
+holds_made : (magic : List ℕ) (id : ℕ) (records : List (List ℕ)) (bytes : List ℕ) → HoldsRecords magic id records bytes → IsUnmade bytes → ⊥
+holds_made magic id records bytes holds =
+    made_head ((identity magic id ++ all_gated holds.gated) ++ holds.gate ∷ holds.behind) bytes (omega (arith, length-append (identity magic id ++ all_gated holds.gated) (holds.gate ∷ holds.behind))) holds.spelling
+
+-- where no log was made, no records are held
+pub spares_unmade : (magic : List ℕ) (id : ℕ) (records : List (List ℕ)) (bytes : List ℕ) (P : List ℕ → Type 0) → IsUnmade bytes → Spares magic id records bytes P
+spares_unmade magic id records bytes P unmade holds image h = absurd (holds_made magic id records bytes holds unmade)
+
+pub rest_holds : (magic : List ℕ) (id end : ℕ) (records : List (List ℕ)) (m : Moment) → IsAtRest magic id end records m → Leaves (HoldsRecords magic id records) m
+rest_holds magic id end records m rest image h = record {
+  gated = rest.gated;
+  more = [];
+  acknowledged = record { gates_open = rest.acknowledged.gates_open; last = rest.acknowledged.last; same = append-nil records ∙ rest.acknowledged.same };
+  gate = 0;
+  behind = [];
+  spelling = image_of_settled (log_of magic id 1 rest.gated ++ 0 ∷ []) image (subst (λ (n : Moment). IsImage n image) rest.settled_on h);
+}
+
+-- held records are the first of those that are spelled
+pub held_first : (bytes magic : List ℕ) (id other : ℕ) (records others : List (List ℕ)) → HoldsRecords magic id records bytes → Spells bytes magic other others → (more : List (List ℕ)) × (others ≡ records ++ more)
+held_first bytes magic id other records others holds (inl none) = absurd (holds_made magic id records bytes holds none.0)
+held_first bytes magic id other records others holds (inr w) =
+    let held = is_held magic id other w.0 records w.1 w.2.behind w.2.gates_open (subst (λ (l : List ℕ). HoldsRecords magic id records l) w.2.spelling holds) in (
+      held.more ++ records_of held.rest,
+      w.3 ∙ ap records_of held.parts ∙ map-append (λ (g : Gated). g.bytes) held.held held.rest ∙ ap (λ (rs : List (List ℕ)). rs ++ records_of held.rest) (sym held.acknowledged.same)
+          ∙ append_assoc records held.more (records_of held.rest),
+    )
+
+-- ---- an append
+
+-- how it lasts from a log at rest
+abbrev pub AppendLasts : List ℕ → ℕ → ℕ → (Moment → Type 0) → List Moment → List Moment → Type 0
+AppendLasts magic id end P old new =
+    (gated : List Gated) → Each IsOpen gated → end ≡ length (log_of magic id 1 gated) → IfTold old (λ m. m ≡ settled (log_of magic id 1 gated ++ 0 ∷ [])) → Lasts P old new
+
+pub append_lasts : (magic : List ℕ) (id other end : ℕ) (records others : List (List ℕ)) (bytes : List ℕ) (old new : List Moment) → AppendGoes end bytes old new → IfTold old (IsAtRest magic other end others)
+    → AppendLasts magic other end (Leaves (HoldsRecords magic id records)) old new → Lasts (Leaves (HoldsRecords magic id records)) old new
+append_lasts magic id other end records others bytes [] new goes rest lasts = ([], append_untold end bytes new goes, tt)
+append_lasts magic id other end records others bytes (m ∷ past) new goes rest lasts = lasts rest.gated rest.acknowledged.gates_open rest.place rest.settled_on
+
+pub append_holds : (magic : List ℕ) (id end : ℕ) (records : List (List ℕ)) (bytes : List ℕ) (old new : List Moment) → AppendGoes end bytes old new → IfTold old (IsAtRest magic id end records)
+    → AppendLasts magic id end (Leaves (HoldsRecords magic id records)) old new → Passes (Leaves (HoldsRecords magic id records)) old new
+append_holds magic id end records bytes old new goes rest lasts =
+    let P : Moment → Type 0 = Leaves (HoldsRecords magic id records) in
+    lasts_passes P old new (told_map (IsAtRest magic id end records) P (rest_holds magic id end records) old rest)
+    (append_lasts magic id id end records records bytes old new goes rest lasts)
