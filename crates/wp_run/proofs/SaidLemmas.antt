@@ -21,7 +21,6 @@ use Rattle.wp_text.specs.declared.reply.Reply.TheVariants as reply
 use Rattle.wp_run.specs.declared.client.Snapshot.{Snapshot}
 use Rattle.wp_run.specs.declared.client.Txn.{Txn}
 use Rattle.wp_run.specs.declared.client.Txn.TheVariants.{Idle, Open, Prepared}
-use Rattle.wp_run.specs.declared.client.TheConstants.{MOST_SNAPSHOTS}
 use Rattle.wp_run.specs.declared.plan.Plan.{Plan}
 use Rattle.wp_run.specs.declared.plan.Plan.TheVariants.{Say, Log, RollBack}
 use Rattle.wp_run.proofs.Found.{named_is_undecided}
@@ -93,7 +92,7 @@ snap_is_plain : (h : List Entry) (snapshots : List Snapshot) (label : List ℕ) 
 snap_is_plain h snapshots label =
     elim (cases_Bool (is_some (number_of snapshots label))) [
       | inl taken ↦ rw taken (record { none = refl; unlogged = refl; faultless = refl; running = refl; current = tt })
-      | inr new ↦ rw new (elim (cases_Bool (nat_le MOST_SNAPSHOTS (length snapshots))) [
+      | inr new ↦ rw new (elim (cases_Bool (nat_le 64 (length snapshots))) [
         | inl full ↦ rw full (record { none = refl; unlogged = refl; faultless = refl; running = refl; current = tt })
         | inr room ↦ rw room (record { none = refl; unlogged = refl; faultless = refl; running = refl; current = refl })
       ])
@@ -228,7 +227,7 @@ snap_fits : (h : List Entry) (client : Client) (label : List ℕ) → Fits h cli
 snap_fits h client label fits =
     elim (cases_Bool (is_some (number_of client.snapshots label))) [
       | inl taken ↦ rw taken fits
-      | inr new ↦ rw new (elim (cases_Bool (nat_le MOST_SNAPSHOTS (length client.snapshots))) [
+      | inr new ↦ rw new (elim (cases_Bool (nat_le 64 (length client.snapshots))) [
         | inl full ↦ rw full fits
         | inr room ↦ rw room (record {
           txn = fits.txn;

@@ -1,5 +1,5 @@
 -- From a run of all clients to how a call ends.
-use Rattle.std.proofs.Common.{◌≡◌, ℕ, zero, suc, ◌≤◌, Bool, true, false, List, [], ◌∷◌, length, Option, refl, sym, subst, ◌∙◌, inl, inr, arith}
+use Rattle.std.proofs.Common.{◌≡◌, ℕ, zero, suc, ◌≤◌, Bool, true, false, List, [], ◌∷◌, length, Option, Err, refl, sym, subst, ◌∙◌, inl, inr, arith}
 use Rattle.wp_model.specs.declared.entry.Entry.{Entry}
 use Rattle.wp_model.specs.Legal.{IsLegal}
 use Rattle.wp_outside.specs.Disk.{Moment, IfTold}
@@ -20,7 +20,9 @@ use Rattle.wp_wal.specs.Wal.{State as WalState}
 use Rattle.wp_run.specs.Kept.{IsLogOrNext, KeptBy}
 use Rattle.wp_run.specs.Transcript.{IsTranscript}
 use Rattle.wp_run.specs.Engine.{State, bit, Later, AllRun}
-use Rattle.wp_run.specs.Run.{Tells, Breaks, Serves}
+use Rattle.wp_words.specs.declared.choice.Action.{Action}
+use Rattle.wp_words.specs.declared.choice.Action.TheVariants as action
+use Rattle.wp_run.specs.Run.{Tells, Breaks, Serves, Outside, IsChosen, IsUnread, IsReadAs, Ends}
 use Rattle.wp_run.specs.Told.{IsTold, IsToldAs, HasTold, HasBroken, Finishes}
 use Rattle.wp_run.proofs.Explained.{AllRun-later, explained}
 
@@ -72,13 +74,18 @@ rose old new script text now first told running le is stopped =
     let up : Rose old.faults now = subst (λ (n : ℕ). Rose old.faults n) is (later.rose running stopped) in
     omega (arith, up)
 
+bit_few : (stopped : Bool) → bit stopped ≤ 1
+bit_few true = omega arith
+bit_few false = omega arith
+
 bit_is : (stopped : Bool) → 1 ≤ bit stopped → stopped ≡ true
 bit_is true le = refl
 bit_is false le = absurd (omega arith)
 
-breaks : (old : State) (asked : ℕ) (before after : List Moment) → IsOpened old asked before → HasBroken old after → Breaks before after
+breaks : (old : State) (asked : ℕ) (before after : List Moment) → IsOpened old asked before → HasBroken old after → Breaks asked before after
 breaks old asked before after opened broken = record {
   id = old.id;
+  made = opened.made;
   opened = old.entries;
   found = opened.found;
   history = broken.new.entries;
@@ -93,7 +100,7 @@ serves old asked script before after first now sink_rose written written_now sta
 serves old asked script before after first now sink_rose written written_now status.LogFault opened le h =
     (rose old h.new script h.text now first h.told opened.running le h.faults h.ended.0, h.text, tells old h.new script h.text asked before after true opened h.legal h.told h.kept h.ended.0, h.ended.1)
 serves old asked script before after first now sink_rose written written_now status.SinkFault opened le h =
-    (h.ended.0, bit h.new.stopped, (λ up. rose old h.new script h.text now first h.told opened.running le h.faults (bit_is h.new.stopped up)), h.text, tells old h.new script h.text asked before after h.new.stopped opened h.legal h.told h.kept refl, h.ended.1)
+    (h.ended.0, bit h.new.stopped, bit_few h.new.stopped, (λ up. rose old h.new script h.text now first h.told opened.running le h.faults (bit_is h.new.stopped up)), h.text, tells old h.new script h.text asked before after h.new.stopped opened h.legal h.told h.kept refl, h.ended.1)
 serves old asked script before after first now sink_rose written written_now status.Words opened le h = absurd h.ended
 serves old asked script before after first now sink_rose written written_now status.SourceFault opened le h = absurd h.ended
 serves old asked script before after first now sink_rose written written_now (status.Script fault) opened le h = absurd h.ended
@@ -139,3 +146,21 @@ finishes old new script text moments faults stopped sink_rose written written_no
 
 pub breaks_off : (old new : State) (moments : List Moment) → Later old new → IsLegal new.entries → IfTold moments (KeptBy (bit new.stopped) new.id new.entries) → HasBroken old moments
 breaks_off old new moments later legal kept = record { new = new; later = later; kept = kept_anyway new.id (bit new.stopped) new.entries moments legal kept }
+
+-- ---- no script
+
+unread_ends : (o : Outside) (end : Status) → IsChosen o.words action.Run → o.log_now ≡ o.log → IsUnread o.source_rose o.left o.rest end → Ends o end
+unread_ends o status.Memory chosen same why = inl same
+unread_ends o status.SourceFault chosen same why = (chosen, why)
+unread_ends o (status.Script fault) chosen same why = (chosen, why)
+unread_ends o status.Ok chosen same why = absurd why
+unread_ends o status.Words chosen same why = absurd why
+unread_ends o status.SinkFault chosen same why = absurd why
+unread_ends o status.LogFault chosen same why = absurd why
+unread_ends o (status.Contents damage) chosen same why = absurd why
+unread_ends o (status.OpenFault d) chosen same why = absurd why
+
+-- a choice whose script was not read, and whose log was not called
+pub scriptless_ends : (o : Outside) (chosen : Action) (end : Status) → IsChosen o.words chosen → o.log_now ≡ o.log → IsReadAs chosen o.source_rose o.untouched o.left o.rest (Err end) → Ends o end
+scriptless_ends o action.Run end is same why = unread_ends o end is same why
+scriptless_ends o action.Show end is same why = rw why.1 (inl same)

@@ -16,7 +16,6 @@ use Rattle.wp_text.specs.declared.reply.Reply.TheVariants as reply
 use Rattle.wp_run.specs.declared.client.Snapshot.{Snapshot}
 use Rattle.wp_run.specs.declared.client.Txn.{Txn}
 use Rattle.wp_run.specs.declared.client.Txn.TheVariants.{Idle, Open, Prepared}
-use Rattle.wp_run.specs.declared.client.TheConstants.{MOST_SNAPSHOTS}
 use Rattle.wp_run.specs.declared.plan.Plan.{Plan}
 use Rattle.wp_run.specs.declared.plan.Plan.TheVariants.{Say, Log, RollBack}
 use Rattle.wp_run.specs.Client.{Client, own_batch, number_of}
@@ -68,7 +67,7 @@ get_at_reply history (Some n) key label = read_reply (value_at history key n) n
 abbrev pub snap_reply : List Entry → List Snapshot → List ℕ → Reply
 snap_reply history snapshots label =
     if is_some (number_of snapshots label) then reply.Taken label
-    else (if nat_le MOST_SNAPSHOTS (length snapshots) then reply.TooMany else reply.Snapped (length history))
+    else (if nat_le 64 (length snapshots) then reply.TooMany else reply.Snapped (length history))
 
 abbrev pub free_reply : Option ℕ → List ℕ → Reply
 free_reply None label = reply.UnknownSnapshot label

@@ -1,5 +1,5 @@
 -- What a call of the program's top call did, by the status that it ended with.
-use Rattle.std.specs.Prelude.{◌≡◌, ◌⊎◌, ℕ, ◌≤◌, List, [], ◌++◌, Option, Result, Ok, Err}
+use Rattle.std.specs.Prelude.{◌≡◌, ◌⊎◌, ℕ, ◌+◌, ◌≤◌, ◌^◌, List, [], ◌++◌, Option, Result, Ok, Err}
 use Rattle.std.specs.Io.KnownBytes.{Appends}
 use Rattle.wp_model.specs.declared.entry.Entry.{Entry}
 use Rattle.wp_outside.specs.declared.disk.Device.TheVariants as device
@@ -16,13 +16,12 @@ use Rattle.wp_words.specs.declared.choice.Action.{Action}
 use Rattle.wp_words.specs.declared.choice.Action.TheVariants as action
 use Rattle.wp_words.specs.declared.choice.Choice.{Choice}
 use Rattle.wp_words.specs.Choice.{IsChoice, IsTaken}
-use Rattle.wp_run.specs.declared.outside.TheConstants.{MOST_TAKEN}
 use Rattle.wp_run.specs.declared.status.Status.{Status}
 use Rattle.wp_run.specs.declared.status.Status.TheVariants as status
 use Rattle.wp_wal.specs.Spelling.{MAGIC, IsLogOf}
 use Rattle.wp_run.specs.Kept.{IsLogOrNext, KeptBy}
 use Rattle.wp_run.specs.Opening.{IsDamaged}
-use Rattle.wp_run.specs.Outside.{Takes}
+use Rattle.wp_run.specs.Outside.{IsRead}
 use Rattle.wp_run.specs.Transcript.{IsTranscript}
 
 -- ---- a store
@@ -38,9 +37,11 @@ pub record Tells (limit asked faults : ℕ) (script : List Part) (before after :
   pub told : IsTranscript limit faults script opened history text
   pub kept : IfTold after (KeptBy faults id history)
 
--- The run broke off. The log was opened, and a crash leaves each entry that was acknowledged.
-pub record Breaks (before after : List Moment) : Type 0 where
+-- The run broke off. The log was opened, and a crash leaves each entry that was acknowledged. Asked is the id that a
+-- new log gets.
+pub record Breaks (asked : ℕ) (before after : List Moment) : Type 0 where
   pub id : ℕ
+  pub made : IfTold before (λ m. IsUnmade m.reads → id ≡ asked)
   pub opened : List Entry
   pub found : IfTold before (λ m. IsLogOf id opened m.reads)
   pub history : List Entry
@@ -51,8 +52,8 @@ pub record Breaks (before after : List Moment) : Type 0 where
 abbrev pub Serves : (limit asked : ℕ) → List Part → (before after : List Moment) → (log_rose sink_rose : Type 0) → (old new : Option (List ℕ)) → Status → Type 0
 Serves limit asked script before after log_rose sink_rose old new status.Ok = (text : List ℕ) × Tells limit asked 0 script before after text × Appends old new text
 Serves limit asked script before after log_rose sink_rose old new status.LogFault = log_rose × (text : List ℕ) × Tells limit asked 1 script before after text × Appends old new text
-Serves limit asked script before after log_rose sink_rose old new status.SinkFault = sink_rose × (faults : ℕ) × (1 ≤ faults → log_rose) × (text : List ℕ) × Tells limit asked faults script before after text × AppendsPrefix old new text
-Serves limit asked script before after log_rose sink_rose old new status.Memory = SurvivesThrough MAGIC asked before after ⊎ Breaks before after
+Serves limit asked script before after log_rose sink_rose old new status.SinkFault = sink_rose × (faults : ℕ) × (faults ≤ 1) × (1 ≤ faults → log_rose) × (text : List ℕ) × Tells limit asked faults script before after text × AppendsPrefix old new text
+Serves limit asked script before after log_rose sink_rose old new status.Memory = SurvivesThrough MAGIC asked before after ⊎ Breaks asked before after
 Serves limit asked script before after log_rose sink_rose old new (status.Contents damage) = SurvivesThrough MAGIC asked before after × IfTold before (λ m. IsDamaged m.reads damage)
 Serves limit asked script before after log_rose sink_rose old new (status.OpenFault device.Log) = SurvivesThrough MAGIC asked before after × log_rose
 Serves limit asked script before after log_rose sink_rose old new (status.OpenFault device.Manifest) = ⊥
@@ -87,28 +88,42 @@ IsUnopened (status.OpenFault d) = ⊥
 
 -- ---- the program
 
+-- the words choose to do this
+abbrev pub IsChosen : List (List ℕ) → Action → Type 0
+IsChosen words chosen = (choice : Choice) × IsChoice words choice × (choice.action ≡ chosen)
+
+-- how many bytes are read at most: one more than a script may have, so that a longer one is told
+abbrev pub most_read : ℕ
+most_read = 2 ^ 20 + 1
+
 -- The script that a choice runs: that which the source held; or none, where the store is only shown and the source is
 -- not called.
 abbrev pub IsScriptOf : Action → (untouched : Type 0) → (left rest : Option (List ℕ)) → List Part → Type 0
-IsScriptOf action.Run untouched left rest script = (bytes : List ℕ) × Takes MOST_TAKEN left rest bytes × IsScript bytes script
+IsScriptOf action.Run untouched left rest script = (bytes : List ℕ) × IsRead most_read left rest bytes × IsScript bytes script
 IsScriptOf action.Show untouched left rest script = untouched × (script ≡ [])
 
 -- the bytes read are no script, and this is their first fault
 abbrev pub IsOutsideGrammar : (left rest : Option (List ℕ)) → Fault → Type 0
-IsOutsideGrammar left rest fault = (bytes : List ℕ) × Takes MOST_TAKEN left rest bytes × IsFault bytes fault.line fault.why
+IsOutsideGrammar left rest fault = (bytes : List ℕ) × IsRead most_read left rest bytes × IsFault bytes fault.line fault.why
 
--- what reading the script of a choice gave
+-- why the source gave no script
+abbrev pub IsUnread : (source_rose : Type 0) → (left rest : Option (List ℕ)) → Status → Type 0
+IsUnread source_rose left rest status.Memory = Unit {0}
+IsUnread source_rose left rest status.SourceFault = source_rose
+IsUnread source_rose left rest (status.Script fault) = IsOutsideGrammar left rest fault
+IsUnread source_rose left rest status.Ok = ⊥
+IsUnread source_rose left rest status.Words = ⊥
+IsUnread source_rose left rest status.SinkFault = ⊥
+IsUnread source_rose left rest status.LogFault = ⊥
+IsUnread source_rose left rest (status.Contents damage) = ⊥
+IsUnread source_rose left rest (status.OpenFault d) = ⊥
+
+-- What reading the script of a choice gave. Where the store is only shown, nothing but memory can be wanting.
 abbrev pub IsReadAs : Action → (source_rose untouched : Type 0) → (left rest : Option (List ℕ)) → Result (List Part) Status → Type 0
-IsReadAs action source_rose untouched left rest (Ok script) = IsScriptOf action untouched left rest script
-IsReadAs action source_rose untouched left rest (Err status.Memory) = Unit {0}
-IsReadAs action source_rose untouched left rest (Err status.SourceFault) = source_rose
-IsReadAs action source_rose untouched left rest (Err (status.Script fault)) = IsOutsideGrammar left rest fault
-IsReadAs action source_rose untouched left rest (Err status.Ok) = ⊥
-IsReadAs action source_rose untouched left rest (Err status.Words) = ⊥
-IsReadAs action source_rose untouched left rest (Err status.SinkFault) = ⊥
-IsReadAs action source_rose untouched left rest (Err status.LogFault) = ⊥
-IsReadAs action source_rose untouched left rest (Err (status.Contents damage)) = ⊥
-IsReadAs action source_rose untouched left rest (Err (status.OpenFault d)) = ⊥
+IsReadAs action.Run source_rose untouched left rest (Ok script) = IsScriptOf action.Run untouched left rest script
+IsReadAs action.Run source_rose untouched left rest (Err end) = IsUnread source_rose left rest end
+IsReadAs action.Show source_rose untouched left rest (Ok script) = IsScriptOf action.Show untouched left rest script
+IsReadAs action.Show source_rose untouched left rest (Err end) = untouched × (end ≡ status.Memory)
 
 -- What a call was given and what it left, as far as its end tells of them.
 pub record Outside : Type 1 where
@@ -132,14 +147,11 @@ pub record IsServed (o : Outside) (end : Status) : Type 0 where
   pub read : IsScriptOf choice.action o.untouched o.left o.rest script
   pub served : Serves choice.limit choice.id script o.log o.log_now o.log_rose o.sink_rose o.written o.written_now end
 
--- want of memory came before the log was opened, or as its script was served
-abbrev pub IsBrokenOff : Outside → Type 0
-IsBrokenOff o = (o.log_now ≡ o.log) ⊎ ((asked : ℕ) × (SurvivesThrough MAGIC asked o.log o.log_now ⊎ Breaks o.log o.log_now))
-
--- How a call ended, why, what was written and what the log keeps.
+-- How a call ended, why, what was written and what the log keeps. Want of memory came before the log was opened, or as
+-- the script of a choice was served.
 abbrev pub Ends : Outside → Status → Type 0
 Ends o status.Words = ¬ IsTaken o.words
-Ends o status.SourceFault = IsTaken o.words × o.source_rose
-Ends o (status.Script fault) = IsTaken o.words × IsOutsideGrammar o.left o.rest fault
-Ends o status.Memory = IsBrokenOff o
+Ends o status.SourceFault = IsChosen o.words action.Run × o.source_rose
+Ends o (status.Script fault) = IsChosen o.words action.Run × IsOutsideGrammar o.left o.rest fault
+Ends o status.Memory = (o.log_now ≡ o.log) ⊎ IsServed o status.Memory
 Ends o end = IsServed o end

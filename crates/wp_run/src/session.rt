@@ -92,7 +92,8 @@ fn answer<D: Disk>(
 }
 
 /// Runs a client's commands, one after another. At its end its snapshots are gone, and so is a transaction that it has
-/// not prepared; one that it has prepared stays.
+/// not prepared; one that it has prepared stays. Where memory is wanting the session ends before its command's entry is
+/// logged: behind an entry no memory is taken until its reply stands.
 fn run_session<D: Disk>(
     alloc: Global,
     engine: &mut Engine<D>,
@@ -102,15 +103,16 @@ fn run_session<D: Disk>(
     ensures later { Later engine.old engine.new }
 {
     let mut session = Session::new(alloc);
-    let mut replies = Vec::new(alloc);
+    let mut replies = Vec::with_capacity(alloc, commands.len())?;
     for command in commands {
         let reply = answer(alloc, engine, &mut session, command)?;
-        replies.push(reply)?;
+        replies.push_reserved(reply);
     }
     Ok(replies)
 }
 
-/// Runs the clients, one after another in the script's order.
+/// Runs the clients, one after another in the script's order. A session that broke off for want of memory leaves the
+/// others to run.
 pub(crate) fn run_all<D: Disk>(
     alloc: Global,
     engine: &mut Engine<D>,
@@ -119,10 +121,16 @@ pub(crate) fn run_all<D: Disk>(
     ensures runs { IfOk result (λ sessions. AllRun engine.old parts.now (map (λ v. v.items) sessions.items) engine.new) }
     ensures later { Later engine.old engine.new }
 {
-    let mut sessions = Vec::new(alloc);
+    let mut sessions = Vec::with_capacity(alloc, parts.len())?;
+    let mut broke_off = false;
     for part in parts {
-        let replies = run_session(alloc, engine, part.commands.as_slice())?;
-        sessions.push(replies)?;
+        match run_session(alloc, engine, part.commands.as_slice()) {
+            Ok(replies) => sessions.push_reserved(replies),
+            Err(AllocError) => broke_off = true,
+        }
+    }
+    if broke_off {
+        return Err(AllocError);
     }
     Ok(sessions)
 }

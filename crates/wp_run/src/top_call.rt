@@ -1,7 +1,7 @@
 ghost use Rattle.std.specs.Prelude.{◌≡◌, ◌≤◌, map};
 ghost use Rattle.std.specs.String.{string_bytes};
 ghost use Rattle.wp_outside.specs.Faults.{Rose};
-ghost use Rattle.wp_run.specs.Run.{Outside, Ends, IsReadAs, IsSilent, IsUnopened};
+ghost use Rattle.wp_run.specs.Run.{Outside, Ends, IsChosen, IsReadAs, IsSilent, IsUnopened};
 
 use crate::outside::{ReadError, read_all};
 use crate::serve::{Served, serve};
@@ -11,7 +11,7 @@ use std::sync::Wait;
 use std::thread::Threads;
 use wp_outside::{Disk, Disks, Gate, Sink, Source};
 use wp_text::{Script, ScriptError, read_script};
-use wp_words::{Action, choice_of};
+use wp_words::{Action, choice_of, words_choose_once};
 
 /// How a call ended, and the devices that it was handed.
 #[derive(Drop)]
@@ -74,6 +74,7 @@ pub fn run<R: Threads + Wait + Sync, D: Disk + Send, S: Source, K: Sink, G: Gate
     }) result.status }
     ensures silent { IsSilent result.status → sink.new ≡ sink.old }
     ensures unread { result.status ≡ Status.Words → source.new ≡ source.old }
+    ensures shown { IsChosen (map string_bytes words.now) Action.Show → source.new ≡ source.old }
     ensures unopened { IsUnopened result.status → result.disks ≡ disks }
     ensures manifest { result.disks.manifest ≡ disks.manifest }
     ensures tables { result.disks.tables ≡ disks.tables }
@@ -81,6 +82,7 @@ pub fn run<R: Threads + Wait + Sync, D: Disk + Send, S: Source, K: Sink, G: Gate
     ensures sink_later { K.faults sink.old ≤ K.faults sink.new }
     ensures log_later { D.faults disks.log ≤ D.faults result.disks.log }
 {
+    words_choose_once();
     let choice = match choice_of(alloc, words) {
         Ok(Some(choice)) => choice,
         Ok(None) => {
