@@ -6,12 +6,12 @@ use Rattle.wp_model.specs.declared.entry.Entry.TheVariants as entry
 use Rattle.wp_model.specs.Legal.{IsLegal, IsLegalBehind, undone_last}
 use Rattle.wp_outside.specs.Disk.{Moment, IfTold}
 use Rattle.wp_entry.specs.Record.{FormRecord, IsRecord, record_bytes}
-use Rattle.wp_gatelog.specs.Moments.{Leaves}
-use Rattle.wp_wal.specs.Spelling.{AreEntries, IsLogOf, IsLogOrNext}
-use Rattle.wp_wal.specs.Wal.{Reserved, State as WalState, reserved_of, Keeps, IsReserved}
+use Rattle.wp_wal.specs.Spelling.{AreEntries, IsLogOrNext}
+use Rattle.wp_wal.specs.Wal.{Reserved, State as WalState, reserved_of, LeavesHistory, LeavesHistoryOrNext, Keeps, IsReserved}
 use Rattle.wp_run.specs.Engine.{bit}
-use Rattle.wp_run.specs.Kept.{IsLogOrNext as IsOurLogOrNext, KeptBy, AreLegalBehind, AreNext, IsWhole}
+use Rattle.wp_run.specs.Kept.{IsLogOrNext as IsOurLogOrNext, KeptBy, LosesNothing, AreLegalBehind, AreNext, IsWhole}
 use Rattle.wp_run.proofs.PlanLemmas.{LastIs}
+use Rattle.wp_run.proofs.StepLemmas.{false_is_true}
 
 -- ---- what records spell ends closed
 
@@ -57,22 +57,48 @@ legal_behind grows history (e ∷ entries) legal behind few =
 keeps_reserved : (wal : WalState) (entries : List Entry) (reserved : Option Reserved) → Keeps wal entries [] → Keeps (record wal { reserved = reserved }) entries []
 keeps_reserved wal entries reserved keeps = record { records = keeps.records; spelled = keeps.spelled; counted = keeps.counted; numbered = keeps.numbered; rests = keeps.rests; left = keeps.left }
 
--- the log failed as it took the entries
-pub whole_failed : ((history : List Entry) (e : Entry) → IsLegal history → IsLegalBehind history e → length history + 1 < 2 ^ 32 → IsLegal (history ++ e ∷ []))
-    → (old ready new : WalState) (entries added : List Entry) (stopped : Bool) (limit : ℕ) → IsWhole old entries stopped limit → stopped ≡ false → IsLegal entries → AreNext entries added → length entries + length added ≤ limit
-    → ready ≡ record old { reserved = Some (reserved_of old.due added) } → IsRecord old.due added
-    → ((history next : List Entry) → IsReserved ready history next → Keeps new history next) → new.closed ≡ true → IsWhole new entries true limit
-whole_failed grows old ready new entries added stopped limit whole running legal next fits is record_is left closed =
+-- the record of the entries stands reserved
+pub ready_for : (old ready : WalState) (entries added : List Entry) (stopped : Bool) (limit : ℕ) → IsWhole old entries stopped limit → stopped ≡ false
+    → ready ≡ record old { reserved = Some (reserved_of old.due added) } → IsRecord old.due added → IsReserved ready entries added
+ready_for old ready entries added stopped limit whole running is record_is =
     let kept : Keeps old entries [] = subst (λ (xs : List Entry). Keeps old entries xs) (whole.none running) whole.keeps in
     let reserved : IsReserved (record old { reserved = Some (reserved_of old.due added) }) entries added =
     record { keeps = keeps_reserved old entries (Some (reserved_of old.due added)) kept; running = whole.state ∙ running; is = record_is; reserved = refl } in
+    subst (λ (w : WalState). IsReserved w entries added) (sym is) reserved
+
+-- to reserve a record is nothing to the disk
+pub lasting_from : (old ready : WalState) (new : List Moment) (reserved : Option Reserved) → ready ≡ record old { reserved = reserved } → LosesNothing ready.moments new → LosesNothing old.moments new
+lasting_from old ready new reserved is lasting = subst (λ (w : WalState). LosesNothing w.moments new) is lasting
+
+-- the log took the entries
+pub whole_taken : ((history : List Entry) (e : Entry) → IsLegal history → IsLegalBehind history e → length history + 1 < 2 ^ 32 → IsLegal (history ++ e ∷ []))
+    → (new : WalState) (entries added : List Entry) (stopped : Bool) (limit : ℕ) → stopped ≡ false → IsLegal entries → AreNext entries added → length entries + length added ≤ limit → limit < 2 ^ 32
+    → Keeps new (entries ++ added) [] → new.closed ≡ false → IsWhole new (entries ++ added) stopped limit
+whole_taken grows new entries added stopped limit running legal next fits small keeps runs =
+    let few : length entries + length added < 2 ^ 32 = omega (arith, fits, small) in
+    record {
+      failed = [];
+      keeps = keeps;
+      legal = subst IsLegal (sym (append-nil (entries ++ added))) (legal_behind grows entries added legal next.legal few);
+      none = λ e. refl;
+      whole = λ e. false_is_true stopped running e;
+      state = runs ∙ sym running;
+      closed = next.closed;
+      numbers = small;
+    }
+
+-- the log failed as it took the entries
+pub whole_failed : ((history : List Entry) (e : Entry) → IsLegal history → IsLegalBehind history e → length history + 1 < 2 ^ 32 → IsLegal (history ++ e ∷ []))
+    → (old new : WalState) (entries added : List Entry) (stopped : Bool) (limit : ℕ) → IsWhole old entries stopped limit → stopped ≡ false → IsLegal entries → AreNext entries added → length entries + length added ≤ limit
+    → IsRecord old.due added → Keeps new entries added → new.closed ≡ true → IsWhole new entries true limit
+whole_failed grows old new entries added stopped limit whole running legal next fits record_is keeps closed =
     let few : length entries + length added < 2 ^ 32 = omega (arith, fits, whole.numbers) in
     record {
       failed = added;
-      keeps = left entries added (subst (λ (w : WalState). IsReserved w entries added) (sym is) reserved);
+      keeps = keeps;
       legal = legal_behind grows entries added legal next.legal few;
       none = λ e. absurd cc;
-      whole = λ e. subst (λ (n : ℕ). IsRecord n added) kept.numbered record_is;
+      whole = λ e. subst (λ (n : ℕ). IsRecord n added) whole.keeps.numbered record_is;
       state = closed;
       closed = whole.closed;
       numbers = whole.numbers;
@@ -86,16 +112,16 @@ or_next id entries failed image legal longer is spelled = elim spelled [
   | inr after ↦ (entries ++ failed, inr (failed, is, refl), longer, after)
 ]
 
-left_failed : (id : ℕ) (entries failed : List Entry) (moments : List Moment) → IsLegal entries → IsLegal (entries ++ failed) → IsRecord (length entries + 1) failed → IfTold moments (Leaves (IsLogOrNext id entries failed)) → IfTold moments (Leaves (IsOurLogOrNext id entries))
-left_failed id entries failed [] legal longer is left = tt
-left_failed id entries failed (m ∷ past) legal longer is left = λ image at. or_next id entries failed image legal longer is (left image at)
+kept_running : (id : ℕ) (entries : List Entry) (moments : List Moment) → IfTold moments (LeavesHistory id entries) → IfTold moments (KeptBy 0 id entries)
+kept_running id entries [] left = tt
+kept_running id entries (m ∷ past) left = left
 
-kept_told : (id faults : ℕ) (entries : List Entry) (P : List ℕ → Type 0) (moments : List Moment) → ((m : Moment) → Leaves P m → KeptBy faults id entries m) → IfTold moments (Leaves P) → IfTold moments (KeptBy faults id entries)
-kept_told id faults entries P [] turn left = tt
-kept_told id faults entries P (m ∷ past) turn left = turn m left
+kept_failed : (id : ℕ) (entries failed : List Entry) (moments : List Moment) → IsLegal entries → IsLegal (entries ++ failed) → IsRecord (length entries + 1) failed → IfTold moments (LeavesHistoryOrNext id entries failed) → IfTold moments (KeptBy 1 id entries)
+kept_failed id entries failed [] legal longer is left = tt
+kept_failed id entries failed (m ∷ past) legal longer is left = λ image at. (or_next id entries failed image legal longer is (left image at).0, (left image at).1)
 
 pub whole_keeps : (wal : WalState) (entries : List Entry) (stopped : Bool) (limit : ℕ) → IsWhole wal entries stopped limit → IsLegal entries
-    → ((history next : List Entry) → Keeps wal history next → wal.closed ≡ false → IfTold wal.moments (Leaves (IsLogOf wal.id history)))
+    → ((history next : List Entry) → Keeps wal history next → wal.closed ≡ false → IfTold wal.moments (LeavesHistory wal.id history))
     → IfTold wal.moments (KeptBy (bit stopped) wal.id entries)
-whole_keeps wal entries false limit whole legal left = kept_told wal.id 0 entries (IsLogOf wal.id entries) wal.moments (λ m l. l) (left entries whole.failed whole.keeps whole.state)
-whole_keeps wal entries true limit whole legal left = kept_told wal.id 1 entries (IsOurLogOrNext wal.id entries) wal.moments (λ m l. l) (left_failed wal.id entries whole.failed wal.moments legal whole.legal (whole.whole refl) (whole.keeps.left whole.state))
+whole_keeps wal entries false limit whole legal left = kept_running wal.id entries wal.moments (left entries whole.failed whole.keeps whole.state)
+whole_keeps wal entries true limit whole legal left = kept_failed wal.id entries whole.failed wal.moments legal whole.legal (whole.whole refl) (whole.keeps.left whole.state)

@@ -3,13 +3,37 @@ use Rattle.std.proofs.Common.{◌≡◌, ℕ, ◌+◌, ◌<◌, ◌≤◌, Bool,
 use Rattle.std.proofs.lemmas.Bool.{cases_Bool}
 use Rattle.std.proofs.lemmas.List.{append-nil}
 use Rattle.wp_model.specs.declared.entry.Entry.{Entry}
+use Rattle.wp_outside.specs.Disk.{Moment, IfTold}
 use Rattle.wp_outside.specs.Faults.{Rose}
+use Rattle.wp_gatelog.specs.Lasting.{HoldsRecords, Lasts, PassedOn}
+use Rattle.wp_gatelog.specs.Moments.{Leaves}
 use Rattle.wp_text.specs.declared.script.Command.{Command}
 use Rattle.wp_text.specs.declared.reply.Reply.{Reply}
 use Rattle.wp_run.specs.Client.{Client}
 use Rattle.wp_run.specs.Due.{added, is_fault}
+use Rattle.wp_wal.specs.Spelling.{MAGIC}
 use Rattle.wp_run.specs.Engine.{State, store_of, Later, Steps}
+use Rattle.wp_run.specs.Kept.{LosesNothing}
 use Rattle.wp_run.proofs.StepLemmas.{false_is_true}
+
+-- ---- what lasts
+
+pub lasting_same : (ms : List Moment) → LosesNothing ms ms
+lasting_same ms = λ id records. ([], refl, tt)
+
+passed_on : (P : Moment → Type 0) (old more later : List Moment) → PassedOn P old more → PassedOn P (more ++ old) later → PassedOn P old (later ++ more)
+passed_on P old more [] first rest = first
+passed_on P old more (m ∷ later) first rest =
+    ((λ told. rest.0 (subst (λ (xs : List Moment). IfTold xs P) (append_assoc later more old) told)), passed_on P old more later first rest.1)
+
+lasts_on : (P : Moment → Type 0) (old mid new : List Moment) → Lasts P old mid → Lasts P mid new → Lasts P old new
+lasts_on P old mid new (more, is, first) (later, new_is, rest) =
+    (later ++ more, new_is ∙ ap (λ (xs : List Moment). later ++ xs) is ∙ sym (append_assoc later more old), passed_on P old more later first (subst (λ (xs : List Moment). PassedOn P xs later) is rest))
+
+pub lasting_trans : (old mid new : List Moment) → LosesNothing old mid → LosesNothing mid new → LosesNothing old new
+lasting_trans old mid new a b = λ id records. lasts_on (Leaves (HoldsRecords MAGIC id records)) old mid new (a id records) (b id records)
+
+-- ---- the store
 
 pub Later-same : (s : State) → Later s s
 Later-same s = record {
@@ -20,6 +44,7 @@ Later-same s = record {
   counted = omega arith;
   limited = refl;
   named = refl;
+  lasting = lasting_same s.moments;
 }
 
 pub Later-equal : (old new : State) → new ≡ old → Later old new
@@ -51,6 +76,7 @@ Later-trans old mid new a b = record {
   counted = omega (arith, a.counted, b.counted);
   limited = b.limited ∙ a.limited;
   named = b.named ∙ a.named;
+  lasting = lasting_trans old.moments mid.moments new.moments a.lasting b.lasting;
 }
 
 still_stopped : (fault before now : Bool) → now ≡ (if fault then true else before) → before ≡ true → now ≡ true
@@ -70,4 +96,5 @@ Steps-later old new was now c answer step = record {
   counted = step.counted;
   limited = step.limited;
   named = step.named;
+  lasting = step.lasting;
 }

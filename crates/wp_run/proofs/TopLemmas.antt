@@ -4,7 +4,6 @@ use Rattle.wp_model.specs.declared.entry.Entry.{Entry}
 use Rattle.wp_model.specs.Legal.{IsLegal}
 use Rattle.wp_outside.specs.Disk.{Moment, IfTold}
 use Rattle.wp_outside.specs.Faults.{Rose}
-use Rattle.wp_gatelog.specs.Moments.{Leaves}
 use Rattle.wp_gatelog.specs.Spelling.{IsUnmade}
 use Rattle.wp_text.specs.declared.reply.Reply.{Reply}
 use Rattle.wp_text.specs.declared.script.Part.{Part}
@@ -14,10 +13,10 @@ use Rattle.wp_run.specs.declared.opening.OpenError.{OpenError}
 use Rattle.wp_run.specs.declared.opening.OpenError.TheVariants as open_error
 use Rattle.wp_outside.specs.declared.disk.Device.TheVariants as device
 use Rattle.wp_gatelog.specs.Opening.{SurvivesThrough}
-use Rattle.wp_run.specs.Opening.{IsOpenCause, IsStatusOf}
+use Rattle.wp_run.specs.Opening.{IsOpenCause, IsLeftWhere, IsStatusOf}
 use Rattle.wp_wal.specs.Spelling.{MAGIC, IsLogOf}
 use Rattle.wp_wal.specs.Wal.{State as WalState}
-use Rattle.wp_run.specs.Kept.{IsLogOrNext, KeptBy}
+use Rattle.wp_run.specs.Kept.{KeptBy}
 use Rattle.wp_run.specs.Transcript.{IsTranscript}
 use Rattle.wp_run.specs.Engine.{State, bit, Later, AllRun}
 use Rattle.wp_words.specs.declared.choice.Action.{Action}
@@ -35,11 +34,11 @@ AllRun-length old new (p ∷ parts) (a ∷ sessions) (mid, run, rest) = omega (a
 
 -- ---- what the log keeps
 
-or_next : (id faults : ℕ) (entries : List Entry) (m : Moment) → IsLegal entries → KeptBy faults id entries m → Leaves (IsLogOrNext id entries) m
-or_next id zero entries m legal kept = λ image is. (entries, inl refl, legal, kept image is)
+or_next : (id faults : ℕ) (entries : List Entry) (m : Moment) → IsLegal entries → KeptBy faults id entries m → KeptBy 1 id entries m
+or_next id zero entries m legal kept = λ image is. ((entries, inl refl, legal, (kept image is).0), (kept image is).1)
 or_next id (suc faults) entries m legal kept = kept
 
-kept_anyway : (id faults : ℕ) (entries : List Entry) (moments : List Moment) → IsLegal entries → IfTold moments (KeptBy faults id entries) → IfTold moments (Leaves (IsLogOrNext id entries))
+kept_anyway : (id faults : ℕ) (entries : List Entry) (moments : List Moment) → IsLegal entries → IfTold moments (KeptBy faults id entries) → IfTold moments (KeptBy 1 id entries)
 kept_anyway id faults entries [] legal kept = tt
 kept_anyway id faults entries (m ∷ past) legal kept = or_next id faults entries m legal kept
 
@@ -90,7 +89,7 @@ breaks old asked before after opened broken = record {
   found = opened.found;
   history = broken.new.entries;
   begins = broken.later.grows;
-  kept = subst (λ (n : ℕ). IfTold after (Leaves (IsLogOrNext n broken.new.entries))) broken.later.named broken.kept;
+  kept = subst (λ (n : ℕ). IfTold after (KeptBy 1 n broken.new.entries)) broken.later.named broken.kept;
 }
 
 pub serves : (old : State) (asked : ℕ) (script : List Part) (before after : List Moment) (first now : ℕ) (sink_rose : Type 0) (written written_now : Option (List ℕ)) (end : Status) → IsOpened old asked before → first ≤ old.faults → Finishes old script after now sink_rose written written_now end → Serves old.limit asked script before after (Rose first now) sink_rose written written_now end
@@ -108,21 +107,21 @@ serves old asked script before after first now sink_rose written written_now (st
 serves old asked script before after first now sink_rose written written_now (status.OpenFault d) opened le h = absurd h.ended
 
 pub serves_opened : (state : State) (limit asked : ℕ) (wal : WalState) (entries : List Entry) (script : List Part) (before after : List Moment) (first now : ℕ) (sink_rose : Type 0) (written written_now : Option (List ℕ)) (end : Status)
-    → state ≡ record { entries = entries; stopped = false; limit = limit; id = wal.id; faults = wal.faults }
+    → state ≡ record { entries = entries; stopped = false; limit = limit; id = wal.id; faults = wal.faults; moments = wal.moments }
     → IfTold before (λ m. IsLogOf wal.id entries m.reads) → IfTold before (λ m. IsUnmade m.reads → wal.id ≡ asked) → first ≤ wal.faults
     → Finishes state script after now sink_rose written written_now end → Serves limit asked script before after (Rose first now) sink_rose written written_now end
 serves_opened state limit asked wal entries script before after first now sink_rose written written_now end is found made le h =
-    let opened : State = record { entries = entries; stopped = false; limit = limit; id = wal.id; faults = wal.faults } in
+    let opened : State = record { entries = entries; stopped = false; limit = limit; id = wal.id; faults = wal.faults; moments = wal.moments } in
     serves opened asked script before after first now sink_rose written written_now end (record { running = refl; found = found; made = made }) le
     (subst (λ (s : State). Finishes s script after now sink_rose written written_now end) is h)
 
 pub serves_refused : (why : OpenError) (end : Status) (limit asked : ℕ) (script : List Part) (before after : List Moment) (log_rose sink_rose : Type 0) (written written_now : Option (List ℕ))
-    → IsStatusOf why end → IsOpenCause log_rose before why → SurvivesThrough MAGIC asked before after → Serves limit asked script before after log_rose sink_rose written written_now end
-serves_refused open_error.Memory end limit asked script before after log_rose sink_rose written written_now is cause survives = rw is (inl survives)
-serves_refused (open_error.OpenFault device.Log) end limit asked script before after log_rose sink_rose written written_now is cause survives = rw is (survives, cause)
-serves_refused (open_error.OpenFault device.Manifest) end limit asked script before after log_rose sink_rose written written_now is cause survives = absurd cause
-serves_refused (open_error.OpenFault device.Tables) end limit asked script before after log_rose sink_rose written written_now is cause survives = absurd cause
-serves_refused (open_error.Contents damage) end limit asked script before after log_rose sink_rose written written_now is cause survives = rw is (survives, cause)
+    → IsStatusOf why end → IsOpenCause log_rose before why → SurvivesThrough MAGIC asked before after → IsLeftWhere before after why → Serves limit asked script before after log_rose sink_rose written written_now end
+serves_refused open_error.Memory end limit asked script before after log_rose sink_rose written written_now is cause survives left = rw is (inl survives)
+serves_refused (open_error.OpenFault device.Log) end limit asked script before after log_rose sink_rose written written_now is cause survives left = rw is (survives, cause)
+serves_refused (open_error.OpenFault device.Manifest) end limit asked script before after log_rose sink_rose written written_now is cause survives left = absurd cause
+serves_refused (open_error.OpenFault device.Tables) end limit asked script before after log_rose sink_rose written written_now is cause survives left = absurd cause
+serves_refused (open_error.Contents damage) end limit asked script before after log_rose sink_rose written written_now is cause survives left = rw is (survives, cause, left)
 
 -- ---- what an open store did
 

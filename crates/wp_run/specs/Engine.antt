@@ -5,9 +5,11 @@ use Rattle.wp_model.specs.declared.entry.Entry.{Entry}
 use Rattle.wp_text.specs.declared.script.Command.{Command}
 use Rattle.wp_text.specs.declared.script.Part.{Part}
 use Rattle.wp_text.specs.declared.reply.Reply.{Reply}
+use Rattle.wp_outside.specs.Disk.{Moment}
 use Rattle.wp_outside.specs.Faults.{Rose}
 use Rattle.wp_run.specs.Client.{Client, new_client}
 use Rattle.wp_run.specs.Due.{Store, IsReply, acknowledged, added, is_fault, client_after}
+use Rattle.wp_run.specs.Kept.{LosesNothing}
 use Rattle.wp_run.specs.Session.{fresh_in, is_stopped}
 
 pub record State : Type 0 where
@@ -16,6 +18,7 @@ pub record State : Type 0 where
   pub limit : ℕ  -- the greatest number of an entry
   pub id : ℕ  -- the store's
   pub faults : ℕ  -- how often the log's device has failed
+  pub moments : List Moment  -- the log's device's
 
 abbrev pub bit : Bool → ℕ
 bit false = 0
@@ -33,6 +36,7 @@ pub record Later (old new : State) : Type 0 where
   pub counted : old.faults ≤ new.faults
   pub limited : new.limit ≡ old.limit
   pub named : new.id ≡ old.id
+  pub lasting : LosesNothing old.moments new.moments
 
 -- a command's step from one state to the next, and its reply
 pub record Steps (old : State) (was : Client) (command : Command) (answer : Reply) (new : State) (now : Client) : Type 0 where
@@ -44,6 +48,7 @@ pub record Steps (old : State) (was : Client) (command : Command) (answer : Repl
   pub counted : old.faults ≤ new.faults
   pub limited : new.limit ≡ old.limit
   pub named : new.id ≡ old.id
+  pub lasting : LosesNothing old.moments new.moments
   -- the numbers in the reply
   pub numbers : acknowledged answer ≡ range_with_len (length old.entries + 1) (length (added (store_of old) was command answer))
   pub fresh : IfSome (fresh_in command answer) (λ n. (length old.entries ≤ n) × (n ≤ length new.entries))

@@ -4,9 +4,10 @@ use Rattle.wp_model.specs.declared.entry.Entry.{Entry}
 use Rattle.wp_model.specs.Legal.{IsLegal, IsLegalBehind, undone_last}
 use Rattle.wp_outside.specs.Disk.{Moment}
 use Rattle.wp_entry.specs.Record.{FormRecord, IsRecord}
+use Rattle.wp_gatelog.specs.Lasting.{HoldsRecords, Lasts}
 use Rattle.wp_gatelog.specs.Moments.{Leaves}
-use Rattle.wp_wal.specs.Spelling.{IsLogOf}
-use Rattle.wp_wal.specs.Wal.{State, Keeps}
+use Rattle.wp_wal.specs.Spelling.{MAGIC, IsLogOf, HoldsEntries}
+use Rattle.wp_wal.specs.Wal.{State, LeavesHistory, Keeps}
 
 -- ---- the log of a history
 
@@ -18,10 +19,15 @@ IsOrNext history longer = (longer ≡ history) ⊎ ((next : List Entry) × IsRec
 abbrev pub IsLogOrNext : ℕ → List Entry → List ℕ → Type 0
 IsLogOrNext id history bytes = (longer : List Entry) × IsOrNext history longer × IsLegal longer × IsLogOf id longer bytes
 
--- What a crash leaves of the log: the history; or, once the log has failed, it or it and one record more, whole.
+-- What a crash leaves of the log: the history; or, once the log has failed, it or it and one record more, whole. The
+-- records of the history stand there acknowledged.
 abbrev pub KeptBy : ℕ → ℕ → List Entry → Moment → Type 0
-KeptBy zero id history m = Leaves (IsLogOf id history) m
-KeptBy (suc faults) id history m = Leaves (IsLogOrNext id history) m
+KeptBy zero id history m = LeavesHistory id history m
+KeptBy (suc faults) id history m = Leaves (λ image. IsLogOrNext id history image × HoldsEntries id history image) m
+
+-- Records that each crash at one moment would leave acknowledged, each crash at a later moment leaves so too.
+abbrev pub LosesNothing : List Moment → List Moment → Type 0
+LosesNothing before after = (id : ℕ) (records : List (List ℕ)) → Lasts (Leaves (HoldsRecords MAGIC id records)) before after
 
 -- ---- the next record
 

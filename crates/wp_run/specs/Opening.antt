@@ -1,11 +1,11 @@
 -- Why a store is not opened.
 use Rattle.std.specs.Prelude.{◌≡◌, List, ℕ}
 use Rattle.wp_outside.specs.declared.disk.Device.TheVariants as device
-use Rattle.wp_outside.specs.Disk.{Moment, IfTold}
+use Rattle.wp_outside.specs.Disk.{Moment, IfTold, added, after_sync}
 use Rattle.wp_gatelog.specs.Damage.{IsBadHead}
 use Rattle.wp_wal.specs.declared.error.WalError.{WalError}
 use Rattle.wp_wal.specs.declared.error.WalError.TheVariants as wal_error
-use Rattle.wp_wal.specs.Opening.{IsBadLog, IsIllegalLog}
+use Rattle.wp_wal.specs.Opening.{IsBadLog, IsIllegalLog, IsSyncedOrAtRest, IsLeftAtRest}
 use Rattle.wp_wal.specs.Spelling.{MAGIC}
 use Rattle.wp_run.specs.declared.opening.Bad.{Bad}
 use Rattle.wp_run.specs.declared.opening.Bad.TheVariants as bad
@@ -21,6 +21,19 @@ IsDamaged bytes (bad.BadHead device.Manifest) = ⊥
 IsDamaged bytes (bad.BadHead device.Tables) = ⊥
 IsDamaged bytes (bad.BadRecord index why) = IsBadLog bytes index why
 IsDamaged bytes (bad.Illegal number) = IsIllegalLog bytes number
+
+-- What the refusal of a log that is damaged so leaves of it: its bytes as they were, or, where its records were read,
+-- the log at rest with these.
+abbrev pub IsLeftBy : List Moment → List Moment → Bad → Type 0
+IsLeftBy before after (bad.BadHead d) = after ≡ added after_sync before
+IsLeftBy before after (bad.BadRecord index why) = IsSyncedOrAtRest before after
+IsLeftBy before after (bad.Illegal number) = IsLeftAtRest before after
+
+-- the same of a log that was not opened
+abbrev pub IsLeftWhere : List Moment → List Moment → OpenError → Type 0
+IsLeftWhere before after open_error.Memory = Unit {0}
+IsLeftWhere before after (open_error.OpenFault d) = Unit {0}
+IsLeftWhere before after (open_error.Contents damage) = IsLeftBy before after damage
 
 -- Why the log was not opened: its count of faults rose, or where it tells its bytes they are damaged. Want of memory
 -- needs no cause.

@@ -4,13 +4,12 @@ use Rattle.std.specs.Io.KnownBytes.{Appends}
 use Rattle.wp_model.specs.Legal.{IsLegal}
 use Rattle.wp_outside.specs.Disk.{Moment, IfTold}
 use Rattle.wp_outside.specs.Sink.{AppendsPrefix}
-use Rattle.wp_gatelog.specs.Moments.{Leaves}
 use Rattle.wp_text.specs.declared.reply.Reply.{Reply}
 use Rattle.wp_text.specs.declared.script.Part.{Part}
 use Rattle.wp_run.specs.declared.status.Status.{Status}
 use Rattle.wp_run.specs.declared.status.Status.TheVariants as status
 use Rattle.wp_run.specs.Engine.{State, bit, Later, AllRun}
-use Rattle.wp_run.specs.Kept.{IsLogOrNext, KeptBy}
+use Rattle.wp_run.specs.Kept.{KeptBy}
 use Rattle.wp_run.specs.Transcript.{text_of}
 
 -- the text of the replies that the clients are given from the one state to the other
@@ -43,7 +42,7 @@ pub record HasTold (old : State) (script : List Part) (log : List Moment) (log_f
 pub record HasBroken (old : State) (log : List Moment) : Type 0 where
   pub new : State
   pub later : Later old new
-  pub kept : IfTold log (Leaves (IsLogOrNext new.id new.entries))
+  pub kept : IfTold log (KeptBy 1 new.id new.entries)
 
 -- how a store that stands open answered a script
 abbrev pub Finishes : State → List Part → List Moment → (log_faults : ℕ) → (sink_rose : Type 0) → (written written_now : Option (List ℕ)) → Status → Type 0

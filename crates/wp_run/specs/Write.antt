@@ -10,21 +10,24 @@ use Rattle.wp_run.specs.declared.engine.WriteError.TheVariants.{Memory, NumbersF
 use Rattle.wp_run.specs.Client.{Client}
 use Rattle.wp_run.specs.Due.{settled}
 use Rattle.wp_run.specs.Engine.{State}
+use Rattle.wp_run.specs.Kept.{LosesNothing}
 
 -- the entries stand in the history
 pub record Takes (old new : State) (entries : List Entry) : Type 0 where
   pub running : old.stopped ≡ false
   pub fits : length old.entries + length entries ≤ old.limit
-  pub changed : new ≡ record old { entries = old.entries ++ entries; faults = new.faults }
+  pub changed : new ≡ record old { entries = old.entries ++ entries; faults = new.faults; moments = new.moments }
   pub counted : old.faults ≤ new.faults
+  pub lasting : LosesNothing old.moments new.moments
 
 -- the log failed as it took them
 pub record FailsAt (old new : State) (entries : List Entry) : Type 0 where
   pub running : old.stopped ≡ false
   pub fits : length old.entries + length entries ≤ old.limit
-  pub changed : new ≡ record old { stopped = true; faults = new.faults }
+  pub changed : new ≡ record old { stopped = true; faults = new.faults; moments = new.moments }
   pub rose : Rose old.faults new.faults
   pub counted : old.faults ≤ new.faults
+  pub lasting : LosesNothing old.moments new.moments
 
 -- there are too few numbers for them, of which those given are the last one used and the greatest one
 pub record IsFull (old new : State) (entries : List Entry) (published limit : ℕ) : Type 0 where

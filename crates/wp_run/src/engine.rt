@@ -52,7 +52,7 @@ impl<D: Disk> Model for Engine<D> {
 
     ghost Value = { State };
 
-    ghost view = { λ e. record { entries = e.history.entries; stopped = e.stopped; limit = e.limit; id = e.wal.id; faults = e.wal.faults } };
+    ghost view = { λ e. record { entries = e.history.entries; stopped = e.stopped; limit = e.limit; id = e.wal.id; faults = e.wal.faults; moments = e.wal.moments } };
 
     ghost invariant = { λ e. IsWhole e.wal e.history.entries e.stopped e.limit };
 }
@@ -75,7 +75,7 @@ impl<D: Disk> Engine<D> {
         requires keeps { Keeps wal history.entries [] }
         requires running { wal.closed ≡ false }
         requires limit { limit < 2 ^ 32 }
-        ensures { result ≡ record { entries = history.entries; stopped = false; limit = limit; id = wal.id; faults = wal.faults } }
+        ensures { result ≡ record { entries = history.entries; stopped = false; limit = limit; id = wal.id; faults = wal.faults; moments = wal.moments } }
     {
         laws::last_entry_undoes();
         history.entries();
@@ -107,6 +107,7 @@ impl<D: Disk> Engine<D> {
     /// Gives the log's device back.
     pub(crate) fn into_disk(self) -> D
         ensures kept { IfTold (D.moments result) (KeptBy (bit self.stopped) self.id self.entries) }
+        ensures moments { D.moments result ≡ self.moments }
         ensures faults { D.faults result ≡ self.faults }
     {
         let Engine { wal, history, .. } = self;

@@ -5,7 +5,8 @@ ghost use Rattle.wp_gatelog.specs.Opening.{SurvivesThrough};
 ghost use Rattle.wp_gatelog.specs.Spelling.{IsUnmade};
 ghost use Rattle.wp_wal.specs.Spelling.{MAGIC, IsLogOf};
 ghost use Rattle.wp_wal.specs.Wal.{Keeps};
-ghost use Rattle.wp_run.specs.Opening.{IsOpenCause, IsReasonOf};
+ghost use Rattle.wp_run.specs.Kept.{LosesNothing};
+ghost use Rattle.wp_run.specs.Opening.{IsOpenCause, IsReasonOf, IsLeftWhere};
 
 use crate::status::name_of;
 use std::alloc::Global;
@@ -79,6 +80,8 @@ pub(crate) fn open<D: Disk>(
     ensures made { IfOk result (λ opened. IfTold (D.moments disk) (λ m. IsUnmade m.reads → opened.wal.id ≡ id)) }
     ensures cause { IfErr result (λ refused. IsOpenCause (Rose (D.faults disk) (D.faults refused.disk)) (D.moments disk) refused.why) }
     ensures survives { IfErr result (λ refused. SurvivesThrough MAGIC id (D.moments disk) (D.moments refused.disk)) }
+    ensures lasts { MatchResult result (λ opened. LosesNothing (D.moments disk) opened.wal.moments) (λ refused. LosesNothing (D.moments disk) (D.moments refused.disk)) }
+    ensures left { IfErr result (λ refused. IsLeftWhere (D.moments disk) (D.moments refused.disk) refused.why) }
     ensures later { MatchResult result (λ opened. D.faults disk ≤ opened.wal.faults) (λ refused. D.faults disk ≤ D.faults refused.disk) }
 {
     match Wal::open(alloc, disk, id) {

@@ -1,6 +1,7 @@
 ghost use Rattle.std.specs.Prelude.{◌≡◌, ◌≤◌, ◌<◌, ◌^◌, IfOk};
 ghost use Rattle.wp_outside.specs.Faults.{Rose};
 ghost use Rattle.wp_run.specs.Engine.{Later};
+ghost use Rattle.wp_run.specs.Kept.{LosesNothing};
 ghost use Rattle.wp_run.specs.Opening.{IsStatusOf};
 ghost use Rattle.wp_run.specs.Run.{IsSilent, Serves};
 ghost use Rattle.wp_run.specs.Told.{IsTold, IsToldAs, Finishes};
@@ -58,6 +59,7 @@ fn finish<D: Disk, K: Sink>(
     ensures finishes { Finishes engine parts.now (D.moments result.disk) (D.faults result.disk) (Rose (K.faults sink.old) (K.faults sink.new)) (K.contents sink.old) (K.contents sink.new) result.status }
     ensures silent { IsSilent result.status → sink.new ≡ sink.old }
     ensures sink_later { K.faults sink.old ≤ K.faults sink.new }
+    ensures lasts { LosesNothing engine.moments (D.moments result.disk) }
     ensures log_later { engine.faults ≤ D.faults result.disk }
 {
     let text = text_of(alloc, &mut engine, parts);
@@ -99,6 +101,7 @@ pub(crate) fn serve<D: Disk, K: Sink>(
     ensures serves { Serves limit id parts.now (D.moments disk) (D.moments result.disk) (Rose (D.faults disk) (D.faults result.disk)) (Rose (K.faults sink.old) (K.faults sink.new)) (K.contents sink.old) (K.contents sink.new) result.status }
     ensures silent { IsSilent result.status → sink.new ≡ sink.old }
     ensures sink_later { K.faults sink.old ≤ K.faults sink.new }
+    ensures lasts { LosesNothing (D.moments disk) (D.moments result.disk) }
     ensures log_later { D.faults disk ≤ D.faults result.disk }
 {
     match open(alloc, disk, id) {

@@ -1,6 +1,7 @@
 ghost use Rattle.std.specs.Prelude.{◌≡◌, ◌≤◌, map};
 ghost use Rattle.std.specs.String.{string_bytes};
 ghost use Rattle.wp_outside.specs.Faults.{Rose};
+ghost use Rattle.wp_run.specs.Kept.{LosesNothing};
 ghost use Rattle.wp_run.specs.Run.{Outside, Ends, IsChosen, IsReadAs, IsSilent, IsUnopened};
 
 use crate::outside::{ReadError, read_all};
@@ -72,6 +73,8 @@ pub fn run<R: Threads + Wait + Sync, D: Disk + Send, S: Source, K: Sink, G: Gate
       written_now = K.contents sink.new;
       sink_rose = Rose (K.faults sink.old) (K.faults sink.new);
     }) result.status }
+    // However it ended, no crash takes what each crash would have left acknowledged before.
+    ensures lasts { LosesNothing (D.moments disks.log) (D.moments result.disks.log) }
     ensures silent { IsSilent result.status → sink.new ≡ sink.old }
     ensures unread { result.status ≡ Status.Words → source.new ≡ source.old }
     ensures shown { IsChosen (map string_bytes words.now) Action.Show → source.new ≡ source.old }

@@ -10,3 +10,9 @@ returns-in-Ok-clause-finishes g c =
 pub returns-in-Err-clause-finishes : goal.returns-in-Err-clause-finishes
 returns-in-Err-clause-finishes g c =
     breaks_off c.args.engine c.text_of-text.new.engine _ c.in-Err.ensures.later c.history.ensures.legal c.into_disk-disk.ensures.kept
+
+pub returns-in-Ok-clause-lasts : goal.returns-in-Ok-clause-lasts
+returns-in-Ok-clause-lasts g c = rw c.into_disk-disk.ensures.moments c.in-Ok.ensures.later.lasting
+
+pub returns-in-Err-clause-lasts : goal.returns-in-Err-clause-lasts
+returns-in-Err-clause-lasts g c = rw c.into_disk-disk.ensures.moments c.in-Err.ensures.later.lasting

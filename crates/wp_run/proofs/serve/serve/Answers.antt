@@ -1,3 +1,4 @@
+use Rattle.wp_run.proofs.LaterLemmas.{lasting_trans}
 use Rattle.wp_run.proofs.TopLemmas.{serves_opened, serves_refused}
 use Rattle.wp_run.proofs.serve.serve.Goals as goal
 
@@ -11,4 +12,7 @@ returns-in-Ok-clause-serves g c =
 pub returns-in-Err-clause-serves : goal.returns-in-Err-clause-serves
 returns-in-Err-clause-serves g c =
     let refused = c.in-Err.field-0 in
-    serves_refused refused.why c.status_of-status.result c.args.limit c.args.id c.args.parts.now _ _ _ _ _ _ c.status_of-status.ensures c.in-Err.ensures.cause c.in-Err.ensures.survives
+    serves_refused refused.why c.status_of-status.result c.args.limit c.args.id c.args.parts.now _ _ _ _ _ _ c.status_of-status.ensures c.in-Err.ensures.cause c.in-Err.ensures.survives c.in-Err.ensures.left
+
+pub returns-in-Ok-clause-lasts : goal.returns-in-Ok-clause-lasts
+returns-in-Ok-clause-lasts g c = lasting_trans _ _ _ c.in-Ok.ensures.lasts (rw c.new.ensures at c.finish.ensures.lasts)
