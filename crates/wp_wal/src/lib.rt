@@ -8,11 +8,13 @@
 #![tactic(auto)]
 
 mod error;
+mod laws;
 mod read;
 mod reserved;
 mod wal;
 
 pub use error::WalError;
+pub use laws::a_log_is_read_in_one_way;
 pub use wal::Wal;
 
 #[cfg(test)]
