@@ -18,6 +18,11 @@ pub fn legal_front()
     ensures { (history more : List Entry) → IsLegal (history ++ more) → IsLegal history }
 {}
 
+/// Each entry of a legal history may stand behind those before it.
+pub fn legal_at_each_entry()
+    ensures { (front more : List Entry) (entry : Entry) → IsLegal (front ++ entry ∷ more) → IsLegalBehind front entry }
+{}
+
 /// Behind an undo stands its close.
 pub fn undo_is_followed_by_its_close()
     ensures { (history : List Entry) (p : ℕ) (batch : List Change) → IsLegalBehind history (Undo p batch)

@@ -12,7 +12,7 @@ mod reading;
 mod writing;
 
 pub use error::RecordError;
-pub use laws::spellings_differ;
+pub use laws::{records_are_read, spellings_differ};
 pub use reading::read_record;
 pub use writing::write_record;
 

@@ -1,3 +1,4 @@
 pub mod EntriesLemmas
 pub mod FrameLemmas
 pub mod AppendLemmas
+pub mod LawLemmas

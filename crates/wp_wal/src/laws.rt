@@ -1,13 +1,47 @@
-//! What is kept is held, and what is held is found.
+//! What bytes are as a log, and what they hold.
+
 ghost use Rattle.std.specs.Prelude.{◌≡◌, ◌++◌, ℕ, List};
 ghost use Rattle.wp_model.specs.declared.entry.Entry.{Entry};
+ghost use Rattle.wp_model.specs.Legal.{IsLegal};
 ghost use Rattle.wp_outside.specs.Disk.{IfTold};
+ghost use Rattle.wp_entry.specs.declared.error.RecordError.{RecordError};
+ghost use Rattle.wp_gatelog.specs.Damage.{IsBadHead};
 ghost use Rattle.wp_gatelog.specs.Moments.{Leaves};
-ghost use Rattle.wp_wal.specs.Spelling.{IsLogOf, HoldsEntries};
+ghost use Rattle.wp_wal.specs.Opening.{IsBadLog, IsIllegalLog};
+ghost use Rattle.wp_wal.specs.Spelling.{MAGIC, IsLogOf, HoldsEntries};
 ghost use Rattle.wp_wal.specs.Wal.{State, Keeps};
 
-use wp_entry::spellings_differ;
-use wp_gatelog::held_records_come_first;
+use wp_core::laws::{legal_at_each_entry, legal_front};
+use wp_entry::{records_are_read, spellings_differ};
+use wp_gatelog::{bytes_are_read_in_one_way, held_records_come_first};
+
+/// Bytes spell a legal history, or have a bad head, or a bad record, or an illegal entry: at most one of these, in one
+/// way.
+pub fn a_log_is_read_in_one_way()
+    ensures one_history { (bytes : List ℕ) (id other : ℕ) (history another : List Entry)
+        → IsLogOf id history bytes → IsLogOf other another bytes → history ≡ another }
+    ensures one_bad_record { (bytes : List ℕ) (index other : ℕ) (why also : RecordError)
+        → IsBadLog bytes index why → IsBadLog bytes other also → (index ≡ other) × (why ≡ also) }
+    ensures one_illegal { (bytes : List ℕ) (number other : ℕ)
+        → IsIllegalLog bytes number → IsIllegalLog bytes other → number ≡ other }
+    ensures legal_or_bad_head { (bytes : List ℕ) (id : ℕ) (history : List Entry)
+        → IsLogOf id history bytes → IsBadHead MAGIC bytes → ⊥ }
+    ensures legal_or_bad_record { (bytes : List ℕ) (id index : ℕ) (history : List Entry) (why : RecordError)
+        → IsLogOf id history bytes → IsBadLog bytes index why → ⊥ }
+    ensures legal_or_illegal { (bytes : List ℕ) (id number : ℕ) (history : List Entry)
+        → IsLogOf id history bytes → IsLegal history → IsIllegalLog bytes number → ⊥ }
+    ensures bad_head_or_bad_record { (bytes : List ℕ) (index : ℕ) (why : RecordError)
+        → IsBadHead MAGIC bytes → IsBadLog bytes index why → ⊥ }
+    ensures bad_head_or_illegal { (bytes : List ℕ) (number : ℕ)
+        → IsBadHead MAGIC bytes → IsIllegalLog bytes number → ⊥ }
+    ensures bad_record_or_illegal { (bytes : List ℕ) (index number : ℕ) (why : RecordError)
+        → IsBadLog bytes index why → IsIllegalLog bytes number → ⊥ }
+{
+    bytes_are_read_in_one_way();
+    records_are_read();
+    legal_at_each_entry();
+    legal_front();
+}
 
 /// What a crash leaves of a log that keeps a history holds it, also where an append has failed.
 pub fn kept_history_is_held()

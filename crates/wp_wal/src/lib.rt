@@ -15,7 +15,7 @@ mod reserved;
 mod wal;
 
 pub use error::WalError;
-pub use laws::{held_history_comes_first, kept_history_is_held};
+pub use laws::{a_log_is_read_in_one_way, held_history_comes_first, kept_history_is_held};
 pub use wal::Wal;
 
 #[cfg(test)]

@@ -1,0 +1,292 @@
+-- Records spell a legal history, or are refused for one reason.
+use Rattle.std.proofs.Common.{◌≡◌, ℕ, zero, suc, ◌+◌, ◌<◌, List, [], ◌∷◌, ◌++◌, length, take, drop, Some, Ok, Err, Result, refl, sym, ap, subst, ◌∙◌, inl, inr, append_assoc, append-nil, take-take, arith, length-append}
+use Rattle.std.specs.Prelude.{slice_get}
+use Rattle.std.proofs.lemmas.Bool.{cases_order}
+use Rattle.std.proofs.lemmas.Option.{none-some, same_Some}
+use Rattle.wp_model.specs.declared.entry.Entry.{Entry}
+use Rattle.wp_model.specs.Legal.{IsLegal, IsLegalBehind}
+use Rattle.wp_entry.specs.declared.error.RecordError.{RecordError}
+use Rattle.wp_entry.specs.Record.{IsRecord, record_bytes}
+use Rattle.wp_entry.specs.Reading.{record_at}
+use Rattle.wp_gatelog.specs.Damage.{IsBadHead, IsCut}
+use Rattle.wp_gatelog.specs.Spelling.{Spells}
+use Rattle.wp_wal.specs.Spelling.{MAGIC, AreEntries, IsLogOf}
+use Rattle.wp_wal.specs.Opening.{IsBadLog, IsIllegalLog}
+use Rattle.wp_wal.specs.Reading.{IsNoRecord, IsIllegalAmong, IsIllegalRecord, StandsAt, IsBadRecord, IsIllegal}
+
+-- ---- what the layers below say
+
+-- records are read from their spelling
+abbrev pub AreRead : Type 0
+AreRead = (first : ℕ) (entries : List Entry) → IsRecord first entries → record_at first (record_bytes first entries) ≡ Ok entries
+
+-- what a legal history begins with is legal
+abbrev pub HasLegalFronts : Type 0
+HasLegalFronts = (history more : List Entry) → IsLegal (history ++ more) → IsLegal history
+
+-- each entry of a legal history may stand behind those before it
+abbrev pub IsLegalAtEach : Type 0
+IsLegalAtEach = (front more : List Entry) (entry : Entry) → IsLegal (front ++ entry ∷ more) → IsLegalBehind front entry
+
+-- ---- one record
+
+same_ok : (one other : List Entry) → ◌≡◌ {A = Result (List Entry) RecordError} (Ok one) (Ok other) → one ≡ other
+same_ok one other e = cc
+
+same_err : (why also : RecordError) → ◌≡◌ {A = Result (List Entry) RecordError} (Err why) (Err also) → why ≡ also
+same_err why also e = cc
+
+err_not_ok : (why : RecordError) (entries : List Entry) → ◌≡◌ {A = Result (List Entry) RecordError} (Err why) (Ok entries) → ⊥
+err_not_ok why entries e = absurd cc
+
+-- what is spelled so is read so
+spelled_read : AreRead → (first : ℕ) (bytes : List ℕ) (entries : List Entry) → IsRecord first entries → bytes ≡ record_bytes first entries → record_at first bytes ≡ Ok entries
+spelled_read read first bytes entries is spelled = ap (record_at first) spelled ∙ read first entries is
+
+same_entries : AreRead → (first : ℕ) (bytes : List ℕ) (one other : List Entry) → IsRecord first one → bytes ≡ record_bytes first one → IsRecord first other → bytes ≡ record_bytes first other → one ≡ other
+same_entries read first bytes one other is_one one_spelled is_other other_spelled =
+    same_ok one other (sym (spelled_read read first bytes one is_one one_spelled) ∙ spelled_read read first bytes other is_other other_spelled)
+
+no_record : AreRead → (history : List Entry) (bytes : List ℕ) (why : RecordError) (entries : List Entry) → IsNoRecord history bytes why → IsRecord (length history + 1) entries → bytes ≡ record_bytes (length history + 1) entries → ⊥
+no_record read history bytes why entries refused is spelled = err_not_ok why entries (sym refused.wrong ∙ spelled_read read (length history + 1) bytes entries is spelled)
+
+-- ---- the entries of the first records
+
+-- all entries are those of the first records and those that the records behind spell
+record Splits (first : ℕ) (behind : List (List ℕ)) (front whole : List Entry) : Type 0 where
+  rest : List Entry
+  parts : whole ≡ front ++ rest
+  spelled : AreEntries (first + length front) behind rest
+
+entries_split : AreRead → (first : ℕ) (before behind : List (List ℕ)) (front whole : List Entry) → AreEntries first before front → AreEntries first (before ++ behind) whole → Splits first behind front whole
+entries_split read first [] behind front whole none all =
+    let place : first ≡ first + length front = rw none (omega arith) in
+    record { rest = whole; parts = rw none refl; spelled = subst (λ (n : ℕ). AreEntries n behind whole) place all }
+entries_split read first (bytes ∷ before) behind front whole (one, others, parts, is, spelled, more) (this, those, all_parts, this_is, this_spelled, all_more) =
+    let same : this ≡ one = same_entries read first bytes this one this_is this_spelled is spelled in
+    let next : AreEntries (first + length one) (before ++ behind) those = subst (λ (e : List Entry). AreEntries (first + length e) (before ++ behind) those) same all_more in
+    let split = entries_split read (first + length one) before behind others those more next in
+    let place : (first + length one) + length others ≡ first + length front = omega (arith, ap (λ (e : List Entry). length e) parts, length-append one others) in
+    record {
+      rest = split.rest;
+      parts = all_parts ∙ ap (λ (e : List Entry). e ++ those) same ∙ ap (λ (e : List Entry). one ++ e) split.parts ∙ sym (append_assoc one others split.rest) ∙ ap (λ (e : List Entry). e ++ split.rest) (sym parts);
+      spelled = subst (λ (n : ℕ). AreEntries n behind split.rest) place split.spelled;
+    }
+
+one_entries : AreRead → (records : List (List ℕ)) (history another : List Entry) → AreEntries 1 records history → AreEntries 1 records another → history ≡ another
+one_entries read records history another one other =
+    let split = entries_split read 1 records [] history another one (subst (λ (r : List (List ℕ)). AreEntries 1 r another) (sym (append-nil records)) other) in
+    sym (split.parts ∙ ap (λ (e : List Entry). history ++ e) split.spelled ∙ append-nil history)
+
+-- ---- a record among those of a history
+
+cut_at : (records : List (List ℕ)) (index : ℕ) (bytes : List ℕ) → slice_get records index ≡ Some bytes → records ≡ take index records ++ bytes ∷ drop (suc index) records
+cut_at [] index bytes at = absurd (none-some bytes at)
+cut_at (first ∷ records) zero bytes at = ap (λ (b : List ℕ). b ∷ records) (same_Some first bytes at)
+cut_at (first ∷ records) (suc index) bytes at = ap (λ (rest : List (List ℕ)). first ∷ rest) (cut_at records index bytes at)
+
+-- The record behind the history is entries that stand there in the whole.
+record TakenAt (history whole : List Entry) (bytes : List ℕ) : Type 0 where
+  entries : List Entry
+  rest : List Entry
+  is : IsRecord (length history + 1) entries
+  spelling : bytes ≡ record_bytes (length history + 1) entries
+  parts : whole ≡ history ++ (entries ++ rest)
+
+taken_behind : (history whole : List Entry) (bytes : List ℕ) (behind : List (List ℕ)) → Splits 1 (bytes ∷ behind) history whole → TakenAt history whole bytes
+taken_behind history whole bytes behind split =
+    let found = split.spelled in
+    let place : 1 + length history ≡ length history + 1 = omega arith in
+    record {
+      entries = found.0;
+      rest = found.1;
+      is = subst (λ (n : ℕ). IsRecord n found.0) place found.3;
+      spelling = found.4 ∙ ap (λ (n : ℕ). record_bytes n found.0) place;
+      parts = split.parts ∙ ap (λ (e : List Entry). history ++ e) found.2;
+    }
+
+taken_at : AreRead → (records : List (List ℕ)) (index : ℕ) (history whole : List Entry) (bytes : List ℕ) → StandsAt records index history bytes → AreEntries 1 records whole → TakenAt history whole bytes
+taken_at read records index history whole bytes stands all =
+    let behind = drop (suc index) records in
+    let cut : AreEntries 1 (take index records ++ bytes ∷ behind) whole = subst (λ (r : List (List ℕ)). AreEntries 1 r whole) (cut_at records index bytes stands.there) all in
+    taken_behind history whole bytes behind (entries_split read 1 (take index records) (bytes ∷ behind) history whole stands.before cut)
+
+-- where all records spell entries, none is bad
+entries_not_bad : AreRead → (records : List (List ℕ)) (index : ℕ) (why : RecordError) (whole : List Entry) → AreEntries 1 records whole → IsBadRecord records index why → ⊥
+entries_not_bad read records index why whole all (history, bytes, stands, refused) =
+    let taken = taken_at read records index history whole bytes stands all in
+    no_record read history bytes why taken.entries refused taken.is taken.spelling
+
+-- the entry with that number stands in the whole where it may not
+illegal_within : IsLegalAtEach → (history entries rest whole : List Entry) (number : ℕ) → whole ≡ history ++ (entries ++ rest) → IsLegal whole → IsIllegalAmong history entries number → ⊥
+illegal_within each history entries rest whole number parts legal among =
+    let tail : entries ++ rest ≡ among.before ++ among.entry ∷ (among.after ++ rest) = ap (λ (e : List Entry). e ++ rest) among.parts ∙ append_assoc among.before (among.entry ∷ among.after) rest in
+    let there : whole ≡ (history ++ among.before) ++ among.entry ∷ (among.after ++ rest) = parts ∙ ap (λ (e : List Entry). history ++ e) tail ∙ sym (append_assoc history among.before (among.entry ∷ (among.after ++ rest))) in
+    among.illegal (each (history ++ among.before) (among.after ++ rest) among.entry (subst IsLegal there legal))
+
+-- where all records spell a legal history, none of its entries is illegal
+legal_not_illegal : AreRead → IsLegalAtEach → (records : List (List ℕ)) (number : ℕ) (whole : List Entry) → AreEntries 1 records whole → IsLegal whole → IsIllegal records number → ⊥
+legal_not_illegal read each records number whole all legal (index, history, bytes, stands, illegal) =
+    let taken = taken_at read records index history whole bytes stands all in
+    let same : taken.entries ≡ illegal.entries = same_entries read (length history + 1) bytes taken.entries illegal.entries taken.is taken.spelling illegal.is illegal.spelling in
+    illegal_within each history illegal.entries taken.rest whole number (taken.parts ∙ ap (λ (e : List Entry). history ++ (e ++ taken.rest)) same) legal illegal.among
+
+-- ---- two places
+
+slice_get_take : (records : List (List ℕ)) (n i : ℕ) → i < n → slice_get (take n records) i ≡ slice_get records i
+slice_get_take records zero i lt = absurd (omega arith)
+slice_get_take [] (suc n) i lt = refl
+slice_get_take (bytes ∷ records) (suc n) zero lt = refl
+slice_get_take (bytes ∷ records) (suc n) (suc i) lt = slice_get_take records n i (omega arith)
+
+-- a record stands so among those before a later one
+stands_before : (records : List (List ℕ)) (index later : ℕ) (history : List Entry) (bytes : List ℕ) → index < later → StandsAt records index history bytes → StandsAt (take later records) index history bytes
+stands_before records index later history bytes lt stands = record {
+  before = subst (λ (r : List (List ℕ)). AreEntries 1 r history) (sym (take-take index later records (omega arith))) stands.before;
+  there = slice_get_take records later index lt ∙ stands.there;
+}
+
+-- no record before one that stands behind a history is bad
+none_bad_before : AreRead → (records : List (List ℕ)) (index later : ℕ) (why : RecordError) (history : List Entry) (bytes : List ℕ) → index < later → IsBadRecord records index why → StandsAt records later history bytes → ⊥
+none_bad_before read records index later why history bytes lt (front, here, stands, refused) behind =
+    entries_not_bad read (take later records) index why history behind.before (front, here, stands_before records index later front here lt stands, refused)
+
+-- an illegal entry stands in no record before one that stands behind a legal history
+none_illegal_before : AreRead → IsLegalAtEach → (records : List (List ℕ)) (index later number : ℕ) (front history : List Entry) (here bytes : List ℕ) → index < later → StandsAt records index front here → IsIllegalRecord front here number → StandsAt records later history bytes → IsLegal history → ⊥
+none_illegal_before read each records index later number front history here bytes lt stands illegal behind legal =
+    legal_not_illegal read each (take later records) number history behind.before legal (index, front, here, stands_before records index later front here lt stands, illegal)
+
+-- what stands at one place is the same
+at_same_place : AreRead → (records : List (List ℕ)) (index : ℕ) (history another : List Entry) (bytes those : List ℕ) → StandsAt records index history bytes → StandsAt records index another those → (P : List Entry → List ℕ → Type 0) → P another those → P history bytes
+at_same_place read records index history another bytes those one other P p =
+    let entries : another ≡ history = one_entries read (take index records) another history other.before one.before in
+    let here : those ≡ bytes = same_Some those bytes (sym other.there ∙ one.there) in
+    subst (λ (b : List ℕ). P history b) here (subst (λ (e : List Entry). P e those) entries p)
+
+-- ---- the first record that is bad
+
+one_why : AreRead → (records : List (List ℕ)) (index : ℕ) (why also : RecordError) → IsBadRecord records index why → IsBadRecord records index also → why ≡ also
+one_why read records index why also (history, bytes, stands, refused) (another, those, stands_too, refused_too) =
+    let moved = at_same_place read records index history another bytes those stands stands_too (λ (e : List Entry) (b : List ℕ). IsNoRecord e b also) refused_too in
+    same_err why also (sym refused.wrong ∙ moved.wrong)
+
+one_bad_record : AreRead → (records : List (List ℕ)) (index other : ℕ) (why also : RecordError) → IsBadRecord records index why → IsBadRecord records other also → (index ≡ other) × (why ≡ also)
+one_bad_record read records index other why also one two = elim (cases_order index other) [
+  | inl same ↦ (same, one_why read records index why also one (subst (λ (i : ℕ). IsBadRecord records i also) (sym same) two))
+  | inr apart ↦ elim apart [
+    | inl lt ↦ absurd (none_bad_before read records index other why two.0 two.1 lt one two.2)
+    | inr lt ↦ absurd (none_bad_before read records other index also one.0 one.1 lt two one.2)
+  ]
+]
+
+bad_not_illegal_here : AreRead → (records : List (List ℕ)) (index number : ℕ) (why : RecordError) (history another : List Entry) (bytes those : List ℕ) → StandsAt records index history bytes → IsNoRecord history bytes why → StandsAt records index another those → IsIllegalRecord another those number → ⊥
+bad_not_illegal_here read records index number why history another bytes those stands refused stands_too illegal =
+    let moved = at_same_place read records index history another bytes those stands stands_too (λ (e : List Entry) (b : List ℕ). IsIllegalRecord e b number) illegal in
+    no_record read history bytes why moved.entries refused moved.is moved.spelling
+
+bad_not_illegal : AreRead → IsLegalAtEach → (records : List (List ℕ)) (index number : ℕ) (why : RecordError) → IsBadRecord records index why → IsIllegal records number → ⊥
+bad_not_illegal read each records index number why (history, bytes, stands, refused) (other, another, those, stands_too, illegal) = elim (cases_order index other) [
+  | inl same ↦ bad_not_illegal_here read records index number why history another bytes those stands refused (subst (λ (i : ℕ). StandsAt records i another those) (sym same) stands_too) illegal
+  | inr apart ↦ elim apart [
+    | inl lt ↦ none_bad_before read records index other why another those lt (history, bytes, stands, refused) stands_too
+    | inr lt ↦ none_illegal_before read each records other index number another history those bytes lt stands_too illegal stands refused.legal
+  ]
+]
+
+-- ---- the first entry that is illegal
+
+-- what a longer front begins with
+longer_front : (before longer : List Entry) (entry : Entry) (after behind : List Entry) → before ++ entry ∷ after ≡ longer ++ behind → length before < length longer → (more : List Entry) × (longer ≡ before ++ entry ∷ more)
+longer_front [] [] entry after behind is lt = absurd (omega arith)
+longer_front (first ∷ before) [] entry after behind is lt = absurd (omega arith)
+longer_front [] (first ∷ longer) entry after behind is lt =
+    let same : first ≡ entry = cc in
+    (longer, ap (λ (e : Entry). e ∷ longer) same)
+longer_front (one ∷ before) (first ∷ longer) entry after behind is lt =
+    let same : first ≡ one = cc in
+    let tail : before ++ entry ∷ after ≡ longer ++ behind = cc in
+    let found = longer_front before longer entry after behind tail (omega arith) in
+    (found.0, ap (λ (e : Entry). e ∷ longer) same ∙ ap (λ (e : List Entry). one ∷ e) found.1)
+
+none_illegal_among : IsLegalAtEach → (history entries : List Entry) (number later : ℕ) (one : IsIllegalAmong history entries number) (other : IsIllegalAmong history entries later) → length one.before < length other.before → ⊥
+none_illegal_among each history entries number later one other lt =
+    let found = longer_front one.before other.before one.entry one.after (other.entry ∷ other.after) (sym one.parts ∙ other.parts) lt in
+    let there : history ++ other.before ≡ (history ++ one.before) ++ one.entry ∷ found.0 = ap (λ (e : List Entry). history ++ e) found.1 ∙ sym (append_assoc history one.before (one.entry ∷ found.0)) in
+    one.illegal (each (history ++ one.before) found.0 one.entry (subst IsLegal there other.legal))
+
+one_illegal_among : IsLegalAtEach → (history entries : List Entry) (number other : ℕ) → IsIllegalAmong history entries number → IsIllegalAmong history entries other → number ≡ other
+one_illegal_among each history entries number other one two = elim (cases_order (length one.before) (length two.before)) [
+  | inl same ↦ one.at ∙ ap (λ (n : ℕ). length history + n + 1) same ∙ sym two.at
+  | inr apart ↦ elim apart [
+    | inl lt ↦ absurd (none_illegal_among each history entries number other one two lt)
+    | inr lt ↦ absurd (none_illegal_among each history entries other number two one lt)
+  ]
+]
+
+one_illegal_here : AreRead → IsLegalAtEach → (records : List (List ℕ)) (index number other : ℕ) (history another : List Entry) (bytes those : List ℕ) → StandsAt records index history bytes → IsIllegalRecord history bytes number → StandsAt records index another those → IsIllegalRecord another those other → number ≡ other
+one_illegal_here read each records index number other history another bytes those stands illegal stands_too illegal_too =
+    let moved = at_same_place read records index history another bytes those stands stands_too (λ (e : List Entry) (b : List ℕ). IsIllegalRecord e b other) illegal_too in
+    let same : moved.entries ≡ illegal.entries = same_entries read (length history + 1) bytes moved.entries illegal.entries moved.is moved.spelling illegal.is illegal.spelling in
+    one_illegal_among each history illegal.entries number other illegal.among (subst (λ (e : List Entry). IsIllegalAmong history e other) same moved.among)
+
+-- an illegal entry comes first behind a legal history
+legal_behind : HasLegalFronts → (history : List Entry) (bytes : List ℕ) (number : ℕ) → IsIllegalRecord history bytes number → IsLegal history
+legal_behind fronts history bytes number illegal = fronts history illegal.among.before illegal.among.legal
+
+one_illegal : AreRead → IsLegalAtEach → HasLegalFronts → (records : List (List ℕ)) (number other : ℕ) → IsIllegal records number → IsIllegal records other → number ≡ other
+one_illegal read each fronts records number other (index, history, bytes, stands, illegal) (place, another, those, stands_too, illegal_too) = elim (cases_order index place) [
+  | inl same ↦ one_illegal_here read each records index number other history another bytes those stands illegal (subst (λ (i : ℕ). StandsAt records i another those) (sym same) stands_too) illegal_too
+  | inr apart ↦ elim apart [
+    | inl lt ↦ absurd (none_illegal_before read each records index place number history another bytes those lt stands illegal stands_too (legal_behind fronts another those other illegal_too))
+    | inr lt ↦ absurd (none_illegal_before read each records place index other another history those bytes lt stands_too illegal_too stands (legal_behind fronts history bytes number illegal))
+  ]
+]
+
+-- ---- the bytes of a log
+
+-- bytes spell one list of records
+abbrev pub SpellOneList : Type 0
+SpellOneList = (bytes magic : List ℕ) (id other : ℕ) (records others : List (List ℕ)) → Spells bytes magic id records → Spells bytes magic other others → records ≡ others
+
+-- bytes that spell records have none that is cut
+abbrev pub AreSpelledOrCut : Type 0
+AreSpelledOrCut = (bytes magic : List ℕ) (id index : ℕ) (records : List (List ℕ)) → Spells bytes magic id records → IsCut magic index bytes → ⊥
+
+pub one_history : SpellOneList → AreRead → (bytes : List ℕ) (id other : ℕ) (history another : List Entry) → IsLogOf id history bytes → IsLogOf other another bytes → history ≡ another
+one_history lists read bytes id other history another (records, spells, entries) (others, spells_too, entries_too) =
+    let same : others ≡ records = lists bytes MAGIC other id others records spells_too spells in
+    one_entries read records history another entries (subst (λ (r : List (List ℕ)). AreEntries 1 r another) same entries_too)
+
+pub one_bad_log : SpellOneList → AreSpelledOrCut → ((bytes magic : List ℕ) (index other : ℕ) → IsCut magic index bytes → IsCut magic other bytes → index ≡ other) → AreRead → (bytes : List ℕ) (index other : ℕ) (why also : RecordError) → IsBadLog bytes index why → IsBadLog bytes other also → (index ≡ other) × (why ≡ also)
+one_bad_log lists whole one_index read bytes index other why also (inl one) (inl two) = (one_index bytes MAGIC index other one.0 two.0, one.1 ∙ sym two.1)
+one_bad_log lists whole one_index read bytes index other why also (inl one) (inr two) = absurd (whole bytes MAGIC two.0 index two.1 two.2 one.0)
+one_bad_log lists whole one_index read bytes index other why also (inr one) (inl two) = absurd (whole bytes MAGIC one.0 other one.1 one.2 two.0)
+one_bad_log lists whole one_index read bytes index other why also (inr one) (inr two) =
+    let same : two.1 ≡ one.1 = lists bytes MAGIC two.0 one.0 two.1 one.1 two.2 one.2 in
+    one_bad_record read one.1 index other why also one.3 (subst (λ (r : List (List ℕ)). IsBadRecord r other also) same two.3)
+
+pub one_illegal_log : SpellOneList → AreRead → IsLegalAtEach → HasLegalFronts → (bytes : List ℕ) (number other : ℕ) → IsIllegalLog bytes number → IsIllegalLog bytes other → number ≡ other
+one_illegal_log lists read each fronts bytes number other (id, records, spells, illegal) (second, others, spells_too, illegal_too) =
+    let same : others ≡ records = lists bytes MAGIC second id others records spells_too spells in
+    one_illegal read each fronts records number other illegal (subst (λ (r : List (List ℕ)). IsIllegal r other) same illegal_too)
+
+pub log_not_bad : SpellOneList → AreSpelledOrCut → AreRead → (bytes : List ℕ) (id index : ℕ) (history : List Entry) (why : RecordError) → IsLogOf id history bytes → IsBadLog bytes index why → ⊥
+log_not_bad lists whole read bytes id index history why (records, spells, entries) (inl bad) = whole bytes MAGIC id index records spells bad.0
+log_not_bad lists whole read bytes id index history why (records, spells, entries) (inr bad) =
+    let same : bad.1 ≡ records = lists bytes MAGIC bad.0 id bad.1 records bad.2 spells in
+    entries_not_bad read records index why history entries (subst (λ (r : List (List ℕ)). IsBadRecord r index why) same bad.3)
+
+pub log_not_illegal : SpellOneList → AreRead → IsLegalAtEach → (bytes : List ℕ) (id number : ℕ) (history : List Entry) → IsLogOf id history bytes → IsLegal history → IsIllegalLog bytes number → ⊥
+log_not_illegal lists read each bytes id number history (records, spells, entries) legal (other, others, spells_too, illegal) =
+    let same : others ≡ records = lists bytes MAGIC other id others records spells_too spells in
+    legal_not_illegal read each records number history entries legal (subst (λ (r : List (List ℕ)). IsIllegal r number) same illegal)
+
+pub bad_log_not_illegal : SpellOneList → AreSpelledOrCut → AreRead → IsLegalAtEach → (bytes : List ℕ) (index number : ℕ) (why : RecordError) → IsBadLog bytes index why → IsIllegalLog bytes number → ⊥
+bad_log_not_illegal lists whole read each bytes index number why (inl bad) (id, records, spells, illegal) = whole bytes MAGIC id index records spells bad.0
+bad_log_not_illegal lists whole read each bytes index number why (inr bad) (id, records, spells, illegal) =
+    let same : bad.1 ≡ records = lists bytes MAGIC bad.0 id bad.1 records bad.2 spells in
+    bad_not_illegal read each records index number why (subst (λ (r : List (List ℕ)). IsBadRecord r index why) same bad.3) illegal
+
+pub bad_head_not_bad_log : ((bytes magic : List ℕ) (id : ℕ) (records : List (List ℕ)) → length magic ≡ 4 → Spells bytes magic id records → IsBadHead magic bytes → ⊥) → ((bytes magic : List ℕ) (index : ℕ) → length magic ≡ 4 → IsCut magic index bytes → IsBadHead magic bytes → ⊥) → (bytes : List ℕ) (index : ℕ) (why : RecordError) → IsBadHead MAGIC bytes → IsBadLog bytes index why → ⊥
+bad_head_not_bad_log spelled cut bytes index why bad (inl log) = cut bytes MAGIC index refl log.0 bad
+bad_head_not_bad_log spelled cut bytes index why bad (inr log) = spelled bytes MAGIC log.0 log.1 refl log.2 bad
