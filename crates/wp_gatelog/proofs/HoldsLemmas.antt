@@ -1,5 +1,5 @@
 -- The records that bytes hold, while the log in them is changed.
-use Rattle.std.proofs.Common.{◌≡◌, ◌≢◌, inl, inr, ℕ, ◌+◌, ◌<◌, List, [], ◌∷◌, ◌++◌, length, refl, sym, ◌∙◌, ap, subst, arith, length-append}
+use Rattle.std.proofs.Common.{◌≡◌, ◌≢◌, inl, inr, ℕ, ◌+◌, List, [], ◌∷◌, ◌++◌, length, refl, sym, ◌∙◌, ap, subst, arith, length-append}
 use Rattle.std.proofs.lemmas.List.{append-nil, append_assoc, map-append}
 use Rattle.wp_outside.specs.Disk.{Moment, IsImage, IfTold, settled, after_write, Each, Passes}
 use Rattle.wp_gatelog.specs.Lasting.{Lasts, HoldsRecords, Spares}
@@ -9,6 +9,7 @@ use Rattle.wp_gatelog.specs.Moments.{Leaves}
 use Rattle.wp_gatelog.specs.Spelling.{Gated, IsOpen, framed, identity, all_gated, log_of, records_of, IsUnmade, Spells}
 use Rattle.wp_gatelog.proofs.AppendLemmas.{AppendGoes, append_untold}
 use Rattle.wp_gatelog.proofs.LastingLemmas.{lasts_passes}
+use Rattle.wp_gatelog.proofs.LawLemmas.{made}
 use Rattle.wp_gatelog.proofs.MendLemmas.{keeps_more}
 use Rattle.wp_gatelog.proofs.MomentLemmas.{image_of_settled, image_behind, image_of_gate, told_map}
 use Rattle.wp_gatelog.proofs.ParseLemmas.{same_parts, same_framed, first_split, length-identities}
@@ -115,6 +116,7 @@ spares_head magic id head records behind holds image h =
     let opened : head ≡ 1 = cc in
     absurd (h.0 opened)
 
+-- the front of a log that ends with a gate of 01 ends before a last gate that is not
 without_last : (first : ℕ) (before held rest : List Gated) (last : Gated) → last.gate ≢ 1 → last_gate first held ≡ 1 → before ++ last ∷ [] ≡ held ++ rest → (others : List Gated) × (before ≡ held ++ others)
 without_last first before [] rest last odd one is = (before, refl)
 without_last first [] (h ∷ []) rest last odd one is =
@@ -140,13 +142,9 @@ spares_last magic id other records before gate bytes each holds image h =
 
 -- ---- bytes without a log, and a log at rest
 
-made_head : (tail bytes : List ℕ) → 0 < length tail → bytes ≡ 1 ∷ tail → IsUnmade bytes → ⊥
-made_head [] bytes some is unmade = omega arith
-made_head (b ∷ tail) bytes some is unmade = cc (subst IsUnmade is unmade)
-
 holds_made : (magic : List ℕ) (id : ℕ) (records : List (List ℕ)) (bytes : List ℕ) → HoldsRecords magic id records bytes → IsUnmade bytes → ⊥
 holds_made magic id records bytes holds =
-    made_head ((identity magic id ++ all_gated holds.gated) ++ holds.gate ∷ holds.behind) bytes (omega (arith, length-append (identity magic id ++ all_gated holds.gated) (holds.gate ∷ holds.behind))) holds.spelling
+    made 1 ((identity magic id ++ all_gated holds.gated) ++ holds.gate ∷ holds.behind) bytes (omega (arith, length-append (identity magic id ++ all_gated holds.gated) (holds.gate ∷ holds.behind))) (λ e. cc e) holds.spelling
 
 -- where no log was made, no records are held
 pub spares_unmade : (magic : List ℕ) (id : ℕ) (records : List (List ℕ)) (bytes : List ℕ) (P : List ℕ → Type 0) → IsUnmade bytes → Spares magic id records bytes P

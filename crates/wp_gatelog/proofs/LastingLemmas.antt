@@ -8,9 +8,6 @@ use Rattle.wp_gatelog.proofs.MomentLemmas.{matches_self, image_of_settled}
 
 -- ---- moments, one after another
 
-pub lasts_same : (P : Moment → Type 0) (old new : List Moment) → new ≡ old → Lasts P old new
-lasts_same P old new same = ([], same, tt)
-
 passed_on_from : (P : Moment → Type 0) (old more new : List Moment) → PassedOn P (more ++ old) new → PassedOn P old more → PassedOn P old (new ++ more)
 passed_on_from P old more [] second first = first
 passed_on_from P old more (m ∷ new) second first =

@@ -10,7 +10,7 @@ use Rattle.wp_gatelog.proofs.ParseLemmas.{same_log, SameLog}
 
 -- ---- a log and what ends it
 
-made : (head : ℕ) (tail bytes : List ℕ) → 0 < length tail → head ≢ 0 → bytes ≡ head ∷ tail → IsUnmade bytes → ⊥
+pub made : (head : ℕ) (tail bytes : List ℕ) → 0 < length tail → head ≢ 0 → bytes ≡ head ∷ tail → IsUnmade bytes → ⊥
 made head [] bytes some opened is unmade = omega arith
 made head (b ∷ tail) bytes some opened is unmade = opened (subst IsUnmade is unmade)
 
