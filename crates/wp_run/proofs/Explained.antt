@@ -1,5 +1,5 @@
 -- What the clients are answered one after another on one thread is explained by the entries at the end.
-use Rattle.std.proofs.Common.{◌≡◌, ℕ, zero, suc, ◌+◌, ◌^◌, ◌<◌, ◌≤◌, ◌==◌, Bool, true, false, cond, eqb, List, [], ◌∷◌, ◌++◌, length, take, Option, Some, None, refl, sym, ap, add-zero, zero-add, subst, ◌∙◌, append_assoc, arith, length-append, inl, inr, if◌then◌else◌}
+use Rattle.std.proofs.Common.{◌≡◌, ℕ, zero, suc, ◌+◌, ◌<◌, ◌≤◌, ◌==◌, Bool, true, false, cond, eqb, List, [], ◌∷◌, ◌++◌, length, take, Option, Some, None, refl, sym, ap, add-zero, zero-add, subst, ◌∙◌, append_assoc, arith, length-append, inl, inr, if◌then◌else◌}
 use Rattle.std.specs.Prelude.{count_by, unwrap_or, IfSome}
 use Rattle.std.specs.List.{range_with_len, flat_map, list_any}
 use Rattle.std.proofs.lemmas.List.Concat.{flat_map-cons, flat_map-append}
@@ -17,7 +17,7 @@ use Rattle.wp_run.specs.Due.{Store, IsReply, acknowledged, added, is_fault, stor
 use Rattle.wp_run.specs.Session.{fresh_in, last_after, store_at, IsAnswer, IsSession, is_stopped}
 use Rattle.wp_run.specs.Current.{RunsAlone}
 use Rattle.wp_run.specs.Transcript.{AreSessions, IsExact, all_replies, Explains}
-use Rattle.wp_run.specs.Engine.{State, bit, store_of, Later, Steps, Runs, IsRun, AllRun}
+use Rattle.wp_run.specs.Engine.{State, bit, store_of, Later, Steps, Runs, AllRun}
 use Rattle.wp_run.proofs.LaterLemmas.{Later-equal, Later-same, Later-trans, Steps-later}
 
 -- ---- runs

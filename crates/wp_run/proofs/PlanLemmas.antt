@@ -1,6 +1,6 @@
 -- What the commands come to: entries that may be logged next, and replies that acknowledge just them.
-use Rattle.std.proofs.Common.{◌≡◌, ℕ, zero, suc, ◌+◌, ◌-◌, ◌^◌, ◌<◌, ◌≤◌, Bool, true, false, List, [], ◌∷◌, ◌++◌, length, Option, Some, None, refl, sym, ap, ◌∙◌, subst, arith, inl, inr}
-use Rattle.std.specs.Prelude.{slice_get, IfSome}
+use Rattle.std.proofs.Common.{◌≡◌, ℕ, zero, suc, ◌+◌, ◌-◌, ◌≤◌, true, List, [], ◌∷◌, ◌++◌, length, Option, Some, None, refl, sym, ap, subst, arith, inl, inr}
+use Rattle.std.specs.Prelude.{IfSome}
 use Rattle.std.specs.List.{range_with_len}
 use Rattle.std.proofs.lemmas.Bool.{and_parts, cases_Bool}
 use Rattle.std.proofs.lemmas.Option.{slice_get_within}
@@ -11,7 +11,6 @@ use Rattle.wp_model.specs.declared.entry.Entry.TheVariants as entry
 use Rattle.wp_model.specs.Batch.{key_of, is_batch}
 use Rattle.wp_model.specs.History.{entry_at, batch_at, is_prepare, is_undecided, named, holder_of}
 use Rattle.wp_model.specs.Legal.{kept_by, IsLegal, IsLegalBehind, undone_last, AreFree, prior}
-use Rattle.wp_entry.specs.Record.{FormRecord}
 use Rattle.wp_text.specs.declared.script.Command.{Command}
 use Rattle.wp_text.specs.declared.script.Command.TheVariants as command
 use Rattle.wp_text.specs.declared.reply.Reply.{Reply}
@@ -22,7 +21,7 @@ use Rattle.wp_run.specs.declared.plan.Plan.{Plan}
 use Rattle.wp_run.specs.declared.plan.Plan.TheVariants.{Say, Log, RollBack}
 use Rattle.wp_run.specs.Client.{Client, Fits, TxnFits}
 use Rattle.wp_run.specs.Due.{acknowledged, is_logged, settled}
-use Rattle.wp_run.specs.Kept.{AreLegalBehind, AreNext}
+use Rattle.wp_run.specs.Kept.{AreNext}
 use Rattle.wp_run.specs.Session.{number_in}
 use Rattle.wp_run.specs.Plan.{plan, next, held_or, unless_held, has_no_room, change_plan, begin_plan, prepare_plan, commit_plan, rollback_plan, leave_plan, take_plan}
 

@@ -1,5 +1,5 @@
 -- What the commands are answered without the log, and that the client then goes with the history.
-use Rattle.std.proofs.Common.{◌≡◌, ℕ, zero, suc, ◌+◌, ◌<◌, ◌≤◌, Bool, true, false, List, [], ◌∷◌, ◌++◌, length, Option, Some, None, refl, sym, ap, ◌∙◌, subst, arith, inl, inr}
+use Rattle.std.proofs.Common.{◌≡◌, ℕ, ◌≤◌, Bool, false, List, [], ◌∷◌, ◌++◌, length, Option, Some, None, refl, sym, subst, arith, inl, inr}
 use Rattle.std.specs.Prelude.{IfSome, is_some, nat_le, not}
 use Rattle.std.specs.List.{filter}
 use Rattle.std.specs.Str.{bytes_eq}
@@ -10,9 +10,8 @@ use Rattle.wp_model.specs.declared.change.Change.{Change}
 use Rattle.wp_model.specs.declared.change.Change.TheVariants as change
 use Rattle.wp_model.specs.declared.entry.Entry.{Entry}
 use Rattle.wp_model.specs.declared.entry.Entry.TheVariants as entry
-use Rattle.wp_model.specs.declared.batch.TheConstants.{MOST_KEYS}
 use Rattle.wp_model.specs.Batch.{key_cmp, key_of, change_to, by_order, with_change}
-use Rattle.wp_model.specs.History.{is_undecided, named, name_at, holder_of, value_at}
+use Rattle.wp_model.specs.History.{named, name_at, holder_of, value_at}
 use Rattle.wp_model.specs.Legal.{AreFree}
 use Rattle.wp_text.specs.declared.script.Command.{Command}
 use Rattle.wp_text.specs.declared.script.Command.TheVariants as command
@@ -22,12 +21,12 @@ use Rattle.wp_run.specs.declared.client.Snapshot.{Snapshot}
 use Rattle.wp_run.specs.declared.client.Txn.{Txn}
 use Rattle.wp_run.specs.declared.client.Txn.TheVariants.{Idle, Open, Prepared}
 use Rattle.wp_run.specs.declared.plan.Plan.{Plan}
-use Rattle.wp_run.specs.declared.plan.Plan.TheVariants.{Say, Log, RollBack}
+use Rattle.wp_run.specs.declared.plan.Plan.TheVariants.{Say, Log}
 use Rattle.wp_run.proofs.Found.{named_is_undecided}
-use Rattle.wp_run.specs.Client.{Client, Fits, TxnFits, AreWithin, number_of, without, own_batch}
+use Rattle.wp_run.specs.Client.{Client, Fits, TxnFits, AreWithin, number_of, own_batch}
 use Rattle.wp_run.specs.Due.{acknowledged, is_logged, is_fault, with_held, prepared_as, client_after}
 use Rattle.wp_run.specs.Session.{is_stopped, number_in, fresh_in}
-use Rattle.wp_run.specs.Plan.{plan, next, held_or, unless_held, has_no_room, change_plan, begin_reply, begin_plan, prepare_plan, commit_plan, rollback_plan, leave_plan, take_reply, take_plan, read_reply, get_reply, get_at_reply, snap_reply, free_reply}
+use Rattle.wp_run.specs.Plan.{plan, held_or, has_no_room, change_plan, begin_reply, begin_plan, prepare_plan, commit_plan, rollback_plan, leave_plan, take_reply, take_plan, read_reply, get_reply, get_at_reply, snap_reply, free_reply}
 
 -- ---- the reply
 

@@ -1,5 +1,5 @@
 -- What one command does to the store on one thread and to its client.
-use Rattle.std.proofs.Common.{◌≡◌, ℕ, zero, suc, ◌+◌, ◌<◌, ◌≤◌, Bool, true, false, List, [], ◌∷◌, ◌++◌, length, Option, Some, None, refl, sym, ap, ◌∙◌, subst, length-append, arith, inl, inr}
+use Rattle.std.proofs.Common.{◌≡◌, ℕ, ◌+◌, ◌<◌, ◌≤◌, Bool, true, false, List, [], ◌∷◌, ◌++◌, length, Option, Some, None, refl, sym, ap, ◌∙◌, subst, length-append, arith, inl, inr}
 use Rattle.std.specs.Prelude.{Result, Ok, Err, IfOk, OnOk, IfSome}
 use Rattle.std.specs.List.{range_with_len}
 use Rattle.std.proofs.lemmas.Bool.{lt-ltb, le-ltb}
@@ -7,21 +7,19 @@ use Rattle.std.proofs.lemmas.List.{append-nil}
 use Rattle.wp_model.specs.declared.change.Change.{Change}
 use Rattle.wp_model.specs.declared.entry.Entry.{Entry}
 use Rattle.wp_model.specs.declared.entry.Entry.TheVariants as entry
-use Rattle.wp_outside.specs.Faults.{Rose}
 use Rattle.wp_text.specs.declared.script.Command.{Command}
 use Rattle.wp_text.specs.declared.script.Command.TheVariants as command
 use Rattle.wp_text.specs.declared.reply.Reply.{Reply}
 use Rattle.wp_text.specs.declared.reply.Reply.TheVariants as reply
-use Rattle.wp_run.specs.declared.plan.Plan.{Plan}
 use Rattle.wp_run.specs.declared.plan.Plan.TheVariants.{Say, Log, RollBack}
-use Rattle.wp_run.specs.Client.{Client, Fits, TxnFits}
-use Rattle.wp_run.specs.Due.{Store, logged, reply_to, due, acknowledged, is_logged, is_fault, IsReply, added, settled, client_after}
+use Rattle.wp_run.specs.Client.{Client, Fits}
+use Rattle.wp_run.specs.Due.{Store, logged, reply_to, due, acknowledged, is_logged, is_fault, added, settled, client_after}
 use Rattle.wp_run.specs.Session.{number_in, fresh_in, is_stopped}
 use Rattle.wp_run.specs.Engine.{State, store_of, Steps}
 use Rattle.wp_run.specs.Plan.{plan, asked_of}
-use Rattle.wp_run.specs.Write.{Takes, FailsAt, IsFull, HasStopped, Tells}
+use Rattle.wp_run.specs.Write.{Takes, FailsAt, Tells}
 use Rattle.wp_run.proofs.PlanLemmas.{Logs}
-use Rattle.wp_run.proofs.SaidLemmas.{IsPlain, plan_says, plan_fits, within_more}
+use Rattle.wp_run.proofs.SaidLemmas.{plan_says, within_more}
 
 pub false_is_true : {P : Type 0} (b : Bool) → b ≡ false → b ≡ true → P
 false_is_true true e f = absurd cc

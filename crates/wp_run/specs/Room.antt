@@ -6,7 +6,7 @@ use Rattle.wp_model.specs.Batch.{key_of}
 use Rattle.wp_text.specs.declared.script.Command.{Command}
 use Rattle.wp_text.specs.declared.script.Command.TheVariants as command
 use Rattle.wp_run.specs.declared.client.Txn.{Txn}
-use Rattle.wp_run.specs.declared.client.Txn.TheVariants.{Idle, Open, Prepared}
+use Rattle.wp_run.specs.declared.client.Txn.TheVariants.{Open}
 use Rattle.wp_run.specs.Plan.{has_no_room}
 
 -- an open transaction may take the change in

@@ -1,5 +1,3 @@
-use Rattle.std.proofs.Common.{◌≡◌}
-use Rattle.wp_model.specs.Batch.{key_of}
 use Rattle.wp_run.proofs.Found.{holder_is_undecided}
 use Rattle.wp_run.proofs.plan.change_plan.Goals as goal
 

@@ -1,4 +1,3 @@
-use Rattle.std.proofs.Common.{◌≡◌}
 use Rattle.wp_run.proofs.SaidLemmas.{number_within}
 use Rattle.wp_run.proofs.plan.plan_of.Goals as goal
 

@@ -1,11 +1,8 @@
-use Rattle.std.proofs.Common.{rules, ◌≡◌, List, [], ◌∷◌, ap, sym, subst, ◌∙◌}
-use Rattle.wp_model.specs.declared.entry.Entry.{Entry}
-use Rattle.wp_model.specs.declared.entry.Entry.TheVariants as entry
+use Rattle.std.proofs.Common.{rules, ◌≡◌}
 use Rattle.wp_run.specs.declared.plan.Plan.TheVariants.{Say, Log, RollBack}
-use Rattle.wp_run.specs.Kept.{AreNext}
 use Rattle.wp_run.specs.Plan.{plan}
 use Rattle.wp_run.specs.Write.{Tells}
-use Rattle.wp_run.proofs.PlanLemmas.{Logs, plan_logs, plan_rolls_back}
+use Rattle.wp_run.proofs.PlanLemmas.{plan_logs, plan_rolls_back}
 use Rattle.wp_run.proofs.SaidLemmas.{plan_fits}
 use Rattle.wp_run.proofs.StepLemmas.{log_asks, rollback_asks, told_steps, told_fits, said_steps, if_tells, on_tells}
 use Rattle.wp_run.proofs.session.answer.Goals as goal

@@ -1,4 +1,3 @@
-use Rattle.std.proofs.Common.{◌≡◌}
 use Rattle.wp_run.proofs.EngineLemmas.{whole_keeps}
 use Rattle.wp_run.proofs.engine.Engine.into_disk.Goals as goal
 

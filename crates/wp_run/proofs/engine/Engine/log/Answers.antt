@@ -1,4 +1,4 @@
-use Rattle.std.proofs.Common.{◌≡◌, ◌+◌, ◌≤◌, false, List, [], length, ap, sym, subst, arith, rules}
+use Rattle.std.proofs.Common.{◌≡◌, ◌+◌, ◌≤◌, false, List, [], length, ap, sym, subst, rules}
 use Rattle.wp_model.specs.declared.entry.Entry.{Entry}
 use Rattle.wp_wal.specs.Wal.{State}
 use Rattle.wp_run.specs.Kept.{AreNext}
