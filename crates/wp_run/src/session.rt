@@ -111,8 +111,8 @@ fn run_session<D: Disk>(
     Ok(replies)
 }
 
-/// Runs the clients, one after another in the script's order. A session that broke off for want of memory leaves the
-/// others to run.
+/// Runs the clients, one after another in the script's order. A session in which memory is wanting breaks off alone: the
+/// others run, and the error comes after them.
 pub(crate) fn run_all<D: Disk>(
     alloc: Global,
     engine: &mut Engine<D>,

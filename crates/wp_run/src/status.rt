@@ -13,7 +13,8 @@ pub enum Status {
     Ok,
     /// The command line is none that the program takes. Nothing was read, written or opened.
     Words,
-    /// Out of memory. Nothing was written. The log has every entry whose append was acknowledged.
+    /// Out of memory. Nothing was written. The log has every entry whose append was acknowledged. A client in whose
+    /// session memory was wanting was broken off, and the others ran on.
     Memory,
     /// The script could not be read. Nothing was written or opened.
     SourceFault,
