@@ -20,7 +20,7 @@ use Rattle.wp_run.specs.declared.status.Status.TheVariants as status
 use Rattle.wp_wal.specs.Spelling.{MAGIC, IsLogOf}
 use Rattle.wp_run.specs.Kept.{KeptBy}
 use Rattle.wp_run.specs.Opening.{IsDamaged, IsLeftBy}
-use Rattle.wp_run.specs.Outside.{IsRead}
+use Rattle.wp_run.specs.Outside.{AreBytesRead}
 use Rattle.wp_run.specs.Transcript.{IsTranscript}
 
 -- ---- a store
@@ -98,12 +98,12 @@ most_read = 2 ^ 20 + 1
 -- The script that a choice runs: that which the source held; or none, where the store is only shown and the source is
 -- not called.
 abbrev pub IsScriptOf : Action → (untouched : Type 0) → (left rest : Option (List ℕ)) → List Part → Type 0
-IsScriptOf action.Run untouched left rest script = (bytes : List ℕ) × IsRead most_read left rest bytes × IsScript bytes script
+IsScriptOf action.Run untouched left rest script = (bytes : List ℕ) × AreBytesRead most_read left rest bytes × IsScript bytes script
 IsScriptOf action.Show untouched left rest script = untouched × (script ≡ [])
 
 -- the bytes read are no script, and this is their first fault
 abbrev pub IsOutsideGrammar : (left rest : Option (List ℕ)) → Fault → Type 0
-IsOutsideGrammar left rest fault = (bytes : List ℕ) × IsRead most_read left rest bytes × IsFault bytes fault.line fault.why
+IsOutsideGrammar left rest fault = (bytes : List ℕ) × AreBytesRead most_read left rest bytes × IsFault bytes fault.line fault.why
 
 -- why the source gave no script
 abbrev pub IsUnread : (source_rose : Type 0) → (left rest : Option (List ℕ)) → Status → Type 0

@@ -2,7 +2,7 @@ ghost use Rattle.std.specs.Prelude.{◌≡◌, ◌≤◌, IfOk, OnOk, OnErr, IsE
 ghost use Rattle.std.specs.Io.KnownBytes.{Appends};
 ghost use Rattle.wp_outside.specs.Faults.{Rose, HasCause};
 ghost use Rattle.wp_outside.specs.Sink.{AppendsPrefix};
-ghost use Rattle.wp_run.specs.Outside.{IsRead};
+ghost use Rattle.wp_run.specs.Outside.{AreBytesRead};
 ghost use Rattle.wp_run.specs.declared.outside.ReadError.TheVariants.{Memory};
 
 use std::alloc::{AllocError, Global};
@@ -33,7 +33,7 @@ impl From<AllocError> for ReadError {
 
 /// All that the source has left, or as much as may be taken of more.
 pub(crate) fn read_all<S: Source>(alloc: Global, source: &mut S) -> Result<Vec<u8>, ReadError>
-    ensures taken { IfOk result (λ v. IsRead MOST_TAKEN (S.left source.old) (S.left source.new) v.items) }
+    ensures taken { IfOk result (λ v. AreBytesRead MOST_TAKEN (S.left source.old) (S.left source.new) v.items) }
     ensures fault { IsErrOf result ReadError.Fault → Rose (S.faults source.old) (S.faults source.new) }
     ensures later { S.faults source.old ≤ S.faults source.new }
 {
