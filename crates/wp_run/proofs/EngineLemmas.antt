@@ -9,7 +9,7 @@ use Rattle.wp_entry.specs.Record.{FormRecord, IsRecord}
 use Rattle.wp_wal.specs.Spelling.{AreEntries, IsLogOrNext}
 use Rattle.wp_wal.specs.Wal.{Reserved, State as WalState, reserved_of, LeavesHistory, LeavesHistoryOrNext, Keeps, IsReserved}
 use Rattle.wp_run.specs.Engine.{bit}
-use Rattle.wp_run.specs.Kept.{IsLogOrNext as IsOurLogOrNext, KeptBy, LosesNothing, AreLegalBehind, AreNext, IsWhole}
+use Rattle.wp_run.specs.Kept.{IsLogOrOneMore, KeptBy, LosesNothing, AreLegalBehind, AreNext, IsWhole}
 use Rattle.wp_run.proofs.PlanLemmas.{LastIs}
 use Rattle.wp_run.proofs.StepLemmas.{false_is_true}
 
@@ -106,7 +106,7 @@ whole_failed grows old new entries added stopped limit whole running legal next 
 
 -- ---- what a crash leaves of it
 
-or_next : (id : ℕ) (entries failed : List Entry) (image : List ℕ) → IsLegal entries → IsLegal (entries ++ failed) → IsRecord (length entries + 1) failed → IsLogOrNext id entries failed image → IsOurLogOrNext id entries image
+or_next : (id : ℕ) (entries failed : List Entry) (image : List ℕ) → IsLegal entries → IsLegal (entries ++ failed) → IsRecord (length entries + 1) failed → IsLogOrNext id entries failed image → IsLogOrOneMore id entries image
 or_next id entries failed image legal longer is spelled = elim spelled [
   | inl before ↦ (entries, inl refl, legal, before)
   | inr after ↦ (entries ++ failed, inr (failed, is, refl), longer, after)

@@ -12,18 +12,18 @@ use Rattle.wp_wal.specs.Wal.{State, LeavesHistory, Keeps}
 -- ---- the log of a history
 
 -- the history, or it and one record more
-abbrev pub IsOrNext : List Entry → List Entry → Type 0
-IsOrNext history longer = (longer ≡ history) ⊎ ((next : List Entry) × IsRecord (length history + 1) next × (longer ≡ history ++ next))
+abbrev pub IsOrOneMore : List Entry → List Entry → Type 0
+IsOrOneMore history longer = (longer ≡ history) ⊎ ((next : List Entry) × IsRecord (length history + 1) next × (longer ≡ history ++ next))
 
 -- the bytes spell the history, or it and one record more, whole, and what they spell is legal
-abbrev pub IsLogOrNext : ℕ → List Entry → List ℕ → Type 0
-IsLogOrNext id history bytes = (longer : List Entry) × IsOrNext history longer × IsLegal longer × IsLogOf id longer bytes
+abbrev pub IsLogOrOneMore : ℕ → List Entry → List ℕ → Type 0
+IsLogOrOneMore id history bytes = (longer : List Entry) × IsOrOneMore history longer × IsLegal longer × IsLogOf id longer bytes
 
 -- What a crash leaves of the log: the history; or, once the log has failed, it or it and one record more, whole. The
 -- records of the history stand there acknowledged.
 abbrev pub KeptBy : ℕ → ℕ → List Entry → Moment → Type 0
 KeptBy zero id history m = LeavesHistory id history m
-KeptBy (suc faults) id history m = Leaves (λ image. IsLogOrNext id history image × HoldsEntries id history image) m
+KeptBy (suc faults) id history m = Leaves (λ image. IsLogOrOneMore id history image × HoldsEntries id history image) m
 
 -- Records that each crash at one moment would leave acknowledged, each crash at a later moment leaves so too.
 abbrev pub LosesNothing : List Moment → List Moment → Type 0
