@@ -183,12 +183,13 @@ fn each_call_of_each_record_may_fail(rt: HostRuntime) -> Result<(), Fail> {
 
 /// The status and the transcript of the decision where the log's device fails at this call.
 ///
-/// The opening of a log with six records takes the calls 1 to 15, and the append of the commit four.
+/// The opening of a log with six records takes the calls 1 to 16 (a sync, the length, the head, two for each record, the gate behind
+/// them), and the append of the commit four.
 fn decision_told(alloc: Global, call: u64) -> Result<(u8, Vec<u8>), AllocError> {
     let left = stage_after(RECORDS).opened;
     let (code, replies, history) = match call {
-        1..=15 => (10, "", ""),
-        16..=19 => (7, "client c\ntook\nfault log\n", left.history),
+        1..=16 => (10, "", ""),
+        17..=20 => (7, "client c\ntook\nfault log\n", left.history),
         _ => (0, "client c\ntook\ncommit @8\n", DECIDED.history),
     };
     Ok((code, told(alloc, replies, history)?))
@@ -198,7 +199,7 @@ fn decision_told(alloc: Global, call: u64) -> Result<(u8, Vec<u8>), AllocError> 
 fn each_call_of_a_reopening_may_fail(rt: HostRuntime) -> Result<(), Fail> {
     let left = stage_after(RECORDS);
     let log = logged(&rt, left)?;
-    for call in 1..21 {
+    for call in 1..22 {
         let given = Given {
             log_fails: &[call],
             ..script(DECISION, &log)
