@@ -278,9 +278,9 @@ fn longest_put(
 ) -> Result<Vec<u8>, AllocError> {
     let mut text = before.as_bytes().to_vec(alloc)?;
     text.extend_from_slice(b"put ")?;
-    text.resize(text.len() + key_len, b'k')?;
+    text.extend_from_slice(&vec![in alloc; b'k'; key_len]?)?;
     text.push(b' ')?;
-    text.resize(text.len() + 256, b'v')?;
+    text.extend_from_slice(&vec![in alloc; b'v'; 256]?)?;
     text.extend_from_slice(after.as_bytes())?;
     Ok(text)
 }
