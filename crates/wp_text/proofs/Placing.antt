@@ -16,9 +16,9 @@ use Rattle.wp_text.specs.declared.fault.Why.{Why}
 use Rattle.wp_text.specs.declared.fault.Why.TheVariants.{NoClient, ClientTwice, ManyClients}
 use Rattle.wp_text.specs.declared.line.Statement.{Statement}
 use Rattle.wp_text.specs.declared.line.Statement.TheVariants as statement
-use Rattle.wp_text.specs.declared.read.TheConstants.{MOST_CLIENTS}
 use Rattle.wp_text.specs.declared.script.Command.{Command}
 use Rattle.wp_text.specs.declared.script.Part.{Part}
+use Rattle.wp_text.specs.Limits.{most_clients}
 use Rattle.wp_text.specs.Grammar.{statements_of, clients}
 use Rattle.wp_text.specs.Faults.{IsMisplaced}
 use Rattle.wp_text.specs.Reading.{has_client, with_client, with_command, with_statement}
@@ -71,7 +71,7 @@ not_there parts name missing =
 -- no client twice, and few enough
 pub record Fits (parts : List Part) : Type 0 where
   pub distinct : AllPairs ◌≢◌ (clients parts)
-  pub few : length parts ≤ MOST_CLIENTS
+  pub few : length parts ≤ most_clients
 
 -- the statement stands behind the others
 pub record Placed (old : List Part) (s : Statement) (new : List Part) : Type 0 where
@@ -84,9 +84,9 @@ distinct_more names name distinct missing = all_pairs_push ◌≢◌ names name 
 client_placed : (parts new : List Part) (name : List ℕ) → Fits parts → with_client parts name ≡ Ok new → Placed parts (statement.Client name) new
 unfolding with_client
 client_placed parts new name fits e =
-    elim (chosen (has_client parts name) (Err ClientTwice) (cond (ltb (length parts) MOST_CLIENTS) (Ok (parts ++ record { client = name; commands = [] } ∷ [])) (Err ManyClients)) (Ok new) e) [
+    elim (chosen (has_client parts name) (Err ClientTwice) (cond (ltb (length parts) most_clients) (Ok (parts ++ record { client = name; commands = [] } ∷ [])) (Err ManyClients)) (Ok new) e) [
       | inl there ↦ absurd cc
-      | inr missing ↦ elim (chosen (ltb (length parts) MOST_CLIENTS) (Ok (parts ++ record { client = name; commands = [] } ∷ [])) (Err ManyClients) (Ok new) missing.1) [
+      | inr missing ↦ elim (chosen (ltb (length parts) most_clients) (Ok (parts ++ record { client = name; commands = [] } ∷ [])) (Err ManyClients) (Ok new) missing.1) [
         | inl room ↦
             let part : Part = record { client = name; commands = [] } in
             let is = ok_is (parts ++ part ∷ []) new room.1 in
@@ -143,9 +143,9 @@ command_refused (part ∷ second ∷ others) c why e =
 client_refused : (parts : List Part) (name : List ℕ) (why : Why) → Fits parts → with_client parts name ≡ Err why → IsMisplaced parts (statement.Client name) why
 unfolding with_client
 client_refused parts name why fits e =
-    elim (chosen (has_client parts name) (Err ClientTwice) (cond (ltb (length parts) MOST_CLIENTS) (Ok (parts ++ record { client = name; commands = [] } ∷ [])) (Err ManyClients)) (Err why) e) [
+    elim (chosen (has_client parts name) (Err ClientTwice) (cond (ltb (length parts) most_clients) (Ok (parts ++ record { client = name; commands = [] } ∷ [])) (Err ManyClients)) (Err why) e) [
       | inl there ↦ subst (λ (x : Why). IsMisplaced parts (statement.Client name) x) (err_is {A = List Part} ClientTwice why there.1) (client_there parts name there.0)
-      | inr missing ↦ elim (chosen (ltb (length parts) MOST_CLIENTS) (Ok (parts ++ record { client = name; commands = [] } ∷ [])) (Err ManyClients) (Err why) missing.1) [
+      | inr missing ↦ elim (chosen (ltb (length parts) most_clients) (Ok (parts ++ record { client = name; commands = [] } ∷ [])) (Err ManyClients) (Err why) missing.1) [
         | inl room ↦ absurd cc
         | inr full ↦
             let many = ltb-false _ _ full.0 in
@@ -166,7 +166,7 @@ refused_again parts (statement.Command c) NoClient misplaced = rw misplaced refl
 refused_again parts (statement.Client name) ClientTwice misplaced = let there = client_found parts name misplaced in rw there refl
 refused_again parts (statement.Client name) ManyClients misplaced =
     let missing = not_there parts name misplaced.0 in
-    let full : ltb (length parts) MOST_CLIENTS ≡ false = le-ltb _ _ (omega (arith, misplaced.1)) in
+    let full : ltb (length parts) most_clients ≡ false = le-ltb _ _ (omega (arith, misplaced.1)) in
     rw (missing, full) refl
 refused_again parts s why misplaced = absurd misplaced
 

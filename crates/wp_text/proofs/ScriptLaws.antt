@@ -8,8 +8,8 @@ use Rattle.wp_text.specs.declared.fault.Fault.{Fault}
 use Rattle.wp_text.specs.declared.fault.Why.{Why}
 use Rattle.wp_text.specs.declared.fault.Why.TheVariants.{TooLong}
 use Rattle.wp_text.specs.declared.line.Statement.{Statement}
-use Rattle.wp_text.specs.declared.read.TheConstants.{MOST_BYTES}
 use Rattle.wp_text.specs.declared.script.Part.{Part}
+use Rattle.wp_text.specs.Limits.{most_bytes}
 use Rattle.wp_text.specs.Grammar.{lines_of, Means, statements_of, Spell, IsScript}
 use Rattle.wp_text.specs.Faults.{IsWrongBehind, IsFirstWrong, IsFault}
 use Rattle.wp_text.specs.Reading.{line_of, with_meaning, with_line, in_line, with_lines, script_of}
@@ -149,19 +149,19 @@ spell_again lines parts rest spell =
 pub is_script : (bytes : List ℕ) (parts : List Part) → script_of bytes ≡ Ok parts → IsScript bytes parts
 unfolding script_of
 is_script bytes parts e =
-    elim (chosen (ltb MOST_BYTES (length bytes)) (Err (record { line = 0; why = TooLong })) (with_lines 0 [] (lines_of bytes)) (Ok parts) e) [
+    elim (chosen (ltb most_bytes (length bytes)) (Err (record { line = 0; why = TooLong })) (with_lines 0 [] (lines_of bytes)) (Ok parts) e) [
       | inl long ↦ absurd cc
       | inr short ↦ record { short = ltb-false _ _ short.0; lines = lines_spell (lines_of bytes) [] 0 [] parts spell_nothing short.1 }
     ]
 
-fault_at : (bytes : List ℕ) (fault : Fault) → length bytes ≤ MOST_BYTES → FailsAt (lines_of bytes) fault → IsFault bytes fault.line fault.why
+fault_at : (bytes : List ℕ) (fault : Fault) → length bytes ≤ most_bytes → FailsAt (lines_of bytes) fault → IsFault bytes fault.line fault.why
 fault_at bytes fault short fails = rw fails.number (short, (fails.before, refl, fails.first))
 
 -- what is refused has this fault
 pub is_fault : (bytes : List ℕ) (fault : Fault) → script_of bytes ≡ Err fault → IsFault bytes fault.line fault.why
 unfolding script_of
 is_fault bytes fault e =
-    elim (chosen (ltb MOST_BYTES (length bytes)) (Err (record { line = 0; why = TooLong })) (with_lines 0 [] (lines_of bytes)) (Err fault) e) [
+    elim (chosen (ltb most_bytes (length bytes)) (Err (record { line = 0; why = TooLong })) (with_lines 0 [] (lines_of bytes)) (Err fault) e) [
       | inl long ↦ subst (λ (f : Fault). IsFault bytes f.line f.why) (err_is {A = List Part} (record { line = 0; why = TooLong }) fault long.1) (ltb-true _ _ long.0, refl)
       | inr short ↦ fault_at bytes fault (ltb-false _ _ short.0) (lines_fail (lines_of bytes) [] 0 [] fault refl spell_nothing short.1)
     ]
@@ -170,15 +170,15 @@ is_fault bytes fault e =
 pub is_script_again : (bytes : List ℕ) (parts : List Part) → IsScript bytes parts → script_of bytes ≡ Ok parts
 unfolding script_of with_lines
 is_script_again bytes parts is =
-    let fits = le-ltb MOST_BYTES (length bytes) is.short in
+    let fits = le-ltb most_bytes (length bytes) is.short in
     rw fits (ap (with_lines 0 []) (sym (append-nil (lines_of bytes))) ∙ spell_again (lines_of bytes) parts [] is.lines)
 
 -- bytes with this fault are refused for it
 pub is_fault_again : (bytes : List ℕ) (line : ℕ) (why : Why) → IsFault bytes line why → script_of bytes ≡ Err (record { line = line; why = why })
 unfolding script_of with_lines
-is_fault_again bytes zero why is = let long = lt-ltb MOST_BYTES (length bytes) is.0 in rw (long, is.1) refl
+is_fault_again bytes zero why is = let long = lt-ltb most_bytes (length bytes) is.0 in rw (long, is.1) refl
 is_fault_again bytes (suc n) why is =
-    let fits = le-ltb MOST_BYTES (length bytes) is.0 in
+    let fits = le-ltb most_bytes (length bytes) is.0 in
     let first = is.1.2 in
     let fails = line_fails_again first.parts first.line why first.wrong in
     let number : length is.1.0 + 1 ≡ suc n = omega (arith, is.1.1) in

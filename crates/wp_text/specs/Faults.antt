@@ -8,9 +8,8 @@ use Rattle.wp_text.specs.declared.fault.Why.{Why}
 use Rattle.wp_text.specs.declared.fault.Why.TheVariants.{TooLong, LineLong, BadByte, BadCommand, BadWord, NoClient, ClientTwice, ManyClients}
 use Rattle.wp_text.specs.declared.line.Statement.{Statement}
 use Rattle.wp_text.specs.declared.line.Statement.TheVariants as statement
-use Rattle.wp_text.specs.declared.line.TheConstants.{MOST_LINE_BYTES}
-use Rattle.wp_text.specs.declared.read.TheConstants.{MOST_BYTES, MOST_CLIENTS}
 use Rattle.wp_text.specs.declared.script.Part.{Part}
+use Rattle.wp_text.specs.Limits.{most_bytes, most_clients, most_line_bytes}
 use Rattle.wp_text.specs.Grammar.{lines_of, is_line_byte, IsText, words_of, is_passed_over, statement_words, is_in_range, Means, clients, Spell, IsScript}
 
 -- ---- a line by itself
@@ -33,8 +32,8 @@ AreWrong words why = ⊥
 
 -- What is wrong with a line, wherever it stands. The order in which the reasons are named is that of these cases.
 abbrev pub IsWrong : List ℕ → Why → Type 0
-IsWrong line LineLong = MOST_LINE_BYTES < length line
-IsWrong line BadByte = (length line ≤ MOST_LINE_BYTES) × (list_all is_line_byte line ≡ false)
+IsWrong line LineLong = most_line_bytes < length line
+IsWrong line BadByte = (length line ≤ most_line_bytes) × (list_all is_line_byte line ≡ false)
 IsWrong line why = IsText line × (is_passed_over (words_of line) ≡ false) × AreWrong (words_of line) why
 
 -- ---- a line behind others
@@ -44,7 +43,7 @@ IsWrong line why = IsText line × (is_passed_over (words_of line) ≡ false) × 
 abbrev pub IsMisplaced : List Part → Statement → Why → Type 0
 IsMisplaced parts (statement.Command command) NoClient = parts ≡ []
 IsMisplaced parts (statement.Client name) ClientTwice = Contains (clients parts) name
-IsMisplaced parts (statement.Client name) ManyClients = (Contains (clients parts) name → ⊥) × (length parts ≡ MOST_CLIENTS)
+IsMisplaced parts (statement.Client name) ManyClients = (Contains (clients parts) name → ⊥) × (length parts ≡ most_clients)
 IsMisplaced parts statement why = ⊥
 
 -- The line is wrong by itself, or it says a statement that is misplaced.
@@ -62,8 +61,8 @@ pub record IsFirstWrong (lines : List (List ℕ)) (before : List (List ℕ)) (wh
 
 -- The first fault of the bytes: line 0 stands for them as a whole, the others are counted from 1.
 abbrev pub IsFault : List ℕ → ℕ → Why → Type 0
-IsFault bytes zero why = (MOST_BYTES < length bytes) × (why ≡ TooLong)
-IsFault bytes (suc n) why = (length bytes ≤ MOST_BYTES) × ((before : List (List ℕ)) × (length before ≡ n) × IsFirstWrong (lines_of bytes) before why)
+IsFault bytes zero why = (most_bytes < length bytes) × (why ≡ TooLong)
+IsFault bytes (suc n) why = (length bytes ≤ most_bytes) × ((before : List (List ℕ)) × (length before ≡ n) × IsFirstWrong (lines_of bytes) before why)
 
 -- what an error says of the bytes
 abbrev pub IsErrorOf : List ℕ → ScriptError → Type 0

@@ -4,11 +4,10 @@ use Rattle.std.specs.List.{list_all, filter, filter_map, flat_map, slice_split, 
 use Rattle.wp_model.specs.Word.{is_word}
 use Rattle.wp_text.specs.declared.line.Statement.{Statement}
 use Rattle.wp_text.specs.declared.line.Statement.TheVariants as statement
-use Rattle.wp_text.specs.declared.line.TheConstants.{MOST_LINE_BYTES}
-use Rattle.wp_text.specs.declared.read.TheConstants.{MOST_BYTES, MOST_CLIENTS}
 use Rattle.wp_text.specs.declared.script.Command.{Command}
 use Rattle.wp_text.specs.declared.script.Command.TheVariants as command
 use Rattle.wp_text.specs.declared.script.Part.{Part}
+use Rattle.wp_text.specs.Limits.{most_bytes, most_clients, most_line_bytes}
 
 -- The lines of a script, without their ends. What stands behind the last end is a line too: where it is empty, it
 -- says nothing.
@@ -23,7 +22,7 @@ is_line_byte b = nat_le 0x20 b && nat_le b 0x7E
 
 -- the line has few enough bytes, all of them such
 pub record IsText (line : List ℕ) : Type 0 where
-  pub short : length line ≤ MOST_LINE_BYTES
+  pub short : length line ≤ most_line_bytes
   pub printable : list_all is_line_byte line ≡ true
 
 -- the words of a line: what stands between its spaces
@@ -100,11 +99,11 @@ pub record Spell (lines : List (List ℕ)) (parts : List Part) : Type 0 where
   pub each : AllZip Means lines meanings
   pub statements : filter_map (λ meaning. meaning) meanings ≡ flat_map statements_of parts
   pub distinct : AllPairs ◌≢◌ (clients parts)
-  pub few : length parts ≤ MOST_CLIENTS
+  pub few : length parts ≤ most_clients
 
 -- The bytes are a script with these parts.
 pub record IsScript (bytes : List ℕ) (parts : List Part) : Type 0 where
-  pub short : length bytes ≤ MOST_BYTES
+  pub short : length bytes ≤ most_bytes
   pub lines : Spell (lines_of bytes) parts
 
 -- the commands of all clients

@@ -18,11 +18,10 @@ use Rattle.wp_text.specs.declared.keyword.Keyword.TheVariants as keyword
 use Rattle.wp_text.specs.declared.keyword.TheConstants.{KEYWORDS}
 use Rattle.wp_text.specs.declared.line.Statement.{Statement}
 use Rattle.wp_text.specs.declared.line.Statement.TheVariants as statement
-use Rattle.wp_text.specs.declared.line.TheConstants.{MOST_LINE_BYTES}
-use Rattle.wp_text.specs.declared.read.TheConstants.{MOST_BYTES, MOST_CLIENTS}
 use Rattle.wp_text.specs.declared.script.Command.{Command}
 use Rattle.wp_text.specs.declared.script.Command.TheVariants as command
 use Rattle.wp_text.specs.declared.script.Part.{Part}
+use Rattle.wp_text.specs.Limits.{most_bytes, most_clients, most_line_bytes}
 use Rattle.wp_text.specs.Grammar.{lines_of, is_line_byte, words_of, is_passed_over}
 
 infixl 10 ◌>>=◌
@@ -124,7 +123,7 @@ statement_of (first ∷ others) = if is_passed_over (first ∷ others) then Ok N
 
 -- what the line says
 unfoldable pub line_of : List ℕ → Result (Option Statement) Why
-line_of line = if nat_lt MOST_LINE_BYTES (length line) then Err LineLong else (if list_all is_line_byte line then statement_of (words_of line) else Err BadByte)
+line_of line = if nat_lt most_line_bytes (length line) then Err LineLong else (if list_all is_line_byte line then statement_of (words_of line) else Err BadByte)
 
 -- the client has a part already
 abbrev pub has_client : List Part → List ℕ → Bool
@@ -132,7 +131,7 @@ has_client parts name = list_any (λ part. bytes_eq name part.client) parts
 
 -- the parts with one more, of this client
 unfoldable pub with_client : List Part → List ℕ → Result (List Part) Why
-with_client parts name = if has_client parts name then Err ClientTwice else (if nat_lt (length parts) MOST_CLIENTS then Ok (parts ++ record { client = name; commands = [] } ∷ []) else Err ManyClients)
+with_client parts name = if has_client parts name then Err ClientTwice else (if nat_lt (length parts) most_clients then Ok (parts ++ record { client = name; commands = [] } ∷ []) else Err ManyClients)
 
 -- the parts with the command at the end of the last one
 unfoldable pub with_command : List Part → Command → Result (List Part) Why
@@ -172,7 +171,7 @@ with_lines before parts (line ∷ lines) = do
 
 -- what the bytes are read as
 unfoldable pub script_of : List ℕ → Result (List Part) Fault
-script_of bytes = if nat_lt MOST_BYTES (length bytes) then Err (record { line = 0; why = TooLong }) else with_lines 0 [] (lines_of bytes)
+script_of bytes = if nat_lt most_bytes (length bytes) then Err (record { line = 0; why = TooLong }) else with_lines 0 [] (lines_of bytes)
 
 -- ---- errors, from one type to the next
 
