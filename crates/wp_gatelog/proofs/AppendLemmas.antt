@@ -3,7 +3,7 @@ use Rattle.std.proofs.Common.{◌≡◌, inl, inr, ℕ, ◌+◌, ◌<◌, ◌≤
 use Rattle.std.proofs.lemmas.Bool.{cases_eq}
 use Rattle.std.proofs.lemmas.List.{append-nil, append_assoc, map_push, length-replicate}
 use Rattle.std.specs.Int.{w64, to_be_bytes}
-use Rattle.wp_outside.specs.Disk.{Moment, settled, after_write, write_end, IfTold, Each}
+use Rattle.wp_outside.specs.Disk.{Moment, settled, after_write, write_end, IfKnown, Each}
 use Rattle.wp_gatelog.specs.Log.{Grows, IsAcknowledged, IsAtRest, last_gate}
 use Rattle.wp_gatelog.specs.Moments.{Leaves, Within, Goes}
 use Rattle.wp_gatelog.specs.Spelling.{Gated, IsOpen, framed, frame_of, identity, all_gated, log_of}
@@ -76,10 +76,10 @@ acknowledged_more gated records bytes fits acknowledged = record {
 
 -- how it goes on from any front
 abbrev pub AppendGoes : ℕ → List ℕ → List Moment → List Moment → Type 0
-AppendGoes end bytes old new = (front : List ℕ) → end ≡ length front → IfTold old (λ m. m ≡ settled (front ++ 0 ∷ [])) → Goes (Leaves (Grows front bytes)) old new
+AppendGoes end bytes old new = (front : List ℕ) → end ≡ length front → IfKnown old (λ m. m ≡ settled (front ++ 0 ∷ [])) → Goes (Leaves (Grows front bytes)) old new
 
 abbrev pub AppendDone : ℕ → List ℕ → List Moment → List Moment → Type 0
-AppendDone end bytes old new = (front : List ℕ) → end ≡ length front → IfTold old (λ m. m ≡ settled (front ++ 0 ∷ [])) → IfTold new (λ m. m ≡ settled (front ++ 1 ∷ (framed bytes ++ 0 ∷ [])))
+AppendDone end bytes old new = (front : List ℕ) → end ≡ length front → IfKnown old (λ m. m ≡ settled (front ++ 0 ∷ [])) → IfKnown new (λ m. m ≡ settled (front ++ 1 ∷ (framed bytes ++ 0 ∷ [])))
 
 -- one that doesn't still doesn't
 pub append_untold : (end : ℕ) (bytes : List ℕ) (new : List Moment) → AppendGoes end bytes [] new → new ≡ []
@@ -98,9 +98,9 @@ module _ (magic : List ℕ) (id end : ℕ) (records : List (List ℕ)) (bytes : 
       }
 
   pub append_rests : (frame : List ℕ) → frame ≡ frame_of bytes → length bytes < 2 ^ 64 → (old new : List Moment) → AppendGoes end bytes old new → AppendDone end bytes old new
-      → IfTold old (IsAtRest magic id end records) → IfTold new (IsAtRest magic id (end + length frame) (records ++ bytes ∷ []))
+      → IfKnown old (IsAtRest magic id end records) → IfKnown new (IsAtRest magic id (end + length frame) (records ++ bytes ∷ []))
   append_rests frame is fits [] new goes done rest =
-      subst (λ (ms : List Moment). IfTold ms (IsAtRest magic id (end + length frame) (records ++ bytes ∷ []))) (sym (append_untold end bytes new goes)) tt
+      subst (λ (ms : List Moment). IfKnown ms (IsAtRest magic id (end + length frame) (records ++ bytes ∷ []))) (sym (append_untold end bytes new goes)) tt
   append_rests frame is fits (m ∷ past) new goes done rest =
       let P : Moment → Type 0 = λ n. n ≡ settled (log_of magic id 1 rest.gated ++ 1 ∷ (framed bytes ++ 0 ∷ [])) in
       told_map P (IsAtRest magic id (end + length frame) (records ++ bytes ∷ []))

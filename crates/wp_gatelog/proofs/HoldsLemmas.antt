@@ -1,16 +1,16 @@
 -- The records that bytes hold, while the log in them is changed.
 use Rattle.std.proofs.Common.{◌≡◌, ◌≢◌, inl, inr, ℕ, ◌+◌, List, [], ◌∷◌, ◌++◌, length, refl, sym, ◌∙◌, ap, subst, arith, length-append}
 use Rattle.std.proofs.lemmas.List.{append-nil, append_assoc, map-append}
-use Rattle.wp_outside.specs.Disk.{Moment, IsImage, IfTold, settled, after_write, Each, Passes}
-use Rattle.wp_gatelog.specs.Lasting.{Lasts, HoldsRecords, Spares}
+use Rattle.wp_outside.specs.Disk.{Moment, IsImage, IfKnown, settled, after_write, Each, Passes}
+use Rattle.wp_gatelog.specs.Durability.{Preserves, HasAcknowledged, Spares}
 use Rattle.wp_gatelog.specs.Log.{IsAcknowledged, IsAtRest, last_gate}
-use Rattle.wp_gatelog.specs.Mending.{KeepsFront, Reopens}
+use Rattle.wp_gatelog.specs.Repair.{HasFront, Reopens}
 use Rattle.wp_gatelog.specs.Moments.{Leaves}
 use Rattle.wp_gatelog.specs.Spelling.{Gated, IsOpen, framed, identity, all_gated, log_of, records_of, IsUnmade, Spells}
 use Rattle.wp_gatelog.proofs.AppendLemmas.{AppendGoes, append_untold}
-use Rattle.wp_gatelog.proofs.LastingLemmas.{lasts_passes}
+use Rattle.wp_gatelog.proofs.DurabilityLemmas.{lasts_passes}
 use Rattle.wp_gatelog.proofs.LawLemmas.{made}
-use Rattle.wp_gatelog.proofs.MendLemmas.{keeps_more}
+use Rattle.wp_gatelog.proofs.RepairLemmas.{keeps_more}
 use Rattle.wp_gatelog.proofs.MomentLemmas.{image_of_settled, image_behind, image_of_gate, told_map}
 use Rattle.wp_gatelog.proofs.ParseLemmas.{same_parts, same_framed, first_split, length-identities}
 
@@ -52,7 +52,7 @@ record IsHeld (magic : List ℕ) (id other head : ℕ) (records : List (List ℕ
   named : identity magic other ≡ identity magic id
   parts : gated ≡ held ++ rest
 
-is_held : (magic : List ℕ) (id other head : ℕ) (records : List (List ℕ)) (gated : List Gated) (behind : List ℕ) → Each IsOpen gated → HoldsRecords magic id records (log_of magic other head gated ++ 0 ∷ behind) → IsHeld magic id other head records gated
+is_held : (magic : List ℕ) (id other head : ℕ) (records : List (List ℕ)) (gated : List Gated) (behind : List ℕ) → Each IsOpen gated → HasAcknowledged magic id records (log_of magic other head gated ++ 0 ∷ behind) → IsHeld magic id other head records gated
 is_held magic id other head records gated behind each holds =
     let is = holds.spelling in
     let opened : head ≡ 1 = cc in
@@ -67,7 +67,7 @@ first_byte [] gate tail = (gate, tail, refl)
 first_byte (b ∷ front) gate tail = (b, front ++ gate ∷ tail, refl)
 
 -- whatever gate stands behind the log, it holds them
-still_held : (magic : List ℕ) (id other head : ℕ) (records : List (List ℕ)) (gated : List Gated) (gate : ℕ) (tail image : List ℕ) → IsHeld magic id other head records gated → image ≡ log_of magic other head gated ++ gate ∷ tail → HoldsRecords magic id records image
+still_held : (magic : List ℕ) (id other head : ℕ) (records : List (List ℕ)) (gated : List Gated) (gate : ℕ) (tail image : List ℕ) → IsHeld magic id other head records gated → image ≡ log_of magic other head gated ++ gate ∷ tail → HasAcknowledged magic id records image
 still_held magic id other head records gated gate tail image held is =
     let next = first_byte (all_gated held.rest) gate tail in
     let log : log_of magic other head gated ++ gate ∷ tail ≡ log_of magic id 1 (held.held ++ held.rest) ++ gate ∷ tail =
@@ -91,7 +91,7 @@ spares_behind magic id other head records gated behind each holds image h =
     still_held magic id other head records gated h.0 h.1 image (is_held magic id other head records gated behind each holds) h.2
 
 pub spares_cut : (magic : List ℕ) (id other head : ℕ) (records : List (List ℕ)) (gated : List Gated) (behind : List ℕ) → Each IsOpen gated
-    → Spares magic id records (log_of magic other head gated ++ 0 ∷ behind) (KeepsFront (log_of magic other head gated))
+    → Spares magic id records (log_of magic other head gated ++ 0 ∷ behind) (HasFront (log_of magic other head gated))
 spares_cut magic id other head records gated behind each holds image h = spares_behind magic id other head records gated behind each holds image (0, h.0, h.1)
 
 -- a write behind that gate
@@ -135,14 +135,14 @@ pub spares_last : (magic : List ℕ) (id other : ℕ) (records : List (List ℕ)
 spares_last magic id other records before gate bytes each holds image h =
     let last : Gated = record { gate = gate; bytes = bytes } in
     let whole = keeps_more magic other 1 before gate bytes [] (log_of magic other 1 before ++ gate ∷ (framed bytes ++ 0 ∷ [])) refl in
-    let held = is_held magic id other 1 records (before ++ last ∷ []) [] each (subst (λ (l : List ℕ). HoldsRecords magic id records l) whole holds) in
+    let held = is_held magic id other 1 records (before ++ last ∷ []) [] each (subst (λ (l : List ℕ). HasAcknowledged magic id records l) whole holds) in
     let others = without_last 1 before held.held held.rest last h.0 held.acknowledged.last held.parts in
     let shorter : IsHeld magic id other 1 records before = record { held = held.held; more = held.more; rest = others.0; acknowledged = held.acknowledged; opened = held.opened; named = held.named; parts = others.1 } in
     still_held magic id other 1 records before h.1 ((framed bytes ++ 0 ∷ []) ++ h.2) image shorter h.3
 
 -- ---- bytes without a log, and a log at rest
 
-holds_made : (magic : List ℕ) (id : ℕ) (records : List (List ℕ)) (bytes : List ℕ) → HoldsRecords magic id records bytes → IsUnmade bytes → ⊥
+holds_made : (magic : List ℕ) (id : ℕ) (records : List (List ℕ)) (bytes : List ℕ) → HasAcknowledged magic id records bytes → IsUnmade bytes → ⊥
 holds_made magic id records bytes holds =
     made 1 ((identity magic id ++ all_gated holds.gated) ++ holds.gate ∷ holds.behind) bytes (omega (arith, length-append (identity magic id ++ all_gated holds.gated) (holds.gate ∷ holds.behind))) (λ e. cc e) holds.spelling
 
@@ -150,7 +150,7 @@ holds_made magic id records bytes holds =
 pub spares_unmade : (magic : List ℕ) (id : ℕ) (records : List (List ℕ)) (bytes : List ℕ) (P : List ℕ → Type 0) → IsUnmade bytes → Spares magic id records bytes P
 spares_unmade magic id records bytes P unmade holds image h = absurd (holds_made magic id records bytes holds unmade)
 
-pub rest_holds : (magic : List ℕ) (id end : ℕ) (records : List (List ℕ)) (m : Moment) → IsAtRest magic id end records m → Leaves (HoldsRecords magic id records) m
+pub rest_holds : (magic : List ℕ) (id end : ℕ) (records : List (List ℕ)) (m : Moment) → IsAtRest magic id end records m → Leaves (HasAcknowledged magic id records) m
 rest_holds magic id end records m rest image h = record {
   gated = rest.gated;
   more = [];
@@ -161,10 +161,10 @@ rest_holds magic id end records m rest image h = record {
 }
 
 -- held records are the first of those that are spelled
-pub held_first : (bytes magic : List ℕ) (id other : ℕ) (records others : List (List ℕ)) → HoldsRecords magic id records bytes → Spells bytes magic other others → (more : List (List ℕ)) × (others ≡ records ++ more)
+pub held_first : (bytes magic : List ℕ) (id other : ℕ) (records others : List (List ℕ)) → HasAcknowledged magic id records bytes → Spells bytes magic other others → (more : List (List ℕ)) × (others ≡ records ++ more)
 held_first bytes magic id other records others holds (inl none) = absurd (holds_made magic id records bytes holds none.0)
 held_first bytes magic id other records others holds (inr w) =
-    let held = is_held magic id other w.0 records w.1 w.2.behind w.2.gates_open (subst (λ (l : List ℕ). HoldsRecords magic id records l) w.2.spelling holds) in (
+    let held = is_held magic id other w.0 records w.1 w.2.behind w.2.gates_open (subst (λ (l : List ℕ). HasAcknowledged magic id records l) w.2.spelling holds) in (
       held.more ++ records_of held.rest,
       w.3 ∙ ap records_of held.parts ∙ map-append (λ (g : Gated). g.bytes) held.held held.rest ∙ ap (λ (rs : List (List ℕ)). rs ++ records_of held.rest) (sym held.acknowledged.same)
           ∙ append_assoc records held.more (records_of held.rest),
@@ -175,16 +175,16 @@ held_first bytes magic id other records others holds (inr w) =
 -- how it lasts from a log at rest
 abbrev pub AppendLasts : List ℕ → ℕ → ℕ → (Moment → Type 0) → List Moment → List Moment → Type 0
 AppendLasts magic id end P old new =
-    (gated : List Gated) → Each IsOpen gated → end ≡ length (log_of magic id 1 gated) → IfTold old (λ m. m ≡ settled (log_of magic id 1 gated ++ 0 ∷ [])) → Lasts P old new
+    (gated : List Gated) → Each IsOpen gated → end ≡ length (log_of magic id 1 gated) → IfKnown old (λ m. m ≡ settled (log_of magic id 1 gated ++ 0 ∷ [])) → Preserves P old new
 
-pub append_lasts : (magic : List ℕ) (id other end : ℕ) (records others : List (List ℕ)) (bytes : List ℕ) (old new : List Moment) → AppendGoes end bytes old new → IfTold old (IsAtRest magic other end others)
-    → AppendLasts magic other end (Leaves (HoldsRecords magic id records)) old new → Lasts (Leaves (HoldsRecords magic id records)) old new
+pub append_lasts : (magic : List ℕ) (id other end : ℕ) (records others : List (List ℕ)) (bytes : List ℕ) (old new : List Moment) → AppendGoes end bytes old new → IfKnown old (IsAtRest magic other end others)
+    → AppendLasts magic other end (Leaves (HasAcknowledged magic id records)) old new → Preserves (Leaves (HasAcknowledged magic id records)) old new
 append_lasts magic id other end records others bytes [] new goes rest lasts = ([], append_untold end bytes new goes, tt)
 append_lasts magic id other end records others bytes (m ∷ past) new goes rest lasts = lasts rest.gated rest.acknowledged.gates_open rest.place rest.settled_on
 
-pub append_holds : (magic : List ℕ) (id end : ℕ) (records : List (List ℕ)) (bytes : List ℕ) (old new : List Moment) → AppendGoes end bytes old new → IfTold old (IsAtRest magic id end records)
-    → AppendLasts magic id end (Leaves (HoldsRecords magic id records)) old new → Passes (Leaves (HoldsRecords magic id records)) old new
+pub append_holds : (magic : List ℕ) (id end : ℕ) (records : List (List ℕ)) (bytes : List ℕ) (old new : List Moment) → AppendGoes end bytes old new → IfKnown old (IsAtRest magic id end records)
+    → AppendLasts magic id end (Leaves (HasAcknowledged magic id records)) old new → Passes (Leaves (HasAcknowledged magic id records)) old new
 append_holds magic id end records bytes old new goes rest lasts =
-    let P : Moment → Type 0 = Leaves (HoldsRecords magic id records) in
+    let P : Moment → Type 0 = Leaves (HasAcknowledged magic id records) in
     lasts_passes P old new (told_map (IsAtRest magic id end records) P (rest_holds magic id end records) old rest)
     (append_lasts magic id id end records records bytes old new goes rest lasts)

@@ -1,10 +1,10 @@
 pub mod AppendLemmas
 pub mod HeadLemmas
 pub mod HoldsLemmas
-pub mod LastingLemmas
+pub mod DurabilityLemmas
 pub mod LawLemmas
 pub mod MakeLemmas
-pub mod MendLemmas
+pub mod RepairLemmas
 pub mod MomentLemmas
 pub mod OpenLemmas
 pub mod ParseLemmas

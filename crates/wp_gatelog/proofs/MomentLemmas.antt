@@ -1,7 +1,7 @@
 -- The moments of one change and its sync, and the images that they leave.
 use Rattle.std.proofs.Common.{◌≡◌, inl, inr, ℕ, zero, suc, ◌+◌, ◌≤◌, max, List, [], ◌∷◌, ◌++◌, map, length, take, drop, Option, None, Some, Result, Ok, Err, OnOk, OnErr, refl, sym, ◌∙◌, ap, subst, arith, length-append, length-drop, length-take}
 use Rattle.std.proofs.lemmas.List.{append-nil, append_assoc, drop_all, take-map, take_at, length-map}
-use Rattle.wp_outside.specs.Disk.{Moment, Matches, IsImage, settled, put, hide, hide_at, after_write, after_cut, after_sync, IfTold, added, Tears, Each, Passes, images}
+use Rattle.wp_outside.specs.Disk.{Moment, Matches, IsImage, settled, put, hide, hide_at, after_write, after_cut, after_sync, IfKnown, added, Tears, Each, Passes, images}
 use Rattle.wp_gatelog.specs.Moments.{Leaves, Within, Goes}
 
 -- ---- moments, one after another
@@ -38,29 +38,29 @@ left_now P old new before passes = from passes.0 passes.1 passes.2
 
 -- ---- a disk that tells
 
-pub told_map : (P Q : Moment → Type 0) → ((m : Moment) → P m → Q m) → (ms : List Moment) → IfTold ms P → IfTold ms Q
+pub told_map : (P Q : Moment → Type 0) → ((m : Moment) → P m → Q m) → (ms : List Moment) → IfKnown ms P → IfKnown ms Q
 told_map P Q f [] told = tt
 told_map P Q f (m ∷ past) told = f m told
 
-pub told_both : (P Q R : Moment → Type 0) → ((m : Moment) → P m → Q m → R m) → (ms : List Moment) → IfTold ms P → IfTold ms Q → IfTold ms R
+pub told_both : (P Q R : Moment → Type 0) → ((m : Moment) → P m → Q m → R m) → (ms : List Moment) → IfKnown ms P → IfKnown ms Q → IfKnown ms R
 told_both P Q R f [] p q = tt
 told_both P Q R f (m ∷ past) p q = f m p q
 
-pub told_three : (P Q R S : Moment → Type 0) → ((m : Moment) → P m → Q m → R m → S m) → (ms : List Moment) → IfTold ms P → IfTold ms Q → IfTold ms R → IfTold ms S
+pub told_three : (P Q R S : Moment → Type 0) → ((m : Moment) → P m → Q m → R m → S m) → (ms : List Moment) → IfKnown ms P → IfKnown ms Q → IfKnown ms R → IfKnown ms S
 told_three P Q R S f [] p q r = tt
 told_three P Q R S f (m ∷ past) p q r = f m p q r
 
 -- of a disk that tells nothing, nothing is owed but that it still tells nothing
-pub told_goes : (P Q : Moment → Type 0) (old new : List Moment) → (old ≡ [] → new ≡ []) → IfTold old Q → ((m : Moment) → Q m → Goes P old new) → Goes P old new
+pub told_goes : (P Q : Moment → Type 0) (old new : List Moment) → (old ≡ [] → new ≡ []) → IfKnown old Q → ((m : Moment) → Q m → Goes P old new) → Goes P old new
 told_goes P Q [] new untold told goes = untold refl
 told_goes P Q (m ∷ past) new untold told goes = goes m told
 
-pub told_new : (Q R : Moment → Type 0) (old new : List Moment) → (old ≡ [] → new ≡ []) → IfTold old Q → ((m : Moment) → Q m → IfTold new R) → IfTold new R
-told_new Q R [] new untold told rests = subst (λ (ms : List Moment). IfTold ms R) (sym (untold refl)) tt
+pub told_new : (Q R : Moment → Type 0) (old new : List Moment) → (old ≡ [] → new ≡ []) → IfKnown old Q → ((m : Moment) → Q m → IfKnown new R) → IfKnown new R
+told_new Q R [] new untold told rests = subst (λ (ms : List Moment). IfKnown ms R) (sym (untold refl)) tt
 told_new Q R (m ∷ past) new untold told rests = rests m told
 
-pub told_as : (ms : List Moment) (x y : List ℕ) → x ≡ y → IfTold ms (λ m. m ≡ settled x) → IfTold ms (λ m. m ≡ settled y)
-told_as ms x y is told = subst (λ (z : List ℕ). IfTold ms (λ m. m ≡ settled z)) is told
+pub told_as : (ms : List Moment) (x y : List ℕ) → x ≡ y → IfKnown ms (λ m. m ≡ settled x) → IfKnown ms (λ m. m ≡ settled y)
+told_as ms x y is told = subst (λ (z : List ℕ). IfKnown ms (λ m. m ≡ settled z)) is told
 
 -- ---- bytes of which all are sure
 
@@ -112,19 +112,19 @@ module _ (step : Moment → Moment) (before : List ℕ) where
   within_step : (m : Moment) → m ≡ settled before → Within (step (settled before)) (step m)
   within_step m is image h = subst (λ (n : Moment). IsImage (step n) image) is h
 
-  pub torn_goes : (old new : List Moment) → IfTold old (λ m. m ≡ settled before) → Tears step old new → Goes (Within (step (settled before))) old new
+  pub torn_goes : (old new : List Moment) → IfKnown old (λ m. m ≡ settled before) → Tears step old new → Goes (Within (step (settled before))) old new
   torn_goes [] new told torn = elim torn [ inl same ↦ same | inr w ↦ w.1 ]
   torn_goes (m ∷ past) new told torn = elim torn [
     | inl same ↦ ([], same, tt)
     | inr w ↦ (record (step m) { reads = w.0 } ∷ [], w.1, (λ image h. within_step m told image h, tt))
   ]
 
-  pub step_goes : (old new : List Moment) → IfTold old (λ m. m ≡ settled before) → new ≡ added step old → Goes (Within (step (settled before))) old new
+  pub step_goes : (old new : List Moment) → IfKnown old (λ m. m ≡ settled before) → new ≡ added step old → Goes (Within (step (settled before))) old new
   step_goes [] new told adds = adds
   step_goes (m ∷ past) new told adds = (step m ∷ [], adds, (within_step m told, tt))
 
   -- the step was made, and then a sync, or not
-  pub synced_goes : {T E : Type 0} (old mid new : List Moment) (result : Result T E) → IsImage (step (settled before)) (step (settled before)).reads → IfTold old (λ m. m ≡ settled before) → mid ≡ added step old → OnOk result (new ≡ added after_sync mid) → OnErr result (new ≡ mid) → Goes (Within (step (settled before))) old new
+  pub synced_goes : {T E : Type 0} (old mid new : List Moment) (result : Result T E) → IsImage (step (settled before)) (step (settled before)).reads → IfKnown old (λ m. m ≡ settled before) → mid ≡ added step old → OnOk result (new ≡ added after_sync mid) → OnErr result (new ≡ mid) → Goes (Within (step (settled before))) old new
   synced_goes [] mid new (Ok x) reads told adds syncs kept = subst (λ (l : List Moment). new ≡ added after_sync l) adds syncs
   synced_goes [] mid new (Err e) reads told adds syncs kept = kept ∙ adds
   synced_goes (m ∷ past) mid new (Ok x) reads told adds syncs kept =

@@ -1,21 +1,21 @@
 -- A log is opened.
 use Rattle.std.proofs.Common.{◌≡◌, inl, inr, ℕ, ◌<◌, List, [], ◌∷◌, ◌++◌, length, drop, Option, Result, Ok, Err, IfOk, IfErr, refl, sym, ◌∙◌, ap, subst, arith, length-append}
 use Rattle.std.proofs.lemmas.List.{append_assoc, drop_at}
-use Rattle.wp_outside.specs.Disk.{Moment, settled, IfTold, added, after_sync}
+use Rattle.wp_outside.specs.Disk.{Moment, settled, IfKnown, added, after_sync}
 use Rattle.wp_gatelog.specs.declared.error.LogError.{LogError}
 use Rattle.wp_gatelog.specs.declared.error.LogError.TheVariants.{Memory, DiskFault, BadHead, Cut}
 use Rattle.wp_gatelog.specs.declared.gate.Gate.{Gate}
 use Rattle.wp_gatelog.specs.declared.head.Head.TheVariants.{Unmade, Made}
 use Rattle.wp_gatelog.specs.Heads.{BeginsLog, IsHead, SpellsNone}
-use Rattle.wp_gatelog.specs.Lasting.{Lasts}
+use Rattle.wp_gatelog.specs.Durability.{Preserves}
 use Rattle.wp_gatelog.specs.Log.{IsAtRest}
-use Rattle.wp_gatelog.specs.Mending.{IsReadLog, Mended}
+use Rattle.wp_gatelog.specs.Repair.{IsReadLog, IsRepaired}
 use Rattle.wp_gatelog.specs.Moments.{Leaves, Goes}
-use Rattle.wp_gatelog.specs.Opening.{IsFound, IsRefused, Mends, MendsMade}
+use Rattle.wp_gatelog.specs.Opening.{IsFound, IsRefused, Repairs, RepairsMade}
 use Rattle.wp_gatelog.specs.Scanning.{HasRead, IsReadFault}
 use Rattle.wp_gatelog.specs.Spelling.{Gated, identity, all_gated, log_of, IsUnmade}
 use Rattle.wp_gatelog.proofs.HeadLemmas.{length-identity}
-use Rattle.wp_gatelog.proofs.LastingLemmas.{lasts_told}
+use Rattle.wp_gatelog.proofs.DurabilityLemmas.{lasts_told}
 use Rattle.wp_gatelog.proofs.MomentLemmas.{goes_on, goes_map, told_map, told_both, told_three, told_goes, told_new, image_of_settled}
 
 module _ (magic : List ℕ) (id head len : ℕ) (bytes : List ℕ) (begins : BeginsLog magic id head len bytes) where
@@ -76,34 +76,34 @@ module _ (magic : List ℕ) (id head len : ℕ) (bytes : List ℕ) (begins : Beg
       }
 
   -- by the disk's moments as they were found, as they were read and as they are left
-  module _ (records : List (List ℕ)) (last : Option Gate) (end : ℕ) (old read new : List Moment) (kept : read ≡ old) (told : IfTold old (λ m. m ≡ settled bytes))
-      (found : IfTold old (λ m. len ≡ length m.reads → (behind : List ℕ) × HasRead (drop 10 m.reads) (0 ∷ behind) records last end)) where
-    logs : IfTold old (λ _. IsReadLog magic id head records last end len bytes)
+  module _ (records : List (List ℕ)) (last : Option Gate) (end : ℕ) (old read new : List Moment) (kept : read ≡ old) (told : IfKnown old (λ m. m ≡ settled bytes))
+      (found : IfKnown old (λ m. len ≡ length m.reads → (behind : List ℕ) × HasRead (drop 10 m.reads) (0 ∷ behind) records last end)) where
+    logs : IfKnown old (λ _. IsReadLog magic id head records last end len bytes)
     logs =
         told_both (λ m. m ≡ settled bytes) (λ m. len ≡ length m.reads → (behind : List ℕ) × HasRead (drop 10 m.reads) (0 ∷ behind) records last end)
         (λ _. IsReadLog magic id head records last end len bytes) (log_read records last end) old told found
 
-    told_kept : IfTold read (λ m. m ≡ settled bytes)
-    told_kept = subst (λ (ms : List Moment). IfTold ms (λ m. m ≡ settled bytes)) (sym kept) told
+    told_kept : IfKnown read (λ m. m ≡ settled bytes)
+    told_kept = subst (λ (ms : List Moment). IfKnown ms (λ m. m ≡ settled bytes)) (sym kept) told
 
-    pub logs_found : IfTold old (λ _. IsFound magic id bytes id records)
+    pub logs_found : IfKnown old (λ _. IsFound magic id bytes id records)
     logs_found = told_map (λ _. IsReadLog magic id head records last end len bytes) (λ _. IsFound magic id bytes id records) (λ _. log_found records last end) old logs
 
     pub logs_go : (read ≡ [] → new ≡ [])
-        → ((log : IsReadLog magic id head records last end len bytes) → IfTold read (λ m. m ≡ settled bytes) → Goes (Leaves (Mended magic id head log.gated)) read new) → Goes (Leaves (MendsMade magic id head bytes)) old new
+        → ((log : IsReadLog magic id head records last end len bytes) → IfKnown read (λ m. m ≡ settled bytes) → Goes (Leaves (IsRepaired magic id head log.gated)) read new) → Goes (Leaves (RepairsMade magic id head bytes)) old new
     logs_go untold goes =
-        let P : Moment → Type 0 = Leaves (MendsMade magic id head bytes) in
+        let P : Moment → Type 0 = Leaves (RepairsMade magic id head bytes) in
         told_goes P (λ _. IsReadLog magic id head records last end len bytes) old new (λ none. untold (kept ∙ none)) logs
         (λ m log. subst (λ (ms : List Moment). Goes P ms new) kept
-        (goes_map (Leaves (Mended magic id head log.gated)) P (λ n leaves image h. (log.gated, log.stands, leaves image h)) read new (goes log told_kept)))
+        (goes_map (Leaves (IsRepaired magic id head log.gated)) P (λ n leaves image h. (log.gated, log.stands, leaves image h)) read new (goes log told_kept)))
 
-    pub logs_last : (P : Moment → Type 0) → (read ≡ [] → new ≡ []) → (IsReadLog magic id head records last end len bytes → IfTold read (λ m. m ≡ settled bytes) → Lasts P read new) → Lasts P old new
+    pub logs_last : (P : Moment → Type 0) → (read ≡ [] → new ≡ []) → (IsReadLog magic id head records last end len bytes → IfKnown read (λ m. m ≡ settled bytes) → Preserves P read new) → Preserves P old new
     logs_last P untold lasts =
         lasts_told P (λ _. IsReadLog magic id head records last end len bytes) old new (λ none. untold (kept ∙ none)) logs
-        (λ m log. subst (λ (ms : List Moment). Lasts P ms new) kept (lasts log told_kept))
+        (λ m log. subst (λ (ms : List Moment). Preserves P ms new) kept (lasts log told_kept))
 
     pub logs_rest : (read ≡ [] → new ≡ [])
-        → (IsReadLog magic id head records last end len bytes → IfTold read (λ m. m ≡ settled bytes) → IfTold new (IsAtRest magic id end records)) → IfTold new (IsAtRest magic id end records)
+        → (IsReadLog magic id head records last end len bytes → IfKnown read (λ m. m ≡ settled bytes) → IfKnown new (IsAtRest magic id end records)) → IfKnown new (IsAtRest magic id end records)
     logs_rest untold rests =
         told_new (λ _. IsReadLog magic id head records last end len bytes) (IsAtRest magic id end records) old new (λ none. untold (kept ∙ none)) logs (λ m log. rests log told_kept)
 
@@ -140,92 +140,92 @@ made_rests magic id records four none m on = record {
 -- ---- the two ways, by the disk's moments as they were found, as they were read and as they are left
 
 module _ (magic : List ℕ) (asked len : ℕ) (bytes : List ℕ) (old read new : List Moment) (kept : read ≡ old) (untold : read ≡ [] → new ≡ [])
-    (told : IfTold old (λ m. m ≡ settled bytes)) (size : IfTold old (λ m. len ≡ length m.reads)) where
-  told_read : IfTold read (λ m. m ≡ settled bytes)
-  told_read = subst (λ (ms : List Moment). IfTold ms (λ m. m ≡ settled bytes)) (sym kept) told
+    (told : IfKnown old (λ m. m ≡ settled bytes)) (size : IfKnown old (λ m. len ≡ length m.reads)) where
+  told_read : IfKnown read (λ m. m ≡ settled bytes)
+  told_read = subst (λ (ms : List Moment). IfKnown ms (λ m. m ≡ settled bytes)) (sym kept) told
 
-  unmade : IfTold old (λ m. IsHead magic m.reads Unmade) → IfTold old (λ _. IsUnmade bytes × (len ≡ length bytes))
+  unmade : IfKnown old (λ m. IsHead magic m.reads Unmade) → IfKnown old (λ _. IsUnmade bytes × (len ≡ length bytes))
   unmade head =
       told_three (λ m. m ≡ settled bytes) (λ m. len ≡ length m.reads) (λ m. IsHead magic m.reads Unmade) (λ _. IsUnmade bytes × (len ≡ length bytes))
       (unmade_told magic len bytes) old told size head
 
-  pub unmade_goes : IfTold old (λ m. IsHead magic m.reads Unmade)
-      → (IsUnmade bytes → len ≡ length bytes → IfTold read (λ m. m ≡ settled bytes) → Goes (Leaves (SpellsNone magic asked)) read new) → Goes (Leaves (Mends magic asked bytes)) old new
+  pub unmade_goes : IfKnown old (λ m. IsHead magic m.reads Unmade)
+      → (IsUnmade bytes → len ≡ length bytes → IfKnown read (λ m. m ≡ settled bytes) → Goes (Leaves (SpellsNone magic asked)) read new) → Goes (Leaves (Repairs magic asked bytes)) old new
   unmade_goes head goes =
-      let P : Moment → Type 0 = Leaves (Mends magic asked bytes) in
+      let P : Moment → Type 0 = Leaves (Repairs magic asked bytes) in
       told_goes P (λ _. IsUnmade bytes × (len ≡ length bytes)) old new (λ none. untold (kept ∙ none)) (unmade head)
       (λ m f. subst (λ (ms : List Moment). Goes P ms new) kept
       (goes_map (Leaves (SpellsNone magic asked)) P (λ n leaves image h. inr (inl (f.0, leaves image h))) read new (goes f.0 f.1 told_read)))
 
-  pub unmade_lasts : IfTold old (λ m. IsHead magic m.reads Unmade) → (P : Moment → Type 0) → (IsUnmade bytes → len ≡ length bytes → IfTold read (λ m. m ≡ settled bytes) → Lasts P read new) → Lasts P old new
+  pub unmade_lasts : IfKnown old (λ m. IsHead magic m.reads Unmade) → (P : Moment → Type 0) → (IsUnmade bytes → len ≡ length bytes → IfKnown read (λ m. m ≡ settled bytes) → Preserves P read new) → Preserves P old new
   unmade_lasts head P lasts =
       lasts_told P (λ _. IsUnmade bytes × (len ≡ length bytes)) old new (λ none. untold (kept ∙ none)) (unmade head)
-      (λ m f. subst (λ (ms : List Moment). Lasts P ms new) kept (lasts f.0 f.1 told_read))
+      (λ m f. subst (λ (ms : List Moment). Preserves P ms new) kept (lasts f.0 f.1 told_read))
 
-  pub unmade_rests : (records : List (List ℕ)) → length magic ≡ 4 → records ≡ [] → IfTold old (λ m. IsHead magic m.reads Unmade)
-      → (IsUnmade bytes → len ≡ length bytes → IfTold read (λ m. m ≡ settled bytes) → IfTold new (λ m. m ≡ settled (log_of magic asked 1 [] ++ 0 ∷ []))) → IfTold new (IsAtRest magic asked 10 records)
+  pub unmade_rests : (records : List (List ℕ)) → length magic ≡ 4 → records ≡ [] → IfKnown old (λ m. IsHead magic m.reads Unmade)
+      → (IsUnmade bytes → len ≡ length bytes → IfKnown read (λ m. m ≡ settled bytes) → IfKnown new (λ m. m ≡ settled (log_of magic asked 1 [] ++ 0 ∷ []))) → IfKnown new (IsAtRest magic asked 10 records)
   unmade_rests records four none head done =
       told_new (λ _. IsUnmade bytes × (len ≡ length bytes)) (IsAtRest magic asked 10 records) old new (λ e. untold (kept ∙ e)) (unmade head)
       (λ m f. told_map (λ n. n ≡ settled (log_of magic asked 1 [] ++ 0 ∷ [])) (IsAtRest magic asked 10 records) (made_rests magic asked records four none) new (done f.0 f.1 told_read))
 
-  module _ (head id : ℕ) (four : length magic ≡ 4) (is_head : IfTold old (λ m. IsHead magic m.reads (Made head id))) where
-    begun : IfTold old (λ _. BeginsLog magic id head len bytes)
+  module _ (head id : ℕ) (four : length magic ≡ 4) (is_head : IfKnown old (λ m. IsHead magic m.reads (Made head id))) where
+    begun : IfKnown old (λ _. BeginsLog magic id head len bytes)
     begun =
         told_three (λ m. m ≡ settled bytes) (λ m. len ≡ length m.reads) (λ m. IsHead magic m.reads (Made head id)) (λ _. BeginsLog magic id head len bytes)
         (made_told magic len bytes head id four) old told size is_head
 
-    pub made_goes : (BeginsLog magic id head len bytes → IfTold read (λ m. m ≡ settled bytes) → Goes (Leaves (MendsMade magic id head bytes)) read new) → Goes (Leaves (Mends magic asked bytes)) old new
+    pub made_goes : (BeginsLog magic id head len bytes → IfKnown read (λ m. m ≡ settled bytes) → Goes (Leaves (RepairsMade magic id head bytes)) read new) → Goes (Leaves (Repairs magic asked bytes)) old new
     made_goes goes =
-        let P : Moment → Type 0 = Leaves (Mends magic asked bytes) in
+        let P : Moment → Type 0 = Leaves (Repairs magic asked bytes) in
         told_goes P (λ _. BeginsLog magic id head len bytes) old new (λ none. untold (kept ∙ none)) begun
         (λ m begins. subst (λ (ms : List Moment). Goes P ms new) kept
-        (goes_map (Leaves (MendsMade magic id head bytes)) P (λ n leaves image h. let w = leaves image h in inr (inr (id, head, w.0, w.1, w.2))) read new (goes begins told_read)))
+        (goes_map (Leaves (RepairsMade magic id head bytes)) P (λ n leaves image h. let w = leaves image h in inr (inr (id, head, w.0, w.1, w.2))) read new (goes begins told_read)))
 
-    pub made_lasts : (P : Moment → Type 0) → (BeginsLog magic id head len bytes → IfTold read (λ m. m ≡ settled bytes) → Lasts P read new) → Lasts P old new
+    pub made_lasts : (P : Moment → Type 0) → (BeginsLog magic id head len bytes → IfKnown read (λ m. m ≡ settled bytes) → Preserves P read new) → Preserves P old new
     made_lasts P lasts =
         lasts_told P (λ _. BeginsLog magic id head len bytes) old new (λ none. untold (kept ∙ none)) begun
-        (λ m begins. subst (λ (ms : List Moment). Lasts P ms new) kept (lasts begins told_read))
+        (λ m begins. subst (λ (ms : List Moment). Preserves P ms new) kept (lasts begins told_read))
 
     -- what is found behind the head holds of the bytes as they were found
-    made_told_of : (P Q : Type 0) → (BeginsLog magic id head len bytes → P → Q) → (BeginsLog magic id head len bytes → IfTold read (λ m. m ≡ settled bytes) → IfTold read (λ _. P)) → IfTold old (λ _. Q)
+    made_told_of : (P Q : Type 0) → (BeginsLog magic id head len bytes → P → Q) → (BeginsLog magic id head len bytes → IfKnown read (λ m. m ≡ settled bytes) → IfKnown read (λ _. P)) → IfKnown old (λ _. Q)
     made_told_of P Q f told_of =
         told_new (λ _. BeginsLog magic id head len bytes) (λ _. Q) old old (λ none. none) begun
-        (λ m begins. told_map (λ _. P) (λ _. Q) (λ _ p. f begins p) old (subst (λ (ms : List Moment). IfTold ms (λ _. P)) kept (told_of begins told_read)))
+        (λ m begins. told_map (λ _. P) (λ _. Q) (λ _ p. f begins p) old (subst (λ (ms : List Moment). IfKnown ms (λ _. P)) kept (told_of begins told_read)))
 
-    pub made_found : (records : List (List ℕ)) → (BeginsLog magic id head len bytes → IfTold read (λ m. m ≡ settled bytes) → IfTold read (λ _. IsFound magic id bytes id records))
-        → IfTold old (λ _. IsFound magic asked bytes id records)
+    pub made_found : (records : List (List ℕ)) → (BeginsLog magic id head len bytes → IfKnown read (λ m. m ≡ settled bytes) → IfKnown read (λ _. IsFound magic id bytes id records))
+        → IfKnown old (λ _. IsFound magic asked bytes id records)
     made_found records = made_told_of (IsFound magic id bytes id records) (IsFound magic asked bytes id records) (λ begins found. found_made magic id head len bytes begins asked records found)
 
-    pub made_refused : (why : LogError) → (BeginsLog magic id head len bytes → IfTold read (λ m. m ≡ settled bytes) → IfTold read (λ _. IsRefused magic bytes why)) → IfTold old (λ _. IsRefused magic bytes why)
+    pub made_refused : (why : LogError) → (BeginsLog magic id head len bytes → IfKnown read (λ m. m ≡ settled bytes) → IfKnown read (λ _. IsRefused magic bytes why)) → IfKnown old (λ _. IsRefused magic bytes why)
     made_refused why = made_told_of (IsRefused magic bytes why) (IsRefused magic bytes why) (λ begins refused. refused)
 
 -- ---- behind the first sync
 
 -- where the disk tells, it has the bytes for good that it read
-pub synced_bytes : (old mid : List Moment) → mid ≡ added after_sync old → (bytes : List ℕ) × IfTold mid (λ m. m ≡ settled bytes)
-synced_bytes [] mid synced = ([], subst (λ (ms : List Moment). IfTold ms (λ m. m ≡ settled [])) (sym synced) tt)
-synced_bytes (m ∷ past) mid synced = (m.reads, subst (λ (ms : List Moment). IfTold ms (λ n. n ≡ settled m.reads)) (sym synced) refl)
+pub synced_bytes : (old mid : List Moment) → mid ≡ added after_sync old → (bytes : List ℕ) × IfKnown mid (λ m. m ≡ settled bytes)
+synced_bytes [] mid synced = ([], subst (λ (ms : List Moment). IfKnown ms (λ m. m ≡ settled [])) (sym synced) tt)
+synced_bytes (m ∷ past) mid synced = (m.reads, subst (λ (ms : List Moment). IfKnown ms (λ n. n ≡ settled m.reads)) (sym synced) refl)
 
 pub synced_goes : (magic : List ℕ) (asked : ℕ) (old mid new : List Moment) → mid ≡ added after_sync old
-    → ((bytes : List ℕ) → IfTold mid (λ m. m ≡ settled bytes) → Goes (Leaves (Mends magic asked bytes)) mid new) → IfTold old (λ m. Goes (Leaves (Mends magic asked m.reads)) old new)
+    → ((bytes : List ℕ) → IfKnown mid (λ m. m ≡ settled bytes) → Goes (Leaves (Repairs magic asked bytes)) mid new) → IfKnown old (λ m. Goes (Leaves (Repairs magic asked m.reads)) old new)
 synced_goes magic asked [] mid new synced goes = tt
 synced_goes magic asked (m ∷ past) mid new synced goes =
-    let P : Moment → Type 0 = Leaves (Mends magic asked m.reads) in
-    let rest = goes m.reads (subst (λ (ms : List Moment). IfTold ms (λ n. n ≡ settled m.reads)) (sym synced) refl) in
+    let P : Moment → Type 0 = Leaves (Repairs magic asked m.reads) in
+    let rest = goes m.reads (subst (λ (ms : List Moment). IfKnown ms (λ n. n ≡ settled m.reads)) (sym synced) refl) in
     goes_on P (m ∷ past) mid new
     (subst (λ (ms : List Moment). Goes P (m ∷ past) ms) (sym synced) (settled m.reads ∷ [], refl, (λ image h. inl (image_of_settled m.reads image h), tt))) rest
 
-synced_told : (P : List ℕ → Type 0) (old mid : List Moment) → mid ≡ added after_sync old → ((bytes : List ℕ) → IfTold mid (λ m. m ≡ settled bytes) → IfTold mid (λ _. P bytes)) → IfTold old (λ m. P m.reads)
+synced_told : (P : List ℕ → Type 0) (old mid : List Moment) → mid ≡ added after_sync old → ((bytes : List ℕ) → IfKnown mid (λ m. m ≡ settled bytes) → IfKnown mid (λ _. P bytes)) → IfKnown old (λ m. P m.reads)
 synced_told P [] mid synced told = tt
 synced_told P (m ∷ past) mid synced told =
-    subst (λ (ms : List Moment). IfTold ms (λ _. P m.reads)) synced (told m.reads (subst (λ (ms : List Moment). IfTold ms (λ n. n ≡ settled m.reads)) (sym synced) refl))
+    subst (λ (ms : List Moment). IfKnown ms (λ _. P m.reads)) synced (told m.reads (subst (λ (ms : List Moment). IfKnown ms (λ n. n ≡ settled m.reads)) (sym synced) refl))
 
 pub synced_found : {T E : Type 0} (result : Result T E) (P : T → List ℕ → Type 0) (old mid : List Moment) → mid ≡ added after_sync old
-    → ((bytes : List ℕ) → IfTold mid (λ m. m ≡ settled bytes) → IfOk result (λ x. IfTold mid (λ _. P x bytes))) → IfOk result (λ x. IfTold old (λ m. P x m.reads))
+    → ((bytes : List ℕ) → IfKnown mid (λ m. m ≡ settled bytes) → IfOk result (λ x. IfKnown mid (λ _. P x bytes))) → IfOk result (λ x. IfKnown old (λ m. P x m.reads))
 synced_found (Ok x) P old mid synced found = synced_told (P x) old mid synced found
 synced_found (Err e) P old mid synced found = tt
 
 pub synced_refused : {T E : Type 0} (result : Result T E) (P : E → List ℕ → Type 0) (old mid : List Moment) → mid ≡ added after_sync old
-    → ((bytes : List ℕ) → IfTold mid (λ m. m ≡ settled bytes) → IfErr result (λ e. IfTold mid (λ _. P e bytes))) → IfErr result (λ e. IfTold old (λ m. P e m.reads))
+    → ((bytes : List ℕ) → IfKnown mid (λ m. m ≡ settled bytes) → IfErr result (λ e. IfKnown mid (λ _. P e bytes))) → IfErr result (λ e. IfKnown old (λ m. P e m.reads))
 synced_refused (Ok x) P old mid synced refused = tt
 synced_refused (Err e) P old mid synced refused = synced_told (P e) old mid synced refused

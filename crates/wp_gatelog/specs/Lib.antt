@@ -2,9 +2,9 @@ pub mod Append
 pub mod Damage
 pub mod Errors
 pub mod Heads
-pub mod Lasting
+pub mod Durability
 pub mod Log
-pub mod Mending
+pub mod Repair
 pub mod Moments
 pub mod Opening
 pub mod Scanning

@@ -1,6 +1,6 @@
 -- An open log.
 use Rattle.std.specs.Prelude.{◌≡◌, ◌⊎◌, ℕ, Bool, List, [], ◌∷◌, ◌++◌, length}
-use Rattle.wp_outside.specs.Disk.{Moment, IfTold, Each, settled}
+use Rattle.wp_outside.specs.Disk.{Moment, IfKnown, Each, settled}
 use Rattle.wp_gatelog.specs.Spelling.{Gated, IsOpen, framed, frame_of, log_of, records_of, Spells}
 
 pub record State : Type 0 where
@@ -33,7 +33,7 @@ pub record IsAtRest (magic : List ℕ) (id end : ℕ) (records : List (List ℕ)
 
 -- where the log's disk tells, it is at rest with these records
 abbrev pub Rests : List ℕ → State → List (List ℕ) → Type 0
-Rests magic log records = IfTold log.moments (IsAtRest magic log.id log.end records)
+Rests magic log records = IfKnown log.moments (IsAtRest magic log.id log.end records)
 
 -- front, and behind it a closed gate; or an open one, one whole record and a closed gate
 abbrev pub Grows : List ℕ → List ℕ → List ℕ → Type 0

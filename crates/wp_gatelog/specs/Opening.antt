@@ -1,10 +1,10 @@
 -- What an opening finds, and what it leaves.
 use Rattle.std.specs.Prelude.{◌≡◌, ◌≢◌, ◌⊎◌, ℕ, List, [], ◌∷◌, ◌++◌, ⊤}
-use Rattle.wp_outside.specs.Disk.{Moment, IfTold, Passes, added, after_sync}
+use Rattle.wp_outside.specs.Disk.{Moment, IfKnown, Passes, added, after_sync}
 use Rattle.wp_gatelog.specs.declared.error.LogError.{LogError}
 use Rattle.wp_gatelog.specs.declared.error.LogError.TheVariants.{Memory, DiskFault, BadHead, Cut}
 use Rattle.wp_gatelog.specs.Damage.{IsBadHead, IsCut}
-use Rattle.wp_gatelog.specs.Mending.{Mended}
+use Rattle.wp_gatelog.specs.Repair.{IsRepaired}
 use Rattle.wp_gatelog.specs.Moments.{Leaves}
 use Rattle.wp_gatelog.specs.Spelling.{Gated, IsUnmade, Stands, Spells, records_of}
 
@@ -34,33 +34,33 @@ IsOnlySynced old new DiskFault = ⊤
 IsOnlySynced old new BadHead = new ≡ added after_sync old
 IsOnlySynced old new (Cut index) = new ≡ added after_sync old
 
--- While a log is mended, a crash leaves its records. Where its head's gate was not 01, it may leave none, and where the
+-- While a log is repaired, a crash leaves its records. Where its head's gate was not 01, it may leave none, and where the
 -- last record's was not, it may leave all but that record.
-abbrev pub KeepsMost : List ℕ → ℕ → ℕ → List Gated → List ℕ → Type 0
-KeepsMost magic id head gated image =
+abbrev pub HasMost : List ℕ → ℕ → ℕ → List Gated → List ℕ → Type 0
+HasMost magic id head gated image =
     Spells image magic id (records_of gated)
     ⊎ ((head ≢ 1) × Spells image magic id [])
     ⊎ ((before : List Gated) × (last : Gated) × (gated ≡ before ++ last ∷ []) × (last.gate ≢ 1) × Spells image magic id (records_of before))
 
 -- While a log is opened, a crash leaves what was found; or, where no log was made, one without records; or a log that is
--- mended.
+-- repaired.
 abbrev pub Survives : List ℕ → ℕ → List ℕ → List ℕ → Type 0
 Survives magic asked found image =
     (image ≡ found)
     ⊎ (IsUnmade found × Spells image magic asked [])
-    ⊎ ((id head : ℕ) × (gated : List Gated) × Stands magic id head gated found × KeepsMost magic id head gated image)
+    ⊎ ((id head : ℕ) × (gated : List Gated) × Stands magic id head gated found × HasMost magic id head gated image)
 
 -- the same, byte by byte
-abbrev pub Mends : List ℕ → ℕ → List ℕ → List ℕ → Type 0
-Mends magic asked found image =
+abbrev pub Repairs : List ℕ → ℕ → List ℕ → List ℕ → Type 0
+Repairs magic asked found image =
     (image ≡ found)
     ⊎ (IsUnmade found × Spells image magic asked [])
-    ⊎ ((id head : ℕ) × (gated : List Gated) × Stands magic id head gated found × Mended magic id head gated image)
+    ⊎ ((id head : ℕ) × (gated : List Gated) × Stands magic id head gated found × IsRepaired magic id head gated image)
 
 -- at each moment of an opening a crash leaves what survives it
 abbrev pub SurvivesThrough : List ℕ → ℕ → List Moment → List Moment → Type 0
-SurvivesThrough magic asked old new = IfTold old (λ m. Passes (Leaves (Survives magic asked m.reads)) old new)
+SurvivesThrough magic asked old new = IfKnown old (λ m. Passes (Leaves (Survives magic asked m.reads)) old new)
 
--- a log is mended whose head was read
-abbrev pub MendsMade : List ℕ → ℕ → ℕ → List ℕ → List ℕ → Type 0
-MendsMade magic id head found image = (gated : List Gated) × Stands magic id head gated found × Mended magic id head gated image
+-- a log is repaired whose head was read
+abbrev pub RepairsMade : List ℕ → ℕ → ℕ → List ℕ → List ℕ → Type 0
+RepairsMade magic id head found image = (gated : List Gated) × Stands magic id head gated found × IsRepaired magic id head gated image

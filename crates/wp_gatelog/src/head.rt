@@ -1,7 +1,7 @@
 //! The head of a log: its gate, magic, version and id, and the gate behind it.
 
 ghost use Rattle.std.specs.Prelude.{◌≡◌, ◌≢◌, ◌⊎◌, ℕ, ◌<◌, ◌∷◌, [], ◌++◌, List, length, take, slice_index, IfSome, IfNone, IfOk};
-ghost use Rattle.wp_outside.specs.Disk.{IfTold};
+ghost use Rattle.wp_outside.specs.Disk.{IfKnown};
 ghost use Rattle.wp_outside.specs.Faults.{HasCause};
 ghost use Rattle.wp_gatelog.specs.Heads.{IsHead};
 ghost use Rattle.wp_gatelog.specs.Spelling.{identity};
@@ -25,7 +25,7 @@ pub enum Head {
 /// Reads the head.
 pub fn read_head<D: Disk>(disk: &mut D, magic: &[u8]) -> Result<Head, Failed>
     requires { length magic.now ≡ 4 }
-    ensures found { IfOk result (λ head. IfTold (D.moments disk.old) (λ m. IsHead magic.now m.reads head)) }
+    ensures found { IfOk result (λ head. IfKnown (D.moments disk.old) (λ m. IsHead magic.now m.reads head)) }
     ensures kept { D.moments disk.new ≡ D.moments disk.old }
     ensures cause { HasCause (D.faults disk.old) (D.faults disk.new) result }
 {

@@ -3,7 +3,7 @@
 ghost use Rattle.std.specs.Prelude.{◌≡◌, ◌⊎◌, ℕ, ◌<◌, ◌^◌, List, ◌++◌, length, slice_index};
 ghost use Rattle.wp_outside.specs.Disk.{Moment};
 ghost use Rattle.wp_gatelog.specs.Damage.{IsBadHead, IsCut};
-ghost use Rattle.wp_gatelog.specs.Lasting.{HoldsRecords};
+ghost use Rattle.wp_gatelog.specs.Durability.{HasAcknowledged};
 ghost use Rattle.wp_gatelog.specs.Log.{IsAtRest};
 ghost use Rattle.wp_gatelog.specs.Moments.{Leaves};
 ghost use Rattle.wp_gatelog.specs.Spelling.{IsUnmade, Spells};
@@ -30,10 +30,10 @@ pub fn bytes_are_read_in_one_way()
 
 /// What a crash leaves of a log at rest holds its records, and in bytes that hold records these are the first that are
 /// spelled.
-pub fn held_records_come_first()
+pub fn acknowledged_records_come_first()
     ensures at_rest { (magic : List ℕ) (id end : ℕ) (records : List (List ℕ)) (m : Moment)
-        → IsAtRest magic id end records m → Leaves (HoldsRecords magic id records) m }
+        → IsAtRest magic id end records m → Leaves (HasAcknowledged magic id records) m }
     ensures first { (bytes magic : List ℕ) (id other : ℕ) (records others : List (List ℕ))
-        → HoldsRecords magic id records bytes → Spells bytes magic other others
+        → HasAcknowledged magic id records bytes → Spells bytes magic other others
         → (more : List (List ℕ)) × (others ≡ records ++ more) }
 {}

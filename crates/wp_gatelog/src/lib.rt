@@ -15,13 +15,13 @@ mod head;
 mod laws;
 mod log;
 mod make;
-mod mend;
 mod open;
 mod record;
+mod repair;
 mod scan;
 
 pub use error::{DiskRefused, LogError};
-pub use laws::{bytes_are_read_in_one_way, held_records_come_first};
+pub use laws::{acknowledged_records_come_first, bytes_are_read_in_one_way};
 pub use log::{AppendError, GateLog};
 pub use record::{Record, frame};
 

@@ -1,11 +1,11 @@
 //! A log that stands open.
 
 ghost use Rattle.std.specs.Prelude.{◌≡◌, ℕ, ◌+◌, ◌≤◌, ◌^◌, [], ◌∷◌, ◌++◌, List, length, false, IfOk, IfErr, OnOk, MatchResult};
-ghost use Rattle.wp_outside.specs.Disk.{IfTold, Each, Passes, settled, images, added, after_write, after_sync};
+ghost use Rattle.wp_outside.specs.Disk.{IfKnown, Each, Passes, settled, images, added, after_write, after_sync};
 ghost use Rattle.wp_outside.specs.Faults.{HasCause};
 ghost use Rattle.wp_gatelog.specs.Append.{Appended, Refuses};
 ghost use Rattle.wp_gatelog.specs.Errors.{FaultRose};
-ghost use Rattle.wp_gatelog.specs.Lasting.{Lasts, HoldsRecords};
+ghost use Rattle.wp_gatelog.specs.Durability.{Preserves, HasAcknowledged};
 ghost use Rattle.wp_gatelog.specs.Log.{Grows, BeforeOrAfter, IsFrame, Rests};
 ghost use Rattle.wp_gatelog.specs.Moments.{Goes, Leaves};
 ghost use Rattle.wp_gatelog.specs.Opening.{IsFound, IsRefused, IsOnlySynced, SurvivesThrough};
@@ -62,7 +62,7 @@ impl<D: Disk> Model for GateLog<D> {
 }
 
 impl<D: Disk> GateLog<D> {
-    /// Opens the log that stands on the disk, and mends what a crash left of it. Where none was made, one is made, with
+    /// Opens the log that stands on the disk, and repairs what a crash left of it. Where none was made, one is made, with
     /// this id. A log is of one kind, which its magic names.
     pub fn open(
         alloc: Global,
@@ -71,14 +71,14 @@ impl<D: Disk> GateLog<D> {
         id: u32,
     ) -> Result<GateLog<D>, DiskRefused<D, LogError>>
         // The records are those that the disk spelled as it was handed in, and a crash from now on leaves them.
-        ensures found { IfOk result (λ log. IfTold (D.moments disk) (λ m. IsFound magic id m.reads log.id log.found)) }
+        ensures found { IfOk result (λ log. IfKnown (D.moments disk) (λ m. IsFound magic id m.reads log.id log.found)) }
         ensures rests { IfOk result (λ log. Rests magic log log.found) }
         ensures spelled { IfOk result (λ log. (image : List ℕ) → images log.moments image
             → Spells image magic log.id log.found) }
         ensures fresh { IfOk result (λ log. (log.count ≡ length log.found) × (log.closed ≡ false)) }
 
         // Each refusal of the bytes comes where they are so.
-        ensures refused { IfErr result (λ refused. IfTold (D.moments disk) (λ m. IsRefused magic m.reads refused.why)) }
+        ensures refused { IfErr result (λ refused. IfKnown (D.moments disk) (λ m. IsRefused magic m.reads refused.why)) }
         ensures untouched { IfErr result (λ refused.
             IsOnlySynced (D.moments disk) (D.moments refused.disk) refused.why) }
 
@@ -90,9 +90,9 @@ impl<D: Disk> GateLog<D> {
         // What each crash at one moment would leave acknowledged, each crash at a later moment leaves too.
         ensures lasts { MatchResult result
             (λ log. (other : ℕ) (records : List (List ℕ))
-            → Lasts (Leaves (HoldsRecords magic other records)) (D.moments disk) log.moments)
+            → Preserves (Leaves (HasAcknowledged magic other records)) (D.moments disk) log.moments)
             (λ refused. (other : ℕ) (records : List (List ℕ))
-            → Lasts (Leaves (HoldsRecords magic other records)) (D.moments disk) (D.moments refused.disk)) }
+            → Preserves (Leaves (HasAcknowledged magic other records)) (D.moments disk) (D.moments refused.disk)) }
 
         ensures fault { IfErr result (λ refused. FaultRose (D.faults disk) (D.faults refused.disk) refused.why) }
         ensures later { MatchResult result (λ log. D.faults disk ≤ log.faults)
@@ -151,9 +151,9 @@ impl<D: Disk> GateLog<D> {
         // that stood, all along. A closed log stays as it is, at rest or not.
         ensures lasts { (magic : List ℕ) (id : ℕ) (records others : List (List ℕ))
             → (self.old.closed ≡ false → Rests magic self.old others)
-            → Lasts (Leaves (HoldsRecords magic id records)) self.old.moments self.new.moments }
+            → Preserves (Leaves (HasAcknowledged magic id records)) self.old.moments self.new.moments }
         ensures holds { (magic : List ℕ) (records : List (List ℕ)) → Rests magic self.old records
-            → Passes (Leaves (HoldsRecords magic self.old.id records)) self.old.moments self.new.moments }
+            → Passes (Leaves (HasAcknowledged magic self.old.id records)) self.old.moments self.new.moments }
 
         // Once it is acknowledged, a crash leaves the new record.
         ensures rests { OnOk result ((magic : List ℕ) (records : List (List ℕ)) (bytes : List ℕ)
@@ -203,16 +203,16 @@ impl<D: Disk> GateLog<D> {
 fn append_frame<D: Disk>(disk: &mut D, end: u64, frame: &[u8]) -> Result<(), Failed>
     requires { end ≤ 2 ^ 62 }
     ensures passed { (front bytes : List ℕ) → frame.now ≡ frame_of bytes → end ≡ length front
-        → IfTold (D.moments disk.old) (λ m. m ≡ settled (front ++ 0 ∷ []))
+        → IfKnown (D.moments disk.old) (λ m. m ≡ settled (front ++ 0 ∷ []))
         → Goes (Leaves (Grows front bytes)) (D.moments disk.old) (D.moments disk.new) }
     ensures lasts { (magic : List ℕ) (id : ℕ) (gated : List Gated) → Each IsOpen gated
         → end ≡ length (log_of magic id 1 gated)
-        → IfTold (D.moments disk.old) (λ m. m ≡ settled (log_of magic id 1 gated ++ 0 ∷ []))
+        → IfKnown (D.moments disk.old) (λ m. m ≡ settled (log_of magic id 1 gated ++ 0 ∷ []))
         → (other : ℕ) (records : List (List ℕ))
-        → Lasts (Leaves (HoldsRecords magic other records)) (D.moments disk.old) (D.moments disk.new) }
+        → Preserves (Leaves (HasAcknowledged magic other records)) (D.moments disk.old) (D.moments disk.new) }
     ensures done { (front bytes : List ℕ) → frame.now ≡ frame_of bytes → end ≡ length front
-        → IfTold (D.moments disk.old) (λ m. m ≡ settled (front ++ 0 ∷ []))
-        → OnOk result (IfTold (D.moments disk.new) (λ m. m ≡ settled (front ++ 1 ∷ (framed bytes ++ 0 ∷ [])))) }
+        → IfKnown (D.moments disk.old) (λ m. m ≡ settled (front ++ 0 ∷ []))
+        → OnOk result (IfKnown (D.moments disk.new) (λ m. m ≡ settled (front ++ 1 ∷ (framed bytes ++ 0 ∷ [])))) }
     ensures calls { OnOk result (D.moments disk.new ≡ added after_sync (added (after_write end (1 ∷ []))
         (added after_sync (added (after_write (end + 1) frame.now) (D.moments disk.old))))) }
     ensures bounded { OnOk result (end + 1 + length frame.now ≤ 2 ^ 62) }

@@ -1,9 +1,9 @@
 //! Making a log where there is none.
 
 ghost use Rattle.std.specs.Prelude.{◌≡◌, ℕ, [], ◌∷◌, ◌++◌, List, length, OnOk};
-ghost use Rattle.wp_outside.specs.Disk.{IfTold, settled};
+ghost use Rattle.wp_outside.specs.Disk.{IfKnown, settled};
 ghost use Rattle.wp_outside.specs.Faults.{HasCause};
-ghost use Rattle.wp_gatelog.specs.Lasting.{Lasts, HoldsRecords};
+ghost use Rattle.wp_gatelog.specs.Durability.{Preserves, HasAcknowledged};
 ghost use Rattle.wp_gatelog.specs.Moments.{Goes, Leaves};
 ghost use Rattle.wp_gatelog.specs.Heads.{SpellsNone};
 ghost use Rattle.wp_gatelog.specs.Spelling.{IsUnmade, log_of};
@@ -17,15 +17,15 @@ use wp_outside::{Disk, Failed};
 /// on the disk for good.
 pub fn make<D: Disk>(disk: &mut D, len: u64, magic: [u8; 4], id: u32) -> Result<(), Failed>
     ensures passed { (before : List ℕ) → IsUnmade before → len ≡ length before
-        → IfTold (D.moments disk.old) (λ m. m ≡ settled before)
+        → IfKnown (D.moments disk.old) (λ m. m ≡ settled before)
         → Goes (Leaves (SpellsNone magic id)) (D.moments disk.old) (D.moments disk.new) }
     ensures lasts { (before : List ℕ) → IsUnmade before → len ≡ length before
-        → IfTold (D.moments disk.old) (λ m. m ≡ settled before)
+        → IfKnown (D.moments disk.old) (λ m. m ≡ settled before)
         → (other : ℕ) (records : List (List ℕ))
-        → Lasts (Leaves (HoldsRecords magic other records)) (D.moments disk.old) (D.moments disk.new) }
+        → Preserves (Leaves (HasAcknowledged magic other records)) (D.moments disk.old) (D.moments disk.new) }
     ensures done { (before : List ℕ) → IsUnmade before → len ≡ length before
-        → IfTold (D.moments disk.old) (λ m. m ≡ settled before)
-        → OnOk result (IfTold (D.moments disk.new) (λ m. m ≡ settled (log_of magic id 1 [] ++ 0 ∷ []))) }
+        → IfKnown (D.moments disk.old) (λ m. m ≡ settled before)
+        → OnOk result (IfKnown (D.moments disk.new) (λ m. m ≡ settled (log_of magic id 1 [] ++ 0 ∷ []))) }
     ensures untold { D.moments disk.old ≡ [] → D.moments disk.new ≡ [] }
     ensures cause { HasCause (D.faults disk.old) (D.faults disk.new) result }
 {
@@ -37,15 +37,15 @@ pub fn make<D: Disk>(disk: &mut D, len: u64, magic: [u8; 4], id: u32) -> Result<
 /// Leaves a closed gate and nothing behind it. A closed gate with bytes behind it is not written again: they are cut.
 fn close_head<D: Disk>(disk: &mut D, len: u64) -> Result<(), Failed>
     ensures passed { (before : List ℕ) → IsUnmade before → len ≡ length before
-        → IfTold (D.moments disk.old) (λ m. m ≡ settled before)
+        → IfKnown (D.moments disk.old) (λ m. m ≡ settled before)
         → Goes (Leaves IsUnmade) (D.moments disk.old) (D.moments disk.new) }
     ensures lasts { (before : List ℕ) → IsUnmade before → len ≡ length before
-        → IfTold (D.moments disk.old) (λ m. m ≡ settled before)
+        → IfKnown (D.moments disk.old) (λ m. m ≡ settled before)
         → (magic : List ℕ) (id : ℕ) (records : List (List ℕ))
-        → Lasts (Leaves (HoldsRecords magic id records)) (D.moments disk.old) (D.moments disk.new) }
+        → Preserves (Leaves (HasAcknowledged magic id records)) (D.moments disk.old) (D.moments disk.new) }
     ensures done { (before : List ℕ) → IsUnmade before → len ≡ length before
-        → IfTold (D.moments disk.old) (λ m. m ≡ settled before)
-        → OnOk result (IfTold (D.moments disk.new) (λ m. m ≡ settled (0 ∷ []))) }
+        → IfKnown (D.moments disk.old) (λ m. m ≡ settled before)
+        → OnOk result (IfKnown (D.moments disk.new) (λ m. m ≡ settled (0 ∷ []))) }
     ensures untold { D.moments disk.old ≡ [] → D.moments disk.new ≡ [] }
     ensures cause { HasCause (D.faults disk.old) (D.faults disk.new) result }
 {

@@ -1,19 +1,19 @@
 //! Opening a log.
 
 ghost use Rattle.std.specs.Prelude.{◌≡◌, ℕ, ◌+◌, ◌<◌, ◌≤◌, ◌^◌, [], ◌∷◌, List, length, vec_len, IfOk, IfErr, OnErr};
-ghost use Rattle.wp_outside.specs.Disk.{IfTold, Passes, settled};
+ghost use Rattle.wp_outside.specs.Disk.{IfKnown, Passes, settled};
 ghost use Rattle.wp_gatelog.specs.Errors.{FaultRose};
 ghost use Rattle.wp_gatelog.specs.Heads.{BeginsLog};
-ghost use Rattle.wp_gatelog.specs.Lasting.{Lasts, HoldsRecords};
+ghost use Rattle.wp_gatelog.specs.Durability.{Preserves, HasAcknowledged};
 ghost use Rattle.wp_gatelog.specs.Log.{IsAtRest};
 ghost use Rattle.wp_gatelog.specs.Moments.{Goes, Leaves};
-ghost use Rattle.wp_gatelog.specs.Opening.{IsFound, IsRefused, IsUntouched, IsOnlySynced, Mends, MendsMade};
+ghost use Rattle.wp_gatelog.specs.Opening.{IsFound, IsRefused, IsUntouched, IsOnlySynced, Repairs, RepairsMade};
 
 use crate::error::LogError;
 use crate::head::{HEAD_LEN, Head, read_head};
 use crate::make::make;
-use crate::mend::mend;
 use crate::record::Record;
+use crate::repair::repair;
 use crate::scan::{Scan, read_records};
 use std::alloc::Global;
 use wp_outside::Disk;
@@ -26,7 +26,7 @@ pub struct Found {
     pub end: u64,
 }
 
-/// Syncs the disk, and then makes a log, or reads and mends the one that is there.
+/// Syncs the disk, and then makes a log, or reads and repairs the one that is there.
 pub fn find<D: Disk>(
     alloc: Global,
     disk: &mut D,
@@ -34,15 +34,15 @@ pub fn find<D: Disk>(
     id: u32,
 ) -> Result<Found, LogError>
     requires { length magic ≡ 4 }
-    ensures passed { IfTold (D.moments disk.old) (λ m.
-        Goes (Leaves (Mends magic id m.reads)) (D.moments disk.old) (D.moments disk.new)) }
+    ensures passed { IfKnown (D.moments disk.old) (λ m.
+        Goes (Leaves (Repairs magic id m.reads)) (D.moments disk.old) (D.moments disk.new)) }
     ensures lasts { (other : ℕ) (records : List (List ℕ))
-        → Lasts (Leaves (HoldsRecords magic other records)) (D.moments disk.old) (D.moments disk.new) }
-    ensures found { IfOk result (λ found. IfTold (D.moments disk.old)
+        → Preserves (Leaves (HasAcknowledged magic other records)) (D.moments disk.old) (D.moments disk.new) }
+    ensures found { IfOk result (λ found. IfKnown (D.moments disk.old)
         (λ m. IsFound magic id m.reads found.id found.records.items)) }
-    ensures rests { IfOk result (λ found. IfTold (D.moments disk.new)
+    ensures rests { IfOk result (λ found. IfKnown (D.moments disk.new)
         (IsAtRest magic found.id found.end found.records.items)) }
-    ensures refused { IfErr result (λ why. IfTold (D.moments disk.old) (λ m. IsRefused magic m.reads why)) }
+    ensures refused { IfErr result (λ why. IfKnown (D.moments disk.old) (λ m. IsRefused magic m.reads why)) }
     ensures untouched { IfErr result (IsOnlySynced (D.moments disk.old) (D.moments disk.new)) }
     ensures places { IfOk result (λ found. (vec_len found.records ≤ found.end) × (found.end ≤ 2 ^ 62)) }
     ensures untold { D.moments disk.old ≡ [] → D.moments disk.new ≡ [] }
@@ -53,7 +53,7 @@ pub fn find<D: Disk>(
     open_synced(alloc, disk, magic, id)
 }
 
-/// Makes a log, or reads and mends the one that is there, on a disk that has all of its bytes for good.
+/// Makes a log, or reads and repairs the one that is there, on a disk that has all of its bytes for good.
 pub fn open_synced<D: Disk>(
     alloc: Global,
     disk: &mut D,
@@ -61,18 +61,18 @@ pub fn open_synced<D: Disk>(
     id: u32,
 ) -> Result<Found, LogError>
     requires { length magic ≡ 4 }
-    ensures passed { (bytes : List ℕ) → IfTold (D.moments disk.old) (λ m. m ≡ settled bytes)
-        → Goes (Leaves (Mends magic id bytes)) (D.moments disk.old) (D.moments disk.new) }
-    ensures lasts { (bytes : List ℕ) → IfTold (D.moments disk.old) (λ m. m ≡ settled bytes)
+    ensures passed { (bytes : List ℕ) → IfKnown (D.moments disk.old) (λ m. m ≡ settled bytes)
+        → Goes (Leaves (Repairs magic id bytes)) (D.moments disk.old) (D.moments disk.new) }
+    ensures lasts { (bytes : List ℕ) → IfKnown (D.moments disk.old) (λ m. m ≡ settled bytes)
         → (other : ℕ) (records : List (List ℕ))
-        → Lasts (Leaves (HoldsRecords magic other records)) (D.moments disk.old) (D.moments disk.new) }
-    ensures found { (bytes : List ℕ) → IfTold (D.moments disk.old) (λ m. m ≡ settled bytes)
-        → IfOk result (λ found. IfTold (D.moments disk.old)
+        → Preserves (Leaves (HasAcknowledged magic other records)) (D.moments disk.old) (D.moments disk.new) }
+    ensures found { (bytes : List ℕ) → IfKnown (D.moments disk.old) (λ m. m ≡ settled bytes)
+        → IfOk result (λ found. IfKnown (D.moments disk.old)
         (λ _. IsFound magic id bytes found.id found.records.items)) }
-    ensures rests { (bytes : List ℕ) → IfTold (D.moments disk.old) (λ m. m ≡ settled bytes)
-        → IfOk result (λ found. IfTold (D.moments disk.new) (IsAtRest magic found.id found.end found.records.items)) }
-    ensures refused { (bytes : List ℕ) → IfTold (D.moments disk.old) (λ m. m ≡ settled bytes)
-        → IfErr result (λ why. IfTold (D.moments disk.old) (λ _. IsRefused magic bytes why)) }
+    ensures rests { (bytes : List ℕ) → IfKnown (D.moments disk.old) (λ m. m ≡ settled bytes)
+        → IfOk result (λ found. IfKnown (D.moments disk.new) (IsAtRest magic found.id found.end found.records.items)) }
+    ensures refused { (bytes : List ℕ) → IfKnown (D.moments disk.old) (λ m. m ≡ settled bytes)
+        → IfErr result (λ why. IfKnown (D.moments disk.old) (λ _. IsRefused magic bytes why)) }
     ensures untouched { IfErr result (IsUntouched (D.moments disk.old) (D.moments disk.new)) }
     ensures places { IfOk result (λ found. (vec_len found.records ≤ found.end) × (found.end ≤ 2 ^ 62)) }
     ensures untold { D.moments disk.old ≡ [] → D.moments disk.new ≡ [] }
@@ -101,7 +101,7 @@ pub fn open_synced<D: Disk>(
     }
 }
 
-/// Reads and mends the records of a log whose head was read, on a disk that has all of its `len` bytes for good.
+/// Reads and repairs the records of a log whose head was read, on a disk that has all of its `len` bytes for good.
 pub fn open_made<D: Disk>(
     alloc: Global,
     disk: &mut D,
@@ -111,21 +111,21 @@ pub fn open_made<D: Disk>(
 ) -> Result<Scan, LogError>
     requires { len ≤ 2 ^ 62 }
     ensures passed { (magic bytes : List ℕ) → BeginsLog magic id head len bytes
-        → IfTold (D.moments disk.old) (λ m. m ≡ settled bytes)
-        → Goes (Leaves (MendsMade magic id head bytes)) (D.moments disk.old) (D.moments disk.new) }
+        → IfKnown (D.moments disk.old) (λ m. m ≡ settled bytes)
+        → Goes (Leaves (RepairsMade magic id head bytes)) (D.moments disk.old) (D.moments disk.new) }
     ensures lasts { (magic bytes : List ℕ) → BeginsLog magic id head len bytes
-        → IfTold (D.moments disk.old) (λ m. m ≡ settled bytes)
+        → IfKnown (D.moments disk.old) (λ m. m ≡ settled bytes)
         → (other : ℕ) (records : List (List ℕ))
-        → Lasts (Leaves (HoldsRecords magic other records)) (D.moments disk.old) (D.moments disk.new) }
+        → Preserves (Leaves (HasAcknowledged magic other records)) (D.moments disk.old) (D.moments disk.new) }
     ensures found { (magic bytes : List ℕ) → BeginsLog magic id head len bytes
-        → IfTold (D.moments disk.old) (λ m. m ≡ settled bytes)
-        → IfOk result (λ scan. IfTold (D.moments disk.old) (λ _. IsFound magic id bytes id scan.records.items)) }
+        → IfKnown (D.moments disk.old) (λ m. m ≡ settled bytes)
+        → IfOk result (λ scan. IfKnown (D.moments disk.old) (λ _. IsFound magic id bytes id scan.records.items)) }
     ensures rests { (magic bytes : List ℕ) → BeginsLog magic id head len bytes
-        → IfTold (D.moments disk.old) (λ m. m ≡ settled bytes)
-        → IfOk result (λ scan. IfTold (D.moments disk.new) (IsAtRest magic id scan.end scan.records.items)) }
+        → IfKnown (D.moments disk.old) (λ m. m ≡ settled bytes)
+        → IfOk result (λ scan. IfKnown (D.moments disk.new) (IsAtRest magic id scan.end scan.records.items)) }
     ensures refused { (magic bytes : List ℕ) → BeginsLog magic id head len bytes
-        → IfTold (D.moments disk.old) (λ m. m ≡ settled bytes)
-        → IfErr result (λ why. IfTold (D.moments disk.old) (λ _. IsRefused magic bytes why)) }
+        → IfKnown (D.moments disk.old) (λ m. m ≡ settled bytes)
+        → IfErr result (λ why. IfKnown (D.moments disk.old) (λ _. IsRefused magic bytes why)) }
     ensures untouched { IfErr result (IsUntouched (D.moments disk.old) (D.moments disk.new)) }
     ensures places { IfOk result (λ scan. (vec_len scan.records ≤ scan.end) × (scan.end ≤ 2 ^ 62)) }
     ensures untold { D.moments disk.old ≡ [] → D.moments disk.new ≡ [] }
@@ -136,6 +136,6 @@ pub fn open_made<D: Disk>(
         return Err(LogError::BadHead);
     }
     let scan = read_records(alloc, disk, len)?;
-    mend(disk, len, head, &scan)?;
+    repair(disk, len, head, &scan)?;
     Ok(scan)
 }

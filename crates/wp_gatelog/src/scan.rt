@@ -1,7 +1,7 @@
 //! Reading the records of a log.
 
 ghost use Rattle.std.specs.Prelude.{◌≡◌, ℕ, ◌+◌, ◌-◌, ◌<◌, ◌≤◌, ◌^◌, ◌∷◌, List, length, take, drop, vec_len, IfOk, IfErr, IfSome, IsSomeAnd};
-ghost use Rattle.wp_outside.specs.Disk.{IfTold};
+ghost use Rattle.wp_outside.specs.Disk.{IfKnown};
 ghost use Rattle.wp_gatelog.specs.Errors.{FaultRose, IsOutside};
 ghost use Rattle.wp_gatelog.specs.Scanning.{IsStart, IsNext, EndsWithin, HasRead, IsReadFault};
 
@@ -47,9 +47,9 @@ pub enum Start {
 pub fn read_records<D: Disk>(alloc: Global, disk: &mut D, len: u64) -> Result<Scan, LogError>
     requires within { 10 < len }
     requires bounded { len ≤ 2 ^ 62 }
-    ensures found { IfOk result (λ scan. IfTold (D.moments disk.old) (λ m. len ≡ length m.reads
+    ensures found { IfOk result (λ scan. IfKnown (D.moments disk.old) (λ m. len ≡ length m.reads
         → (behind : List ℕ) × HasRead (drop 10 m.reads) (0 ∷ behind) scan.records.items scan.last scan.end)) }
-    ensures refused { IfErr result (λ why. IfTold (D.moments disk.old) (λ m. len ≡ length m.reads
+    ensures refused { IfErr result (λ why. IfKnown (D.moments disk.old) (λ m. len ≡ length m.reads
         → IsReadFault (drop 10 m.reads) why)) }
     ensures places { IfOk result (λ scan. (vec_len scan.records ≤ scan.end) × (scan.end < len)) }
     ensures kept { D.moments disk.new ≡ D.moments disk.old }
@@ -81,7 +81,7 @@ pub fn read_records<D: Disk>(alloc: Global, disk: &mut D, len: u64) -> Result<Sc
 fn read_next<D: Disk>(alloc: Global, disk: &mut D, at: u64, len: u64) -> Result<Next, LogError>
     requires within { at < len }
     requires bounded { len ≤ 2 ^ 62 }
-    ensures found { IfOk result (λ next. IfTold (D.moments disk.old) (λ m. len ≡ length m.reads
+    ensures found { IfOk result (λ next. IfKnown (D.moments disk.old) (λ m. len ≡ length m.reads
         → IsNext (drop at m.reads) next)) }
     ensures within { IfOk result (EndsWithin at len) }
     ensures kept { D.moments disk.new ≡ D.moments disk.old }
@@ -136,7 +136,7 @@ fn read_bytes<D: Disk>(
     len: u64,
 ) -> Result<Option<Vec<u8>>, LogError>
     requires { at + len ≤ 2 ^ 63 - 1 }
-    ensures found { IfOk result (λ found. IfTold (D.moments disk.old) (λ m. at + len ≤ length m.reads
+    ensures found { IfOk result (λ found. IfKnown (D.moments disk.old) (λ m. at + len ≤ length m.reads
         → IsSomeAnd found (λ bytes. bytes.items ≡ take len (drop at m.reads)))) }
     ensures size { IfOk result (λ found. IfSome found (λ bytes. vec_len bytes ≡ len)) }
     ensures kept { D.moments disk.new ≡ D.moments disk.old }

@@ -7,22 +7,23 @@ use Rattle.std.proofs.lemmas.Bool.{false≢true, cases_lt, and_parts, and_from, 
 use Rattle.wp_model.specs.declared.entry.Entry.{Entry}
 use Rattle.wp_model.specs.History.{is_undecided}
 use Rattle.wp_model.specs.Legal.{IsLegal}
-use Rattle.wp_model.specs.Versions as held
-use Rattle.wp_memtable.specs.declared.version.Version.{Version}
-use Rattle.wp_memtable.specs.Versions.{version_at}
+use Rattle.wp_model.specs.Decision as decision
+use Rattle.wp_model.specs.declared.version.Version.{Version}
+use Rattle.wp_model.specs.Versions.{version_at}
 use Rattle.wp_keep.specs.Keep.{has_newer, stays, staying, is_settled_deletion, lasts, kept_of}
-use Rattle.wp_keep.specs.Covered.{GivesNewest, GivesNone, GivesStore, is_listed, IsCovered, DecidesAt, MayGo}
+use Rattle.wp_keep.specs.MayGo.{DecidesAt, MayGo}
+use Rattle.wp_model.specs.Covered.{GivesNewest, GivesNone, GivesStore, is_among, IsCovered}
 use Rattle.wp_keep.proofs.Order.{in_order_filter, same_key, bytes_eq-same}
 use Rattle.wp_keep.proofs.Lookups.{version, at_both, any_mono, any_found, at_filter, passed_filter, in_filtered, finds}
 use Rattle.wp_keep.proofs.Undone.{undecided_uncommitted, entry_past, UndoesLast, undoes_last}
 
 -- ---- lists and options
 
-any_listed : (g : ℕ → Bool) (ns : List ℕ) (n : ℕ) → is_listed ns n ≡ true → g n ≡ true → list_any g ns ≡ true
+any_listed : (g : ℕ → Bool) (ns : List ℕ) (n : ℕ) → is_among ns n ≡ true → g n ≡ true → list_any g ns ≡ true
 any_listed g [] n h e = absurd cc
 any_listed g (m ∷ ms) n h e = by (m == n) refl h (λ r. any_listed g ms n r e)
   where
-    by : (b : Bool) → (m == n) ≡ b → (b || is_listed ms n) ≡ true → (is_listed ms n ≡ true → list_any g ms ≡ true) → (g m || list_any g ms) ≡ true
+    by : (b : Bool) → (m == n) ≡ b → (b || is_among ms n) ≡ true → (is_among ms n ≡ true → list_any g ms ≡ true) → (g m || list_any g ms) ≡ true
     by true same is rest = or_left (g m) (list_any g ms) (ap g (eqb-true m n same) ∙ e)
     by false other is rest = or_right (g m) (list_any g ms) (rest is)
 
@@ -83,7 +84,7 @@ module _ (committed : ℕ → ℕ → Bool) (history : List Entry) (newer versio
       let tests = and_parts (nat_lt p it.found.number) (committed it.found.number n) parts.1 in
       none it.found.number it.value (ltb-true p it.found.number tests.0) (ap (λ k. version_at versions k it.found.number) (sym (same_key it.found.key key parts.0)) ∙ it.there) tests.1)
 
-  stays_newest : (key : List ℕ) (p n : ℕ) (value : Option (List ℕ)) → version_at versions key p ≡ Some value → committed p n ≡ true → NoneAbove key p n → is_listed (floor ∷ snapshots) n ≡ true → version_at stayed key p ≡ Some value
+  stays_newest : (key : List ℕ) (p n : ℕ) (value : Option (List ℕ)) → version_at versions key p ≡ Some value → committed p n ≡ true → NoneAbove key p n → is_among (floor ∷ snapshots) n ≡ true → version_at stayed key p ≡ Some value
   stays_newest key p n value e there none listed =
       let shown : (committed p n && not (has_newer committed versions (version key p value) n)) ≡ true = and_from (committed p n) (not (has_newer committed versions (version key p value) n)) there (not_from_false (has_newer committed versions (version key p value) n) (none_newer key p n value none)) in
       at_filter key p (stays committed versions snapshots floor) versions value e (or_right _ _ (any_listed (λ m. committed p m && not (has_newer committed versions (version key p value) m)) (floor ∷ snapshots) n listed shown))
@@ -134,7 +135,7 @@ module _ (committed : ℕ → ℕ → Bool) (history : List Entry) (newer versio
   -- ---- what a reader finds
 
   module _ (go : MayGo committed history newer versions snapshots floor) where
-    none_more : (key : List ℕ) (p n m : ℕ) → n ≤ m → DecidesAt committed history versions n → ((q : ℕ) → p < q → held.IsCommittedAt history q m → version_at (newer ++ versions) key q ≡ None) → NoneAbove key p n
+    none_more : (key : List ℕ) (p n m : ℕ) → n ≤ m → DecidesAt committed history versions n → ((q : ℕ) → p < q → decision.IsCommittedAt history q m → version_at (newer ++ versions) key q ≡ None) → NoneAbove key p n
     none_more key p n m le decides newest q value lt there passes =
         let committed_q = decides.true_only key q (ap is_some there) passes in
         let none = newest q lt (record { by = committed_q.by; decided = committed_q.decided; within = omega (arith, committed_q.within) }) in
@@ -158,7 +159,7 @@ module _ (committed : ℕ → ℕ → Bool) (history : List Entry) (newer versio
         dropped : version_at newer key found.number ≡ None → version_at versions key found.number ≡ Some found.value → IsDropped key found.number found.value → GivesStore (newer ++ kept) history key n
         dropped apart here gone = inr (record { none = λ q is. at q is (cases_lt found.number q); missing = found.stored ∙ gone.deletion })
           where
-            at : (q : ℕ) → held.IsCommittedAt history q n → (found.number < q) ⊎ (q ≤ found.number) → version_at (newer ++ kept) key q ≡ None
+            at : (q : ℕ) → decision.IsCommittedAt history q n → (found.number < q) ⊎ (q ≤ found.number) → version_at (newer ++ kept) key q ≡ None
             at q is (inl lt) = all_none go key q (found.newest q lt is)
             at q is (inr le) = at_both newer kept key q ∙ first (version_at newer key q) refl
               where
@@ -179,19 +180,19 @@ module _ (committed : ℕ → ℕ → Bool) (history : List Entry) (newer versio
               | inr gone ↦ dropped is here gone
             ]
 
-    gives_listed : (key : List ℕ) (n : ℕ) → is_listed snapshots n ≡ true → GivesStore (newer ++ versions) history key n → GivesStore (newer ++ kept) history key n
+    gives_listed : (key : List ℕ) (n : ℕ) → is_among snapshots n ≡ true → GivesStore (newer ++ versions) history key n → GivesStore (newer ++ kept) history key n
     gives_listed key n listed (inr none) = inr (gives_none key n none)
     gives_listed key n listed (inl found) = gives_newest key n found (λ here.
         let decides = go.at_snapshots n listed in
-        stays_newest key found.number n found.value here (decides.true_of key found.number (ap is_some here) found.committed) (none_more key found.number n n (omega arith) decides found.newest) (or_right (floor == n) (is_listed snapshots n) listed))
+        stays_newest key found.number n found.value here (decides.true_of key found.number (ap is_some here) found.committed) (none_more key found.number n n (omega arith) decides found.newest) (or_right (floor == n) (is_among snapshots n) listed))
 
     -- what is committed at the floor and above which nothing later is committed stays, and what is not committed there
-    stays_from : (key : List ℕ) (p n : ℕ) (value : Option (List ℕ)) → floor ≤ n → version_at versions key p ≡ Some value → ((q : ℕ) → p < q → held.IsCommittedAt history q n → version_at (newer ++ versions) key q ≡ None) → version_at stayed key p ≡ Some value
+    stays_from : (key : List ℕ) (p n : ℕ) (value : Option (List ℕ)) → floor ≤ n → version_at versions key p ≡ Some value → ((q : ℕ) → p < q → decision.IsCommittedAt history q n → version_at (newer ++ versions) key q ≡ None) → version_at stayed key p ≡ Some value
     stays_from key p n value le here newest = by (committed p floor) refl
       where
         by : (b : Bool) → committed p floor ≡ b → version_at stayed key p ≡ Some value
         by false is = stays_uncommitted key p value here is
-        by true is = stays_newest key p floor value here is (none_more key p floor n le go.at_floor newest) (or_left (floor == floor) (is_listed snapshots floor) (eq-eqb floor floor refl))
+        by true is = stays_newest key p floor value here is (none_more key p floor n le go.at_floor newest) (or_left (floor == floor) (is_among snapshots floor) (eq-eqb floor floor refl))
 
     gives_later : (key : List ℕ) (n : ℕ) → floor ≤ n → GivesStore (newer ++ versions) history key n → GivesStore (newer ++ kept) history key n
     gives_later key n le (inr none) = inr (gives_none key n none)
@@ -225,12 +226,12 @@ module _ (committed : ℕ → ℕ → Bool) (history : List Entry) (newer versio
         prepare : version_at stayed key last.0 ≡ Some last.1.value
         prepare = stays_uncommitted key last.0 last.1.value prepare_here (undecided_unsettled key last.0 last.1.value last.1.undecided prepare_here)
 
-        past : (q : ℕ) → length history < q → held.IsCommittedAt history q floor → version_at (newer ++ versions) key q ≡ None
+        past : (q : ℕ) → length history < q → decision.IsCommittedAt history q floor → version_at (newer ++ versions) key q ≡ None
         past q lt is = at (version_at (newer ++ versions) key q) refl
           where
             at : (o : Option (Option (List ℕ))) → version_at (newer ++ versions) key q ≡ o → o ≡ None
             at None e = refl
-            at (Some x) e = let some = covered.part key q x e in let none = ap (λ (o : Option Entry). held.version_in o key) (entry_past history q lt) in absurd cc
+            at (Some x) e = let some = covered.part key q x e in let none = ap (λ (o : Option Entry). decision.version_in o key) (entry_past history q lt) in absurd cc
 
         stays_ : version_at stayed key (length history) ≡ Some value
         stays_ = stays_from key (length history) floor value (omega arith) here past

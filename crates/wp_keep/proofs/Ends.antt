@@ -4,8 +4,8 @@ use Rattle.std.specs.List.{filter}
 use Rattle.std.specs.Str.{bytes_eq}
 use Rattle.std.proofs.lemmas.Bool.{or_parts}
 use Rattle.std.proofs.lemmas.List.{reverse-append}
-use Rattle.wp_memtable.specs.declared.version.Version.{Version}
-use Rattle.wp_memtable.specs.Versions.{AreInOrder}
+use Rattle.wp_model.specs.declared.version.Version.{Version}
+use Rattle.wp_model.specs.Versions.{AreInOrder}
 use Rattle.wp_keep.specs.Keep.{is_settled_deletion, lasts}
 use Rattle.wp_keep.specs.Newer.{starts_with_key}
 use Rattle.wp_keep.proofs.Order.{IsBefore, placed, same_key}

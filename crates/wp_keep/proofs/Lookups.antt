@@ -4,8 +4,8 @@ use Rattle.std.specs.Option.{option_or}
 use Rattle.std.specs.List.{filter, list_any}
 use Rattle.std.specs.Str.{bytes_eq}
 use Rattle.std.proofs.lemmas.Bool.{and_parts, or_left, or_right, eqb-true, eq-eqb}
-use Rattle.wp_memtable.specs.declared.version.Version.{Version}
-use Rattle.wp_memtable.specs.Versions.{AreInOrder, version_at}
+use Rattle.wp_model.specs.declared.version.Version.{Version}
+use Rattle.wp_model.specs.Versions.{AreInOrder, version_at}
 use Rattle.wp_keep.proofs.Order.{IsBefore, in_order_parts, same_key, bytes_eq-same, newer_number}
 
 abbrev pub version : List ℕ → ℕ → Option (List ℕ) → Version

@@ -7,8 +7,8 @@ use Rattle.std.specs.Ordering.{nat_cmp}
 use Rattle.std.specs.FinMap as map
 use Rattle.std.proofs.lemmas.List.Folds.{list_any-append}
 use Rattle.std.proofs.lemmas.List.Elements.{filter-append}
-use Rattle.wp_memtable.specs.declared.version.Version.{Version}
-use Rattle.wp_memtable.specs.Versions.{AreInOrder, version_cmp}
+use Rattle.wp_model.specs.declared.version.Version.{Version}
+use Rattle.wp_model.specs.Versions.{AreInOrder, version_cmp}
 use Rattle.wp_keep.specs.Keep.{is_by, by_commits, has_newer, is_needed, stays}
 use Rattle.wp_keep.specs.Newer.{is_above}
 use Rattle.wp_keep.proofs.Order.{IsBehind, placed, behind_parts, same_key}

@@ -13,8 +13,8 @@ use Rattle.wp_model.specs.declared.entry.Entry.{Entry}
 use Rattle.wp_model.specs.declared.entry.Entry.TheVariants.{Write, Prepare, Commit, Undo, Close}
 use Rattle.wp_model.specs.Batch.{key_of, value_of, change_to}
 use Rattle.wp_model.specs.History.{entry_at, is_prepare, batch_at, prepared_batch, decides, is_undecided, newest}
-use Rattle.wp_model.specs.Legal.{IsLegal, IsLegalBehind, undone_last, change_that_leaves, prior}
-use Rattle.wp_model.specs.Versions.{version_in, version_at, decision_in, IsCommittedAt}
+use Rattle.wp_model.specs.Legal.{IsLegal, IsLegalNext, undone_last, change_that_leaves, prior}
+use Rattle.wp_model.specs.Decision.{version_in, version_at, decision_in, IsCommittedAt}
 
 -- ---- undecided
 
@@ -128,8 +128,8 @@ undoes_at : (front : List Entry) (p : ℕ) (batch : List Change) (key : List ℕ
 undoes_at front p batch key value legal there =
     let long : length (front ++ Undo p batch ∷ []) ≡ suc (length front) = omega (arith, length-append front (Undo p batch ∷ [])) in
     let last : change_to batch key ≡ Some value = sym (ap (λ (at : Option Entry). version_in at key) (slice_get_next front (Undo p batch))) ∙ sym (ap (λ n. version_at (front ++ Undo p batch ∷ []) n key) long) ∙ there in
-    let P : List Entry → Type 0 = λ before. IsLegalBehind before (Undo p batch) in
-    let behind : IsLegalBehind front (Undo p batch) = subst P (take-append_seam front (Undo p batch ∷ [])) (legal.each (length front) (Undo p batch) (slice_get_next front (Undo p batch))) in
+    let P : List Entry → Type 0 = λ before. IsLegalNext before (Undo p batch) in
+    let behind : IsLegalNext front (Undo p batch) = subst P (take-append_seam front (Undo p batch ∷ [])) (legal.each (length front) (Undo p batch) (slice_get_next front (Undo p batch))) in
     let parts = and_parts (is_prepare (entry_at front p)) (not (list_any (decides p) front)) behind.names_undecided in
     let within : p ≤ length front = prepare_within front p parts.0 in
     let old = changed_before front (batch_at front p) key value (ap (λ (b : List Change). change_to b key) (sym behind.restores_prior) ∙ last) in

@@ -4,7 +4,7 @@ use Rattle.std.specs.List.{filter, list_any}
 use Rattle.std.specs.Str.{bytes_eq}
 use Rattle.std.specs.Ordering.{nat_cmp}
 use Rattle.std.specs.FinMap as map
-use Rattle.wp_memtable.specs.declared.version.Version.{Version}
+use Rattle.wp_model.specs.declared.version.Version.{Version}
 use Rattle.wp_keep.specs.declared.pair.Pair.{Pair}
 
 -- a number by which something is committed, if there is one, is at most n

@@ -1,3 +1,3 @@
 pub mod Keep
 pub mod Newer
-pub mod Covered
+pub mod MayGo

@@ -1,7 +1,7 @@
 -- What was passed of the versions of a key.
 use Rattle.std.specs.Prelude.{ℕ, Bool, false, ◌&&◌, List, [], ◌∷◌, Option, Some, None, nat_le}
 use Rattle.std.specs.Str.{bytes_eq}
-use Rattle.wp_memtable.specs.declared.version.Version.{Version}
+use Rattle.wp_model.specs.declared.version.Version.{Version}
 
 -- the noted key is this one, and is committed at n by the noted number
 abbrev pub is_above : Option (List ℕ × ℕ) → List ℕ → ℕ → Bool

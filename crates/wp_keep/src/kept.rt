@@ -1,5 +1,5 @@
 ghost use Rattle.std.specs.Prelude.{◌≡◌, IfOk};
-ghost use Rattle.wp_memtable.specs.Versions.{AreInOrder};
+ghost use Rattle.wp_model.specs.Versions.{AreInOrder};
 ghost use Rattle.wp_keep.specs.Keep.{is_committed, kept_of};
 
 use crate::commits::Commits;
@@ -7,8 +7,7 @@ use crate::lasting::lasting;
 use crate::pair::Pair;
 use crate::staying::staying;
 use std::alloc::{AllocError, Global};
-use wp_memtable::Versions;
-use wp_model::Seq;
+use wp_model::{Seq, Versions};
 
 /// The versions that stay once no reader without a snapshot goes below the floor. `committed` has the pair of each
 /// number that is committed, at least up to the floor.

@@ -1,12 +1,11 @@
 ghost use Rattle.std.specs.Prelude.{◌≡◌, ◌||◌, not, ◌++◌, ◌∷◌, [], IfOk, OnOk, reverse, if◌then◌else◌};
-ghost use Rattle.wp_memtable.specs.Versions.{AreInOrder};
+ghost use Rattle.wp_model.specs.Versions.{AreInOrder};
 ghost use Rattle.wp_keep.specs.Keep.{by_commits, is_settled_deletion, lasting};
 ghost use Rattle.wp_keep.specs.Newer.{starts_with_key};
 
 use crate::commits::Commits;
 use std::alloc::{AllocError, Global};
-use wp_memtable::Version;
-use wp_model::{Key, Seq};
+use wp_model::{Key, Seq, Version};
 
 fn is_settled_deletion(version: &Version, commits: &Commits, floor: Seq) -> bool
     ensures { result ≡ is_settled_deletion (by_commits commits.now) floor version.now }

@@ -2,10 +2,11 @@
 ghost use Rattle.std.specs.Prelude.{◌≡◌, ℕ, ◌≤◌, List, ◌++◌};
 ghost use Rattle.wp_model.specs.declared.entry.Entry.{Entry};
 ghost use Rattle.wp_model.specs.Legal.{IsLegal};
-ghost use Rattle.wp_memtable.specs.declared.version.Version.{Version};
+ghost use Rattle.wp_model.specs.declared.version.Version.{Version};
 ghost use Rattle.wp_keep.specs.declared.pair.Pair.{Pair};
 ghost use Rattle.wp_keep.specs.Keep.{is_committed, kept_of};
-ghost use Rattle.wp_keep.specs.Covered.{IsCovered, MayGo};
+ghost use Rattle.wp_keep.specs.MayGo.{MayGo};
+ghost use Rattle.wp_model.specs.Covered.{IsCovered};
 
 /// Where newer versions with all of these cover a legal history, those with the ones that stay do, from the floor on.
 pub fn keep_covers()

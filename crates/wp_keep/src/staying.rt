@@ -1,13 +1,12 @@
 ghost use Rattle.std.specs.Prelude.{◌≡◌, ◌&&◌, not, Some, IfOk};
 ghost use Rattle.std.specs.List.{list_any};
-ghost use Rattle.wp_memtable.specs.Versions.{AreInOrder};
+ghost use Rattle.wp_model.specs.Versions.{AreInOrder};
 ghost use Rattle.wp_keep.specs.Keep.{is_by, is_needed, by_commits, staying};
 
 use crate::commits::Commits;
 use crate::newer::{Newer, commit_above, note};
 use std::alloc::{AllocError, Global};
-use wp_memtable::Version;
-use wp_model::Seq;
+use wp_model::{Seq, Version};
 
 /// Whether a version that is committed by `commit` is the newest one at n, where `newer` is the least number by which a
 /// newer one of its key is.

@@ -1,8 +1,8 @@
 use crate::{Pair, keep};
 use std::alloc::Global;
 use std::test::Fail;
-use wp_memtable::{Memtable, Versions};
-use wp_model::{Batch, Change, Key, Seq, Value};
+use wp_memtable::Memtable;
+use wp_model::{Batch, Change, Key, Seq, Value, Versions};
 
 /// What an entry does to the key k.
 #[derive(Clone, Copy)]

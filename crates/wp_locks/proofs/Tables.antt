@@ -10,11 +10,12 @@ use Rattle.std.proofs.lemmas.Map.Entries.{option_filter, lookup-filter-values}
 use Rattle.std.proofs.lemmas.Map.Keys.{IsDistinct-from_sorted}
 use Rattle.std.proofs.lemmas.Map.Text.{is_eq-slice_cmp}
 use Rattle.wp_model.specs.Batch.{key_cmp}
-use Rattle.wp_locks.specs.declared.holder.Holder.{Holder}
-use Rattle.wp_locks.specs.declared.holder.Holder.TheVariants.{Txn, Client}
+use Rattle.wp_model.specs.declared.holder.Holder.{Holder}
+use Rattle.wp_model.specs.declared.holder.Holder.TheVariants.{Txn, Client}
 use Rattle.wp_locks.specs.declared.error.LockError.TheVariants.{Unknown, InUse}
-use Rattle.wp_locks.specs.Holder.{is_same, is_same_txn}
-use Rattle.wp_locks.specs.Locks.{LockTables, Keys, RefusesTake, names_left, but, FreesAllOf}
+use Rattle.wp_model.specs.Holder.{is_same, is_same_txn}
+use Rattle.wp_locks.specs.Locks.{RefusesTake, names_left, but, FreesAllOf}
+use Rattle.wp_model.specs.LockTables.{LockTables, Keys}
 use Rattle.wp_locks.proofs.Maps.{value_at, map_of, get-map_of, map_of_inserted, UpdatedAt, same_key, insert_same}
 
 -- ---- names

@@ -1,2 +1,1 @@
-pub mod Holder
 pub mod Locks

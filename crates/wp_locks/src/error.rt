@@ -1,9 +1,8 @@
 ghost use Rattle.std.specs.Prelude.{◌≡◌};
 ghost use Rattle.wp_locks.specs.declared.error.LockError.TheVariants.{Memory};
 
-use crate::holder::Holder;
 use std::alloc::{AllocError, AllocFailed};
-use wp_model::Name;
+use wp_model::{Holder, Name};
 
 /// Why a name or a key was not given.
 #[derive(Debug, Drop)]

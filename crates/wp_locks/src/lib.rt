@@ -7,11 +7,9 @@
 #![tactic(auto)]
 
 pub use error::{LockError, TakeRefused};
-pub use holder::Holder;
 pub use locks::Locks;
 
 mod error;
-mod holder;
 mod locks;
 #[cfg(test)]
 mod tests;

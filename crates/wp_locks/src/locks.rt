@@ -1,13 +1,13 @@
 ghost use Rattle.std.specs.Prelude.{◌≡◌, List, ℕ, OnOk, OnErr};
 ghost use Rattle.std.specs.FinMap as map;
-ghost use Rattle.wp_locks.specs.Locks.{nothing_held, Claims, TakesName, Locking, names_left, FreesAllOf};
+ghost use Rattle.wp_locks.specs.Locks.{Claims, TakesName, Locking, names_left, FreesAllOf};
+ghost use Rattle.wp_model.specs.LockTables.{nothing_locked};
 
 use crate::error::{LockError, TakeRefused};
-use crate::holder::Holder;
 use std::alloc::{AllocError, Global};
 use std::collections::BTreeMap;
 use std::marker::Model;
-use wp_model::{Key, Name, Seq};
+use wp_model::{Holder, Key, Name, Seq};
 
 /// The live names, the held keys and the board, which the holder of the locks turn changes.
 #[derive(Drop)]
@@ -20,19 +20,19 @@ pub struct Locks {
 }
 
 impl Model for Locks {
-    ghost use Rattle.wp_locks.specs.Locks.{LockTables, tables_code};
+    ghost use Rattle.wp_model.specs.LockTables.{LockTables, lock_tables_code};
     ghost use Rattle.std.specs.FinMap as map;
 
     ghost Value = { LockTables };
 
-    ghost coded = { tables_code };
+    ghost coded = { lock_tables_code };
 
     ghost view = { λ l. record { names = map.from_entries l.names.entries; keys = map.from_entries l.keys.entries; labels = map.from_entries l.labels.entries } };
 }
 
 impl Locks {
     pub fn new(alloc: Global) -> Locks
-        ensures { result ≡ nothing_held }
+        ensures { result ≡ nothing_locked }
     {
         Locks {
             alloc,

@@ -1,7 +1,7 @@
-use crate::{Holder, LockError, Locks, TakeRefused};
+use crate::{LockError, Locks, TakeRefused};
 use std::alloc::Global;
 use std::test::Fail;
-use wp_model::{Key, Name};
+use wp_model::{Holder, Key, Name};
 
 fn name(alloc: Global, bytes: &[u8]) -> Result<Name, Fail> {
     Ok(Name::read(alloc, bytes)?)

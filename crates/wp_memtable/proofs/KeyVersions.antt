@@ -82,9 +82,9 @@ module _ (n : ℕ) where
       removed ∙ ap (remove es) place ∙ removed_at es e h (omega (arith, place)) (ap (λ j. (get_or es j e).0) (sym place) ∙ ap (λ (x : ℕ × Option (List ℕ)). x.0) (sym is) ∙ same)
 
   -- what `get` says where it found another number, or none
-  pub kept_by : (es : Numbered) (i : ℕ) (r : Option (Bor (ℕ × Option (List ℕ)))) → AreNewestFirst es → i ≡ prefix_len newer es → (i < length es → IsSome r) → IfSome r (λ x. x.now ≡ get_or es i x.now) → IfSome r (λ x. x.now.0 ≡ n → ⊥) → es ≡ filter other es
-  kept_by es i None h place some is apart = sym (kept_all es (n, None) h (λ within same. absurd (false≢true (some (omega (arith, place))))))
-  kept_by es i (Some x) h place some is apart = sym (kept_all es x.now h (λ within same. apart (ap (λ (y : ℕ × Option (List ℕ)). y.0) is ∙ ap (λ j. (get_or es j x.now).0) place ∙ same)))
+  pub changes_in : (es : Numbered) (i : ℕ) (r : Option (Bor (ℕ × Option (List ℕ)))) → AreNewestFirst es → i ≡ prefix_len newer es → (i < length es → IsSome r) → IfSome r (λ x. x.now ≡ get_or es i x.now) → IfSome r (λ x. x.now.0 ≡ n → ⊥) → es ≡ filter other es
+  changes_in es i None h place some is apart = sym (kept_all es (n, None) h (λ within same. absurd (false≢true (some (omega (arith, place))))))
+  changes_in es i (Some x) h place some is apart = sym (kept_all es x.now h (λ within same. apart (ap (λ (y : ℕ × Option (List ℕ)). y.0) is ∙ ap (λ j. (get_or es j x.now).0) place ∙ same)))
 
   pub newest-removed : (es ns : Numbered) → AreNewestFirst es → ns ≡ filter other es → AreNewestFirst ns
   newest-removed es ns h is = subst AreNewestFirst (sym is) (subst (IsStrictlySortedBy newest_cmp) (keys-filter (λ k. not (k == n)) es) (IsStrictlySortedBy-filter newest_cmp (λ k. not (k == n)) (keys_of es) h))

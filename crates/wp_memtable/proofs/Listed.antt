@@ -22,8 +22,8 @@ use Rattle.std.proofs.lemmas.Map.Lookups.{exact_bytes}
 use Rattle.std.proofs.lemmas.Map.Text.{is_eq-slice_cmp}
 use Rattle.wp_model.specs.declared.change.Change.{Change}
 use Rattle.wp_model.specs.Batch.{key_cmp, key_of, value_of, change_to}
-use Rattle.wp_memtable.specs.declared.version.Version.{Version}
-use Rattle.wp_memtable.specs.Versions.{AreInOrder, version_cmp, version_at}
+use Rattle.wp_model.specs.declared.version.Version.{Version}
+use Rattle.wp_model.specs.Versions.{AreInOrder, version_cmp, version_at}
 use Rattle.wp_memtable.specs.KeyVersions.{Numbered, RoomyVersions, newest_cmp, AreNewestFirst}
 use Rattle.wp_memtable.specs.Memtable.{Places, HavePlaces, under, versions_of, AllNewestFirst, AreWellOrdered, without_number, numbered_of, place_at}
 

@@ -1,3 +1,2 @@
 pub mod KeyVersions
 pub mod Memtable
-pub mod Versions

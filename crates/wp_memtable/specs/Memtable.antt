@@ -7,8 +7,8 @@ use Rattle.std.specs.Map.{lookup, keys_of}
 use Rattle.std.specs.BTreeMap.{is_at}
 use Rattle.wp_model.specs.declared.change.Change.{Change}
 use Rattle.wp_model.specs.Batch.{key_cmp, change_to}
-use Rattle.wp_memtable.specs.declared.version.Version.{Version}
-use Rattle.wp_memtable.specs.Versions.{AreInOrder, version_at}
+use Rattle.wp_model.specs.declared.version.Version.{Version}
+use Rattle.wp_model.specs.Versions.{AreInOrder, version_at}
 use Rattle.wp_memtable.specs.KeyVersions.{Numbered, RoomyVersions, AreNewestFirst, has_place}
 
 -- new is old with the changes under n: a version of the same key and number is replaced, and all others stay

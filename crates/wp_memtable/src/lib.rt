@@ -8,8 +8,6 @@
 
 pub use found::Found;
 pub use memtable::Memtable;
-pub use version::Version;
-pub use versions::Versions;
 
 mod found;
 mod key_versions;
@@ -17,5 +15,3 @@ mod memtable;
 mod places;
 #[cfg(test)]
 mod tests;
-mod version;
-mod versions;

@@ -1,16 +1,14 @@
 ghost use Rattle.std.specs.Prelude.{◌≡◌, ◌++◌, ◌<◌, ◌^◌, [], length, IfOk, OnOk, OnErr};
-ghost use Rattle.wp_memtable.specs.Versions.{AreInOrder};
+ghost use Rattle.wp_model.specs.Versions.{AreInOrder};
 ghost use Rattle.wp_memtable.specs.Memtable.{HasChanges, without_number, numbered_of, under, versions_of};
 
 use crate::found::Found;
 use crate::key_versions::KeyVersions;
 use crate::places::{copy_values, put_all, reserve_all};
-use crate::version::{Version, copy_value};
-use crate::versions::Versions;
 use std::alloc::{AllocError, Global};
 use std::collections::BTreeMap;
 use std::marker::Model;
-use wp_model::{Batch, Key, Seq};
+use wp_model::{Batch, Key, Seq, Version, Versions, copy_value};
 
 /// The versions in memory, which the holder of the store turn changes.
 #[derive(Drop)]
@@ -23,7 +21,7 @@ pub struct Memtable {
 
 impl Model for Memtable {
     ghost use Rattle.std.specs.Prelude.{◌≡◌, List, length};
-    ghost use Rattle.wp_memtable.specs.declared.version.Version.{Version};
+    ghost use Rattle.wp_model.specs.declared.version.Version.{Version};
     ghost use Rattle.wp_memtable.specs.Memtable.{versions_of, AreWellOrdered};
 
     ghost Value = { List Version };

@@ -3,14 +3,13 @@ ghost use Rattle.std.specs.Prelude.{◌≡◌, ℕ, List, ◌+◌, ◌≤◌, �
 ghost use Rattle.std.specs.Option.{option_or};
 ghost use Rattle.std.specs.Str.{bytes_eq};
 ghost use Rattle.wp_model.specs.Batch.{change_to, value_of};
-ghost use Rattle.wp_memtable.specs.Versions.{version_at};
+ghost use Rattle.wp_model.specs.Versions.{version_at};
 ghost use Rattle.wp_memtable.specs.Memtable.{versions_of, AreWellOrdered, place_at, HavePlaces};
 
 use crate::key_versions::KeyVersions;
-use crate::version::copy_value;
 use std::alloc::{AllocError, Global};
 use std::collections::BTreeMap;
-use wp_model::{Change, Key, Seq, Value};
+use wp_model::{Change, Key, Seq, Value, copy_value};
 
 /// The values that the changes leave, or none for deletions.
 pub fn copy_values(alloc: Global, changes: &[Change]) -> Result<Vec<Option<Value>>, AllocError>

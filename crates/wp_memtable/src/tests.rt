@@ -1,7 +1,7 @@
-use crate::{Memtable, Version};
+use crate::Memtable;
 use std::alloc::Global;
 use std::test::Fail;
-use wp_model::{Batch, Change, Key, Value};
+use wp_model::{Batch, Change, Key, Value, Version};
 
 fn put(alloc: Global, key: &[u8], value: &[u8]) -> Result<Change, Fail> {
     Ok(Change::Put(Key::read(alloc, key)?, Value::read(alloc, value)?))

@@ -12,8 +12,8 @@ use Rattle.std.proofs.lemmas.Map.Lookups.{exact_bytes}
 use Rattle.std.proofs.lemmas.Map.Text.{is_eq-slice_cmp}
 use Rattle.std.proofs.lemmas.Cmp.{ranked, tied_itself, nat_cmp_total, nat_list_cmp_total, on_total, back_total, then_total}
 use Rattle.wp_model.specs.Batch.{key_cmp}
-use Rattle.wp_memtable.specs.declared.version.Version.{Version}
-use Rattle.wp_memtable.specs.Versions.{AreInOrder, version_cmp, version_at}
+use Rattle.wp_model.specs.declared.version.Version.{Version}
+use Rattle.wp_model.specs.Versions.{AreInOrder, version_cmp, version_at}
 use Rattle.wp_merge.specs.Merge.{first_at, by_order, weave, merge_of}
 
 version_total : IsTotalOrder version_cmp

@@ -6,7 +6,7 @@ use crate::two::merge_two;
 use std::alloc::{AllocError, Global};
 use std::collections::VecDeque;
 use std::marker::Model;
-use wp_memtable::{Version, Versions};
+use wp_model::{Version, Versions};
 
 /// The versions of several lists, in order. Of two of the same key and number the earlier list's stays.
 #[derive(Drop)]
@@ -16,7 +16,7 @@ pub struct Merge {
 
 impl Model for Merge {
     ghost use Rattle.std.specs.Prelude.{List};
-    ghost use Rattle.wp_memtable.specs.declared.version.Version.{Version};
+    ghost use Rattle.wp_model.specs.declared.version.Version.{Version};
 
     ghost Value = { List Version };
 

@@ -1,8 +1,8 @@
 use crate::Merge;
 use std::alloc::Global;
 use std::test::Fail;
-use wp_memtable::{Memtable, Version, Versions};
-use wp_model::{Batch, Change, Key, Value};
+use wp_memtable::Memtable;
+use wp_model::{Batch, Change, Key, Value, Version, Versions};
 
 fn word(alloc: Global, key: &[u8], value: &[u8]) -> Result<Batch, Fail> {
     let change = Change::Put(Key::read(alloc, key)?, Value::read(alloc, value)?);

@@ -5,7 +5,7 @@ ghost use Rattle.wp_merge.specs.Merge.{front_order, merge_of};
 use std::alloc::{AllocError, Global};
 use std::cmp::Ordering;
 use std::collections::VecDeque;
-use wp_memtable::Version;
+use wp_model::Version;
 
 /// Which list has the version that comes next: `Less` for the first, `Greater` for the second, and `Equal` where
 /// both have one of the same key and number.

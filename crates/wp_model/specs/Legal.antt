@@ -10,11 +10,11 @@ use Rattle.wp_model.specs.History.{batch_at, is_undecided, named, holder_of, new
 -- ---- what an entry keeps
 
 -- the changes that an entry keeps, whether they are committed or not
-abbrev pub kept_by : Entry → List Change
-kept_by (Write batch) = batch
-kept_by (Prepare name batch) = batch
-kept_by (Undo p batch) = batch
-kept_by other = []
+abbrev pub changes_in : Entry → List Change
+changes_in (Write batch) = batch
+changes_in (Prepare name batch) = batch
+changes_in (Undo p batch) = batch
+changes_in other = []
 
 -- ---- the four points
 
@@ -65,8 +65,8 @@ KeysAreFree before other = Unit {0}
 -- ---- together
 
 -- the entry may stand right behind these
-pub record IsLegalBehind (before : List Entry) (entry : Entry) : Type 0 where
-  pub batch : is_batch (kept_by entry) ≡ true
+pub record IsLegalNext (before : List Entry) (entry : Entry) : Type 0 where
+  pub batch : is_batch (changes_in entry) ≡ true
   pub names_undecided : NamesUndecided before entry
   pub undo_is_closed : UndoIsClosed before entry
   pub restores_prior : RestoresPrior before entry
@@ -74,7 +74,7 @@ pub record IsLegalBehind (before : List Entry) (entry : Entry) : Type 0 where
 
 -- each entry may stand behind those before it
 abbrev pub AreLegal : List Entry → Type 0
-AreLegal history = (n : ℕ) (entry : Entry) → slice_get history n ≡ Some entry → IsLegalBehind (take n history) entry
+AreLegal history = (n : ℕ) (entry : Entry) → slice_get history n ≡ Some entry → IsLegalNext (take n history) entry
 
 -- A legal history: few enough entries for their numbers, and each may stand behind those before it.
 pub record IsLegal (history : List Entry) : Type 0 where

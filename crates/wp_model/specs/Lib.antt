@@ -3,4 +3,10 @@ pub mod Batch
 pub mod Place
 pub mod History
 pub mod Legal
+pub mod Decision
 pub mod Versions
+pub mod Covered
+pub mod Holder
+pub mod LockTables
+pub mod PreparedTables
+pub mod Snapshots

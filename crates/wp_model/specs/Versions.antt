@@ -1,45 +1,21 @@
--- The versions of keys that a history holds, committed or not.
-use Rattle.std.specs.Prelude.{◌≡◌, ℕ, suc, ◌<◌, ◌≤◌, List, Option, Some, None, option_map}
-use Rattle.std.specs.List.{position}
-use Rattle.wp_model.specs.declared.entry.Entry.{Entry}
-use Rattle.wp_model.specs.declared.entry.Entry.TheVariants.{Write, Prepare, Undo}
-use Rattle.wp_model.specs.Batch.{change_to}
-use Rattle.wp_model.specs.History.{entry_at, decides}
-use Rattle.wp_model.specs.Legal.{kept_by}
+-- Versions, and lists of them in order.
+use Rattle.std.specs.Prelude.{ℕ, ◌==◌, ◌&&◌, List, [], ◌∷◌, Option, Some, None, if◌then◌else◌}
+use Rattle.std.specs.declared.cmp.Ordering.{Ordering}
+use Rattle.std.specs.Ordering.{nat_cmp, ordering_then}
+use Rattle.std.specs.List.Sorted.{IsStrictlySortedBy}
+use Rattle.std.specs.Str.{bytes_eq}
+use Rattle.wp_model.specs.Batch.{key_cmp}
+use Rattle.wp_model.specs.declared.version.Version.{Version}
 
--- the version of a key that an entry keeps, if it keeps one: a value, or a deletion
-abbrev pub version_in : Option Entry → List ℕ → Option (Option (List ℕ))
-version_in None key = None
-version_in (Some entry) key = change_to (kept_by entry) key
+-- the order of versions: by key, of one key the greater number first
+abbrev pub version_cmp : Version → Version → Ordering
+version_cmp v w = ordering_then (key_cmp v.key w.key) (nat_cmp w.number v.number)
 
--- the version of the key with that number
-abbrev pub version_at : List Entry → ℕ → List ℕ → Option (Option (List ℕ))
-version_at history p key = version_in (entry_at history p) key
+-- each version stands before all that follow it
+abbrev pub AreInOrder : List Version → Type 0
+AreInOrder = IsStrictlySortedBy version_cmp
 
-abbrev pub decision_in : List Entry → ℕ → Option Entry → Option ℕ
-decision_in history p (Some (Write batch)) = Some p
-decision_in history p (Some (Undo q batch)) = Some p
-decision_in history p (Some (Prepare name batch)) = option_map suc (position (decides p) history)
-decision_in history p other = None
-
--- The number that decides the entry with that number: that of a Write or an Undo is its own, that of a Prepare is the
--- number of its Commit or Close, if there is one.
-abbrev pub decision_of : List Entry → ℕ → Option ℕ
-decision_of history p = decision_in history p (entry_at history p)
-
--- the versions with that number count from a number on that is at most n
-pub record IsCommittedAt (history : List Entry) (p n : ℕ) : Type 0 where
-  pub by : ℕ
-  pub decided : decision_of history p ≡ Some by
-  pub within : by ≤ n
-
--- The version of the key with that number is the newest one that is committed at n.
-pub record IsNewestCommitted (history : List Entry) (key : List ℕ) (n p : ℕ) : Type 0 where
-  pub value : Option (List ℕ)
-  pub there : version_at history p key ≡ Some value
-  pub committed : IsCommittedAt history p n
-  pub newest : (q : ℕ) → p < q → IsCommittedAt history q n → version_at history q key ≡ None
-
--- the key has no version that is committed at n
-abbrev pub HasNoneCommitted : List Entry → List ℕ → ℕ → Type 0
-HasNoneCommitted history key n = (p : ℕ) → IsCommittedAt history p n → version_at history p key ≡ None
+-- what the versions have under the key and the number: nothing, or a value, or none for a deletion
+abbrev pub version_at : List Version → List ℕ → ℕ → Option (Option (List ℕ))
+version_at [] key n = None
+version_at (v ∷ vs) key n = if bytes_eq v.key key && (v.number == n) then Some v.value else version_at vs key n

@@ -5,11 +5,17 @@
 mod batch;
 mod change;
 mod entry;
+mod holder;
+mod version;
+mod versions;
 mod word;
 
 pub use batch::{Batch, MOST_KEYS, SetError};
 pub use change::Change;
 pub use entry::Entry;
+pub use holder::Holder;
+pub use version::{Version, copy_value};
+pub use versions::Versions;
 pub use word::{Key, Name, Value, Word, WordError};
 
 /// The number of an entry, from 1 on. 0 stands for the empty history.

@@ -3,3 +3,5 @@ pub mod Moments
 pub mod Reading
 pub mod Replayed
 pub mod Writes
+pub mod ReadLemmas
+pub mod WriteLemmas

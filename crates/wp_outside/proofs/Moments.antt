@@ -1,7 +1,7 @@
 -- The moments of a run of calls, and what a crash at one of them leaves.
 use Rattle.std.proofs.Common.{◌≡◌, ◌⊎◌, ℕ, ◌≤◌, List, [], ◌∷◌, ◌++◌, map, length, refl, sym, ◌∙◌, ap, subst, inl, inr, arith, append_assoc, Some}
 use Rattle.std.proofs.lemmas.List.{append_cancel_right}
-use Rattle.wp_outside.specs.Disk.{Moment, Matches, IsImage, added, after_sync, IfTold, Tears, Each, Passes, images, images_since}
+use Rattle.wp_outside.specs.Disk.{Moment, Matches, IsImage, added, after_sync, IfKnown, Tears, Each, Passes, images, images_since}
 
 -- bytes that are sure, and no more of them
 pub settled_image : (bytes image : List ℕ) → Matches (map (λ b. Some b) bytes) image → length image ≤ length bytes → image ≡ bytes
@@ -12,7 +12,7 @@ settled_image (known ∷ bytes) (b ∷ image) m le =
     ap (λ x. x ∷ image) m.0 ∙ ap (λ xs. known ∷ xs) (settled_image bytes image m.1 (omega arith))
 
 -- after a sync a crash leaves what a read gives
-pub synced_image : (moments : List Moment) (image : List ℕ) → images (added after_sync moments) image → IfTold moments (λ m. image ≡ m.reads)
+pub synced_image : (moments : List Moment) (image : List ℕ) → images (added after_sync moments) image → IfKnown moments (λ m. image ≡ m.reads)
 synced_image [] image left = elim left [ ]
 synced_image (m ∷ past) image left = settled_image m.reads image left.0 left.1
 
@@ -28,12 +28,12 @@ pub passes_on : (P : Moment → Type 0) (before between after : List Moment) →
 passes_on P before between after (first, e, p) (second, f, q) =
     (second ++ first, f ∙ ap (λ xs. second ++ xs) e ∙ sym (append_assoc second first before), each-append P second first q p)
 
-pub passes_added : (P : Moment → Type 0) (step : Moment → Moment) (old : List Moment) → IfTold old (λ m. P (step m)) → Passes P old (added step old)
+pub passes_added : (P : Moment → Type 0) (step : Moment → Moment) (old : List Moment) → IfKnown old (λ m. P (step m)) → Passes P old (added step old)
 passes_added P step [] p = ([], refl, tt)
 passes_added P step (m ∷ past) p = (step m ∷ [], refl, (p, tt))
 
 pub passes_torn : (P : Moment → Type 0) (step : Moment → Moment) (old new : List Moment) → Tears step old new
-    → IfTold old (λ m. (bytes : List ℕ) → P (record (step m) { reads = bytes })) → Passes P old new
+    → IfKnown old (λ m. (bytes : List ℕ) → P (record (step m) { reads = bytes })) → Passes P old new
 passes_torn P step old new (inl e) p = subst (λ ms. Passes P old ms) (sym e) (passes_none P old)
 passes_torn P step [] new (inr (bytes, e)) p = subst (λ ms. Passes P [] ms) (sym e) (passes_none P [])
 passes_torn P step (m ∷ past) new (inr (bytes, e)) p =

@@ -5,7 +5,7 @@ use Rattle.std.proofs.lemmas.List.Sums.{fold-append, sum_by-cons, sum_by_push}
 use Rattle.wp_outside.specs.declared.mem_disk.Change.{Change}
 use Rattle.wp_outside.specs.declared.mem_disk.Change.TheVariants.{Write, Cut, Sync}
 use Rattle.wp_outside.specs.declared.mem_disk.MemDisk.TheInside.{Inside}
-use Rattle.wp_outside.specs.Disk.{Moment, IfTold, settled, added}
+use Rattle.wp_outside.specs.Disk.{Moment, IfKnown, settled, added}
 use Rattle.wp_outside.specs.Faults.{risen}
 use Rattle.wp_outside.specs.MemDisk.{Effect, Wrote, Shortened, Synced, DiskState, after, contents, now_of, moments_of, bytes_of_effect}
 use Rattle.wp_outside.specs.Replay.{effects_of, bytes_of_change, state_of, IsReplayed}
@@ -60,16 +60,16 @@ effects_of-more (Sync ∷ past) written change piece size total =
     let all : sum_by bytes_of_change (Sync ∷ past) ≡ 0 + sum_by bytes_of_change past = sum_by-cons bytes_of_change Sync past in
     ap (λ xs. Synced ∷ xs) (effects_of-more past written change piece size (omega arith))
 
-newest_from : (m : Moment) (past : List Moment) (effects : List Effect) → IfTold (fold (λ moments effect. added (after effect) moments) (m ∷ past) effects) (λ k. k ≡ fold (λ m effect. after effect m) m effects)
+newest_from : (m : Moment) (past : List Moment) (effects : List Effect) → IfKnown (fold (λ moments effect. added (after effect) moments) (m ∷ past) effects) (λ k. k ≡ fold (λ m effect. after effect m) m effects)
 newest_from m past [] = refl
 newest_from m past (effect ∷ effects) = newest_from (after effect m) (m ∷ past) effects
 
-at_newest : (moments : List Moment) (m : Moment) (P : Moment → Type 0) → IfTold moments (λ k. k ≡ m) → P m → IfTold moments P
+at_newest : (moments : List Moment) (m : Moment) (P : Moment → Type 0) → IfKnown moments (λ k. k ≡ m) → P m → IfKnown moments P
 at_newest [] m P e now = tt
 at_newest (k ∷ past) m P e now = subst P (sym e) now
 
 -- what holds of the disk now holds of the moment that it tells first
-pub told_now : (d : DiskState) (P : Moment → Type 0) → P (now_of d) → IfTold (moments_of d) P
+pub told_now : (d : DiskState) (P : Moment → Type 0) → P (now_of d) → IfKnown (moments_of d) P
 told_now d P now = at_newest (moments_of d) (now_of d) P (newest_from (settled d.start) [] d.effects) now
 
 -- one more effect, one more moment

@@ -65,13 +65,13 @@ abbrev pub after_sync : Moment → Moment
 after_sync m = settled m.reads
 
 -- of a disk that tells its moments, the newest first: P of the newest
-abbrev pub IfTold : List Moment → (Moment → Type 0) → Type 0
-IfTold [] P = ⊤
-IfTold (m ∷ past) P = P m
+abbrev pub IfKnown : List Moment → (Moment → Type 0) → Type 0
+IfKnown [] P = ⊤
+IfKnown (m ∷ past) P = P m
 
 -- a disk as it reads is one of its images
 abbrev pub ReadsItself : List Moment → Type 0
-ReadsItself moments = IfTold moments (λ m. IsImage m m.reads)
+ReadsItself moments = IfKnown moments (λ m. IsImage m m.reads)
 
 -- n bytes from a place on stand at the front of buf, fewer than it has room for exactly at the end
 pub record IsRead (reads : List ℕ) (at : ℕ) (buf : List ℕ) (n : ℕ) : Type 0 where

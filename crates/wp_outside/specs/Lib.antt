@@ -9,3 +9,4 @@ pub mod MemSource
 pub mod Replay
 pub mod Sink
 pub mod Source
+pub mod Whole

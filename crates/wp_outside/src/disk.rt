@@ -1,8 +1,9 @@
 ghost use Rattle.std.specs.Prelude.{◌≡◌, ℕ, ◌+◌, ◌-◌, ◌^◌, ◌≤◌, List, length, IfOk, OnOk, OnErr};
 ghost use Rattle.wp_outside.specs.Faults.{HasCause};
-ghost use Rattle.wp_outside.specs.Disk.{Moment, IsRead, IfTold, added, Tears, write_end, after_write, after_cut, after_sync, images, ReadsItself};
+ghost use Rattle.wp_outside.specs.Disk.{Moment, IsRead, IfKnown, added, Tears, write_end, after_write, after_cut, after_sync, images, ReadsItself};
 
 use crate::failed::Failed;
+use std::fmt;
 
 /// A device of bytes, each at its place from 0 on.
 ///
@@ -17,7 +18,7 @@ pub trait Disk {
     /// The length in bytes. A disk that is longer than 2^62 bytes fails.
     fn len(&mut self) -> Result<u64, Failed>
         ensures bounded { IfOk result (λ n. n ≤ 2 ^ 62) }
-        ensures length { IfOk result (λ n. IfTold (moments self.old) (λ m. n ≡ length m.reads)) }
+        ensures length { IfOk result (λ n. IfKnown (moments self.old) (λ m. n ≡ length m.reads)) }
         ensures kept { moments self.new ≡ moments self.old }
         ensures cause { HasCause (faults self.old) (faults self.new) result };
 
@@ -26,7 +27,7 @@ pub trait Disk {
     fn read_at(&mut self, at: u64, buf: &mut [u8]) -> Result<usize, Failed>
         requires { at + length buf.old ≤ 2 ^ 63 - 1 }
         ensures count { IfOk result (λ n. n ≤ length buf.new) }
-        ensures bytes { IfOk result (λ n. IfTold (moments self.old) (λ m. IsRead m.reads at buf.new n)) }
+        ensures bytes { IfOk result (λ n. IfKnown (moments self.old) (λ m. IsRead m.reads at buf.new n)) }
         ensures kept { moments self.new ≡ moments self.old }
         ensures cause { HasCause (faults self.old) (faults self.new) result };
 
@@ -46,7 +47,7 @@ pub trait Disk {
     /// Puts what a read gives on the disk for good: a crash then leaves that and nothing else.
     fn sync(&mut self) -> Result<(), Failed>
         ensures done { OnOk result (moments self.new ≡ added after_sync (moments self.old)) }
-        ensures durable { OnOk result ((image : List ℕ) → images (moments self.new) image → IfTold (moments self.old) (λ m. image ≡ m.reads)) }
+        ensures durable { OnOk result ((image : List ℕ) → images (moments self.new) image → IfKnown (moments self.old) (λ m. image ≡ m.reads)) }
         ensures kept { OnErr result (moments self.new ≡ moments self.old) }
         ensures cause { HasCause (faults self.old) (faults self.new) result };
 
@@ -68,4 +69,15 @@ pub enum Device {
     Log,
     Manifest,
     Tables,
+}
+
+impl fmt::Display for Device {
+    fn fmt<W: fmt::Write>(&self, f: &mut fmt::Formatter<W>) -> fmt::Result {
+        let name = match self {
+            Device::Log => "log",
+            Device::Manifest => "manifest",
+            Device::Tables => "tables",
+        };
+        f.write_str(name)
+    }
 }

@@ -16,6 +16,7 @@ mod mem_sink;
 mod mem_source;
 mod sink;
 mod source;
+mod whole;
 
 pub use disk::{Device, Disk, Disks};
 pub use failed::Failed;
@@ -25,6 +26,7 @@ pub use mem_sink::MemSink;
 pub use mem_source::MemSource;
 pub use sink::Sink;
 pub use source::{Got, Source};
+pub use whole::{ReadError, read_all, write_all};
 
 #[cfg(test)]
 mod tests;

@@ -1,6 +1,6 @@
 ghost use Rattle.std.specs.Prelude.{◌≡◌, ℕ, ◌+◌, ◌-◌, ◌^◌, ◌≤◌, ◌<◌, not, [], ◌∷◌, ◌++◌, List, drop, replicate, min, max, length, vec_capacity, is_err, IsTrue, IfOk, OnOk, OnErr};
 ghost use Rattle.wp_outside.specs.Counter.{no_calls, counted};
-ghost use Rattle.wp_outside.specs.Disk.{Moment, settled, put, write_end, after_write, after_cut, after_sync, added, IfTold, IsRead, Tears, images};
+ghost use Rattle.wp_outside.specs.Disk.{Moment, settled, put, write_end, after_write, after_cut, after_sync, added, IfKnown, IsRead, Tears, images};
 ghost use Rattle.wp_outside.specs.Faults.{HasCause};
 ghost use Rattle.wp_outside.specs.Fits.{Fits};
 ghost use Rattle.wp_outside.specs.MemDisk.{Wrote, Shortened, Synced, contents, moments_of, is_used_up, refuses, after_call};
@@ -162,7 +162,7 @@ impl Disk for MemDisk {
 
     fn len(&mut self) -> Result<u64, Failed>
         ensures bounded { IfOk result (λ n. n ≤ 2 ^ 62) }
-        ensures length { IfOk result (λ n. IfTold (moments_of self.old) (λ m. n ≡ length m.reads)) }
+        ensures length { IfOk result (λ n. IfKnown (moments_of self.old) (λ m. n ≡ length m.reads)) }
         ensures kept { moments_of self.new ≡ moments_of self.old }
         ensures cause { HasCause self.old.calls.faults self.new.calls.faults result }
         ensures exact { is_err result ≡ refuses self.old (length (contents self.old)) 0 }
@@ -177,7 +177,7 @@ impl Disk for MemDisk {
     fn read_at(&mut self, at: u64, buf: &mut [u8]) -> Result<usize, Failed>
         requires { at + length buf.old ≤ 2 ^ 63 - 1 }
         ensures count { IfOk result (λ n. n ≤ length buf.new) }
-        ensures bytes { IfOk result (λ n. IfTold (moments_of self.old) (λ m. IsRead m.reads at buf.new n)) }
+        ensures bytes { IfOk result (λ n. IfKnown (moments_of self.old) (λ m. IsRead m.reads at buf.new n)) }
         ensures kept { moments_of self.new ≡ moments_of self.old }
         ensures cause { HasCause self.old.calls.faults self.new.calls.faults result }
         ensures rest { IfOk result (λ n. drop n buf.new ≡ drop n buf.old) }
@@ -224,7 +224,7 @@ impl Disk for MemDisk {
 
     fn sync(&mut self) -> Result<(), Failed>
         ensures done { OnOk result (moments_of self.new ≡ added after_sync (moments_of self.old)) }
-        ensures durable { OnOk result ((image : List ℕ) → images (moments_of self.new) image → IfTold (moments_of self.old) (λ m. image ≡ m.reads)) }
+        ensures durable { OnOk result ((image : List ℕ) → images (moments_of self.new) image → IfKnown (moments_of self.old) (λ m. image ≡ m.reads)) }
         ensures kept { OnErr result (moments_of self.new ≡ moments_of self.old) }
         ensures cause { HasCause self.old.calls.faults self.new.calls.faults result }
         ensures exact { is_err result ≡ refuses self.old (length (contents self.old)) 0 }

@@ -3,13 +3,14 @@ use Rattle.std.proofs.Common.{◌≡◌, ℕ, ◌+◌, ◌^◌, ◌<◌, ◌≤�
 use Rattle.std.proofs.lemmas.List.{append-nil}
 use Rattle.wp_model.specs.declared.entry.Entry.{Entry}
 use Rattle.wp_model.specs.declared.entry.Entry.TheVariants as entry
-use Rattle.wp_model.specs.Legal.{IsLegal, IsLegalBehind, undone_last}
-use Rattle.wp_outside.specs.Disk.{Moment, IfTold}
+use Rattle.wp_model.specs.Legal.{IsLegal, IsLegalNext, undone_last}
+use Rattle.wp_outside.specs.Disk.{Moment, IfKnown}
 use Rattle.wp_entry.specs.Record.{FormRecord, IsRecord}
 use Rattle.wp_wal.specs.Spelling.{AreEntries, IsLogOrNext}
-use Rattle.wp_wal.specs.Wal.{Reserved, State as WalState, reserved_of, LeavesHistory, LeavesHistoryOrNext, Keeps, IsReserved}
+use Rattle.wp_wal.specs.Wal.{Reserved, State as WalState, reserved_of, LeavesHistory, LeavesHistoryOrNext, StoresHistory, IsReserved}
 use Rattle.wp_run.specs.Engine.{bit}
-use Rattle.wp_run.specs.Kept.{IsLogOrOneMore, KeptBy, LosesNothing, AreLegalBehind, AreNext, IsWhole}
+use Rattle.wp_run.specs.Kept.{IsLogOrOneMore, KeptBy, AreLegalNext, AreNext, IsWhole}
+use Rattle.wp_wal.specs.Wal.{LosesNothing}
 use Rattle.wp_run.proofs.PlanLemmas.{LastIs}
 use Rattle.wp_run.proofs.StepLemmas.{false_is_true}
 
@@ -33,7 +34,7 @@ records_closed last first (r ∷ records) entries (front, rest, parts, is, bytes
 
 -- ---- a store
 
-pub whole_new : LastIs → (wal : WalState) (entries : List Entry) (limit : ℕ) → Keeps wal entries [] → IsLegal entries → wal.closed ≡ false → limit < 2 ^ 32 → IsWhole wal entries false limit
+pub whole_new : LastIs → (wal : WalState) (entries : List Entry) (limit : ℕ) → StoresHistory wal entries [] → IsLegal entries → wal.closed ≡ false → limit < 2 ^ 32 → IsWhole wal entries false limit
 whole_new last wal entries limit keeps legal running small = record {
   failed = [];
   keeps = keeps;
@@ -46,22 +47,22 @@ whole_new last wal entries limit keeps legal running small = record {
 }
 
 -- entries that may stand behind a legal history, one after another
-pub legal_behind : ((history : List Entry) (e : Entry) → IsLegal history → IsLegalBehind history e → length history + 1 < 2 ^ 32 → IsLegal (history ++ e ∷ []))
-    → (history entries : List Entry) → IsLegal history → AreLegalBehind history entries → length history + length entries < 2 ^ 32 → IsLegal (history ++ entries)
+pub legal_behind : ((history : List Entry) (e : Entry) → IsLegal history → IsLegalNext history e → length history + 1 < 2 ^ 32 → IsLegal (history ++ e ∷ []))
+    → (history entries : List Entry) → IsLegal history → AreLegalNext history entries → length history + length entries < 2 ^ 32 → IsLegal (history ++ entries)
 legal_behind grows history [] legal behind few = subst IsLegal (sym (append-nil history)) legal
 legal_behind grows history (e ∷ entries) legal behind few =
     let one : length (history ++ e ∷ []) ≡ length history + 1 = length-append history (e ∷ []) in
     let rest : length (history ++ e ∷ []) + length entries < 2 ^ 32 = omega (arith, few, one) in
     subst IsLegal (append_assoc history (e ∷ []) entries) (legal_behind grows (history ++ e ∷ []) entries (grows history e legal behind.0 (omega (arith, few))) behind.1 rest)
 
-keeps_reserved : (wal : WalState) (entries : List Entry) (reserved : Option Reserved) → Keeps wal entries [] → Keeps (record wal { reserved = reserved }) entries []
+keeps_reserved : (wal : WalState) (entries : List Entry) (reserved : Option Reserved) → StoresHistory wal entries [] → StoresHistory (record wal { reserved = reserved }) entries []
 keeps_reserved wal entries reserved keeps = record { records = keeps.records; spelled = keeps.spelled; counted = keeps.counted; numbered = keeps.numbered; rests = keeps.rests; left = keeps.left }
 
 -- the record of the entries stands reserved
 pub ready_for : (old ready : WalState) (entries added : List Entry) (stopped : Bool) (limit : ℕ) → IsWhole old entries stopped limit → stopped ≡ false
     → ready ≡ record old { reserved = Some (reserved_of old.due added) } → IsRecord old.due added → IsReserved ready entries added
 ready_for old ready entries added stopped limit whole running is record_is =
-    let kept : Keeps old entries [] = subst (λ (xs : List Entry). Keeps old entries xs) (whole.none running) whole.keeps in
+    let kept : StoresHistory old entries [] = subst (λ (xs : List Entry). StoresHistory old entries xs) (whole.none running) whole.keeps in
     let reserved : IsReserved (record old { reserved = Some (reserved_of old.due added) }) entries added =
     record { keeps = keeps_reserved old entries (Some (reserved_of old.due added)) kept; running = whole.state ∙ running; is = record_is; reserved = refl } in
     subst (λ (w : WalState). IsReserved w entries added) (sym is) reserved
@@ -71,9 +72,9 @@ pub lasting_from : (old ready : WalState) (new : List Moment) (reserved : Option
 lasting_from old ready new reserved is lasting = subst (λ (w : WalState). LosesNothing w.moments new) is lasting
 
 -- the log took the entries
-pub whole_taken : ((history : List Entry) (e : Entry) → IsLegal history → IsLegalBehind history e → length history + 1 < 2 ^ 32 → IsLegal (history ++ e ∷ []))
+pub whole_taken : ((history : List Entry) (e : Entry) → IsLegal history → IsLegalNext history e → length history + 1 < 2 ^ 32 → IsLegal (history ++ e ∷ []))
     → (new : WalState) (entries added : List Entry) (stopped : Bool) (limit : ℕ) → stopped ≡ false → IsLegal entries → AreNext entries added → length entries + length added ≤ limit → limit < 2 ^ 32
-    → Keeps new (entries ++ added) [] → new.closed ≡ false → IsWhole new (entries ++ added) stopped limit
+    → StoresHistory new (entries ++ added) [] → new.closed ≡ false → IsWhole new (entries ++ added) stopped limit
 whole_taken grows new entries added stopped limit running legal next fits small keeps runs =
     let few : length entries + length added < 2 ^ 32 = omega (arith, fits, small) in
     record {
@@ -88,9 +89,9 @@ whole_taken grows new entries added stopped limit running legal next fits small 
     }
 
 -- the log failed as it took the entries
-pub whole_failed : ((history : List Entry) (e : Entry) → IsLegal history → IsLegalBehind history e → length history + 1 < 2 ^ 32 → IsLegal (history ++ e ∷ []))
+pub whole_failed : ((history : List Entry) (e : Entry) → IsLegal history → IsLegalNext history e → length history + 1 < 2 ^ 32 → IsLegal (history ++ e ∷ []))
     → (old new : WalState) (entries added : List Entry) (stopped : Bool) (limit : ℕ) → IsWhole old entries stopped limit → stopped ≡ false → IsLegal entries → AreNext entries added → length entries + length added ≤ limit
-    → IsRecord old.due added → Keeps new entries added → new.closed ≡ true → IsWhole new entries true limit
+    → IsRecord old.due added → StoresHistory new entries added → new.closed ≡ true → IsWhole new entries true limit
 whole_failed grows old new entries added stopped limit whole running legal next fits record_is keeps closed =
     let few : length entries + length added < 2 ^ 32 = omega (arith, fits, whole.numbers) in
     record {
@@ -112,16 +113,16 @@ or_next id entries failed image legal longer is spelled = elim spelled [
   | inr after ↦ (entries ++ failed, inr (failed, is, refl), longer, after)
 ]
 
-kept_running : (id : ℕ) (entries : List Entry) (moments : List Moment) → IfTold moments (LeavesHistory id entries) → IfTold moments (KeptBy 0 id entries)
+kept_running : (id : ℕ) (entries : List Entry) (moments : List Moment) → IfKnown moments (LeavesHistory id entries) → IfKnown moments (KeptBy 0 id entries)
 kept_running id entries [] left = tt
 kept_running id entries (m ∷ past) left = left
 
-kept_failed : (id : ℕ) (entries failed : List Entry) (moments : List Moment) → IsLegal entries → IsLegal (entries ++ failed) → IsRecord (length entries + 1) failed → IfTold moments (LeavesHistoryOrNext id entries failed) → IfTold moments (KeptBy 1 id entries)
+kept_failed : (id : ℕ) (entries failed : List Entry) (moments : List Moment) → IsLegal entries → IsLegal (entries ++ failed) → IsRecord (length entries + 1) failed → IfKnown moments (LeavesHistoryOrNext id entries failed) → IfKnown moments (KeptBy 1 id entries)
 kept_failed id entries failed [] legal longer is left = tt
 kept_failed id entries failed (m ∷ past) legal longer is left = λ image at. (or_next id entries failed image legal longer is (left image at).0, (left image at).1)
 
 pub whole_keeps : (wal : WalState) (entries : List Entry) (stopped : Bool) (limit : ℕ) → IsWhole wal entries stopped limit → IsLegal entries
-    → ((history next : List Entry) → Keeps wal history next → wal.closed ≡ false → IfTold wal.moments (LeavesHistory wal.id history))
-    → IfTold wal.moments (KeptBy (bit stopped) wal.id entries)
+    → ((history next : List Entry) → StoresHistory wal history next → wal.closed ≡ false → IfKnown wal.moments (LeavesHistory wal.id history))
+    → IfKnown wal.moments (KeptBy (bit stopped) wal.id entries)
 whole_keeps wal entries false limit whole legal left = kept_running wal.id entries wal.moments (left entries whole.failed whole.keeps whole.state)
 whole_keeps wal entries true limit whole legal left = kept_failed wal.id entries whole.failed wal.moments legal whole.legal (whole.whole refl) (whole.keeps.left whole.state)

@@ -3,9 +3,9 @@ use Rattle.std.proofs.Common.{◌≡◌, ℕ, ◌≤◌, Bool, true, false, List
 use Rattle.std.proofs.lemmas.Bool.{cases_Bool}
 use Rattle.std.proofs.lemmas.List.{append-nil}
 use Rattle.wp_model.specs.declared.entry.Entry.{Entry}
-use Rattle.wp_outside.specs.Disk.{Moment, IfTold}
+use Rattle.wp_outside.specs.Disk.{Moment, IfKnown}
 use Rattle.wp_outside.specs.Faults.{Rose}
-use Rattle.wp_gatelog.specs.Lasting.{HoldsRecords, Lasts, PassedOn}
+use Rattle.wp_gatelog.specs.Durability.{HasAcknowledged, Preserves, PassedOn}
 use Rattle.wp_gatelog.specs.Moments.{Leaves}
 use Rattle.wp_text.specs.declared.script.Command.{Command}
 use Rattle.wp_text.specs.declared.reply.Reply.{Reply}
@@ -13,7 +13,7 @@ use Rattle.wp_run.specs.Client.{Client}
 use Rattle.wp_run.specs.Due.{added, is_fault}
 use Rattle.wp_wal.specs.Spelling.{MAGIC}
 use Rattle.wp_run.specs.Engine.{State, store_of, Later, Steps}
-use Rattle.wp_run.specs.Kept.{LosesNothing}
+use Rattle.wp_wal.specs.Wal.{LosesNothing}
 use Rattle.wp_run.proofs.StepLemmas.{false_is_true}
 
 -- ---- what lasts
@@ -24,14 +24,14 @@ lasting_same ms = λ id records. ([], refl, tt)
 passed_on : (P : Moment → Type 0) (old more later : List Moment) → PassedOn P old more → PassedOn P (more ++ old) later → PassedOn P old (later ++ more)
 passed_on P old more [] first rest = first
 passed_on P old more (m ∷ later) first rest =
-    ((λ told. rest.0 (subst (λ (xs : List Moment). IfTold xs P) (append_assoc later more old) told)), passed_on P old more later first rest.1)
+    ((λ told. rest.0 (subst (λ (xs : List Moment). IfKnown xs P) (append_assoc later more old) told)), passed_on P old more later first rest.1)
 
-lasts_on : (P : Moment → Type 0) (old mid new : List Moment) → Lasts P old mid → Lasts P mid new → Lasts P old new
+lasts_on : (P : Moment → Type 0) (old mid new : List Moment) → Preserves P old mid → Preserves P mid new → Preserves P old new
 lasts_on P old mid new (more, is, first) (later, new_is, rest) =
     (later ++ more, new_is ∙ ap (λ (xs : List Moment). later ++ xs) is ∙ sym (append_assoc later more old), passed_on P old more later first (subst (λ (xs : List Moment). PassedOn P xs later) is rest))
 
 pub lasting_trans : (old mid new : List Moment) → LosesNothing old mid → LosesNothing mid new → LosesNothing old new
-lasting_trans old mid new a b = λ id records. lasts_on (Leaves (HoldsRecords MAGIC id records)) old mid new (a id records) (b id records)
+lasting_trans old mid new a b = λ id records. lasts_on (Leaves (HasAcknowledged MAGIC id records)) old mid new (a id records) (b id records)
 
 -- ---- the store
 

@@ -8,5 +8,3 @@ pub mod RunLemmas
 pub mod Explained
 pub mod TextLemmas
 pub mod TopLemmas
-pub mod ReadLemmas
-pub mod WriteLemmas

@@ -10,7 +10,7 @@ use Rattle.wp_model.specs.declared.entry.Entry.{Entry}
 use Rattle.wp_model.specs.declared.entry.Entry.TheVariants as entry
 use Rattle.wp_model.specs.Batch.{key_of, is_batch}
 use Rattle.wp_model.specs.History.{entry_at, batch_at, is_prepare, is_undecided, named, holder_of}
-use Rattle.wp_model.specs.Legal.{kept_by, IsLegal, IsLegalBehind, undone_last, AreFree, prior}
+use Rattle.wp_model.specs.Legal.{changes_in, IsLegal, IsLegalNext, undone_last, AreFree, prior}
 use Rattle.wp_text.specs.declared.script.Command.{Command}
 use Rattle.wp_text.specs.declared.script.Command.TheVariants as command
 use Rattle.wp_text.specs.declared.reply.Reply.{Reply}
@@ -31,7 +31,7 @@ LastIs = (front others : List Entry) (e : Entry) → undone_last (front ++ e ∷
 
 -- an Undo may be followed by its Close
 abbrev pub Follows : Type 0
-Follows = (h : List Entry) (p : ℕ) (batch : List Change) → IsLegalBehind h (entry.Undo p batch) → IsLegalBehind (h ++ entry.Undo p batch ∷ []) (entry.Close p)
+Follows = (h : List Entry) (p : ℕ) (batch : List Change) → IsLegalNext h (entry.Undo p batch) → IsLegalNext (h ++ entry.Undo p batch ∷ []) (entry.Close p)
 
 -- ---- entries that may be logged next
 
@@ -70,7 +70,7 @@ rollback_next : LastIs → Follows → (h : List Entry) (p : ℕ) → undone_las
 rollback_next last follows h p closed is whole =
     let within = undecided_within h p is in
     let batch = prior h (batch_at h p) in
-    let undo : IsLegalBehind h (entry.Undo p batch) = record { batch = whole; names_undecided = is; undo_is_closed = closed; restores_prior = refl; keys_are_free = tt } in
+    let undo : IsLegalNext h (entry.Undo p batch) = record { batch = whole; names_undecided = is; undo_is_closed = closed; restores_prior = refl; keys_are_free = tt } in
     record {
       legal = (undo, (follows h p batch undo, tt));
       form = λ small. record { same = refl; earlier = record { from = within.0; below = omega (arith, within.1) }; small = omega (arith, small) };
@@ -87,7 +87,7 @@ pub record Logs (h : List Entry) (client : Client) (entries : List Entry) (told 
   pub fresh : IfSome (number_in told) (λ n. (length h ≤ n) × (n ≤ length h + length entries))
   pub txn : TxnFits (h ++ entries) (settled client told).txn
 
-logs_by : (h : List Entry) (client : Client) (first e : Entry) (made told : Reply) → Log first made ≡ Log e told → (is_batch (kept_by first) ≡ true → AreNext h (first ∷ [])) → is_logged made ≡ true → acknowledged made ≡ next h ∷ [] → number_in made ≡ Some (next h) → TxnFits (h ++ first ∷ []) (settled client made).txn → is_batch (kept_by e) ≡ true → Logs h client (e ∷ []) told
+logs_by : (h : List Entry) (client : Client) (first e : Entry) (made told : Reply) → Log first made ≡ Log e told → (is_batch (changes_in first) ≡ true → AreNext h (first ∷ [])) → is_logged made ≡ true → acknowledged made ≡ next h ∷ [] → number_in made ≡ Some (next h) → TxnFits (h ++ first ∷ []) (settled client made).txn → is_batch (changes_in e) ≡ true → Logs h client (e ∷ []) told
 logs_by h client first e made told is may logged numbers number txn whole =
     let same_entry : first ≡ e = cc in
     let same_reply : made ≡ told = cc in
@@ -116,7 +116,7 @@ change_logs h (Open name batch) c made e told is =
     ]
 change_logs h (Prepared p) c made e told is = absurd cc
 
-change_is_logged : LastIs → (h : List Entry) (client : Client) (c : Change) (made : Reply) (e : Entry) (told : Reply) → undone_last h ≡ None → is_logged made ≡ true → acknowledged made ≡ next h ∷ [] → number_in made ≡ Some (next h) → settled client made ≡ client → is_batch (kept_by e) ≡ true → change_plan h client.txn c made ≡ Log e told → Logs h client (e ∷ []) told
+change_is_logged : LastIs → (h : List Entry) (client : Client) (c : Change) (made : Reply) (e : Entry) (told : Reply) → undone_last h ≡ None → is_logged made ≡ true → acknowledged made ≡ next h ∷ [] → number_in made ≡ Some (next h) → settled client made ≡ client → is_batch (changes_in e) ≡ true → change_plan h client.txn c made ≡ Log e told → Logs h client (e ∷ []) told
 change_is_logged last h client c made e told closed logged numbers number still whole is =
     let l = change_logs h client.txn c made e told is in
     logs_by h client (entry.Write (c ∷ [])) e made told l.2 (λ b. write_next last h (c ∷ []) closed b (l.1, tt)) logged numbers number
@@ -126,13 +126,13 @@ change_is_logged last h client c made e told closed logged numbers number still 
 abbrev pub IsPending : Type 0
 IsPending = (h : List Entry) (name : List ℕ) (batch : List Change) → IsLegal h → is_undecided (h ++ entry.Prepare name batch ∷ []) (length h + 1) ≡ true
 
-prepare_is_logged : LastIs → IsPending → (h : List Entry) (client : Client) (txn : Txn) (e : Entry) (told : Reply) → IsLegal h → undone_last h ≡ None → TxnFits h txn → is_batch (kept_by e) ≡ true → prepare_plan h txn ≡ Log e told → Logs h client (e ∷ []) told
+prepare_is_logged : LastIs → IsPending → (h : List Entry) (client : Client) (txn : Txn) (e : Entry) (told : Reply) → IsLegal h → undone_last h ≡ None → TxnFits h txn → is_batch (changes_in e) ≡ true → prepare_plan h txn ≡ Log e told → Logs h client (e ∷ []) told
 prepare_is_logged last pending h client Idle e told legal closed fits whole is = absurd cc
 prepare_is_logged last pending h client (Open name batch) e told legal closed fits whole is =
     logs_by h client (entry.Prepare name batch) e (reply.Prepared (next h)) told is (λ b. prepare_next last h name batch closed b fits.0 fits.1) refl refl refl (pending h name batch legal) whole
 prepare_is_logged last pending h client (Prepared p) e told legal closed fits whole is = absurd cc
 
-commit_is_logged : LastIs → (h : List Entry) (client : Client) (txn : Txn) (e : Entry) (told : Reply) → undone_last h ≡ None → TxnFits h txn → is_batch (kept_by e) ≡ true → commit_plan h txn ≡ Log e told → Logs h client (e ∷ []) told
+commit_is_logged : LastIs → (h : List Entry) (client : Client) (txn : Txn) (e : Entry) (told : Reply) → undone_last h ≡ None → TxnFits h txn → is_batch (changes_in e) ≡ true → commit_plan h txn ≡ Log e told → Logs h client (e ∷ []) told
 commit_is_logged last h client Idle e told closed fits whole is = absurd cc
 commit_is_logged last h client (Open name batch) e told closed fits whole is =
     logs_by h client (entry.Write batch) e (reply.Committed (next h)) told is (λ b. write_next last h batch closed b fits.0) refl refl refl tt whole
@@ -160,7 +160,7 @@ take_asks h (Open other batch) name e told is = absurd cc
 take_asks h (Prepared p) name e told is = absurd cc
 
 -- a plan with one entry
-pub plan_logs : LastIs → IsPending → (h : List Entry) (client : Client) (c : Command) (e : Entry) (told : Reply) → IsLegal h → undone_last h ≡ None → Fits h client → is_batch (kept_by e) ≡ true → plan h client c ≡ Log e told → Logs h client (e ∷ []) told
+pub plan_logs : LastIs → IsPending → (h : List Entry) (client : Client) (c : Command) (e : Entry) (told : Reply) → IsLegal h → undone_last h ≡ None → Fits h client → is_batch (changes_in e) ≡ true → plan h client c ≡ Log e told → Logs h client (e ∷ []) told
 plan_logs last pending h client (command.Put key value) e told legal closed fits whole is = change_is_logged last h client (change.Put key value) (reply.Put (next h)) e told closed refl refl refl refl whole is
 plan_logs last pending h client (command.Del key) e told legal closed fits whole is = change_is_logged last h client (change.Del key) (reply.Del (next h)) e told closed refl refl refl refl whole is
 plan_logs last pending h client (command.Get key) e told legal closed fits whole is = absurd cc

@@ -2,18 +2,19 @@
 use Rattle.std.proofs.Common.{◌≡◌, ℕ, zero, suc, ◌≤◌, Bool, true, false, List, [], ◌∷◌, length, Option, Err, refl, sym, subst, inl, inr, arith}
 use Rattle.wp_model.specs.declared.entry.Entry.{Entry}
 use Rattle.wp_model.specs.Legal.{IsLegal}
-use Rattle.wp_outside.specs.Disk.{Moment, IfTold}
+use Rattle.wp_outside.specs.Disk.{Moment, IfKnown}
 use Rattle.wp_outside.specs.Faults.{Rose}
 use Rattle.wp_gatelog.specs.Spelling.{IsUnmade}
 use Rattle.wp_text.specs.declared.reply.Reply.{Reply}
 use Rattle.wp_text.specs.declared.script.Part.{Part}
 use Rattle.wp_run.specs.declared.status.Status.{Status}
 use Rattle.wp_run.specs.declared.status.Status.TheVariants as status
-use Rattle.wp_run.specs.declared.opening.OpenError.{OpenError}
-use Rattle.wp_run.specs.declared.opening.OpenError.TheVariants as open_error
+use Rattle.wp_open.specs.declared.opening.OpenError.{OpenError}
+use Rattle.wp_open.specs.declared.opening.OpenError.TheVariants as open_error
 use Rattle.wp_outside.specs.declared.disk.Device.TheVariants as device
 use Rattle.wp_gatelog.specs.Opening.{SurvivesThrough}
-use Rattle.wp_run.specs.Opening.{IsOpenCause, IsLeftWhere, IsStatusOf}
+use Rattle.wp_open.specs.Opening.{IsOpenCause, IsLeftWhere}
+use Rattle.wp_run.specs.Status.{IsStatusOf}
 use Rattle.wp_wal.specs.Spelling.{MAGIC, IsLogOf}
 use Rattle.wp_wal.specs.Wal.{State as WalState}
 use Rattle.wp_run.specs.Kept.{KeptBy}
@@ -38,7 +39,7 @@ or_next : (id faults : ℕ) (entries : List Entry) (m : Moment) → IsLegal entr
 or_next id zero entries m legal kept = λ image is. ((entries, inl refl, legal, (kept image is).0), (kept image is).1)
 or_next id (suc faults) entries m legal kept = kept
 
-kept_anyway : (id faults : ℕ) (entries : List Entry) (moments : List Moment) → IsLegal entries → IfTold moments (KeptBy faults id entries) → IfTold moments (KeptBy 1 id entries)
+kept_anyway : (id faults : ℕ) (entries : List Entry) (moments : List Moment) → IsLegal entries → IfKnown moments (KeptBy faults id entries) → IfKnown moments (KeptBy 1 id entries)
 kept_anyway id faults entries [] legal kept = tt
 kept_anyway id faults entries (m ∷ past) legal kept = or_next id faults entries m legal kept
 
@@ -47,13 +48,13 @@ kept_anyway id faults entries (m ∷ past) legal kept = or_next id faults entrie
 -- the store as it was opened
 pub record IsOpened (state : State) (asked : ℕ) (before : List Moment) : Type 0 where
   pub running : state.stopped ≡ false
-  pub found : IfTold before (λ m. IsLogOf state.id state.entries m.reads)
-  pub made : IfTold before (λ m. IsUnmade m.reads → state.id ≡ asked)
+  pub found : IfKnown before (λ m. IsLogOf state.id state.entries m.reads)
+  pub made : IfKnown before (λ m. IsUnmade m.reads → state.id ≡ asked)
 
 is_transcript : (old new : State) (script : List Part) (text : List ℕ) (asked : ℕ) (before : List Moment) → IsOpened old asked before → IsLegal new.entries → IsTold old new script text → IsTranscript old.limit (bit new.stopped) script old.entries new.entries text
 is_transcript old new script text asked before opened legal (sessions, run, is) = (sessions, explained old new script sessions run opened.running legal, is)
 
-tells : (old new : State) (script : List Part) (text : List ℕ) (asked : ℕ) (before after : List Moment) (stopped : Bool) → IsOpened old asked before → IsLegal new.entries → IsTold old new script text → IfTold after (KeptBy (bit new.stopped) new.id new.entries) → new.stopped ≡ stopped → Tells old.limit asked (bit stopped) script before after text
+tells : (old new : State) (script : List Part) (text : List ℕ) (asked : ℕ) (before after : List Moment) (stopped : Bool) → IsOpened old asked before → IsLegal new.entries → IsTold old new script text → IfKnown after (KeptBy (bit new.stopped) new.id new.entries) → new.stopped ≡ stopped → Tells old.limit asked (bit stopped) script before after text
 tells old new script text asked before after stopped opened legal told kept is =
     let later = AllRun-later old new script told.0 told.1 in
     record {
@@ -63,7 +64,7 @@ tells old new script text asked before after stopped opened legal told kept is =
       found = opened.found;
       history = new.entries;
       told = subst (λ (b : Bool). IsTranscript old.limit (bit b) script old.entries new.entries text) is (is_transcript old new script text asked before opened legal told);
-      kept = subst (λ (n : ℕ). IfTold after (KeptBy (bit stopped) n new.entries)) later.named (subst (λ (b : Bool). IfTold after (KeptBy (bit b) new.id new.entries)) is kept);
+      kept = subst (λ (n : ℕ). IfKnown after (KeptBy (bit stopped) n new.entries)) later.named (subst (λ (b : Bool). IfKnown after (KeptBy (bit b) new.id new.entries)) is kept);
     }
 
 -- once the log has failed its device's count has risen
@@ -89,7 +90,7 @@ breaks old asked before after opened broken = record {
   found = opened.found;
   history = broken.new.entries;
   begins = broken.later.grows;
-  kept = subst (λ (n : ℕ). IfTold after (KeptBy 1 n broken.new.entries)) broken.later.named broken.kept;
+  kept = subst (λ (n : ℕ). IfKnown after (KeptBy 1 n broken.new.entries)) broken.later.named broken.kept;
 }
 
 pub serves : (old : State) (asked : ℕ) (script : List Part) (before after : List Moment) (first now : ℕ) (sink_rose : Type 0) (written written_now : Option (List ℕ)) (end : Status) → IsOpened old asked before → first ≤ old.faults → Finishes old script after now sink_rose written written_now end → Serves old.limit asked script before after (Rose first now) sink_rose written written_now end
@@ -108,7 +109,7 @@ serves old asked script before after first now sink_rose written written_now (st
 
 pub serves_opened : (state : State) (limit asked : ℕ) (wal : WalState) (entries : List Entry) (script : List Part) (before after : List Moment) (first now : ℕ) (sink_rose : Type 0) (written written_now : Option (List ℕ)) (end : Status)
     → state ≡ record { entries = entries; stopped = false; limit = limit; id = wal.id; faults = wal.faults; moments = wal.moments }
-    → IfTold before (λ m. IsLogOf wal.id entries m.reads) → IfTold before (λ m. IsUnmade m.reads → wal.id ≡ asked) → first ≤ wal.faults
+    → IfKnown before (λ m. IsLogOf wal.id entries m.reads) → IfKnown before (λ m. IsUnmade m.reads → wal.id ≡ asked) → first ≤ wal.faults
     → Finishes state script after now sink_rose written written_now end → Serves limit asked script before after (Rose first now) sink_rose written written_now end
 serves_opened state limit asked wal entries script before after first now sink_rose written written_now end is found made le h =
     let opened : State = record { entries = entries; stopped = false; limit = limit; id = wal.id; faults = wal.faults; moments = wal.moments } in
@@ -130,7 +131,7 @@ finishes_told old script log faults sink_rose written written_now status.Memory 
 finishes_told old script log faults sink_rose written written_now end h = h
 
 pub finishes : (old new : State) (script : List Part) (text : List ℕ) (moments : List Moment) (faults : ℕ) (stopped : Bool) (sink_rose : Type 0) (written written_now : Option (List ℕ)) (end : Status)
-    → IsTold old new script text → IsLegal new.entries → IfTold moments (KeptBy (bit new.stopped) new.id new.entries) → faults ≡ new.faults → stopped ≡ new.stopped
+    → IsTold old new script text → IsLegal new.entries → IfKnown moments (KeptBy (bit new.stopped) new.id new.entries) → faults ≡ new.faults → stopped ≡ new.stopped
     → IsToldAs stopped sink_rose written written_now text end → Finishes old script moments faults sink_rose written written_now end
 finishes old new script text moments faults stopped sink_rose written written_now end told legal kept now is ended =
     finishes_told old script moments faults sink_rose written written_now end (record {
@@ -143,7 +144,7 @@ finishes old new script text moments faults stopped sink_rose written written_no
       ended = subst (λ (b : Bool). IsToldAs b sink_rose written written_now text end) is ended;
     })
 
-pub breaks_off : (old new : State) (moments : List Moment) → Later old new → IsLegal new.entries → IfTold moments (KeptBy (bit new.stopped) new.id new.entries) → HasBroken old moments
+pub breaks_off : (old new : State) (moments : List Moment) → Later old new → IsLegal new.entries → IfKnown moments (KeptBy (bit new.stopped) new.id new.entries) → HasBroken old moments
 breaks_off old new moments later legal kept = record { new = new; later = later; kept = kept_anyway new.id (bit new.stopped) new.entries moments legal kept }
 
 -- ---- no script

@@ -1,13 +1,13 @@
 -- What a store on one thread keeps in its log.
 use Rattle.std.specs.Prelude.{◌≡◌, ◌⊎◌, ℕ, zero, suc, ◌+◌, ◌^◌, ◌<◌, Bool, false, true, List, [], ◌∷◌, ◌++◌, length, None}
 use Rattle.wp_model.specs.declared.entry.Entry.{Entry}
-use Rattle.wp_model.specs.Legal.{IsLegal, IsLegalBehind, undone_last}
+use Rattle.wp_model.specs.Legal.{IsLegal, IsLegalNext, undone_last}
 use Rattle.wp_outside.specs.Disk.{Moment}
 use Rattle.wp_entry.specs.Record.{FormRecord, IsRecord}
-use Rattle.wp_gatelog.specs.Lasting.{HoldsRecords, Lasts}
+use Rattle.wp_gatelog.specs.Durability.{HasAcknowledged, Preserves}
 use Rattle.wp_gatelog.specs.Moments.{Leaves}
-use Rattle.wp_wal.specs.Spelling.{MAGIC, IsLogOf, HoldsEntries}
-use Rattle.wp_wal.specs.Wal.{State, LeavesHistory, Keeps}
+use Rattle.wp_wal.specs.Spelling.{MAGIC, IsLogOf, HasAcknowledgedEntries}
+use Rattle.wp_wal.specs.Wal.{State, LeavesHistory, StoresHistory}
 
 -- ---- the log of a history
 
@@ -23,22 +23,18 @@ IsLogOrOneMore id history bytes = (longer : List Entry) × IsOrOneMore history l
 -- records of the history stand there acknowledged.
 abbrev pub KeptBy : ℕ → ℕ → List Entry → Moment → Type 0
 KeptBy zero id history m = LeavesHistory id history m
-KeptBy (suc faults) id history m = Leaves (λ image. IsLogOrOneMore id history image × HoldsEntries id history image) m
-
--- Records that each crash at one moment would leave acknowledged, each crash at a later moment leaves so too.
-abbrev pub LosesNothing : List Moment → List Moment → Type 0
-LosesNothing before after = (id : ℕ) (records : List (List ℕ)) → Lasts (Leaves (HoldsRecords MAGIC id records)) before after
+KeptBy (suc faults) id history m = Leaves (λ image. IsLogOrOneMore id history image × HasAcknowledgedEntries id history image) m
 
 -- ---- the next record
 
 -- the entries may stand behind the history, one after another
-abbrev pub AreLegalBehind : List Entry → List Entry → Type 0
-AreLegalBehind history [] = Unit {0}
-AreLegalBehind history (entry ∷ entries) = IsLegalBehind history entry × AreLegalBehind (history ++ entry ∷ []) entries
+abbrev pub AreLegalNext : List Entry → List Entry → Type 0
+AreLegalNext history [] = Unit {0}
+AreLegalNext history (entry ∷ entries) = IsLegalNext history entry × AreLegalNext (history ++ entry ∷ []) entries
 
 -- The entries may be logged next, as one record, if there are numbers for them.
 pub record AreNext (history entries : List Entry) : Type 0 where
-  pub legal : AreLegalBehind history entries
+  pub legal : AreLegalNext history entries
   pub form : length history + length entries < 2 ^ 32 → FormRecord (length history + 1) entries
   pub closed : undone_last (history ++ entries) ≡ None
 
@@ -47,7 +43,7 @@ pub record AreNext (history entries : List Entry) : Type 0 where
 -- The store's fields go together. Once an append has failed, the log may have its record.
 pub record IsWhole (wal : State) (entries : List Entry) (stopped : Bool) (limit : ℕ) : Type 0 where
   pub failed : List Entry
-  pub keeps : Keeps wal entries failed
+  pub keeps : StoresHistory wal entries failed
   pub legal : IsLegal (entries ++ failed)
   pub none : stopped ≡ false → failed ≡ []
   pub whole : stopped ≡ true → IsRecord (length entries + 1) failed

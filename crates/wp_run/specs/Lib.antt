@@ -8,8 +8,6 @@ pub mod Transcript
 pub mod Kept
 pub mod Engine
 pub mod Write
-pub mod Outside
-pub mod Opening
 pub mod Status
 pub mod Run
 pub mod Told

@@ -3,7 +3,7 @@ use Rattle.std.specs.Prelude.{◌≡◌, ◌⊎◌, ℕ, ◌+◌, ◌≤◌, ◌
 use Rattle.std.specs.Io.KnownBytes.{Appends}
 use Rattle.wp_model.specs.declared.entry.Entry.{Entry}
 use Rattle.wp_outside.specs.declared.disk.Device.TheVariants as device
-use Rattle.wp_outside.specs.Disk.{Moment, IfTold}
+use Rattle.wp_outside.specs.Disk.{Moment, IfKnown}
 use Rattle.wp_outside.specs.Sink.{AppendsPrefix}
 use Rattle.wp_gatelog.specs.Spelling.{IsUnmade}
 use Rattle.wp_gatelog.specs.Opening.{SurvivesThrough}
@@ -19,8 +19,8 @@ use Rattle.wp_run.specs.declared.status.Status.{Status}
 use Rattle.wp_run.specs.declared.status.Status.TheVariants as status
 use Rattle.wp_wal.specs.Spelling.{MAGIC, IsLogOf}
 use Rattle.wp_run.specs.Kept.{KeptBy}
-use Rattle.wp_run.specs.Opening.{IsDamaged, IsLeftBy}
-use Rattle.wp_run.specs.Outside.{AreBytesRead}
+use Rattle.wp_open.specs.Opening.{IsDamaged, IsLeftBy}
+use Rattle.wp_outside.specs.Whole.{AreBytesRead}
 use Rattle.wp_run.specs.Transcript.{IsTranscript}
 
 -- ---- a store
@@ -29,23 +29,23 @@ use Rattle.wp_run.specs.Transcript.{IsTranscript}
 -- the id that a new log gets; so many times the log failed.
 pub record Tells (limit asked faults : ℕ) (script : List Part) (before after : List Moment) (text : List ℕ) : Type 0 where
   pub id : ℕ
-  pub made : IfTold before (λ m. IsUnmade m.reads → id ≡ asked)
+  pub made : IfKnown before (λ m. IsUnmade m.reads → id ≡ asked)
   pub opened : List Entry
-  pub found : IfTold before (λ m. IsLogOf id opened m.reads)
+  pub found : IfKnown before (λ m. IsLogOf id opened m.reads)
   pub history : List Entry
   pub told : IsTranscript limit faults script opened history text
-  pub kept : IfTold after (KeptBy faults id history)
+  pub kept : IfKnown after (KeptBy faults id history)
 
 -- The run broke off once the log was opened: a crash leaves what the log spelled and the entries that it took since, or
 -- these and one record more. Asked is the id that a new log gets.
 pub record Breaks (asked : ℕ) (before after : List Moment) : Type 0 where
   pub id : ℕ
-  pub made : IfTold before (λ m. IsUnmade m.reads → id ≡ asked)
+  pub made : IfKnown before (λ m. IsUnmade m.reads → id ≡ asked)
   pub opened : List Entry
-  pub found : IfTold before (λ m. IsLogOf id opened m.reads)
+  pub found : IfKnown before (λ m. IsLogOf id opened m.reads)
   pub history : List Entry
   pub begins : (added : List Entry) × (history ≡ opened ++ added)
-  pub kept : IfTold after (KeptBy 1 id history)
+  pub kept : IfKnown after (KeptBy 1 id history)
 
 -- How serving a script ended, why, what was written and what the log keeps.
 abbrev pub Serves : (limit asked : ℕ) → List Part → (before after : List Moment) → (log_rose sink_rose : Type 0) → (old new : Option (List ℕ)) → Status → Type 0
@@ -53,7 +53,7 @@ Serves limit asked script before after log_rose sink_rose old new status.Ok = (t
 Serves limit asked script before after log_rose sink_rose old new status.LogFault = log_rose × (text : List ℕ) × Tells limit asked 1 script before after text × Appends old new text
 Serves limit asked script before after log_rose sink_rose old new status.SinkFault = sink_rose × (faults : ℕ) × (faults ≤ 1) × (1 ≤ faults → log_rose) × (text : List ℕ) × Tells limit asked faults script before after text × AppendsPrefix old new text
 Serves limit asked script before after log_rose sink_rose old new status.Memory = SurvivesThrough MAGIC asked before after ⊎ Breaks asked before after
-Serves limit asked script before after log_rose sink_rose old new (status.Contents damage) = SurvivesThrough MAGIC asked before after × IfTold before (λ m. IsDamaged m.reads damage) × IsLeftBy before after damage
+Serves limit asked script before after log_rose sink_rose old new (status.Contents damage) = SurvivesThrough MAGIC asked before after × IfKnown before (λ m. IsDamaged m.reads damage) × IsLeftBy before after damage
 Serves limit asked script before after log_rose sink_rose old new (status.OpenFault device.Log) = SurvivesThrough MAGIC asked before after × log_rose
 Serves limit asked script before after log_rose sink_rose old new (status.OpenFault device.Manifest) = ⊥
 Serves limit asked script before after log_rose sink_rose old new (status.OpenFault device.Tables) = ⊥

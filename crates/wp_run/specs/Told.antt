@@ -2,7 +2,7 @@
 use Rattle.std.specs.Prelude.{◌≡◌, ℕ, Bool, true, false, List, Option}
 use Rattle.std.specs.Io.KnownBytes.{Appends}
 use Rattle.wp_model.specs.Legal.{IsLegal}
-use Rattle.wp_outside.specs.Disk.{Moment, IfTold}
+use Rattle.wp_outside.specs.Disk.{Moment, IfKnown}
 use Rattle.wp_outside.specs.Sink.{AppendsPrefix}
 use Rattle.wp_text.specs.declared.reply.Reply.{Reply}
 use Rattle.wp_text.specs.declared.script.Part.{Part}
@@ -34,7 +34,7 @@ pub record HasTold (old : State) (script : List Part) (log : List Moment) (log_f
   pub text : List ℕ
   pub told : IsTold old new script text
   pub legal : IsLegal new.entries
-  pub kept : IfTold log (KeptBy (bit new.stopped) new.id new.entries)
+  pub kept : IfKnown log (KeptBy (bit new.stopped) new.id new.entries)
   pub faults : new.faults ≡ log_faults
   pub ended : IsToldAs new.stopped sink_rose written written_now text end
 
@@ -42,7 +42,7 @@ pub record HasTold (old : State) (script : List Part) (log : List Moment) (log_f
 pub record HasBroken (old : State) (log : List Moment) : Type 0 where
   pub new : State
   pub later : Later old new
-  pub kept : IfTold log (KeptBy 1 new.id new.entries)
+  pub kept : IfKnown log (KeptBy 1 new.id new.entries)
 
 -- how a store that stands open answered a script
 abbrev pub Finishes : State → List Part → List Moment → (log_faults : ℕ) → (sink_rose : Type 0) → (written written_now : Option (List ℕ)) → Status → Type 0

@@ -10,7 +10,7 @@ use Rattle.wp_run.specs.declared.engine.WriteError.TheVariants.{Memory, NumbersF
 use Rattle.wp_run.specs.Client.{Client}
 use Rattle.wp_run.specs.Due.{settled}
 use Rattle.wp_run.specs.Engine.{State}
-use Rattle.wp_run.specs.Kept.{LosesNothing}
+use Rattle.wp_wal.specs.Wal.{LosesNothing}
 
 -- the entries stand in the history
 pub record Takes (old new : State) (entries : List Entry) : Type 0 where

@@ -8,7 +8,7 @@ ghost use Rattle.wp_run.specs.declared.plan.Plan.TheVariants.{Say};
 
 use std::alloc::{AllocError, Global};
 use std::marker::Model;
-use wp_core::History;
+use wp_history::History;
 use wp_model::{Batch, Change, Name, Seq, SetError};
 use wp_text::{Command, Reply};
 

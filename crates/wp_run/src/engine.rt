@@ -1,16 +1,16 @@
 ghost use Rattle.std.specs.Prelude.{◌≡◌, ◌+◌, ◌≤◌, ◌<◌, ◌^◌, ◌++◌, [], None, false, length};
 ghost use Rattle.wp_model.specs.Legal.{IsLegal, undone_last};
-ghost use Rattle.wp_outside.specs.Disk.{IfTold};
-ghost use Rattle.wp_wal.specs.Wal.{Keeps};
+ghost use Rattle.wp_outside.specs.Disk.{IfKnown};
+ghost use Rattle.wp_wal.specs.Wal.{StoresHistory};
 ghost use Rattle.wp_run.specs.Engine.{State, bit};
-ghost use Rattle.wp_run.specs.Kept.{AreLegalBehind, AreNext, KeptBy};
+ghost use Rattle.wp_run.specs.Kept.{AreLegalNext, AreNext, KeptBy};
 ghost use Rattle.wp_run.specs.Write.{Writes};
 ghost use Rattle.wp_run.specs.declared.engine.WriteError.TheVariants.{Memory};
 
 use std::alloc::AllocError;
 use std::marker::Model;
-use wp_core::{History, laws};
 use wp_gatelog::AppendError;
+use wp_history::{History, laws};
 use wp_model::{Entry, Seq};
 use wp_outside::Disk;
 use wp_wal::Wal;
@@ -59,7 +59,7 @@ impl<D: Disk> Model for Engine<D> {
 
 /// Puts the entries behind the others, in memory that is there.
 fn push_all(history: &mut History, entries: Vec<Entry>)
-    requires legal { AreLegalBehind history.old.entries entries.items }
+    requires legal { AreLegalNext history.old.entries entries.items }
     requires few { length history.old.entries + length entries.items < 2 ^ 32 }
     requires room { length entries.items ≤ history.old.room }
     ensures { history.new.entries ≡ history.old.entries ++ entries.items }
@@ -72,7 +72,7 @@ fn push_all(history: &mut History, entries: Vec<Entry>)
 impl<D: Disk> Engine<D> {
     /// A store with this log and the history that it spells. Numbers end at the limit.
     pub(crate) fn new(wal: Wal<D>, history: History, limit: Seq) -> Engine<D>
-        requires keeps { Keeps wal history.entries [] }
+        requires keeps { StoresHistory wal history.entries [] }
         requires running { wal.closed ≡ false }
         requires limit { limit < 2 ^ 32 }
         ensures { result ≡ record { entries = history.entries; stopped = false; limit = limit; id = wal.id; faults = wal.faults; moments = wal.moments } }
@@ -106,7 +106,7 @@ impl<D: Disk> Engine<D> {
 
     /// Gives the log's device back.
     pub(crate) fn into_disk(self) -> D
-        ensures kept { IfTold (D.moments result) (KeptBy (bit self.stopped) self.id self.entries) }
+        ensures kept { IfKnown (D.moments result) (KeptBy (bit self.stopped) self.id self.entries) }
         ensures moments { D.moments result ≡ self.moments }
         ensures faults { D.faults result ≡ self.faults }
     {

@@ -7,8 +7,6 @@
 
 mod client;
 mod engine;
-mod opening;
-mod outside;
 mod plan;
 mod serve;
 mod session;
@@ -16,6 +14,6 @@ mod status;
 mod top_call;
 mod transcript;
 
-pub use opening::Bad;
 pub use status::Status;
 pub use top_call::{Ended, run};
+pub use wp_open::Bad;

@@ -7,7 +7,7 @@ ghost use Rattle.wp_run.specs.Plan as plans;
 
 use crate::client::{Session, Txn};
 use std::alloc::{AllocError, Global};
-use wp_core::History;
+use wp_history::History;
 use wp_model::{Batch, Change, Entry, Key, MOST_KEYS, Name, Seq, Value};
 use wp_text::{Command, Reply};
 

@@ -1,21 +1,20 @@
 ghost use Rattle.std.specs.Prelude.{◌≡◌, ◌≤◌, ◌<◌, ◌^◌, IfOk};
 ghost use Rattle.wp_outside.specs.Faults.{Rose};
 ghost use Rattle.wp_run.specs.Engine.{Later};
-ghost use Rattle.wp_run.specs.Kept.{LosesNothing};
-ghost use Rattle.wp_run.specs.Opening.{IsStatusOf};
+ghost use Rattle.wp_wal.specs.Wal.{LosesNothing};
+ghost use Rattle.wp_run.specs.Status.{IsStatusOf};
 ghost use Rattle.wp_run.specs.Run.{IsSilent, Serves};
 ghost use Rattle.wp_run.specs.Told.{IsTold, IsToldAs, Finishes};
 
 use crate::engine::Engine;
-use crate::opening::{OpenError, Opened, open};
-use crate::outside::write_all;
 use crate::session::run_all;
 use crate::status::Status;
 use crate::transcript::transcript;
 use std::alloc::{AllocError, Global};
 use wp_gatelog::DiskRefused;
 use wp_model::Seq;
-use wp_outside::{Disk, Failed, Sink};
+use wp_open::{OpenError, Opened, open};
+use wp_outside::{Disk, Failed, Sink, write_all};
 use wp_text::Part;
 
 /// How a script was served, and the log's device.

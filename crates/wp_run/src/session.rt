@@ -1,6 +1,6 @@
 ghost use Rattle.std.specs.Prelude.{◌≡◌, true, map, IfOk, OnOk, OnErr};
 ghost use Rattle.wp_model.specs.Batch.{is_batch};
-ghost use Rattle.wp_model.specs.Legal.{kept_by};
+ghost use Rattle.wp_model.specs.Legal.{changes_in};
 ghost use Rattle.wp_run.specs.Client.{Fits};
 ghost use Rattle.wp_run.specs.Engine.{Later, Steps, IsRun, AllRun};
 ghost use Rattle.wp_run.specs.Kept.{AreNext};
@@ -10,7 +10,7 @@ use crate::client::Session;
 use crate::engine::{Engine, WriteError};
 use crate::plan::{Plan, plan_of};
 use std::alloc::{AllocError, Global};
-use wp_core::laws;
+use wp_history::laws;
 use wp_model::Entry;
 use wp_outside::Disk;
 use wp_text::{Command, Part, Reply};
@@ -48,7 +48,7 @@ fn tell<D: Disk>(
 
 /// What an entry keeps is a batch.
 fn keeps_a_batch(entry: &Entry)
-    ensures { is_batch (kept_by entry.now) ≡ true }
+    ensures { is_batch (changes_in entry.now) ≡ true }
 {
     match entry {
         Entry::Write(batch) | Entry::Prepare(_, batch) | Entry::Undo(_, batch) => {

@@ -1,8 +1,8 @@
 ghost use Rattle.std.specs.Prelude.{◌≡◌};
 ghost use Rattle.wp_run.specs.Status.{code_of};
 
-use crate::opening::Bad;
 use std::alloc::{AllocError, Global};
+use wp_open::Bad;
 use wp_outside::Device;
 use wp_text::Fault;
 
@@ -59,20 +59,8 @@ impl Status {
             Status::Script(fault) => format!(in alloc; "wp: {fault}")?,
             Status::LogFault => "wp: log fault".to_string(alloc)?,
             Status::Contents(bad) => format!(in alloc; "wp: contents: {bad}")?,
-            Status::OpenFault(device) => format!(in alloc;
-                "wp: opening failed: {}",
-                name_of(*device)
-            )?,
+            Status::OpenFault(device) => format!(in alloc; "wp: opening failed: {device}")?,
         };
         Ok(text.into_bytes())
-    }
-}
-
-/// The word that names a device.
-pub(crate) fn name_of(device: Device) -> &'static str {
-    match device {
-        Device::Log => "log",
-        Device::Manifest => "manifest",
-        Device::Tables => "tables",
     }
 }

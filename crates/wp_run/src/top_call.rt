@@ -1,17 +1,16 @@
 ghost use Rattle.std.specs.Prelude.{◌≡◌, ◌≤◌, map};
 ghost use Rattle.std.specs.String.{string_bytes};
 ghost use Rattle.wp_outside.specs.Faults.{Rose};
-ghost use Rattle.wp_run.specs.Kept.{LosesNothing};
+ghost use Rattle.wp_wal.specs.Wal.{LosesNothing};
 ghost use Rattle.wp_run.specs.Run.{Outside, Ends, IsChosen, IsReadAs, IsSilent, IsUnopened};
 
-use crate::outside::{ReadError, read_all};
 use crate::serve::{Served, serve};
 use crate::status::Status;
 use std::alloc::{AllocError, Global};
 use std::sync::Wait;
 use std::thread::Threads;
-use wp_outside::{Disk, Disks, Gate, Sink, Source};
-use wp_text::{Script, ScriptError, read_script};
+use wp_outside::{Disk, Disks, Gate, ReadError, Sink, Source, read_all};
+use wp_text::{MOST_BYTES, Script, ScriptError, read_script};
 use wp_words::{Action, choice_of, words_choose_once};
 
 /// How a call ended, and the devices that it was handed.
@@ -26,7 +25,7 @@ fn script_in<S: Source>(alloc: Global, source: &mut S) -> Result<Script, Status>
     ensures read { IsReadAs Action.Run (Rose (S.faults source.old) (S.faults source.new)) (source.new ≡ source.old) (S.left source.old) (S.left source.new) result }
     ensures later { S.faults source.old ≤ S.faults source.new }
 {
-    match read_all(alloc, source) {
+    match read_all(alloc, source, MOST_BYTES + 1) {
         Ok(bytes) => match read_script(alloc, &bytes) {
             Ok(script) => Ok(script),
             Err(ScriptError::Memory) => Err(Status::Memory),

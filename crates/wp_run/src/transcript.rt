@@ -4,7 +4,7 @@ ghost use Rattle.wp_text.specs.Lines as text;
 ghost use Rattle.wp_run.specs.Transcript.{client_text, client_lines, text_of};
 
 use std::alloc::{AllocError, Global};
-use wp_core::History;
+use wp_history::History;
 use wp_model::Entry;
 use wp_text::{Part, Reply, client_line, end_line, history_line, reply_line};
 

@@ -2,7 +2,7 @@
 use Rattle.std.proofs.Common.{◌≡◌, ℕ, ◌+◌, ◌<◌, ◌≤◌, Bool, true, false, cond, ◌==◌, None, inl, inr, sym, ap, ◌∙◌, arith}
 use Rattle.std.specs.FinMap.{get}
 use Rattle.std.proofs.lemmas.Bool.{cases_lt, cases_order, le-leb, lt-leb, lt-ltb, le-ltb, and_left, and_right, and_from, eq-eqb, ne_eqb}
-use Rattle.wp_snaps.specs.Snapshots.{Snapshots, ChangesWhere, overlaps, after_keep}
+use Rattle.wp_model.specs.Snapshots.{Snapshots, ChangesWhere, overlaps, after_keep}
 
 module _ (p : ℕ) (test : ℕ → Bool) (old new : Snapshots) (q : ℕ) where
   changed : ChangesWhere test (after_keep p) old new → test q ≡ true → get new q ≡ after_keep p (get old q)

@@ -7,7 +7,7 @@ use Rattle.std.specs.Map.{lookup}
 use Rattle.std.specs.BTreeMap.{is_at}
 use Rattle.std.specs.FinMap.{find, get, from_entries, get-from_entries, same_map, nat_cmp-IsAntisymmetric}
 use Rattle.std.proofs.lemmas.Bool.{cases_eq, eq-eqb, ne_eqb, le-leb, lt-leb}
-use Rattle.wp_snaps.specs.Snapshots.{Snapshot, Snapshots, after_release, ChangesWhere}
+use Rattle.wp_model.specs.Snapshots.{Snapshot, Snapshots, after_release, ChangesWhere}
 use Rattle.wp_snaps.specs.Room.{RoomySnapshot}
 
 -- the entries without their room

@@ -4,7 +4,7 @@ use Rattle.std.specs.Ordering.{nat_cmp}
 use Rattle.std.specs.Coded.{Coded, code_by, coded×, coded_ℕ}
 use Rattle.std.specs.BTreeMap.{BTreeMap, get}
 use Rattle.std.specs.FinMap.{from_entries}
-use Rattle.wp_snaps.specs.Snapshots.{Snapshot, Snapshots, snapshot_code}
+use Rattle.wp_model.specs.Snapshots.{Snapshot, Snapshots, snapshot_code}
 
 -- a snapshot, and how many more numbers may stand under it without memory
 pub record RoomySnapshot : Type 0 where

@@ -2,7 +2,7 @@
 ghost use Rattle.std.specs.Prelude.{◌≡◌, ℕ, ◌<◌, ◌≤◌, OnOk, IsSome, MatchOption};
 ghost use Rattle.std.specs.Ordering.{nat_cmp};
 ghost use Rattle.std.specs.BTreeMap.{get};
-ghost use Rattle.wp_snaps.specs.Snapshots.{ChangesWhere, overlaps, after_keep};
+ghost use Rattle.wp_model.specs.Snapshots.{ChangesWhere, overlaps, after_keep};
 ghost use Rattle.wp_snaps.specs.Room.{snapshots_of, HasRoom, NoneLive, IsNextLive};
 
 use crate::snapshot::Snapshot;

@@ -2,7 +2,7 @@ ghost use Rattle.std.specs.Prelude.{◌≡◌, ℕ, ◌==◌, not, OnOk, OnErr, 
 ghost use Rattle.std.specs.List.{Contains};
 ghost use Rattle.std.specs.List.Sorted.{IsStrictlyIncreasing};
 ghost use Rattle.std.specs.FinMap as map;
-ghost use Rattle.wp_snaps.specs.Snapshots.{ChangesWhere, IsLive, is_kept, overlaps, after_register, after_release, after_keep};
+ghost use Rattle.wp_model.specs.Snapshots.{ChangesWhere, IsLive, is_old_commit, overlaps, after_register, after_release, after_keep};
 
 use crate::kept::{keep_each, reserve_each};
 use crate::live::Live;
@@ -20,7 +20,7 @@ pub struct Snaps {
 }
 
 impl Model for Snaps {
-    ghost use Rattle.wp_snaps.specs.Snapshots.{Snapshots, snapshots_code};
+    ghost use Rattle.wp_model.specs.Snapshots.{Snapshots, snapshots_code};
     ghost use Rattle.wp_snaps.specs.Room.{snapshots_of};
 
     ghost Value = { Snapshots };
@@ -80,7 +80,7 @@ impl Snaps {
     /// Whether a `p` whose pair left the commit cache is visible at `s`.
     pub fn shows(&self, s: Seq, p: Seq) -> bool
         requires { IsLive self.now s }
-        ensures { result ≡ not (is_kept self.now s p) }
+        ensures { result ≡ not (is_old_commit self.now s p) }
     {
         !self.live.get(&s).unwrap().keeps(p)
     }

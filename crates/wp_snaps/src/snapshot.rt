@@ -13,7 +13,7 @@ use wp_model::Seq;
 #[derive(Drop)]
 pub struct Snapshot {
     registrations: u64,
-    kept: HashSet<Seq>,
+    old_commits: HashSet<Seq>,
 }
 
 impl Model for Snapshot {
@@ -25,16 +25,16 @@ impl Model for Snapshot {
 
     ghost coded = { roomy_code };
 
-    ghost view = { λ s. record { snapshot = record { registrations = s.registrations; kept = set.from_list s.kept.keys }; room = spare s.kept } };
+    ghost view = { λ s. record { snapshot = record { registrations = s.registrations; old_commits = set.from_list s.old_commits.keys }; room = spare s.old_commits } };
 }
 
 impl Snapshot {
     pub fn new(alloc: Global) -> Snapshot
-        ensures { result.snapshot ≡ record { registrations = 1; kept = set.empty } }
+        ensures { result.snapshot ≡ record { registrations = 1; old_commits = set.empty } }
     {
         Snapshot {
             registrations: 1,
-            kept: HashSet::new(alloc),
+            old_commits: HashSet::new(alloc),
         }
     }
 
@@ -61,9 +61,9 @@ impl Snapshot {
     }
 
     pub fn keeps(&self, p: Seq) -> bool
-        ensures { result ≡ set.contains self.now.snapshot.kept p }
+        ensures { result ≡ set.contains self.now.snapshot.old_commits p }
     {
-        self.kept.contains(&p)
+        self.old_commits.contains(&p)
     }
 
     /// Takes the memory for one number more.
@@ -71,13 +71,13 @@ impl Snapshot {
         ensures ok { OnOk result (0 < self.new.room) }
         ensures same_snapshot { self.new.snapshot ≡ self.old.snapshot }
     {
-        self.kept.reserve(1)
+        self.old_commits.reserve(1)
     }
 
     pub fn keep(&mut self, p: Seq)
         requires { 0 < self.old.room }
-        ensures { self.new.snapshot ≡ record self.old.snapshot { kept = set.insert self.old.snapshot.kept p } }
+        ensures { self.new.snapshot ≡ record self.old.snapshot { old_commits = set.insert self.old.snapshot.old_commits p } }
     {
-        self.kept.insert(p).unwrap();
+        self.old_commits.insert(p).unwrap();
     }
 }

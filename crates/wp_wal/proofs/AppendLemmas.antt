@@ -3,17 +3,17 @@ use Rattle.std.proofs.Common.{◌≡◌, ℕ, ◌+◌, ◌≤◌, Bool, true, fa
 use Rattle.std.proofs.lemmas.List.{append-nil}
 use Rattle.std.specs.Prelude.{IfSome}
 use Rattle.wp_model.specs.declared.entry.Entry.{Entry}
-use Rattle.wp_outside.specs.Disk.{Moment, Matches, IsImage, settled, IfTold, Each, Passes}
+use Rattle.wp_outside.specs.Disk.{Moment, Matches, IsImage, settled, IfKnown, Each, Passes}
 use Rattle.wp_entry.specs.Record.{IsRecord, record_bytes}
 use Rattle.wp_gatelog.specs.declared.log.AppendError.{AppendError}
 use Rattle.wp_gatelog.specs.declared.log.AppendError.TheVariants.{DiskFault, Closed}
 use Rattle.wp_gatelog.specs.Append.{Appended as LogAppended, Refuses as LogRefuses}
-use Rattle.wp_gatelog.specs.Lasting.{HoldsRecords}
+use Rattle.wp_gatelog.specs.Durability.{HasAcknowledged}
 use Rattle.wp_gatelog.specs.Log.{State as LogState, IsAtRest, Rests, BeforeOrAfter}
 use Rattle.wp_gatelog.specs.Moments.{Leaves}
 use Rattle.wp_gatelog.specs.Spelling.{Spells, frame_of, log_of}
-use Rattle.wp_wal.specs.Spelling.{MAGIC, AreEntries, IsLogOf, IsLogOrNext, HoldsEntries}
-use Rattle.wp_wal.specs.Wal.{Reserved, reserved_of, State, state_of, Keeps, LeavesHistory, IsReserved, Appended, KeepsWhenRefused}
+use Rattle.wp_wal.specs.Spelling.{MAGIC, AreEntries, IsLogOf, IsLogOrNext, HasAcknowledgedEntries}
+use Rattle.wp_wal.specs.Wal.{Reserved, reserved_of, State, state_of, StoresHistory, LeavesHistory, IsReserved, Appended, StoresWhenRefused}
 use Rattle.wp_wal.proofs.EntriesLemmas.{AreEntries-behind}
 use Rattle.wp_wal.proofs.FrameLemmas.{length-frame_of}
 
@@ -37,7 +37,7 @@ rests_spells : (magic : List ℕ) (id end : ℕ) (records : List (List ℕ)) (m 
 rests_spells magic id end records m rests image is =
     inr (1, rests.gated, record { behind = []; spelling = rests_image magic id end records m rests image is; head_open = λ e. absurd cc; gates_open = rests.acknowledged.gates_open }, rests.acknowledged.same)
 
-rests_holds : (magic : List ℕ) (id end : ℕ) (records : List (List ℕ)) (m : Moment) → IsAtRest magic id end records m → Leaves (HoldsRecords magic id records) m
+rests_holds : (magic : List ℕ) (id end : ℕ) (records : List (List ℕ)) (m : Moment) → IsAtRest magic id end records m → Leaves (HasAcknowledged magic id records) m
 rests_holds magic id end records m rests image is = record {
   gated = rests.gated;
   more = [];
@@ -48,12 +48,12 @@ rests_holds magic id end records m rests image is = record {
 }
 
 -- at rest, a crash leaves the history
-rests_history : (id end : ℕ) (records : List (List ℕ)) (history : List Entry) (moments : List Moment) → AreEntries 1 records history → IfTold moments (IsAtRest MAGIC id end records) → IfTold moments (LeavesHistory id history)
+rests_history : (id end : ℕ) (records : List (List ℕ)) (history : List Entry) (moments : List Moment) → AreEntries 1 records history → IfKnown moments (IsAtRest MAGIC id end records) → IfKnown moments (LeavesHistory id history)
 rests_history id end records history [] spelled rests = tt
 rests_history id end records history (m ∷ past) spelled rests = λ image is.
     ((records, rests_spells MAGIC id end records m rests image is, spelled), (records, rests_holds MAGIC id end records m rests image is, spelled))
 
-pub running_history : (wal : State) (history next : List Entry) → Keeps wal history next → wal.closed ≡ false → IfTold wal.moments (LeavesHistory wal.id history)
+pub running_history : (wal : State) (history next : List Entry) → StoresHistory wal history next → wal.closed ≡ false → IfKnown wal.moments (LeavesHistory wal.id history)
 running_history wal history next keeps running = rests_history wal.id wal.end keeps.records history wal.moments keeps.spelled (keeps.rests running)
 
 -- ---- moments
@@ -62,28 +62,28 @@ each_other : (P Q : List ℕ → Type 0) (moments : List Moment) → ((image : L
 each_other P Q [] implies each = tt
 each_other P Q (m ∷ more) implies each = (λ image is. implies image (each.0 image is), each_other P Q more implies each.1)
 
-told_other : (P Q : List ℕ → Type 0) (moments : List Moment) → ((image : List ℕ) → P image → Q image) → IfTold moments (Leaves P) → IfTold moments (Leaves Q)
+told_other : (P Q : List ℕ → Type 0) (moments : List Moment) → ((image : List ℕ) → P image → Q image) → IfKnown moments (Leaves P) → IfKnown moments (Leaves Q)
 told_other P Q [] implies told = tt
 told_other P Q (m ∷ past) implies told = λ image is. implies image (told image is)
 
 -- a kept history is held, by an open log and by a closed one
-pub kept_held : (wal : State) (history next : List Entry) → Keeps wal history next → IfTold wal.moments (Leaves (HoldsEntries wal.id history))
+pub kept_held : (wal : State) (history next : List Entry) → StoresHistory wal history next → IfKnown wal.moments (Leaves (HasAcknowledgedEntries wal.id history))
 kept_held wal history next keeps = by wal.closed refl
   where
-    by : (closed : Bool) → wal.closed ≡ closed → IfTold wal.moments (Leaves (HoldsEntries wal.id history))
-    by true is = told_other (λ image. IsLogOrNext wal.id history next image × HoldsEntries wal.id history image) (HoldsEntries wal.id history) wal.moments (λ image h. h.1) (keeps.left is)
-    by false is = told_other (λ image. IsLogOf wal.id history image × HoldsEntries wal.id history image) (HoldsEntries wal.id history) wal.moments (λ image h. h.1) (running_history wal history next keeps is)
+    by : (closed : Bool) → wal.closed ≡ closed → IfKnown wal.moments (Leaves (HasAcknowledgedEntries wal.id history))
+    by true is = told_other (λ image. IsLogOrNext wal.id history next image × HasAcknowledgedEntries wal.id history image) (HasAcknowledgedEntries wal.id history) wal.moments (λ image h. h.1) (keeps.left is)
+    by false is = told_other (λ image. IsLogOf wal.id history image × HasAcknowledgedEntries wal.id history image) (HasAcknowledgedEntries wal.id history) wal.moments (λ image h. h.1) (running_history wal history next keeps is)
 
 -- what each moment since then leaves, and that one too, the newest leaves
-left_now : (P : List ℕ → Type 0) (old new : List Moment) → IfTold old (Leaves P) → Passes (Leaves P) old new → IfTold new (Leaves P)
+left_now : (P : List ℕ → Type 0) (old new : List Moment) → IfKnown old (Leaves P) → Passes (Leaves P) old new → IfKnown new (Leaves P)
 left_now P old new before ([], is, each) = rw is before
 left_now P old new before (m ∷ more, is, each) = rw is each.0
 
-left_both : (P Q : List ℕ → Type 0) (old new : List Moment) → IfTold old (Leaves (λ image. P image × Q image)) → Passes (Leaves P) old new → Passes (Leaves Q) old new → IfTold new (Leaves (λ image. P image × Q image))
+left_both : (P Q : List ℕ → Type 0) (old new : List Moment) → IfKnown old (Leaves (λ image. P image × Q image)) → Passes (Leaves P) old new → Passes (Leaves Q) old new → IfKnown new (Leaves (λ image. P image × Q image))
 left_both P Q old new before ps qs =
     both new (left_now P old new (told_other (λ image. P image × Q image) P old (λ image h. h.0) before) ps) (left_now Q old new (told_other (λ image. P image × Q image) Q old (λ image h. h.1) before) qs)
   where
-    both : (new : List Moment) → IfTold new (Leaves P) → IfTold new (Leaves Q) → IfTold new (Leaves (λ image. P image × Q image))
+    both : (new : List Moment) → IfKnown new (Leaves P) → IfKnown new (Leaves Q) → IfKnown new (Leaves (λ image. P image × Q image))
     both [] p q = tt
     both (m ∷ past) p q = λ image is. (p image is, q image is)
 
@@ -124,7 +124,7 @@ GrowsThrough old new frame = (magic : List ℕ) (records : List (List ℕ)) (byt
 
 -- and those it holds
 abbrev pub HoldsThrough : LogState → LogState → Type 0
-HoldsThrough old new = (magic : List ℕ) (records : List (List ℕ)) → Rests magic old records → Passes (Leaves (HoldsRecords magic old.id records)) old.moments new.moments
+HoldsThrough old new = (magic : List ℕ) (records : List (List ℕ)) → Rests magic old records → Passes (Leaves (HasAcknowledged magic old.id records)) old.moments new.moments
 
 -- in the end it is at rest with the new one
 abbrev pub RestsBehind : LogState → LogState → List ℕ → Type 0
@@ -153,14 +153,14 @@ passes_history old new due reserved r frame there framed grows history next is =
     (passed.0, passed.1, each_other (BeforeOrAfter MAGIC old.id records bytes) (IsLogOrNext old.id history next) passed.0 (λ image h. grown_history old.id records history next image is.keeps.spelled one.is h) passed.2)
 
 pub passes_holds : (old new : LogState) (due : ℕ) (reserved : Option Reserved) → HoldsThrough old new
-    → (history next : List Entry) → IsReserved (state_of old due reserved) history next → Passes (Leaves (HoldsEntries old.id history)) old.moments new.moments
+    → (history next : List Entry) → IsReserved (state_of old due reserved) history next → Passes (Leaves (HasAcknowledgedEntries old.id history)) old.moments new.moments
 passes_holds old new due reserved holds history next is =
     let records = is.keeps.records in
     let passed = holds MAGIC records (is.keeps.rests is.running) in
-    (passed.0, passed.1, each_other (HoldsRecords MAGIC old.id records) (HoldsEntries old.id history) passed.0 (λ image h. (records, h, is.keeps.spelled)) passed.2)
+    (passed.0, passed.1, each_other (HasAcknowledged MAGIC old.id records) (HasAcknowledgedEntries old.id history) passed.0 (λ image h. (records, h, is.keeps.spelled)) passed.2)
 
 pub keeps_appended : (old new : LogState) (due : ℕ) (reserved : Option Reserved) (r : Reserved) (frame : List ℕ) (len : ℕ) → reserved ≡ Some r → frame ≡ frame_of r.bytes → LogAppended old new len → RestsBehind old new frame
-    → (history next : List Entry) → IsReserved (state_of old due reserved) history next → Keeps (state_of new (due + r.count) None) (history ++ next) []
+    → (history next : List Entry) → IsReserved (state_of old due reserved) history next → StoresHistory (state_of new (due + r.count) None) (history ++ next) []
 keeps_appended old new due reserved r frame len there framed appended rests history next is =
     let one = next_reserved old due reserved r frame history next there framed is in
     let records = is.keeps.records in
@@ -179,11 +179,11 @@ keeps_appended old new due reserved r frame len there framed appended rests hist
     }
 
 keeps_failed : (old new : LogState) (due : ℕ) (reserved : Option Reserved) (r : Reserved) (frame : List ℕ) → reserved ≡ Some r → frame ≡ frame_of r.bytes → LogRefuses old new DiskFault → GrowsThrough old new frame → HoldsThrough old new
-    → (history next : List Entry) → IsReserved (state_of old due reserved) history next → Keeps (state_of new due None) history next
+    → (history next : List Entry) → IsReserved (state_of old due reserved) history next → StoresHistory (state_of new due None) history next
 keeps_failed old new due reserved r frame there framed refuses grows holds history next is =
     let passed = passes_history old new due reserved r frame there framed grows history next is in
     let held = passes_holds old new due reserved holds history next is in
-    let before = told_other (λ image. IsLogOf old.id history image × HoldsEntries old.id history image) (λ image. IsLogOrNext old.id history next image × HoldsEntries old.id history image) old.moments
+    let before = told_other (λ image. IsLogOf old.id history image × HasAcknowledgedEntries old.id history image) (λ image. IsLogOrNext old.id history next image × HasAcknowledgedEntries old.id history image) old.moments
     (λ image h. (inl h.0, h.1)) (running_history (state_of old due reserved) history [] is.keeps is.running) in
     let same : new.id ≡ old.id = ap (λ (s : LogState). s.id) refuses.2 in
     let closed : new.closed ≡ true = ap (λ (s : LogState). s.closed) refuses.2 in
@@ -194,10 +194,10 @@ keeps_failed old new due reserved r frame there framed refuses grows holds histo
       counted = count ∙ is.keeps.counted;
       numbered = is.keeps.numbered;
       rests = λ reopened. absurd cc;
-      left = λ _. rw same (left_both (IsLogOrNext old.id history next) (HoldsEntries old.id history) old.moments new.moments before passed held);
+      left = λ _. rw same (left_both (IsLogOrNext old.id history next) (HasAcknowledgedEntries old.id history) old.moments new.moments before passed held);
     }
 
 pub keeps_refused : (old new : LogState) (due : ℕ) (reserved : Option Reserved) (r : Reserved) (frame : List ℕ) (why : AppendError) → reserved ≡ Some r → frame ≡ frame_of r.bytes → LogRefuses old new why → GrowsThrough old new frame → HoldsThrough old new
-    → KeepsWhenRefused (state_of old due reserved) (state_of new due None) why
+    → StoresWhenRefused (state_of old due reserved) (state_of new due None) why
 keeps_refused old new due reserved r frame DiskFault there framed refuses grows holds = keeps_failed old new due reserved r frame there framed refuses grows holds
 keeps_refused old new due reserved r frame (Closed n) there framed refuses grows holds = tt

@@ -4,7 +4,7 @@ use Rattle.std.specs.Prelude.{slice_get}
 use Rattle.std.proofs.lemmas.Bool.{cases_order}
 use Rattle.std.proofs.lemmas.Option.{none-some, same_Some}
 use Rattle.wp_model.specs.declared.entry.Entry.{Entry}
-use Rattle.wp_model.specs.Legal.{IsLegal, IsLegalBehind}
+use Rattle.wp_model.specs.Legal.{IsLegal, IsLegalNext}
 use Rattle.wp_entry.specs.declared.error.RecordError.{RecordError}
 use Rattle.wp_entry.specs.Record.{IsRecord, record_bytes}
 use Rattle.wp_entry.specs.Reading.{record_at}
@@ -26,7 +26,7 @@ HasLegalFronts = (history more : List Entry) → IsLegal (history ++ more) → I
 
 -- each entry of a legal history may stand behind those before it
 abbrev pub IsLegalAtEach : Type 0
-IsLegalAtEach = (front more : List Entry) (entry : Entry) → IsLegal (front ++ entry ∷ more) → IsLegalBehind front entry
+IsLegalAtEach = (front more : List Entry) (entry : Entry) → IsLegal (front ++ entry ∷ more) → IsLegalNext front entry
 
 -- ---- one record
 

@@ -1,6 +1,6 @@
 -- Why a log is not opened, and what is left of it.
 use Rattle.std.specs.Prelude.{◌≡◌, ◌⊎◌, ℕ, List, ⊤}
-use Rattle.wp_outside.specs.Disk.{Moment, IfTold, added, after_sync}
+use Rattle.wp_outside.specs.Disk.{Moment, IfKnown, added, after_sync}
 use Rattle.wp_entry.specs.declared.error.RecordError.{RecordError}
 use Rattle.wp_entry.specs.declared.error.RecordError.TheVariants.{Short}
 use Rattle.wp_gatelog.specs.Damage.{IsBadHead, IsCut}
@@ -24,9 +24,9 @@ IsIllegalLog bytes number = (id : ℕ) × (records : List (List ℕ)) × Spells 
 abbrev pub IsOpenCause : (rose : Type 0) → List Moment → WalError → Type 0
 IsOpenCause rose moments Memory = Unit {0}
 IsOpenCause rose moments DiskFault = rose
-IsOpenCause rose moments BadHead = IfTold moments (λ m. IsBadHead MAGIC m.reads)
-IsOpenCause rose moments (BadRecord index why) = IfTold moments (λ m. IsBadLog m.reads index why)
-IsOpenCause rose moments (Illegal number) = IfTold moments (λ m. IsIllegalLog m.reads number)
+IsOpenCause rose moments BadHead = IfKnown moments (λ m. IsBadHead MAGIC m.reads)
+IsOpenCause rose moments (BadRecord index why) = IfKnown moments (λ m. IsBadLog m.reads index why)
+IsOpenCause rose moments (Illegal number) = IfKnown moments (λ m. IsIllegalLog m.reads number)
 
 -- ---- what is left
 
@@ -40,7 +40,7 @@ pub record RestsAsSpelled (bytes : List ℕ) (m : Moment) : Type 0 where
 
 -- where the disk tells, the log is left at rest, with its records as they were
 abbrev pub IsLeftAtRest : List Moment → List Moment → Type 0
-IsLeftAtRest old new = IfTold old (λ m. IfTold new (RestsAsSpelled m.reads))
+IsLeftAtRest old new = IfKnown old (λ m. IfKnown new (RestsAsSpelled m.reads))
 
 -- no records were read, and nothing came but a sync; or they were, and the log is left at rest
 abbrev pub IsSyncedOrAtRest : List Moment → List Moment → Type 0

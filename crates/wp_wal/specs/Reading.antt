@@ -1,7 +1,7 @@
 -- Why records spell no legal history.
 use Rattle.std.specs.Prelude.{◌≡◌, ℕ, ◌+◌, List, ◌∷◌, ◌++◌, length, take, Some, Err, slice_get}
 use Rattle.wp_model.specs.declared.entry.Entry.{Entry}
-use Rattle.wp_model.specs.Legal.{IsLegal, IsLegalBehind}
+use Rattle.wp_model.specs.Legal.{IsLegal, IsLegalNext}
 use Rattle.wp_entry.specs.declared.error.RecordError.{RecordError}
 use Rattle.wp_entry.specs.Record.{IsRecord, record_bytes}
 use Rattle.wp_entry.specs.Reading.{record_at}
@@ -30,7 +30,7 @@ pub record IsIllegalAmong (history entries : List Entry) (number : ℕ) : Type 0
   pub after : List Entry
   pub parts : entries ≡ before ++ entry ∷ after
   pub legal : IsLegal (history ++ before)
-  pub illegal : IsLegalBehind (history ++ before) entry → ⊥
+  pub illegal : IsLegalNext (history ++ before) entry → ⊥
   pub at : number ≡ length history + length before + 1
 
 -- the bytes behind the history are a record, and the entry with this number may not stand where it does

@@ -2,7 +2,7 @@
 use Rattle.std.specs.Prelude.{◌≡◌, ◌⊎◌, ℕ, ◌+◌, List, [], ◌∷◌, ◌++◌, length, codes}
 use Rattle.wp_model.specs.declared.entry.Entry.{Entry}
 use Rattle.wp_entry.specs.Record.{IsRecord, record_bytes}
-use Rattle.wp_gatelog.specs.Lasting.{HoldsRecords}
+use Rattle.wp_gatelog.specs.Durability.{HasAcknowledged}
 use Rattle.wp_gatelog.specs.Spelling.{Spells}
 
 -- the first four bytes behind the head's gate
@@ -23,5 +23,5 @@ abbrev pub IsLogOrNext : ℕ → List Entry → List Entry → List ℕ → Type
 IsLogOrNext id history next bytes = IsLogOf id history bytes ⊎ IsLogOf id (history ++ next) bytes
 
 -- The bytes begin with acknowledged records that spell the history: whatever comes behind, an opening finds it.
-abbrev pub HoldsEntries : ℕ → List Entry → List ℕ → Type 0
-HoldsEntries id history bytes = (records : List (List ℕ)) × HoldsRecords MAGIC id records bytes × AreEntries 1 records history
+abbrev pub HasAcknowledgedEntries : ℕ → List Entry → List ℕ → Type 0
+HasAcknowledgedEntries id history bytes = (records : List (List ℕ)) × HasAcknowledged MAGIC id records bytes × AreEntries 1 records history

@@ -1,14 +1,15 @@
 -- An open log that keeps a history, and what an append makes of it.
 use Rattle.std.specs.Prelude.{◌≡◌, ℕ, ◌+◌, ◌-◌, ◌^◌, ◌≤◌, Bool, true, false, List, [], length, take, drop, Option, Some, None}
 use Rattle.wp_model.specs.declared.entry.Entry.{Entry}
-use Rattle.wp_outside.specs.Disk.{Moment, IfTold}
+use Rattle.wp_outside.specs.Disk.{Moment, IfKnown}
 use Rattle.wp_outside.specs.Faults.{Rose}
 use Rattle.wp_entry.specs.Record.{IsRecord, record_bytes}
 use Rattle.wp_gatelog.specs.declared.log.AppendError.{AppendError}
 use Rattle.wp_gatelog.specs.declared.log.AppendError.TheVariants.{DiskFault, Closed}
 use Rattle.wp_gatelog.specs.Log.{State as LogState, IsAtRest}
+use Rattle.wp_gatelog.specs.Durability.{HasAcknowledged, Preserves}
 use Rattle.wp_gatelog.specs.Moments.{Leaves}
-use Rattle.wp_wal.specs.Spelling.{MAGIC, AreEntries, IsLogOf, IsLogOrNext, HoldsEntries}
+use Rattle.wp_wal.specs.Spelling.{MAGIC, AreEntries, IsLogOf, IsLogOrNext, HasAcknowledgedEntries}
 
 -- ---- the log
 
@@ -55,27 +56,27 @@ HasNumbers due (Some reserved) = due + reserved.count ≤ 2 ^ 32
 
 -- each image of the moment spells the history, and holds it
 abbrev pub LeavesHistory : ℕ → List Entry → Moment → Type 0
-LeavesHistory id history = Leaves (λ image. IsLogOf id history image × HoldsEntries id history image)
+LeavesHistory id history = Leaves (λ image. IsLogOf id history image × HasAcknowledgedEntries id history image)
 
 -- each image of the moment spells the history, or it and the next entries, whole; and holds the history
 abbrev pub LeavesHistoryOrNext : ℕ → List Entry → List Entry → Moment → Type 0
-LeavesHistoryOrNext id history next = Leaves (λ image. IsLogOrNext id history next image × HoldsEntries id history image)
+LeavesHistoryOrNext id history next = Leaves (λ image. IsLogOrNext id history next image × HasAcknowledgedEntries id history image)
 
 -- The log keeps the history: it is at rest with records that spell it; or, once an append has failed, a crash leaves
 -- those, or those and one that spells the next entries, whole.
-pub record Keeps (wal : State) (history next : List Entry) : Type 0 where
+pub record StoresHistory (wal : State) (history next : List Entry) : Type 0 where
   pub records : List (List ℕ)
   pub spelled : AreEntries 1 records history
   pub counted : wal.count ≡ length records
   pub numbered : wal.due ≡ length history + 1
-  pub rests : wal.closed ≡ false → IfTold wal.moments (IsAtRest MAGIC wal.id wal.end records)
-  pub left : wal.closed ≡ true → IfTold wal.moments (LeavesHistoryOrNext wal.id history next)
+  pub rests : wal.closed ≡ false → IfKnown wal.moments (IsAtRest MAGIC wal.id wal.end records)
+  pub left : wal.closed ≡ true → IfKnown wal.moments (LeavesHistoryOrNext wal.id history next)
 
 -- ---- appending
 
 -- The log keeps the history, and the record of the next entries stands reserved.
 pub record IsReserved (wal : State) (history next : List Entry) : Type 0 where
-  pub keeps : Keeps wal history []
+  pub keeps : StoresHistory wal history []
   pub running : wal.closed ≡ false
   pub is : IsRecord wal.due next
   pub reserved : wal.reserved ≡ Some (reserved_of wal.due next)
@@ -100,6 +101,10 @@ Refuses old new DiskFault =
 Refuses old new (Closed n) = (old.closed ≡ true) × (n ≡ old.count) × (new ≡ record old { reserved = None })
 
 -- after a fault a crash leaves the history, or it and the next entries
-abbrev pub KeepsWhenRefused : State → State → AppendError → Type 0
-KeepsWhenRefused old new DiskFault = (history next : List Entry) → IsReserved old history next → Keeps new history next
-KeepsWhenRefused old new (Closed n) = Unit {0}
+abbrev pub StoresWhenRefused : State → State → AppendError → Type 0
+StoresWhenRefused old new DiskFault = (history next : List Entry) → IsReserved old history next → StoresHistory new history next
+StoresWhenRefused old new (Closed n) = Unit {0}
+
+-- Records that each crash at one moment would leave acknowledged, each crash at a later moment leaves so too.
+abbrev pub LosesNothing : List Moment → List Moment → Type 0
+LosesNothing before after = (id : ℕ) (records : List (List ℕ)) → Preserves (Leaves (HasAcknowledged MAGIC id records)) before after

@@ -3,17 +3,17 @@
 ghost use Rattle.std.specs.Prelude.{◌≡◌, ◌++◌, ℕ, List};
 ghost use Rattle.wp_model.specs.declared.entry.Entry.{Entry};
 ghost use Rattle.wp_model.specs.Legal.{IsLegal};
-ghost use Rattle.wp_outside.specs.Disk.{IfTold};
+ghost use Rattle.wp_outside.specs.Disk.{IfKnown};
 ghost use Rattle.wp_entry.specs.declared.error.RecordError.{RecordError};
 ghost use Rattle.wp_gatelog.specs.Damage.{IsBadHead};
 ghost use Rattle.wp_gatelog.specs.Moments.{Leaves};
 ghost use Rattle.wp_wal.specs.Opening.{IsBadLog, IsIllegalLog};
-ghost use Rattle.wp_wal.specs.Spelling.{MAGIC, IsLogOf, HoldsEntries};
-ghost use Rattle.wp_wal.specs.Wal.{State, Keeps};
+ghost use Rattle.wp_wal.specs.Spelling.{MAGIC, IsLogOf, HasAcknowledgedEntries};
+ghost use Rattle.wp_wal.specs.Wal.{State, StoresHistory};
 
-use wp_core::laws::{legal_at_each_entry, legal_front};
 use wp_entry::{records_are_read, spellings_differ};
-use wp_gatelog::{bytes_are_read_in_one_way, held_records_come_first};
+use wp_gatelog::{acknowledged_records_come_first, bytes_are_read_in_one_way};
+use wp_history::laws::{legal_at_each_entry, legal_front};
 
 /// Bytes spell a legal history, or have a bad head, or a bad record, or an illegal entry: at most one of these, in one
 /// way.
@@ -44,17 +44,17 @@ pub fn a_log_is_read_in_one_way()
 }
 
 /// What a crash leaves of a log that keeps a history holds it, also where an append has failed.
-pub fn kept_history_is_held()
-    ensures { (wal : State) (history next : List Entry) → Keeps wal history next
-        → IfTold wal.moments (Leaves (HoldsEntries wal.id history)) }
+pub fn stored_history_is_acknowledged()
+    ensures { (wal : State) (history next : List Entry) → StoresHistory wal history next
+        → IfKnown wal.moments (Leaves (HasAcknowledgedEntries wal.id history)) }
 {}
 
 /// Bytes that hold a history spell none but those that begin with it.
-pub fn held_history_comes_first()
+pub fn acknowledged_history_comes_first()
     ensures { (id other : ℕ) (history longer : List Entry) (bytes : List ℕ)
-        → HoldsEntries id history bytes → IsLogOf other longer bytes
+        → HasAcknowledgedEntries id history bytes → IsLogOf other longer bytes
         → (more : List Entry) × (longer ≡ history ++ more) }
 {
     spellings_differ();
-    held_records_come_first();
+    acknowledged_records_come_first();
 }

@@ -15,7 +15,9 @@ mod reserved;
 mod wal;
 
 pub use error::WalError;
-pub use laws::{a_log_is_read_in_one_way, held_history_comes_first, kept_history_is_held};
+pub use laws::{
+    a_log_is_read_in_one_way, acknowledged_history_comes_first, stored_history_is_acknowledged,
+};
 pub use wal::Wal;
 
 #[cfg(test)]

@@ -6,9 +6,9 @@ ghost use Rattle.wp_wal.specs.Reading.{IsRecordCause, IsRefusedRecord, IsIllegal
 
 use crate::error::WalError;
 use std::alloc::Global;
-use wp_core::History;
 use wp_entry::{RecordError, read_record};
 use wp_gatelog::Record;
+use wp_history::History;
 use wp_model::{Entry, Seq};
 
 /// Puts the entries behind the history, up to the first that may not stand there: the error is its number.

@@ -1,13 +1,13 @@
 ghost use Rattle.std.specs.Prelude.{ℕ, ◌<◌, ◌^◌, [], IfOk};
 ghost use Rattle.wp_entry.specs.Record.{FormRecord};
-ghost use Rattle.wp_wal.specs.Wal.{Keeps};
+ghost use Rattle.wp_wal.specs.Wal.{StoresHistory};
 
 use super::*;
 use std::alloc::Global;
 use std::test::*;
-use wp_core::History;
 use wp_entry::RecordError;
 use wp_gatelog::AppendError;
+use wp_history::History;
 use wp_model::{Batch, Change, Entry, Key, Value};
 use wp_outside::MemDisk;
 
@@ -16,7 +16,7 @@ const LOG: &[u8; 32] =
     b"\x01WPLG\x01\0\0\0\x01\x01\0\0\0\0\0\0\0\x0c\0\0\0\x01\x01\x01\x01\x01k\0\x011\0";
 
 fn open(alloc: Global, bytes: &[u8], fails: &[u64]) -> Result<(Wal<MemDisk>, History), WalError>
-    ensures { IfOk result (λ opened. Keeps opened.0 opened.1.entries []) }
+    ensures { IfOk result (λ opened. StoresHistory opened.0 opened.1.entries []) }
 {
     let disk = MemDisk::new(
         alloc,

@@ -2,24 +2,24 @@
 ghost use Rattle.std.specs.Prelude.{◌≡◌, ℕ, ◌+◌, ◌≤◌, ◌++◌, List, [], Some, None, true, false, is_some, length, IfOk, IfErr, IfSome, OnOk, OnErr, MatchResult};
 ghost use Rattle.wp_model.specs.declared.entry.Entry.{Entry};
 ghost use Rattle.wp_model.specs.Legal.{IsLegal};
-ghost use Rattle.wp_outside.specs.Disk.{IfTold, Passes};
+ghost use Rattle.wp_outside.specs.Disk.{IfKnown, Passes};
 ghost use Rattle.wp_outside.specs.Faults.{Rose};
 ghost use Rattle.wp_entry.specs.Record.{FormRecord, IsRecord};
-ghost use Rattle.wp_gatelog.specs.Lasting.{Lasts, HoldsRecords};
+ghost use Rattle.wp_gatelog.specs.Durability.{Preserves, HasAcknowledged};
 ghost use Rattle.wp_gatelog.specs.Moments.{Leaves};
 ghost use Rattle.wp_gatelog.specs.Opening.{SurvivesThrough};
 ghost use Rattle.wp_gatelog.specs.Spelling.{IsUnmade};
-ghost use Rattle.wp_wal.specs.Spelling.{MAGIC, IsLogOf, IsLogOrNext, HoldsEntries};
+ghost use Rattle.wp_wal.specs.Spelling.{MAGIC, IsLogOf, IsLogOrNext, HasAcknowledgedEntries};
 ghost use Rattle.wp_wal.specs.Opening.{IsOpenCause, LeavesRecords};
-ghost use Rattle.wp_wal.specs.Wal.{Keeps, IsReserved, LeavesHistory, Appended, Refuses, KeepsWhenRefused, reserved_of};
+ghost use Rattle.wp_wal.specs.Wal.{StoresHistory, IsReserved, LeavesHistory, Appended, Refuses, StoresWhenRefused, reserved_of};
 
 use crate::error::WalError;
 use crate::read::history_of;
 use crate::reserved::Reserved;
 use std::alloc::{AllocError, Global};
 use std::marker::Model;
-use wp_core::History;
 use wp_gatelog::{AppendError, DiskRefused, GateLog};
+use wp_history::History;
 use wp_model::{Entry, Seq};
 use wp_outside::Disk;
 
@@ -54,13 +54,13 @@ impl<D: Disk> Wal<D> {
         disk: D,
         id: u32,
     ) -> Result<(Wal<D>, History), DiskRefused<D, WalError>>
-        ensures keeps { IfOk result (λ opened. Keeps opened.0 opened.1.entries []) }
+        ensures keeps { IfOk result (λ opened. StoresHistory opened.0 opened.1.entries []) }
         ensures fresh { IfOk result (λ opened. (opened.0.closed ≡ false) × (opened.0.reserved ≡ None)) }
         ensures legal { IfOk result (λ opened. IsLegal opened.1.entries) }
 
         // The history is the one that the disk spelled as it was handed in, and the id the one in its head.
-        ensures found { IfOk result (λ opened. IfTold (D.moments disk) (λ m. IsLogOf opened.0.id opened.1.entries m.reads)) }
-        ensures made { IfOk result (λ opened. IfTold (D.moments disk) (λ m. IsUnmade m.reads → opened.0.id ≡ id)) }
+        ensures found { IfOk result (λ opened. IfKnown (D.moments disk) (λ m. IsLogOf opened.0.id opened.1.entries m.reads)) }
+        ensures made { IfOk result (λ opened. IfKnown (D.moments disk) (λ m. IsUnmade m.reads → opened.0.id ≡ id)) }
 
         ensures cause { IfErr result (λ refused. IsOpenCause (Rose (D.faults disk) (D.faults refused.disk)) (D.moments disk) refused.why) }
 
@@ -75,9 +75,9 @@ impl<D: Disk> Wal<D> {
         // What each crash at one moment would leave acknowledged, each crash at a later moment leaves too.
         ensures lasts { MatchResult result
             (λ opened. (other : ℕ) (records : List (List ℕ))
-            → Lasts (Leaves (HoldsRecords MAGIC other records)) (D.moments disk) opened.0.moments)
+            → Preserves (Leaves (HasAcknowledged MAGIC other records)) (D.moments disk) opened.0.moments)
             (λ refused. (other : ℕ) (records : List (List ℕ))
-            → Lasts (Leaves (HoldsRecords MAGIC other records)) (D.moments disk) (D.moments refused.disk)) }
+            → Preserves (Leaves (HasAcknowledged MAGIC other records)) (D.moments disk) (D.moments refused.disk)) }
         ensures later { MatchResult result (λ opened. D.faults disk ≤ opened.0.faults) (λ refused. D.faults disk ≤ D.faults refused.disk) }
     {
         let log = match GateLog::open(alloc, disk, LOG_MAGIC, id) {
@@ -135,15 +135,15 @@ impl<D: Disk> Wal<D> {
 
         // What each crash at one moment would leave acknowledged, each crash at a later moment leaves too: the history,
         // all along.
-        ensures lasts { (history next : List Entry) → Keeps self.old history next → (other : ℕ) (records : List (List ℕ))
-            → Lasts (Leaves (HoldsRecords MAGIC other records)) self.old.moments self.new.moments }
+        ensures lasts { (history next : List Entry) → StoresHistory self.old history next → (other : ℕ) (records : List (List ℕ))
+            → Preserves (Leaves (HasAcknowledged MAGIC other records)) self.old.moments self.new.moments }
         ensures holds { (history entries : List Entry) → IsReserved self.old history entries
-            → Passes (Leaves (HoldsEntries self.old.id history)) self.old.moments self.new.moments }
+            → Passes (Leaves (HasAcknowledgedEntries self.old.id history)) self.old.moments self.new.moments }
 
         // Once it is acknowledged, a crash leaves the new entries; and after a fault still one of the two.
         ensures keeps { OnOk result ((history entries : List Entry) → IsReserved self.old history entries
-            → Keeps self.new (history ++ entries) []) }
-        ensures kept { IfErr result (KeepsWhenRefused self.old self.new) }
+            → StoresHistory self.new (history ++ entries) []) }
+        ensures kept { IfErr result (StoresWhenRefused self.old self.new) }
 
         ensures ok { OnOk result (IfSome self.old.reserved (Appended self.old self.new)) }
         ensures err { IfErr result (Refuses self.old self.new) }
@@ -164,8 +164,8 @@ impl<D: Disk> Wal<D> {
         ensures faults { D.faults result ≡ self.faults }
 
         // Until an append has failed, a crash leaves the history.
-        ensures left { (history next : List Entry) → Keeps self history next → self.closed ≡ false
-            → IfTold self.moments (LeavesHistory self.id history) }
+        ensures left { (history next : List Entry) → StoresHistory self history next → self.closed ≡ false
+            → IfKnown self.moments (LeavesHistory self.id history) }
     {
         let Wal { log, .. } = self;
         log.into_disk()

@@ -5,9 +5,9 @@ use Rattle.wp_gatelog.specs.Log.{Grows}
 use Rattle.wp_gatelog.specs.Moments.{Leaves}
 use Rattle.wp_gatelog.proofs.AppendLemmas.{grows_staged, reads_staged, grows_opened, fits_disk}
 use Rattle.wp_gatelog.proofs.MomentLemmas.{goes_map, goes_on, put_gate, told_as}
-use Rattle.wp_gatelog.specs.Lasting.{HoldsRecords}
+use Rattle.wp_gatelog.specs.Durability.{HasAcknowledged}
 use Rattle.wp_gatelog.proofs.HoldsLemmas.{spares_frame, spares_gate}
-use Rattle.wp_gatelog.proofs.LastingLemmas.{lasts_on}
+use Rattle.wp_gatelog.proofs.DurabilityLemmas.{lasts_on}
 use Rattle.wp_gatelog.proofs.log.append_frame.Goals as goal
 
 pub returns-in_err-write_synced-clause-passed : goal.returns-in_err-write_synced-clause-passed
@@ -35,5 +35,5 @@ returns-clause-lasts g c = λ magic id gated each ends told other records.
     let front = log_of magic id 1 gated in
     let first = c.write_synced.ensures.lasts magic other records (front ++ 0 ∷ []) (spares_frame magic other id records gated (c.args.end + 1) c.args.frame.now each (omega (arith, ends))) told in
     let staged = told_as _ _ (front ++ 0 ∷ c.args.frame.now) (reads_staged front c.args.frame.now (c.args.end + 1) (omega (arith, ends))) (c.in_ok-write_synced.ensures.done (front ++ 0 ∷ []) told) in
-    lasts_on (Leaves (HoldsRecords magic other records)) _ _ _ first
+    lasts_on (Leaves (HasAcknowledged magic other records)) _ _ _ first
     (c.write_synced-2.ensures.lasts magic other records (front ++ 0 ∷ c.args.frame.now) (spares_gate magic other id records gated c.args.end c.args.frame.now each ends) staged)

@@ -6,9 +6,9 @@ use Rattle.wp_gatelog.specs.Spelling.{identity}
 use Rattle.wp_gatelog.proofs.MakeLemmas.{closed_unmade, none_closed, none_staged, none_opened, reads_made}
 use Rattle.wp_gatelog.proofs.MomentLemmas.{goes_map, goes_on, told_as, reads_behind}
 use Rattle.wp_outside.specs.Disk.{IsImage, settled, after_write}
-use Rattle.wp_gatelog.specs.Lasting.{HoldsRecords}
+use Rattle.wp_gatelog.specs.Durability.{HasAcknowledged}
 use Rattle.wp_gatelog.proofs.HoldsLemmas.{spares_unmade}
-use Rattle.wp_gatelog.proofs.LastingLemmas.{lasts_on}
+use Rattle.wp_gatelog.proofs.DurabilityLemmas.{lasts_on}
 use Rattle.wp_gatelog.proofs.make.make.Goals as goal
 
 pub returns-in_err-write_synced-clause-passed : goal.returns-in_err-write_synced-clause-passed
@@ -41,12 +41,12 @@ pub returns-in_err-write_synced-clause-lasts : goal.returns-in_err-write_synced-
 returns-in_err-write_synced-clause-lasts g c = λ before unmade len_is told other records.
     let closed = c.in_ok-close_head.ensures.done before unmade len_is told in
     let none = spares_unmade c.args.magic other records (0 ∷ []) (IsImage (after_write 1 c.head_bytes.result (settled (0 ∷ [])))) tt in
-    lasts_on (Leaves (HoldsRecords c.args.magic other records)) _ _ _ (c.close_head.ensures.lasts before unmade len_is told c.args.magic other records)
+    lasts_on (Leaves (HasAcknowledged c.args.magic other records)) _ _ _ (c.close_head.ensures.lasts before unmade len_is told c.args.magic other records)
     (c.write_synced.ensures.lasts c.args.magic other records (0 ∷ []) none closed)
 
 pub returns-clause-lasts : goal.returns-clause-lasts
 returns-clause-lasts g c = λ before unmade len_is told other records.
-    let P = Leaves (HoldsRecords c.args.magic other records) in
+    let P = Leaves (HasAcknowledged c.args.magic other records) in
     let closed = c.in_ok-close_head.ensures.done before unmade len_is told in
     let none = spares_unmade c.args.magic other records (0 ∷ []) (IsImage (after_write 1 c.head_bytes.result (settled (0 ∷ [])))) tt in
     let whole = 0 ∷ (identity c.args.magic c.args.id ++ 0 ∷ []) in

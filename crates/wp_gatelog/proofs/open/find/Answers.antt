@@ -3,9 +3,9 @@ use Rattle.wp_gatelog.specs.declared.error.LogError.{LogError}
 use Rattle.wp_gatelog.specs.declared.open.Found.{Found}
 use Rattle.wp_gatelog.specs.Opening.{IsFound, IsRefused}
 use Rattle.wp_gatelog.proofs.OpenLemmas.{synced_bytes, synced_goes, synced_found, synced_refused}
-use Rattle.wp_gatelog.specs.Lasting.{HoldsRecords}
+use Rattle.wp_gatelog.specs.Durability.{HasAcknowledged}
 use Rattle.wp_gatelog.specs.Moments.{Leaves}
-use Rattle.wp_gatelog.proofs.LastingLemmas.{lasts_on, sync_lasts}
+use Rattle.wp_gatelog.proofs.DurabilityLemmas.{lasts_on, sync_lasts}
 use Rattle.wp_gatelog.proofs.open.find.Goals as goal
 
 pub returns-clause-passed : goal.returns-clause-passed
@@ -27,5 +27,5 @@ returns-clause-refused g c =
 pub returns-clause-lasts : goal.returns-clause-lasts
 returns-clause-lasts g c = λ other records.
     let synced = synced_bytes _ _ c.in_ok-sync.ensures.done in
-    let P = HoldsRecords c.args.magic other records in
+    let P = HasAcknowledged c.args.magic other records in
     lasts_on (Leaves P) _ _ _ (sync_lasts P _ _ (g.met.D.Disk.itself c.args.disk.now) c.in_ok-sync.ensures.done) (c.open_synced.ensures.lasts synced.0 synced.1 other records)

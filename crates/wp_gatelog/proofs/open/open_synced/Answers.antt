@@ -1,7 +1,7 @@
 use Rattle.std.proofs.Common.{◌∙◌}
 use Rattle.std.proofs.lemmas.Result.{err_from_is_err_and}
 use Rattle.wp_gatelog.proofs.OpenLemmas.{unmade_goes, unmade_lasts, unmade_rests, made_goes, made_lasts, made_found, made_refused}
-use Rattle.wp_gatelog.specs.Lasting.{HoldsRecords}
+use Rattle.wp_gatelog.specs.Durability.{HasAcknowledged}
 use Rattle.wp_gatelog.specs.Moments.{Leaves}
 use Rattle.wp_gatelog.proofs.open.open_synced.Goals as goal
 
@@ -46,23 +46,23 @@ returns-in_ok-records-in-Made-clause-found g c = λ bytes told.
 pub returns-in_err-make-in-Unmade-clause-lasts : goal.returns-in_err-make-in-Unmade-clause-lasts
 returns-in_err-make-in-Unmade-clause-lasts g c = λ bytes told other records.
     let head = rw (c.in-Unmade.is, c.len.ensures.kept) at c.in_ok-read_head.ensures.found in
-    unmade_lasts c.args.magic c.args.id c.in_ok-len.len bytes _ _ _ (c.read_head.ensures.kept ∙ c.len.ensures.kept) c.make.ensures.untold told c.in_ok-len.ensures.length head (Leaves (HoldsRecords c.args.magic other records))
+    unmade_lasts c.args.magic c.args.id c.in_ok-len.len bytes _ _ _ (c.read_head.ensures.kept ∙ c.len.ensures.kept) c.make.ensures.untold told c.in_ok-len.ensures.length head (Leaves (HasAcknowledged c.args.magic other records))
     (λ unmade size read. c.make.ensures.lasts bytes unmade size read other records)
 
 pub returns-in_ok-make-in-Unmade-clause-lasts : goal.returns-in_ok-make-in-Unmade-clause-lasts
 returns-in_ok-make-in-Unmade-clause-lasts g c = λ bytes told other records.
     let head = rw (c.in-Unmade.is, c.len.ensures.kept) at c.in_ok-read_head.ensures.found in
-    unmade_lasts c.args.magic c.args.id c.in_ok-len.len bytes _ _ _ (c.read_head.ensures.kept ∙ c.len.ensures.kept) c.make.ensures.untold told c.in_ok-len.ensures.length head (Leaves (HoldsRecords c.args.magic other records))
+    unmade_lasts c.args.magic c.args.id c.in_ok-len.len bytes _ _ _ (c.read_head.ensures.kept ∙ c.len.ensures.kept) c.make.ensures.untold told c.in_ok-len.ensures.length head (Leaves (HasAcknowledged c.args.magic other records))
     (λ unmade size read. c.make.ensures.lasts bytes unmade size read other records)
 
 pub returns-in_err-records-in-Made-clause-lasts : goal.returns-in_err-records-in-Made-clause-lasts
 returns-in_err-records-in-Made-clause-lasts g c = λ bytes told other records.
     let head = rw (c.in-Made.is, c.len.ensures.kept) at c.in_ok-read_head.ensures.found in
-    made_lasts c.args.magic c.args.id c.in_ok-len.len bytes _ _ _ (c.read_head.ensures.kept ∙ c.len.ensures.kept) c.open_made.ensures.untold told c.in_ok-len.ensures.length c.in-Made.gate c.in-Made.id c.requires head (Leaves (HoldsRecords c.args.magic other records))
+    made_lasts c.args.magic c.args.id c.in_ok-len.len bytes _ _ _ (c.read_head.ensures.kept ∙ c.len.ensures.kept) c.open_made.ensures.untold told c.in_ok-len.ensures.length c.in-Made.gate c.in-Made.id c.requires head (Leaves (HasAcknowledged c.args.magic other records))
     (λ begins read. c.open_made.ensures.lasts c.args.magic bytes begins read other records)
 
 pub returns-in_ok-records-in-Made-clause-lasts : goal.returns-in_ok-records-in-Made-clause-lasts
 returns-in_ok-records-in-Made-clause-lasts g c = λ bytes told other records.
     let head = rw (c.in-Made.is, c.len.ensures.kept) at c.in_ok-read_head.ensures.found in
-    made_lasts c.args.magic c.args.id c.in_ok-len.len bytes _ _ _ (c.read_head.ensures.kept ∙ c.len.ensures.kept) c.open_made.ensures.untold told c.in_ok-len.ensures.length c.in-Made.gate c.in-Made.id c.requires head (Leaves (HoldsRecords c.args.magic other records))
+    made_lasts c.args.magic c.args.id c.in_ok-len.len bytes _ _ _ (c.read_head.ensures.kept ∙ c.len.ensures.kept) c.open_made.ensures.untold told c.in_ok-len.ensures.length c.in-Made.gate c.in-Made.id c.requires head (Leaves (HasAcknowledged c.args.magic other records))
     (λ begins read. c.open_made.ensures.lasts c.args.magic bytes begins read other records)

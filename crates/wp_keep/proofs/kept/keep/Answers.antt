@@ -1,5 +1,5 @@
 use Rattle.std.proofs.Common.{sym, ap, subst, ◌∙◌}
-use Rattle.wp_memtable.specs.Versions.{AreInOrder}
+use Rattle.wp_model.specs.Versions.{AreInOrder}
 use Rattle.wp_keep.specs.Keep.{by_commits, staying, lasting, kept_of}
 use Rattle.wp_keep.proofs.Committed.{same_test}
 use Rattle.wp_keep.proofs.Order.{in_order_filter}

@@ -1,7 +1,7 @@
 use Rattle.std.proofs.Common.{◌≡◌, ℕ, ◌+◌, ◌≤◌, ◌==◌, List, length, take, drop, map, if◌then◌else◌}
 use Rattle.std.specs.Option.{option_or}
 use Rattle.wp_model.specs.Batch.{change_to, value_of}
-use Rattle.wp_memtable.specs.Versions.{version_at}
+use Rattle.wp_model.specs.Versions.{version_at}
 use Rattle.wp_memtable.specs.Memtable.{versions_of, AreWellOrdered, HavePlaces}
 use Rattle.wp_memtable.proofs.places.put_all.Given as goal
 

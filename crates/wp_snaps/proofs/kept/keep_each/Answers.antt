@@ -1,5 +1,5 @@
 use Rattle.std.proofs.Common.{Some, is_some, sym, ap, ◌∙◌, arith}
-use Rattle.wp_snaps.specs.Snapshots.{after_keep}
+use Rattle.wp_model.specs.Snapshots.{after_keep}
 use Rattle.wp_snaps.proofs.Shown.{shown, changes_at, get-shown_of}
 use Rattle.wp_snaps.proofs.Changes.{kept_at_next, kept_at_all}
 use Rattle.wp_snaps.proofs.Rooms.{room_above}
@@ -14,10 +14,10 @@ loop-s-preserved c =
     record {
       start = omega arith;
       within = λ _. omega arith;
-      kept = kept_at_next _ _ _ c.args.p c.loop-s.from c.in-Some.s c.loop-s.invariant.start next.not_before c.loop-s.invariant.kept (λ q low high. get-shown_of _ q ∙ ap shown (next.none_between q low high)) here;
+      old_commits = kept_at_next _ _ _ c.args.p c.loop-s.from c.in-Some.s c.loop-s.invariant.start next.not_before c.loop-s.invariant.old_commits (λ q low high. get-shown_of _ q ∙ ap shown (next.none_between q low high)) here;
       room = room_above _ _ c.loop-s.from c.args.c c.in-Some.s (Some c.keep.new.self) updated c.loop-s.invariant.room next.not_before;
     }
 
 pub returns : goal.returns
 returns c =
-    kept_at_all _ _ c.args.p c.loop-s.from c.args.c c.loop-s.invariant.start c.loop-s.invariant.within c.loop-s.invariant.kept (λ q low high. get-shown_of _ q ∙ ap shown (c.in_default.ensures q low high))
+    kept_at_all _ _ c.args.p c.loop-s.from c.args.c c.loop-s.invariant.start c.loop-s.invariant.within c.loop-s.invariant.old_commits (λ q low high. get-shown_of _ q ∙ ap shown (c.in_default.ensures q low high))

@@ -1,5 +1,5 @@
 use Rattle.std.proofs.Common.{◌-◌, ◌<◌, ◌≤◌}
-use Rattle.wp_snaps.specs.Snapshots.{ChangesWhere, overlaps, after_keep}
+use Rattle.wp_model.specs.Snapshots.{ChangesWhere, overlaps, after_keep}
 use Rattle.wp_snaps.specs.Room.{snapshots_of, HasRoom}
 use Rattle.wp_snaps.proofs.kept.keep_each.Given as goal
 
@@ -8,7 +8,7 @@ abbrev pub invariant-loop-s : goal.invariant-loop-s
 invariant-loop-s l = record {
   start : l.p ≤ l.from;
   within : l.p < l.from → l.from ≤ l.c;
-  kept : ChangesWhere (overlaps l.p l.from) (after_keep l.p) (snapshots_of l.fn.live) (snapshots_of l.live);
+  old_commits : ChangesWhere (overlaps l.p l.from) (after_keep l.p) (snapshots_of l.fn.live) (snapshots_of l.live);
   room : HasRoom l.live l.from l.c;
 }
 

@@ -1,6 +1,6 @@
 use Rattle.std.proofs.Common.{rules, not}
 use Rattle.std.proofs.lemmas.Map.Made.{filter_same_pairs}
-use Rattle.wp_locks.specs.Holder.{is_same}
+use Rattle.wp_model.specs.Holder.{is_same}
 use Rattle.wp_locks.proofs.Tables.{freed}
 use Rattle.wp_locks.proofs.locks.Locks.unlock_all.Goals as goal
 

@@ -1,5 +1,5 @@
 use Rattle.std.proofs.Common.{◌≡◌, ◌<◌, filter, length, refl, sym, arith}
-use Rattle.wp_memtable.proofs.KeyVersions.{other, removed_by, kept_by, found_at, found_nowhere, newest-removed}
+use Rattle.wp_memtable.proofs.KeyVersions.{other, removed_by, changes_in, found_at, found_nowhere, newest-removed}
 use Rattle.wp_memtable.proofs.key_versions.KeyVersions.remove.Goals as goal
 
 removed : (c : goal.Joined-remove) → c.remove.new.self.items ≡ filter (other c.args.n) c.self.inside.newest_first.items
@@ -26,11 +26,11 @@ returns-in-Some-clause-newest_first c = invariant_of-self c
 
 pub returns-in_default-clause-versions : goal.returns-in_default-clause-versions
 returns-in_default-clause-versions c =
-    rw (← c.self.view_is) (kept_by c.args.n _ c.newer_than-place.result c.get.result c.self.invariant c.newer_than-place.ensures (λ h. c.get.ensures.variant.1 (omega (arith, h, c.self.inside.newest_first.ok.0))) c.get.ensures.lookup (rw c.in-Some.is c.if-number-n.false))
+    rw (← c.self.view_is) (changes_in c.args.n _ c.newer_than-place.result c.get.result c.self.invariant c.newer_than-place.ensures (λ h. c.get.ensures.variant.1 (omega (arith, h, c.self.inside.newest_first.ok.0))) c.get.ensures.lookup (rw c.in-Some.is c.if-number-n.false))
 
 pub returns-in_default-2-clause-versions : goal.returns-in_default-2-clause-versions
 returns-in_default-2-clause-versions c =
-    rw (← c.self.view_is) (kept_by c.args.n _ c.newer_than-place.result c.get.result c.self.invariant c.newer_than-place.ensures (λ h. c.get.ensures.variant.1 (omega (arith, h, c.self.inside.newest_first.ok.0))) c.get.ensures.lookup (rw c.in_default.is tt))
+    rw (← c.self.view_is) (changes_in c.args.n _ c.newer_than-place.result c.get.result c.self.invariant c.newer_than-place.ensures (λ h. c.get.ensures.variant.1 (omega (arith, h, c.self.inside.newest_first.ok.0))) c.get.ensures.lookup (rw c.in_default.is tt))
 
 pub returns-in_default-clause-stood : goal.returns-in_default-clause-stood
 returns-in_default-clause-stood c = sym (found_nowhere c.args.n _ (returns-in_default-clause-versions c))

@@ -1,6 +1,6 @@
 use Rattle.std.proofs.Common.{sym, subst, ◌∙◌, ap, ◌++◌}
 use Rattle.std.proofs.lemmas.List.{append-nil}
-use Rattle.wp_memtable.specs.Versions.{AreInOrder}
+use Rattle.wp_model.specs.Versions.{AreInOrder}
 use Rattle.wp_memtable.specs.Memtable.{versions_of}
 use Rattle.wp_memtable.proofs.Listed.{in_order-versions_of}
 use Rattle.wp_memtable.proofs.memtable.Memtable.all.Goals as goal

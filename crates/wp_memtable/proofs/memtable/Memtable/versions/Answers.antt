@@ -1,5 +1,5 @@
 use Rattle.std.proofs.Common.{sym, ap, subst, ◌∙◌}
-use Rattle.wp_memtable.specs.Versions.{AreInOrder}
+use Rattle.wp_model.specs.Versions.{AreInOrder}
 use Rattle.wp_memtable.specs.Memtable.{numbered_of}
 use Rattle.wp_memtable.proofs.Listed.{in_order-versions_of, numbered_of-versions_of, versions_at}
 use Rattle.wp_memtable.proofs.memtable.Memtable.versions.Goals as goal

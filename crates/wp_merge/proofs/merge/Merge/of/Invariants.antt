@@ -1,6 +1,6 @@
 use Rattle.std.proofs.Common.{◌≡◌, ℕ, List, length}
 use Rattle.std.specs.Option.{option_or}
-use Rattle.wp_memtable.specs.Versions.{AreInOrder, version_at}
+use Rattle.wp_model.specs.Versions.{AreInOrder, version_at}
 use Rattle.wp_merge.specs.Merge.{first_at}
 use Rattle.wp_merge.proofs.merge.Merge.of.Given as goal
 

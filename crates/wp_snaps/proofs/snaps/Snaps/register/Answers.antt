@@ -1,6 +1,6 @@
 use Rattle.std.proofs.Common.{Some, is_some, sym, ap, ◌∙◌}
 use Rattle.std.proofs.lemmas.Result.{on_ok_weaker, on_err_weaker}
-use Rattle.wp_snaps.specs.Snapshots.{after_register}
+use Rattle.wp_model.specs.Snapshots.{after_register}
 use Rattle.wp_snaps.proofs.Shown.{shown, changes_at, shows_no_change}
 use Rattle.wp_snaps.proofs.snaps.Snaps.register.Goals as goal
 

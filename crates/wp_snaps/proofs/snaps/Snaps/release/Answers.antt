@@ -1,6 +1,6 @@
 use Rattle.std.proofs.Common.{◌<◌, Some, None, is_some, sym, ap, ◌∙◌, arith}
 use Rattle.std.proofs.lemmas.Bool.{iff_false}
-use Rattle.wp_snaps.specs.Snapshots.{after_release}
+use Rattle.wp_model.specs.Snapshots.{after_release}
 use Rattle.wp_snaps.proofs.Shown.{shown, changes_at, updated_twice, is_live, is_some-option_map, after_release-shared, after_release-last}
 use Rattle.wp_snaps.proofs.snaps.Snaps.release.Goals as goal
 use Rattle.wp_snaps.proofs.snaps.Snaps.release.Goals.{in-Some-1, in-None-1}

@@ -12,4 +12,4 @@ pub returns : goal.returns
 returns c =
     let found = rw c.unwrap.ensures at c.get.ensures.value in
     let is = get_of_entry _ _ c.args.s c.unwrap.result.now c.self.view_is found in
-    ap not (c.keeps.ensures ∙ sym (ap (λ x. option_map_or (λ y. contains y.kept c.args.p) x false) is))
+    ap not (c.keeps.ensures ∙ sym (ap (λ x. option_map_or (λ y. contains y.old_commits c.args.p) x false) is))

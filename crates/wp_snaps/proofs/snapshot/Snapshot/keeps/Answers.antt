@@ -7,4 +7,4 @@ pub returns : goal.returns
 returns c =
     c.contains.ensures
     ∙ sym (contains-set_of _ c.args.p)
-    ∙ ap (λ x. contains x.snapshot.kept c.args.p) c.self.view_is
+    ∙ ap (λ x. contains x.snapshot.old_commits c.args.p) c.self.view_is

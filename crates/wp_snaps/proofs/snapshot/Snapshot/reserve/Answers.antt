@@ -3,5 +3,5 @@ use Rattle.wp_snaps.proofs.snapshot.Snapshot.reserve.Goals as goal
 
 pub returns-clause-same_snapshot : goal.returns-clause-same_snapshot
 returns-clause-same_snapshot c =
-    let kept = set_of_reordered _ _ c.reserve.ensures.keys.2 in
+    let old_commits = set_of_reordered _ _ c.reserve.ensures.keys.2 in
     rw (← c.self.view_is) (cc)

@@ -1,5 +1,0 @@
-use Rattle.wp_core.proofs.Growth.{behind_front}
-use Rattle.wp_core.proofs.laws.legal_at_each_entry.Goals as goal
-
-pub returns : goal.returns
-returns c = λ front more entry. behind_front front entry more

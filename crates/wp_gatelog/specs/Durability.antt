@@ -1,0 +1,32 @@
+-- What lasts on a disk from one moment to the next.
+use Rattle.std.specs.Prelude.{◌≡◌, ℕ, List, [], ◌∷◌, ◌++◌, ⊤}
+use Rattle.wp_outside.specs.Disk.{Moment, IfKnown}
+use Rattle.wp_gatelog.specs.Log.{IsAcknowledged}
+use Rattle.wp_gatelog.specs.Spelling.{Gated, log_of}
+
+-- ---- moments
+
+-- each of the moments that came since old has P if the one before it has
+abbrev pub PassedOn : (Moment → Type 0) → List Moment → List Moment → Type 0
+PassedOn P old [] = ⊤
+PassedOn P old (m ∷ more) = (IfKnown (more ++ old) P → P m) × PassedOn P old more
+
+-- new is old with further moments on top, and from each moment to the next, in time, what had P keeps it
+abbrev pub Preserves : (Moment → Type 0) → List Moment → List Moment → Type 0
+Preserves P old new = (more : List Moment) × (new ≡ more ++ old) × PassedOn P old more
+
+-- ---- records
+
+-- The bytes begin with acknowledged records, of which these are the first, and a further gate, any byte, stands behind
+-- them. Whatever comes then, bytes that spell records spell these first.
+pub record HasAcknowledged (magic : List ℕ) (id : ℕ) (records : List (List ℕ)) (bytes : List ℕ) : Type 0 where
+  pub gated : List Gated
+  pub more : List (List ℕ)
+  pub acknowledged : IsAcknowledged gated (records ++ more)
+  pub gate : ℕ
+  pub behind : List ℕ
+  pub spelling : bytes ≡ log_of magic id 1 gated ++ gate ∷ behind
+
+-- if the bytes hold the records, so does each image with P
+abbrev pub Spares : List ℕ → ℕ → List (List ℕ) → List ℕ → (List ℕ → Type 0) → Type 0
+Spares magic id records bytes P = HasAcknowledged magic id records bytes → (image : List ℕ) → P image → HasAcknowledged magic id records image

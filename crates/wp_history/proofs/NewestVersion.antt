@@ -1,0 +1,307 @@
+-- The newest committed version of a key is the store's value.
+use Rattle.std.proofs.Common.{◌≡◌, ℕ, zero, suc, ◌+◌, ◌<◌, ◌≤◌, Bool, true, false, ◌||◌, cond, List, [], ◌∷◌, ◌++◌, length, take, drop, Option, Some, None, refl, sym, ap, ◌∙◌, subst, inl, inr, arith}
+use Rattle.std.specs.Prelude.{option_map, unwrap_or}
+use Rattle.std.specs.List.{list_any}
+use Rattle.std.proofs.Math.Seq.{take-append_seam}
+use Rattle.std.proofs.lemmas.List.{take-append-drop, length-take-le}
+use Rattle.std.proofs.lemmas.Bool.{cases_lt, cases_Bool, cases_eq, cases_order, or_right, eqb-true, eq-eqb, ne_eqb}
+use Rattle.wp_model.specs.declared.change.Change.{Change}
+use Rattle.wp_model.specs.declared.entry.Entry.{Entry}
+use Rattle.wp_model.specs.declared.entry.Entry.TheVariants.{Write, Prepare, Commit, Undo, Close}
+use Rattle.wp_model.specs.Batch.{change_to}
+use Rattle.wp_model.specs.History.{entry_at, is_prepare, batch_at, decides, is_undecided, newest, value_at}
+use Rattle.wp_model.specs.Legal.{changes_in, IsLegal, IsLegalNext, undone_last, prior}
+use Rattle.wp_model.specs.Decision.{version_in, entry_version, IsNewestCommitted, HasNoneCommitted}
+use Rattle.wp_history.specs.Committed.{counts_in, counts, committed_version}
+use Rattle.wp_history.proofs.Growth.{entry_at_old, entry_at_next, entry_at_past, length_next, by_growth, legal_before, behind_front, undecided_prepared, decided_next}
+use Rattle.wp_history.proofs.Undecided.{undecided_within, never_decided}
+use Rattle.wp_history.proofs.Undone.{last_undo}
+use Rattle.wp_history.proofs.Newest.{newest_next, batch_at_old}
+use Rattle.wp_history.proofs.Counting.{counts_within, counts_from, committed_from, entry_version_old}
+use Rattle.wp_history.proofs.Held.{prior_to}
+use Rattle.wp_history.proofs.Above.{Holds, NoneAbove, legal_none_above, none_above, version_held, is_changed_from}
+
+-- ---- what is committed, with an entry more
+
+none_counts_past : (history : List Entry) (q : ℕ) (key : List ℕ) → length history < q → committed_version history q key ≡ None
+none_counts_past history q key past = ap (λ (at : Option Entry). cond (counts_in history q at) (version_in at key) None) (entry_at_past history q past)
+
+no_version_counts : (history : List Entry) (q : ℕ) (key : List ℕ) → entry_version history q key ≡ None → committed_version history q key ≡ None
+no_version_counts history q key none =
+    elim (counts history q) as (λ b. cond b (entry_version history q key) None ≡ None) [
+      | true ↦ none
+      | false ↦ refl
+    ]
+
+or_false : (a b : Bool) → b ≡ false → (a || b) ≡ a
+or_false true b e = refl
+or_false false b e = e
+
+counts_as_before : (history : List Entry) (entry : Entry) (q : ℕ) (at : Option Entry) → decides q entry ≡ false → counts_in (history ++ entry ∷ []) q at ≡ counts_in history q at
+counts_as_before history entry q None other = refl
+counts_as_before history entry q (Some (Write batch)) other = refl
+counts_as_before history entry q (Some (Prepare name batch)) other = decided_next history entry q ∙ or_false (list_any (decides q) history) (decides q entry) other
+counts_as_before history entry q (Some (Commit p)) other = refl
+counts_as_before history entry q (Some (Undo p batch)) other = refl
+counts_as_before history entry q (Some (Close p)) other = refl
+
+version_stays : (history : List Entry) (entry : Entry) (q : ℕ) (key : List ℕ) → q ≤ length history → decides q entry ≡ false → committed_version (history ++ entry ∷ []) q key ≡ committed_version history q key
+version_stays history entry q key le other =
+    ap (λ (at : Option Entry). cond (counts_in (history ++ entry ∷ []) q at) (version_in at key) None) (entry_at_old history (entry ∷ []) q le)
+    ∙ ap (λ (b : Bool). cond b (entry_version history q key) None) (counts_as_before history entry q (entry_at history q) other)
+
+counts_decided : (history : List Entry) (p : ℕ) (at : Option Entry) → is_prepare at ≡ true → list_any (decides p) history ≡ true → counts_in history p at ≡ true
+counts_decided history p None prepared decided = absurd cc
+counts_decided history p (Some (Write batch)) prepared decided = absurd cc
+counts_decided history p (Some (Prepare name batch)) prepared decided = decided
+counts_decided history p (Some (Commit q)) prepared decided = absurd cc
+counts_decided history p (Some (Undo q batch)) prepared decided = absurd cc
+counts_decided history p (Some (Close q)) prepared decided = absurd cc
+
+-- a decided prepare is committed
+decided_version : (history : List Entry) (entry : Entry) (p : ℕ) (key : List ℕ) → is_undecided history p ≡ true → decides p entry ≡ true → committed_version (history ++ entry ∷ []) p key ≡ entry_version history p key
+decided_version history entry p key undecided it =
+    let le = (undecided_within history p undecided).1 in
+    let decided : list_any (decides p) (history ++ entry ∷ []) ≡ true = decided_next history entry p ∙ or_right (list_any (decides p) history) (decides p entry) it in
+    ap (λ (at : Option Entry). cond (counts_in (history ++ entry ∷ []) p at) (version_in at key) None) (entry_at_old history (entry ∷ []) p le)
+    ∙ ap (λ (b : Bool). cond b (entry_version history p key) None) (counts_decided (history ++ entry ∷ []) p (entry_at history p) (undecided_prepared history p undecided) decided)
+
+next_version : (history : List Entry) (entry : Entry) (key : List ℕ) → committed_version (history ++ entry ∷ []) (length history + 1) key ≡ cond (counts_in (history ++ entry ∷ []) (length history + 1) (Some entry)) (change_to (changes_in entry) key) None
+next_version history entry key = ap (λ (at : Option Entry). cond (counts_in (history ++ entry ∷ []) (length history + 1) at) (version_in at key) None) (entry_at_next history entry)
+
+-- ---- the law at one key
+
+pub record IsLawful (history : List Entry) (key : List ℕ) : Type 0 where
+  pub newest_counts : (p : ℕ) (value : Option (List ℕ)) → committed_version history p key ≡ Some value → ((q : ℕ) → p < q → committed_version history q key ≡ None) → value ≡ newest history key
+  pub none_counts : ((p : ℕ) → committed_version history p key ≡ None) → newest history key ≡ None
+
+-- where no version of the key is new, and the store keeps its value
+lawful_same : (history grown : List Entry) (key : List ℕ) → IsLawful history key → ((q : ℕ) → committed_version grown q key ≡ committed_version history q key) → newest grown key ≡ newest history key → IsLawful grown key
+lawful_same history grown key lawful same value = record {
+  newest_counts = λ p x here above. lawful.newest_counts p x (sym (same p) ∙ here) (λ q lt. sym (same q) ∙ above q lt) ∙ sym value;
+  none_counts = λ none. value ∙ lawful.none_counts (λ q. sym (same q) ∙ none q);
+}
+
+-- where the store's value is the version at d, and none above counts
+lawful_top : (grown : List Entry) (key : List ℕ) (d : ℕ) → committed_version grown d key ≡ Some (newest grown key) → ((q : ℕ) → d < q → committed_version grown q key ≡ None) → IsLawful grown key
+lawful_top grown key d top above = record {
+  newest_counts = λ p x here above_p. elim (cases_order p d) [
+    | inl same ↦ let again : committed_version grown d key ≡ Some x = ap (λ (n : ℕ). committed_version grown n key) (sym same) ∙ here in cc
+    | inr apart ↦ elim apart [
+      | inl below ↦ let nothing = above_p d below in absurd cc
+      | inr past ↦ let nothing = above p past in absurd cc
+    ]
+  ];
+  none_counts = λ none. let nothing = none d in absurd cc;
+}
+
+-- ---- with an entry that commits nothing under the key
+
+nothing_past : (history : List Entry) (entry : Entry) (key : List ℕ) → committed_version (history ++ entry ∷ []) (length history + 1) key ≡ None → (q : ℕ) → length history < q → committed_version (history ++ entry ∷ []) q key ≡ None
+nothing_past history entry key next q past =
+    elim (cases_order q (length history + 1)) [
+      | inl same ↦ rw same next
+      | inr apart ↦ elim apart [
+        | inl below ↦ absurd (omega arith)
+        | inr beyond ↦ none_counts_past (history ++ entry ∷ []) q key (omega (arith, length_next history entry))
+      ]
+    ]
+
+same_versions : (history : List Entry) (entry : Entry) (key : List ℕ) → committed_version (history ++ entry ∷ []) (length history + 1) key ≡ None → ((q : ℕ) → q ≤ length history → decides q entry ≡ true → committed_version (history ++ entry ∷ []) q key ≡ committed_version history q key)
+    → (q : ℕ) → committed_version (history ++ entry ∷ []) q key ≡ committed_version history q key
+same_versions history entry key next decided q =
+    elim (cases_lt (length history) q) [
+      | inl past ↦ nothing_past history entry key next q past ∙ sym (none_counts_past history q key past)
+      | inr le ↦ elim (cases_Bool (decides q entry)) [
+        | inl it ↦ decided q le it
+        | inr other ↦ version_stays history entry q key le other
+      ]
+    ]
+
+-- a prepare that has no version of the key brings none when it is decided
+nothing_decided : (history : List Entry) (entry : Entry) (key : List ℕ) (p : ℕ) → change_to (batch_at history p) key ≡ None → is_undecided history p ≡ true → ((q : ℕ) → decides q entry ≡ true → p ≡ q)
+    → (q : ℕ) → q ≤ length history → decides q entry ≡ true → committed_version (history ++ entry ∷ []) q key ≡ committed_version history q key
+nothing_decided history entry key p none undecided it q le decided =
+    let nothing : entry_version history q key ≡ None = ap (λ (n : ℕ). entry_version history n key) (sym (it q decided)) ∙ version_held history key p undecided ∙ none in
+    no_version_counts (history ++ entry ∷ []) q key (entry_version_old history (entry ∷ []) q key le ∙ nothing) ∙ sym (no_version_counts history q key nothing)
+
+-- ---- with an entry that keeps what it commits
+
+kept_lawful : (history : List Entry) (entry : Entry) (key : List ℕ) → IsLawful history key → ((q : ℕ) → decides q entry ≡ false)
+    → committed_version (history ++ entry ∷ []) (length history + 1) key ≡ change_to (changes_in entry) key → newest (history ++ entry ∷ []) key ≡ unwrap_or (change_to (changes_in entry) key) (newest history key) → IsLawful (history ++ entry ∷ []) key
+kept_lawful history entry key lawful never version value =
+    let grown = history ++ entry ∷ [] in
+    elim (change_to (changes_in entry) key) as (λ change. change_to (changes_in entry) key ≡ change → IsLawful grown key) [
+      | None ↦ λ e. lawful_same history grown key lawful (same_versions history entry key (version ∙ e) (λ q le it. let other = never q in absurd cc)) (value ∙ ap (λ (c : Option (Option (List ℕ))). unwrap_or c (newest history key)) e)
+      | Some x ↦ λ e.
+          let store : newest grown key ≡ x = value ∙ ap (λ (c : Option (Option (List ℕ))). unwrap_or c (newest history key)) e in
+          lawful_top grown key (length history + 1) (version ∙ e ∙ ap (λ (v : Option (List ℕ)). Some v) (sym store)) (λ q lt. none_counts_past grown q key (omega (arith, length_next history entry)))
+    ] refl
+
+restored_same : (change : Option (Option (List ℕ))) (value : Option (List ℕ)) → unwrap_or (option_map (λ _. value) change) value ≡ value
+restored_same None value = refl
+restored_same (Some x) value = refl
+
+undo_keeps_store : (history : List Entry) (p : ℕ) (batch : List Change) (key : List ℕ) → IsLegal history → IsLegalNext history (Undo p batch) → newest (history ++ Undo p batch ∷ []) key ≡ newest history key
+undo_keeps_store history p batch key legal behind = newest_next history (Undo p batch) key legal behind.names_undecided
+
+-- what an undo holds under a key of its prepare
+undone_to : (history : List Entry) (p : ℕ) (batch : List Change) (key : List ℕ) → batch ≡ prior history (batch_at history p) → change_to batch key ≡ option_map (λ _. newest history key) (change_to (batch_at history p) key)
+undone_to history p batch key restores = ap (λ (changes : List Change). change_to changes key) restores ∙ prior_to history (batch_at history p) key
+
+undo_lawful : (history : List Entry) (p : ℕ) (batch : List Change) (key : List ℕ) → IsLegal history → IsLegalNext history (Undo p batch) → IsLawful history key → IsLawful (history ++ Undo p batch ∷ []) key
+undo_lawful history p batch key legal behind lawful =
+    let value : unwrap_or (change_to batch key) (newest history key) ≡ newest history key = ap (λ (c : Option (Option (List ℕ))). unwrap_or c (newest history key)) (undone_to history p batch key behind.restores_prior) ∙ restored_same (change_to (batch_at history p) key) (newest history key) in
+    kept_lawful history (Undo p batch) key lawful (λ q. refl) (next_version history (Undo p batch) key) (undo_keeps_store history p batch key legal behind ∙ sym value)
+
+-- ---- with a decision
+
+commit_lawful : (history : List Entry) (p : ℕ) (key : List ℕ) → IsLegal history → NoneAbove history → IsLegalNext history (Commit p) → IsLawful history key → IsLawful (history ++ Commit p ∷ []) key
+commit_lawful history p key legal none behind lawful =
+    let grown = history ++ Commit p ∷ [] in
+    let value = newest_next history (Commit p) key legal behind.names_undecided in
+    let next = next_version history (Commit p) key in
+    elim (change_to (batch_at history p) key) as (λ change. change_to (batch_at history p) key ≡ change → IsLawful grown key) [
+      | None ↦ λ e. lawful_same history grown key lawful (same_versions history (Commit p) key next (nothing_decided history (Commit p) key p e behind.names_undecided (λ q. eqb-true p q))) (value ∙ ap (λ (c : Option (Option (List ℕ))). unwrap_or c (newest history key)) e)
+      | Some x ↦ λ e.
+          let store : newest grown key ≡ x = value ∙ ap (λ (c : Option (Option (List ℕ))). unwrap_or c (newest history key)) e in
+          let version : committed_version grown p key ≡ Some x = decided_version history (Commit p) p key behind.names_undecided (eq-eqb p p refl) ∙ version_held history key p behind.names_undecided ∙ e in
+          let holds : Holds history key p = record { undecided = behind.names_undecided; changed = is_changed_from (batch_at history p) key x e } in
+          lawful_top grown key p (version ∙ ap (λ (v : Option (List ℕ)). Some v) (sym store)) (λ q lt. elim (cases_lt (length history) q) [
+            | inl past ↦ nothing_past history (Commit p) key next q past
+            | inr le ↦ no_version_counts grown q key (entry_version_old history (Commit p ∷ []) q key le ∙ none_above history key p q none behind.undo_is_closed holds lt)
+          ])
+    ] refl
+
+-- the undo that ends a history, with its prepare below it, is the version of each key of that prepare
+pub record EndsUndone (history : List Entry) (key : List ℕ) (p : ℕ) : Type 0 where
+  pub below : p < length history
+  pub version : committed_version history (length history) key ≡ Some (newest history key)
+
+undo_version : (front : List Entry) (p : ℕ) (batch : List Change) (key : List ℕ) (x : Option (List ℕ)) → IsLegal (front ++ Undo p batch ∷ []) → change_to (batch_at (front ++ Undo p batch ∷ []) p) key ≡ Some x → EndsUndone (front ++ Undo p batch ∷ []) key p
+undo_version front p batch key x legal changed =
+    let history = front ++ Undo p batch ∷ [] in
+    let before : IsLegal front = legal_before front (Undo p batch ∷ []) legal in
+    let behind : IsLegalNext front (Undo p batch) = behind_front front (Undo p batch) [] legal in
+    let within : p ≤ length front = (undecided_within front p behind.names_undecided).1 in
+    let old : change_to (batch_at front p) key ≡ Some x = ap (λ (changes : List Change). change_to changes key) (sym (batch_at_old front (Undo p batch ∷ []) p within)) ∙ changed in
+    let held : change_to batch key ≡ Some (newest front key) = undone_to front p batch key behind.restores_prior ∙ ap (option_map (λ _. newest front key)) old in
+    record {
+      below = omega (arith, length_next front (Undo p batch));
+      version = ap (λ (n : ℕ). committed_version history n key) (length_next front (Undo p batch)) ∙ next_version front (Undo p batch) key ∙ held ∙ ap (λ (v : Option (List ℕ)). Some v) (sym (undo_keeps_store front p batch key before behind));
+    }
+
+ends_undone : (history : List Entry) (p : ℕ) (key : List ℕ) (x : Option (List ℕ)) → IsLegal history → undone_last history ≡ Some p → change_to (batch_at history p) key ≡ Some x → EndsUndone history key p
+ends_undone history p key x legal undone changed =
+    let last = last_undo history p undone in
+    let P : List Entry → Type 0 = λ h. IsLegal h → change_to (batch_at h p) key ≡ Some x → EndsUndone h key p in
+    subst P (sym last.is) (undo_version last.front p last.batch key x) legal changed
+
+close_lawful : (history : List Entry) (p : ℕ) (key : List ℕ) → IsLegal history → IsLegalNext history (Close p) → IsLawful history key → IsLawful (history ++ Close p ∷ []) key
+close_lawful history p key legal behind lawful =
+    let grown = history ++ Close p ∷ [] in
+    let value : newest grown key ≡ newest history key = newest_next history (Close p) key legal behind.names_undecided in
+    let next = next_version history (Close p) key in
+    elim (change_to (batch_at history p) key) as (λ change. change_to (batch_at history p) key ≡ change → IsLawful grown key) [
+      | None ↦ λ e. lawful_same history grown key lawful (same_versions history (Close p) key next (nothing_decided history (Close p) key p e behind.names_undecided (λ q. eqb-true p q))) value
+      | Some x ↦ λ e.
+          let last = ends_undone history p key x legal behind.undo_is_closed e in
+          let below = last.below in
+          let other : decides (length history) (Close p) ≡ false = ne_eqb p (length history) (λ same. omega arith) in
+          lawful_top grown key (length history) (version_stays history (Close p) (length history) key (omega arith) other ∙ last.version ∙ ap (λ (v : Option (List ℕ)). Some v) (sym value)) (nothing_past history (Close p) key next)
+    ] refl
+
+-- ---- with any entry
+
+prepare_version : (history : List Entry) (name : List ℕ) (batch : List Change) (key : List ℕ) → IsLegal history → committed_version (history ++ Prepare name batch ∷ []) (length history + 1) key ≡ None
+prepare_version history name batch key legal =
+    let decided : list_any (decides (length history + 1)) (history ++ Prepare name batch ∷ []) ≡ false = decided_next history (Prepare name batch) (length history + 1) ∙ or_false _ false refl ∙ never_decided history legal in
+    next_version history (Prepare name batch) key ∙ ap (λ (b : Bool). cond b (change_to batch key) None) decided
+
+lawful_next : (history : List Entry) (entry : Entry) (key : List ℕ) → IsLegal history → IsLegalNext history entry → IsLawful history key → IsLawful (history ++ entry ∷ []) key
+lawful_next history (Write batch) key legal behind lawful = kept_lawful history (Write batch) key lawful (λ q. refl) (next_version history (Write batch) key) (newest_next history (Write batch) key legal tt)
+lawful_next history (Prepare name batch) key legal behind lawful = lawful_same history (history ++ Prepare name batch ∷ []) key lawful (same_versions history (Prepare name batch) key (prepare_version history name batch key legal) (λ q le it. absurd cc)) (newest_next history (Prepare name batch) key legal tt)
+lawful_next history (Commit p) key legal behind lawful = commit_lawful history p key legal (legal_none_above history legal) behind lawful
+lawful_next history (Undo p batch) key legal behind lawful = undo_lawful history p batch key legal behind lawful
+lawful_next history (Close p) key legal behind lawful = close_lawful history p key legal behind lawful
+
+version_in_none : (p : ℕ) (key : List ℕ) → entry_version [] p key ≡ None
+version_in_none zero key = refl
+version_in_none (suc n) key = refl
+
+lawful_none : (key : List ℕ) → IsLawful [] key
+lawful_none key = record {
+  newest_counts = λ p x here above. let nothing = no_version_counts [] p key (version_in_none p key) in absurd cc;
+  none_counts = λ none. refl;
+}
+
+legal_lawful : (history : List Entry) → IsLegal history → (key : List ℕ) → IsLawful history key
+legal_lawful history legal key = by_growth (λ h. IsLawful h key) (lawful_none key) (λ h entry _ before behind lawful. lawful_next h entry key before behind lawful) history legal
+
+-- ---- by the first entries, searched backwards
+
+-- no entry above p has a version of the key that counts
+pub record NoneCountsAbove (front : List Entry) (key : List ℕ) (p : ℕ) : Type 0 where
+  pub above : (q : ℕ) → p < q → committed_version front q key ≡ None
+
+-- the version of the key at p is the newest one that is committed at n, and it is the store's value there
+pub record IsNewest (history : List Entry) (key : List ℕ) (n p : ℕ) (value : Option (List ℕ)) : Type 0 where
+  pub newest : IsNewestCommitted history key n p
+  pub there : entry_version history p key ≡ Some value
+  pub stored : value_at history key n ≡ value
+
+version_counted : (front : List Entry) (p : ℕ) (key : List ℕ) (value : Option (List ℕ)) → committed_version front p key ≡ Some value → (counts front p ≡ true) × (entry_version front p key ≡ Some value)
+version_counted front p key value e =
+    elim (counts front p) as (λ b. cond b (entry_version front p key) None ≡ Some value → (b ≡ true) × (entry_version front p key ≡ Some value)) [
+      | true ↦ λ here. (refl, here)
+      | false ↦ λ here. absurd cc
+    ] e
+
+newest_of : (front more : List Entry) (key : List ℕ) (p : ℕ) (value : Option (List ℕ)) → IsLegal (front ++ more) → committed_version front p key ≡ Some value → NoneCountsAbove front key p → IsNewest (front ++ more) key (length front) p value
+newest_of front more key p value legal here none =
+    let counted = version_counted front p key value here in
+    let there : entry_version (front ++ more) p key ≡ Some value = entry_version_old front more p key (counts_within front p counted.0) ∙ counted.1 in
+    record {
+      newest = record {
+        value = value;
+        there = there;
+        committed = committed_from front more p counted.0;
+        newest = λ q lt committed.
+            let counts_q = counts_from front more q legal committed in
+            entry_version_old front more q key (counts_within front q counts_q) ∙ sym (ap (λ (b : Bool). cond b (entry_version front q key) None) counts_q) ∙ none.above q lt;
+      };
+      there = there;
+      stored = ap (λ (h : List Entry). newest h key) (take-append_seam front more) ∙ sym ((legal_lawful front (legal_before front more legal) key).newest_counts p value here none.above);
+    }
+
+pub newest_found : (history : List Entry) (key : List ℕ) (n p : ℕ) (value : Option (List ℕ)) → IsLegal history → n ≤ length history → Some value ≡ committed_version (take n history) p key → NoneCountsAbove (take n history) key p → IsNewest history key n p value
+newest_found history key n p value legal le here none =
+    let whole = take-append-drop n history in
+    let P : List Entry → ℕ → Type 0 = λ h m. IsNewest h key m p value in
+    let found = newest_of (take n history) (drop n history) key p value (subst IsLegal (sym whole) legal) (sym here) none in
+    subst (λ (m : ℕ). P history m) (length-take-le n history le) (subst (λ (h : List Entry). P h (length (take n history))) whole found)
+
+-- the key has no version that is committed at n, and the store has nothing under it there
+pub record IsNoneNewest (history : List Entry) (key : List ℕ) (n : ℕ) : Type 0 where
+  pub none : HasNoneCommitted history key n
+  pub missing : value_at history key n ≡ None
+
+none_newest_of : (front more : List Entry) (key : List ℕ) → IsLegal (front ++ more) → NoneCountsAbove front key 0 → IsNoneNewest (front ++ more) key (length front)
+none_newest_of front more key legal none =
+    let nowhere : (p : ℕ) → committed_version front p key ≡ None = λ p. elim (cases_eq p 0) [
+      | inl start ↦ rw start (no_version_counts front 0 key refl)
+      | inr other ↦ none.above p (omega arith)
+    ] in
+    record {
+      none = λ p committed.
+          let counts_p = counts_from front more p legal committed in
+          entry_version_old front more p key (counts_within front p counts_p) ∙ sym (ap (λ (b : Bool). cond b (entry_version front p key) None) counts_p) ∙ nowhere p;
+      missing = ap (λ (h : List Entry). newest h key) (take-append_seam front more) ∙ (legal_lawful front (legal_before front more legal) key).none_counts nowhere;
+    }
+
+pub none_found : (history : List Entry) (key : List ℕ) (n p : ℕ) → IsLegal history → n ≤ length history → p ≡ 0 → NoneCountsAbove (take n history) key p → IsNoneNewest history key n
+none_found history key n p legal le start none =
+    let whole = take-append-drop n history in
+    let above : NoneCountsAbove (take n history) key 0 = subst (NoneCountsAbove (take n history) key) start none in
+    let found = none_newest_of (take n history) (drop n history) key (subst IsLegal (sym whole) legal) above in
+    subst (λ (m : ℕ). IsNoneNewest history key m) (length-take-le n history le) (subst (λ (h : List Entry). IsNoneNewest h key (length (take n history))) whole found)

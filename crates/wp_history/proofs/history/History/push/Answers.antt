@@ -1,0 +1,15 @@
+use Rattle.std.proofs.Common.{◌≡◌, ◌+◌, ◌≤◌, vec_len, ap, arith}
+use Rattle.wp_history.specs.History.{RoomyHistory}
+use Rattle.wp_history.proofs.Undecided.{grows_with}
+use Rattle.wp_history.proofs.history.History.push.Goals as goal
+
+pub invariant_of-self : goal.invariant_of-self
+invariant_of-self c =
+    let same = ap (λ (h : RoomyHistory). h.entries) c.self.view_is in
+    let pushed = rw c.unwrap.ensures at c.push.ensures.items in
+    let longer : vec_len c.push.new.self ≡ vec_len c.self.inside.entries + 1 = rw c.unwrap.ensures at c.push.ensures.len in
+    let room : 1 ≤ c.self.inside.room = rw (← c.self.view_is) at c.requires.room in (
+      grows_with _ _ _ c.args.entry _ _ _ c.self.invariant.0 same c.requires.legal c.published-number.ensures.value c.requires.few pushed c.note_undecided.ensures.numbers,
+      omega (arith, c.self.invariant.1, c.push.ensures.capacity),
+      omega (arith, c.self.invariant.2, c.note_undecided.ensures.len, c.note_undecided.ensures.capacity),
+    )

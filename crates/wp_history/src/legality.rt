@@ -1,0 +1,99 @@
+//! Which entry may stand behind those of a history.
+ghost use Rattle.std.specs.Prelude.{◌≡◌, ◌↔◌, true};
+ghost use Rattle.wp_model.specs.Batch.{is_batch};
+ghost use Rattle.wp_model.specs.History.{is_undecided, batch_at, newest};
+ghost use Rattle.wp_model.specs.Legal.{AreFree, IsLegalNext, UndoIsClosed, undone_last, change_that_leaves, prior};
+ghost use Rattle.wp_history.specs.Growth.{undone_by};
+
+use crate::history::History;
+use wp_model::{Batch, Change, Entry, Key, Seq};
+
+/// The prepare that the entry undoes.
+fn undone_by(entry: &Entry) -> Option<Seq>
+    ensures { result ≡ undone_by entry.now }
+{
+    match entry {
+        Entry::Undo(p, _) => Some(*p),
+        Entry::Write(_) | Entry::Prepare(_, _) | Entry::Commit(_) | Entry::Close(_) => None,
+    }
+}
+
+impl History {
+    /// Whether the entry may stand behind those of the history.
+    pub fn is_legal_next(&self, entry: &Entry) -> bool
+        ensures { (result ≡ true) ↔ IsLegalNext self.now.entries entry.now }
+    {
+        if !self.is_closed_by(entry) {
+            return false;
+        }
+        match entry {
+            Entry::Write(batch) => self.are_free(batch),
+            Entry::Prepare(name, batch) => self.are_free(batch) && self.named(name).is_none(),
+            Entry::Commit(p) => self.is_undecided(*p),
+            Entry::Undo(p, batch) => self.is_undecided(*p) && self.is_prior(*p, batch),
+            Entry::Close(p) => self.is_undecided(*p),
+        }
+    }
+
+    /// Whether the entry is the Close of an undo that stands last, or no Close where none does.
+    fn is_closed_by(&self, entry: &Entry) -> bool
+        ensures { (result ≡ true) ↔ UndoIsClosed self.now.entries entry.now }
+    {
+        match entry {
+            Entry::Close(p) => self.undone_last() == Some(*p),
+            Entry::Write(_) | Entry::Prepare(_, _) | Entry::Commit(_) | Entry::Undo(_, _) => {
+                self.undone_last().is_none()
+            }
+        }
+    }
+
+    /// The prepare that the last entry undoes.
+    #[tactic(auto, using(crate::proofs::Undone::undone_at_last, crate::proofs::Undone::none_undone))]
+    fn undone_last(&self) -> Option<Seq>
+        ensures { result ≡ undone_last self.now.entries }
+    {
+        undone_by(self.entries().last()?)
+    }
+
+    fn are_free(&self, batch: &Batch) -> bool
+        ensures free { (result ≡ true) ↔ AreFree self.now.entries batch.now }
+        ensures batch { is_batch batch.now ≡ true }
+    {
+        for change in batch.changes() {
+            if self.holder_of(change.key()).is_some() {
+                return false;
+            }
+        }
+        true
+    }
+
+    /// Whether the batch holds what the keys of an undecided prepare have in the store.
+    fn is_prior(&self, p: Seq, batch: &Batch) -> bool
+        requires { is_undecided self.now.entries p ≡ true }
+        ensures prior { (result ≡ true) ↔ (batch.now ≡ prior self.now.entries (batch_at self.now.entries p)) }
+        ensures batch { is_batch batch.now ≡ true }
+    {
+        let prepared = self.batch_at(p).changes();
+        let restored = batch.changes();
+        if prepared.len() != restored.len() {
+            return false;
+        }
+        for (i, change) in prepared.iter().enumerate() {
+            if !self.restores(&restored[i], change.key()) {
+                return false;
+            }
+        }
+        true
+    }
+
+    /// Whether the change leaves under the key what the store has there.
+    fn restores(&self, change: &Change, key: &Key) -> bool
+        ensures { (result ≡ true) ↔ (change.now ≡ change_that_leaves key.now (newest self.now.entries key.now)) }
+    {
+        match (change, self.value_at(key, self.published())) {
+            (Change::Put(other, value), Some(old)) => other == key && value == old,
+            (Change::Del(other), None) => other == key,
+            _ => false,
+        }
+    }
+}

@@ -1,9 +1,0 @@
-use Rattle.std.proofs.Common.{ℕ, List, subst}
-use Rattle.wp_wal.specs.Spelling.{MAGIC, AreEntries}
-use Rattle.wp_wal.proofs.EntriesLemmas.{AreEntries-first}
-use Rattle.wp_wal.proofs.laws.held_history_comes_first.Goals as goal
-
-pub returns : goal.returns
-returns c = λ id other history longer bytes holds spells.
-    let more = c.held_records_come_first.ensures.first bytes MAGIC id other holds.0 spells.0 holds.1 spells.1 in
-    AreEntries-first c.spellings_differ.ensures 1 holds.0 more.0 history longer holds.2 (subst (λ (all : List (List ℕ)). AreEntries 1 all longer) more.1 spells.2)
