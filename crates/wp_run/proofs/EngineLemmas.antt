@@ -9,9 +9,10 @@ use Rattle.wp_entry.specs.Record.{FormRecord, IsRecord}
 use Rattle.wp_wal.specs.Spelling.{AreEntries, IsLogOrNext}
 use Rattle.wp_wal.specs.Wal.{Reserved, State as WalState, reserved_of, LeavesHistory, LeavesHistoryOrNext, StoresHistory, IsReserved}
 use Rattle.wp_run.specs.Engine.{bit}
-use Rattle.wp_run.specs.Kept.{IsLogOrOneMore, KeptBy, AreLegalNext, AreNext, IsWhole}
+use Rattle.wp_run.specs.Kept.{IsLogOrOneMore, KeptBy, IsWhole}
+use Rattle.wp_session.specs.Next.{AreLegalNext, AreNext}
 use Rattle.wp_wal.specs.Wal.{LosesNothing}
-use Rattle.wp_run.proofs.PlanLemmas.{LastIs}
+use Rattle.wp_session.proofs.PlanLemmas.{LastIs}
 use Rattle.wp_run.proofs.StepLemmas.{false_is_true}
 
 -- ---- what records spell ends closed

@@ -12,10 +12,10 @@ use Rattle.wp_model.specs.Legal.{IsLegal}
 use Rattle.wp_text.specs.declared.script.Command.{Command}
 use Rattle.wp_text.specs.declared.script.Part.{Part}
 use Rattle.wp_text.specs.declared.reply.Reply.{Reply}
-use Rattle.wp_run.specs.Client.{Client, new_client}
-use Rattle.wp_run.specs.Due.{Store, IsReply, acknowledged, added, is_fault, store_after, client_after}
-use Rattle.wp_run.specs.Session.{fresh_in, last_after, store_at, IsAnswer, IsSession, is_stopped}
-use Rattle.wp_run.specs.Current.{RunsAlone}
+use Rattle.wp_session.specs.Client.{Client, new_client}
+use Rattle.wp_session.specs.Due.{Store, IsReply, acknowledged, added, is_fault, store_after, client_after}
+use Rattle.wp_session.specs.Session.{fresh_in, last_after, store_at, IsAnswer, IsSession, is_stopped}
+use Rattle.wp_session.specs.Current.{RunsAlone}
 use Rattle.wp_run.specs.Transcript.{AreSessions, IsExact, all_replies, Explains}
 use Rattle.wp_run.specs.Engine.{State, bit, store_of, Later, Steps, Runs, AllRun}
 use Rattle.wp_run.proofs.LaterLemmas.{Later-equal, Later-same, Later-trans, Steps-later}

@@ -9,8 +9,8 @@ use Rattle.wp_gatelog.specs.Durability.{HasAcknowledged, Preserves, PassedOn}
 use Rattle.wp_gatelog.specs.Moments.{Leaves}
 use Rattle.wp_text.specs.declared.script.Command.{Command}
 use Rattle.wp_text.specs.declared.reply.Reply.{Reply}
-use Rattle.wp_run.specs.Client.{Client}
-use Rattle.wp_run.specs.Due.{added, is_fault}
+use Rattle.wp_session.specs.Client.{Client}
+use Rattle.wp_session.specs.Due.{added, is_fault}
 use Rattle.wp_wal.specs.Spelling.{MAGIC}
 use Rattle.wp_run.specs.Engine.{State, store_of, Later, Steps}
 use Rattle.wp_wal.specs.Wal.{LosesNothing}

@@ -1,6 +1,3 @@
-pub mod Found
-pub mod PlanLemmas
-pub mod SaidLemmas
 pub mod EngineLemmas
 pub mod StepLemmas
 pub mod LaterLemmas

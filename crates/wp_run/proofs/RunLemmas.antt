@@ -4,7 +4,7 @@ use Rattle.std.proofs.lemmas.List.{take_more}
 use Rattle.wp_text.specs.declared.script.Command.{Command}
 use Rattle.wp_text.specs.declared.script.Part.{Part}
 use Rattle.wp_text.specs.declared.reply.Reply.{Reply}
-use Rattle.wp_run.specs.Client.{Client}
+use Rattle.wp_session.specs.Client.{Client}
 use Rattle.wp_run.specs.Engine.{State, Steps, Runs, IsRun, AllRun}
 
 pub Runs-push : (old mid new : State) (was between now : Client) (commands : List Command) (answers : List Reply) (last : Command) (answer : Reply) → Runs old was commands answers mid between → Steps mid between last answer new now → Runs old was (commands ++ last ∷ []) (answers ++ answer ∷ []) new now

@@ -11,15 +11,15 @@ use Rattle.wp_text.specs.declared.script.Command.{Command}
 use Rattle.wp_text.specs.declared.script.Command.TheVariants as command
 use Rattle.wp_text.specs.declared.reply.Reply.{Reply}
 use Rattle.wp_text.specs.declared.reply.Reply.TheVariants as reply
-use Rattle.wp_run.specs.declared.plan.Plan.TheVariants.{Say, Log, RollBack}
-use Rattle.wp_run.specs.Client.{Client, Fits}
-use Rattle.wp_run.specs.Due.{Store, logged, reply_to, due, acknowledged, is_logged, is_fault, added, settled, client_after}
-use Rattle.wp_run.specs.Session.{number_in, fresh_in, is_stopped}
+use Rattle.wp_session.specs.declared.plan.Plan.TheVariants.{Say, Log, RollBack}
+use Rattle.wp_session.specs.Client.{Client, Fits}
+use Rattle.wp_session.specs.Due.{Store, logged, reply_to, due, acknowledged, is_logged, is_fault, added, settled, client_after}
+use Rattle.wp_session.specs.Session.{number_in, fresh_in, is_stopped}
 use Rattle.wp_run.specs.Engine.{State, store_of, Steps}
-use Rattle.wp_run.specs.Plan.{plan, asked_of}
+use Rattle.wp_session.specs.Plan.{plan, asked_of}
 use Rattle.wp_run.specs.Write.{Takes, FailsAt, Tells}
-use Rattle.wp_run.proofs.PlanLemmas.{Logs}
-use Rattle.wp_run.proofs.SaidLemmas.{plan_says, within_more}
+use Rattle.wp_session.proofs.PlanLemmas.{Logs}
+use Rattle.wp_session.proofs.SaidLemmas.{plan_says, within_more}
 
 pub false_is_true : {P : Type 0} (b : Bool) → b ≡ false → b ≡ true → P
 false_is_true true e f = absurd cc

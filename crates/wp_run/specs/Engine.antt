@@ -7,10 +7,10 @@ use Rattle.wp_text.specs.declared.script.Part.{Part}
 use Rattle.wp_text.specs.declared.reply.Reply.{Reply}
 use Rattle.wp_outside.specs.Disk.{Moment}
 use Rattle.wp_outside.specs.Faults.{Rose}
-use Rattle.wp_run.specs.Client.{Client, new_client}
-use Rattle.wp_run.specs.Due.{Store, IsReply, acknowledged, added, is_fault, client_after}
+use Rattle.wp_session.specs.Client.{Client, new_client}
+use Rattle.wp_session.specs.Due.{Store, IsReply, acknowledged, added, is_fault, client_after}
 use Rattle.wp_wal.specs.Wal.{LosesNothing}
-use Rattle.wp_run.specs.Session.{fresh_in, is_stopped}
+use Rattle.wp_session.specs.Session.{fresh_in, is_stopped}
 
 pub record State : Type 0 where
   pub entries : List Entry  -- the history so far

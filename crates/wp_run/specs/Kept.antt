@@ -25,19 +25,6 @@ abbrev pub KeptBy : ℕ → ℕ → List Entry → Moment → Type 0
 KeptBy zero id history m = LeavesHistory id history m
 KeptBy (suc faults) id history m = Leaves (λ image. IsLogOrOneMore id history image × HasAcknowledgedEntries id history image) m
 
--- ---- the next record
-
--- the entries may stand behind the history, one after another
-abbrev pub AreLegalNext : List Entry → List Entry → Type 0
-AreLegalNext history [] = Unit {0}
-AreLegalNext history (entry ∷ entries) = IsLegalNext history entry × AreLegalNext (history ++ entry ∷ []) entries
-
--- The entries may be logged next, as one record, if there are numbers for them.
-pub record AreNext (history entries : List Entry) : Type 0 where
-  pub legal : AreLegalNext history entries
-  pub form : length history + length entries < 2 ^ 32 → FormRecord (length history + 1) entries
-  pub closed : undone_last (history ++ entries) ≡ None
-
 -- ---- the store
 
 -- The store's fields go together. Once an append has failed, the log may have its record.

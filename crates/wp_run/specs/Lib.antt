@@ -1,9 +1,3 @@
-pub mod Client
-pub mod Plan
-pub mod Due
-pub mod Room
-pub mod Session
-pub mod Current
 pub mod Transcript
 pub mod Kept
 pub mod Engine

@@ -7,10 +7,10 @@ use Rattle.wp_model.specs.Legal.{IsLegal}
 use Rattle.wp_text.specs.declared.script.Part.{Part}
 use Rattle.wp_text.specs.declared.reply.Reply.{Reply}
 use Rattle.wp_text.specs.Lines.{client_line, reply_line, entry_lines, end_line, line_end}
-use Rattle.wp_run.specs.Client.{new_client}
-use Rattle.wp_run.specs.Due.{acknowledged, is_fault}
-use Rattle.wp_run.specs.Session.{IsSession, is_stopped}
-use Rattle.wp_run.specs.Current.{RunsAlone}
+use Rattle.wp_session.specs.Client.{new_client}
+use Rattle.wp_session.specs.Due.{acknowledged, is_fault}
+use Rattle.wp_session.specs.Session.{IsSession, is_stopped}
+use Rattle.wp_session.specs.Current.{RunsAlone}
 
 -- each part has one session, which begins with the opening history
 abbrev pub AreSessions : List Entry → ℕ → ℕ → List Part → List (List Reply) → Type 0

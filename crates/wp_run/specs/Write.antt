@@ -7,8 +7,8 @@ use Rattle.wp_text.specs.declared.reply.Reply.{Reply}
 use Rattle.wp_text.specs.declared.reply.Reply.TheVariants as reply
 use Rattle.wp_run.specs.declared.engine.WriteError.{WriteError}
 use Rattle.wp_run.specs.declared.engine.WriteError.TheVariants.{Memory, NumbersFull, LogFault, Stopped}
-use Rattle.wp_run.specs.Client.{Client}
-use Rattle.wp_run.specs.Due.{settled}
+use Rattle.wp_session.specs.Client.{Client}
+use Rattle.wp_session.specs.Due.{settled}
 use Rattle.wp_run.specs.Engine.{State}
 use Rattle.wp_wal.specs.Wal.{LosesNothing}
 

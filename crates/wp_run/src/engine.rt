@@ -3,7 +3,8 @@ ghost use Rattle.wp_model.specs.Legal.{IsLegal, undone_last};
 ghost use Rattle.wp_outside.specs.Disk.{IfKnown};
 ghost use Rattle.wp_wal.specs.Wal.{StoresHistory};
 ghost use Rattle.wp_run.specs.Engine.{State, bit};
-ghost use Rattle.wp_run.specs.Kept.{AreLegalNext, AreNext, KeptBy};
+ghost use Rattle.wp_run.specs.Kept.{KeptBy};
+ghost use Rattle.wp_session.specs.Next.{AreLegalNext, AreNext};
 ghost use Rattle.wp_run.specs.Write.{Writes};
 ghost use Rattle.wp_run.specs.declared.engine.WriteError.TheVariants.{Memory};
 

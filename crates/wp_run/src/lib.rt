@@ -5,11 +5,9 @@
 //! first byte is written.
 #![tactic(auto)]
 
-mod client;
+mod clients;
 mod engine;
-mod plan;
 mod serve;
-mod session;
 mod status;
 mod top_call;
 mod transcript;

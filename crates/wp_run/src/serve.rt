@@ -7,7 +7,7 @@ ghost use Rattle.wp_run.specs.Run.{IsSilent, Serves};
 ghost use Rattle.wp_run.specs.Told.{IsTold, IsToldAs, Finishes};
 
 use crate::engine::Engine;
-use crate::session::run_all;
+use crate::clients::run_all;
 use crate::status::Status;
 use crate::transcript::transcript;
 use std::alloc::{AllocError, Global};

@@ -1,5 +1,5 @@
 use Rattle.std.proofs.Common.{◌≡◌, ◌+◌, ◌<◌, ◌≤◌, ◌^◌, ◌++◌, length}
-use Rattle.wp_run.specs.Kept.{AreLegalNext}
+use Rattle.wp_session.specs.Next.{AreLegalNext}
 use Rattle.wp_run.proofs.engine.push_all.Given as goal
 
 abbrev pub invariant-loop-entry : goal.invariant-loop-entry

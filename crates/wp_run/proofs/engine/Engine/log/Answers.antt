@@ -1,7 +1,7 @@
 use Rattle.std.proofs.Common.{◌≡◌, ◌+◌, ◌≤◌, false, List, [], length, ap, sym, subst, rules}
 use Rattle.wp_model.specs.declared.entry.Entry.{Entry}
 use Rattle.wp_wal.specs.Wal.{State}
-use Rattle.wp_run.specs.Kept.{AreNext}
+use Rattle.wp_session.specs.Next.{AreNext}
 use Rattle.wp_run.proofs.EngineLemmas.{ready_for, lasting_from, whole_taken, whole_failed}
 use Rattle.wp_run.proofs.engine.Engine.log.Goals as goal
 

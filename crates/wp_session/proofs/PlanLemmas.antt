@@ -1,0 +1,251 @@
+-- What the commands come to: entries that may be logged next, and replies that acknowledge just them.
+use Rattle.std.proofs.Common.{◌≡◌, ℕ, zero, suc, ◌+◌, ◌-◌, ◌≤◌, true, List, [], ◌∷◌, ◌++◌, length, Option, Some, None, refl, sym, ap, subst, arith, inl, inr}
+use Rattle.std.specs.Prelude.{IfSome}
+use Rattle.std.specs.List.{range_with_len}
+use Rattle.std.proofs.lemmas.Bool.{and_parts, cases_Bool}
+use Rattle.std.proofs.lemmas.Option.{slice_get_within}
+use Rattle.wp_model.specs.declared.change.Change.{Change}
+use Rattle.wp_model.specs.declared.change.Change.TheVariants as change
+use Rattle.wp_model.specs.declared.entry.Entry.{Entry}
+use Rattle.wp_model.specs.declared.entry.Entry.TheVariants as entry
+use Rattle.wp_model.specs.Batch.{key_of, is_batch}
+use Rattle.wp_model.specs.History.{entry_at, batch_at, is_prepare, is_undecided, named, holder_of}
+use Rattle.wp_model.specs.Legal.{changes_in, IsLegal, IsLegalNext, undone_last, AreFree, prior}
+use Rattle.wp_text.specs.declared.script.Command.{Command}
+use Rattle.wp_text.specs.declared.script.Command.TheVariants as command
+use Rattle.wp_text.specs.declared.reply.Reply.{Reply}
+use Rattle.wp_text.specs.declared.reply.Reply.TheVariants as reply
+use Rattle.wp_session.specs.declared.session.Txn.{Txn}
+use Rattle.wp_session.specs.declared.session.Txn.TheVariants.{Idle, Open, Prepared}
+use Rattle.wp_session.specs.declared.plan.Plan.{Plan}
+use Rattle.wp_session.specs.declared.plan.Plan.TheVariants.{Say, Log, RollBack}
+use Rattle.wp_session.specs.Client.{Client, Fits, TxnFits}
+use Rattle.wp_session.specs.Due.{acknowledged, is_logged, settled}
+use Rattle.wp_session.specs.Next.{AreNext}
+use Rattle.wp_session.specs.Session.{number_in}
+use Rattle.wp_session.specs.Plan.{plan, next, held_or, unless_held, has_no_room, change_plan, begin_plan, prepare_plan, commit_plan, rollback_plan, leave_plan, take_plan}
+
+-- what a history undoes last stands at its end
+abbrev pub LastIs : Type 0
+LastIs = (front others : List Entry) (e : Entry) → undone_last (front ++ e ∷ others) ≡ undone_last (e ∷ others)
+
+-- an Undo may be followed by its Close
+abbrev pub Follows : Type 0
+Follows = (h : List Entry) (p : ℕ) (batch : List Change) → IsLegalNext h (entry.Undo p batch) → IsLegalNext (h ++ entry.Undo p batch ∷ []) (entry.Close p)
+
+-- ---- entries that may be logged next
+
+prepared_within : (h : List Entry) (p : ℕ) (e : Option Entry) → entry_at h p ≡ e → is_prepare e ≡ true → (1 ≤ p) × (p ≤ length h)
+prepared_within h zero (Some e) at is = absurd cc
+prepared_within h (suc p) (Some e) at is = let lt = slice_get_within h p e at in (omega arith, omega (arith, lt))
+prepared_within h p None at is = absurd cc
+
+undecided_within : (h : List Entry) (p : ℕ) → is_undecided h p ≡ true → (1 ≤ p) × (p ≤ length h)
+undecided_within h p is = prepared_within h p (entry_at h p) refl (and_parts _ _ is).0
+
+write_next : LastIs → (h : List Entry) (batch : List Change) → undone_last h ≡ None → is_batch batch ≡ true → AreFree h batch → AreNext h (entry.Write batch ∷ [])
+write_next last h batch closed whole free = record {
+  legal = (record { batch = whole; names_undecided = tt; undo_is_closed = closed; restores_prior = tt; keys_are_free = free }, tt);
+  form = λ small. omega (arith, small);
+  closed = last h [] (entry.Write batch);
+}
+
+prepare_next : LastIs → (h : List Entry) (name : List ℕ) (batch : List Change) → undone_last h ≡ None → is_batch batch ≡ true → AreFree h batch → named h name ≡ None → AreNext h (entry.Prepare name batch ∷ [])
+prepare_next last h name batch closed whole free new = record {
+  legal = (record { batch = whole; names_undecided = tt; undo_is_closed = closed; restores_prior = tt; keys_are_free = (free, new) }, tt);
+  form = λ small. omega (arith, small);
+  closed = last h [] (entry.Prepare name batch);
+}
+
+commit_next : LastIs → (h : List Entry) (p : ℕ) → undone_last h ≡ None → is_undecided h p ≡ true → AreNext h (entry.Commit p ∷ [])
+commit_next last h p closed is =
+    let within = undecided_within h p is in
+    record {
+      legal = (record { batch = refl; names_undecided = is; undo_is_closed = closed; restores_prior = tt; keys_are_free = tt }, tt);
+      form = λ small. (record { from = within.0; below = omega (arith, within.1) }, omega (arith, small));
+      closed = last h [] (entry.Commit p);
+    }
+
+rollback_next : LastIs → Follows → (h : List Entry) (p : ℕ) → undone_last h ≡ None → is_undecided h p ≡ true → is_batch (prior h (batch_at h p)) ≡ true → AreNext h (entry.Undo p (prior h (batch_at h p)) ∷ entry.Close p ∷ [])
+rollback_next last follows h p closed is whole =
+    let within = undecided_within h p is in
+    let batch = prior h (batch_at h p) in
+    let undo : IsLegalNext h (entry.Undo p batch) = record { batch = whole; names_undecided = is; undo_is_closed = closed; restores_prior = refl; keys_are_free = tt } in
+    record {
+      legal = (undo, (follows h p batch undo, tt));
+      form = λ small. record { same = refl; earlier = record { from = within.0; below = omega (arith, within.1) }; small = omega (arith, small) };
+      closed = last h (entry.Close p ∷ []) (entry.Undo p batch);
+    }
+
+-- ---- plans that ask the log
+
+-- The entries may be logged next, the reply acknowledges just them, and the transaction goes with the history behind them.
+pub record Logs (h : List Entry) (client : Client) (entries : List Entry) (told : Reply) : Type 0 where
+  pub next : AreNext h entries
+  pub logged : is_logged told ≡ true
+  pub numbers : acknowledged told ≡ range_with_len (length h + 1) (length entries)
+  pub fresh : IfSome (number_in told) (λ n. (length h ≤ n) × (n ≤ length h + length entries))
+  pub txn : TxnFits (h ++ entries) (settled client told).txn
+
+logs_by : (h : List Entry) (client : Client) (first e : Entry) (made told : Reply) → Log first made ≡ Log e told → (is_batch (changes_in first) ≡ true → AreNext h (first ∷ [])) → is_logged made ≡ true → acknowledged made ≡ next h ∷ [] → number_in made ≡ Some (next h) → TxnFits (h ++ first ∷ []) (settled client made).txn → is_batch (changes_in e) ≡ true → Logs h client (e ∷ []) told
+logs_by h client first e made told is may logged numbers number txn whole =
+    let same_entry : first ≡ e = cc in
+    let same_reply : made ≡ told = cc in
+    record {
+      next = subst (λ (x : Entry). AreNext h (x ∷ [])) same_entry (may (rw same_entry whole));
+      logged = rw (← same_reply) logged;
+      numbers = rw (← same_reply) numbers;
+      fresh = rw (← same_reply, number) (omega arith, omega arith);
+      txn = subst (λ (x : Entry). TxnFits (h ++ x ∷ []) (settled client told).txn) same_entry (subst (λ (r : Reply). TxnFits (h ++ first ∷ []) (settled client r).txn) same_reply txn);
+    }
+
+held_or_logs : (h : List Entry) (holder : Option ℕ) (made : Plan) (e : Entry) (told : Reply) → held_or h holder made ≡ Log e told → (holder ≡ None) × (made ≡ Log e told)
+held_or_logs h None made e told is = (refl, is)
+held_or_logs h (Some p) made e told is = absurd cc
+
+-- a change that is logged is written at once, and its key is free
+change_logs : (h : List Entry) (txn : Txn) (c : Change) (made : Reply) (e : Entry) (told : Reply) → change_plan h txn c made ≡ Log e told → (txn ≡ Idle) × (holder_of h (key_of c) ≡ None) × (Log (entry.Write (c ∷ [])) made ≡ Log e told)
+change_logs h Idle c made e told is = let l = held_or_logs h (holder_of h (key_of c)) (Log (entry.Write (c ∷ [])) made) e told is in (refl, l.0, l.1)
+change_logs h (Open name batch) c made e told is =
+    elim (cases_Bool (has_no_room batch (key_of c))) [
+      | inl full ↦ let said : Say reply.TooMany ≡ Log e told = rw full at is in absurd cc
+      | inr room ↦
+          let asked : unless_held h (key_of c) (Say reply.Held) ≡ Log e told = rw room at is in
+          let said = held_or_logs h (holder_of h (key_of c)) (Say reply.Held) e told asked in
+          absurd cc
+    ]
+change_logs h (Prepared p) c made e told is = absurd cc
+
+change_is_logged : LastIs → (h : List Entry) (client : Client) (c : Change) (made : Reply) (e : Entry) (told : Reply) → undone_last h ≡ None → is_logged made ≡ true → acknowledged made ≡ next h ∷ [] → number_in made ≡ Some (next h) → settled client made ≡ client → is_batch (changes_in e) ≡ true → change_plan h client.txn c made ≡ Log e told → Logs h client (e ∷ []) told
+change_is_logged last h client c made e told closed logged numbers number still whole is =
+    let l = change_logs h client.txn c made e told is in
+    logs_by h client (entry.Write (c ∷ [])) e made told l.2 (λ b. write_next last h (c ∷ []) closed b (l.1, tt)) logged numbers number
+    (subst (λ (x : Client). TxnFits (h ++ entry.Write (c ∷ []) ∷ []) x.txn) (sym still) (subst (λ (t : Txn). TxnFits (h ++ entry.Write (c ∷ []) ∷ []) t) (sym l.0) tt)) whole
+
+-- a Prepare is undecided
+abbrev pub IsPending : Type 0
+IsPending = (h : List Entry) (name : List ℕ) (batch : List Change) → IsLegal h → is_undecided (h ++ entry.Prepare name batch ∷ []) (length h + 1) ≡ true
+
+prepare_is_logged : LastIs → IsPending → (h : List Entry) (client : Client) (txn : Txn) (e : Entry) (told : Reply) → IsLegal h → undone_last h ≡ None → TxnFits h txn → is_batch (changes_in e) ≡ true → prepare_plan h txn ≡ Log e told → Logs h client (e ∷ []) told
+prepare_is_logged last pending h client Idle e told legal closed fits whole is = absurd cc
+prepare_is_logged last pending h client (Open name batch) e told legal closed fits whole is =
+    logs_by h client (entry.Prepare name batch) e (reply.Prepared (next h)) told is (λ b. prepare_next last h name batch closed b fits.0 fits.1) refl refl refl (pending h name batch legal) whole
+prepare_is_logged last pending h client (Prepared p) e told legal closed fits whole is = absurd cc
+
+commit_is_logged : LastIs → (h : List Entry) (client : Client) (txn : Txn) (e : Entry) (told : Reply) → undone_last h ≡ None → TxnFits h txn → is_batch (changes_in e) ≡ true → commit_plan h txn ≡ Log e told → Logs h client (e ∷ []) told
+commit_is_logged last h client Idle e told closed fits whole is = absurd cc
+commit_is_logged last h client (Open name batch) e told closed fits whole is =
+    logs_by h client (entry.Write batch) e (reply.Committed (next h)) told is (λ b. write_next last h batch closed b fits.0) refl refl refl tt whole
+commit_is_logged last h client (Prepared p) e told closed fits whole is =
+    logs_by h client (entry.Commit p) e (reply.Committed (next h)) told is (λ b. commit_next last h p closed fits) refl refl refl tt whole
+
+rollback_asks : (h : List Entry) (txn : Txn) (e : Entry) (told : Reply) → rollback_plan h txn ≡ Log e told → ⊥
+rollback_asks h Idle e told is = absurd cc
+rollback_asks h (Open name batch) e told is = absurd cc
+rollback_asks h (Prepared p) e told is = absurd cc
+
+leave_asks : (txn : Txn) (e : Entry) (told : Reply) → leave_plan txn ≡ Log e told → ⊥
+leave_asks Idle e told is = absurd cc
+leave_asks (Open name batch) e told is = absurd cc
+leave_asks (Prepared p) e told is = absurd cc
+
+begin_asks : (h : List Entry) (txn : Txn) (name : List ℕ) (e : Entry) (told : Reply) → begin_plan h txn name ≡ Log e told → ⊥
+begin_asks h Idle name e told is = absurd cc
+begin_asks h (Open other batch) name e told is = absurd cc
+begin_asks h (Prepared p) name e told is = absurd cc
+
+take_asks : (h : List Entry) (txn : Txn) (name : List ℕ) (e : Entry) (told : Reply) → take_plan h txn name ≡ Log e told → ⊥
+take_asks h Idle name e told is = absurd cc
+take_asks h (Open other batch) name e told is = absurd cc
+take_asks h (Prepared p) name e told is = absurd cc
+
+-- a plan with one entry
+pub plan_logs : LastIs → IsPending → (h : List Entry) (client : Client) (c : Command) (e : Entry) (told : Reply) → IsLegal h → undone_last h ≡ None → Fits h client → is_batch (changes_in e) ≡ true → plan h client c ≡ Log e told → Logs h client (e ∷ []) told
+plan_logs last pending h client (command.Put key value) e told legal closed fits whole is = change_is_logged last h client (change.Put key value) (reply.Put (next h)) e told closed refl refl refl refl whole is
+plan_logs last pending h client (command.Del key) e told legal closed fits whole is = change_is_logged last h client (change.Del key) (reply.Del (next h)) e told closed refl refl refl refl whole is
+plan_logs last pending h client (command.Get key) e told legal closed fits whole is = absurd cc
+plan_logs last pending h client (command.GetAt key label) e told legal closed fits whole is = absurd cc
+plan_logs last pending h client (command.Snap label) e told legal closed fits whole is = absurd cc
+plan_logs last pending h client (command.Free label) e told legal closed fits whole is = absurd cc
+plan_logs last pending h client (command.Begin name) e told legal closed fits whole is = absurd (begin_asks h client.txn name e told is)
+plan_logs last pending h client command.Prepare e told legal closed fits whole is = prepare_is_logged last pending h client client.txn e told legal closed fits.txn whole is
+plan_logs last pending h client command.Commit e told legal closed fits whole is = commit_is_logged last h client client.txn e told closed fits.txn whole is
+plan_logs last pending h client command.Rollback e told legal closed fits whole is = absurd (rollback_asks h client.txn e told is)
+plan_logs last pending h client command.Leave e told legal closed fits whole is = absurd (leave_asks client.txn e told is)
+plan_logs last pending h client (command.Take name) e told legal closed fits whole is = absurd (take_asks h client.txn name e told is)
+
+-- ---- plans that roll back
+
+rolled_back : LastIs → Follows → (h : List Entry) (client : Client) (txn : Txn) (q : ℕ) (batch : List Change) (told : Reply) → undone_last h ≡ None → TxnFits h txn → is_batch batch ≡ true → rollback_plan h txn ≡ RollBack q batch told → Logs h client (entry.Undo q batch ∷ entry.Close q ∷ []) told
+rolled_back last follows h client Idle q batch told closed fits whole is = absurd cc
+rolled_back last follows h client (Open name own) q batch told closed fits whole is = absurd cc
+rolled_back last follows h client (Prepared p) q batch told closed fits whole is =
+    let same_number : p ≡ q = cc in
+    let same_batch : prior h (batch_at h p) ≡ batch = cc in
+    let same_reply : reply.RolledBack (next h + 1) ≡ told = cc in
+    let before : next h + 1 - 1 ≡ length h + 1 = omega arith in
+    subst (λ (r : Reply). Logs h client (entry.Undo q batch ∷ entry.Close q ∷ []) r) same_reply
+    (subst (λ (b : List Change). Logs h client (entry.Undo q b ∷ entry.Close q ∷ []) (reply.RolledBack (next h + 1))) same_batch
+    (subst (λ (n : ℕ). Logs h client (entry.Undo n (prior h (batch_at h p)) ∷ entry.Close n ∷ []) (reply.RolledBack (next h + 1))) same_number (record {
+      next = rollback_next last follows h p closed fits (rw same_batch whole);
+      logged = refl;
+      numbers = ap (λ (n : ℕ). n ∷ (next h + 1) ∷ []) before;
+      fresh = (omega arith, omega arith);
+      txn = tt;
+    })))
+
+held_or_rolls : (h : List Entry) (holder : Option ℕ) (made : Plan) (q : ℕ) (batch : List Change) (told : Reply) → held_or h holder made ≡ RollBack q batch told → made ≡ RollBack q batch told
+held_or_rolls h None made q batch told is = is
+held_or_rolls h (Some p) made q batch told is = absurd cc
+
+change_rolls : (h : List Entry) (txn : Txn) (c : Change) (made : Reply) (q : ℕ) (batch : List Change) (told : Reply) → change_plan h txn c made ≡ RollBack q batch told → ⊥
+change_rolls h Idle c made q batch told is = let said = held_or_rolls h (holder_of h (key_of c)) (Log (entry.Write (c ∷ [])) made) q batch told is in absurd cc
+change_rolls h (Open name own) c made q batch told is =
+    elim (cases_Bool (has_no_room own (key_of c))) [
+      | inl full ↦ let said : Say reply.TooMany ≡ RollBack q batch told = rw full at is in absurd cc
+      | inr room ↦
+          let asked : unless_held h (key_of c) (Say reply.Held) ≡ RollBack q batch told = rw room at is in
+          let said = held_or_rolls h (holder_of h (key_of c)) (Say reply.Held) q batch told asked in
+          absurd cc
+    ]
+change_rolls h (Prepared p) c made q batch told is = absurd cc
+
+begin_rolls : (h : List Entry) (txn : Txn) (name : List ℕ) (q : ℕ) (batch : List Change) (told : Reply) → begin_plan h txn name ≡ RollBack q batch told → ⊥
+begin_rolls h Idle name q batch told is = absurd cc
+begin_rolls h (Open other own) name q batch told is = absurd cc
+begin_rolls h (Prepared p) name q batch told is = absurd cc
+
+prepare_rolls : (h : List Entry) (txn : Txn) (q : ℕ) (batch : List Change) (told : Reply) → prepare_plan h txn ≡ RollBack q batch told → ⊥
+prepare_rolls h Idle q batch told is = absurd cc
+prepare_rolls h (Open name own) q batch told is = absurd cc
+prepare_rolls h (Prepared p) q batch told is = absurd cc
+
+commit_rolls : (h : List Entry) (txn : Txn) (q : ℕ) (batch : List Change) (told : Reply) → commit_plan h txn ≡ RollBack q batch told → ⊥
+commit_rolls h Idle q batch told is = absurd cc
+commit_rolls h (Open name own) q batch told is = absurd cc
+commit_rolls h (Prepared p) q batch told is = absurd cc
+
+leave_rolls : (txn : Txn) (q : ℕ) (batch : List Change) (told : Reply) → leave_plan txn ≡ RollBack q batch told → ⊥
+leave_rolls Idle q batch told is = absurd cc
+leave_rolls (Open name own) q batch told is = absurd cc
+leave_rolls (Prepared p) q batch told is = absurd cc
+
+take_rolls : (h : List Entry) (txn : Txn) (name : List ℕ) (q : ℕ) (batch : List Change) (told : Reply) → take_plan h txn name ≡ RollBack q batch told → ⊥
+take_rolls h Idle name q batch told is = absurd cc
+take_rolls h (Open other own) name q batch told is = absurd cc
+take_rolls h (Prepared p) name q batch told is = absurd cc
+
+-- a plan with an Undo and its Close
+pub plan_rolls_back : LastIs → Follows → (h : List Entry) (client : Client) (c : Command) (p : ℕ) (batch : List Change) (told : Reply) → undone_last h ≡ None → Fits h client → is_batch batch ≡ true → plan h client c ≡ RollBack p batch told → Logs h client (entry.Undo p batch ∷ entry.Close p ∷ []) told
+plan_rolls_back last follows h client command.Rollback p batch told closed fits whole is = rolled_back last follows h client client.txn p batch told closed fits.txn whole is
+plan_rolls_back last follows h client (command.Put key value) p batch told closed fits whole is = absurd (change_rolls h client.txn (change.Put key value) _ p batch told is)
+plan_rolls_back last follows h client (command.Del key) p batch told closed fits whole is = absurd (change_rolls h client.txn (change.Del key) _ p batch told is)
+plan_rolls_back last follows h client (command.Get key) p batch told closed fits whole is = absurd cc
+plan_rolls_back last follows h client (command.GetAt key label) p batch told closed fits whole is = absurd cc
+plan_rolls_back last follows h client (command.Snap label) p batch told closed fits whole is = absurd cc
+plan_rolls_back last follows h client (command.Free label) p batch told closed fits whole is = absurd cc
+plan_rolls_back last follows h client (command.Begin name) p batch told closed fits whole is = absurd (begin_rolls h client.txn name p batch told is)
+plan_rolls_back last follows h client command.Prepare p batch told closed fits whole is = absurd (prepare_rolls h client.txn p batch told is)
+plan_rolls_back last follows h client command.Commit p batch told closed fits whole is = absurd (commit_rolls h client.txn p batch told is)
+plan_rolls_back last follows h client command.Leave p batch told closed fits whole is = absurd (leave_rolls client.txn p batch told is)
+plan_rolls_back last follows h client (command.Take name) p batch told closed fits whole is = absurd (take_rolls h client.txn name p batch told is)

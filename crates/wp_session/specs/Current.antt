@@ -1,0 +1,13 @@
+-- What a client is answered when nobody else changes the store.
+use Rattle.std.specs.Prelude.{List, [], ◌∷◌}
+use Rattle.wp_text.specs.declared.script.Command.{Command}
+use Rattle.wp_text.specs.declared.reply.Reply.{Reply}
+use Rattle.wp_session.specs.Client.{Client}
+use Rattle.wp_session.specs.Due.{Store, IsReply, store_after, client_after}
+
+-- each command is answered as the store stands then, and leaves it so to the next
+abbrev pub RunsAlone : Store → Client → List Command → List Reply → Type 0
+RunsAlone store client [] [] = Unit {0}
+RunsAlone store client [] (answer ∷ answers) = ⊥
+RunsAlone store client (first ∷ commands) [] = ⊥
+RunsAlone store client (first ∷ commands) (answer ∷ answers) = IsReply store client first answer × RunsAlone (store_after store client first answer) (client_after store.history client first answer) commands answers

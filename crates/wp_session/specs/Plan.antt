@@ -1,0 +1,133 @@
+-- What a command comes to, by the history and the client's state: the table of commands and refusals. A command that the
+-- log has to take comes to its entries and the reply that tells them.
+use Rattle.std.specs.Prelude.{ℕ, ◌+◌, Bool, ◌&&◌, nat_le, not, List, [], ◌∷◌, length, Option, Some, None, is_some, if◌then◌else◌}
+use Rattle.wp_model.specs.declared.batch.TheConstants.{MOST_KEYS}
+use Rattle.wp_model.specs.declared.change.Change.{Change}
+use Rattle.wp_model.specs.declared.change.Change.TheVariants as change
+use Rattle.wp_model.specs.declared.entry.Entry.{Entry}
+use Rattle.wp_model.specs.declared.entry.Entry.TheVariants as entry
+use Rattle.wp_model.specs.Batch.{key_of, change_to}
+use Rattle.wp_model.specs.History.{name_at, batch_at, named, is_changed, holder_of, value_at}
+use Rattle.wp_model.specs.Legal.{prior}
+use Rattle.wp_text.specs.declared.script.Command.{Command}
+use Rattle.wp_text.specs.declared.script.Command.TheVariants as command
+use Rattle.wp_text.specs.declared.reply.Reply.{Reply}
+use Rattle.wp_text.specs.declared.reply.Reply.TheVariants as reply
+use Rattle.wp_session.specs.declared.session.Snapshot.{Snapshot}
+use Rattle.wp_session.specs.declared.session.Txn.{Txn}
+use Rattle.wp_session.specs.declared.session.Txn.TheVariants.{Idle, Open, Prepared}
+use Rattle.wp_session.specs.declared.plan.Plan.{Plan}
+use Rattle.wp_session.specs.declared.plan.Plan.TheVariants.{Say, Log, RollBack}
+use Rattle.wp_session.specs.Client.{Client, own_batch, number_of}
+
+-- the number of the next entry
+abbrev pub next : List Entry → ℕ
+next history = length history + 1
+
+-- ---- put, del
+
+-- busy, where an undecided prepare holds the key
+abbrev pub held_or : List Entry → Option ℕ → Plan → Plan
+held_or history None plan = plan
+held_or history (Some p) plan = Say (reply.Busy (name_at history p))
+
+abbrev pub unless_held : List Entry → List ℕ → Plan → Plan
+unless_held history key plan = held_or history (holder_of history key) plan
+
+-- as many keys as a transaction may change are changed, and this is none of them
+abbrev pub has_no_room : List Change → List ℕ → Bool
+has_no_room batch key = nat_le MOST_KEYS (length batch) && not (is_changed batch key)
+
+-- a change that is written at once is told so
+abbrev pub change_plan : List Entry → Txn → Change → Reply → Plan
+change_plan history Idle change told = unless_held history (key_of change) (Log (entry.Write (change ∷ [])) told)
+change_plan history (Open name batch) change told = if has_no_room batch (key_of change) then Say reply.TooMany else unless_held history (key_of change) (Say reply.Held)
+change_plan history (Prepared p) change told = Say reply.State
+
+-- ---- get
+
+-- the value that the first n entries leave, with that number
+abbrev pub read_reply : Option (List ℕ) → ℕ → Reply
+read_reply (Some value) n = reply.Got value n
+read_reply None n = reply.Missing n
+
+-- what the client's own transaction says of the key comes first
+abbrev pub get_reply : List Entry → Option (Option (List ℕ)) → List ℕ → Reply
+get_reply history (Some (Some value)) key = reply.GotOwn value
+get_reply history (Some None) key = reply.MissingOwn
+get_reply history None key = read_reply (value_at history key (length history)) (length history)
+
+-- at a snapshot, the client's own transaction does not count
+abbrev pub get_at_reply : List Entry → Option ℕ → List ℕ → List ℕ → Reply
+get_at_reply history None key label = reply.UnknownSnapshot label
+get_at_reply history (Some n) key label = read_reply (value_at history key n) n
+
+-- ---- snapshots
+
+abbrev pub snap_reply : List Entry → List Snapshot → List ℕ → Reply
+snap_reply history snapshots label =
+    if is_some (number_of snapshots label) then reply.Taken label
+    else (if nat_le 64 (length snapshots) then reply.TooMany else reply.Snapped (length history))
+
+abbrev pub free_reply : Option ℕ → List ℕ → Reply
+free_reply None label = reply.UnknownSnapshot label
+free_reply (Some n) label = reply.Freed
+
+-- ---- transactions
+
+abbrev pub begin_reply : Option ℕ → List ℕ → Reply
+begin_reply None name = reply.Begun
+begin_reply (Some p) name = reply.Taken name
+
+abbrev pub take_reply : List Entry → Option ℕ → List ℕ → Reply
+take_reply history None name = reply.Unknown name (length history)
+take_reply history (Some p) name = reply.Took
+
+abbrev pub begin_plan : List Entry → Txn → List ℕ → Plan
+begin_plan history Idle name = Say (begin_reply (named history name) name)
+begin_plan history other name = Say reply.State
+
+abbrev pub prepare_plan : List Entry → Txn → Plan
+prepare_plan history (Open name batch) = Log (entry.Prepare name batch) (reply.Prepared (next history))
+prepare_plan history other = Say reply.State
+
+abbrev pub commit_plan : List Entry → Txn → Plan
+commit_plan history Idle = Say reply.State
+commit_plan history (Open name batch) = Log (entry.Write batch) (reply.Committed (next history))
+commit_plan history (Prepared p) = Log (entry.Commit p) (reply.Committed (next history))
+
+-- a rollback of a prepared transaction is told with the number of its Close
+abbrev pub rollback_plan : List Entry → Txn → Plan
+rollback_plan history Idle = Say reply.State
+rollback_plan history (Open name batch) = Say reply.Dropped
+rollback_plan history (Prepared p) = RollBack p (prior history (batch_at history p)) (reply.RolledBack (next history + 1))
+
+abbrev pub leave_plan : Txn → Plan
+leave_plan (Prepared p) = Say reply.Left
+leave_plan other = Say reply.State
+
+abbrev pub take_plan : List Entry → Txn → List ℕ → Plan
+take_plan history Idle name = Say (take_reply history (named history name) name)
+take_plan history other name = Say reply.State
+
+-- ---- all commands
+
+abbrev pub plan : List Entry → Client → Command → Plan
+plan history client (command.Put key value) = change_plan history client.txn (change.Put key value) (reply.Put (next history))
+plan history client (command.Del key) = change_plan history client.txn (change.Del key) (reply.Del (next history))
+plan history client (command.Get key) = Say (get_reply history (change_to (own_batch history client.txn) key) key)
+plan history client (command.GetAt key label) = Say (get_at_reply history (number_of client.snapshots label) key label)
+plan history client (command.Snap label) = Say (snap_reply history client.snapshots label)
+plan history client (command.Free label) = Say (free_reply (number_of client.snapshots label) label)
+plan history client (command.Begin name) = begin_plan history client.txn name
+plan history client command.Prepare = prepare_plan history client.txn
+plan history client command.Commit = commit_plan history client.txn
+plan history client command.Rollback = rollback_plan history client.txn
+plan history client command.Leave = leave_plan client.txn
+plan history client (command.Take name) = take_plan history client.txn name
+
+-- the entries that it asks the log to take, as one record
+abbrev pub asked_of : Plan → List Entry
+asked_of (Say answer) = []
+asked_of (Log entry told) = entry ∷ []
+asked_of (RollBack p batch told) = entry.Undo p batch ∷ entry.Close p ∷ []
