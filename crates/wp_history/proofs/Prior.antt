@@ -1,14 +1,14 @@
 -- What the keys of a batch have in the store: the batch of an undo.
-use Rattle.std.proofs.Common.{◌≡◌, ℕ, ◌+◌, ◌<◌, Bool, true, false, ◌&&◌, List, [], ◌∷◌, ◌++◌, length, get_or, take, drop, Option, Some, None, refl, sym, ap, ◌∙◌}
+use Rattle.std.proofs.Common.{arith, ◌≡◌, ℕ, ◌+◌, ◌<◌, Bool, true, false, ◌&&◌, List, [], ◌∷◌, ◌++◌, length, get_or, take, drop, Option, Some, None, refl, sym, ap, ◌∙◌}
 use Rattle.std.specs.Prelude.{◌==◌, nat_le}
 use Rattle.std.specs.declared.cmp.Ordering.{Ordering}
 use Rattle.std.specs.declared.cmp.Ordering.TheVariants.{Less, Equal, Greater}
 use Rattle.std.specs.Ordering.{is_lt, ordering_reverse}
 use Rattle.std.specs.Cmp.Lexicographic.{pointwise, told_text}
 use Rattle.std.proofs.Math.Seq.{take-length}
-use Rattle.std.proofs.lemmas.Bool.{and_parts, and_from}
+use Rattle.std.proofs.lemmas.Bool.{and_parts, and_from, leb-true}
 use Rattle.std.proofs.lemmas.Cmp.{nat_list_cmp_total}
-use Rattle.std.proofs.lemmas.List.{take_more, take-append-drop, map-append}
+use Rattle.std.proofs.lemmas.List.{take_more, take-append-drop, map-append, length-map, length-take-le}
 use Rattle.wp_model.specs.declared.batch.TheConstants.{MOST_KEYS}
 use Rattle.wp_model.specs.declared.change.Change.{Change}
 use Rattle.wp_model.specs.declared.change.Change.TheVariants.{Put, Del}
@@ -108,3 +108,9 @@ prior_more history changes i here lt is batch =
     let front : are_ascending (prior history (take (i + 1) changes)) ≡ true = prior_ascending history (take (i + 1) changes) ∙ ascending_front (take (i + 1) changes) (drop (i + 1) changes) whole in
     let step = prior_take history changes i here lt is in
     with_change_last (prior history (take i changes)) (restored history here) (ap are_ascending (sym step) ∙ front) ∙ sym step
+
+-- while changes are left, those that were restored are not as many as a batch may have
+pub prior_is_not_full : (history : List Entry) (changes : List Change) (i : ℕ) → i < length changes → is_batch changes ≡ true → length (prior history (take i changes)) ≡ MOST_KEYS → ⊥
+prior_is_not_full history changes i lt batch full =
+    let few = leb-true _ _ (and_parts (nat_le (length changes) MOST_KEYS) (are_ascending changes) batch).0 in
+    omega (arith, few, length-map (take i changes) (restored history), length-take-le i changes (omega (arith, lt)), full)

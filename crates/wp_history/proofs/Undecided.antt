@@ -10,7 +10,7 @@ use Rattle.wp_model.specs.declared.entry.Entry.{Entry}
 use Rattle.wp_model.specs.declared.entry.Entry.TheVariants.{Write, Prepare, Commit, Undo, Close}
 use Rattle.wp_model.specs.History.{entry_at, is_prepare, decides, is_undecided, undecided}
 use Rattle.wp_model.specs.Legal.{IsLegal, IsLegalNext, NamesUndecided, undone_last}
-use Rattle.wp_history.specs.Growth.{without, undecided_after}
+use Rattle.wp_history.specs.Growth.{without_decided, undecided_after}
 use Rattle.wp_history.specs.History.{IsLegalWith}
 use Rattle.wp_history.proofs.Growth.{entry_at_old, entry_at_next, length_next, legal_next, prepared_within, decides_undecided, decided_next, decided_prepared, undecided_prepared}
 
@@ -105,7 +105,7 @@ eqb_swapped a b = elim (cases_eq a b) [
   | inr other ↦ ne_eqb a b other ∙ sym (ne_eqb b a (λ same. other (sym same)))
 ]
 
-without_swapped : (p : ℕ) (xs : List ℕ) → filter (λ k. not (eqb p k)) xs ≡ without xs p
+without_swapped : (p : ℕ) (xs : List ℕ) → filter (λ k. not (eqb p k)) xs ≡ without_decided xs p
 without_swapped p [] = refl
 without_swapped p (x ∷ xs) = rw (eqb_swapped p x, without_swapped p xs) refl
 
@@ -118,16 +118,16 @@ undecided_next history (Close p) legal names = undecided_split history (Close p)
 
 -- ---- an undo and its close
 
-pub undone_by : (history : List Entry) (p : ℕ) (batch : List Change) → undone_last (history ++ Undo p batch ∷ []) ≡ Some p
-undone_by [] p batch = refl
-undone_by (first ∷ []) p batch = refl
-undone_by (first ∷ second ∷ others) p batch = undone_by (second ∷ others) p batch
+pub undo_undoes : (history : List Entry) (p : ℕ) (batch : List Change) → undone_last (history ++ Undo p batch ∷ []) ≡ Some p
+undo_undoes [] p batch = refl
+undo_undoes (first ∷ []) p batch = refl
+undo_undoes (first ∷ second ∷ others) p batch = undo_undoes (second ∷ others) p batch
 
 pub close_follows : (history : List Entry) (p : ℕ) (batch : List Change) → IsLegalNext history (Undo p batch) → IsLegalNext (history ++ Undo p batch ∷ []) (Close p)
 close_follows history p batch behind = record {
   batch = refl;
   names_undecided = undecided_old history (Undo p batch) p (undecided_within history p behind.names_undecided).1 ∙ and_from _ true behind.names_undecided refl;
-  undo_is_closed = undone_by history p batch;
+  undo_is_closed = undo_undoes history p batch;
   restores_prior = tt;
   keys_are_free = tt;
 }

@@ -5,17 +5,17 @@ use Rattle.wp_model.specs.declared.entry.Entry.{Entry}
 use Rattle.wp_model.specs.declared.entry.Entry.TheVariants.{Write, Prepare, Commit, Undo, Close}
 
 -- the numbers but for this one
-abbrev pub without : List ℕ → ℕ → List ℕ
-without numbers p = filter (λ q. not (q == p)) numbers
+abbrev pub without_decided : List ℕ → ℕ → List ℕ
+without_decided numbers p = filter (λ q. not (q == p)) numbers
 
 -- The numbers of the undecided prepares once an entry with the number n stands behind: a Prepare adds its own, and a
 -- Commit or a Close takes out the one that it names.
 abbrev pub undecided_after : List ℕ → ℕ → Entry → List ℕ
 undecided_after numbers n (Write batch) = numbers
 undecided_after numbers n (Prepare name batch) = numbers ++ n ∷ []
-undecided_after numbers n (Commit p) = without numbers p
+undecided_after numbers n (Commit p) = without_decided numbers p
 undecided_after numbers n (Undo p batch) = numbers
-undecided_after numbers n (Close p) = without numbers p
+undecided_after numbers n (Close p) = without_decided numbers p
 
 -- the prepare that an entry undoes, if it undoes one
 abbrev pub undone_by : Entry → Option ℕ

@@ -3,7 +3,7 @@ ghost use Rattle.std.specs.Vec.{vec_capacity};
 ghost use Rattle.std.specs.Option.{option_copied};
 ghost use Rattle.wp_model.specs.History.{entry_at, undecided};
 ghost use Rattle.wp_model.specs.Legal.{IsLegal, IsLegalNext};
-ghost use Rattle.wp_history.specs.Growth.{without, undecided_after};
+ghost use Rattle.wp_history.specs.Growth.{without_decided, undecided_after};
 
 use std::alloc::{AllocError, Global};
 use std::marker::Model;
@@ -39,14 +39,14 @@ pub(crate) fn entry_at(entries: &[Entry], n: Seq) -> Option<&Entry>
 }
 
 fn take_out(numbers: &mut Vec<Seq>, p: Seq)
-    ensures numbers { numbers.new.items ≡ without numbers.old.items p }
+    ensures numbers { numbers.new.items ≡ without_decided numbers.old.items p }
     ensures len { vec_len numbers.new ≤ vec_len numbers.old }
     ensures capacity { vec_capacity numbers.new ≡ vec_capacity numbers.old }
 {
     numbers.retain(|q| *q != p);
 }
 
-/// Keeps the numbers of the undecided prepares, once the entry with that number stands behind.
+/// Notes what an entry with that number leaves undecided.
 fn note_undecided(undecided: &mut Vec<Seq>, number: Seq, entry: &Entry)
     requires { vec_len undecided.old + 1 ≤ vec_capacity undecided.old }
     ensures numbers { undecided.new.items ≡ undecided_after undecided.old.items number entry.now }
@@ -79,6 +79,14 @@ impl History {
         ensures legal { IsLegal self.now.entries }
     {
         &self.entries
+    }
+
+    /// The entries as a list of their own, in the memory that they have.
+    pub fn into_entries(self) -> Vec<Entry>
+        ensures value { result.items ≡ self.entries }
+        ensures legal { IsLegal self.entries }
+    {
+        self.entries
     }
 
     /// The number of the last entry.
@@ -115,7 +123,7 @@ impl History {
         Ok(())
     }
 
-    /// Puts an entry behind the others, in memory that is there.
+    /// Adds an entry, in memory that was taken before.
     pub fn push(&mut self, entry: Entry)
         requires legal { IsLegalNext self.old.entries entry }
         requires few { length self.old.entries + 1 < 2 ^ 32 }

@@ -7,7 +7,7 @@ ghost use Rattle.wp_model.specs.Legal.{change_that_leaves, prior};
 
 use crate::history::History;
 use std::alloc::{AllocError, Global};
-use wp_model::{Batch, Change, Entry, Key, Seq, Value};
+use wp_model::{Batch, Change, Entry, Key, Seq, SetError, Value};
 
 impl History {
     /// What an entry of the history makes of the key: nothing, or the value that it leaves there, or none.
@@ -50,17 +50,19 @@ impl History {
     }
 
     /// What the keys of an undecided prepare have in the store: the batch of its undo.
-    #[tactic(auto, using(crate::proofs::Prior::prior_more))]
+    #[tactic(auto, using(crate::proofs::Prior::prior_more, crate::proofs::Prior::prior_is_not_full))]
     pub fn prior(&self, alloc: Global, p: Seq) -> Result<Batch, AllocError>
         requires { is_undecided self.now.entries p ≡ true }
         ensures { IfOk result (λ batch. batch ≡ prior self.now.entries (batch_at self.now.entries p)) }
     {
         let mut batch = Batch::new(alloc);
         for change in self.batch_at(p).changes() {
-            // It has no more keys than that batch, so only memory can be missing.
-            batch
-                .set(self.restoring(alloc, change.key())?)
-                .map_err(|_| AllocError)?;
+            match batch.set(self.restoring(alloc, change.key())?) {
+                Ok(()) => {}
+                Err(SetError::Memory) => return Err(AllocError),
+                // It has fewer keys than that batch.
+                Err(SetError::TooMany) => unreachable!(),
+            }
         }
         Ok(batch)
     }

@@ -74,6 +74,8 @@ fn newest_is(history: &History, key: &Key, n: Seq, p: Seq, text: &[u8]) -> bool 
     }
 }
 
+fn goes_to_a_thread<T: Send>(_value: &T) {}
+
 #[test]
 fn a_commit_counts_from_its_number(rt: HostRuntime) -> Result<(), Fail> {
     let steps = [
@@ -83,6 +85,7 @@ fn a_commit_counts_from_its_number(rt: HostRuntime) -> Result<(), Fail> {
         Step::Commit(2),
     ];
     let history = built(rt.alloc(), &steps)?;
+    goes_to_a_thread(&history);
     let k = Key::read(rt.alloc(), b"k")?;
     let cases: [(Seq, Seq, &[u8]); 5] = [
         (0, 0, b""),

@@ -13,7 +13,7 @@ use Rattle.wp_model.specs.Versions.{version_at}
 use Rattle.wp_keep.specs.Keep.{has_newer, stays, staying, is_settled_deletion, lasts, kept_of}
 use Rattle.wp_keep.specs.MayGo.{DecidesAt, MayGo}
 use Rattle.wp_model.specs.Covered.{GivesNewest, GivesNone, GivesStore, is_among, IsCovered}
-use Rattle.wp_keep.proofs.Order.{in_order_filter, same_key, bytes_eq-same}
+use Rattle.wp_keep.proofs.Order.{in_order_filter, same_version_key, bytes_eq-same}
 use Rattle.wp_keep.proofs.Lookups.{version, at_both, any_mono, any_found, at_filter, passed_filter, in_filtered, finds}
 use Rattle.wp_keep.proofs.Undone.{undecided_uncommitted, entry_past, UndoesLast, undoes_last}
 
@@ -82,7 +82,7 @@ module _ (committed : ℕ → ℕ → Bool) (history : List Entry) (newer versio
       let it = finds (λ w. bytes_eq w.key key && (nat_lt p w.number && committed w.number n)) versions h in
       let parts = and_parts (bytes_eq it.found.key key) (nat_lt p it.found.number && committed it.found.number n) it.passes in
       let tests = and_parts (nat_lt p it.found.number) (committed it.found.number n) parts.1 in
-      none it.found.number it.value (ltb-true p it.found.number tests.0) (ap (λ k. version_at versions k it.found.number) (sym (same_key it.found.key key parts.0)) ∙ it.there) tests.1)
+      none it.found.number it.value (ltb-true p it.found.number tests.0) (ap (λ k. version_at versions k it.found.number) (sym (same_version_key it.found.key key parts.0)) ∙ it.there) tests.1)
 
   stays_newest : (key : List ℕ) (p n : ℕ) (value : Option (List ℕ)) → version_at versions key p ≡ Some value → committed p n ≡ true → NoneAbove key p n → is_among (floor ∷ snapshots) n ≡ true → version_at stayed key p ≡ Some value
   stays_newest key p n value e there none listed =

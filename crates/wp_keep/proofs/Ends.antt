@@ -8,7 +8,7 @@ use Rattle.wp_model.specs.declared.version.Version.{Version}
 use Rattle.wp_model.specs.Versions.{AreInOrder}
 use Rattle.wp_keep.specs.Keep.{is_settled_deletion, lasts}
 use Rattle.wp_keep.specs.Newer.{starts_with_key}
-use Rattle.wp_keep.proofs.Order.{IsBefore, placed, same_key}
+use Rattle.wp_keep.proofs.Order.{IsBefore, placed_version, same_version_key}
 use Rattle.wp_keep.proofs.Any.{any_of, any_older, none_ahead}
 
 module _ (committed : ℕ → ℕ → Bool) (all : List Version) (floor : ℕ) where
@@ -18,14 +18,14 @@ module _ (committed : ℕ → ℕ → Bool) (all : List Version) (floor : ℕ) w
 
   lasts_by : (front : List Version) (v : Version) (back : List Version) → all ≡ front ++ v ∷ back → AreInOrder all → lasts committed all floor v ≡ (says v || any_of v.key says back)
   lasts_by front v back split order =
-      ap (λ vs. lasts committed vs floor v) split ∙ any_older says front v back (placed front v back (subst AreInOrder split order))
+      ap (λ vs. lasts committed vs floor v) split ∙ any_older says front v back (placed_version front v back (subst AreInOrder split order))
 
   first_key_more : (front : List Version) (v : Version) (back : List Version) → all ≡ front ++ v ∷ back → AreInOrder all → (u : Version) → IsBefore u (v ∷ back) → (b : Bool) → b ≡ (says v || any_of v.key says back) → starts_with_key (filter (lasts committed all floor) back) u.key ≡ any_of u.key says back → starts_with_key (cond b (v ∷ filter (lasts committed all floor) back) (filter (lasts committed all floor) back)) u.key ≡ ((bytes_eq v.key u.key && says v) || any_of u.key says back)
   first_key_more front v back split order u before true e rest = at_key (bytes_eq v.key u.key) refl e
     where
       at_key : (b : Bool) → bytes_eq v.key u.key ≡ b → true ≡ (says v || any_of v.key says back) → b ≡ ((b && says v) || any_of u.key says back)
-      at_key true same e = e ∙ ap (λ k. says v || any_of k says back) (same_key v.key u.key same)
-      at_key false other e = sym (none_ahead says v u back (placed front v back (subst AreInOrder split order)).before before.0 other)
+      at_key true same e = e ∙ ap (λ k. says v || any_of k says back) (same_version_key v.key u.key same)
+      at_key false other e = sym (none_ahead says v u back (placed_version front v back (subst AreInOrder split order)).before before.0 other)
   first_key_more front v back split order u before false e rest = rest ∙ beyond (bytes_eq v.key u.key) (or_parts (says v) (any_of v.key says back) (sym e)).0
     where
       beyond : (b : Bool) → says v ≡ false → any_of u.key says back ≡ ((b && says v) || any_of u.key says back)
@@ -53,7 +53,7 @@ module _ (committed : ℕ → ℕ → Bool) (all : List Version) (floor : ℕ) w
       is =
           test
           ∙ ap (λ vs. says v || starts_with_key vs v.key) had.lasting
-          ∙ ap (λ x. says v || x) (first_key (rest ++ v ∷ []) had.back (had.split ∙ ap (λ vs. vs ++ had.back) popped) order v (placed rest v had.back (subst AreInOrder split order)).before)
+          ∙ ap (λ x. says v || x) (first_key (rest ++ v ∷ []) had.back (had.split ∙ ap (λ vs. vs ++ had.back) popped) order v (placed_version rest v had.back (subst AreInOrder split order)).before)
           ∙ sym (lasts_by rest v had.back split order)
 
       by : (c : Bool) → c ≡ lasts committed all floor v → reverse (cond c (kept ++ v ∷ []) kept) ≡ cond (lasts committed all floor v) (v ∷ filter (lasts committed all floor) had.back) (filter (lasts committed all floor) had.back)

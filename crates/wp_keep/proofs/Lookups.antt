@@ -6,7 +6,7 @@ use Rattle.std.specs.Str.{bytes_eq}
 use Rattle.std.proofs.lemmas.Bool.{and_parts, or_left, or_right, eqb-true, eq-eqb}
 use Rattle.wp_model.specs.declared.version.Version.{Version}
 use Rattle.wp_model.specs.Versions.{AreInOrder, version_at}
-use Rattle.wp_keep.proofs.Order.{IsBefore, in_order_parts, same_key, bytes_eq-same, newer_number}
+use Rattle.wp_keep.proofs.Order.{IsBefore, in_order_parts, same_version_key, bytes_eq-same, newer_number}
 
 abbrev pub version : List ℕ → ℕ → Option (List ℕ) → Version
 version key p value = record { key = key; number = p; value = value }
@@ -38,7 +38,7 @@ module _ (key : List ℕ) (p : ℕ) where
   is_version : (v : Version) (value : Option (List ℕ)) → is_here v ≡ true → Some v.value ≡ Some value → v ≡ version key p value
   is_version v value h e =
       let parts = and_parts (bytes_eq v.key key) (v.number == p) h in
-      let keys : v.key ≡ key = same_key v.key key parts.0 in
+      let keys : v.key ≡ key = same_version_key v.key key parts.0 in
       let numbers : v.number ≡ p = eqb-true v.number p parts.1 in
       let values : v.value ≡ value = cc in
       λ i. record { key = keys i; number = numbers i; value = values i }
@@ -86,7 +86,7 @@ module _ (key : List ℕ) (p : ℕ) where
       by true there rest =
           let first = and_parts (bytes_eq v.key key) (v.number == p) here in
           let second = and_parts (bytes_eq w.key key) (w.number == p) there in
-          let keys : v.key ≡ w.key = same_key v.key key first.0 ∙ sym (same_key w.key key second.0) in
+          let keys : v.key ≡ w.key = same_version_key v.key key first.0 ∙ sym (same_version_key w.key key second.0) in
           let less : w.number < v.number = newer_number v w before.0 (ap (λ k. bytes_eq v.key k) (sym keys) ∙ bytes_eq-same v.key) in
           let a : v.number ≡ p = eqb-true v.number p first.1 in
           let b : w.number ≡ p = eqb-true w.number p second.1 in
@@ -106,7 +106,7 @@ module _ (key : List ℕ) (p : ℕ) where
 
 -- ---- a version that a test finds
 
-pub record IsFound (f : Version → Bool) (vs : List Version) : Type 0 where
+pub record IsFoundVersion (f : Version → Bool) (vs : List Version) : Type 0 where
   pub found : Version
   pub passes : f found ≡ true
   pub value : Option (List ℕ)
@@ -116,11 +116,11 @@ some_either : (b : Bool) (v w : Option (List ℕ)) (o : Option (Option (List ℕ
 some_either true v w o e = (v, refl)
 some_either false v w o e = (w, e)
 
-pub finds : (f : Version → Bool) (vs : List Version) → list_any f vs ≡ true → IsFound f vs
+pub finds : (f : Version → Bool) (vs : List Version) → list_any f vs ≡ true → IsFoundVersion f vs
 finds f [] h = absurd cc
 finds f (v ∷ vs) h = by (f v) refl h (finds f vs)
   where
-    by : (b : Bool) → f v ≡ b → (b || list_any f vs) ≡ true → (list_any f vs ≡ true → IsFound f vs) → IsFound f (v ∷ vs)
+    by : (b : Bool) → f v ≡ b → (b || list_any f vs) ≡ true → (list_any f vs ≡ true → IsFoundVersion f vs) → IsFoundVersion f (v ∷ vs)
     by true passes e rest = record { found = v; passes = passes; value = v.value; there = rw (bytes_eq-same v.key, eq-eqb v.number v.number refl) refl }
     by false passes e rest =
         let r = rest e in

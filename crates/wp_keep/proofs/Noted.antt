@@ -11,7 +11,7 @@ use Rattle.wp_model.specs.declared.version.Version.{Version}
 use Rattle.wp_model.specs.Versions.{AreInOrder, version_cmp}
 use Rattle.wp_keep.specs.Keep.{is_by, by_commits, has_newer, is_needed, stays}
 use Rattle.wp_keep.specs.Newer.{is_above}
-use Rattle.wp_keep.proofs.Order.{IsBehind, placed, behind_parts, same_key}
+use Rattle.wp_keep.proofs.Order.{IsBehind, placed_version, behind_parts, same_version_key}
 use Rattle.wp_keep.proofs.Any.{any_of, any_newer, none_passed}
 
 abbrev pub Commits : Type 0
@@ -22,7 +22,7 @@ pub record HasNoted (commits : Commits) (front : List Version) (noted : Option (
   pub each : (u : Version) → IsBehind u front → (n : ℕ) → is_above noted u.key n ≡ any_of u.key (λ w. by_commits commits w.number n) front
 
 -- what is noted once a version with this commit, or none, was passed
-pub record IsNoted (noted : Option (List ℕ × ℕ)) (key : List ℕ) (commit : Option ℕ) (next : Option (List ℕ × ℕ)) : Type 0 where
+pub record IsNotedKey (noted : Option (List ℕ × ℕ)) (key : List ℕ) (commit : Option ℕ) (next : Option (List ℕ × ℕ)) : Type 0 where
   pub uncommitted : commit ≡ None → next ≡ noted
   pub committed : (c : ℕ) → commit ≡ Some c → (other : List ℕ) (n : ℕ) → is_above next other n ≡ (bytes_eq key other && (is_above noted key n || is_by commit n))
 
@@ -38,7 +38,7 @@ and_nothing true b = refl
 and_nothing false true = refl
 and_nothing false false = refl
 
-pub noted_more : (commits : Commits) (front : List Version) (v : Version) (noted next : Option (List ℕ × ℕ)) (commit : Option ℕ) → commit ≡ map.get commits v.number → IsNoted noted v.key commit next → IsBehind v front → HasNoted commits front noted → HasNoted commits (front ++ v ∷ []) next
+pub noted_more : (commits : Commits) (front : List Version) (v : Version) (noted next : Option (List ℕ × ℕ)) (commit : Option ℕ) → commit ≡ map.get commits v.number → IsNotedKey noted v.key commit next → IsBehind v front → HasNoted commits front noted → HasNoted commits (front ++ v ∷ []) next
 noted_more commits front v noted next commit is note behind had = record { each = each }
   where
     each : (u : Version) → IsBehind u (front ++ v ∷ []) → (n : ℕ) → is_above next u.key n ≡ any_of u.key (λ w. by_commits commits w.number n) (front ++ v ∷ [])
@@ -58,7 +58,7 @@ noted_more commits front v noted next commit is note behind had = record { each 
           where
             at_key : (b : Bool) → bytes_eq v.key u.key ≡ b → (b && (is_above noted v.key n || is_by commit n)) ≡ (any_of u.key (λ w. by_commits commits w.number n) front || ((b && by_commits commits v.number n) || false))
             at_key true same =
-                let keys = same_key v.key u.key same in
+                let keys = same_version_key v.key u.key same in
                 (λ i. had.each v behind n i || is_by (is i) n)
                 ∙ ap (λ k. any_of k (λ w. by_commits commits w.number n) front || by_commits commits v.number n) keys
                 ∙ or_last (any_of u.key (λ w. by_commits commits w.number n) front) (by_commits commits v.number n)
@@ -68,7 +68,7 @@ noted_more commits front v noted next commit is note behind had = record { each 
 
 pub stays_by : (commits : Commits) (all front : List Version) (v : Version) (back : List Version) (snapshots : List ℕ) (floor : ℕ) (noted : Option (List ℕ × ℕ)) (commit above : Option ℕ) → all ≡ front ++ v ∷ back → AreInOrder all → HasNoted commits front noted → commit ≡ map.get commits v.number → ((n : ℕ) → is_by above n ≡ is_above noted v.key n) → is_needed (is_by commit) (is_by above) snapshots floor ≡ stays (by_commits commits) all snapshots floor v
 stays_by commits all front v back snapshots floor noted commit above split order had is tells =
-    let place = placed front v back (subst AreInOrder split order) in
+    let place = placed_version front v back (subst AreInOrder split order) in
     let newer : (n : ℕ) → is_by above n ≡ has_newer (by_commits commits) all v n = λ n.
     tells n
     ∙ had.each v place.behind n
@@ -85,10 +85,10 @@ split_at all i v within is =
 take_next : (all : List Version) (i : ℕ) (v : Version) → i < length all → v ≡ get_or all i v → take (i + 1) all ≡ take i all ++ v ∷ []
 take_next all i v within is = take_more all i v within ∙ ap (λ w. take i all ++ w ∷ []) (sym is)
 
-pub noted_at : (commits : Commits) (all : List Version) (i : ℕ) (v : Version) (noted next : Option (List ℕ × ℕ)) (commit : Option ℕ) → AreInOrder all → i < length all → v ≡ get_or all i v → commit ≡ map.get commits v.number → IsNoted noted v.key commit next → HasNoted commits (take i all) noted → HasNoted commits (take (i + 1) all) next
+pub noted_at : (commits : Commits) (all : List Version) (i : ℕ) (v : Version) (noted next : Option (List ℕ × ℕ)) (commit : Option ℕ) → AreInOrder all → i < length all → v ≡ get_or all i v → commit ≡ map.get commits v.number → IsNotedKey noted v.key commit next → HasNoted commits (take i all) noted → HasNoted commits (take (i + 1) all) next
 noted_at commits all i v noted next commit order within is own note had =
     let split = split_at all i v within is in
-    let place = placed (take i all) v (drop (suc i) all) (subst AreInOrder split order) in
+    let place = placed_version (take i all) v (drop (suc i) all) (subst AreInOrder split order) in
     subst (λ vs. HasNoted commits vs next) (sym (take_next all i v within is)) (noted_more commits (take i all) v noted next commit own note place.behind had)
 
 -- the versions so far, and this one where it is needed

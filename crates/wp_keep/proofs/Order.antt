@@ -20,8 +20,8 @@ equal_from_test Greater h = absurd cc
 tied_keys : (a b : List ℕ) → bytes_eq a b ≡ true → key_cmp a b ≡ Equal
 tied_keys a b h = equal_from_test (key_cmp a b) (is_eq-slice_cmp a b ∙ h)
 
-pub same_key : (a b : List ℕ) → bytes_eq a b ≡ true → a ≡ b
-same_key a b h = exact_bytes a b (tied_keys a b h)
+pub same_version_key : (a b : List ℕ) → bytes_eq a b ≡ true → a ≡ b
+same_version_key a b h = exact_bytes a b (tied_keys a b h)
 
 pub bytes_eq-same : (a : List ℕ) → bytes_eq a a ≡ true
 bytes_eq-same a = sym (is_eq-slice_cmp a a) ∙ ap is_eq (tied_itself nat_list_cmp_total a)
@@ -84,11 +84,11 @@ before_at : (w : Version) (front : List Version) (v : Version) (back : List Vers
 before_at w [] v back h = h.0
 before_at w (x ∷ front) v back h = before_at w front v back h.1
 
-pub placed : (front : List Version) (v : Version) (back : List Version) → AreInOrder (front ++ v ∷ back) → IsPlaced front v back
-placed [] v back h = record { behind = tt; before = (in_order_parts v back h).0 }
-placed (w ∷ front) v back h =
+pub placed_version : (front : List Version) (v : Version) (back : List Version) → AreInOrder (front ++ v ∷ back) → IsPlaced front v back
+placed_version [] v back h = record { behind = tt; before = (in_order_parts v back h).0 }
+placed_version (w ∷ front) v back h =
     let parts = in_order_parts w (front ++ v ∷ back) h in
-    let rest = placed front v back parts.1 in
+    let rest = placed_version front v back parts.1 in
     record { behind = (before_at w front v back parts.0, rest.behind); before = rest.before }
 
 pub behind_parts : (u : Version) (front : List Version) (v : Version) → IsBehind u (front ++ v ∷ []) → IsBehind u front × (version_cmp v u ≡ Less)

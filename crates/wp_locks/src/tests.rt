@@ -21,6 +21,8 @@ fn claimed(alloc: Global) -> Result<Locks, Fail> {
     Ok(locks)
 }
 
+fn goes_to_a_thread<T: Send>(_value: &T) {}
+
 #[test]
 fn a_live_name_is_not_claimed(rt: HostRuntime) -> Result<(), Fail> {
     let alloc = rt.alloc();
@@ -77,6 +79,7 @@ fn only_a_name_that_was_left_is_taken(rt: HostRuntime) -> Result<(), Fail> {
 fn a_held_key_is_busy(rt: HostRuntime) -> Result<(), Fail> {
     let alloc = rt.alloc();
     let mut locks = Locks::new(alloc);
+    goes_to_a_thread(&locks);
     let key = Key::read(alloc, b"k")?;
     assert!(rt; locks.lock(&key, txn(alloc, b"t")?).is_ok());
     assert!(rt; locks.lock(&key, txn(alloc, b"t")?).is_ok());

@@ -25,7 +25,7 @@ use Rattle.wp_model.specs.Batch.{key_cmp, key_of, value_of, change_to}
 use Rattle.wp_model.specs.declared.version.Version.{Version}
 use Rattle.wp_model.specs.Versions.{AreInOrder, version_cmp, version_at}
 use Rattle.wp_memtable.specs.KeyVersions.{Numbered, RoomyVersions, newest_cmp, AreNewestFirst}
-use Rattle.wp_memtable.specs.Memtable.{Places, HavePlaces, under, versions_of, AllNewestFirst, AreWellOrdered, without_number, numbered_of, place_at}
+use Rattle.wp_memtable.specs.Memtable.{Places, HavePlaces, under, versions_in, AllNewestFirst, AreWellOrdered, without_number, numbered_of, place_at}
 
 -- ---- keys and numbers, tested the other way round
 
@@ -68,17 +68,17 @@ or_none : (o : Option (Option (List ℕ))) → option_or o None ≡ o
 or_none None = refl
 or_none (Some v) = refl
 
-pub version_at-versions_of : (es : Places) (key : List ℕ) (m : ℕ) → IsStrictlySortedBy key_cmp (keys_of es) → version_at (versions_of es) key m ≡ found_at es key m
-version_at-versions_of [] key m sorted = refl
-version_at-versions_of (e ∷ es) key m sorted = by (is_at (key_cmp key) e.0) refl (version_at-versions_of es key m (sorted_tail key_cmp e.0 (keys_of es) sorted))
+pub version_at-versions_in : (es : Places) (key : List ℕ) (m : ℕ) → IsStrictlySortedBy key_cmp (keys_of es) → version_at (versions_in es) key m ≡ found_at es key m
+version_at-versions_in [] key m sorted = refl
+version_at-versions_in (e ∷ es) key m sorted = by (is_at (key_cmp key) e.0) refl (version_at-versions_in es key m (sorted_tail key_cmp e.0 (keys_of es) sorted))
   where
-    by : (b : Bool) → is_at (key_cmp key) e.0 ≡ b → version_at (versions_of es) key m ≡ found_at es key m → version_at (versions_of (e ∷ es)) key m ≡ option_and_then (λ r. lookup (nat_eq m) r.versions) (cond b (Some e.1) (lookup (is_at (key_cmp key)) es))
+    by : (b : Bool) → is_at (key_cmp key) e.0 ≡ b → version_at (versions_in es) key m ≡ found_at es key m → version_at (versions_in (e ∷ es)) key m ≡ option_and_then (λ r. lookup (nat_eq m) r.versions) (cond b (Some e.1) (lookup (is_at (key_cmp key)) es))
     by true is rest =
         let none = missing_behind e es key sorted is in
-        version_at-under e.0 e.1.versions (versions_of es) key m true (sym (at_key key e.0) ∙ is)
+        version_at-under e.0 e.1.versions (versions_in es) key m true (sym (at_key key e.0) ∙ is)
         ∙ ap (option_or (lookup (nat_eq m) e.1.versions)) (rest ∙ ap (option_and_then (λ (r : RoomyVersions). lookup (nat_eq m) r.versions)) none)
         ∙ or_none (lookup (nat_eq m) e.1.versions)
-    by false is rest = version_at-under e.0 e.1.versions (versions_of es) key m false (sym (at_key key e.0) ∙ is) ∙ rest
+    by false is rest = version_at-under e.0 e.1.versions (versions_in es) key m false (sym (at_key key e.0) ∙ is) ∙ rest
 
 -- ---- their order
 
@@ -102,26 +102,26 @@ before_other : (k : List ℕ) (n : ℕ) (v : Option (List ℕ)) (l : List ℕ) (
 before_other k n v l [] less = tt
 before_other k n v l (p ∷ ps) less = (ap (λ o. ordering_then o (nat_cmp p.0 n)) less, before_other k n v l ps less)
 
-before_all : (k : List ℕ) (n : ℕ) (v : Option (List ℕ)) (es : Places) → AllByRecursion (λ l. key_cmp k l ≡ Less) (keys_of es) → IsBefore (record { key = k; number = n; value = v }) (versions_of es)
+before_all : (k : List ℕ) (n : ℕ) (v : Option (List ℕ)) (es : Places) → AllByRecursion (λ l. key_cmp k l ≡ Less) (keys_of es) → IsBefore (record { key = k; number = n; value = v }) (versions_in es)
 before_all k n v [] below = tt
-before_all k n v (e ∷ es) below = before_append (record { key = k; number = n; value = v }) (under e.0 e.1.versions) (versions_of es) (before_other k n v e.0 e.1.versions below.0) (before_all k n v es below.1)
+before_all k n v (e ∷ es) below = before_append (record { key = k; number = n; value = v }) (under e.0 e.1.versions) (versions_in es) (before_other k n v e.0 e.1.versions below.0) (before_all k n v es below.1)
 
 in_order_cons : (v : Version) (ys : List Version) → IsBefore v ys → AreInOrder ys → AreInOrder (v ∷ ys)
 unfolding IsStrictlySortedBy
 in_order_cons v ys before rest = (before, rest)
 
-in_order-under : (k : List ℕ) (ps : Numbered) (es : Places) → AreNewestFirst ps → AllByRecursion (λ l. key_cmp k l ≡ Less) (keys_of es) → AreInOrder (versions_of es) → AreInOrder (under k ps ++ versions_of es)
+in_order-under : (k : List ℕ) (ps : Numbered) (es : Places) → AreNewestFirst ps → AllByRecursion (λ l. key_cmp k l ≡ Less) (keys_of es) → AreInOrder (versions_in es) → AreInOrder (under k ps ++ versions_in es)
 in_order-under k [] es newest below rest = rest
 in_order-under k (p ∷ ps) es newest below rest =
-    in_order_cons _ (under k ps ++ versions_of es)
-    (before_append (record { key = k; number = p.0; value = p.1 }) (under k ps) (versions_of es) (before_under k p.0 p.1 ps (sorted_head newest_cmp p.0 (keys_of ps) newest)) (before_all k p.0 p.1 es below))
+    in_order_cons _ (under k ps ++ versions_in es)
+    (before_append (record { key = k; number = p.0; value = p.1 }) (under k ps) (versions_in es) (before_under k p.0 p.1 ps (sorted_head newest_cmp p.0 (keys_of ps) newest)) (before_all k p.0 p.1 es below))
     (in_order-under k ps es (sorted_tail newest_cmp p.0 (keys_of ps) newest) below rest)
 
-pub in_order-versions_of : (es : Places) → AreWellOrdered es → AreInOrder (versions_of es)
-in_order-versions_of [] ordered = sorted_nil
-in_order-versions_of (e ∷ es) ordered =
+pub in_order-versions_in : (es : Places) → AreWellOrdered es → AreInOrder (versions_in es)
+in_order-versions_in [] ordered = sorted_nil
+in_order-versions_in (e ∷ es) ordered =
     in_order-under e.0 e.1.versions es ordered.newest_first.0 (sorted_head key_cmp e.0 (keys_of es) ordered.keys)
-    (in_order-versions_of es (record { keys = sorted_tail key_cmp e.0 (keys_of es) ordered.keys; newest_first = ordered.newest_first.1 }))
+    (in_order-versions_in es (record { keys = sorted_tail key_cmp e.0 (keys_of es) ordered.keys; newest_first = ordered.newest_first.1 }))
 
 -- ---- the versions of one key
 
@@ -140,38 +140,38 @@ abbrev pub versions_at : Option RoomyVersions → Numbered
 versions_at None = []
 versions_at (Some r) = r.versions
 
-pub numbered_of-versions_of : (es : Places) (key : List ℕ) → IsStrictlySortedBy key_cmp (keys_of es) → numbered_of key (versions_of es) ≡ versions_at (lookup (is_at (key_cmp key)) es)
-numbered_of-versions_of [] key sorted = refl
-numbered_of-versions_of (e ∷ es) key sorted = by (is_at (key_cmp key) e.0) refl (numbered_of-versions_of es key (sorted_tail key_cmp e.0 (keys_of es) sorted))
+pub numbered_of-versions_in : (es : Places) (key : List ℕ) → IsStrictlySortedBy key_cmp (keys_of es) → numbered_of key (versions_in es) ≡ versions_at (lookup (is_at (key_cmp key)) es)
+numbered_of-versions_in [] key sorted = refl
+numbered_of-versions_in (e ∷ es) key sorted = by (is_at (key_cmp key) e.0) refl (numbered_of-versions_in es key (sorted_tail key_cmp e.0 (keys_of es) sorted))
   where
-    front : (b : Bool) → bytes_eq e.0 key ≡ b → numbered_of key (versions_of (e ∷ es)) ≡ map (λ v. (v.number, v.value)) (cond b (under e.0 e.1.versions) []) ++ numbered_of key (versions_of es)
-    front b is = ap (map (λ v. (v.number, v.value))) (filter-append (λ v. bytes_eq v.key key) (under e.0 e.1.versions) (versions_of es) ∙ ap (λ vs. vs ++ filter (λ v. bytes_eq v.key key) (versions_of es)) (filter_under e.0 key e.1.versions b is)) ∙ map-append (λ v. (v.number, v.value)) (cond b (under e.0 e.1.versions) []) (filter (λ v. bytes_eq v.key key) (versions_of es))
+    front : (b : Bool) → bytes_eq e.0 key ≡ b → numbered_of key (versions_in (e ∷ es)) ≡ map (λ v. (v.number, v.value)) (cond b (under e.0 e.1.versions) []) ++ numbered_of key (versions_in es)
+    front b is = ap (map (λ v. (v.number, v.value))) (filter-append (λ v. bytes_eq v.key key) (under e.0 e.1.versions) (versions_in es) ∙ ap (λ vs. vs ++ filter (λ v. bytes_eq v.key key) (versions_in es)) (filter_under e.0 key e.1.versions b is)) ∙ map-append (λ v. (v.number, v.value)) (cond b (under e.0 e.1.versions) []) (filter (λ v. bytes_eq v.key key) (versions_in es))
 
-    by : (b : Bool) → is_at (key_cmp key) e.0 ≡ b → numbered_of key (versions_of es) ≡ versions_at (lookup (is_at (key_cmp key)) es) → numbered_of key (versions_of (e ∷ es)) ≡ versions_at (cond b (Some e.1) (lookup (is_at (key_cmp key)) es))
+    by : (b : Bool) → is_at (key_cmp key) e.0 ≡ b → numbered_of key (versions_in es) ≡ versions_at (lookup (is_at (key_cmp key)) es) → numbered_of key (versions_in (e ∷ es)) ≡ versions_at (cond b (Some e.1) (lookup (is_at (key_cmp key)) es))
     by true is rest =
         let none = missing_behind e es key sorted is in
         front true (sym (at_key key e.0) ∙ is)
-        ∙ ap (λ (ps : Numbered). ps ++ numbered_of key (versions_of es)) (numbered_under e.0 e.1.versions)
+        ∙ ap (λ (ps : Numbered). ps ++ numbered_of key (versions_in es)) (numbered_under e.0 e.1.versions)
         ∙ ap (λ (ps : Numbered). e.1.versions ++ ps) (rest ∙ ap versions_at none)
         ∙ append-nil e.1.versions
     by false is rest = front false (sym (at_key key e.0) ∙ is) ∙ rest
 
 -- ---- a change at one key
 
-versions_of-same : (test : List ℕ → Bool) (es : Places) (r w : RoomyVersions) → lookup test es ≡ Some r → w.versions ≡ r.versions → versions_of (set_value test es w) ≡ versions_of es
+versions_of-same : (test : List ℕ → Bool) (es : Places) (r w : RoomyVersions) → lookup test es ≡ Some r → w.versions ≡ r.versions → versions_in (set_value test es w) ≡ versions_in es
 versions_of-same test [] r w found same = refl
 versions_of-same test (e ∷ es) r w found same = by (test e.0) (λ h. versions_of-same test es r w h same) found
   where
-    by : (b : Bool) → (lookup test es ≡ Some r → versions_of (set_value test es w) ≡ versions_of es) → cond b (Some e.1) (lookup test es) ≡ Some r → versions_of (cond b ((e.0, w) ∷ es) (e ∷ set_value test es w)) ≡ under e.0 e.1.versions ++ versions_of es
-    by true rest is = ap (λ (ps : Numbered). under e.0 ps ++ versions_of es) (same ∙ ap (λ o. versions_at o) (sym is))
+    by : (b : Bool) → (lookup test es ≡ Some r → versions_in (set_value test es w) ≡ versions_in es) → cond b (Some e.1) (lookup test es) ≡ Some r → versions_in (cond b ((e.0, w) ∷ es) (e ∷ set_value test es w)) ≡ under e.0 e.1.versions ++ versions_in es
+    by true rest is = ap (λ (ps : Numbered). under e.0 ps ++ versions_in es) (same ∙ ap (λ o. versions_at o) (sym is))
     by false rest is = ap (λ vs. under e.0 e.1.versions ++ vs) (rest is)
 
-versions_of-none_more : (es : Places) (k : List ℕ) (w : RoomyVersions) → lookup (is_at (key_cmp k)) es ≡ None → w.versions ≡ [] → versions_of (insert_entry key_cmp es k w) ≡ versions_of es
+versions_of-none_more : (es : Places) (k : List ℕ) (w : RoomyVersions) → lookup (is_at (key_cmp k)) es ≡ None → w.versions ≡ [] → versions_in (insert_entry key_cmp es k w) ≡ versions_in es
 versions_of-none_more [] k w found none = ap (λ (ps : Numbered). under k ps ++ []) none
 versions_of-none_more (e ∷ es) k w found none = by (key_cmp k e.0) (λ h. versions_of-none_more es k w h none) found
   where
-    by : (o : Ordering) → (lookup (is_at (key_cmp k)) es ≡ None → versions_of (insert_entry key_cmp es k w) ≡ versions_of es) → cond (is_eq o) (Some e.1) (lookup (is_at (key_cmp k)) es) ≡ None → versions_of (match_ordering o ((k, w) ∷ e ∷ es) ((e.0, w) ∷ es) (e ∷ insert_entry key_cmp es k w)) ≡ under e.0 e.1.versions ++ versions_of es
-    by Less rest is = ap (λ (ps : Numbered). under k ps ++ (under e.0 e.1.versions ++ versions_of es)) none
+    by : (o : Ordering) → (lookup (is_at (key_cmp k)) es ≡ None → versions_in (insert_entry key_cmp es k w) ≡ versions_in es) → cond (is_eq o) (Some e.1) (lookup (is_at (key_cmp k)) es) ≡ None → versions_in (match_ordering o ((k, w) ∷ e ∷ es) ((e.0, w) ∷ es) (e ∷ insert_entry key_cmp es k w)) ≡ under e.0 e.1.versions ++ versions_in es
+    by Less rest is = ap (λ (ps : Numbered). under k ps ++ (under e.0 e.1.versions ++ versions_in es)) none
     by Equal rest is = absurd cc
     by Greater rest is = ap (λ vs. under e.0 e.1.versions ++ vs) (rest is)
 
@@ -179,15 +179,15 @@ length-under : (k : List ℕ) (ps : Numbered) → length (under k ps) ≡ length
 length-under k [] = refl
 length-under k (p ∷ ps) = omega (arith, length-under k ps)
 
-length-changed : (test : List ℕ → Bool) (es : Places) (r w : RoomyVersions) (n : ℕ) → lookup test es ≡ Some r → length w.versions ≡ length r.versions + n → length (versions_of (set_value test es w)) ≡ length (versions_of es) + n
+length-changed : (test : List ℕ → Bool) (es : Places) (r w : RoomyVersions) (n : ℕ) → lookup test es ≡ Some r → length w.versions ≡ length r.versions + n → length (versions_in (set_value test es w)) ≡ length (versions_in es) + n
 length-changed test [] r w n found longer = absurd cc
 length-changed test (e ∷ es) r w n found longer = by (test e.0) (λ h. length-changed test es r w n h longer) found
   where
-    by : (b : Bool) → (lookup test es ≡ Some r → length (versions_of (set_value test es w)) ≡ length (versions_of es) + n) → cond b (Some e.1) (lookup test es) ≡ Some r → length (versions_of (cond b ((e.0, w) ∷ es) (e ∷ set_value test es w))) ≡ length (under e.0 e.1.versions ++ versions_of es) + n
+    by : (b : Bool) → (lookup test es ≡ Some r → length (versions_in (set_value test es w)) ≡ length (versions_in es) + n) → cond b (Some e.1) (lookup test es) ≡ Some r → length (versions_in (cond b ((e.0, w) ∷ es) (e ∷ set_value test es w))) ≡ length (under e.0 e.1.versions ++ versions_in es) + n
     by true rest is =
         let here : length e.1.versions ≡ length r.versions = ap (λ o. length (versions_at o)) is in
-        omega (arith, length-append (under e.0 w.versions) (versions_of es), length-append (under e.0 e.1.versions) (versions_of es), length-under e.0 w.versions, length-under e.0 e.1.versions)
-    by false rest is = omega (arith, length-append (under e.0 e.1.versions) (versions_of (set_value test es w)), length-append (under e.0 e.1.versions) (versions_of es), rest is)
+        omega (arith, length-append (under e.0 w.versions) (versions_in es), length-append (under e.0 e.1.versions) (versions_in es), length-under e.0 w.versions, length-under e.0 e.1.versions)
+    by false rest is = omega (arith, length-append (under e.0 e.1.versions) (versions_in (set_value test es w)), length-append (under e.0 e.1.versions) (versions_in es), rest is)
 
 newest-changed : (test : List ℕ → Bool) (es : Places) (w : RoomyVersions) → AllNewestFirst es → AreNewestFirst w.versions → AllNewestFirst (set_value test es w)
 newest-changed test [] w all newest = tt
@@ -208,28 +208,28 @@ newest-inserted (e ∷ es) k w all newest = by (key_cmp k e.0) (newest-inserted 
 
 -- ---- the same of places that equal those
 
-pub changed_same : (k : List ℕ) (es ns : Places) (r w : RoomyVersions) → ns ≡ set_value (is_at (key_cmp k)) es w → Some r ≡ lookup (is_at (key_cmp k)) es → w.versions ≡ r.versions → versions_of ns ≡ versions_of es
-changed_same k es ns r w is found same = ap versions_of is ∙ versions_of-same (is_at (key_cmp k)) es r w (sym found) same
+pub changed_same : (k : List ℕ) (es ns : Places) (r w : RoomyVersions) → ns ≡ set_value (is_at (key_cmp k)) es w → Some r ≡ lookup (is_at (key_cmp k)) es → w.versions ≡ r.versions → versions_in ns ≡ versions_in es
+changed_same k es ns r w is found same = ap versions_in is ∙ versions_of-same (is_at (key_cmp k)) es r w (sym found) same
 
-pub changed_length : (k : List ℕ) (es ns : Places) (r w : RoomyVersions) (n : ℕ) → ns ≡ set_value (is_at (key_cmp k)) es w → Some r ≡ lookup (is_at (key_cmp k)) es → length w.versions ≡ length r.versions + n → length (versions_of ns) ≡ length (versions_of es) + n
-changed_length k es ns r w n is found longer = ap (λ ms. length (versions_of ms)) is ∙ length-changed (is_at (key_cmp k)) es r w n (sym found) longer
+pub changed_length : (k : List ℕ) (es ns : Places) (r w : RoomyVersions) (n : ℕ) → ns ≡ set_value (is_at (key_cmp k)) es w → Some r ≡ lookup (is_at (key_cmp k)) es → length w.versions ≡ length r.versions + n → length (versions_in ns) ≡ length (versions_in es) + n
+changed_length k es ns r w n is found longer = ap (λ ms. length (versions_in ms)) is ∙ length-changed (is_at (key_cmp k)) es r w n (sym found) longer
 
 pub changed_ordered : (k : List ℕ) (es ns : Places) (w : RoomyVersions) → ns ≡ set_value (is_at (key_cmp k)) es w → AreWellOrdered es → keys_of ns ≡ keys_of es → AreNewestFirst w.versions → AreWellOrdered ns
 changed_ordered k es ns w is ordered same newest = record { keys = subst (IsStrictlySortedBy key_cmp) (sym same) ordered.keys; newest_first = subst AllNewestFirst (sym is) (newest-changed (is_at (key_cmp k)) es w ordered.newest_first newest) }
 
-pub inserted_same : (es ns : Places) (k : List ℕ) (w : RoomyVersions) → ns ≡ insert_entry key_cmp es k w → None ≡ lookup (is_at (key_cmp k)) es → w.versions ≡ [] → versions_of ns ≡ versions_of es
-inserted_same es ns k w is found none = ap versions_of is ∙ versions_of-none_more es k w (sym found) none
+pub inserted_same : (es ns : Places) (k : List ℕ) (w : RoomyVersions) → ns ≡ insert_entry key_cmp es k w → None ≡ lookup (is_at (key_cmp k)) es → w.versions ≡ [] → versions_in ns ≡ versions_in es
+inserted_same es ns k w is found none = ap versions_in is ∙ versions_of-none_more es k w (sym found) none
 
 pub inserted_ordered : (es ns : Places) (k : List ℕ) (w : RoomyVersions) → ns ≡ insert_entry key_cmp es k w → AreWellOrdered es → IsStrictlySortedBy key_cmp (keys_of ns) → AreNewestFirst w.versions → AreWellOrdered ns
 inserted_ordered es ns k w is ordered keys newest = record { keys = keys; newest_first = subst AllNewestFirst (sym is) (newest-inserted es k w ordered.newest_first newest) }
 
 -- what stands under each key and number, where one version was put under k and n
-pub version_at-put : (k : List ℕ) (n : ℕ) (v : Option (List ℕ)) (es ns : Places) (r w : RoomyVersions) → AreWellOrdered es → AreWellOrdered ns → lookup (is_at (key_cmp k)) es ≡ Some r → ((m : ℕ) → lookup (nat_eq m) w.versions ≡ cond (n == m) (Some v) (lookup (nat_eq m) r.versions)) → ((q : List ℕ) → lookup (is_at (key_cmp q)) ns ≡ cond (is_at (key_cmp k) q) (Some w) (lookup (is_at (key_cmp q)) es)) → (key : List ℕ) (m : ℕ) → version_at (versions_of ns) key m ≡ cond (bytes_eq k key && (m == n)) (Some v) (version_at (versions_of es) key m)
+pub version_at-put : (k : List ℕ) (n : ℕ) (v : Option (List ℕ)) (es ns : Places) (r w : RoomyVersions) → AreWellOrdered es → AreWellOrdered ns → lookup (is_at (key_cmp k)) es ≡ Some r → ((m : ℕ) → lookup (nat_eq m) w.versions ≡ cond (n == m) (Some v) (lookup (nat_eq m) r.versions)) → ((q : List ℕ) → lookup (is_at (key_cmp q)) ns ≡ cond (is_at (key_cmp k) q) (Some w) (lookup (is_at (key_cmp q)) es)) → (key : List ℕ) (m : ℕ) → version_at (versions_in ns) key m ≡ cond (bytes_eq k key && (m == n)) (Some v) (version_at (versions_in es) key m)
 version_at-put k n v es ns r w old new found put updated key m =
-    version_at-versions_of ns key m new.keys
+    version_at-versions_in ns key m new.keys
     ∙ ap (option_and_then (λ r. lookup (nat_eq m) r.versions)) (updated key)
     ∙ by (bytes_eq k key) (sym (is_eq-slice_cmp k key))
-    ∙ ap (cond (bytes_eq k key && (m == n)) (Some v)) (sym (version_at-versions_of es key m old.keys))
+    ∙ ap (cond (bytes_eq k key && (m == n)) (Some v)) (sym (version_at-versions_in es key m old.keys))
   where
     by : (b : Bool) → b ≡ is_at (key_cmp k) key → option_and_then (λ r. lookup (nat_eq m) r.versions) (cond (is_at (key_cmp k) key) (Some w) (lookup (is_at (key_cmp key)) es)) ≡ cond (b && (m == n)) (Some v) (found_at es key m)
     by true is =
@@ -240,18 +240,18 @@ version_at-put k n v es ns r w old new found put updated key m =
 
 -- ---- numbers of versions
 
-pub length-versions_of : (e : List ℕ × RoomyVersions) (es : Places) → length (versions_of (e ∷ es)) ≡ length e.1.versions + length (versions_of es)
-length-versions_of e es = length-append (under e.0 e.1.versions) (versions_of es) ∙ ap (λ n. n + length (versions_of es)) (length-under e.0 e.1.versions)
+pub length-versions_in : (e : List ℕ × RoomyVersions) (es : Places) → length (versions_in (e ∷ es)) ≡ length e.1.versions + length (versions_in es)
+length-versions_in e es = length-append (under e.0 e.1.versions) (versions_in es) ∙ ap (λ n. n + length (versions_in es)) (length-under e.0 e.1.versions)
 
 -- ---- the keys that changes change
 
 same_key : (k key : List ℕ) → bytes_eq k key ≡ true → k ≡ key
 same_key k key h = exact_bytes k key (equal_from_test (key_cmp k key) (is_eq-slice_cmp k key ∙ h))
 
-pub is_changed : (changes : List Change) (i : ℕ) (c : Change) → i < length changes → c ≡ get_or changes i c → is_some (change_to changes (key_of c)) ≡ true
-is_changed [] i c within is = absurd (omega arith)
-is_changed (x ∷ xs) zero c within is = rw (ap (λ (k : List ℕ). bytes_eq k (key_of c)) (ap key_of (sym is)) ∙ bytes_eq-same (key_of c)) refl
-is_changed (x ∷ xs) (suc i) c within is = by (bytes_eq (key_of x) (key_of c)) (is_changed xs i c (omega arith) is)
+pub is_change_to : (changes : List Change) (i : ℕ) (c : Change) → i < length changes → c ≡ get_or changes i c → is_some (change_to changes (key_of c)) ≡ true
+is_change_to [] i c within is = absurd (omega arith)
+is_change_to (x ∷ xs) zero c within is = rw (ap (λ (k : List ℕ). bytes_eq k (key_of c)) (ap key_of (sym is)) ∙ bytes_eq-same (key_of c)) refl
+is_change_to (x ∷ xs) (suc i) c within is = by (bytes_eq (key_of x) (key_of c)) (is_change_to xs i c (omega arith) is)
   where
     by : (b : Bool) → is_some (change_to xs (key_of c)) ≡ true → is_some (cond b (Some (value_of x)) (change_to xs (key_of c))) ≡ true
     by true rest = refl
@@ -292,7 +292,7 @@ without_under n k (p ∷ ps) = by (not (p.0 == n)) (without_under n k ps)
     by false rest = rest
 
 pub record Retained (n : ℕ) (es kept : Places) : Type 0 where
-  pub versions : versions_of kept ≡ without_number n (versions_of es)
+  pub versions : versions_in kept ≡ without_number n (versions_in es)
   pub newest_first : AllNewestFirst kept
 
 none_left : (ps : Numbered) → false ≡ nat_lt 0 (length ps) → ps ≡ []
@@ -305,17 +305,17 @@ retained_cons n e es rest kept b w call behind is = by b call.2 is
     front : under e.0 w.versions ≡ without_number n (under e.0 e.1.versions)
     front = ap (under e.0) call.0 ∙ without_under n e.0 e.1.versions
 
-    split : without_number n (versions_of (e ∷ es)) ≡ without_number n (under e.0 e.1.versions) ++ without_number n (versions_of es)
-    split = filter-append (λ v. not (v.number == n)) (under e.0 e.1.versions) (versions_of es)
+    split : without_number n (versions_in (e ∷ es)) ≡ without_number n (under e.0 e.1.versions) ++ without_number n (versions_in es)
+    split = filter-append (λ v. not (v.number == n)) (under e.0 e.1.versions) (versions_in es)
 
     by : (b : Bool) → b ≡ nat_lt 0 (length w.versions) → kept ≡ cond b ((e.0, w) ∷ rest) rest → Retained n (e ∷ es) kept
-    by true some h = record { versions = ap versions_of h ∙ (λ i. front i ++ behind.versions i) ∙ sym split; newest_first = subst AllNewestFirst (sym h) (call.1, behind.newest_first) }
+    by true some h = record { versions = ap versions_in h ∙ (λ i. front i ++ behind.versions i) ∙ sym split; newest_first = subst AllNewestFirst (sym h) (call.1, behind.newest_first) }
     by false none h =
         let gone : without_number n (under e.0 e.1.versions) ≡ [] = sym front ∙ ap (under e.0) (none_left w.versions none) in
-        record { versions = ap versions_of h ∙ behind.versions ∙ sym (split ∙ ap (λ (vs : List Version). vs ++ without_number n (versions_of es)) gone); newest_first = subst AllNewestFirst (sym h) behind.newest_first }
+        record { versions = ap versions_in h ∙ behind.versions ∙ sym (split ∙ ap (λ (vs : List Version). vs ++ without_number n (versions_in es)) gone); newest_first = subst AllNewestFirst (sym h) behind.newest_first }
 
 pub retained : {F : Type 0} (T : F → List ℕ → RoomyVersions → Bool → RoomyVersions → F → Type 0) (n : ℕ) (f : F) → ((k : List ℕ) (v : RoomyVersions) (b : Bool) (w : RoomyVersions) (f' : F) → T f k v b w f' → (f' ≡ f) × Removes n v b w) → (es kept : Places) → RetainsPairs T f es kept → Retained n es kept
-retained T n f calls [] kept h = record { versions = ap versions_of h; newest_first = subst AllNewestFirst (sym h) tt }
+retained T n f calls [] kept h = record { versions = ap versions_in h; newest_first = subst AllNewestFirst (sym h) tt }
 retained T n f calls (e ∷ es) kept (b, w, f', rest, t, others, is) =
     let call = calls e.0 e.1 b w f' t in
     retained_cons n e es rest kept b w call.1 (retained T n f calls es rest (subst (λ g. RetainsPairs T g es rest) call.0 others)) is

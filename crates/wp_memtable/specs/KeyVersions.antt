@@ -21,8 +21,8 @@ pub record RoomyVersions : Type 0 where
   pub versions : Numbered
   pub room : ℕ
 
-abbrev pub roomy_code : Coded RoomyVersions
-roomy_code =
+abbrev pub roomy_versions_code : Coded RoomyVersions
+roomy_versions_code =
     code_by (Numbered × ℕ) (coded× (coded_list (coded× coded_ℕ (coded_option (coded_list coded_ℕ)))) coded_ℕ) (λ r. (r.versions, r.room)) (λ p. record { versions = p.0; room = p.1 }) (λ _. refl)
 
 -- whether a version may come under n without memory: there is room, or n has one already

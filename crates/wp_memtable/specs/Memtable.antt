@@ -35,9 +35,9 @@ under key [] = []
 under key (p ∷ ps) = record { key = key; number = p.0; value = p.1 } ∷ under key ps
 
 -- the versions of all keys
-abbrev pub versions_of : Places → List Version
-versions_of [] = []
-versions_of (e ∷ es) = under e.0 e.1.versions ++ versions_of es
+abbrev pub versions_in : Places → List Version
+versions_in [] = []
+versions_in (e ∷ es) = under e.0 e.1.versions ++ versions_in es
 
 abbrev pub AllNewestFirst : Places → Type 0
 AllNewestFirst [] = Unit {0}

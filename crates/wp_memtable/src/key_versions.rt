@@ -19,11 +19,11 @@ pub struct KeyVersions {
 impl Model for KeyVersions {
     ghost use Rattle.std.specs.Prelude.{◌-◌};
     ghost use Rattle.std.specs.VecDeque.{deque_len, deque_capacity};
-    ghost use Rattle.wp_memtable.specs.KeyVersions.{RoomyVersions, roomy_code, AreNewestFirst};
+    ghost use Rattle.wp_memtable.specs.KeyVersions.{RoomyVersions, roomy_versions_code, AreNewestFirst};
 
     ghost Value = { RoomyVersions };
 
-    ghost coded = { roomy_code };
+    ghost coded = { roomy_versions_code };
 
     ghost view = { λ k. record { versions = k.newest_first.items; room = deque_capacity k.newest_first - deque_len k.newest_first } };
 

@@ -1,6 +1,6 @@
 ghost use Rattle.std.specs.Prelude.{◌≡◌, ◌++◌, ◌<◌, ◌^◌, [], length, IfOk, OnOk, OnErr};
 ghost use Rattle.wp_model.specs.Versions.{AreInOrder};
-ghost use Rattle.wp_memtable.specs.Memtable.{HasChanges, without_number, numbered_of, under, versions_of};
+ghost use Rattle.wp_memtable.specs.Memtable.{HasChanges, without_number, numbered_of, under, versions_in};
 
 use crate::found::Found;
 use crate::key_versions::KeyVersions;
@@ -22,13 +22,13 @@ pub struct Memtable {
 impl Model for Memtable {
     ghost use Rattle.std.specs.Prelude.{◌≡◌, List, length};
     ghost use Rattle.wp_model.specs.declared.version.Version.{Version};
-    ghost use Rattle.wp_memtable.specs.Memtable.{versions_of, AreWellOrdered};
+    ghost use Rattle.wp_memtable.specs.Memtable.{versions_in, AreWellOrdered};
 
     ghost Value = { List Version };
 
-    ghost view = { λ m. versions_of m.places.entries };
+    ghost view = { λ m. versions_in m.places.entries };
 
-    ghost invariant = { λ m. AreWellOrdered m.places.entries × (m.count ≡ length (versions_of m.places.entries)) };
+    ghost invariant = { λ m. AreWellOrdered m.places.entries × (m.count ≡ length (versions_in m.places.entries)) };
 }
 
 /// Copies the versions of a key to the end of the list.
@@ -52,8 +52,8 @@ fn copy_under(
 
 /// How many versions the keys have.
 fn count_of(places: &BTreeMap<Key, KeyVersions>) -> usize
-    requires { length (versions_of places.now.entries) < 2 ^ 64 }
-    ensures { result ≡ length (versions_of places.now.entries) }
+    requires { length (versions_in places.now.entries) < 2 ^ 64 }
+    ensures { result ≡ length (versions_in places.now.entries) }
 {
     let mut count = 0;
     for (_, versions) in places {

@@ -4,7 +4,7 @@ ghost use Rattle.std.specs.Option.{option_or};
 ghost use Rattle.std.specs.Str.{bytes_eq};
 ghost use Rattle.wp_model.specs.Batch.{change_to, value_of};
 ghost use Rattle.wp_model.specs.Versions.{version_at};
-ghost use Rattle.wp_memtable.specs.Memtable.{versions_of, AreWellOrdered, place_at, HavePlaces};
+ghost use Rattle.wp_memtable.specs.Memtable.{versions_in, AreWellOrdered, place_at, HavePlaces};
 
 use crate::key_versions::KeyVersions;
 use std::alloc::{AllocError, Global};
@@ -31,7 +31,7 @@ fn reserve(
     requires { AreWellOrdered places.old.entries }
     ensures place { OnOk result ((n : ℕ) → place_at places.new.entries key.now n ≡ true) }
     ensures others { OnOk result ((other : List ℕ) (n : ℕ) → place_at places.old.entries other n ≡ true → place_at places.new.entries other n ≡ true) }
-    ensures same_versions { versions_of places.new.entries ≡ versions_of places.old.entries }
+    ensures same_versions { versions_in places.new.entries ≡ versions_in places.old.entries }
     ensures well_ordered { AreWellOrdered places.new.entries }
 {
     if let Some(versions) = places.get_mut(key) {
@@ -51,7 +51,7 @@ pub fn reserve_all(
 ) -> Result<(), AllocError>
     requires { AreWellOrdered places.old.entries }
     ensures places { OnOk result ((n : ℕ) → HavePlaces places.new.entries changes.now n) }
-    ensures same_versions { versions_of places.new.entries ≡ versions_of places.old.entries }
+    ensures same_versions { versions_in places.new.entries ≡ versions_in places.old.entries }
     ensures well_ordered { AreWellOrdered places.new.entries }
 {
     for change in changes {
@@ -64,9 +64,9 @@ pub fn reserve_all(
 fn put(places: &mut BTreeMap<Key, KeyVersions>, key: &Key, n: Seq, value: Option<Value>) -> usize
     requires place { place_at places.old.entries key.now n ≡ true }
     requires well_ordered { AreWellOrdered places.old.entries }
-    ensures each { (other : List ℕ) (m : ℕ) → version_at (versions_of places.new.entries) other m ≡ (if bytes_eq key.now other && (m == n) then Some value else version_at (versions_of places.old.entries) other m) }
+    ensures each { (other : List ℕ) (m : ℕ) → version_at (versions_in places.new.entries) other m ≡ (if bytes_eq key.now other && (m == n) then Some value else version_at (versions_in places.old.entries) other m) }
     ensures places { (other : List ℕ) → place_at places.old.entries other n ≡ true → place_at places.new.entries other n ≡ true }
-    ensures count { length (versions_of places.new.entries) ≡ length (versions_of places.old.entries) + result }
+    ensures count { length (versions_in places.new.entries) ≡ length (versions_in places.old.entries) + result }
     ensures most { result ≤ 1 }
     ensures well_ordered { AreWellOrdered places.new.entries }
 {
@@ -84,8 +84,8 @@ pub fn put_all(
     requires values { values.items ≡ map value_of changes.now }
     requires places { HavePlaces places.old.entries changes.now n }
     requires well_ordered { AreWellOrdered places.old.entries }
-    ensures each { (key : List ℕ) (m : ℕ) → version_at (versions_of places.new.entries) key m ≡ (if m == n then option_or (change_to changes.now key) (version_at (versions_of places.old.entries) key m) else version_at (versions_of places.old.entries) key m) }
-    ensures count { length (versions_of places.new.entries) ≡ length (versions_of places.old.entries) + result }
+    ensures each { (key : List ℕ) (m : ℕ) → version_at (versions_in places.new.entries) key m ≡ (if m == n then option_or (change_to changes.now key) (version_at (versions_in places.old.entries) key m) else version_at (versions_in places.old.entries) key m) }
+    ensures count { length (versions_in places.new.entries) ≡ length (versions_in places.old.entries) + result }
     ensures most { result ≤ length changes.now }
     ensures well_ordered { AreWellOrdered places.new.entries }
 {

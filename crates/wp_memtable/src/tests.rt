@@ -27,10 +27,13 @@ fn three_writes(alloc: Global) -> Result<Memtable, Fail> {
     Ok(memtable)
 }
 
+fn goes_to_a_thread<T: Send>(_value: &T) {}
+
 #[test]
 fn versions_stand_by_key_and_then_newest_first(rt: HostRuntime) -> Result<(), Fail> {
     let alloc = rt.alloc();
     let memtable = three_writes(alloc)?;
+    goes_to_a_thread(&memtable);
     let due = [
         version(alloc, b"j", 1, b"1")?,
         version(alloc, b"k", 2, b"2")?,

@@ -14,7 +14,7 @@ use Rattle.std.proofs.lemmas.Cmp.{ranked, tied_itself, nat_cmp_total, nat_list_c
 use Rattle.wp_model.specs.Batch.{key_cmp}
 use Rattle.wp_model.specs.declared.version.Version.{Version}
 use Rattle.wp_model.specs.Versions.{AreInOrder, version_cmp, version_at}
-use Rattle.wp_merge.specs.Merge.{first_at, by_order, weave, merge_of}
+use Rattle.wp_merge.specs.Merge.{first_at, choose_by_order, weave, merge_of}
 
 version_total : IsTotalOrder version_cmp
 version_total = then_total (on_total (λ (v : Version). v.key) nat_list_cmp_total) (on_total (λ (v : Version). v.number) (back_total nat_cmp_total))
@@ -62,7 +62,7 @@ before_weave : (v x : Version) (rest : List Version → List Version) (ys : List
 before_weave v x rest [] here behind before = (here, behind [] tt)
 before_weave v x rest (y ∷ ys) here behind before = by (version_cmp x y) (before_weave v x rest ys here behind before.1)
   where
-    by : (o : Ordering) → IsBefore v (weave x rest ys) → IsBefore v (by_order o (x ∷ rest (y ∷ ys)) (x ∷ rest ys) (y ∷ weave x rest ys))
+    by : (o : Ordering) → IsBefore v (weave x rest ys) → IsBefore v (choose_by_order o (x ∷ rest (y ∷ ys)) (x ∷ rest ys) (y ∷ weave x rest ys))
     by Less later = (here, behind (y ∷ ys) before)
     by Equal later = (here, behind ys before.1)
     by Greater later = (before.0, later)
@@ -75,7 +75,7 @@ in_order-weave : (x : Version) (xs ys : List Version) → IsBefore x xs → ((zs
 in_order-weave x xs [] before behind h = in_order_cons x (merge_of xs []) (before_merge x xs [] before tt) (behind [] h)
 in_order-weave x xs (y ∷ ys) before behind h = by (version_cmp x y) refl (in_order_parts y ys h) (in_order-weave x xs ys before behind (in_order_parts y ys h).1)
   where
-    by : (o : Ordering) → version_cmp x y ≡ o → IsBefore y ys × AreInOrder ys → AreInOrder (weave x (merge_of xs) ys) → AreInOrder (by_order o (x ∷ merge_of xs (y ∷ ys)) (x ∷ merge_of xs ys) (y ∷ weave x (merge_of xs) ys))
+    by : (o : Ordering) → version_cmp x y ≡ o → IsBefore y ys × AreInOrder ys → AreInOrder (weave x (merge_of xs) ys) → AreInOrder (choose_by_order o (x ∷ merge_of xs (y ∷ ys)) (x ∷ merge_of xs ys) (y ∷ weave x (merge_of xs) ys))
     by Less is parts later = in_order_cons x (merge_of xs (y ∷ ys)) (before_merge x xs (y ∷ ys) before (is, before_more x y ys is parts.0)) (behind (y ∷ ys) h)
     by Equal is parts later = in_order_cons x (merge_of xs ys) (before_merge x xs ys before (before_same x y ys is parts.0)) (behind ys parts.1)
     by Greater is parts later =
@@ -129,7 +129,7 @@ module _ (key : List ℕ) (n : ℕ) where
   at_weave x xs [] before behind = ap (cond (is_here x) (Some x.value)) (behind [])
   at_weave x xs (y ∷ ys) before behind = by (version_cmp x y) refl (at_weave x xs ys before behind)
     where
-      by : (o : Ordering) → version_cmp x y ≡ o → version_at (weave x (merge_of xs) ys) key n ≡ cond (is_here x) (Some x.value) (option_or (version_at xs key n) (version_at ys key n)) → version_at (by_order o (x ∷ merge_of xs (y ∷ ys)) (x ∷ merge_of xs ys) (y ∷ weave x (merge_of xs) ys)) key n ≡ cond (is_here x) (Some x.value) (option_or (version_at xs key n) (cond (is_here y) (Some y.value) (version_at ys key n)))
+      by : (o : Ordering) → version_cmp x y ≡ o → version_at (weave x (merge_of xs) ys) key n ≡ cond (is_here x) (Some x.value) (option_or (version_at xs key n) (version_at ys key n)) → version_at (choose_by_order o (x ∷ merge_of xs (y ∷ ys)) (x ∷ merge_of xs ys) (y ∷ weave x (merge_of xs) ys)) key n ≡ cond (is_here x) (Some x.value) (option_or (version_at xs key n) (cond (is_here y) (Some y.value) (version_at ys key n)))
       by Less is later = ap (cond (is_here x) (Some x.value)) (behind (y ∷ ys))
       by Equal is later = ap (cond (is_here x) (Some x.value)) (behind ys) ∙ dropped (is_here x) (is_here y) (same_place x y is)
         where

@@ -25,15 +25,15 @@ front_order (x ∷ xs) [] = Less
 front_order (x ∷ xs) (y ∷ ys) = version_cmp x y
 
 -- the first list where the order is Less, the second where it is Equal, the third where it is Greater
-abbrev pub by_order : Ordering → List Version → List Version → List Version → List Version
-by_order Less first both second = first
-by_order Equal first both second = both
-by_order Greater first both second = second
+abbrev pub choose_by_order : Ordering → List Version → List Version → List Version → List Version
+choose_by_order Less first both second = first
+choose_by_order Equal first both second = both
+choose_by_order Greater first both second = second
 
 -- a version in front of ys, where `rest` merges what comes behind it with such a list
 abbrev pub weave : Version → (List Version → List Version) → List Version → List Version
 weave x rest [] = x ∷ rest []
-weave x rest (y ∷ ys) = by_order (version_cmp x y) (x ∷ rest (y ∷ ys)) (x ∷ rest ys) (y ∷ weave x rest ys)
+weave x rest (y ∷ ys) = choose_by_order (version_cmp x y) (x ∷ rest (y ∷ ys)) (x ∷ rest ys) (y ∷ weave x rest ys)
 
 abbrev pub merge_of : List Version → List Version → List Version
 merge_of [] ys = ys

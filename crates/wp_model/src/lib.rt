@@ -1,11 +1,17 @@
-//! The words of the store: keys, values and names, the batches that transactions make of them, and the history
-//! of entries that all clients share.
+//! The words of the store: keys, values and names, the batches that transactions make of them, the entries of the
+//! history that all clients share, and the versions of keys that they leave.
+//!
+//! The definitions that several layers cite stand here: what a history says of the store (`History`, `Legal`,
+//! `Decision`), which versions show a reader what it holds (`Versions`, `Covered`), and what the tables of prepared
+//! transactions, snapshots and locks are to those who read their contracts.
 #![tactic(auto)]
 
 mod batch;
 mod change;
 mod entry;
 mod holder;
+#[cfg(test)]
+mod tests;
 mod version;
 mod versions;
 mod word;

@@ -13,7 +13,7 @@ use Rattle.std.proofs.lemmas.Grind.{get_or_default_zero}
 use Rattle.std.proofs.lemmas.List.Folds.{list_any_at, list_any_none}
 use Rattle.std.proofs.lemmas.List.Sorted.{searched, list_any-IsPermutation, IsPermutation-insert, IsPermutation-remove}
 use Rattle.std.proofs.lemmas.Map.Keys.{sorted_from_strictly_increasing, non_decreasing_from_sorted, IsDistinct-from_sorted, IsDistinct-head, IsDistinct-IsPermutation}
-use Rattle.wp_prepared.proofs.Sets.{has, set_of, same_either_way, from_list_same, from_list_inserted, from_list_removed, has_none, has-tail, has_settled}
+use Rattle.wp_prepared.proofs.Sets.{has, set_of_numbers, same_either_way, from_list_same, from_list_inserted, from_list_removed, has_none, has-tail, has_settled}
 
 distinct_from_rising : (xs : List ℕ) → IsStrictlyIncreasing xs → IsDistinct (eq_by_cmp nat_cmp) xs
 distinct_from_rising xs rising = IsDistinct-from_sorted nat_cmp xs (sorted_from_strictly_increasing xs rising)
@@ -63,11 +63,11 @@ rising-insert xs p i place rising k fits =
     ]
 
 -- with p in its place the set has p too
-pub set_of-insert : (xs : List ℕ) (p i : ℕ) → set_of (insert xs i p) ≡ set.insert (set_of xs) p
+pub set_of-insert : (xs : List ℕ) (p i : ℕ) → set_of_numbers (insert xs i p) ≡ set.insert (set_of_numbers xs) p
 set_of-insert xs p i = from_list_same (insert xs i p) _ (λ q. sym (list_any-IsPermutation (eq_by_cmp nat_cmp q) (p ∷ xs) (insert xs i p) (IsPermutation-insert xs i p)) ∙ sym (contains-from_list nat_cmp_total (p ∷ xs) q))
 
 -- where p stood and is taken out, the set lacks it
-pub set_of-remove : (xs : List ℕ) (p i : ℕ) → IsStrictlyIncreasing xs → IsPlace xs p (Ok i) → set_of (remove xs i) ≡ set.remove (set_of xs) p
+pub set_of-remove : (xs : List ℕ) (p i : ℕ) → IsStrictlyIncreasing xs → IsPlace xs p (Ok i) → set_of_numbers (remove xs i) ≡ set.remove (set_of_numbers xs) p
 set_of-remove xs p i rising place =
     let rest = remove xs i in
     let moved = IsPermutation-remove xs i p place.0 (sym place.1 ∙ sym (get_or_default_zero xs i p place.0)) in
@@ -76,9 +76,9 @@ set_of-remove xs p i rising place =
     from_list_removed xs rest p (λ q. has-tail p q rest once ∙ ap (cond (eq_by_cmp nat_cmp p q) false) (sym (list_any-IsPermutation (eq_by_cmp nat_cmp q) xs (p ∷ rest) moved)))
 
 -- where p stands, the set has it already
-pub set_of-present : (xs : List ℕ) (p i : ℕ) → IsPlace xs p (Ok i) → set_of xs ≡ set.insert (set_of xs) p
+pub set_of-present : (xs : List ℕ) (p i : ℕ) → IsPlace xs p (Ok i) → set_of_numbers xs ≡ set.insert (set_of_numbers xs) p
 set_of-present xs p i place = from_list_inserted xs xs p (has_settled xs p (sym (is_ok-place xs p (Ok i) place)))
 
 -- where p has only a place to go, the set lacks it already
-pub set_of-absent : (xs : List ℕ) (p i : ℕ) → IsPlace xs p (Err i) → set_of xs ≡ set.remove (set_of xs) p
+pub set_of-absent : (xs : List ℕ) (p i : ℕ) → IsPlace xs p (Err i) → set_of_numbers xs ≡ set.remove (set_of_numbers xs) p
 set_of-absent xs p i place = from_list_removed xs xs p (has_settled xs p (sym (is_ok-place xs p (Err i) place)))

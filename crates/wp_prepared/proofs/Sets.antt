@@ -12,8 +12,8 @@ abbrev pub has : List ℕ → ℕ → Bool
 has ks q = list_any (eq_by_cmp nat_cmp q) ks
 
 -- the set of the list's numbers
-abbrev pub set_of : List ℕ → FinSet nat_cmp
-set_of ks = from_list ks
+abbrev pub set_of_numbers : List ℕ → FinSet nat_cmp
+set_of_numbers ks = from_list ks
 
 pub same_either_way : (a b : ℕ) → eq_by_cmp nat_cmp a b ≡ eq_by_cmp nat_cmp b a
 same_either_way a b = (eq_by_cmp_equiv nat_cmp_total).symm a b
@@ -26,26 +26,26 @@ and_cond : (a b : Bool) → cond a false b ≡ (not a && b)
 and_cond true b = refl
 and_cond false b = refl
 
-pub from_list_same : (ks : List ℕ) (s : FinSet nat_cmp) → ((q : ℕ) → has ks q ≡ contains s q) → set_of ks ≡ s
+pub from_list_same : (ks : List ℕ) (s : FinSet nat_cmp) → ((q : ℕ) → has ks q ≡ contains s q) → set_of_numbers ks ≡ s
 from_list_same ks s same = same_set nat_cmp_total nat_cmp-IsAntisymmetric _ _ (λ q. contains-from_list nat_cmp_total ks q ∙ same q)
 
-pub from_list_inserted : (ks ns : List ℕ) (k : ℕ) → ((q : ℕ) → has ns q ≡ cond (eq_by_cmp nat_cmp k q) true (has ks q)) → set_of ns ≡ insert (set_of ks) k
+pub from_list_inserted : (ks ns : List ℕ) (k : ℕ) → ((q : ℕ) → has ns q ≡ cond (eq_by_cmp nat_cmp k q) true (has ks q)) → set_of_numbers ns ≡ insert (set_of_numbers ks) k
 from_list_inserted ks ns k is =
     from_list_same ns _ (λ q.
     is q
     ∙ or_cond (eq_by_cmp nat_cmp k q) (has ks q)
     ∙ ap (λ b. b || has ks q) (same_either_way k q)
     ∙ ap (λ b. eq_by_cmp nat_cmp q k || b) (sym (contains-from_list nat_cmp_total ks q))
-    ∙ sym (contains-insert nat_cmp_total (set_of ks) k q))
+    ∙ sym (contains-insert nat_cmp_total (set_of_numbers ks) k q))
 
-pub from_list_removed : (ks ns : List ℕ) (k : ℕ) → ((q : ℕ) → has ns q ≡ cond (eq_by_cmp nat_cmp k q) false (has ks q)) → set_of ns ≡ remove (set_of ks) k
+pub from_list_removed : (ks ns : List ℕ) (k : ℕ) → ((q : ℕ) → has ns q ≡ cond (eq_by_cmp nat_cmp k q) false (has ks q)) → set_of_numbers ns ≡ remove (set_of_numbers ks) k
 from_list_removed ks ns k is =
     from_list_same ns _ (λ q.
     is q
     ∙ and_cond (eq_by_cmp nat_cmp k q) (has ks q)
     ∙ ap (λ b. not b && has ks q) (same_either_way k q)
     ∙ ap (λ b. not (eq_by_cmp nat_cmp q k) && b) (sym (contains-from_list nat_cmp_total ks q))
-    ∙ sym (contains-remove nat_cmp_total (set_of ks) k q))
+    ∙ sym (contains-remove nat_cmp_total (set_of_numbers ks) k q))
 
 -- a list in which no number equals k lacks it
 pub has_none : (k : ℕ) (ks : List ℕ) → AllByRecursion (λ y. eq_by_cmp nat_cmp k y ≡ false) ks → has ks k ≡ false
@@ -69,11 +69,11 @@ has_settled xs p settled q =
     ]
 
 -- a set of numbers that differ has as many as the list
-pub len-set_of : (ks : List ℕ) → IsDistinct (eq_by_cmp nat_cmp) ks → len (set_of ks) ≡ length ks
-len-set_of [] distinct = len-empty nat_cmp
-len-set_of (k ∷ ks) distinct =
+pub len-set_of_numbers : (ks : List ℕ) → IsDistinct (eq_by_cmp nat_cmp) ks → len (set_of_numbers ks) ≡ length ks
+len-set_of_numbers [] distinct = len-empty nat_cmp
+len-set_of_numbers (k ∷ ks) distinct =
     let absent = contains-from_list nat_cmp_total ks k ∙ has_none k ks (IsDistinct-head (eq_by_cmp nat_cmp) k ks distinct) in
-    len-insert nat_cmp_total (set_of ks) k
-    ∙ ap (λ b. cond b (len (set_of ks)) (len (set_of ks) + 1)) absent
-    ∙ ap (λ n. n + 1) (len-set_of ks (IsDistinct-tail (eq_by_cmp nat_cmp) k ks distinct))
+    len-insert nat_cmp_total (set_of_numbers ks) k
+    ∙ ap (λ b. cond b (len (set_of_numbers ks)) (len (set_of_numbers ks) + 1)) absent
+    ∙ ap (λ n. n + 1) (len-set_of_numbers ks (IsDistinct-tail (eq_by_cmp nat_cmp) k ks distinct))
     ∙ add-one (length ks)

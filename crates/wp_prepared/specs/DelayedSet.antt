@@ -10,6 +10,6 @@ pub record RoomySet : Type 0 where
   pub room : ℕ
 
 -- it is stored as the pair of its fields
-abbrev pub roomy_code : Coded RoomySet
-roomy_code =
+abbrev pub roomy_set_code : Coded RoomySet
+roomy_set_code =
     code_by (set.FinSet nat_cmp × ℕ) (coded× (set.code coded_ℕ) coded_ℕ) (λ s. (s.numbers, s.room)) (λ p. record { numbers = p.0; room = p.1 }) (λ _. refl)

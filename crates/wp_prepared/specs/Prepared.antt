@@ -1,48 +1,23 @@
--- The numbers of prepared transactions as their contracts see them.
-use Rattle.std.specs.Prelude.{◌≡◌, ℕ, ◌≤◌, Bool, false, ◌||◌, IsTrue, if◌then◌else◌, refl}
-use Rattle.std.specs.Ordering.{nat_cmp}
+-- The tables of prepared transactions with the memory that the delayed set has.
+use Rattle.std.specs.Prelude.{ℕ, ◌≤◌, refl}
 use Rattle.std.specs.Coded.{Coded, code_by, coded×, coded_ℕ}
 use Rattle.std.specs.FinSet as set
-use Rattle.std.specs.FinMap as map
+use Rattle.wp_model.specs.PreparedTables.{PreparedTables, prepared_tables_code, nothing_prepared}
 
--- the prepared heap, the delayed set and the delayed commits; and how many more numbers the delayed set
--- has memory for
-pub record PreparedTables : Type 0 where
-  pub heap : set.FinSet nat_cmp
-  pub delayed : set.FinSet nat_cmp
-  pub delayed_commits : map.FinMap nat_cmp ℕ
+-- the tables, and how many more numbers the delayed set has memory for
+pub record RoomyTables : Type 0 where
+  pub tables : PreparedTables
   pub room : ℕ
 
--- they are stored as their fields, in nested pairs
-abbrev pub tables_code : Coded PreparedTables
-tables_code =
-    code_by (set.FinSet nat_cmp × (set.FinSet nat_cmp × (map.FinMap nat_cmp ℕ × ℕ)))
-    (coded× (set.code coded_ℕ) (coded× (set.code coded_ℕ) (coded× (map.code coded_ℕ coded_ℕ) coded_ℕ)))
-    (λ t. (t.heap, (t.delayed, (t.delayed_commits, t.room))))
-    (λ p. record { heap = p.0; delayed = p.1.0; delayed_commits = p.1.1.0; room = p.1.1.1 })
-    (λ _. refl)
+-- they are stored as the pair of their fields
+abbrev pub roomy_tables_code : Coded RoomyTables
+roomy_tables_code =
+    code_by (PreparedTables × ℕ) (coded× prepared_tables_code coded_ℕ) (λ r. (r.tables, r.room)) (λ p. record { tables = p.0; room = p.1 }) (λ _. refl)
 
--- no number is prepared
-abbrev pub nothing_prepared : PreparedTables
-nothing_prepared = record { heap = set.empty; delayed = set.empty; delayed_commits = map.empty; room = 0 }
-
--- whether p is in the heap or in the delayed set
-abbrev pub is_prepared : PreparedTables → ℕ → Bool
-is_prepared t p = set.contains t.heap p || set.contains t.delayed p
+-- nothing is prepared, and no memory is taken
+abbrev pub empty_tables : RoomyTables
+empty_tables = record { tables = nothing_prepared; room = 0 }
 
 -- the delayed set has memory for each number of the heap
-abbrev pub MovesFit : PreparedTables → Type 0
-MovesFit t = set.len t.heap ≤ t.room
-
--- the delayed commits once the pair (p, c) was evicted: it is kept where p is prepared
-abbrev pub commits_with : PreparedTables → ℕ → ℕ → map.FinMap nat_cmp ℕ
-commits_with t p c = if is_prepared t p then map.insert t.delayed_commits p c else t.delayed_commits
-
--- p is the least prepared number
-pub record IsSmallest (t : PreparedTables) (p : ℕ) : Type 0 where
-  pub prepared : IsTrue (is_prepared t p)
-  pub least : (q : ℕ) → IsTrue (is_prepared t q) → p ≤ q
-
--- no number is prepared
-abbrev pub NonePrepared : PreparedTables → Type 0
-NonePrepared t = (p : ℕ) → is_prepared t p ≡ false
+abbrev pub MovesFit : RoomyTables → Type 0
+MovesFit r = set.len r.tables.heap ≤ r.room

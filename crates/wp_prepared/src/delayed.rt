@@ -17,11 +17,11 @@ impl Model for DelayedSet {
     ghost use Rattle.std.specs.Vec.{vec_capacity};
     ghost use Rattle.std.specs.List.Sorted.{IsStrictlyIncreasing};
     ghost use Rattle.std.specs.FinSet as set;
-    ghost use Rattle.wp_prepared.specs.DelayedSet.{RoomySet, roomy_code};
+    ghost use Rattle.wp_prepared.specs.DelayedSet.{RoomySet, roomy_set_code};
 
     ghost Value = { RoomySet };
 
-    ghost coded = { roomy_code };
+    ghost coded = { roomy_set_code };
 
     ghost view = { λ d. record { numbers = set.from_list d.numbers.items; room = vec_capacity d.numbers - vec_len d.numbers } };
 

@@ -1,7 +1,8 @@
 ghost use Rattle.std.specs.Prelude.{◌≡◌, ℕ, ◌≤◌, ◌&&◌, ◌||◌, nat_lt, nat_le, false, IsOk, OnOk, OnErr, MatchOption};
 ghost use Rattle.std.specs.FinSet as set;
 ghost use Rattle.std.specs.FinMap as map;
-ghost use Rattle.wp_prepared.specs.Prepared.{nothing_prepared, is_prepared, commits_with, MovesFit, NonePrepared, IsSmallest};
+ghost use Rattle.wp_model.specs.PreparedTables.{is_prepared, commits_with, NonePrepared, IsSmallest};
+ghost use Rattle.wp_prepared.specs.Prepared.{empty_tables, MovesFit};
 
 use crate::delayed::DelayedSet;
 use crate::heap::PreparedHeap;
@@ -22,18 +23,18 @@ pub struct Prepared {
 
 impl Model for Prepared {
     ghost use Rattle.std.specs.FinMap as map;
-    ghost use Rattle.wp_prepared.specs.Prepared.{PreparedTables, tables_code};
+    ghost use Rattle.wp_prepared.specs.Prepared.{RoomyTables, roomy_tables_code};
 
-    ghost Value = { PreparedTables };
+    ghost Value = { RoomyTables };
 
-    ghost coded = { tables_code };
+    ghost coded = { roomy_tables_code };
 
-    ghost view = { λ t. record { heap = t.heap; delayed = t.delayed.numbers; delayed_commits = map.from_entries t.delayed_commits.entries; room = t.delayed.room } };
+    ghost view = { λ t. record { tables = record { heap = t.heap; delayed = t.delayed.numbers; delayed_commits = map.from_entries t.delayed_commits.entries }; room = t.delayed.room } };
 }
 
 impl Prepared {
     pub fn new(alloc: Global) -> Prepared
-        ensures { result ≡ nothing_prepared }
+        ensures { result ≡ empty_tables }
     {
         Prepared {
             heap: PreparedHeap::new(alloc),
@@ -44,7 +45,7 @@ impl Prepared {
 
     /// Puts the number of a Prepare entry into the heap, before the entry is published.
     pub fn add(&mut self, p: Seq) -> Result<(), AllocError>
-        ensures ok { OnOk result (self.new ≡ record self.old { heap = set.insert self.old.heap p }) }
+        ensures ok { OnOk result (self.new ≡ record self.old { tables = record self.old.tables { heap = set.insert self.old.tables.heap p } }) }
         ensures err { OnErr result (self.new ≡ self.old) }
     {
         self.heap.insert(p)
@@ -53,7 +54,7 @@ impl Prepared {
     /// Takes the memory that `advance` needs, whatever bound it is given.
     pub fn reserve_moves(&mut self) -> Result<(), AllocError>
         ensures moves { OnOk result (MovesFit self.new) }
-        ensures same_tables { self.new ≡ record self.old { room = self.new.room } }
+        ensures tables { self.new.tables ≡ self.old.tables }
         ensures room { self.old.room ≤ self.new.room }
     {
         self.delayed.reserve(self.heap.len())
@@ -63,9 +64,9 @@ impl Prepared {
     /// as `m`.
     pub fn advance(&mut self, m: Seq)
         requires { MovesFit self.old }
-        ensures heap { (p : ℕ) → set.contains self.new.heap p ≡ (set.contains self.old.heap p && nat_lt m p) }
-        ensures delayed { (p : ℕ) → set.contains self.new.delayed p ≡ (set.contains self.old.delayed p || (set.contains self.old.heap p && nat_le p m)) }
-        ensures delayed_commits { self.new.delayed_commits ≡ self.old.delayed_commits }
+        ensures heap { (p : ℕ) → set.contains self.new.tables.heap p ≡ (set.contains self.old.tables.heap p && nat_lt m p) }
+        ensures delayed { (p : ℕ) → set.contains self.new.tables.delayed p ≡ (set.contains self.old.tables.delayed p || (set.contains self.old.tables.heap p && nat_le p m)) }
+        ensures delayed_commits { self.new.tables.delayed_commits ≡ self.old.tables.delayed_commits }
         ensures moves { MovesFit self.new }
     {
         while let Some(p) = self.heap.pop_up_to(m) {
@@ -76,9 +77,9 @@ impl Prepared {
     /// Keeps the pair (`p`, `c`), which is about to leave its word of the commit cache, where `p` still stands
     /// here. Only then does it take memory.
     pub fn note_evicted(&mut self, p: Seq, c: Seq) -> Result<(), AllocError>
-        ensures ok { OnOk result (self.new ≡ record self.old { delayed_commits = commits_with self.old p c }) }
+        ensures ok { OnOk result (self.new ≡ record self.old { tables = record self.old.tables { delayed_commits = commits_with self.old.tables p c } }) }
         ensures err { OnErr result (self.new ≡ self.old) }
-        ensures elsewhere { is_prepared self.old p ≡ false → IsOk result }
+        ensures elsewhere { is_prepared self.old.tables p ≡ false → IsOk result }
     {
         if self.is_prepared(p) {
             self.delayed_commits.insert(p, c)?;
@@ -88,10 +89,11 @@ impl Prepared {
 
     /// Takes out the number of a transaction that is decided, with its delayed commit.
     pub fn remove(&mut self, p: Seq)
-        ensures heap { self.new.heap ≡ set.remove self.old.heap p }
-        ensures delayed { self.new.delayed ≡ set.remove self.old.delayed p }
-        ensures delayed_commits { self.new.delayed_commits ≡ map.remove self.old.delayed_commits p }
+        ensures heap { self.new.tables.heap ≡ set.remove self.old.tables.heap p }
+        ensures delayed { self.new.tables.delayed ≡ set.remove self.old.tables.delayed p }
+        ensures delayed_commits { self.new.tables.delayed_commits ≡ map.remove self.old.tables.delayed_commits p }
         ensures moves { MovesFit self.old → MovesFit self.new }
+        ensures room { self.old.room ≤ self.new.room }
     {
         self.heap.remove(p);
         self.delayed.remove(p);
@@ -100,27 +102,27 @@ impl Prepared {
 
     /// Whether the number stands in the delayed set.
     pub fn delayed(&self, p: Seq) -> bool
-        ensures { result ≡ set.contains self.now.delayed p }
+        ensures { result ≡ set.contains self.now.tables.delayed p }
     {
         self.delayed.contains(p)
     }
 
     /// The commit number of the pair of `p` that was evicted while `p` stood here.
     pub fn commit_of(&self, p: Seq) -> Option<Seq>
-        ensures { result ≡ map.get self.now.delayed_commits p }
+        ensures { result ≡ map.get self.now.tables.delayed_commits p }
     {
         self.delayed_commits.get(&p).copied()
     }
 
     fn is_prepared(&self, p: Seq) -> bool
-        ensures { result ≡ is_prepared self.now p }
+        ensures { result ≡ is_prepared self.now.tables p }
     {
         self.heap.contains(p) || self.delayed.contains(p)
     }
 
     /// The least number that is in the heap or in the delayed set.
     pub fn smallest(&self) -> Option<Seq>
-        ensures { MatchOption result (NonePrepared self.now) (IsSmallest self.now) }
+        ensures { MatchOption result (NonePrepared self.now.tables) (IsSmallest self.now.tables) }
     {
         match (self.heap.first(), self.delayed.first()) {
             (Some(first), Some(delayed)) => Some(first.min(delayed)),

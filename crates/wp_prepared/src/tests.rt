@@ -1,9 +1,12 @@
 use crate::Prepared;
 use std::test::Fail;
 
+fn goes_to_a_thread<T: Send>(_value: &T) {}
+
 #[test]
 fn a_number_goes_from_the_heap_to_the_delayed_set_and_out(rt: HostRuntime) -> Result<(), Fail> {
     let mut prepared = Prepared::new(rt.alloc());
+    goes_to_a_thread(&prepared);
     prepared.add(1)?;
     prepared.add(2)?;
     prepared.add(5)?;

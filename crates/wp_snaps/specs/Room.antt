@@ -11,8 +11,8 @@ pub record RoomySnapshot : Type 0 where
   pub snapshot : Snapshot
   pub room : ℕ
 
-abbrev pub roomy_code : Coded RoomySnapshot
-roomy_code =
+abbrev pub roomy_snapshot_code : Coded RoomySnapshot
+roomy_snapshot_code =
     code_by (Snapshot × ℕ) (coded× snapshot_code coded_ℕ) (λ s. (s.snapshot, s.room)) (λ p. record { snapshot = p.0; room = p.1 }) (λ _. refl)
 
 -- the snapshots without their room

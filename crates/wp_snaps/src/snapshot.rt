@@ -19,11 +19,11 @@ pub struct Snapshot {
 impl Model for Snapshot {
     ghost use Rattle.std.specs.FinSet as set;
     ghost use Rattle.std.specs.HashSet.{spare};
-    ghost use Rattle.wp_snaps.specs.Room.{RoomySnapshot, roomy_code};
+    ghost use Rattle.wp_snaps.specs.Room.{RoomySnapshot, roomy_snapshot_code};
 
     ghost Value = { RoomySnapshot };
 
-    ghost coded = { roomy_code };
+    ghost coded = { roomy_snapshot_code };
 
     ghost view = { λ s. record { snapshot = record { registrations = s.registrations; old_commits = set.from_list s.old_commits.keys }; room = spare s.old_commits } };
 }

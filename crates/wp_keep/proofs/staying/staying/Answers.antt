@@ -1,11 +1,11 @@
 use Rattle.std.proofs.Common.{◌≡◌, ◌++◌, ◌∷◌, [], cond, refl}
-use Rattle.wp_keep.proofs.Noted.{IsNoted, noted_at, kept_at}
+use Rattle.wp_keep.proofs.Noted.{IsNotedKey, noted_at, kept_at}
 use Rattle.wp_keep.proofs.staying.staying.Goals as goal
 use Rattle.wp_keep.proofs.staying.staying.Goals.{then-is_needed+in_ok-copy+in_ok-push, else-is_needed}
 
 pub loop-version-preserved : goal.loop-version-preserved
 loop-version-preserved c =
-    let note : IsNoted c.loop-version.newer c.version-item.result.key c.commit_of-commit.result c.note-newer.result = record { uncommitted = c.note-newer.ensures.uncommitted; committed = c.note-newer.ensures.committed } in
+    let note : IsNotedKey c.loop-version.newer c.version-item.result.key c.commit_of-commit.result c.note-newer.result = record { uncommitted = c.note-newer.ensures.uncommitted; committed = c.note-newer.ensures.committed } in
     let pushed : c.if-is_needed.kept.items ≡ cond c.is_needed.result (c.loop-version.kept.items ++ c.version-item.result ∷ []) c.loop-version.kept.items =
     elim c.if-is_needed.branch [
       | then-is_needed+in_ok-copy+in_ok-push w ↦ rw (w.kept-is, w.if-is_needed.true, ← w.in_ok-copy.ensures) w.in_ok-push.ensures.items

@@ -1,6 +1,6 @@
 use Rattle.std.proofs.Common.{sym, ap, ◌∙◌}
 use Rattle.std.specs.FinSet as set
-use Rattle.wp_prepared.proofs.Sets.{set_of}
+use Rattle.wp_prepared.proofs.Sets.{set_of_numbers}
 use Rattle.wp_prepared.proofs.Ascending.{place_of, rising-insert, set_of-insert, set_of-present}
 use Rattle.wp_prepared.proofs.delayed.DelayedSet.insert.Goals as goal
 
@@ -13,7 +13,7 @@ invariant_of-self c =
 pub returns-in-Err-clause-numbers : goal.returns-in-Err-clause-numbers
 returns-in-Err-clause-numbers c =
     let items = rw c.unwrap.ensures at c.insert.ensures.items in
-    ap set_of items ∙ set_of-insert _ c.args.p _ ∙ ap (λ s. set.insert s.numbers c.args.p) c.self.view_is
+    ap set_of_numbers items ∙ set_of-insert _ c.args.p _ ∙ ap (λ s. set.insert s.numbers c.args.p) c.self.view_is
 
 pub returns-in_default-clause-numbers : goal.returns-in_default-clause-numbers
 returns-in_default-clause-numbers c =
