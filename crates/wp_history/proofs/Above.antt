@@ -1,4 +1,4 @@
--- No version of a key stands above an undecided prepare of it but its own undo, and that ends the history.
+-- No version of a key is above an undecided prepare of it but its own undo, and that ends the history.
 use Rattle.std.proofs.Common.{◌≡◌, ℕ, ◌+◌, ◌<◌, ◌≤◌, true, false, not, List, [], ◌∷◌, ◌++◌, length, Option, Some, None, ◌⊎◌, refl, sym, ap, ◌∙◌, inl, inr, arith}
 use Rattle.std.specs.Prelude.{option_map, is_some}
 use Rattle.std.proofs.lemmas.Bool.{cases_lt, cases_Bool, cases_order, and_parts, not-true, eq-eqb}
@@ -22,7 +22,7 @@ pub record Holds (history : List Entry) (key : List ℕ) (p : ℕ) : Type 0 wher
   pub undecided : is_undecided history p ≡ true
   pub changed : is_changed (batch_at history p) key ≡ true
 
--- nothing stands there under the key, or the undo of p, which ends the history
+-- nothing is there under the key, or the undo of p, which ends the history
 abbrev pub IsNoneOrUndo : List Entry → List ℕ → ℕ → ℕ → Type 0
 IsNoneOrUndo history key p q = (entry_version history q key ≡ None) ⊎ ((q ≡ length history) × (undone_last history ≡ Some p))
 
@@ -63,7 +63,7 @@ closed_by history (Commit q) p closed undone = absurd cc
 closed_by history (Undo q batch) p closed undone = absurd cc
 closed_by history (Close q) p closed undone = let same : q ≡ p = cc in eq-eqb q p same
 
--- where no undo ends the history, nothing at all stands above under the key
+-- where no undo ends the history, nothing at all is above under the key
 pub none_above : (history : List Entry) (key : List ℕ) (p q : ℕ) → NoneAbove history → undone_last history ≡ None → Holds history key p → p < q → entry_version history q key ≡ None
 none_above history key p q none ended holds lt =
     elim (none.above key p q holds lt) [
@@ -117,7 +117,7 @@ undo_changes : (history : List Entry) (p : ℕ) (batch : List Change) (key : Lis
 undo_changes history p batch key restores =
     ap (λ (changes : List Change). is_changed changes key) restores ∙ ap is_some (prior_to history (batch_at history p) key) ∙ some_kept (change_to (batch_at history p) key) (newest history key)
 
--- what an entry keeps under a key that an undecided prepare holds: nothing, or the entry undoes that prepare
+-- what an entry changes under a key that an undecided prepare holds: nothing, or the entry undoes that prepare
 kept_under_held : (history : List Entry) (entry : Entry) (key : List ℕ) (p : ℕ) → NoneAbove history → IsLegalNext history entry → Holds history key p → (change_to (changes_in entry) key ≡ None) ⊎ (undone_by entry ≡ Some p)
 kept_under_held history (Write batch) key p none behind holds = inl (not_changed batch key (λ changed. not_free history key p holds.undecided holds.changed (free_key history batch key behind.keys_are_free changed)))
 kept_under_held history (Prepare name batch) key p none behind holds = inl (not_changed batch key (λ changed. not_free history key p holds.undecided holds.changed (free_key history batch key behind.keys_are_free.0 changed)))

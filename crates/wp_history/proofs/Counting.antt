@@ -1,4 +1,4 @@
--- Which entries are committed once the first entries of a history stand, whatever follows.
+-- Which entries are committed by the first entries of a history, whatever follows.
 use Rattle.std.proofs.Common.{◌≡◌, ℕ, zero, suc, ◌+◌, ◌<◌, ◌≤◌, Bool, true, false, ◌||◌, not, cond, List, [], ◌∷◌, ◌++◌, length, get_or, take, Option, Some, None, refl, sym, ap, ◌∙◌, inl, inr, length-append, arith}
 use Rattle.std.specs.Prelude.{option_map}
 use Rattle.std.specs.List.{list_any, position, position_or_len}
@@ -50,7 +50,7 @@ counts_within history p h =
       | inr within ↦ within
     ]
 
--- a decided prepare stands before what decides it
+-- a decided prepare is before what decides it
 decided_behind : (history : List Entry) (p i : ℕ) → IsLegal history → position (decides p) history ≡ Some i → (i < length history) × (p ≤ i) × (decides p (get_or history i (Commit 0)) ≡ true)
 decided_behind history p i legal at =
     let found = position-Some (decides p) history i (Commit 0) at in

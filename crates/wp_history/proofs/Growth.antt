@@ -1,4 +1,4 @@
--- How legal histories grow by an entry, and what stands at the old numbers.
+-- How legal histories grow by an entry, and what is at the old numbers.
 use Rattle.std.proofs.Common.{◌≡◌, ℕ, zero, suc, ◌+◌, ◌^◌, ◌<◌, ◌≤◌, Bool, true, false, ◌||◌, not, List, [], ◌∷◌, ◌++◌, length, take, Some, None, refl, sym, ap, ◌∙◌, subst, ⊎_elim, inl, inr, append_assoc, add-one, length-append, arith}
 use Rattle.std.specs.Prelude.{slice_get}
 use Rattle.std.specs.List.{list_any}
@@ -12,7 +12,7 @@ use Rattle.wp_model.specs.declared.entry.Entry.TheVariants.{Write, Prepare, Comm
 use Rattle.wp_model.specs.History.{entry_at, is_prepare, decides, is_undecided}
 use Rattle.wp_model.specs.Legal.{IsLegal, IsLegalNext, NamesUndecided}
 
--- ---- what stands at a number
+-- ---- what is at a number
 
 slice_get_old : (history more : List Entry) (n : ℕ) → n < length history → slice_get (history ++ more) n ≡ slice_get history n
 slice_get_old [] more n lt = absurd (omega arith)
@@ -74,7 +74,7 @@ legal_next history entry legal behind few = record {
   each = legal_at history entry legal behind;
 }
 
--- ---- by growth: what holds of no entries, and goes on with each entry that may stand behind, holds of every legal history
+-- ---- by growth: what holds of no entries, and goes on with each entry that may follow, holds of every legal history
 
 grow : (P : List Entry → Type 0) → ((history : List Entry) (entry : Entry) → IsLegal (history ++ entry ∷ []) → IsLegal history → IsLegalNext history entry → P history → P (history ++ entry ∷ []))
     → (done more : List Entry) → IsLegal (done ++ more) → P done → P (done ++ more)

@@ -1,4 +1,4 @@
--- Which keys undecided prepares hold, and what may stand above them.
+-- Which keys undecided prepares hold, and what may be above them.
 use Rattle.std.proofs.Common.{◌≡◌, ℕ, Bool, true, false, cond, eqb, List, [], ◌∷◌, Option, Some, None, refl, sym, ap, ◌∙◌, ⊎_elim}
 use Rattle.std.specs.Prelude.{option_map, is_some, if◌then◌else◌}
 use Rattle.std.specs.List.{list_any, find}

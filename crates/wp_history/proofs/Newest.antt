@@ -16,7 +16,7 @@ use Rattle.wp_history.proofs.Undecided.{undecided_within}
 pub batch_at_old : (history more : List Entry) (p : ℕ) → p ≤ length history → batch_at (history ++ more) p ≡ batch_at history p
 batch_at_old history more p le = ap prepared_batch (entry_at_old history more p le)
 
--- an entry makes the same changes, whatever stands behind
+-- an entry makes the same changes, whatever follows
 changes_stay : (history more : List Entry) (entry : Entry) → NamesUndecided history entry → changes_of (history ++ more) entry ≡ changes_of history entry
 changes_stay history more (Write batch) names = refl
 changes_stay history more (Prepare name batch) names = refl

@@ -66,7 +66,7 @@ and_not_or false b c = refl
 pub undecided_old : (history : List Entry) (entry : Entry) (p : ℕ) → p ≤ length history → is_undecided (history ++ entry ∷ []) p ≡ (is_undecided history p && not (decides p entry))
 undecided_old history entry p le = rw (entry_at_old history (entry ∷ []) p le, decided_next history entry p) (and_not_or (is_prepare (entry_at history p)) (list_any (decides p) history) (decides p entry))
 
--- nothing decides a number behind the history
+-- nothing decides a number past the history
 pub never_decided : (history : List Entry) → IsLegal history → list_any (decides (length history + 1)) history ≡ false
 never_decided history legal =
     false_from_ne_true _ (λ h. let within = prepared_within history (length history + 1) (decided_prepared history legal (length history + 1) h) in absurd (omega (arith, within.1)))

@@ -8,7 +8,7 @@ use Rattle.wp_model.specs.declared.entry.Entry.TheVariants.{Write, Prepare, Comm
 abbrev pub without_decided : List ℕ → ℕ → List ℕ
 without_decided numbers p = filter (λ q. not (q == p)) numbers
 
--- The numbers of the undecided prepares once an entry with the number n stands behind: a Prepare adds its own, and a
+-- The numbers of the undecided prepares once an entry with the number n follows: a Prepare adds its own, and a
 -- Commit or a Close takes out the one that it names.
 abbrev pub undecided_after : List ℕ → ℕ → Entry → List ℕ
 undecided_after numbers n (Write batch) = numbers

@@ -9,7 +9,7 @@ ghost use Rattle.wp_history.specs.Committed.{committed_version};
 use crate::history::{History, entry_at};
 use wp_model::{Entry, Key, Seq, Value};
 
-/// Whether a Commit or a Close of that prepare stands among the entries.
+/// Whether a Commit or a Close of that prepare is among the entries.
 fn is_decided(entries: &[Entry], p: Seq) -> bool
     ensures { result ≡ list_any (decides p) entries.now }
 {
@@ -19,7 +19,7 @@ fn is_decided(entries: &[Entry], p: Seq) -> bool
     })
 }
 
-/// The version of the key that the entry with that number keeps, where it is committed by these entries.
+/// The version of the key of the entry with that number, where it is committed by these entries.
 fn committed_version<'a>(entries: &'a [Entry], p: Seq, key: &Key) -> Option<Option<&'a Value>>
     ensures { option_map option_copied result ≡ committed_version entries.now p key.now }
 {

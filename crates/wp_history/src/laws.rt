@@ -7,7 +7,7 @@ ghost use Rattle.wp_model.specs.History.{undecided, is_undecided, name_at, batch
 ghost use Rattle.wp_model.specs.Legal.{IsLegal, IsLegalNext, undone_last};
 ghost use Rattle.wp_history.specs.Growth.{undecided_after};
 
-/// A legal history grows by each entry that may stand behind it.
+/// A legal history grows by each entry that may follow it.
 pub fn legal_grows()
     ensures { (history : List Entry) (entry : Entry) → IsLegal history → IsLegalNext history entry
         → length history + 1 < 2 ^ 32 → IsLegal (history ++ entry ∷ []) }
@@ -18,12 +18,12 @@ pub fn legal_front()
     ensures { (history more : List Entry) → IsLegal (history ++ more) → IsLegal history }
 {}
 
-/// Each entry of a legal history may stand behind those before it.
+/// Each entry of a legal history may follow those before it.
 pub fn legal_at_each_entry()
     ensures { (front more : List Entry) (entry : Entry) → IsLegal (front ++ entry ∷ more) → IsLegalNext front entry }
 {}
 
-/// Behind an undo stands its close.
+/// An undo is followed by its close.
 pub fn undo_is_followed_by_its_close()
     ensures { (history : List Entry) (p : ℕ) (batch : List Change) → IsLegalNext history (Undo p batch)
         → IsLegalNext (history ++ Undo p batch ∷ []) (Close p) }
@@ -37,7 +37,7 @@ pub fn undecided_grows()
         → is_undecided (history ++ Prepare name batch ∷ []) (length history + 1) ≡ true }
 {}
 
-/// What stands at the old numbers does not change by entries behind.
+/// Entries that follow change nothing at the old numbers.
 pub fn old_numbers_stay()
     ensures names { (history more : List Entry) (p : ℕ) → p ≤ length history → name_at (history ++ more) p ≡ name_at history p }
     ensures batches { (history more : List Entry) (p : ℕ) → p ≤ length history → batch_at (history ++ more) p ≡ batch_at history p }
@@ -45,7 +45,7 @@ pub fn old_numbers_stay()
         → value_at (history ++ more) key n ≡ value_at history key n }
 {}
 
-/// What stands at the end says what a history undoes last.
+/// The last entry says what a history undoes last.
 pub fn last_entry_undoes()
     ensures { (front others : List Entry) (entry : Entry)
         → undone_last (front ++ entry ∷ others) ≡ undone_last (entry ∷ others) }

@@ -1,4 +1,4 @@
-//! Which entry may stand behind those of a history.
+//! Which entry may follow those of a history.
 ghost use Rattle.std.specs.Prelude.{◌≡◌, ◌↔◌, true};
 ghost use Rattle.wp_model.specs.Batch.{is_batch};
 ghost use Rattle.wp_model.specs.History.{is_undecided, batch_at, newest};
@@ -19,7 +19,7 @@ fn undone_by(entry: &Entry) -> Option<Seq>
 }
 
 impl History {
-    /// Whether the entry may stand behind those of the history.
+    /// Whether the entry may follow those of the history.
     pub fn is_legal_next(&self, entry: &Entry) -> bool
         ensures { (result ≡ true) ↔ IsLegalNext self.now.entries entry.now }
     {
@@ -35,7 +35,7 @@ impl History {
         }
     }
 
-    /// Whether the entry is the Close of an undo that stands last, or no Close where none does.
+    /// Whether the entry is the Close of an undo that is the last entry, or no Close where none is.
     fn is_closed_by(&self, entry: &Entry) -> bool
         ensures { (result ≡ true) ↔ UndoIsClosed self.now.entries entry.now }
     {

@@ -101,7 +101,7 @@ fn a_commit_counts_from_its_number(rt: HostRuntime) -> Result<(), Fail> {
     Ok(())
 }
 
-/// Prepares a change of the key behind a write of k, and takes it back.
+/// Prepares a change of the key after a write of k, and takes it back.
 fn rolled_back(alloc: Global, key: &'static [u8]) -> Result<History, Fail> {
     let mut history = built(alloc, &[Step::Write(b"k", b"1"), Step::Prepare(key, b"7")])?;
     if !history.is_undecided(2) {

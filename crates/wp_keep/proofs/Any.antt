@@ -1,4 +1,4 @@
--- Which versions of a key pass a test, of those before a version and of those behind it.
+-- Which versions of a key pass a test, of those before a version and of those after it.
 use Rattle.std.proofs.Common.{◌≡◌, ℕ, Bool, true, false, ◌&&◌, ◌||◌, Less, List, [], ◌∷◌, ◌++◌, nat_le, nat_lt, refl, sym, ap, ◌∙◌, arith}
 use Rattle.std.specs.List.{list_any}
 use Rattle.std.specs.Str.{bytes_eq}
@@ -63,14 +63,14 @@ module _ (g : Version → Bool) where
   older_back v [] h = refl
   older_back v (w ∷ ws) h = or_with _ _ _ _ (and_true (bytes_eq w.key v.key) (nat_le w.number v.number) (g w) (λ e. let less = newer_number v w h.0 (other_way w.key v.key e) in le-leb w.number v.number (omega arith))) (older_back v ws h.1)
 
-  -- the ones of its key that are as old are itself and those behind it
+  -- the ones of its key that are as old are itself and those after it
   pub any_older : (front : List Version) (v : Version) (back : List Version) → IsPlaced front v back → list_any (older_passes v) (front ++ v ∷ back) ≡ (g v || any_of v.key g back)
   any_older front v back place =
       let here : older_passes v v ≡ g v = λ i. bytes_eq-same v.key i && (le-leb v.number v.number (omega arith) i && g v) in
       list_any-append (older_passes v) front (v ∷ back)
       ∙ or_with _ _ _ _ (older_front v front place.behind) (or_with _ _ _ _ here (older_back v back place.before))
 
-  -- none of another key stands beyond a version that is not of that key
+  -- none of another key is beyond a version that is not of that key
   pub none_passed : (v u : Version) (front : List Version) → IsBehind v front → version_cmp v u ≡ Less → bytes_eq v.key u.key ≡ false → any_of u.key g front ≡ false
   none_passed v u [] h less other = refl
   none_passed v u (w ∷ ws) h less other = or_from (bytes_eq w.key u.key && g w) (any_of u.key g ws) (by (bytes_eq w.key u.key) refl) (none_passed v u ws h.1 less other)

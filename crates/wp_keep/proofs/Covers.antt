@@ -10,7 +10,7 @@ use Rattle.wp_model.specs.Legal.{IsLegal}
 use Rattle.wp_model.specs.Decision as decision
 use Rattle.wp_model.specs.declared.version.Version.{Version}
 use Rattle.wp_model.specs.Versions.{version_at}
-use Rattle.wp_keep.specs.Keep.{has_newer, stays, staying, is_settled_deletion, lasts, kept_of}
+use Rattle.wp_keep.specs.Keep.{has_newer, stays, staying, is_settled_deletion, remains, kept_of}
 use Rattle.wp_keep.specs.MayGo.{DecidesAt, MayGo}
 use Rattle.wp_model.specs.Covered.{GivesNewest, GivesNone, GivesStore, is_among, IsCovered}
 use Rattle.wp_keep.proofs.Order.{in_order_filter, same_version_key, bytes_eq-same}
@@ -44,7 +44,7 @@ module _ (committed : ℕ → ℕ → Bool) (history : List Entry) (newer versio
   stayed_before go key p value e = in_filtered key p (stays committed versions snapshots floor) versions value go.in_order e
 
   kept_stayed : MayGo committed history newer versions snapshots floor → (key : List ℕ) (p : ℕ) (value : Option (List ℕ)) → version_at kept key p ≡ Some value → version_at stayed key p ≡ Some value
-  kept_stayed go key p value e = in_filtered key p (lasts committed stayed floor) stayed value (in_order_filter (stays committed versions snapshots floor) versions go.in_order) e
+  kept_stayed go key p value e = in_filtered key p (remains committed stayed floor) stayed value (in_order_filter (stays committed versions snapshots floor) versions go.in_order) e
 
   -- what the newer ones and those that stay have, all had
   all_before : MayGo committed history newer versions snapshots floor → (key : List ℕ) (p : ℕ) (value : Option (List ℕ)) → version_at (newer ++ kept) key p ≡ Some value → version_at (newer ++ versions) key p ≡ Some value
@@ -89,16 +89,16 @@ module _ (committed : ℕ → ℕ → Bool) (history : List Entry) (newer versio
       let shown : (committed p n && not (has_newer committed versions (version key p value) n)) ≡ true = and_from (committed p n) (not (has_newer committed versions (version key p value) n)) there (not_from_false (has_newer committed versions (version key p value) n) (none_newer key p n value none)) in
       at_filter key p (stays committed versions snapshots floor) versions value e (or_right _ _ (any_listed (λ m. committed p m && not (has_newer committed versions (version key p value) m)) (floor ∷ snapshots) n listed shown))
 
-  -- ---- what lasts of it
+  -- ---- what remains of it
 
   abbrev older_passes : List ℕ → ℕ → Version → Bool
   older_passes key p w = bytes_eq w.key key && (nat_le w.number p && not (is_settled_deletion committed floor w))
 
-  -- a version that stays lasts where one as old says more than a deletion that is committed at the floor
-  lasts_over : (key : List ℕ) (p q : ℕ) (value older : Option (List ℕ)) → version_at stayed key p ≡ Some value → q ≤ p → version_at stayed key q ≡ Some older → is_settled_deletion committed floor (version key q older) ≡ false → version_at kept key p ≡ Some value
-  lasts_over key p q value older e le at says =
+  -- a version that stays remains where one as old says more than a deletion that is committed at the floor
+  remains_over : (key : List ℕ) (p q : ℕ) (value older : Option (List ℕ)) → version_at stayed key p ≡ Some value → q ≤ p → version_at stayed key q ≡ Some older → is_settled_deletion committed floor (version key q older) ≡ false → version_at kept key p ≡ Some value
+  remains_over key p q value older e le at says =
       let passes : older_passes key p (version key q older) ≡ true = and_from (bytes_eq key key) (nat_le q p && not (is_settled_deletion committed floor (version key q older))) (bytes_eq-same key) (and_from (nat_le q p) (not (is_settled_deletion committed floor (version key q older))) (le-leb q p le) (not_from_false (is_settled_deletion committed floor (version key q older)) says)) in
-      at_filter key p (lasts committed stayed floor) stayed value e (any_found key q (older_passes key p) stayed older at passes)
+      at_filter key p (remains committed stayed floor) stayed value e (any_found key q (older_passes key p) stayed older at passes)
 
   pub record IsDropped (key : List ℕ) (p : ℕ) (value : Option (List ℕ)) : Type 0 where
     pub deletion : value ≡ None
@@ -115,22 +115,22 @@ module _ (committed : ℕ → ℕ → Bool) (history : List Entry) (newer versio
   none_value None h = refl
   none_value (Some x) h = absurd cc
 
-  lasts_or_dropped : (key : List ℕ) (p : ℕ) (value : Option (List ℕ)) → version_at stayed key p ≡ Some value → (version_at kept key p ≡ Some value) ⊎ IsDropped key p value
-  lasts_or_dropped key p value e = by (lasts committed stayed floor (version key p value)) refl
+  remains_or_is_dropped : (key : List ℕ) (p : ℕ) (value : Option (List ℕ)) → version_at stayed key p ≡ Some value → (version_at kept key p ≡ Some value) ⊎ IsDropped key p value
+  remains_or_is_dropped key p value e = by (remains committed stayed floor (version key p value)) refl
     where
-      by : (b : Bool) → lasts committed stayed floor (version key p value) ≡ b → (version_at kept key p ≡ Some value) ⊎ IsDropped key p value
-      by true is = inl (at_filter key p (lasts committed stayed floor) stayed value e is)
+      by : (b : Bool) → remains committed stayed floor (version key p value) ≡ b → (version_at kept key p ≡ Some value) ⊎ IsDropped key p value
+      by true is = inl (at_filter key p (remains committed stayed floor) stayed value e is)
       by false is = inr (record { deletion = settled (is_settled_deletion committed floor (version key p value)) refl; below = λ q le. at q le (version_at kept key q) refl })
         where
           settled : (b : Bool) → is_settled_deletion committed floor (version key p value) ≡ b → value ≡ None
           settled true h = none_value value (and_parts (is_none value) (committed p floor) h).0
-          settled false h = let lasting = passed_filter key p (lasts committed stayed floor) stayed value (lasts_over key p p value value e (omega arith) e h) in absurd (false≢true (sym is ∙ lasting))
+          settled false h = let remaining = passed_filter key p (remains committed stayed floor) stayed value (remains_over key p p value value e (omega arith) e h) in absurd (false≢true (sym is ∙ remaining))
 
           at : (q : ℕ) → q ≤ p → (o : Option (Option (List ℕ))) → version_at kept key q ≡ o → o ≡ None
           at q le None h = refl
           at q le (Some x) h =
-              let lasting = passed_filter key q (lasts committed stayed floor) stayed x h in
-              absurd (false≢true (sym is ∙ any_mono (older_passes key q) (older_passes key p) (older_more key p q le) stayed lasting))
+              let remaining = passed_filter key q (remains committed stayed floor) stayed x h in
+              absurd (false≢true (sym is ∙ any_mono (older_passes key q) (older_passes key p) (older_more key p q le) stayed remaining))
 
   -- ---- what a reader finds
 
@@ -175,7 +175,7 @@ module _ (committed : ℕ → ℕ → Bool) (history : List Entry) (newer versio
         by (Some x) is = still (at_both newer kept key found.number ∙ ap (λ o. option_or o (version_at kept key found.number)) is ∙ sym (ap (λ o. option_or o (version_at versions key found.number)) is) ∙ whole)
         by None is =
             let here : version_at versions key found.number ≡ Some found.value = sym (ap (λ o. option_or o (version_at versions key found.number)) is) ∙ whole in
-            elim (lasts_or_dropped key found.number found.value (there here)) [
+            elim (remains_or_is_dropped key found.number found.value (there here)) [
               | inl e ↦ still (at_both newer kept key found.number ∙ ap (λ o. option_or o (version_at kept key found.number)) is ∙ e)
               | inr gone ↦ dropped is here gone
             ]
@@ -210,11 +210,11 @@ module _ (committed : ℕ → ℕ → Bool) (history : List Entry) (newer versio
     undecided_stays key p value undecided here =
         let open_ = undecided_unsettled key p value undecided here in
         let there = stays_uncommitted key p value here open_ in
-        lasts_over key p p value value there (omega arith) there (unsettled key p value open_)
+        remains_over key p p value value there (omega arith) there (unsettled key p value open_)
 
     undo_stays : (key : List ℕ) (value : Option (List ℕ)) (last : (p : ℕ) × UndoesLast history key p) (from : ℕ) → IsCovered (newer ++ versions) history snapshots from → version_at versions key (length history) ≡ Some value → version_at kept key (length history) ≡ Some value
     undo_stays key value last from covered here =
-        lasts_over key (length history) last.0 value last.1.value stays_ (omega (arith, last.1.below)) prepare (unsettled key last.0 last.1.value (undecided_unsettled key last.0 last.1.value last.1.undecided prepare_here))
+        remains_over key (length history) last.0 value last.1.value stays_ (omega (arith, last.1.below)) prepare (unsettled key last.0 last.1.value (undecided_unsettled key last.0 last.1.value last.1.undecided prepare_here))
       where
         prepare_here : version_at versions key last.0 ≡ Some last.1.value
         prepare_here = by (version_at newer key last.0) refl (sym (at_both newer versions key last.0) ∙ covered.undecided key last.0 last.1.value last.1.undecided last.1.there)

@@ -1,4 +1,4 @@
--- One version more of those that last, the oldest first.
+-- One version more of those that remain, the oldest first.
 use Rattle.std.proofs.Common.{◌≡◌, ℕ, Bool, true, false, ◌&&◌, ◌||◌, not, cond, List, [], ◌∷◌, ◌++◌, reverse, refl, sym, ap, ◌∙◌, subst, append_assoc}
 use Rattle.std.specs.List.{filter}
 use Rattle.std.specs.Str.{bytes_eq}
@@ -6,7 +6,7 @@ use Rattle.std.proofs.lemmas.Bool.{or_parts}
 use Rattle.std.proofs.lemmas.List.{reverse-append}
 use Rattle.wp_model.specs.declared.version.Version.{Version}
 use Rattle.wp_model.specs.Versions.{AreInOrder}
-use Rattle.wp_keep.specs.Keep.{is_settled_deletion, lasts}
+use Rattle.wp_keep.specs.Keep.{is_settled_deletion, remains}
 use Rattle.wp_keep.specs.Newer.{starts_with_key}
 use Rattle.wp_keep.proofs.Order.{IsBefore, placed_version, same_version_key}
 use Rattle.wp_keep.proofs.Any.{any_of, any_older, none_ahead}
@@ -16,11 +16,11 @@ module _ (committed : ℕ → ℕ → Bool) (all : List Version) (floor : ℕ) w
   abbrev says : Version → Bool
   says w = not (is_settled_deletion committed floor w)
 
-  lasts_by : (front : List Version) (v : Version) (back : List Version) → all ≡ front ++ v ∷ back → AreInOrder all → lasts committed all floor v ≡ (says v || any_of v.key says back)
+  lasts_by : (front : List Version) (v : Version) (back : List Version) → all ≡ front ++ v ∷ back → AreInOrder all → remains committed all floor v ≡ (says v || any_of v.key says back)
   lasts_by front v back split order =
-      ap (λ vs. lasts committed vs floor v) split ∙ any_older says front v back (placed_version front v back (subst AreInOrder split order))
+      ap (λ vs. remains committed vs floor v) split ∙ any_older says front v back (placed_version front v back (subst AreInOrder split order))
 
-  first_key_more : (front : List Version) (v : Version) (back : List Version) → all ≡ front ++ v ∷ back → AreInOrder all → (u : Version) → IsBefore u (v ∷ back) → (b : Bool) → b ≡ (says v || any_of v.key says back) → starts_with_key (filter (lasts committed all floor) back) u.key ≡ any_of u.key says back → starts_with_key (cond b (v ∷ filter (lasts committed all floor) back) (filter (lasts committed all floor) back)) u.key ≡ ((bytes_eq v.key u.key && says v) || any_of u.key says back)
+  first_key_more : (front : List Version) (v : Version) (back : List Version) → all ≡ front ++ v ∷ back → AreInOrder all → (u : Version) → IsBefore u (v ∷ back) → (b : Bool) → b ≡ (says v || any_of v.key says back) → starts_with_key (filter (remains committed all floor) back) u.key ≡ any_of u.key says back → starts_with_key (cond b (v ∷ filter (remains committed all floor) back) (filter (remains committed all floor) back)) u.key ≡ ((bytes_eq v.key u.key && says v) || any_of u.key says back)
   first_key_more front v back split order u before true e rest = at_key (bytes_eq v.key u.key) refl e
     where
       at_key : (b : Bool) → bytes_eq v.key u.key ≡ b → true ≡ (says v || any_of v.key says back) → b ≡ ((b && says v) || any_of u.key says back)
@@ -32,30 +32,30 @@ module _ (committed : ℕ → ℕ → Bool) (all : List Version) (floor : ℕ) w
       beyond true none = ap (λ x. x || any_of u.key says back) (sym none)
       beyond false none = refl
 
-  first_key : (front : List Version) (back : List Version) → all ≡ front ++ back → AreInOrder all → (u : Version) → IsBefore u back → starts_with_key (filter (lasts committed all floor) back) u.key ≡ any_of u.key says back
+  first_key : (front : List Version) (back : List Version) → all ≡ front ++ back → AreInOrder all → (u : Version) → IsBefore u back → starts_with_key (filter (remains committed all floor) back) u.key ≡ any_of u.key says back
   first_key front [] split order u before = refl
-  first_key front (v ∷ back) split order u before = first_key_more front v back split order u before (lasts committed all floor v) (lasts_by front v back split order) (first_key (front ++ v ∷ []) back (split ∙ sym (append_assoc front (v ∷ []) back)) order u before.1)
+  first_key front (v ∷ back) split order u before = first_key_more front v back split order u before (remains committed all floor v) (lasts_by front v back split order) (first_key (front ++ v ∷ []) back (split ∙ sym (append_assoc front (v ∷ []) back)) order u before.1)
 
-  -- what was passed from the end on, of which these last, the last one first
-  pub record HasLasting (front kept : List Version) : Type 0 where
+  -- what was passed from the end on, of which these remain, the last one first
+  pub record HasRemaining (front kept : List Version) : Type 0 where
     pub back : List Version
     pub split : all ≡ front ++ back
-    pub lasting : reverse kept ≡ filter (lasts committed all floor) back
+    pub remaining : reverse kept ≡ filter (remains committed all floor) back
 
-  pub lasting_more : (front rest kept next : List Version) (v : Version) (b : Bool) → AreInOrder all → front ≡ rest ++ v ∷ [] → b ≡ (says v || starts_with_key (reverse kept) v.key) → next ≡ cond b (kept ++ v ∷ []) kept → HasLasting front kept → HasLasting rest next
-  lasting_more front rest kept next v b order popped test pushed had =
-      record { back = v ∷ had.back; split = split; lasting = ap reverse pushed ∙ by b is }
+  pub remaining_more : (front rest kept next : List Version) (v : Version) (b : Bool) → AreInOrder all → front ≡ rest ++ v ∷ [] → b ≡ (says v || starts_with_key (reverse kept) v.key) → next ≡ cond b (kept ++ v ∷ []) kept → HasRemaining front kept → HasRemaining rest next
+  remaining_more front rest kept next v b order popped test pushed had =
+      record { back = v ∷ had.back; split = split; remaining = ap reverse pushed ∙ by b is }
     where
       split : all ≡ rest ++ v ∷ had.back
       split = had.split ∙ ap (λ vs. vs ++ had.back) popped ∙ append_assoc rest (v ∷ []) had.back
 
-      is : b ≡ lasts committed all floor v
+      is : b ≡ remains committed all floor v
       is =
           test
-          ∙ ap (λ vs. says v || starts_with_key vs v.key) had.lasting
+          ∙ ap (λ vs. says v || starts_with_key vs v.key) had.remaining
           ∙ ap (λ x. says v || x) (first_key (rest ++ v ∷ []) had.back (had.split ∙ ap (λ vs. vs ++ had.back) popped) order v (placed_version rest v had.back (subst AreInOrder split order)).before)
           ∙ sym (lasts_by rest v had.back split order)
 
-      by : (c : Bool) → c ≡ lasts committed all floor v → reverse (cond c (kept ++ v ∷ []) kept) ≡ cond (lasts committed all floor v) (v ∷ filter (lasts committed all floor) had.back) (filter (lasts committed all floor) had.back)
-      by true e = reverse-append kept (v ∷ []) ∙ ap (λ vs. v ∷ vs) had.lasting ∙ ap (λ c. cond c (v ∷ filter (lasts committed all floor) had.back) (filter (lasts committed all floor) had.back)) e
-      by false e = had.lasting ∙ ap (λ c. cond c (v ∷ filter (lasts committed all floor) had.back) (filter (lasts committed all floor) had.back)) e
+      by : (c : Bool) → c ≡ remains committed all floor v → reverse (cond c (kept ++ v ∷ []) kept) ≡ cond (remains committed all floor v) (v ∷ filter (remains committed all floor) had.back) (filter (remains committed all floor) had.back)
+      by true e = reverse-append kept (v ∷ []) ∙ ap (λ vs. v ∷ vs) had.remaining ∙ ap (λ c. cond c (v ∷ filter (remains committed all floor) had.back) (filter (remains committed all floor) had.back)) e
+      by false e = had.remaining ∙ ap (λ c. cond c (v ∷ filter (remains committed all floor) had.back) (filter (remains committed all floor) had.back)) e

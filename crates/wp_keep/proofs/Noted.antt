@@ -17,7 +17,7 @@ use Rattle.wp_keep.proofs.Any.{any_of, any_newer, none_passed}
 abbrev pub Commits : Type 0
 Commits = map.FinMap nat_cmp ℕ
 
--- what is noted tells of each version behind these which newer ones are committed
+-- what is noted tells of each version after these which newer ones are committed
 pub record HasNoted (commits : Commits) (front : List Version) (noted : Option (List ℕ × ℕ)) : Type 0 where
   pub each : (u : Version) → IsBehind u front → (n : ℕ) → is_above noted u.key n ≡ any_of u.key (λ w. by_commits commits w.number n) front
 

@@ -28,7 +28,7 @@ bytes_eq-same a = sym (is_eq-slice_cmp a a) ∙ ap is_eq (tied_itself nat_list_c
 
 -- ---- two versions
 
--- of two versions of a key the one that stands first has the greater number
+-- of two versions of a key the one that is first has the greater number
 pub newer_number : (w v : Version) → version_cmp w v ≡ Less → bytes_eq w.key v.key ≡ true → v.number < w.number
 newer_number w v less same =
     let numbers : nat_cmp v.number w.number ≡ Less = sym (ap (λ o. ordering_then o (nat_cmp v.number w.number)) (tied_keys w.key v.key same)) ∙ less in
@@ -60,11 +60,11 @@ between u v w first second same = by (key_cmp u.key v.key) refl
 
 -- ---- a version in a list
 
--- all of these stand before v
+-- all of these are before v
 abbrev pub IsBehind : Version → List Version → Type 0
 IsBehind v versions = AllByRecursion (λ w. version_cmp w v ≡ Less) versions
 
--- all of these stand behind v
+-- all of these are after v
 abbrev pub IsBefore : Version → List Version → Type 0
 IsBefore v versions = AllByRecursion (λ w. version_cmp v w ≡ Less) versions
 

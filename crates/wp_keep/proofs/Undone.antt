@@ -14,7 +14,7 @@ use Rattle.wp_model.specs.declared.entry.Entry.TheVariants.{Write, Prepare, Comm
 use Rattle.wp_model.specs.Batch.{key_of, value_of, change_to}
 use Rattle.wp_model.specs.History.{entry_at, is_prepare, batch_at, prepared_batch, decides, is_undecided, newest}
 use Rattle.wp_model.specs.Legal.{IsLegal, IsLegalNext, undone_last, change_that_leaves, prior}
-use Rattle.wp_model.specs.Decision.{version_in, version_at, decision_in, IsCommittedAt}
+use Rattle.wp_model.specs.Decision.{version_in, entry_version, decision_in, IsCommittedAt}
 
 -- ---- undecided
 
@@ -38,7 +38,7 @@ undecided_uncommitted history p n undecided committed =
     let parts = and_parts (is_prepare (entry_at history p)) (not (list_any (decides p) history)) undecided in
     nothing_decides history p committed.by (entry_at history p) parts.0 (not-true (list_any (decides p) history) parts.1) committed.decided
 
--- ---- what stands at a number
+-- ---- what is at a number
 
 slice_get_old : (history more : List Entry) (n : ℕ) → n < length history → slice_get (history ++ more) n ≡ slice_get history n
 slice_get_old [] more n lt = absurd (omega arith)
@@ -114,7 +114,7 @@ pub record UndoesLast (history : List Entry) (key : List ℕ) (p : ℕ) : Type 0
   pub below : p < length history
   pub undecided : is_undecided history p ≡ true
   pub value : Option (List ℕ)
-  pub there : version_at history p key ≡ Some value
+  pub there : entry_version history p key ≡ Some value
 
 held_by : (at : Option Entry) (key : List ℕ) (value : Option (List ℕ)) → is_prepare at ≡ true → change_to (prepared_batch at) key ≡ Some value → version_in at key ≡ Some value
 held_by None key value prepare e = absurd cc
@@ -124,10 +124,10 @@ held_by (Some (Commit q)) key value prepare e = absurd cc
 held_by (Some (Undo q batch)) key value prepare e = absurd cc
 held_by (Some (Close q)) key value prepare e = absurd cc
 
-undoes_at : (front : List Entry) (p : ℕ) (batch : List Change) (key : List ℕ) (value : Option (List ℕ)) → IsLegal (front ++ Undo p batch ∷ []) → version_at (front ++ Undo p batch ∷ []) (length (front ++ Undo p batch ∷ [])) key ≡ Some value → UndoesLast (front ++ Undo p batch ∷ []) key p
+undoes_at : (front : List Entry) (p : ℕ) (batch : List Change) (key : List ℕ) (value : Option (List ℕ)) → IsLegal (front ++ Undo p batch ∷ []) → entry_version (front ++ Undo p batch ∷ []) (length (front ++ Undo p batch ∷ [])) key ≡ Some value → UndoesLast (front ++ Undo p batch ∷ []) key p
 undoes_at front p batch key value legal there =
     let long : length (front ++ Undo p batch ∷ []) ≡ suc (length front) = omega (arith, length-append front (Undo p batch ∷ [])) in
-    let last : change_to batch key ≡ Some value = sym (ap (λ (at : Option Entry). version_in at key) (slice_get_next front (Undo p batch))) ∙ sym (ap (λ n. version_at (front ++ Undo p batch ∷ []) n key) long) ∙ there in
+    let last : change_to batch key ≡ Some value = sym (ap (λ (at : Option Entry). version_in at key) (slice_get_next front (Undo p batch))) ∙ sym (ap (λ n. entry_version (front ++ Undo p batch ∷ []) n key) long) ∙ there in
     let P : List Entry → Type 0 = λ before. IsLegalNext before (Undo p batch) in
     let behind : IsLegalNext front (Undo p batch) = subst P (take-append_seam front (Undo p batch ∷ [])) (legal.each (length front) (Undo p batch) (slice_get_next front (Undo p batch))) in
     let parts = and_parts (is_prepare (entry_at front p)) (not (list_any (decides p) front)) behind.names_undecided in
@@ -141,8 +141,8 @@ undoes_at front p batch key value legal there =
       there = ap (λ (at : Option Entry). version_in at key) same ∙ held_by (entry_at front p) key old.0 parts.0 old.1;
     }
 
-pub undoes_last : (history : List Entry) (key : List ℕ) (p : ℕ) (value : Option (List ℕ)) → IsLegal history → undone_last history ≡ Some p → version_at history (length history) key ≡ Some value → UndoesLast history key p
+pub undoes_last : (history : List Entry) (key : List ℕ) (p : ℕ) (value : Option (List ℕ)) → IsLegal history → undone_last history ≡ Some p → entry_version history (length history) key ≡ Some value → UndoesLast history key p
 undoes_last history key p value legal undone there =
     let ends = ends_with history p undone in
-    let P : List Entry → Type 0 = λ h. IsLegal h → version_at h (length h) key ≡ Some value → UndoesLast h key p in
+    let P : List Entry → Type 0 = λ h. IsLegal h → entry_version h (length h) key ≡ Some value → UndoesLast h key p in
     subst P (sym ends.is) (undoes_at ends.front p ends.batch key value) legal there

@@ -44,13 +44,13 @@ abbrev pub is_settled_deletion : (ℕ → ℕ → Bool) → ℕ → Version → 
 is_settled_deletion committed floor v = is_none v.value && committed v.number floor
 
 -- the version, or an older one of its key, is no deletion that is committed at the floor
-abbrev pub lasts : (ℕ → ℕ → Bool) → List Version → ℕ → Version → Bool
-lasts committed versions floor v = list_any (λ w. bytes_eq w.key v.key && (nat_le w.number v.number && not (is_settled_deletion committed floor w))) versions
+abbrev pub remains : (ℕ → ℕ → Bool) → List Version → ℕ → Version → Bool
+remains committed versions floor v = list_any (λ w. bytes_eq w.key v.key && (nat_le w.number v.number && not (is_settled_deletion committed floor w))) versions
 
--- the versions without those deletions that are committed at the floor and have nothing else of their key behind them
-abbrev pub lasting : (ℕ → ℕ → Bool) → List Version → ℕ → List Version
-lasting committed versions floor = filter (lasts committed versions floor) versions
+-- the versions without those deletions that are committed at the floor and have nothing else of their key after them
+abbrev pub remaining : (ℕ → ℕ → Bool) → List Version → ℕ → List Version
+remaining committed versions floor = filter (remains committed versions floor) versions
 
 -- the versions that stay, in their order, where `committed p n` says whether the number p is committed at n
 abbrev pub kept_of : (ℕ → ℕ → Bool) → List Version → List ℕ → ℕ → List Version
-kept_of committed versions snapshots floor = lasting committed (staying committed versions snapshots floor) floor
+kept_of committed versions snapshots floor = remaining committed (staying committed versions snapshots floor) floor

@@ -3,7 +3,7 @@ ghost use Rattle.wp_model.specs.Versions.{AreInOrder};
 ghost use Rattle.wp_keep.specs.Keep.{is_committed, kept_of};
 
 use crate::commits::Commits;
-use crate::lasting::lasting;
+use crate::remaining::remaining;
 use crate::pair::Pair;
 use crate::staying::staying;
 use std::alloc::{AllocError, Global};
@@ -22,6 +22,6 @@ pub fn keep(
 {
     let commits = Commits::of(alloc, committed)?;
     let staying = staying(alloc, versions.as_slice(), &commits, snapshots, floor)?;
-    let kept = lasting(alloc, staying, &commits, floor)?;
+    let kept = remaining(alloc, staying, &commits, floor)?;
     Ok(Versions::of(kept))
 }

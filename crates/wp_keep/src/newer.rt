@@ -41,7 +41,7 @@ pub fn least(found: Option<Seq>, commit: Seq) -> Seq
     }
 }
 
-/// What is noted behind a version that is committed by the number, or is not.
+/// What is noted after a version that is committed by the number, or is not.
 pub fn note<'a>(newer: Option<Newer<'a>>, key: &'a Key, commit: Option<Seq>) -> Option<Newer<'a>>
     ensures uncommitted { commit ≡ None → result ≡ newer.entry }
     ensures committed { (c : ℕ) → commit ≡ Some c → (other : List ℕ) (n : ℕ) → is_above result other n ≡ (bytes_eq key.now other && (is_above newer.entry key.now n || is_by commit n)) }

@@ -67,7 +67,7 @@ module _ {X : Type 0} where
   pub get_found : (es : List (List ℕ × X)) (k : List ℕ) (o : Option X) → o ≡ value_at es k → get (map_of es) k ≡ o
   get_found es k o is = get-map_of es k ∙ sym is
 
-  -- with what stands there already a map is as it was
+  -- with what is there already a map is as it was
   pub insert_same : (m : FinMap key_cmp X) (k : List ℕ) (v : X) → get m k ≡ Some v → insert m k v ≡ m
   insert_same m k v stood =
       same_map nat_list_cmp_total (slice_cmp-IsAntisymmetric nat_cmp-IsAntisymmetric) _ _ (λ q. get-insert nat_list_cmp_total m k v q ∙ by q (eq_by_cmp key_cmp q k) refl)

@@ -16,7 +16,7 @@ pub newest_none : AreNewestFirst []
 unfolding IsStrictlySortedBy
 newest_none = tt
 
--- the numbers behind the first are smaller
+-- the numbers after the first are smaller
 abbrev AreBelow : ℕ → Numbered → Type 0
 AreBelow x es = AllByRecursion (λ y. newest_cmp x y ≡ Less) (keys_of es)
 
@@ -137,7 +137,7 @@ module _ (n : ℕ) where
       below_none = tt
   newest-put v (e ∷ es) h none = newest_put_cons v e es h none.0 (newest-put v es (newest_parts e es h).1 none.1) (newer e) refl
 
-  -- what stands under each number then
+  -- what is under each number then
   pub lookup-put : (v : Option (List ℕ)) (es : Numbered) (i m : ℕ) → lookup (nat_eq m) (insert (filter other es) i (n, v)) ≡ cond (n == m) (Some v) (lookup (nat_eq m) es)
   lookup-put v es i m =
       lookup-insert nat_eq_equiv n v m (filter other es) i (none_is es)
@@ -148,7 +148,7 @@ module _ (n : ℕ) where
             rw (ne_eqb n m apart) found
       ]
 
-  -- n is found where it stands, and nowhere where taking it out changes nothing
+  -- n is found where it is, and nowhere where taking it out changes nothing
   pub found_at : (es : Numbered) (i : ℕ) (e : ℕ × Option (List ℕ)) → i < length es → e ≡ get_or es i e → e.0 ≡ n → is_some (lookup (nat_eq n) es) ≡ true
   found_at [] i e within is same = absurd (omega arith)
   found_at (x ∷ es) zero e within is same = rw (eq-eqb n x.0 (sym same ∙ ap (λ (y : ℕ × Option (List ℕ)). y.0) is)) refl

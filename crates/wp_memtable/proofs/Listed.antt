@@ -43,7 +43,7 @@ bytes_eq-same a = sym (is_eq-slice_cmp a a) ∙ ap is_eq (tied_itself nat_list_c
 at_key : (key k : List ℕ) → is_at (key_cmp key) k ≡ bytes_eq k key
 at_key key k = is_eq-slice_cmp key k ∙ bytes_eq-back key k
 
--- ---- what stands under a key and a number
+-- ---- what is under a key and a number
 
 -- what the places have under the key and the number
 abbrev pub found_at : Places → List ℕ → ℕ → Option (Option (List ℕ))
@@ -86,7 +86,7 @@ sorted_nil : AreInOrder []
 unfolding IsStrictlySortedBy
 sorted_nil = tt
 
--- every version of ys is behind v
+-- every version of ys is after v
 abbrev IsBefore : Version → List Version → Type 0
 IsBefore v ys = AllByRecursion (λ w. version_cmp v w ≡ Less) ys
 
@@ -223,7 +223,7 @@ inserted_same es ns k w is found none = ap versions_in is ∙ versions_of-none_m
 pub inserted_ordered : (es ns : Places) (k : List ℕ) (w : RoomyVersions) → ns ≡ insert_entry key_cmp es k w → AreWellOrdered es → IsStrictlySortedBy key_cmp (keys_of ns) → AreNewestFirst w.versions → AreWellOrdered ns
 inserted_ordered es ns k w is ordered keys newest = record { keys = keys; newest_first = subst AllNewestFirst (sym is) (newest-inserted es k w ordered.newest_first newest) }
 
--- what stands under each key and number, where one version was put under k and n
+-- what is under each key and number, where one version was put under k and n
 pub version_at-put : (k : List ℕ) (n : ℕ) (v : Option (List ℕ)) (es ns : Places) (r w : RoomyVersions) → AreWellOrdered es → AreWellOrdered ns → lookup (is_at (key_cmp k)) es ≡ Some r → ((m : ℕ) → lookup (nat_eq m) w.versions ≡ cond (n == m) (Some v) (lookup (nat_eq m) r.versions)) → ((q : List ℕ) → lookup (is_at (key_cmp q)) ns ≡ cond (is_at (key_cmp k) q) (Some w) (lookup (is_at (key_cmp q)) es)) → (key : List ℕ) (m : ℕ) → version_at (versions_in ns) key m ≡ cond (bytes_eq k key && (m == n)) (Some v) (version_at (versions_in es) key m)
 version_at-put k n v es ns r w old new found put updated key m =
     version_at-versions_in ns key m new.keys

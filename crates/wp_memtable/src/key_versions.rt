@@ -68,7 +68,7 @@ impl KeyVersions {
         self.newest_first.reserve(1)
     }
 
-    /// Puts a version under `n`, in place of one that stands there. Returns how many versions more there are.
+    /// Puts a version under `n`, in place of one that is there. Returns how many versions more there are.
     pub fn put(&mut self, n: Seq, value: Option<Value>) -> usize
         requires { IsTrue (has_place self.old n) }
         ensures each { (m : ℕ) → lookup (nat_eq m) self.new.versions ≡ (if n == m then Some value else lookup (nat_eq m) self.old.versions) }

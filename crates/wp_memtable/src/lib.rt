@@ -1,8 +1,8 @@
-//! The versions that stand in memory: what each entry of the history leaves under the keys that it changes.
+//! The versions that are in memory: what each entry of the history leaves under the keys that it changes.
 //!
-//! A version is a key, the number of the entry that wrote it, and a value or none for a deletion. The keys stand in
+//! A version is a key, the number of the entry that wrote it, and a value or none for a deletion. The keys are in
 //! their order, and each key's versions together, the newest first: so a look-up goes through one key's versions
-//! alone. A new entry's number mostly exceeds all that stand, so its versions go to the front. Before the first
+//! alone. A new entry's number mostly exceeds all that are there, so its versions go to the front. Before the first
 //! version of a batch goes in, the memory for all of them is taken.
 #![tactic(auto)]
 

@@ -75,7 +75,7 @@ impl Memtable {
 
     /// Puts a version under `n` for each change of the batch. A version of the same key and number is replaced. A
     /// refused call may keep memory that it took, and nothing else. A count at its type's end can't rise: that too
-    /// is told as want of memory, since no memory holds so many.
+    /// is answered as want of memory, since no memory holds so many.
     pub fn insert(&mut self, n: Seq, batch: &Batch) -> Result<(), AllocError>
         ensures ok { OnOk result (HasChanges n batch.now self.old self.new) }
         ensures err { OnErr result (self.new ≡ self.old) }

@@ -1,4 +1,4 @@
--- What merging two lists keeps: their order, and what stands under each key and number.
+-- What merging two lists keeps: their order, and what is under each key and number.
 use Rattle.std.proofs.Common.{◌≡◌, ℕ, Bool, true, false, cond, ◌&&◌, ◌==◌, Less, Equal, Greater, List, [], ◌∷◌, ◌++◌, Option, Some, None, refl, sym, ap, ◌∙◌}
 use Rattle.std.specs.Option.{option_or}
 use Rattle.std.specs.declared.cmp.Ordering.{Ordering}
@@ -32,7 +32,7 @@ both_equal Less p h = absurd cc
 both_equal Equal p h = (refl, h)
 both_equal Greater p h = absurd cc
 
--- every version of ys is behind v
+-- every version of ys is after v
 abbrev IsBefore : Version → List Version → Type 0
 IsBefore v ys = AllByRecursion (λ w. version_cmp v w ≡ Less) ys
 
@@ -88,7 +88,7 @@ in_order-merge (x ∷ xs) ys first second =
     let parts = in_order_parts x xs first in
     in_order-weave x xs ys parts.0 (λ zs h. in_order-merge xs zs parts.1 h) second
 
--- ---- what stands under a key and a number
+-- ---- what is under a key and a number
 
 module _ (key : List ℕ) (n : ℕ) where
   -- whether the version is the one of the key and the number
@@ -100,7 +100,7 @@ module _ (key : List ℕ) (n : ℕ) where
       let parts = and_parts (bytes_eq v.key key) (v.number == n) h in
       (exact_bytes v.key key (equal_from_test (key_cmp v.key key) (is_eq-slice_cmp v.key key ∙ parts.0)), eqb-true v.number n parts.1)
 
-  -- a version of the place stands before all others of it
+  -- a version of the place is before all others of it
   apart : (y w : Version) → version_cmp y w ≡ Less → is_here y ≡ true → is_here w ≡ false
   apart y w less here = by (is_here w) refl
     where
@@ -167,7 +167,7 @@ module _ (key : List ℕ) (n : ℕ) where
   first_at-push [] source = or_none (version_at source key n)
   first_at-push (s ∷ sources) source = ap (option_or (version_at s key n)) (first_at-push sources source) ∙ sym (or_or (version_at s key n) (first_at sources key n) (version_at source key n))
 
-  -- the last list merged with what was merged behind it
+  -- the last list merged with what was merged after it
   pub merged_more : (now rest : List (List Version)) (source versions merged : List Version) → now ≡ rest ++ source ∷ [] → merged ≡ merge_of source versions → AreInOrder source → option_or (first_at rest key n) (version_at merged key n) ≡ option_or (first_at now key n) (version_at versions key n)
   merged_more now rest source versions merged left is h =
       ap (λ m. option_or (first_at rest key n) (version_at m key n)) is

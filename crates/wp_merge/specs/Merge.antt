@@ -30,7 +30,7 @@ choose_by_order Less first both second = first
 choose_by_order Equal first both second = both
 choose_by_order Greater first both second = second
 
--- a version in front of ys, where `rest` merges what comes behind it with such a list
+-- a version in front of ys, where `rest` merges what comes after it with such a list
 abbrev pub weave : Version → (List Version → List Version) → List Version → List Version
 weave x rest [] = x ∷ rest []
 weave x rest (y ∷ ys) = choose_by_order (version_cmp x y) (x ∷ rest (y ∷ ys)) (x ∷ rest ys) (y ∷ weave x rest ys)

@@ -1,4 +1,4 @@
--- Where a change stands among changes whose keys ascend, and what the changes say with it.
+-- Where a change is among changes whose keys ascend, and what the changes say with it.
 use Rattle.std.proofs.Common.{◌≡◌, ℕ, suc, ◌+◌, ◌<◌, true, false, leb, List, [], ◌∷◌, ◌++◌, length, get_or, set, take, drop, Some, None, refl, sym, ap, ◌∙◌, append_assoc, add-one, arith}
 use Rattle.std.specs.Prelude.{insert}
 use Rattle.std.specs.declared.cmp.Ordering.{Ordering}

@@ -31,7 +31,7 @@ GivesStore versions history key n = GivesNewest versions history key n ⊎ Gives
 abbrev pub is_among : List ℕ → ℕ → Bool
 is_among numbers n = list_any (λ m. m == n) numbers
 
--- The versions are some of those that the history keeps. Each that is undecided is there, and each of an undo that ends
+-- The versions are some of those that the history has. Each that is undecided is there, and each of an undo that ends
 -- the history. A reader finds the store's value at each listed number, and at each from a number on.
 pub record IsCovered (versions : List Version) (history : List Entry) (numbers : List ℕ) (from : ℕ) : Type 0 where
   pub part : (key : List ℕ) (p : ℕ) (value : Option (List ℕ)) → version_at versions key p ≡ Some value → decision.entry_version history p key ≡ Some value

@@ -7,7 +7,7 @@ use Rattle.wp_model.specs.Batch.{change_to}
 use Rattle.wp_model.specs.History.{entry_at, decides}
 use Rattle.wp_model.specs.Legal.{changes_in}
 
--- the version of a key that an entry keeps, if it keeps one: a value, or a deletion
+-- the version of a key that an entry has, if it has one: a value, or a deletion
 abbrev pub version_in : Option Entry → List ℕ → Option (Option (List ℕ))
 version_in None key = None
 version_in (Some entry) key = change_to (changes_in entry) key

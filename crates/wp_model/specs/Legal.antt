@@ -1,4 +1,4 @@
--- A legal history: each entry may stand behind those before it.
+-- A legal history: each entry may follow those before it.
 use Rattle.std.specs.Prelude.{◌≡◌, ℕ, ◌^◌, ◌<◌, true, List, [], ◌∷◌, length, take, map, Option, Some, None, slice_get}
 use Rattle.wp_model.specs.declared.change.Change.{Change}
 use Rattle.wp_model.specs.declared.change.Change.TheVariants.{Put, Del}
@@ -7,9 +7,9 @@ use Rattle.wp_model.specs.declared.entry.Entry.TheVariants.{Write, Prepare, Comm
 use Rattle.wp_model.specs.Batch.{key_of, is_batch}
 use Rattle.wp_model.specs.History.{batch_at, is_undecided, named, holder_of, newest}
 
--- ---- what an entry keeps
+-- ---- what an entry changes
 
--- the changes that an entry keeps, whether they are committed or not
+-- the changes of an entry, whether they are committed or not
 abbrev pub changes_in : Entry → List Change
 changes_in (Write batch) = batch
 changes_in (Prepare name batch) = batch
@@ -32,7 +32,7 @@ undone_last (Undo p batch ∷ []) = Some p
 undone_last (other ∷ []) = None
 undone_last (first ∷ second ∷ others) = undone_last (second ∷ others)
 
--- the Close of a prepare follows its Undo at once, and stands nowhere else
+-- the Close of a prepare follows its Undo at once, and is nowhere else
 abbrev pub UndoIsClosed : List Entry → Entry → Type 0
 UndoIsClosed before (Close p) = undone_last before ≡ Some p
 UndoIsClosed before other = undone_last before ≡ None
@@ -64,7 +64,7 @@ KeysAreFree before other = Unit {0}
 
 -- ---- together
 
--- the entry may stand right behind these
+-- the entry may come right after these
 pub record IsLegalNext (before : List Entry) (entry : Entry) : Type 0 where
   pub batch : is_batch (changes_in entry) ≡ true
   pub names_undecided : NamesUndecided before entry
@@ -72,11 +72,11 @@ pub record IsLegalNext (before : List Entry) (entry : Entry) : Type 0 where
   pub restores_prior : RestoresPrior before entry
   pub keys_are_free : KeysAreFree before entry
 
--- each entry may stand behind those before it
+-- each entry may follow those before it
 abbrev pub AreLegal : List Entry → Type 0
 AreLegal history = (n : ℕ) (entry : Entry) → slice_get history n ≡ Some entry → IsLegalNext (take n history) entry
 
--- A legal history: few enough entries for their numbers, and each may stand behind those before it.
+-- A legal history: few enough entries for their numbers, and each may follow those before it.
 pub record IsLegal (history : List Entry) : Type 0 where
   pub few : length history < 2 ^ 32
   pub each : AreLegal history

@@ -1,4 +1,4 @@
--- Where a change stands in a batch, or would.
+-- Where a change is in a batch, or would be.
 use Rattle.std.specs.Prelude.{◌≡◌, ℕ, ◌<◌, ◌≤◌, List, length, None, insert, slice_set}
 use Rattle.wp_model.specs.declared.change.Change.{Change}
 use Rattle.wp_model.specs.declared.batch.Place.{Place}
@@ -11,7 +11,7 @@ pub record IsChangedAt (changes : List Change) (key : List ℕ) (i : ℕ) : Type
   pub there : (change_to changes key ≡ None) → ⊥
   pub placed : (change : Change) → key_of change ≡ key → with_change changes change ≡ slice_set changes i change
 
--- the key has no change, and a new one stands before that place
+-- the key has no change, and a new one comes before that place
 pub record IsUnchangedBefore (changes : List Change) (key : List ℕ) (i : ℕ) : Type 0 where
   pub within : i ≤ length changes
   pub missing : change_to changes key ≡ None

@@ -27,7 +27,7 @@ snapshots_code = map.code coded_ℕ snapshot_code
 abbrev pub IsLive : Snapshots → ℕ → Type 0
 IsLive m s = IsSome (map.get m s)
 
--- whether p stands under s
+-- whether the old commit map has p under s
 abbrev pub is_old_commit : Snapshots → ℕ → ℕ → Bool
 is_old_commit m s p = option_map_or (λ x. set.contains x.old_commits p) (map.get m s) false
 
@@ -36,7 +36,7 @@ abbrev pub after_register : Option Snapshot → Option Snapshot
 after_register None = Some (record { registrations = 1; old_commits = set.empty })
 after_register (Some x) = Some (record x { registrations = x.registrations + 1 })
 
--- one registration less: with the last goes what stands under the number
+-- one registration less: with the last goes what is under the number
 abbrev pub after_release : Option Snapshot → Option Snapshot
 after_release None = None
 after_release (Some x) = if nat_le x.registrations 1 then None else Some (record x { registrations = x.registrations - 1 })

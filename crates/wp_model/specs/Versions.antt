@@ -11,7 +11,7 @@ use Rattle.wp_model.specs.declared.version.Version.{Version}
 abbrev pub version_cmp : Version → Version → Ordering
 version_cmp v w = ordering_then (key_cmp v.key w.key) (nat_cmp w.number v.number)
 
--- each version stands before all that follow it
+-- each version is before all that follow it
 abbrev pub AreInOrder : List Version → Type 0
 AreInOrder = IsStrictlySortedBy version_cmp
 

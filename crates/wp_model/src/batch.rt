@@ -48,11 +48,11 @@ impl Model for Batch {
     ghost invariant = { λ b. is_batch b.changes.items ≡ true };
 }
 
-/// Where a key's change stands among changes whose keys ascend, or would stand.
+/// Where a key's change is among changes whose keys ascend, or would be.
 enum Place {
     /// Its change is there.
     At(usize),
-    /// It has none, and it would stand right before that place.
+    /// It has none, and it would be right before that place.
     Before(usize),
 }
 

@@ -10,7 +10,7 @@ use std::alloc::{AllocError, Global};
 pub enum Entry {
     /// A transaction that was written at once: its batch is committed.
     Write(Batch),
-    /// A transaction of this name was prepared: its batch is kept, and its keys are held, until it is decided.
+    /// A transaction of this name was prepared: its keys are held, until it is decided.
     Prepare(Name, Batch),
     /// The prepare with this number is committed.
     Commit(Seq),

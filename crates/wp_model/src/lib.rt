@@ -1,7 +1,7 @@
 //! The words of the store: keys, values and names, the batches that transactions make of them, the entries of the
 //! history that all clients share, and the versions of keys that they leave.
 //!
-//! The definitions that several layers cite stand here: what a history says of the store (`History`, `Legal`,
+//! The definitions that several layers cite are here: what a history says of the store (`History`, `Legal`,
 //! `Decision`), which versions show a reader what it holds (`Versions`, `Covered`), and what the tables of prepared
 //! transactions, snapshots and locks are to those who read their contracts.
 #![tactic(auto)]

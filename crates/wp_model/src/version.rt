@@ -27,7 +27,7 @@ pub fn copy_value(value: Option<&Value>, alloc: Global) -> Result<Option<Value>,
 }
 
 impl Version {
-    /// How the two stand in order: by key, of one key the greater number first. Their values don't count.
+    /// How the two compare: by key, of one key the greater number first. Their values don't count.
     pub fn place_cmp(&self, other: &Version) -> Ordering
         ensures { result ≡ version_cmp self.now other.now }
     {

@@ -4,17 +4,17 @@ use Rattle.std.proofs.lemmas.List.{append_cancel_right}
 use Rattle.wp_outside.specs.Disk.{Moment, Matches, IsImage, added, after_sync, IfKnown, Tears, Each, Passes, images, images_since}
 
 -- bytes that are sure, and no more of them
-pub settled_image : (bytes image : List ℕ) → Matches (map (λ b. Some b) bytes) image → length image ≤ length bytes → image ≡ bytes
-settled_image [] [] m le = refl
-settled_image [] (b ∷ image) m le = absurd (let none : length {A = ℕ} [] ≡ 0 = refl in omega arith)
-settled_image (known ∷ bytes) [] m le = elim m [ ]
-settled_image (known ∷ bytes) (b ∷ image) m le =
-    ap (λ x. x ∷ image) m.0 ∙ ap (λ xs. known ∷ xs) (settled_image bytes image m.1 (omega arith))
+pub synced_image_of : (bytes image : List ℕ) → Matches (map (λ b. Some b) bytes) image → length image ≤ length bytes → image ≡ bytes
+synced_image_of [] [] m le = refl
+synced_image_of [] (b ∷ image) m le = absurd (let none : length {A = ℕ} [] ≡ 0 = refl in omega arith)
+synced_image_of (known ∷ bytes) [] m le = elim m [ ]
+synced_image_of (known ∷ bytes) (b ∷ image) m le =
+    ap (λ x. x ∷ image) m.0 ∙ ap (λ xs. known ∷ xs) (synced_image_of bytes image m.1 (omega arith))
 
 -- after a sync a crash leaves what a read gives
 pub synced_image : (moments : List Moment) (image : List ℕ) → images (added after_sync moments) image → IfKnown moments (λ m. image ≡ m.reads)
 synced_image [] image left = elim left [ ]
-synced_image (m ∷ past) image left = settled_image m.reads image left.0 left.1
+synced_image (m ∷ past) image left = synced_image_of m.reads image left.0 left.1
 
 pub passes_none : (P : Moment → Type 0) (old : List Moment) → Passes P old old
 passes_none P old = ([], refl, tt)
@@ -23,7 +23,7 @@ each-append : (P : Moment → Type 0) (xs ys : List Moment) → Each P xs → Ea
 each-append P [] ys p q = q
 each-append P (x ∷ xs) ys p q = (p.0, each-append P xs ys p.1 q)
 
--- one run behind another
+-- one run after another
 pub passes_on : (P : Moment → Type 0) (before between after : List Moment) → Passes P before between → Passes P between after → Passes P before after
 passes_on P before between after (first, e, p) (second, f, q) =
     (second ++ first, f ∙ ap (λ xs. second ++ xs) e ∙ sym (append_assoc second first before), each-append P second first q p)

@@ -5,7 +5,7 @@ use Rattle.std.proofs.lemmas.List.Sums.{fold-append, sum_by-cons, sum_by_push}
 use Rattle.wp_outside.specs.declared.mem_disk.Change.{Change}
 use Rattle.wp_outside.specs.declared.mem_disk.Change.TheVariants.{Write, Cut, Sync}
 use Rattle.wp_outside.specs.declared.mem_disk.MemDisk.TheInside.{Inside}
-use Rattle.wp_outside.specs.Disk.{Moment, IfKnown, settled, added}
+use Rattle.wp_outside.specs.Disk.{Moment, IfKnown, synced, added}
 use Rattle.wp_outside.specs.Faults.{risen}
 use Rattle.wp_outside.specs.MemDisk.{Effect, Wrote, Shortened, Synced, DiskState, after, contents, now_of, moments_of, bytes_of_effect}
 use Rattle.wp_outside.specs.Replay.{effects_of, bytes_of_change, state_of, IsReplayed}
@@ -69,12 +69,12 @@ at_newest [] m P e now = tt
 at_newest (k ∷ past) m P e now = subst P (sym e) now
 
 -- what holds of the disk now holds of the moment that it tells first
-pub told_now : (d : DiskState) (P : Moment → Type 0) → P (now_of d) → IfKnown (moments_of d) P
-told_now d P now = at_newest (moments_of d) (now_of d) P (newest_from (settled d.start) [] d.effects) now
+pub known_now : (d : DiskState) (P : Moment → Type 0) → P (now_of d) → IfKnown (moments_of d) P
+known_now d P now = at_newest (moments_of d) (now_of d) P (newest_from (synced d.start) [] d.effects) now
 
 -- one more effect, one more moment
 pub moments_of-more : (d : DiskState) (effect : Effect) → moments_of (record d { effects = d.effects ++ effect ∷ [] }) ≡ added (after effect) (moments_of d)
-moments_of-more d effect = fold-append (λ moments effect. added (after effect) moments) (settled d.start ∷ []) d.effects (effect ∷ [])
+moments_of-more d effect = fold-append (λ moments effect. added (after effect) moments) (synced d.start ∷ []) d.effects (effect ∷ [])
 
 -- a change was done and noted
 pub record IsNoted (change : Change) (piece : List ℕ) (d new : Inside) : Type 0 where
@@ -100,11 +100,11 @@ noted_effects {change} {piece} {d} {new} replayed n =
 
 noted_bytes : {change : Change} {piece : List ℕ} {d new : Inside} → IsReplayed d → IsNoted change piece d new → contents (state_of new) ≡ new.bytes.items
 noted_bytes {change} {piece} {d} {new} replayed n =
-    let start : settled new.start.items ≡ settled d.start.items = ap (λ (v : Vec ℕ Global). settled v.items) n.start in
+    let start : synced new.start.items ≡ synced d.start.items = ap (λ (v : Vec ℕ Global). synced v.items) n.start in
     ap (λ m. (fold (λ m effect. after effect m) m (effects_of new.past.items new.written.items)).reads) start
-    ∙ ap (λ es. (fold (λ m effect. after effect m) (settled d.start.items) es).reads) (noted_effects replayed n)
+    ∙ ap (λ es. (fold (λ m effect. after effect m) (synced d.start.items) es).reads) (noted_effects replayed n)
     ∙ ap (λ (m : Moment). m.reads)
-    (fold-append (λ m effect. after effect m) (settled d.start.items) (effects_of d.past.items d.written.items) (effect_of change piece ∷ []))
+    (fold-append (λ m effect. after effect m) (synced d.start.items) (effects_of d.past.items d.written.items) (effect_of change piece ∷ []))
     ∙ n.bytes
 
 pub noted : {change : Change} {piece : List ℕ} {d new : Inside} → IsReplayed d → IsNoted change piece d new → IsReplayed new

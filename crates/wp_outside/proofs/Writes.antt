@@ -20,7 +20,7 @@ put_within zero n piece old e fits = ap (λ k. piece ++ drop k old) e
 put_within (suc at) n piece [] e fits = absurd (let none : length {A = ℕ} [] ≡ 0 = refl in omega arith)
 put_within (suc at) n piece (b ∷ old) e fits = ap (λ xs. b ∷ xs) (put_within at n piece old e (omega arith))
 
--- zeros behind the old bytes, up to the end of the write, make no difference
+-- zeros after the old bytes, up to the end of the write, make no difference
 pub put_padded : (at : ℕ) (piece old : List ℕ) (n : ℕ) → length old + n ≡ at + length piece → put at piece (old ++ replicate n 0) ≡ put at piece old
 put_padded zero piece old n end =
     let long : length (old ++ replicate n 0) ≤ length piece = omega (arith, length-append old (replicate n 0), length-replicate {A = ℕ} n 0) in

@@ -22,8 +22,8 @@ abbrev pub IsImage : Moment → List ℕ → Type 0
 IsImage m bytes = Matches m.sure bytes × (length bytes ≤ m.longest)
 
 -- all of it on the disk: a crash leaves these bytes and nothing else
-abbrev pub settled : List ℕ → Moment
-settled bytes = record { reads = bytes; sure = map (λ b. Some b) bytes; longest = length bytes }
+abbrev pub synced : List ℕ → Moment
+synced bytes = record { reads = bytes; sure = map (λ b. Some b) bytes; longest = length bytes }
 
 -- these bytes written at a place over the old ones, a gap before them filled with zeros
 abbrev pub put : ℕ → List ℕ → List ℕ → List ℕ
@@ -62,7 +62,7 @@ abbrev pub after_cut : ℕ → Moment → Moment
 after_cut len m = record { reads = take len m.reads; sure = take len m.sure; longest = m.longest }
 
 abbrev pub after_sync : Moment → Moment
-after_sync m = settled m.reads
+after_sync m = synced m.reads
 
 -- of a disk that tells its moments, the newest first: P of the newest
 abbrev pub IfKnown : List Moment → (Moment → Type 0) → Type 0

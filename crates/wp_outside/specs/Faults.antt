@@ -2,11 +2,11 @@
 use Rattle.std.specs.Prelude.{ℕ, ◌+◌, ◌-◌, ◌^◌, ◌≤◌, min, OnErr, Result}
 use Rattle.wp_outside.specs.declared.failed.Failed.{Failed}
 
--- one more; a count stands still at the greatest u64
+-- one more; a count stays at the greatest u64
 abbrev pub risen : ℕ → ℕ
 risen n = min (n + 1) (2 ^ 64 - 1)
 
--- the count rose: a count that stands at its greatest value has risen
+-- the count rose: a count that is at its greatest value has risen
 abbrev pub Rose : ℕ → ℕ → Type 0
 Rose before now = risen before ≤ now
 

@@ -3,7 +3,7 @@ use Rattle.std.specs.Prelude.{◌≡◌, ℕ, zero, suc, ◌+◌, ◌-◌, max, 
 use Rattle.std.proofs.Common.{sym, ◌∙◌, ap, le_refl, le_trans, le_of_eq, zero-add, suc-add, add_comm, length-append, length-drop}
 use Rattle.std.proofs.Math.Nat.{zero-max, suc-max-suc, sub-add-eq-max, max-le, le-max_left, le-max_right, min-le_right}
 use Rattle.std.proofs.lemmas.List.{length-take}
-use Rattle.wp_outside.specs.Disk.{Moment, Matches, IsImage, ReadsItself, settled, put, hide, hide_at, added}
+use Rattle.wp_outside.specs.Disk.{Moment, Matches, IsImage, ReadsItself, synced, put, hide, hide_at, added}
 use Rattle.wp_outside.specs.MemDisk.{Effect, Wrote, Shortened, Synced, DiskState, after, moments_of}
 
 matches_itself : (bytes : List ℕ) → Matches (map (λ b. Some b) bytes) bytes
@@ -74,4 +74,4 @@ reads_itself_from (m ∷ past) (effect ∷ effects) image =
     reads_itself_from (after effect m ∷ m ∷ past) effects (reads_itself_after effect m image)
 
 pub reads_itself : (d : DiskState) → ReadsItself (moments_of d)
-reads_itself d = reads_itself_from (settled d.start ∷ []) d.effects (matches_itself d.start, le_refl (length d.start))
+reads_itself d = reads_itself_from (synced d.start ∷ []) d.effects (matches_itself d.start, le_refl (length d.start))

@@ -2,7 +2,7 @@
 use Rattle.std.specs.Prelude.{ℕ, ◌+◌, Bool, ◌||◌, nat_lt, nat_le, List, [], ◌∷◌, ◌++◌, length, fold, sum_by, Result, Ok, Err}
 use Rattle.wp_outside.specs.declared.failed.Failed.{Failed}
 use Rattle.wp_outside.specs.Counter.{Calls, is_listed, counted}
-use Rattle.wp_outside.specs.Disk.{Moment, settled, added, after_write, after_cut, after_sync}
+use Rattle.wp_outside.specs.Disk.{Moment, synced, added, after_write, after_cut, after_sync}
 
 -- what one call did
 pub data Effect : Type 0 where
@@ -24,7 +24,7 @@ after Synced = after_sync
 
 -- the newest moment
 abbrev pub now_of : DiskState → Moment
-now_of d = fold (λ m effect. after effect m) (settled d.start) d.effects
+now_of d = fold (λ m effect. after effect m) (synced d.start) d.effects
 
 -- what a read gives
 abbrev pub contents : DiskState → List ℕ
@@ -32,7 +32,7 @@ contents d = (now_of d).reads
 
 -- each moment, the newest first
 abbrev pub moments_of : DiskState → List Moment
-moments_of d = fold (λ moments effect. added (after effect) moments) (settled d.start ∷ []) d.effects
+moments_of d = fold (λ moments effect. added (after effect) moments) (synced d.start ∷ []) d.effects
 
 abbrev pub bytes_of_effect : Effect → ℕ
 bytes_of_effect (Wrote at bytes) = length bytes

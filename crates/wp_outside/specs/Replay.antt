@@ -1,11 +1,11 @@
--- How the record of a disk in memory stands for what its calls did.
+-- How the record of a disk in memory says what its calls did.
 use Rattle.std.specs.Prelude.{◌≡◌, ℕ, ◌^◌, ◌<◌, ◌≤◌, List, [], ◌∷◌, length, take, drop, sum_by, vec_capacity}
 use Rattle.wp_outside.specs.declared.mem_disk.Change.{Change}
 use Rattle.wp_outside.specs.declared.mem_disk.Change.TheVariants.{Write, Cut, Sync}
 use Rattle.wp_outside.specs.declared.mem_disk.MemDisk.TheInside.{Inside}
 use Rattle.wp_outside.specs.MemDisk.{Effect, Wrote, Shortened, Synced, DiskState, contents}
 
--- the bytes that were written stand one behind the other in one list
+-- the bytes that were written are one after the other in one list
 abbrev pub effects_of : List Change → List ℕ → List Effect
 effects_of [] written = []
 effects_of (Write at len ∷ past) written = Wrote at (take len written) ∷ effects_of past (drop len written)

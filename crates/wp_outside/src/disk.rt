@@ -7,7 +7,7 @@ use std::fmt;
 
 /// A device of bytes, each at its place from 0 on.
 ///
-/// A write or a cut that fails may have been done in part, and a sync that fails has settled nothing.
+/// A write or a cut that fails may have been done in part, and a sync that fails has synced nothing.
 pub trait Disk {
     /// The disk at each moment so far, the newest first; empty where it doesn't tell.
     ghost moments: { Self → List Moment };
@@ -31,7 +31,7 @@ pub trait Disk {
         ensures kept { moments self.new ≡ moments self.old }
         ensures cause { HasCause (faults self.old) (faults self.new) result };
 
-    /// Writes over what stands from `at` on, and past the end. A write that would end past 2^62 fails.
+    /// Writes over what is from `at` on, and past the end. A write that would end past 2^62 fails.
     fn write_at(&mut self, at: u64, bytes: &[u8]) -> Result<(), Failed>
         ensures bounded { OnOk result (write_end at bytes.now ≤ 2 ^ 62) }
         ensures done { OnOk result (moments self.new ≡ added (after_write at bytes.now) (moments self.old)) }

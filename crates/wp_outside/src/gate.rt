@@ -1,4 +1,4 @@
-/// Is told where each client stands, so that a test can hold one back. Clients and lines are counted from 1; a line
+/// Hears where each client is, so that a test can hold one back. Clients and lines are counted from 1; a line
 /// is one command of that client.
 pub trait Gate {
     /// The client comes to this line; returns when it may go on.

@@ -1,6 +1,6 @@
 ghost use Rattle.std.specs.Prelude.{◌≡◌, ℕ, ◌+◌, ◌-◌, ◌^◌, ◌≤◌, ◌<◌, not, [], ◌∷◌, ◌++◌, List, drop, replicate, min, max, length, vec_capacity, is_err, IsTrue, IfOk, OnOk, OnErr};
 ghost use Rattle.wp_outside.specs.Counter.{no_calls, counted};
-ghost use Rattle.wp_outside.specs.Disk.{Moment, settled, put, write_end, after_write, after_cut, after_sync, added, IfKnown, IsRead, Tears, images};
+ghost use Rattle.wp_outside.specs.Disk.{Moment, synced, put, write_end, after_write, after_cut, after_sync, added, IfKnown, IsRead, Tears, images};
 ghost use Rattle.wp_outside.specs.Faults.{HasCause};
 ghost use Rattle.wp_outside.specs.Fits.{Fits};
 ghost use Rattle.wp_outside.specs.MemDisk.{Wrote, Shortened, Synced, contents, moments_of, is_used_up, refuses, after_call};
@@ -48,7 +48,7 @@ impl Model for MemDisk {
 }
 
 impl MemDisk {
-    /// A disk with these bytes, all of them settled, which takes all its memory here. `room` bounds its length and the
+    /// A disk with these bytes, all of them synced, which takes all its memory here. `room` bounds its length and the
     /// number of bytes that are written to it in all; more than 2^62 counts as 2^62. `calls` is the number of calls
     /// that it answers, and `fails` lists those that are to fail, counted from 1.
     pub fn new(
@@ -59,7 +59,7 @@ impl MemDisk {
         fails: Vec<u64>,
     ) -> Result<MemDisk, AllocError>
         ensures state { IfOk result (λ d. d ≡ record { start = bytes.items; effects = []; room = min room (2 ^ 62); most = calls; calls = no_calls fails.items }) }
-        ensures settled { IfOk result (λ d. moments_of d ≡ settled bytes.items ∷ []) }
+        ensures synced { IfOk result (λ d. moments_of d ≡ synced bytes.items ∷ []) }
     {
         let room = room.min(MOST_ROOM);
         let mut copy = Vec::with_capacity(alloc, room as usize)?;

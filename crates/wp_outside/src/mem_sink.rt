@@ -10,7 +10,7 @@ use crate::sink::Sink;
 use std::alloc::{AllocError, Global};
 use std::marker::Model;
 
-/// Bytes in memory, written one behind the other. It fails at exactly the listed calls and where its room is used up.
+/// Bytes in memory, written one after the other. It fails at exactly the listed calls and where its room is used up.
 #[derive(Drop)]
 pub struct MemSink {
     bytes: Vec<u8>,

@@ -44,7 +44,7 @@ fn disk_fills_a_gap_and_is_cut(rt: HostRuntime) -> Result<(), Fail> {
 }
 
 #[test]
-fn disk_fails_where_it_is_told_to(rt: HostRuntime) -> Result<(), Fail> {
+fn a_disk_fails_at_the_listed_calls(rt: HostRuntime) -> Result<(), Fail> {
     let alloc = rt.alloc();
     let mut disk = MemDisk::new(alloc, Vec::new(alloc), 4, 5, vec![in alloc; 2]?)?;
     disk.write_at(0, b"abc")?;

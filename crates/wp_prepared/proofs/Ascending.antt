@@ -18,7 +18,7 @@ use Rattle.wp_prepared.proofs.Sets.{has, set_of_numbers, same_either_way, from_l
 distinct_from_rising : (xs : List ℕ) → IsStrictlyIncreasing xs → IsDistinct (eq_by_cmp nat_cmp) xs
 distinct_from_rising xs rising = IsDistinct-from_sorted nat_cmp xs (sorted_from_strictly_increasing xs rising)
 
--- p stands at i, or belongs there
+-- p is at i, or belongs there
 abbrev pub IsPlace : List ℕ → ℕ → Result ℕ ℕ → Type 0
 IsPlace xs p r =
     MatchResult r (λ i. (i < length xs) × (get_or xs i 0 ≡ p)) (λ i. (i ≤ length xs) × ((k : ℕ) → k < i → get_or xs k 0 < p) × ((k : ℕ) → i ≤ k → k < length xs → p < get_or xs k 0))
@@ -75,7 +75,7 @@ set_of-remove xs p i rising place =
     let once = has_none p rest (IsDistinct-head (eq_by_cmp nat_cmp) p rest apart) in
     from_list_removed xs rest p (λ q. has-tail p q rest once ∙ ap (cond (eq_by_cmp nat_cmp p q) false) (sym (list_any-IsPermutation (eq_by_cmp nat_cmp q) xs (p ∷ rest) moved)))
 
--- where p stands, the set has it already
+-- where p is, the set has it already
 pub set_of-present : (xs : List ℕ) (p i : ℕ) → IsPlace xs p (Ok i) → set_of_numbers xs ≡ set.insert (set_of_numbers xs) p
 set_of-present xs p i place = from_list_inserted xs xs p (has_settled xs p (sym (is_ok-place xs p (Ok i) place)))
 

@@ -22,7 +22,7 @@ or-true : (b : Bool) → (b || true) ≡ true
 or-true true = refl
 or-true false = refl
 
--- what stands above m stays in the heap
+-- what is above m stays in the heap
 pub above_stays : (heap : FinSet nat_cmp) (p m : ℕ) → p ≤ m → (q : ℕ) → (contains (remove heap p) q && nat_lt m q) ≡ (contains heap q && nat_lt m q)
 above_stays heap p m low q =
     elim (cases_eq q p) [
@@ -30,7 +30,7 @@ above_stays heap p m low q =
       | inr apart ↦ ap (λ b. b && nat_lt m q) (contains-remove_apart heap p q apart)
     ]
 
--- what stands up to m in the heap, or is delayed, is delayed in the end
+-- what is up to m in the heap, or is delayed, is delayed in the end
 pub delayed_grows : (heap delayed : FinSet nat_cmp) (p m : ℕ) → contains heap p ≡ true → p ≤ m → (q : ℕ) → (contains (insert delayed p) q || (contains (remove heap p) q && nat_le q m)) ≡ (contains delayed q || (contains heap q && nat_le q m))
 delayed_grows heap delayed p m there low q =
     elim (cases_eq q p) [

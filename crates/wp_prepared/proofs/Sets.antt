@@ -52,7 +52,7 @@ pub has_none : (k : ℕ) (ks : List ℕ) → AllByRecursion (λ y. eq_by_cmp nat
 has_none k [] apart = refl
 has_none k (y ∷ ks) apart = ap (λ b. b || has ks k) apart.0 ∙ has_none k ks apart.1
 
--- what a list has besides the number p at its head, where that stands there once
+-- what a list has besides the number p at its head, where that is there once
 pub has-tail : (p q : ℕ) (rest : List ℕ) → has rest p ≡ false → has rest q ≡ cond (eq_by_cmp nat_cmp p q) false (has (p ∷ rest) q)
 has-tail p q rest once =
     elim (cases_eq p q) [

@@ -1,9 +1,9 @@
 //! The prepared tables: which transactions are prepared and not yet taken out.
 //!
-//! A prepared transaction goes by the number of its Prepare entry. Above the evicted bound these numbers stand in
+//! A prepared transaction goes by the number of its Prepare entry. Above the evicted bound these numbers are in
 //! the prepared heap. A number up to the bound that has no word in the commit cache is taken for committed, unless
 //! the delayed set has it: so each number at most m moves there before the bound is stored as m. The pair of a
-//! committed number may be evicted while the number still stands here. It is then kept in the delayed commits, by
+//! committed number may be evicted while the number is still here. It is then kept in the delayed commits, by
 //! which a reader decides. A number leaves all three at once.
 #![tactic(auto)]
 

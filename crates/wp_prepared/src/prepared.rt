@@ -74,7 +74,7 @@ impl Prepared {
         }
     }
 
-    /// Keeps the pair (`p`, `c`), which is about to leave its word of the commit cache, where `p` still stands
+    /// Keeps the pair (`p`, `c`), which is about to leave its word of the commit cache, where `p` is still
     /// here. Only then does it take memory.
     pub fn note_evicted(&mut self, p: Seq, c: Seq) -> Result<(), AllocError>
         ensures ok { OnOk result (self.new ≡ record self.old { tables = record self.old.tables { delayed_commits = commits_with self.old.tables p c } }) }
@@ -100,7 +100,7 @@ impl Prepared {
         self.delayed_commits.remove(&p);
     }
 
-    /// Whether the number stands in the delayed set.
+    /// Whether the number is in the delayed set.
     pub fn delayed(&self, p: Seq) -> bool
         ensures { result ≡ set.contains self.now.tables.delayed p }
     {

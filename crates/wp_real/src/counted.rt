@@ -4,7 +4,7 @@ ghost use Rattle.wp_outside.specs.Faults.{HasCause};
 use std::io;
 use wp_outside::Failed;
 
-/// Hands an answer of std on; an error raises the count of faults, which stands still at the greatest `u64`.
+/// Hands an answer of std on; an error raises the count of faults, which stays at the greatest `u64`.
 pub(crate) fn counted<T>(faults: &mut u64, answer: io::Result<T>) -> Result<T, Failed>
     ensures ok { IfOk answer (λ value. result ≡ Ok value) }
     ensures err { OnErr answer (IsErr result) }

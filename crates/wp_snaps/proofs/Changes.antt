@@ -26,7 +26,7 @@ too_new p c q early = and_left _ _ (lt-leb p q early)
 committed : (p c q : ℕ) → c ≤ q → overlaps p c q ≡ false
 committed p c q late = and_right _ _ (le-ltb q c late)
 
--- p stands under the live numbers below `from`; s is the next live one, and now p stands under s too
+-- p is under the live numbers below `from`; s is the next live one, and now p is under s too
 pub kept_at_next : (old now new : Snapshots) (p from s : ℕ) → p ≤ from → from ≤ s → ChangesWhere (overlaps p from) (after_keep p) old now → ((q : ℕ) → from ≤ q → q < s → get now q ≡ None) → ChangesWhere (λ q. q == s) (after_keep p) now new → ChangesWhere (overlaps p (s + 1)) (after_keep p) old new
 kept_at_next old now new p from s start next before none here q =
     let test : ℕ → Bool = overlaps p from in
@@ -53,7 +53,7 @@ kept_at_next old now new p from s start next before none here q =
           (same p at_s now new q here (ne_eqb q s (λ e. omega arith)) ∙ same p test old now q before (committed p from q (omega arith)))
     ]
 
--- p stands under the live numbers below `from`, and no other is live below c
+-- p is under the live numbers below `from`, and no other is live below c
 pub kept_at_all : (old now : Snapshots) (p from c : ℕ) → p ≤ from → (p < from → from ≤ c) → ChangesWhere (overlaps p from) (after_keep p) old now → ((q : ℕ) → from ≤ q → q < c → get now q ≡ None) → ChangesWhere (overlaps p c) (after_keep p) old now
 kept_at_all old now p from c start within before none q =
     let test : ℕ → Bool = overlaps p from in

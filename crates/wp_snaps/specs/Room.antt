@@ -6,7 +6,7 @@ use Rattle.std.specs.BTreeMap.{BTreeMap, get}
 use Rattle.std.specs.FinMap.{from_entries}
 use Rattle.wp_model.specs.Snapshots.{Snapshot, Snapshots, snapshot_code}
 
--- a snapshot, and how many more numbers may stand under it without memory
+-- a snapshot, and how many more numbers may be under it without memory
 pub record RoomySnapshot : Type 0 where
   pub snapshot : Snapshot
   pub room : ℕ

@@ -41,7 +41,7 @@ impl Snaps {
     }
 
     /// Registers the number once more; the first time makes it live. A count at its type's end can't rise: that
-    /// too is told as want of memory, since no memory holds so many registrations.
+    /// too is answered as want of memory, since no memory holds so many registrations.
     pub fn register(&mut self, s: Seq) -> Result<(), AllocError>
         ensures ok { OnOk result (ChangesWhere (λ q. q == s) after_register self.old self.new) }
         ensures err { OnErr result (self.new ≡ self.old) }
@@ -53,7 +53,7 @@ impl Snaps {
         Ok(())
     }
 
-    /// Takes one registration of the number back. With the last goes what stands under it.
+    /// Takes one registration of the number back. With the last goes what is under it.
     pub fn release(&mut self, s: Seq)
         requires { IsLive self.old s }
         ensures { ChangesWhere (λ q. q == s) after_release self.old self.new }

@@ -1,12 +1,12 @@
 use Rattle.std.proofs.Common.{sym, ap, subst, ◌∙◌}
 use Rattle.wp_model.specs.Versions.{AreInOrder}
-use Rattle.wp_keep.specs.Keep.{by_commits, staying, lasting, kept_of}
+use Rattle.wp_keep.specs.Keep.{by_commits, staying, remaining, kept_of}
 use Rattle.wp_keep.proofs.Committed.{same_test}
 use Rattle.wp_keep.proofs.Order.{in_order_filter}
 use Rattle.wp_keep.proofs.kept.keep.Goals as goal
 
-pub lasting-requires : goal.lasting-requires
-lasting-requires c =
+pub remaining-requires : goal.remaining-requires
+remaining-requires c =
     let order = subst AreInOrder (sym c.as_slice.ensures.value) c.as_slice.ensures.in_order in
     subst AreInOrder (sym c.in_ok-staying.ensures) (in_order_filter _ c.as_slice.result.now order)
 
@@ -23,6 +23,6 @@ returns c =
       kept =
           c.of-2.ensures
           ∙ c.in_ok-kept.ensures
-          ∙ ap (λ vs. lasting (by_commits c.in_ok-commits.commits) vs c.args.floor) stayed
+          ∙ ap (λ vs. remaining (by_commits c.in_ok-commits.commits) vs c.args.floor) stayed
           ∙ ap (λ test. kept_of test c.args.versions.now c.args.snapshots.now c.args.floor) (same_test _ _ c.in_ok-commits.ensures);
     }

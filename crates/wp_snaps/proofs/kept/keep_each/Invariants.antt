@@ -3,7 +3,7 @@ use Rattle.wp_model.specs.Snapshots.{ChangesWhere, overlaps, after_keep}
 use Rattle.wp_snaps.specs.Room.{snapshots_of, HasRoom}
 use Rattle.wp_snaps.proofs.kept.keep_each.Given as goal
 
--- p stands under each live number passed so far, and the others have the room for it
+-- p is under each live number passed so far, and the others have the room for it
 abbrev pub invariant-loop-s : goal.invariant-loop-s
 invariant-loop-s l = record {
   start : l.p ≤ l.from;

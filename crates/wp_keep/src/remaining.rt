@@ -1,6 +1,6 @@
 ghost use Rattle.std.specs.Prelude.{◌≡◌, ◌||◌, not, ◌++◌, ◌∷◌, [], IfOk, OnOk, reverse, if◌then◌else◌};
 ghost use Rattle.wp_model.specs.Versions.{AreInOrder};
-ghost use Rattle.wp_keep.specs.Keep.{by_commits, is_settled_deletion, lasting};
+ghost use Rattle.wp_keep.specs.Keep.{by_commits, is_settled_deletion, remaining};
 ghost use Rattle.wp_keep.specs.Newer.{starts_with_key};
 
 use crate::commits::Commits;
@@ -29,7 +29,7 @@ fn ends_with_key(versions: &[Version], key: &Key) -> bool
     }
 }
 
-/// Puts a version behind those that last, the last of which stands next to it, where it lasts too.
+/// Puts a version after those that remain, the last of which is next to it, where it remains too.
 fn push_lasting(
     kept: &mut Vec<Version>,
     version: Version,
@@ -45,15 +45,15 @@ fn push_lasting(
     Ok(())
 }
 
-/// Leaves out the deletions that are committed at the floor and have nothing else of their key behind them.
-pub fn lasting(
+/// Leaves out the deletions that are committed at the floor and have nothing else of their key after them.
+pub fn remaining(
     alloc: Global,
     mut versions: Vec<Version>,
     commits: &Commits,
     floor: Seq,
 ) -> Result<Vec<Version>, AllocError>
     requires { AreInOrder versions.items }
-    ensures { IfOk result (λ kept. kept.items ≡ lasting (by_commits commits.now) versions.items floor) }
+    ensures { IfOk result (λ kept. kept.items ≡ remaining (by_commits commits.now) versions.items floor) }
 {
     let mut kept = Vec::with_capacity(alloc, versions.len())?;
     while let Some(version) = versions.pop() {
