@@ -46,8 +46,8 @@ version_of_prepare (Some (Undo p batch)) key h = absurd cc
 version_of_prepare (Some (Close p)) key h = absurd cc
 
 -- an undecided prepare has the version that its batch makes
-pub version_held : (history : List Entry) (key : List ℕ) (p : ℕ) → is_undecided history p ≡ true → entry_version history p key ≡ change_to (batch_at history p) key
-version_held history key p undecided = version_of_prepare (entry_at history p) key (undecided_prepared history p undecided)
+pub undecided_version : (history : List Entry) (key : List ℕ) (p : ℕ) → is_undecided history p ≡ true → entry_version history p key ≡ change_to (batch_at history p) key
+undecided_version history key p undecided = version_of_prepare (entry_at history p) key (undecided_prepared history p undecided)
 
 -- what held a key with an entry more held it before, and is not decided by the entry
 held_before : (history : List Entry) (entry : Entry) (key : List ℕ) (p : ℕ) → p ≤ length history → Holds (history ++ entry ∷ []) key p → Holds history key p × (decides p entry ≡ false)
@@ -92,7 +92,7 @@ not_changed changes key never =
 -- two undecided prepares hold no key together
 held_once : (history : List Entry) (key : List ℕ) (p q : ℕ) → NoneAbove history → undone_last history ≡ None → Holds history key p → Holds history key q → p < q → ⊥
 held_once history key p q none ended holds other lt =
-    let version = version_held history key q other.undecided in
+    let version = undecided_version history key q other.undecided in
     let nothing = none_above history key p q none ended holds lt in
     let changed = other.changed in
     let missing : is_changed (batch_at history q) key ≡ false = ap is_some (sym version ∙ nothing) in
@@ -119,37 +119,37 @@ undo_changes history p batch key restores =
 
 -- what an entry changes under a key that an undecided prepare holds: nothing, or the entry undoes that prepare
 kept_under_held : (history : List Entry) (entry : Entry) (key : List ℕ) (p : ℕ) → NoneAbove history → IsLegalNext history entry → Holds history key p → (change_to (changes_in entry) key ≡ None) ⊎ (undone_by entry ≡ Some p)
-kept_under_held history (Write batch) key p none behind holds = inl (not_changed batch key (λ changed. not_free history key p holds.undecided holds.changed (free_key history batch key behind.keys_are_free changed)))
-kept_under_held history (Prepare name batch) key p none behind holds = inl (not_changed batch key (λ changed. not_free history key p holds.undecided holds.changed (free_key history batch key behind.keys_are_free.0 changed)))
-kept_under_held history (Commit q) key p none behind holds = inl refl
-kept_under_held history (Undo q batch) key p none behind holds =
+kept_under_held history (Write batch) key p none after holds = inl (not_changed batch key (λ changed. not_free history key p holds.undecided holds.changed (free_key history batch key after.keys_are_free changed)))
+kept_under_held history (Prepare name batch) key p none after holds = inl (not_changed batch key (λ changed. not_free history key p holds.undecided holds.changed (free_key history batch key after.keys_are_free.0 changed)))
+kept_under_held history (Commit q) key p none after holds = inl refl
+kept_under_held history (Undo q batch) key p none after holds =
     elim (cases_Bool (is_changed batch key)) [
       | inl changed ↦
-          let other : Holds history key q = record { undecided = behind.names_undecided; changed = sym (undo_changes history q batch key behind.restores_prior) ∙ changed } in
-          let same : q ≡ p = same_holder history key p q none behind.undo_is_closed holds other in
+          let other : Holds history key q = record { undecided = after.names_undecided; changed = sym (undo_changes history q batch key after.restores_prior) ∙ changed } in
+          let same : q ≡ p = same_holder history key p q none after.undo_is_closed holds other in
           inr (ap (λ (r : ℕ). Some r) same)
       | inr not_it ↦ inl (not_changed batch key (λ changed. absurd cc))
     ]
-kept_under_held history (Close q) key p none behind holds = inl refl
+kept_under_held history (Close q) key p none after holds = inl refl
 
 none_above_at : (history : List Entry) (entry : Entry) (key : List ℕ) (p q : ℕ) → NoneAbove history → IsLegalNext history entry → Holds history key p → decides p entry ≡ false → p < q → IsNoneOrUndo (history ++ entry ∷ []) key p q
-none_above_at history entry key p q none behind holds other lt =
+none_above_at history entry key p q none after holds other lt =
     elim (cases_order q (length history + 1)) [
-      | inl next ↦ elim (kept_under_held history entry key p none behind holds) [
+      | inl next ↦ elim (kept_under_held history entry key p none after holds) [
         | inl nothing ↦ inl (rw next (entry_version_next history entry key ∙ nothing))
         | inr undone ↦ inr (next ∙ sym (length_next history entry), undone_next history entry ∙ undone)
       ]
       | inr apart ↦ elim apart [
-        | inl below ↦ inl (entry_version_old history (entry ∷ []) q key (omega arith) ∙ none_above_others history entry key p q none behind.undo_is_closed holds other lt)
+        | inl below ↦ inl (entry_version_old history (entry ∷ []) q key (omega arith) ∙ none_above_others history entry key p q none after.undo_is_closed holds other lt)
         | inr past ↦ inl (entry_version_past (history ++ entry ∷ []) q key (omega (arith, length_next history entry)))
       ]
     ]
 
 none_above_next : (history : List Entry) (entry : Entry) → NoneAbove history → IsLegalNext history entry → NoneAbove (history ++ entry ∷ [])
-none_above_next history entry none behind = record {
+none_above_next history entry none after = record {
   above = λ key p q holds lt. elim (cases_lt (length history) p) [
     | inl past ↦ inl (entry_version_past (history ++ entry ∷ []) q key (omega (arith, length_next history entry)))
-    | inr le ↦ let before = held_before history entry key p le holds in none_above_at history entry key p q none behind before.0 before.1 lt
+    | inr le ↦ let before = held_before history entry key p le holds in none_above_at history entry key p q none after before.0 before.1 lt
   ];
 }
 
@@ -157,4 +157,4 @@ none_above_none : NoneAbove []
 none_above_none = record { above = λ key p q holds lt. absurd (omega (arith, (undecided_within [] p holds.undecided).0, (undecided_within [] p holds.undecided).1)) }
 
 pub legal_none_above : (history : List Entry) → IsLegal history → NoneAbove history
-legal_none_above history legal = by_growth NoneAbove none_above_none (λ h entry _ _ behind none. none_above_next h entry none behind) history legal
+legal_none_above history legal = by_growth NoneAbove none_above_none (λ h entry _ _ after none. none_above_next h entry none after) history legal

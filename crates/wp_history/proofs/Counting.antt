@@ -51,12 +51,12 @@ counts_within history p h =
     ]
 
 -- a decided prepare is before what decides it
-decided_behind : (history : List Entry) (p i : ℕ) → IsLegal history → position (decides p) history ≡ Some i → (i < length history) × (p ≤ i) × (decides p (get_or history i (Commit 0)) ≡ true)
-decided_behind history p i legal at =
+decided_after : (history : List Entry) (p i : ℕ) → IsLegal history → position (decides p) history ≡ Some i → (i < length history) × (p ≤ i) × (decides p (get_or history i (Commit 0)) ≡ true)
+decided_after history p i legal at =
     let found = position-Some (decides p) history i (Commit 0) at in
     let here = get_or history i (Commit 0) in
-    let behind : IsLegalNext (take i history) here = legal.each i here (slice_get-get_or history i (Commit 0) found.0) in
-    let within = undecided_within (take i history) p (decides_undecided (take i history) here p behind.names_undecided found.1) in
+    let after : IsLegalNext (take i history) here = legal.each i here (slice_get-get_or history i (Commit 0) found.0) in
+    let within = undecided_within (take i history) p (decides_undecided (take i history) here p after.names_undecided found.1) in
     (found.0, omega (arith, within.1, length-take-le i history (omega (arith, found.0))), found.1)
 
 counted : (front more : List Entry) (p by : ℕ) (at : Option Entry) → IsLegal (front ++ more) → decision_in (front ++ more) p at ≡ Some by → by ≤ length front → (p ≤ length front) × (counts_in front p at ≡ true)
@@ -65,10 +65,10 @@ counted front more p by (Some (Write batch)) legal decided within = let same : p
 counted front more p by (Some (Undo q batch)) legal decided within = let same : p ≡ by = cc in (omega arith, refl)
 counted front more p by (Some (Prepare name batch)) legal decided within =
     let found = some_suc (position (decides p) (front ++ more)) by decided in
-    let behind = decided_behind (front ++ more) p found.0 legal found.1 in
+    let after = decided_after (front ++ more) p found.0 legal found.1 in
     let before : found.0 < length front = omega (arith, found.2) in
-    let it : decides p (get_or front found.0 (Commit 0)) ≡ true = ap (decides p) (sym (get_or-append front more (Commit 0) found.0 before)) ∙ behind.2 in
-    (omega (arith, behind.1), any_at (decides p) front found.0 (Commit 0) before it)
+    let it : decides p (get_or front found.0 (Commit 0)) ≡ true = ap (decides p) (sym (get_or-append front more (Commit 0) found.0 before)) ∙ after.2 in
+    (omega (arith, after.1), any_at (decides p) front found.0 (Commit 0) before it)
 counted front more p by (Some (Commit q)) legal decided within = absurd cc
 counted front more p by (Some (Close q)) legal decided within = absurd cc
 

@@ -39,8 +39,8 @@ length_next history entry = length-append history (entry ∷ [])
 
 -- ---- legal histories
 
-pub behind_front : (history : List Entry) (entry : Entry) (more : List Entry) → IsLegal (history ++ entry ∷ more) → IsLegalNext history entry
-behind_front history entry more legal =
+pub after_front : (history : List Entry) (entry : Entry) (more : List Entry) → IsLegal (history ++ entry ∷ more) → IsLegalNext history entry
+after_front history entry more legal =
     let P : List Entry → Type 0 = λ before. IsLegalNext before entry in
     subst P (take-append_seam history (entry ∷ more)) (legal.each (length history) entry (slice_get_next history entry more))
 
@@ -54,7 +54,7 @@ legal_before history more legal = record {
 }
 
 legal_at : (history : List Entry) (entry : Entry) → IsLegal history → IsLegalNext history entry → (n : ℕ) (other : Entry) → slice_get (history ++ entry ∷ []) n ≡ Some other → IsLegalNext (take n (history ++ entry ∷ [])) other
-legal_at history entry legal behind n other at =
+legal_at history entry legal after n other at =
     let P : List Entry → Type 0 = λ before. IsLegalNext before other in
     let within : n < length (history ++ entry ∷ []) = slice_get_within (history ++ entry ∷ []) n other at in
     elim (cases_lt n (length history)) [
@@ -65,13 +65,13 @@ legal_at history entry legal behind n other at =
           let front : history ≡ take n (history ++ entry ∷ []) = sym (take-append_seam history (entry ∷ [])) ∙ ap (λ (m : ℕ). take m (history ++ entry ∷ [])) (sym same) in
           let Q : Entry → Type 0 = λ (e : Entry). IsLegalNext history e in
           let its : entry ≡ other = cc in
-          subst P front (subst Q its behind)
+          subst P front (subst Q its after)
     ]
 
 pub legal_next : (history : List Entry) (entry : Entry) → IsLegal history → IsLegalNext history entry → length history + 1 < 2 ^ 32 → IsLegal (history ++ entry ∷ [])
-legal_next history entry legal behind few = record {
+legal_next history entry legal after few = record {
   few = rw length_next few;
-  each = legal_at history entry legal behind;
+  each = legal_at history entry legal after;
 }
 
 -- ---- by growth: what holds of no entries, and goes on with each entry that may follow, holds of every legal history
@@ -82,7 +82,7 @@ grow P step done [] legal p = subst P (sym (append-nil done)) p
 grow P step done (entry ∷ more) legal p =
     let regrouped : (done ++ entry ∷ []) ++ more ≡ done ++ entry ∷ more = append_assoc done (entry ∷ []) more in
     let whole : IsLegal ((done ++ entry ∷ []) ++ more) = subst IsLegal (sym regrouped) legal in
-    let next : P (done ++ entry ∷ []) = step done entry (legal_before (done ++ entry ∷ []) more whole) (legal_before done (entry ∷ more) legal) (behind_front done entry more legal) p in
+    let next : P (done ++ entry ∷ []) = step done entry (legal_before (done ++ entry ∷ []) more whole) (legal_before done (entry ∷ more) legal) (after_front done entry more legal) p in
     subst P regrouped (grow P step (done ++ entry ∷ []) more whole next)
 
 pub by_growth : (P : List Entry → Type 0) → P [] → ((history : List Entry) (entry : Entry) → IsLegal (history ++ entry ∷ []) → IsLegal history → IsLegalNext history entry → P history → P (history ++ entry ∷ []))
@@ -129,4 +129,4 @@ decided_prepared_next history entry names before p h =
 
 pub decided_prepared : (history : List Entry) → IsLegal history → (p : ℕ) → list_any (decides p) history ≡ true → is_prepare (entry_at history p) ≡ true
 unfolding IsPreparedWhereDecided
-decided_prepared history legal = by_growth IsPreparedWhereDecided (λ p h. absurd cc) (λ h entry _ _ behind before. decided_prepared_next h entry behind.names_undecided before) history legal
+decided_prepared history legal = by_growth IsPreparedWhereDecided (λ p h. absurd cc) (λ h entry _ _ after before. decided_prepared_next h entry after.names_undecided before) history legal

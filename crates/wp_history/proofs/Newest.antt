@@ -49,7 +49,7 @@ unfolding IsNewestAmongMore
 newest_among_none more key = refl
 
 newest_among_more : (history : List Entry) → IsLegal history → IsNewestAmongMore history
-newest_among_more history legal = by_growth IsNewestAmongMore newest_among_none (λ h entry _ _ behind among. among_more_next h entry behind.names_undecided among) history legal
+newest_among_more history legal = by_growth IsNewestAmongMore newest_among_none (λ h entry _ _ after among. among_more_next h entry after.names_undecided among) history legal
 
 -- one entry more changes the store by what it commits
 pub newest_next : (history : List Entry) (entry : Entry) (key : List ℕ) → IsLegal history → NamesUndecided history entry → newest (history ++ entry ∷ []) key ≡ value_after history key (newest history key) entry
@@ -60,8 +60,8 @@ newest_next history entry key legal names = one_more (history ++ entry ∷ []) h
 legal_take : (history : List Entry) (n : ℕ) → IsLegal history → IsLegal (take n history)
 legal_take history n legal = legal_before (take n history) (drop n history) (subst IsLegal (sym (take-append-drop n history)) legal)
 
-behind_at : (history : List Entry) (i : ℕ) (here : Entry) → IsLegal history → i < length history → here ≡ get_or history i here → IsLegalNext (take i history) here
-behind_at history i here legal lt is = legal.each i here (slice_get-get_or history i here lt ∙ ap (λ (e : Entry). Some e) (sym is))
+after_at : (history : List Entry) (i : ℕ) (here : Entry) → IsLegal history → i < length history → here ≡ get_or history i here → IsLegalNext (take i history) here
+after_at history i here legal lt is = legal.each i here (slice_get-get_or history i here lt ∙ ap (λ (e : Entry). Some e) (sym is))
 
 take_next : (history : List Entry) (i : ℕ) (here : Entry) → i < length history → here ≡ get_or history i here → take (i + 1) history ≡ take i history ++ here ∷ []
 take_next history i here lt is = take_more history i here lt ∙ ap (λ (e : Entry). take i history ++ e ∷ []) (sym is)
@@ -73,10 +73,10 @@ changes_here history i here names = sym (changes_stay (take i history) (drop i h
 newest_at : (history : List Entry) (key : List ℕ) (i : ℕ) (here : Entry) → IsLegal history → i < length history → here ≡ get_or history i here
     → newest (take (i + 1) history) key ≡ unwrap_or (change_to (changes_of history here) key) (newest (take i history) key)
 newest_at history key i here legal lt is =
-    let behind : IsLegalNext (take i history) here = behind_at history i here legal lt is in
+    let after : IsLegalNext (take i history) here = after_at history i here legal lt is in
     ap (λ (h : List Entry). newest h key) (take_next history i here lt is)
-    ∙ newest_next (take i history) here key (legal_take history i legal) behind.names_undecided
-    ∙ ap (λ (changes : List Change). unwrap_or (change_to changes key) (newest (take i history) key)) (changes_here history i here behind.names_undecided)
+    ∙ newest_next (take i history) here key (legal_take history i legal) after.names_undecided
+    ∙ ap (λ (changes : List Change). unwrap_or (change_to changes key) (newest (take i history) key)) (changes_here history i here after.names_undecided)
 
 pub unchanged_at : (history : List Entry) (key : List ℕ) (i j : ℕ) (here : Entry) → IsLegal history → j ≡ i + 1 → i < length history → here ≡ get_or history i here → change_to (changes_of history here) key ≡ None
     → newest (take j history) key ≡ newest (take i history) key

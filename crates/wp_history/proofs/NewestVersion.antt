@@ -13,13 +13,13 @@ use Rattle.wp_model.specs.History.{entry_at, is_prepare, batch_at, decides, is_u
 use Rattle.wp_model.specs.Legal.{changes_in, IsLegal, IsLegalNext, undone_last, prior}
 use Rattle.wp_model.specs.Decision.{version_in, entry_version, IsNewestCommitted, HasNoneCommitted}
 use Rattle.wp_history.specs.Committed.{counts_in, counts, committed_version}
-use Rattle.wp_history.proofs.Growth.{entry_at_old, entry_at_next, entry_at_past, length_next, by_growth, legal_before, behind_front, undecided_prepared, decided_next}
+use Rattle.wp_history.proofs.Growth.{entry_at_old, entry_at_next, entry_at_past, length_next, by_growth, legal_before, after_front, undecided_prepared, decided_next}
 use Rattle.wp_history.proofs.Undecided.{undecided_within, never_decided}
 use Rattle.wp_history.proofs.Undone.{last_undo}
 use Rattle.wp_history.proofs.Newest.{newest_next, batch_at_old}
 use Rattle.wp_history.proofs.Counting.{counts_within, counts_from, committed_from, entry_version_old}
 use Rattle.wp_history.proofs.Held.{prior_to}
-use Rattle.wp_history.proofs.Above.{Holds, NoneAbove, legal_none_above, none_above, version_held, is_changed_from}
+use Rattle.wp_history.proofs.Above.{Holds, NoneAbove, legal_none_above, none_above, undecided_version, is_changed_from}
 
 -- ---- what is committed, with an entry more
 
@@ -122,7 +122,7 @@ same_versions history entry key next decided q =
 nothing_decided : (history : List Entry) (entry : Entry) (key : List ℕ) (p : ℕ) → change_to (batch_at history p) key ≡ None → is_undecided history p ≡ true → ((q : ℕ) → decides q entry ≡ true → p ≡ q)
     → (q : ℕ) → q ≤ length history → decides q entry ≡ true → committed_version (history ++ entry ∷ []) q key ≡ committed_version history q key
 nothing_decided history entry key p none undecided it q le decided =
-    let nothing : entry_version history q key ≡ None = ap (λ (n : ℕ). entry_version history n key) (sym (it q decided)) ∙ version_held history key p undecided ∙ none in
+    let nothing : entry_version history q key ≡ None = ap (λ (n : ℕ). entry_version history n key) (sym (it q decided)) ∙ undecided_version history key p undecided ∙ none in
     no_version_counts (history ++ entry ∷ []) q key (entry_version_old history (entry ∷ []) q key le ∙ nothing) ∙ sym (no_version_counts history q key nothing)
 
 -- ---- with an entry that keeps what it commits
@@ -143,33 +143,33 @@ restored_same None value = refl
 restored_same (Some x) value = refl
 
 undo_keeps_store : (history : List Entry) (p : ℕ) (batch : List Change) (key : List ℕ) → IsLegal history → IsLegalNext history (Undo p batch) → newest (history ++ Undo p batch ∷ []) key ≡ newest history key
-undo_keeps_store history p batch key legal behind = newest_next history (Undo p batch) key legal behind.names_undecided
+undo_keeps_store history p batch key legal after = newest_next history (Undo p batch) key legal after.names_undecided
 
 -- what an undo holds under a key of its prepare
 undone_to : (history : List Entry) (p : ℕ) (batch : List Change) (key : List ℕ) → batch ≡ prior history (batch_at history p) → change_to batch key ≡ option_map (λ _. newest history key) (change_to (batch_at history p) key)
 undone_to history p batch key restores = ap (λ (changes : List Change). change_to changes key) restores ∙ prior_to history (batch_at history p) key
 
 undo_lawful : (history : List Entry) (p : ℕ) (batch : List Change) (key : List ℕ) → IsLegal history → IsLegalNext history (Undo p batch) → IsLawful history key → IsLawful (history ++ Undo p batch ∷ []) key
-undo_lawful history p batch key legal behind lawful =
-    let value : unwrap_or (change_to batch key) (newest history key) ≡ newest history key = ap (λ (c : Option (Option (List ℕ))). unwrap_or c (newest history key)) (undone_to history p batch key behind.restores_prior) ∙ restored_same (change_to (batch_at history p) key) (newest history key) in
-    kept_lawful history (Undo p batch) key lawful (λ q. refl) (next_version history (Undo p batch) key) (undo_keeps_store history p batch key legal behind ∙ sym value)
+undo_lawful history p batch key legal after lawful =
+    let value : unwrap_or (change_to batch key) (newest history key) ≡ newest history key = ap (λ (c : Option (Option (List ℕ))). unwrap_or c (newest history key)) (undone_to history p batch key after.restores_prior) ∙ restored_same (change_to (batch_at history p) key) (newest history key) in
+    kept_lawful history (Undo p batch) key lawful (λ q. refl) (next_version history (Undo p batch) key) (undo_keeps_store history p batch key legal after ∙ sym value)
 
 -- ---- with a decision
 
 commit_lawful : (history : List Entry) (p : ℕ) (key : List ℕ) → IsLegal history → NoneAbove history → IsLegalNext history (Commit p) → IsLawful history key → IsLawful (history ++ Commit p ∷ []) key
-commit_lawful history p key legal none behind lawful =
+commit_lawful history p key legal none after lawful =
     let grown = history ++ Commit p ∷ [] in
-    let value = newest_next history (Commit p) key legal behind.names_undecided in
+    let value = newest_next history (Commit p) key legal after.names_undecided in
     let next = next_version history (Commit p) key in
     elim (change_to (batch_at history p) key) as (λ change. change_to (batch_at history p) key ≡ change → IsLawful grown key) [
-      | None ↦ λ e. lawful_same history grown key lawful (same_versions history (Commit p) key next (nothing_decided history (Commit p) key p e behind.names_undecided (λ q. eqb-true p q))) (value ∙ ap (λ (c : Option (Option (List ℕ))). unwrap_or c (newest history key)) e)
+      | None ↦ λ e. lawful_same history grown key lawful (same_versions history (Commit p) key next (nothing_decided history (Commit p) key p e after.names_undecided (λ q. eqb-true p q))) (value ∙ ap (λ (c : Option (Option (List ℕ))). unwrap_or c (newest history key)) e)
       | Some x ↦ λ e.
           let store : newest grown key ≡ x = value ∙ ap (λ (c : Option (Option (List ℕ))). unwrap_or c (newest history key)) e in
-          let version : committed_version grown p key ≡ Some x = decided_version history (Commit p) p key behind.names_undecided (eq-eqb p p refl) ∙ version_held history key p behind.names_undecided ∙ e in
-          let holds : Holds history key p = record { undecided = behind.names_undecided; changed = is_changed_from (batch_at history p) key x e } in
+          let version : committed_version grown p key ≡ Some x = decided_version history (Commit p) p key after.names_undecided (eq-eqb p p refl) ∙ undecided_version history key p after.names_undecided ∙ e in
+          let holds : Holds history key p = record { undecided = after.names_undecided; changed = is_changed_from (batch_at history p) key x e } in
           lawful_top grown key p (version ∙ ap (λ (v : Option (List ℕ)). Some v) (sym store)) (λ q lt. elim (cases_lt (length history) q) [
             | inl past ↦ nothing_past history (Commit p) key next q past
-            | inr le ↦ no_version_counts grown q key (entry_version_old history (Commit p ∷ []) q key le ∙ none_above history key p q none behind.undo_is_closed holds lt)
+            | inr le ↦ no_version_counts grown q key (entry_version_old history (Commit p ∷ []) q key le ∙ none_above history key p q none after.undo_is_closed holds lt)
           ])
     ] refl
 
@@ -182,13 +182,13 @@ undo_version : (front : List Entry) (p : ℕ) (batch : List Change) (key : List 
 undo_version front p batch key x legal changed =
     let history = front ++ Undo p batch ∷ [] in
     let before : IsLegal front = legal_before front (Undo p batch ∷ []) legal in
-    let behind : IsLegalNext front (Undo p batch) = behind_front front (Undo p batch) [] legal in
-    let within : p ≤ length front = (undecided_within front p behind.names_undecided).1 in
+    let after : IsLegalNext front (Undo p batch) = after_front front (Undo p batch) [] legal in
+    let within : p ≤ length front = (undecided_within front p after.names_undecided).1 in
     let old : change_to (batch_at front p) key ≡ Some x = ap (λ (changes : List Change). change_to changes key) (sym (batch_at_old front (Undo p batch ∷ []) p within)) ∙ changed in
-    let held : change_to batch key ≡ Some (newest front key) = undone_to front p batch key behind.restores_prior ∙ ap (option_map (λ _. newest front key)) old in
+    let held : change_to batch key ≡ Some (newest front key) = undone_to front p batch key after.restores_prior ∙ ap (option_map (λ _. newest front key)) old in
     record {
       below = omega (arith, length_next front (Undo p batch));
-      version = ap (λ (n : ℕ). committed_version history n key) (length_next front (Undo p batch)) ∙ next_version front (Undo p batch) key ∙ held ∙ ap (λ (v : Option (List ℕ)). Some v) (sym (undo_keeps_store front p batch key before behind));
+      version = ap (λ (n : ℕ). committed_version history n key) (length_next front (Undo p batch)) ∙ next_version front (Undo p batch) key ∙ held ∙ ap (λ (v : Option (List ℕ)). Some v) (sym (undo_keeps_store front p batch key before after));
     }
 
 ends_undone : (history : List Entry) (p : ℕ) (key : List ℕ) (x : Option (List ℕ)) → IsLegal history → undone_last history ≡ Some p → change_to (batch_at history p) key ≡ Some x → EndsUndone history key p
@@ -198,14 +198,14 @@ ends_undone history p key x legal undone changed =
     subst P (sym last.is) (undo_version last.front p last.batch key x) legal changed
 
 close_lawful : (history : List Entry) (p : ℕ) (key : List ℕ) → IsLegal history → IsLegalNext history (Close p) → IsLawful history key → IsLawful (history ++ Close p ∷ []) key
-close_lawful history p key legal behind lawful =
+close_lawful history p key legal after lawful =
     let grown = history ++ Close p ∷ [] in
-    let value : newest grown key ≡ newest history key = newest_next history (Close p) key legal behind.names_undecided in
+    let value : newest grown key ≡ newest history key = newest_next history (Close p) key legal after.names_undecided in
     let next = next_version history (Close p) key in
     elim (change_to (batch_at history p) key) as (λ change. change_to (batch_at history p) key ≡ change → IsLawful grown key) [
-      | None ↦ λ e. lawful_same history grown key lawful (same_versions history (Close p) key next (nothing_decided history (Close p) key p e behind.names_undecided (λ q. eqb-true p q))) value
+      | None ↦ λ e. lawful_same history grown key lawful (same_versions history (Close p) key next (nothing_decided history (Close p) key p e after.names_undecided (λ q. eqb-true p q))) value
       | Some x ↦ λ e.
-          let last = ends_undone history p key x legal behind.undo_is_closed e in
+          let last = ends_undone history p key x legal after.undo_is_closed e in
           let below = last.below in
           let other : decides (length history) (Close p) ≡ false = ne_eqb p (length history) (λ same. omega arith) in
           lawful_top grown key (length history) (version_stays history (Close p) (length history) key (omega arith) other ∙ last.version ∙ ap (λ (v : Option (List ℕ)). Some v) (sym value)) (nothing_past history (Close p) key next)
@@ -219,11 +219,11 @@ prepare_version history name batch key legal =
     next_version history (Prepare name batch) key ∙ ap (λ (b : Bool). cond b (change_to batch key) None) decided
 
 lawful_next : (history : List Entry) (entry : Entry) (key : List ℕ) → IsLegal history → IsLegalNext history entry → IsLawful history key → IsLawful (history ++ entry ∷ []) key
-lawful_next history (Write batch) key legal behind lawful = kept_lawful history (Write batch) key lawful (λ q. refl) (next_version history (Write batch) key) (newest_next history (Write batch) key legal tt)
-lawful_next history (Prepare name batch) key legal behind lawful = lawful_same history (history ++ Prepare name batch ∷ []) key lawful (same_versions history (Prepare name batch) key (prepare_version history name batch key legal) (λ q le it. absurd cc)) (newest_next history (Prepare name batch) key legal tt)
-lawful_next history (Commit p) key legal behind lawful = commit_lawful history p key legal (legal_none_above history legal) behind lawful
-lawful_next history (Undo p batch) key legal behind lawful = undo_lawful history p batch key legal behind lawful
-lawful_next history (Close p) key legal behind lawful = close_lawful history p key legal behind lawful
+lawful_next history (Write batch) key legal after lawful = kept_lawful history (Write batch) key lawful (λ q. refl) (next_version history (Write batch) key) (newest_next history (Write batch) key legal tt)
+lawful_next history (Prepare name batch) key legal after lawful = lawful_same history (history ++ Prepare name batch ∷ []) key lawful (same_versions history (Prepare name batch) key (prepare_version history name batch key legal) (λ q le it. absurd cc)) (newest_next history (Prepare name batch) key legal tt)
+lawful_next history (Commit p) key legal after lawful = commit_lawful history p key legal (legal_none_above history legal) after lawful
+lawful_next history (Undo p batch) key legal after lawful = undo_lawful history p batch key legal after lawful
+lawful_next history (Close p) key legal after lawful = close_lawful history p key legal after lawful
 
 version_in_none : (p : ℕ) (key : List ℕ) → entry_version [] p key ≡ None
 version_in_none zero key = refl
@@ -236,7 +236,7 @@ lawful_none key = record {
 }
 
 legal_lawful : (history : List Entry) → IsLegal history → (key : List ℕ) → IsLawful history key
-legal_lawful history legal key = by_growth (λ h. IsLawful h key) (lawful_none key) (λ h entry _ before behind lawful. lawful_next h entry key before behind lawful) history legal
+legal_lawful history legal key = by_growth (λ h. IsLawful h key) (lawful_none key) (λ h entry _ before after lawful. lawful_next h entry key before after lawful) history legal
 
 -- ---- by the first entries, searched backwards
 

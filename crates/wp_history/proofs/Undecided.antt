@@ -124,9 +124,9 @@ undo_undoes (first ∷ []) p batch = refl
 undo_undoes (first ∷ second ∷ others) p batch = undo_undoes (second ∷ others) p batch
 
 pub close_follows : (history : List Entry) (p : ℕ) (batch : List Change) → IsLegalNext history (Undo p batch) → IsLegalNext (history ++ Undo p batch ∷ []) (Close p)
-close_follows history p batch behind = record {
+close_follows history p batch after = record {
   batch = refl;
-  names_undecided = undecided_old history (Undo p batch) p (undecided_within history p behind.names_undecided).1 ∙ and_from _ true behind.names_undecided refl;
+  names_undecided = undecided_old history (Undo p batch) p (undecided_within history p after.names_undecided).1 ∙ and_from _ true after.names_undecided refl;
   undo_is_closed = undo_undoes history p batch;
   restores_prior = tt;
   keys_are_free = tt;
@@ -137,9 +137,9 @@ close_follows history p batch behind = record {
 pub grows_with : (history old : List Entry) (numbers : List ℕ) (entry : Entry) (n : ℕ) (grown : List Entry) (left : List ℕ)
     → IsLegalWith history numbers → history ≡ old → IsLegalNext old entry → n ≡ length old → length old + 1 < 2 ^ 32
     → grown ≡ history ++ entry ∷ [] → left ≡ undecided_after numbers (n + 1) entry → IsLegalWith grown left
-grows_with history old numbers entry n grown left kept same behind number few grown-is left-is =
+grows_with history old numbers entry n grown left kept same after number few grown-is left-is =
     let kept_old : IsLegalWith old numbers = subst (λ (h : List Entry). IsLegalWith h numbers) same kept in
     record {
-      legal = rw (grown-is, same) (legal_next old entry kept_old.legal behind few);
-      numbered = rw (left-is, grown-is, same, kept_old.numbered, number) (sym (undecided_next old entry kept_old.legal behind.names_undecided));
+      legal = rw (grown-is, same) (legal_next old entry kept_old.legal after few);
+      numbered = rw (left-is, grown-is, same, kept_old.numbered, number) (sym (undecided_next old entry kept_old.legal after.names_undecided));
     }

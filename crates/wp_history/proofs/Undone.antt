@@ -15,20 +15,20 @@ undone_alone (Commit p) = refl
 undone_alone (Undo p batch) = refl
 undone_alone (Close p) = refl
 
-undone_behind_two : (first second : Entry) (others : List Entry) → undone_last (first ∷ second ∷ others) ≡ undone_last (second ∷ others)
-undone_behind_two (Write batch) second others = refl
-undone_behind_two (Prepare name batch) second others = refl
-undone_behind_two (Commit p) second others = refl
-undone_behind_two (Undo p batch) second others = refl
-undone_behind_two (Close p) second others = refl
+undone_after_two : (first second : Entry) (others : List Entry) → undone_last (first ∷ second ∷ others) ≡ undone_last (second ∷ others)
+undone_after_two (Write batch) second others = refl
+undone_after_two (Prepare name batch) second others = refl
+undone_after_two (Commit p) second others = refl
+undone_after_two (Undo p batch) second others = refl
+undone_after_two (Close p) second others = refl
 
-pub undone_behind : (front others : List Entry) (entry : Entry) → undone_last (front ++ entry ∷ others) ≡ undone_last (entry ∷ others)
-undone_behind [] others entry = refl
-undone_behind (first ∷ []) others entry = undone_behind_two first entry others
-undone_behind (first ∷ second ∷ front) others entry = undone_behind_two first second (front ++ entry ∷ others) ∙ undone_behind (second ∷ front) others entry
+pub undone_after : (front others : List Entry) (entry : Entry) → undone_last (front ++ entry ∷ others) ≡ undone_last (entry ∷ others)
+undone_after [] others entry = refl
+undone_after (first ∷ []) others entry = undone_after_two first entry others
+undone_after (first ∷ second ∷ front) others entry = undone_after_two first second (front ++ entry ∷ others) ∙ undone_after (second ∷ front) others entry
 
 pub undone_next : (history : List Entry) (entry : Entry) → undone_last (history ++ entry ∷ []) ≡ undone_by entry
-undone_next history entry = undone_behind history [] entry ∙ undone_alone entry
+undone_next history entry = undone_after history [] entry ∙ undone_alone entry
 
 pub undone_at_last : (history : List Entry) (entry : Entry) → slice_get history (length history - 1) ≡ Some entry → undone_by entry ≡ undone_last history
 undone_at_last [] entry at = absurd cc
@@ -37,7 +37,7 @@ undone_at_last (first ∷ second ∷ others) entry at =
     let at_rest : slice_get (second ∷ others) (length (second ∷ others) - 1) ≡ Some entry =
     let index : suc (suc (length others)) - 1 ≡ suc (suc (length others) - 1) = omega arith in
     rw index at at in
-    undone_at_last (second ∷ others) entry at_rest ∙ sym (undone_behind_two first second others)
+    undone_at_last (second ∷ others) entry at_rest ∙ sym (undone_after_two first second others)
 
 pub none_undone : (history : List Entry) → slice_get history (length history - 1) ≡ None → None ≡ undone_last history
 none_undone [] at = refl
@@ -60,5 +60,5 @@ pub last_undo : (history : List Entry) (p : ℕ) → undone_last history ≡ Som
 last_undo [] p undone = absurd cc
 last_undo (first ∷ []) p undone = last_undo_alone first p (sym (undone_alone first) ∙ undone)
 last_undo (first ∷ second ∷ others) p undone =
-    let rest = last_undo (second ∷ others) p (sym (undone_behind_two first second others) ∙ undone) in
+    let rest = last_undo (second ∷ others) p (sym (undone_after_two first second others) ∙ undone) in
     record { front = first ∷ rest.front; batch = rest.batch; is = ap (λ (h : List Entry). first ∷ h) rest.is }

@@ -6,7 +6,7 @@ use Rattle.std.proofs.lemmas.Bool.{false≢true, lt-ltb, le-ltb, le-leb, lt-leb,
 use Rattle.std.proofs.lemmas.List.Folds.{list_any-append}
 use Rattle.wp_model.specs.declared.version.Version.{Version}
 use Rattle.wp_model.specs.Versions.{version_cmp}
-use Rattle.wp_keep.proofs.Order.{IsBehind, IsBefore, IsPlaced, same_version_key, bytes_eq-same, newer_number, between}
+use Rattle.wp_keep.proofs.Order.{IsAfter, IsBefore, IsPlaced, same_version_key, bytes_eq-same, newer_number, between}
 
 -- a version of the key is among them that passes the test
 abbrev pub any_of : List ℕ → (Version → Bool) → List Version → Bool
@@ -37,7 +37,7 @@ module _ (g : Version → Bool) where
   abbrev older_passes : Version → Version → Bool
   older_passes v w = bytes_eq w.key v.key && (nat_le w.number v.number && g w)
 
-  newer_front : (v : Version) (front : List Version) → IsBehind v front → list_any (newer_passes v) front ≡ any_of v.key g front
+  newer_front : (v : Version) (front : List Version) → IsAfter v front → list_any (newer_passes v) front ≡ any_of v.key g front
   newer_front v [] h = refl
   newer_front v (w ∷ ws) h = or_with _ _ _ _ (and_true (bytes_eq w.key v.key) (nat_lt v.number w.number) (g w) (λ e. lt-ltb v.number w.number (newer_number w v h.0 e))) (newer_front v ws h.1)
 
@@ -51,10 +51,10 @@ module _ (g : Version → Bool) where
   any_newer front v back place =
       let here : newer_passes v v ≡ false = and_false (bytes_eq v.key v.key) (nat_lt v.number v.number) (g v) (λ e. le-ltb v.number v.number (omega arith)) in
       list_any-append (newer_passes v) front (v ∷ back)
-      ∙ or_with _ _ _ _ (newer_front v front place.behind) (or_from (newer_passes v v) (list_any (newer_passes v) back) here (newer_back v back place.before))
+      ∙ or_with _ _ _ _ (newer_front v front place.after) (or_from (newer_passes v v) (list_any (newer_passes v) back) here (newer_back v back place.before))
       ∙ or_false (any_of v.key g front)
 
-  older_front : (v : Version) (front : List Version) → IsBehind v front → list_any (older_passes v) front ≡ false
+  older_front : (v : Version) (front : List Version) → IsAfter v front → list_any (older_passes v) front ≡ false
   older_front v [] h = refl
   older_front v (w ∷ ws) h =
       or_from (older_passes v w) (list_any (older_passes v) ws) (and_false (bytes_eq w.key v.key) (nat_le w.number v.number) (g w) (λ e. lt-leb w.number v.number (newer_number w v h.0 e))) (older_front v ws h.1)
@@ -68,10 +68,10 @@ module _ (g : Version → Bool) where
   any_older front v back place =
       let here : older_passes v v ≡ g v = λ i. bytes_eq-same v.key i && (le-leb v.number v.number (omega arith) i && g v) in
       list_any-append (older_passes v) front (v ∷ back)
-      ∙ or_with _ _ _ _ (older_front v front place.behind) (or_with _ _ _ _ here (older_back v back place.before))
+      ∙ or_with _ _ _ _ (older_front v front place.after) (or_with _ _ _ _ here (older_back v back place.before))
 
   -- none of another key is beyond a version that is not of that key
-  pub none_passed : (v u : Version) (front : List Version) → IsBehind v front → version_cmp v u ≡ Less → bytes_eq v.key u.key ≡ false → any_of u.key g front ≡ false
+  pub none_passed : (v u : Version) (front : List Version) → IsAfter v front → version_cmp v u ≡ Less → bytes_eq v.key u.key ≡ false → any_of u.key g front ≡ false
   none_passed v u [] h less other = refl
   none_passed v u (w ∷ ws) h less other = or_from (bytes_eq w.key u.key && g w) (any_of u.key g ws) (by (bytes_eq w.key u.key) refl) (none_passed v u ws h.1 less other)
     where

@@ -11,7 +11,7 @@ use Rattle.wp_model.specs.declared.version.Version.{Version}
 use Rattle.wp_model.specs.Versions.{AreInOrder, version_cmp}
 use Rattle.wp_keep.specs.Keep.{is_by, by_commits, has_newer, is_needed, stays}
 use Rattle.wp_keep.specs.Newer.{is_above}
-use Rattle.wp_keep.proofs.Order.{IsBehind, placed_version, behind_parts, same_version_key}
+use Rattle.wp_keep.proofs.Order.{IsAfter, placed_version, after_parts, same_version_key}
 use Rattle.wp_keep.proofs.Any.{any_of, any_newer, none_passed}
 
 abbrev pub Commits : Type 0
@@ -19,7 +19,7 @@ Commits = map.FinMap nat_cmp ℕ
 
 -- what is noted tells of each version after these which newer ones are committed
 pub record HasNoted (commits : Commits) (front : List Version) (noted : Option (List ℕ × ℕ)) : Type 0 where
-  pub each : (u : Version) → IsBehind u front → (n : ℕ) → is_above noted u.key n ≡ any_of u.key (λ w. by_commits commits w.number n) front
+  pub each : (u : Version) → IsAfter u front → (n : ℕ) → is_above noted u.key n ≡ any_of u.key (λ w. by_commits commits w.number n) front
 
 -- what is noted once a version with this commit, or none, was passed
 pub record IsNotedKey (noted : Option (List ℕ × ℕ)) (key : List ℕ) (commit : Option ℕ) (next : Option (List ℕ × ℕ)) : Type 0 where
@@ -38,14 +38,14 @@ and_nothing true b = refl
 and_nothing false true = refl
 and_nothing false false = refl
 
-pub noted_more : (commits : Commits) (front : List Version) (v : Version) (noted next : Option (List ℕ × ℕ)) (commit : Option ℕ) → commit ≡ map.get commits v.number → IsNotedKey noted v.key commit next → IsBehind v front → HasNoted commits front noted → HasNoted commits (front ++ v ∷ []) next
-noted_more commits front v noted next commit is note behind had = record { each = each }
+pub noted_more : (commits : Commits) (front : List Version) (v : Version) (noted next : Option (List ℕ × ℕ)) (commit : Option ℕ) → commit ≡ map.get commits v.number → IsNotedKey noted v.key commit next → IsAfter v front → HasNoted commits front noted → HasNoted commits (front ++ v ∷ []) next
+noted_more commits front v noted next commit is note after had = record { each = each }
   where
-    each : (u : Version) → IsBehind u (front ++ v ∷ []) → (n : ℕ) → is_above next u.key n ≡ any_of u.key (λ w. by_commits commits w.number n) (front ++ v ∷ [])
+    each : (u : Version) → IsAfter u (front ++ v ∷ []) → (n : ℕ) → is_above next u.key n ≡ any_of u.key (λ w. by_commits commits w.number n) (front ++ v ∷ [])
     each u h n = by commit refl ∙ sym (list_any-append (λ w. bytes_eq w.key u.key && by_commits commits w.number n) front (v ∷ []))
       where
-        parts : IsBehind u front × (version_cmp v u ≡ Less)
-        parts = behind_parts u front v h
+        parts : IsAfter u front × (version_cmp v u ≡ Less)
+        parts = after_parts u front v h
 
         by : (o : Option ℕ) → commit ≡ o → is_above next u.key n ≡ (any_of u.key (λ w. by_commits commits w.number n) front || ((bytes_eq v.key u.key && by_commits commits v.number n) || false))
         by None e =
@@ -59,10 +59,10 @@ noted_more commits front v noted next commit is note behind had = record { each 
             at_key : (b : Bool) → bytes_eq v.key u.key ≡ b → (b && (is_above noted v.key n || is_by commit n)) ≡ (any_of u.key (λ w. by_commits commits w.number n) front || ((b && by_commits commits v.number n) || false))
             at_key true same =
                 let keys = same_version_key v.key u.key same in
-                (λ i. had.each v behind n i || is_by (is i) n)
+                (λ i. had.each v after n i || is_by (is i) n)
                 ∙ ap (λ k. any_of k (λ w. by_commits commits w.number n) front || by_commits commits v.number n) keys
                 ∙ or_last (any_of u.key (λ w. by_commits commits w.number n) front) (by_commits commits v.number n)
-            at_key false other = sym (ap (λ b. b || false) (none_passed (λ w. by_commits commits w.number n) v u front behind parts.1 other))
+            at_key false other = sym (ap (λ b. b || false) (none_passed (λ w. by_commits commits w.number n) v u front after parts.1 other))
 
 -- ---- whether the version stays
 
@@ -71,7 +71,7 @@ stays_by commits all front v back snapshots floor noted commit above split order
     let place = placed_version front v back (subst AreInOrder split order) in
     let newer : (n : ℕ) → is_by above n ≡ has_newer (by_commits commits) all v n = λ n.
     tells n
-    ∙ had.each v place.behind n
+    ∙ had.each v place.after n
     ∙ sym (any_newer (λ w. by_commits commits w.number n) front v back place)
     ∙ ap (λ vs. has_newer (by_commits commits) vs v n) (sym split) in
     λ i. is_needed (is_by (is i)) (λ n. newer n i) snapshots floor
@@ -89,7 +89,7 @@ pub noted_at : (commits : Commits) (all : List Version) (i : ℕ) (v : Version) 
 noted_at commits all i v noted next commit order within is own note had =
     let split = split_at all i v within is in
     let place = placed_version (take i all) v (drop (suc i) all) (subst AreInOrder split order) in
-    subst (λ vs. HasNoted commits vs next) (sym (take_next all i v within is)) (noted_more commits (take i all) v noted next commit own note place.behind had)
+    subst (λ vs. HasNoted commits vs next) (sym (take_next all i v within is)) (noted_more commits (take i all) v noted next commit own note place.after had)
 
 -- the versions so far, and this one where it is needed
 pub kept_at : (commits : Commits) (all : List Version) (i : ℕ) (v : Version) (snapshots : List ℕ) (floor : ℕ) (noted : Option (List ℕ × ℕ)) (commit above : Option ℕ) (needed : Bool) (kept next : List Version) → AreInOrder all → i < length all → v ≡ get_or all i v → HasNoted commits (take i all) noted → commit ≡ map.get commits v.number → ((n : ℕ) → is_by above n ≡ is_above noted v.key n) → needed ≡ is_needed (is_by commit) (is_by above) snapshots floor → kept ≡ filter (stays (by_commits commits) all snapshots floor) (take i all) → next ≡ cond needed (kept ++ v ∷ []) kept → next ≡ filter (stays (by_commits commits) all snapshots floor) (take (i + 1) all)

@@ -61,15 +61,15 @@ between u v w first second same = by (key_cmp u.key v.key) refl
 -- ---- a version in a list
 
 -- all of these are before v
-abbrev pub IsBehind : Version → List Version → Type 0
-IsBehind v versions = AllByRecursion (λ w. version_cmp w v ≡ Less) versions
+abbrev pub IsAfter : Version → List Version → Type 0
+IsAfter v versions = AllByRecursion (λ w. version_cmp w v ≡ Less) versions
 
 -- all of these are after v
 abbrev pub IsBefore : Version → List Version → Type 0
 IsBefore v versions = AllByRecursion (λ w. version_cmp v w ≡ Less) versions
 
 pub record IsPlaced (front : List Version) (v : Version) (back : List Version) : Type 0 where
-  pub behind : IsBehind v front
+  pub after : IsAfter v front
   pub before : IsBefore v back
 
 pub in_order_parts : (v : Version) (vs : List Version) → AreInOrder (v ∷ vs) → IsBefore v vs × AreInOrder vs
@@ -85,15 +85,15 @@ before_at w [] v back h = h.0
 before_at w (x ∷ front) v back h = before_at w front v back h.1
 
 pub placed_version : (front : List Version) (v : Version) (back : List Version) → AreInOrder (front ++ v ∷ back) → IsPlaced front v back
-placed_version [] v back h = record { behind = tt; before = (in_order_parts v back h).0 }
+placed_version [] v back h = record { after = tt; before = (in_order_parts v back h).0 }
 placed_version (w ∷ front) v back h =
     let parts = in_order_parts w (front ++ v ∷ back) h in
     let rest = placed_version front v back parts.1 in
-    record { behind = (before_at w front v back parts.0, rest.behind); before = rest.before }
+    record { after = (before_at w front v back parts.0, rest.after); before = rest.before }
 
-pub behind_parts : (u : Version) (front : List Version) (v : Version) → IsBehind u (front ++ v ∷ []) → IsBehind u front × (version_cmp v u ≡ Less)
-behind_parts u [] v h = (tt, h.0)
-behind_parts u (w ∷ front) v h = let rest = behind_parts u front v h.1 in ((h.0, rest.0), rest.1)
+pub after_parts : (u : Version) (front : List Version) (v : Version) → IsAfter u (front ++ v ∷ []) → IsAfter u front × (version_cmp v u ≡ Less)
+after_parts u [] v h = (tt, h.0)
+after_parts u (w ∷ front) v h = let rest = after_parts u front v h.1 in ((h.0, rest.0), rest.1)
 
 -- ---- some of a list
 

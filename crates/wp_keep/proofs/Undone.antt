@@ -80,18 +80,18 @@ ends_alone (Commit q) p undone = absurd cc
 ends_alone (Undo q batch) p undone = let same : q ≡ p = cc in record { front = []; batch = batch; is = ap (λ (r : ℕ). Undo r batch ∷ []) same }
 ends_alone (Close q) p undone = absurd cc
 
-undone_behind : (first second : Entry) (others : List Entry) → undone_last (first ∷ second ∷ others) ≡ undone_last (second ∷ others)
-undone_behind (Write batch) second others = refl
-undone_behind (Prepare name batch) second others = refl
-undone_behind (Commit p) second others = refl
-undone_behind (Undo p batch) second others = refl
-undone_behind (Close p) second others = refl
+undone_after : (first second : Entry) (others : List Entry) → undone_last (first ∷ second ∷ others) ≡ undone_last (second ∷ others)
+undone_after (Write batch) second others = refl
+undone_after (Prepare name batch) second others = refl
+undone_after (Commit p) second others = refl
+undone_after (Undo p batch) second others = refl
+undone_after (Close p) second others = refl
 
 ends_with : (history : List Entry) (p : ℕ) → undone_last history ≡ Some p → EndsWith history p
 ends_with [] p undone = absurd cc
 ends_with (first ∷ []) p undone = ends_alone first p undone
 ends_with (first ∷ second ∷ others) p undone =
-    let rest = ends_with (second ∷ others) p (sym (undone_behind first second others) ∙ undone) in
+    let rest = ends_with (second ∷ others) p (sym (undone_after first second others) ∙ undone) in
     record { front = first ∷ rest.front; batch = rest.batch; is = ap (λ (h : List Entry). first ∷ h) rest.is }
 
 -- ---- what it undoes
@@ -129,10 +129,10 @@ undoes_at front p batch key value legal there =
     let long : length (front ++ Undo p batch ∷ []) ≡ suc (length front) = omega (arith, length-append front (Undo p batch ∷ [])) in
     let last : change_to batch key ≡ Some value = sym (ap (λ (at : Option Entry). version_in at key) (slice_get_next front (Undo p batch))) ∙ sym (ap (λ n. entry_version (front ++ Undo p batch ∷ []) n key) long) ∙ there in
     let P : List Entry → Type 0 = λ before. IsLegalNext before (Undo p batch) in
-    let behind : IsLegalNext front (Undo p batch) = subst P (take-append_seam front (Undo p batch ∷ [])) (legal.each (length front) (Undo p batch) (slice_get_next front (Undo p batch))) in
-    let parts = and_parts (is_prepare (entry_at front p)) (not (list_any (decides p) front)) behind.names_undecided in
+    let after : IsLegalNext front (Undo p batch) = subst P (take-append_seam front (Undo p batch ∷ [])) (legal.each (length front) (Undo p batch) (slice_get_next front (Undo p batch))) in
+    let parts = and_parts (is_prepare (entry_at front p)) (not (list_any (decides p) front)) after.names_undecided in
     let within : p ≤ length front = prepare_within front p parts.0 in
-    let old = changed_before front (batch_at front p) key value (ap (λ (b : List Change). change_to b key) (sym behind.restores_prior) ∙ last) in
+    let old = changed_before front (batch_at front p) key value (ap (λ (b : List Change). change_to b key) (sym after.restores_prior) ∙ last) in
     let same = entry_old front (Undo p batch ∷ []) p within in
     record {
       below = omega arith;

@@ -60,8 +60,8 @@ version_at-under k (p ∷ ps) rest key m true is =
     rw (is, nat_eq_equiv.symm p.0 m) (ap (cond (nat_eq m p.0) (Some p.1)) (version_at-under k ps rest key m true is) ∙ or_cond (nat_eq m p.0) p.1 (lookup (nat_eq m) ps) (version_at rest key m))
 version_at-under k (p ∷ ps) rest key m false is = rw is (version_at-under k ps rest key m false is)
 
-missing_behind : (e : List ℕ × RoomyVersions) (es : Places) (key : List ℕ) → IsStrictlySortedBy key_cmp (keys_of (e ∷ es)) → is_at (key_cmp key) e.0 ≡ true → lookup (is_at (key_cmp key)) es ≡ None
-missing_behind e es key sorted here =
+missing_after : (e : List ℕ × RoomyVersions) (es : Places) (key : List ℕ) → IsStrictlySortedBy key_cmp (keys_of (e ∷ es)) → is_at (key_cmp key) e.0 ≡ true → lookup (is_at (key_cmp key)) es ≡ None
+missing_after e es key sorted here =
     lookup-none (is_at (key_cmp key)) es (none_past_head (eq_by_cmp_equiv nat_list_cmp_total) key e es (IsDistinct-from_sorted key_cmp _ sorted) here)
 
 or_none : (o : Option (Option (List ℕ))) → option_or o None ≡ o
@@ -74,7 +74,7 @@ version_at-versions_in (e ∷ es) key m sorted = by (is_at (key_cmp key) e.0) re
   where
     by : (b : Bool) → is_at (key_cmp key) e.0 ≡ b → version_at (versions_in es) key m ≡ found_at es key m → version_at (versions_in (e ∷ es)) key m ≡ option_and_then (λ r. lookup (nat_eq m) r.versions) (cond b (Some e.1) (lookup (is_at (key_cmp key)) es))
     by true is rest =
-        let none = missing_behind e es key sorted is in
+        let none = missing_after e es key sorted is in
         version_at-under e.0 e.1.versions (versions_in es) key m true (sym (at_key key e.0) ∙ is)
         ∙ ap (option_or (lookup (nat_eq m) e.1.versions)) (rest ∙ ap (option_and_then (λ (r : RoomyVersions). lookup (nat_eq m) r.versions)) none)
         ∙ or_none (lookup (nat_eq m) e.1.versions)
@@ -149,7 +149,7 @@ numbered_of-versions_in (e ∷ es) key sorted = by (is_at (key_cmp key) e.0) ref
 
     by : (b : Bool) → is_at (key_cmp key) e.0 ≡ b → numbered_of key (versions_in es) ≡ versions_at (lookup (is_at (key_cmp key)) es) → numbered_of key (versions_in (e ∷ es)) ≡ versions_at (cond b (Some e.1) (lookup (is_at (key_cmp key)) es))
     by true is rest =
-        let none = missing_behind e es key sorted is in
+        let none = missing_after e es key sorted is in
         front true (sym (at_key key e.0) ∙ is)
         ∙ ap (λ (ps : Numbered). ps ++ numbered_of key (versions_in es)) (numbered_under e.0 e.1.versions)
         ∙ ap (λ (ps : Numbered). e.1.versions ++ ps) (rest ∙ ap versions_at none)
@@ -300,7 +300,7 @@ none_left [] h = refl
 none_left (p ∷ ps) h = absurd (omega (arith, ltb-false 0 (length (p ∷ ps)) (sym h)))
 
 retained_cons : (n : ℕ) (e : List ℕ × RoomyVersions) (es rest kept : Places) (b : Bool) (w : RoomyVersions) → Removes n e.1 b w → Retained n es rest → kept ≡ cond b ((e.0, w) ∷ rest) rest → Retained n (e ∷ es) kept
-retained_cons n e es rest kept b w call behind is = by b call.2 is
+retained_cons n e es rest kept b w call after is = by b call.2 is
   where
     front : under e.0 w.versions ≡ without_number n (under e.0 e.1.versions)
     front = ap (under e.0) call.0 ∙ without_under n e.0 e.1.versions
@@ -309,10 +309,10 @@ retained_cons n e es rest kept b w call behind is = by b call.2 is
     split = filter-append (λ v. not (v.number == n)) (under e.0 e.1.versions) (versions_in es)
 
     by : (b : Bool) → b ≡ nat_lt 0 (length w.versions) → kept ≡ cond b ((e.0, w) ∷ rest) rest → Retained n (e ∷ es) kept
-    by true some h = record { versions = ap versions_in h ∙ (λ i. front i ++ behind.versions i) ∙ sym split; newest_first = subst AllNewestFirst (sym h) (call.1, behind.newest_first) }
+    by true some h = record { versions = ap versions_in h ∙ (λ i. front i ++ after.versions i) ∙ sym split; newest_first = subst AllNewestFirst (sym h) (call.1, after.newest_first) }
     by false none h =
         let gone : without_number n (under e.0 e.1.versions) ≡ [] = sym front ∙ ap (under e.0) (none_left w.versions none) in
-        record { versions = ap versions_in h ∙ behind.versions ∙ sym (split ∙ ap (λ (vs : List Version). vs ++ without_number n (versions_in es)) gone); newest_first = subst AllNewestFirst (sym h) behind.newest_first }
+        record { versions = ap versions_in h ∙ after.versions ∙ sym (split ∙ ap (λ (vs : List Version). vs ++ without_number n (versions_in es)) gone); newest_first = subst AllNewestFirst (sym h) after.newest_first }
 
 pub retained : {F : Type 0} (T : F → List ℕ → RoomyVersions → Bool → RoomyVersions → F → Type 0) (n : ℕ) (f : F) → ((k : List ℕ) (v : RoomyVersions) (b : Bool) (w : RoomyVersions) (f' : F) → T f k v b w f' → (f' ≡ f) × Removes n v b w) → (es kept : Places) → RetainsPairs T f es kept → Retained n es kept
 retained T n f calls [] kept h = record { versions = ap versions_in h; newest_first = subst AllNewestFirst (sym h) tt }

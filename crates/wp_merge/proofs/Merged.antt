@@ -59,12 +59,12 @@ before_same v w (y ∷ ys) same before = (version_total.congr v w y same ∙ bef
 -- ---- the order
 
 before_weave : (v x : Version) (rest : List Version → List Version) (ys : List Version) → version_cmp v x ≡ Less → ((zs : List Version) → IsBefore v zs → IsBefore v (rest zs)) → IsBefore v ys → IsBefore v (weave x rest ys)
-before_weave v x rest [] here behind before = (here, behind [] tt)
-before_weave v x rest (y ∷ ys) here behind before = by (version_cmp x y) (before_weave v x rest ys here behind before.1)
+before_weave v x rest [] here after before = (here, after [] tt)
+before_weave v x rest (y ∷ ys) here after before = by (version_cmp x y) (before_weave v x rest ys here after before.1)
   where
     by : (o : Ordering) → IsBefore v (weave x rest ys) → IsBefore v (choose_by_order o (x ∷ rest (y ∷ ys)) (x ∷ rest ys) (y ∷ weave x rest ys))
-    by Less later = (here, behind (y ∷ ys) before)
-    by Equal later = (here, behind ys before.1)
+    by Less later = (here, after (y ∷ ys) before)
+    by Equal later = (here, after ys before.1)
     by Greater later = (before.0, later)
 
 before_merge : (v : Version) (xs ys : List Version) → IsBefore v xs → IsBefore v ys → IsBefore v (merge_of xs ys)
@@ -72,12 +72,12 @@ before_merge v [] ys first second = second
 before_merge v (x ∷ xs) ys first second = before_weave v x (merge_of xs) ys first.0 (λ zs. before_merge v xs zs first.1) second
 
 in_order-weave : (x : Version) (xs ys : List Version) → IsBefore x xs → ((zs : List Version) → AreInOrder zs → AreInOrder (merge_of xs zs)) → AreInOrder ys → AreInOrder (weave x (merge_of xs) ys)
-in_order-weave x xs [] before behind h = in_order_cons x (merge_of xs []) (before_merge x xs [] before tt) (behind [] h)
-in_order-weave x xs (y ∷ ys) before behind h = by (version_cmp x y) refl (in_order_parts y ys h) (in_order-weave x xs ys before behind (in_order_parts y ys h).1)
+in_order-weave x xs [] before after h = in_order_cons x (merge_of xs []) (before_merge x xs [] before tt) (after [] h)
+in_order-weave x xs (y ∷ ys) before after h = by (version_cmp x y) refl (in_order_parts y ys h) (in_order-weave x xs ys before after (in_order_parts y ys h).1)
   where
     by : (o : Ordering) → version_cmp x y ≡ o → IsBefore y ys × AreInOrder ys → AreInOrder (weave x (merge_of xs) ys) → AreInOrder (choose_by_order o (x ∷ merge_of xs (y ∷ ys)) (x ∷ merge_of xs ys) (y ∷ weave x (merge_of xs) ys))
-    by Less is parts later = in_order_cons x (merge_of xs (y ∷ ys)) (before_merge x xs (y ∷ ys) before (is, before_more x y ys is parts.0)) (behind (y ∷ ys) h)
-    by Equal is parts later = in_order_cons x (merge_of xs ys) (before_merge x xs ys before (before_same x y ys is parts.0)) (behind ys parts.1)
+    by Less is parts later = in_order_cons x (merge_of xs (y ∷ ys)) (before_merge x xs (y ∷ ys) before (is, before_more x y ys is parts.0)) (after (y ∷ ys) h)
+    by Equal is parts later = in_order_cons x (merge_of xs ys) (before_merge x xs ys before (before_same x y ys is parts.0)) (after ys parts.1)
     by Greater is parts later =
         let less : version_cmp y x ≡ Less = version_total.antisymm y x ∙ ap ordering_reverse is in
         in_order_cons y (weave x (merge_of xs) ys) (before_weave y x (merge_of xs) ys less (λ zs b. before_merge y xs zs (before_more y x xs less before) b) parts.0) later
@@ -126,12 +126,12 @@ module _ (key : List ℕ) (n : ℕ) where
       λ i. bytes_eq (keys i) key && (sym numbers i == n)
 
   at_weave : (x : Version) (xs ys : List Version) → IsBefore x xs → ((zs : List Version) → version_at (merge_of xs zs) key n ≡ option_or (version_at xs key n) (version_at zs key n)) → version_at (weave x (merge_of xs) ys) key n ≡ cond (is_here x) (Some x.value) (option_or (version_at xs key n) (version_at ys key n))
-  at_weave x xs [] before behind = ap (cond (is_here x) (Some x.value)) (behind [])
-  at_weave x xs (y ∷ ys) before behind = by (version_cmp x y) refl (at_weave x xs ys before behind)
+  at_weave x xs [] before after = ap (cond (is_here x) (Some x.value)) (after [])
+  at_weave x xs (y ∷ ys) before after = by (version_cmp x y) refl (at_weave x xs ys before after)
     where
       by : (o : Ordering) → version_cmp x y ≡ o → version_at (weave x (merge_of xs) ys) key n ≡ cond (is_here x) (Some x.value) (option_or (version_at xs key n) (version_at ys key n)) → version_at (choose_by_order o (x ∷ merge_of xs (y ∷ ys)) (x ∷ merge_of xs ys) (y ∷ weave x (merge_of xs) ys)) key n ≡ cond (is_here x) (Some x.value) (option_or (version_at xs key n) (cond (is_here y) (Some y.value) (version_at ys key n)))
-      by Less is later = ap (cond (is_here x) (Some x.value)) (behind (y ∷ ys))
-      by Equal is later = ap (cond (is_here x) (Some x.value)) (behind ys) ∙ dropped (is_here x) (is_here y) (same_place x y is)
+      by Less is later = ap (cond (is_here x) (Some x.value)) (after (y ∷ ys))
+      by Equal is later = ap (cond (is_here x) (Some x.value)) (after ys) ∙ dropped (is_here x) (is_here y) (same_place x y is)
         where
           dropped : (a b : Bool) → a ≡ b → cond a (Some x.value) (option_or (version_at xs key n) (version_at ys key n)) ≡ cond a (Some x.value) (option_or (version_at xs key n) (cond b (Some y.value) (version_at ys key n)))
           dropped true b h = refl

@@ -105,8 +105,8 @@ passes changes key i here lt is above passed =
       ascending = ascending_rest here rest (ap are_ascending (sym split) ∙ passed.ascending);
     }
 
-pub stands_before : (changes : List Change) (key : List ℕ) (i : ℕ) (here : Change) → i < length changes → here ≡ get_or changes i here → key_cmp key (key_of here) ≡ Less → Passed changes key i → IsUnchangedBefore changes key i
-stands_before changes key i here lt is below passed =
+pub unchanged_before : (changes : List Change) (key : List ℕ) (i : ℕ) (here : Change) → i < length changes → here ≡ get_or changes i here → key_cmp key (key_of here) ≡ Less → Passed changes key i → IsUnchangedBefore changes key i
+unchanged_before changes key i here lt is below passed =
     let rest = drop (i + 1) changes in
     let split : drop i changes ≡ here ∷ rest = rw (add-one, drop-cons changes i here lt) (ap (λ (x : Change). x ∷ drop (suc i) changes) (sym is)) in
     record {
@@ -117,17 +117,8 @@ stands_before changes key i here lt is below passed =
           passed.placed change e ∙ ap (λ (xs : List Change). take i changes ++ with_change xs change) split ∙ ap (λ (xs : List Change). take i changes ++ xs) leads_it ∙ ap (λ (xs : List Change). take i changes ++ change ∷ xs) (sym split);
     }
 
-pub stands_last : (changes : List Change) (key : List ℕ) → Passed changes key (length changes) → IsUnchangedBefore changes key (length changes)
-stands_last changes key passed =
-    let nothing : drop (length changes) changes ≡ [] = drop_all (length changes) changes (omega arith) in
-    record {
-      within = omega arith;
-      missing = passed.said ∙ ap (λ (xs : List Change). change_to xs key) nothing;
-      placed = λ change e. passed.placed change e ∙ ap (λ (xs : List Change). take (length changes) changes ++ with_change xs change) nothing ∙ ap (λ (xs : List Change). take (length changes) changes ++ change ∷ xs) (sym nothing);
-    }
-
-pub stands_at : (changes : List Change) (key : List ℕ) (i : ℕ) (here : Change) → i < length changes → here ≡ get_or changes i here → key_cmp key (key_of here) ≡ Equal → Passed changes key i → IsChangedAt changes key i
-stands_at changes key i here lt is same passed =
+pub changed_at : (changes : List Change) (key : List ℕ) (i : ℕ) (here : Change) → i < length changes → here ≡ get_or changes i here → key_cmp key (key_of here) ≡ Equal → Passed changes key i → IsChangedAt changes key i
+changed_at changes key i here lt is same passed =
     let rest = drop (i + 1) changes in
     let split : drop i changes ≡ here ∷ rest = rw (add-one, drop-cons changes i here lt) (ap (λ (x : Change). x ∷ drop (suc i) changes) (sym is)) in
     let said : change_to changes key ≡ Some (value_of here) = passed.said ∙ ap (λ (xs : List Change). change_to xs key) split ∙ rw (same_if_equal key (key_of here) same) refl in

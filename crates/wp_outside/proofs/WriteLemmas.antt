@@ -16,10 +16,6 @@ Appends-join (Some xs) None new a b p q = absurd p
 Appends-join (Some xs) (Some ys) None a b p q = absurd q
 Appends-join (Some xs) (Some ys) (Some zs) a b p q = q ∙ ap (λ (v : List ℕ). v ++ b) p ∙ append_assoc xs a b
 
-pub wrote_none : (old : Option (List ℕ)) (text : List ℕ) → Wrote old old text text
-wrote_none None text = record { done = []; parts = refl; taken = tt }
-wrote_none (Some xs) text = record { done = []; parts = refl; taken = sym (append-nil xs) }
-
 pub wrote_more : (old mid new : Option (List ℕ)) (text rest : List ℕ) (n : ℕ) → Wrote old mid text rest → n ≤ length rest → Appends mid new (take n rest) → Wrote old new text (take (length rest - n) (drop n rest))
 wrote_more old mid new text rest n so_far le more = rw take_rest (record {
   done = so_far.done ++ take n rest;

@@ -100,7 +100,3 @@ Passes P old new = (more : List Moment) × (new ≡ more ++ old) × Each P more
 abbrev pub images : List Moment → List ℕ → Type 0
 images [] bytes = ⊥
 images (m ∷ past) bytes = IsImage m bytes
-
--- what a crash at some moment since a call began may have left; at that of its beginning too
-abbrev pub images_since : List Moment → List Moment → List ℕ → Type 0
-images_since old new bytes = images old bytes ⊎ ((later earlier : List Moment) × (m : Moment) × (new ≡ later ++ m ∷ earlier ++ old) × IsImage m bytes)

@@ -1,5 +1,5 @@
-use Rattle.wp_history.proofs.Undone.{undone_behind}
+use Rattle.wp_history.proofs.Undone.{undone_after}
 use Rattle.wp_history.proofs.laws.last_entry_undoes.Goals as goal
 
 pub returns : goal.returns
-returns c = undone_behind
+returns c = undone_after
