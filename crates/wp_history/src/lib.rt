@@ -10,7 +10,7 @@ mod history;
 pub mod laws;
 mod legality;
 mod prepares;
-mod store;
+mod values;
 #[cfg(test)]
 mod tests;
 

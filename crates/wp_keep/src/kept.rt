@@ -1,5 +1,4 @@
 ghost use Rattle.std.specs.Prelude.{◌≡◌, IfOk};
-ghost use Rattle.wp_model.specs.Versions.{AreInOrder};
 ghost use Rattle.wp_keep.specs.Keep.{is_committed, kept_of};
 
 use crate::commits::Commits;

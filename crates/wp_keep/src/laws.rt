@@ -1,5 +1,5 @@
 //! What the versions that stay are enough for, over plain lists.
-ghost use Rattle.std.specs.Prelude.{◌≡◌, ℕ, ◌≤◌, List, ◌++◌};
+ghost use Rattle.std.specs.Prelude.{ℕ, ◌≤◌, List, ◌++◌};
 ghost use Rattle.wp_model.specs.declared.entry.Entry.{Entry};
 ghost use Rattle.wp_model.specs.Legal.{IsLegal};
 ghost use Rattle.wp_model.specs.declared.version.Version.{Version};

@@ -1,4 +1,4 @@
-ghost use Rattle.std.specs.Prelude.{◌≡◌, List, ℕ, OnOk, OnErr};
+ghost use Rattle.std.specs.Prelude.{◌≡◌, OnOk, OnErr};
 ghost use Rattle.std.specs.FinMap as map;
 ghost use Rattle.wp_locks.specs.Locks.{Claims, TakesName, Locking, names_left, FreesAllOf};
 ghost use Rattle.wp_model.specs.LockTables.{nothing_locked};

@@ -1,10 +1,10 @@
 -- A history: the list of entries that a store's log spells. The n-th entry has the number n, from 1 on.
-use Rattle.std.specs.Prelude.{ℕ, zero, suc, Bool, true, false, ◌&&◌, ◌==◌, not, List, [], ◌∷◌, length, take, fold, Option, Some, None, is_some, slice_get, unwrap_or}
+use Rattle.std.specs.Prelude.{ℕ, zero, suc, Bool, true, false, ◌&&◌, ◌==◌, not, List, [], length, take, fold, Option, Some, None, is_some, slice_get, unwrap_or}
 use Rattle.std.specs.List.{filter, find, list_any, range_with_len}
 use Rattle.std.specs.Str.{bytes_eq}
 use Rattle.wp_model.specs.declared.change.Change.{Change}
 use Rattle.wp_model.specs.declared.entry.Entry.{Entry}
-use Rattle.wp_model.specs.declared.entry.Entry.TheVariants.{Write, Prepare, Commit, Undo, Close}
+use Rattle.wp_model.specs.declared.entry.Entry.TheVariants.{Write, Prepare, Commit, Close}
 use Rattle.wp_model.specs.Batch.{change_to}
 
 -- the entry with that number

@@ -1,6 +1,6 @@
 -- What a sink has taken of a text, piece by piece.
-use Rattle.std.proofs.Common.{◌≡◌, ℕ, List, [], ◌++◌, Option, Some, None, refl, sym, ap, ◌∙◌, append_assoc, take, drop, length, ◌≤◌, ◌-◌}
-use Rattle.std.proofs.lemmas.List.{append-nil, take_rest, take-append-drop}
+use Rattle.std.proofs.Common.{◌≡◌, ℕ, List, ◌++◌, Option, Some, None, sym, ap, ◌∙◌, append_assoc, take, drop, length, ◌≤◌, ◌-◌}
+use Rattle.std.proofs.lemmas.List.{take_rest, take-append-drop}
 use Rattle.std.specs.Io.KnownBytes.{Appends}
 use Rattle.wp_outside.specs.Sink.{AppendsPrefix}
 

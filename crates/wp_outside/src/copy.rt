@@ -1,4 +1,4 @@
-ghost use Rattle.std.specs.Prelude.{◌≡◌, min, length, take, drop};
+ghost use Rattle.std.specs.Prelude.{◌≡◌, min, drop};
 ghost use Rattle.wp_outside.specs.Disk.{IsRead};
 
 /// Copies the bytes from `at` on into the front of `buf`, as many as there are and fit, and says how many.

@@ -1,5 +1,5 @@
 ghost use Rattle.std.specs.Prelude.{◌≡◌, ◌-◌, Some, [], min, length, is_err, IfOk};
-ghost use Rattle.wp_outside.specs.Counter.{no_calls, is_listed, counted};
+ghost use Rattle.wp_outside.specs.Counter.{no_calls, counted};
 ghost use Rattle.wp_outside.specs.Faults.{HasCause};
 ghost use Rattle.wp_outside.specs.MemSink.{refuses_write};
 ghost use Rattle.wp_outside.specs.Sink.{Writes};

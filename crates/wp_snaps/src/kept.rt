@@ -1,7 +1,5 @@
 //! How a prepare number comes under each live number of a range: first the memory, then the number.
-ghost use Rattle.std.specs.Prelude.{◌≡◌, ℕ, ◌<◌, ◌≤◌, OnOk, IsSome, MatchOption};
-ghost use Rattle.std.specs.Ordering.{nat_cmp};
-ghost use Rattle.std.specs.BTreeMap.{get};
+ghost use Rattle.std.specs.Prelude.{◌≡◌, ◌<◌, OnOk, MatchOption};
 ghost use Rattle.wp_model.specs.Snapshots.{ChangesWhere, overlaps, after_keep};
 ghost use Rattle.wp_snaps.specs.Room.{snapshots_of, HasRoom, NoneLive, IsNextLive};
 
