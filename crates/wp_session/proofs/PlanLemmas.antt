@@ -19,11 +19,11 @@ use Rattle.wp_session.specs.declared.session.Txn.{Txn}
 use Rattle.wp_session.specs.declared.session.Txn.TheVariants.{Idle, Open, Prepared}
 use Rattle.wp_session.specs.declared.plan.Plan.{Plan}
 use Rattle.wp_session.specs.declared.plan.Plan.TheVariants.{Say, Log, RollBack}
-use Rattle.wp_session.specs.Client.{Client, Fits, TxnFits}
-use Rattle.wp_session.specs.Due.{acknowledged, is_logged, settled}
+use Rattle.wp_session.specs.Client.{Client, ClientFits, TxnFits, has_no_room}
+use Rattle.wp_session.specs.After.{after_decision}
+use Rattle.wp_session.specs.Kind.{acknowledged, is_logged, number_in}
 use Rattle.wp_session.specs.Next.{AreNext}
-use Rattle.wp_session.specs.Session.{number_in}
-use Rattle.wp_session.specs.Plan.{plan, next, held_or, unless_held, has_no_room, change_plan, begin_plan, prepare_plan, commit_plan, rollback_plan, leave_plan, take_plan}
+use Rattle.wp_session.specs.Plan.{plan, next, held_or, unless_held, change_plan, begin_plan, prepare_plan, commit_plan, rollback_plan, leave_plan, take_plan}
 
 -- what a history undoes last stands at its end
 abbrev pub LastIs : Type 0
@@ -40,7 +40,7 @@ prepared_within h zero (Some e) at is = absurd cc
 prepared_within h (suc p) (Some e) at is = let lt = slice_get_within h p e at in (omega arith, omega (arith, lt))
 prepared_within h p None at is = absurd cc
 
-undecided_within : (h : List Entry) (p : ℕ) → is_undecided h p ≡ true → (1 ≤ p) × (p ≤ length h)
+pub undecided_within : (h : List Entry) (p : ℕ) → is_undecided h p ≡ true → (1 ≤ p) × (p ≤ length h)
 undecided_within h p is = prepared_within h p (entry_at h p) refl (and_parts _ _ is).0
 
 write_next : LastIs → (h : List Entry) (batch : List Change) → undone_last h ≡ None → is_batch batch ≡ true → AreFree h batch → AreNext h (entry.Write batch ∷ [])
@@ -85,9 +85,9 @@ pub record Logs (h : List Entry) (client : Client) (entries : List Entry) (told 
   pub logged : is_logged told ≡ true
   pub numbers : acknowledged told ≡ range_with_len (length h + 1) (length entries)
   pub fresh : IfSome (number_in told) (λ n. (length h ≤ n) × (n ≤ length h + length entries))
-  pub txn : TxnFits (h ++ entries) (settled client told).txn
+  pub txn : TxnFits (h ++ entries) (after_decision client told).txn
 
-logs_by : (h : List Entry) (client : Client) (first e : Entry) (made told : Reply) → Log first made ≡ Log e told → (is_batch (changes_in first) ≡ true → AreNext h (first ∷ [])) → is_logged made ≡ true → acknowledged made ≡ next h ∷ [] → number_in made ≡ Some (next h) → TxnFits (h ++ first ∷ []) (settled client made).txn → is_batch (changes_in e) ≡ true → Logs h client (e ∷ []) told
+logs_by : (h : List Entry) (client : Client) (first e : Entry) (made told : Reply) → Log first made ≡ Log e told → (is_batch (changes_in first) ≡ true → AreNext h (first ∷ [])) → is_logged made ≡ true → acknowledged made ≡ next h ∷ [] → number_in made ≡ Some (next h) → TxnFits (h ++ first ∷ []) (after_decision client made).txn → is_batch (changes_in e) ≡ true → Logs h client (e ∷ []) told
 logs_by h client first e made told is may logged numbers number txn whole =
     let same_entry : first ≡ e = cc in
     let same_reply : made ≡ told = cc in
@@ -96,7 +96,7 @@ logs_by h client first e made told is may logged numbers number txn whole =
       logged = rw (← same_reply) logged;
       numbers = rw (← same_reply) numbers;
       fresh = rw (← same_reply, number) (omega arith, omega arith);
-      txn = subst (λ (x : Entry). TxnFits (h ++ x ∷ []) (settled client told).txn) same_entry (subst (λ (r : Reply). TxnFits (h ++ first ∷ []) (settled client r).txn) same_reply txn);
+      txn = subst (λ (x : Entry). TxnFits (h ++ x ∷ []) (after_decision client told).txn) same_entry (subst (λ (r : Reply). TxnFits (h ++ first ∷ []) (after_decision client r).txn) same_reply txn);
     }
 
 held_or_logs : (h : List Entry) (holder : Option ℕ) (made : Plan) (e : Entry) (told : Reply) → held_or h holder made ≡ Log e told → (holder ≡ None) × (made ≡ Log e told)
@@ -116,7 +116,7 @@ change_logs h (Open name batch) c made e told is =
     ]
 change_logs h (Prepared p) c made e told is = absurd cc
 
-change_is_logged : LastIs → (h : List Entry) (client : Client) (c : Change) (made : Reply) (e : Entry) (told : Reply) → undone_last h ≡ None → is_logged made ≡ true → acknowledged made ≡ next h ∷ [] → number_in made ≡ Some (next h) → settled client made ≡ client → is_batch (changes_in e) ≡ true → change_plan h client.txn c made ≡ Log e told → Logs h client (e ∷ []) told
+change_is_logged : LastIs → (h : List Entry) (client : Client) (c : Change) (made : Reply) (e : Entry) (told : Reply) → undone_last h ≡ None → is_logged made ≡ true → acknowledged made ≡ next h ∷ [] → number_in made ≡ Some (next h) → after_decision client made ≡ client → is_batch (changes_in e) ≡ true → change_plan h client.txn c made ≡ Log e told → Logs h client (e ∷ []) told
 change_is_logged last h client c made e told closed logged numbers number still whole is =
     let l = change_logs h client.txn c made e told is in
     logs_by h client (entry.Write (c ∷ [])) e made told l.2 (λ b. write_next last h (c ∷ []) closed b (l.1, tt)) logged numbers number
@@ -160,7 +160,7 @@ take_asks h (Open other batch) name e told is = absurd cc
 take_asks h (Prepared p) name e told is = absurd cc
 
 -- a plan with one entry
-pub plan_logs : LastIs → IsPending → (h : List Entry) (client : Client) (c : Command) (e : Entry) (told : Reply) → IsLegal h → undone_last h ≡ None → Fits h client → is_batch (changes_in e) ≡ true → plan h client c ≡ Log e told → Logs h client (e ∷ []) told
+pub plan_logs : LastIs → IsPending → (h : List Entry) (client : Client) (c : Command) (e : Entry) (told : Reply) → IsLegal h → undone_last h ≡ None → ClientFits h client → is_batch (changes_in e) ≡ true → plan h client c ≡ Log e told → Logs h client (e ∷ []) told
 plan_logs last pending h client (command.Put key value) e told legal closed fits whole is = change_is_logged last h client (change.Put key value) (reply.Put (next h)) e told closed refl refl refl refl whole is
 plan_logs last pending h client (command.Del key) e told legal closed fits whole is = change_is_logged last h client (change.Del key) (reply.Del (next h)) e told closed refl refl refl refl whole is
 plan_logs last pending h client (command.Get key) e told legal closed fits whole is = absurd cc
@@ -236,7 +236,7 @@ take_rolls h (Open other own) name q batch told is = absurd cc
 take_rolls h (Prepared p) name q batch told is = absurd cc
 
 -- a plan with an Undo and its Close
-pub plan_rolls_back : LastIs → Follows → (h : List Entry) (client : Client) (c : Command) (p : ℕ) (batch : List Change) (told : Reply) → undone_last h ≡ None → Fits h client → is_batch batch ≡ true → plan h client c ≡ RollBack p batch told → Logs h client (entry.Undo p batch ∷ entry.Close p ∷ []) told
+pub plan_rolls_back : LastIs → Follows → (h : List Entry) (client : Client) (c : Command) (p : ℕ) (batch : List Change) (told : Reply) → undone_last h ≡ None → ClientFits h client → is_batch batch ≡ true → plan h client c ≡ RollBack p batch told → Logs h client (entry.Undo p batch ∷ entry.Close p ∷ []) told
 plan_rolls_back last follows h client command.Rollback p batch told closed fits whole is = rolled_back last follows h client client.txn p batch told closed fits.txn whole is
 plan_rolls_back last follows h client (command.Put key value) p batch told closed fits whole is = absurd (change_rolls h client.txn (change.Put key value) _ p batch told is)
 plan_rolls_back last follows h client (command.Del key) p batch told closed fits whole is = absurd (change_rolls h client.txn (change.Del key) _ p batch told is)

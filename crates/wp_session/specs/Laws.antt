@@ -1,0 +1,72 @@
+-- What is true of every session.
+use Rattle.std.specs.Prelude.{◌≡◌, ℕ, ◌-◌, ◌≤◌, Bool, true, List, [], ◌∷◌, ◌++◌, length, Option, Some, None, IfSome}
+use Rattle.wp_model.specs.declared.change.Change.{Change}
+use Rattle.wp_model.specs.declared.change.Change.TheVariants as change
+use Rattle.wp_model.specs.declared.entry.Entry.{Entry}
+use Rattle.wp_model.specs.declared.entry.Entry.TheVariants as entry
+use Rattle.wp_model.specs.History.{entry_at, value_at}
+use Rattle.wp_text.specs.declared.script.Command.{Command}
+use Rattle.wp_text.specs.declared.script.Command.TheVariants as command
+use Rattle.wp_text.specs.declared.reply.Reply.{Reply}
+use Rattle.wp_text.specs.declared.reply.Reply.TheVariants as reply
+use Rattle.wp_session.specs.declared.session.Snapshot.{Snapshot}
+use Rattle.wp_session.specs.declared.session.Txn.{Txn}
+use Rattle.wp_session.specs.declared.session.Txn.TheVariants.{Idle, Open, Prepared}
+use Rattle.wp_session.specs.Client.{Client, new_client, number_of}
+use Rattle.wp_session.specs.After.{labels_after, after_reply}
+use Rattle.wp_session.specs.Kind.{acknowledged, fresh_in, last_after}
+use Rattle.wp_session.specs.Replies.{Claim, OneAtATime, IsFresh}
+use Rattle.wp_session.specs.Moments.{AreDueFrom}
+use Rattle.wp_session.specs.Session.{IsSession}
+
+-- ---- the relation
+
+-- A session stays one as the history grows, and as more is known of the others.
+abbrev pub SessionGrows : Type 0
+SessionGrows = (history more : List Entry) (limit last : ℕ) (known later : Claim → Bool) (client : Client) (commands : List Command) (answers : List Reply)
+    → ((claim : Claim) → known claim ≡ true → later claim ≡ true)
+    → IsSession history limit (λ claim. known claim ≡ true) last client commands answers
+    → IsSession (history ++ more) limit (λ claim. later claim ≡ true) last client commands answers
+
+-- Replies that are due at moments of the history, one after another, are a session, and nothing need be known of the
+-- other clients.
+abbrev pub DueIsSession : Type 0
+DueIsSession = (history : List Entry) (limit from : ℕ) (commands : List Command) (answers : List Reply)
+    → AreDueFrom history limit from new_client commands answers
+    → IsSession history limit (OneAtATime history) from new_client commands answers
+
+-- ---- reads
+
+-- The value that a read is answered is what the first n entries leave under the key, where n is the reply's number. A
+-- fresh n is nothing that the client has seen pass, and a snapshot's is the one that it was taken at.
+abbrev pub IsRead : List Entry → ℕ → List Snapshot → Command → Reply → Type 0
+IsRead history last snapshots (command.Get key) (reply.Got value n) = IsFresh history last n × (value_at history key n ≡ Some value)
+IsRead history last snapshots (command.Get key) (reply.Missing n) = IsFresh history last n × (value_at history key n ≡ None)
+IsRead history last snapshots (command.GetAt key label) (reply.Got value n) = (number_of snapshots label ≡ Some n) × (n ≤ length history) × (value_at history key n ≡ Some value)
+IsRead history last snapshots (command.GetAt key label) (reply.Missing n) = (number_of snapshots label ≡ Some n) × (n ≤ length history) × (value_at history key n ≡ None)
+IsRead history last snapshots command answer = Unit {0}
+
+abbrev pub AreReads : List Entry → ℕ → List Snapshot → List Command → List Reply → Type 0
+AreReads history last snapshots (first ∷ commands) (answer ∷ answers) = IsRead history last snapshots first answer × AreReads history (last_after last first answer) (labels_after snapshots first answer) commands answers
+AreReads history last snapshots commands answers = Unit {0}
+
+-- ---- numbers
+
+-- each fresh number is at least the one before it, and at most the history's length
+abbrev pub NeverFall : List Entry → ℕ → List Command → List Reply → Type 0
+NeverFall history last (first ∷ commands) (answer ∷ answers) = IfSome (fresh_in first answer) (IsFresh history last) × NeverFall history (last_after last first answer) commands answers
+NeverFall history last commands answers = Unit {0}
+
+-- The entries that the reply acknowledges are in the history with its numbers, and are what the command asked for.
+abbrev pub IsLoggedFor : List Entry → Txn → Command → Reply → Type 0
+IsLoggedFor history Idle (command.Put key value) (reply.Put n) = entry_at history n ≡ Some (entry.Write (change.Put key value ∷ []))
+IsLoggedFor history Idle (command.Del key) (reply.Del n) = entry_at history n ≡ Some (entry.Write (change.Del key ∷ []))
+IsLoggedFor history (Open name batch) command.Prepare (reply.Prepared n) = entry_at history n ≡ Some (entry.Prepare name batch)
+IsLoggedFor history (Open name batch) command.Commit (reply.Committed n) = entry_at history n ≡ Some (entry.Write batch)
+IsLoggedFor history (Prepared p) command.Commit (reply.Committed n) = entry_at history n ≡ Some (entry.Commit p)
+IsLoggedFor history (Prepared p) command.Rollback (reply.RolledBack n) = ((batch : List Change) × (entry_at history (n - 1) ≡ Some (entry.Undo p batch))) × (entry_at history n ≡ Some (entry.Close p))
+IsLoggedFor history txn command answer = acknowledged answer ≡ []
+
+abbrev pub AreLogged : List Entry → Client → List Command → List Reply → Type 0
+AreLogged history client (first ∷ commands) (answer ∷ answers) = IsLoggedFor history client.txn first answer × ((p : ℕ) × AreLogged history (after_reply p client first answer) commands answers)
+AreLogged history client commands answers = Unit {0}
