@@ -2,7 +2,7 @@
 use Rattle.std.proofs.Common.{◌≡◌, ℕ, zero, suc, ◌+◌, ◌-◌, ◌≤◌, ◌<◌, ◌⊎◌, Bool, true, false, List, [], ◌∷◌, ◌++◌, length, take, drop, Option, Some, None, refl, sym, ap, ◌∙◌, subst, append_assoc, length-append, arith, inl, inr}
 use Rattle.std.specs.Prelude.{IfSome, slice_get, is_some, nat_le, nat_lt, unwrap_or}
 use Rattle.std.specs.Option.{option_map}
-use Rattle.std.proofs.lemmas.Bool.{cases_Bool, ltb-true}
+use Rattle.std.proofs.lemmas.Bool.{cases_Bool, eq-eqb, ltb-true}
 use Rattle.std.specs.Str.{bytes_eq}
 use Rattle.std.proofs.lemmas.Slice.Eq.{bytes_eq-Decides}
 use Rattle.std.proofs.lemmas.List.{take-append-drop}
@@ -26,7 +26,7 @@ use Rattle.wp_session.specs.declared.plan.Plan.TheVariants.{Say, Log, RollBack}
 use Rattle.wp_session.specs.Client.{Client, new_client, AreWithin, number_of, own_batch, has_no_room}
 use Rattle.wp_session.specs.After.{with_held, labels_after}
 use Rattle.wp_session.specs.Kind.{is_logged, fresh_in, last_after}
-use Rattle.wp_session.specs.Replies.{OneAtATime, refusal_of, refuses_change, IsFresh, IsLoggedAt, WasUndecided, IsBusy, IsOpen, TxnIsWithin, OwnSays, needed, unless_labelled, unless_idle, unless_open, if_idle, unless_prepared, PreparesAt, CommitsAt, RollsBackAt, Row, UnlessRefused, Allows}
+use Rattle.wp_session.specs.Replies.{IsKnown, one_at_a_time, refusal_of, refuses_change, IsFresh, IsLoggedAt, WasUndecided, IsBusy, IsOpen, TxnIsWithin, OwnSays, needed, unless_labelled, unless_idle, unless_open, if_idle, unless_prepared, PreparesAt, CommitsAt, RollsBackAt, Row, UnlessRefused, Allows}
 use Rattle.wp_session.specs.Plan.{plan, asked_of, next, held_or, change_plan, read_reply, get_reply, get_at_reply, snap_reply, free_reply, begin_reply, begin_plan, prepare_plan, commit_plan, rollback_plan, leave_plan, take_reply, take_plan}
 use Rattle.wp_session.specs.Due.{Store, logged, reply_to, due, IsReply, logged_entries, taken, client_after}
 use Rattle.wp_session.specs.Moments.{store_at, IsDueFrom, AreDueFrom}
@@ -90,10 +90,10 @@ store_in s = store_at s.h s.limit s.given.stopped s.given.before
 
 -- a reply's row
 abbrev pub RowOf : {client : Client} {c : Command} {answer : Reply} → Scene client c answer → Reply → Type 0
-RowOf {client = client} {c = c} s made = Row s.h s.limit (OneAtATime s.h) s.last client (taken (front s) c) c made
+RowOf {client = client} {c = c} s made = Row s.h s.limit (IsKnown (one_at_a_time s.h)) s.last client (taken (front s) c) c made
 
 abbrev pub IsAllowed : {client : Client} {c : Command} {answer : Reply} → Scene client c answer → Type 0
-IsAllowed {client = client} {c = c} {answer = answer} s = Allows s.h s.limit (OneAtATime s.h) s.last client (taken (front s) c) c answer
+IsAllowed {client = client} {c = c} {answer = answer} s = Allows s.h s.limit (IsKnown (one_at_a_time s.h)) s.last client (taken (front s) c) c answer
 
 front_size : {client : Client} {c : Command} {answer : Reply} (s : Scene client c answer) → length (front s) ≡ s.given.before
 front_size s = size s.h s.given.before (omega (arith, s.given.grows, s.given.within))
@@ -133,7 +133,7 @@ log_allowed {client = client} {c = c} {answer = answer} s count made free needs 
         elim (cases_Bool s.given.stopped) [
           | inl failed ↦
               let answered : answer ≡ reply.Stopped (length (front s)) = rw failed at is in
-              subst (RowOf s) (sym answered) (needs_some, front_fresh s, front_size s ∙ s.given.ended failed)
+              subst (RowOf s) (sym answered) (needs_some, front_fresh s, eq-eqb _ _ (front_size s ∙ s.given.ended failed))
           | inr runs ↦ elim (cases_Bool (nat_lt s.limit (length (front s) + count))) [
             | inl over ↦
                 let answered : answer ≡ reply.Full (length (front s)) s.limit = rw (runs, over) at is in
@@ -165,7 +165,7 @@ one_allowed s e made is logs free needs row =
 
 -- ---- put, del
 
-busy_in : {client : Client} {c : Command} {answer : Reply} (s : Scene client c answer) (key : List ℕ) (p : ℕ) → holder_of (front s) key ≡ Some p → IsBusy s.h (OneAtATime s.h) s.last key (name_at (front s) p)
+busy_in : {client : Client} {c : Command} {answer : Reply} (s : Scene client c answer) (key : List ℕ) (p : ℕ) → holder_of (front s) key ≡ Some p → IsBusy s.h (IsKnown (one_at_a_time s.h)) s.last key (name_at (front s) p)
 busy_in s key p is =
     let found = found_holder (front s) key p is in
     let fresh = front_fresh s in
@@ -178,7 +178,7 @@ option_cases (Some a) = inr (a, refl)
 change_allowed : {client : Client} {c : Command} {answer : Reply} (s : Scene client c answer) (change : Change) (made : Reply)
     → plan (front s) client c ≡ change_plan (front s) client.txn change made → refusal_of client c ≡ refuses_change client.txn (key_of change) → (client.txn ≡ Idle → needed client.txn c ≡ 1) → is_logged made ≡ true
     → (client.txn ≡ Idle → IsLoggedAt s.h s.last (next (front s)) (entry.Write (change ∷ [])) → RowOf s made)
-    → ((name : List ℕ) → IsBusy s.h (OneAtATime s.h) s.last (key_of change) name → RowOf s (reply.Busy name))
+    → ((name : List ℕ) → IsBusy s.h (IsKnown (one_at_a_time s.h)) s.last (key_of change) name → RowOf s (reply.Busy name))
     → (IsOpen client.txn → RowOf s reply.Held) → IsAllowed s
 change_allowed {client = client} {c = c} s change made plan_is refusal_is needs logs row busy held = by client.txn refl
   where
@@ -316,7 +316,7 @@ rollback_allowed {client = client} {answer = answer} s = by client.txn refl
         let split : take s.given.after s.h ≡ (front s ++ entry.Undo p batch ∷ []) ++ entry.Close p ∷ [] = all ∙ sym (append_assoc (front s) (entry.Undo p batch ∷ []) (entry.Close p ∷ [])) in
         let closed : entry_at s.h n ≡ Some (entry.Close p) = entry_in_front s.h s.given.after n (entry.Close p) (subst (λ (xs : List Entry). entry_at xs n ≡ Some (entry.Close p)) (sym split) (next_entry (front s ++ entry.Undo p batch ∷ []) [] (entry.Close p) n (omega (arith, length-append (front s) (entry.Undo p batch ∷ []))))) in
         let undone : entry_at s.h (n - 1) ≡ Some (entry.Undo p batch) = entry_in_front s.h s.given.after (n - 1) (entry.Undo p batch) (subst (λ (xs : List Entry). entry_at xs (n - 1) ≡ Some (entry.Undo p batch)) (sym all) (next_entry (front s) (entry.Close p ∷ []) (entry.Undo p batch) (n - 1) (omega arith))) in
-        ((omega (arith, (front_fresh s).0), closed), (batch, undone))
+        ((omega (arith, (front_fresh s).0), closed), (batch, (omega (arith, (front_fresh s).0), undone)))
     by : (txn : Txn) → client.txn ≡ txn → IsAllowed s
     by Idle is = say_refused s reply.State (ap (rollback_plan (front s)) is) refl (ap if_idle is)
     by (Open name batch) is = say_allowed s reply.Dropped (ap (rollback_plan (front s)) is) refl (ap if_idle is) (subst IsOpen (sym is) tt)
@@ -410,7 +410,7 @@ last_within : (last before after : ℕ) (number : Option ℕ) → last ≤ befor
 last_within last before after (Some n) low grows fresh = fresh.1
 last_within last before after None low grows fresh = omega (arith, low, grows)
 
-pub due_session : (h : List Entry) (limit from last : ℕ) (client : Client) (cs : List Command) (rs : List Reply) → last ≤ from → TxnIsWithin from client.txn → AreWithin from client.snapshots → AreDueFrom h limit from client cs rs → IsSession h limit (OneAtATime h) last client cs rs
+pub due_session : (h : List Entry) (limit from last : ℕ) (client : Client) (cs : List Command) (rs : List Reply) → last ≤ from → TxnIsWithin from client.txn → AreWithin from client.snapshots → AreDueFrom h limit from client cs rs → IsSession h limit (IsKnown (one_at_a_time h)) last client cs rs
 due_session h limit from last client [] [] low txn snapshots due = tt
 due_session h limit from last client [] (r ∷ rs) low txn snapshots due = absurd due
 due_session h limit from last client (c ∷ cs) [] low txn snapshots due = absurd due

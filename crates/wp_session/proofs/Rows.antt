@@ -90,7 +90,7 @@ commits_more h more last (Open name batch) n l = logged_more h more last n _ l
 commits_more h more last (Prepared p) n l = logged_more h more last n _ l
 
 rolls_more : (h more : List Entry) (last : ℕ) (txn : Txn) (n : ℕ) → RollsBackAt h last txn n → RollsBackAt (h ++ more) last txn n
-rolls_more h more last (Prepared p) n (closed, (batch, undone)) = (logged_more h more last n _ closed, (batch, entry_more h more (n - 1) _ undone))
+rolls_more h more last (Prepared p) n (closed, (batch, undone)) = (logged_more h more last n _ closed, (batch, logged_more h more last (n - 1) _ undone))
 rolls_more h more last _ n l = absurd l
 
 -- ---- the client

@@ -1,10 +1,10 @@
 -- What is true of every session.
-use Rattle.std.specs.Prelude.{◌≡◌, ℕ, ◌-◌, ◌≤◌, Bool, true, List, [], ◌∷◌, ◌++◌, length, Option, Some, None, IfSome}
+use Rattle.std.specs.Prelude.{◌≡◌, ◌⊎◌, ℕ, ◌≤◌, Bool, true, List, [], ◌∷◌, ◌++◌, length, Option, Some, None, IfSome}
 use Rattle.wp_model.specs.declared.change.Change.{Change}
 use Rattle.wp_model.specs.declared.change.Change.TheVariants as change
 use Rattle.wp_model.specs.declared.entry.Entry.{Entry}
 use Rattle.wp_model.specs.declared.entry.Entry.TheVariants as entry
-use Rattle.wp_model.specs.History.{entry_at, value_at}
+use Rattle.wp_model.specs.History.{value_at}
 use Rattle.wp_text.specs.declared.script.Command.{Command}
 use Rattle.wp_text.specs.declared.script.Command.TheVariants as command
 use Rattle.wp_text.specs.declared.reply.Reply.{Reply}
@@ -15,7 +15,7 @@ use Rattle.wp_session.specs.declared.session.Txn.TheVariants.{Idle, Open, Prepar
 use Rattle.wp_session.specs.Client.{Client, new_client, number_of}
 use Rattle.wp_session.specs.After.{labels_after, after_reply}
 use Rattle.wp_session.specs.Kind.{acknowledged, fresh_in, last_after}
-use Rattle.wp_session.specs.Replies.{Claim, OneAtATime, IsFresh}
+use Rattle.wp_session.specs.Replies.{Claim, one_at_a_time, IsKnown, IsFresh, IsLoggedAt}
 use Rattle.wp_session.specs.Moments.{AreDueFrom}
 use Rattle.wp_session.specs.Session.{IsSession}
 
@@ -25,15 +25,15 @@ use Rattle.wp_session.specs.Session.{IsSession}
 abbrev pub SessionGrows : Type 0
 SessionGrows = (history more : List Entry) (limit last : ℕ) (known later : Claim → Bool) (client : Client) (commands : List Command) (answers : List Reply)
     → ((claim : Claim) → known claim ≡ true → later claim ≡ true)
-    → IsSession history limit (λ claim. known claim ≡ true) last client commands answers
-    → IsSession (history ++ more) limit (λ claim. later claim ≡ true) last client commands answers
+    → IsSession history limit (IsKnown known) last client commands answers
+    → IsSession (history ++ more) limit (IsKnown later) last client commands answers
 
 -- Replies that are due at moments of the history, one after another, are a session, and nothing need be known of the
 -- other clients.
 abbrev pub DueIsSession : Type 0
 DueIsSession = (history : List Entry) (limit from : ℕ) (commands : List Command) (answers : List Reply)
     → AreDueFrom history limit from new_client commands answers
-    → IsSession history limit (OneAtATime history) from new_client commands answers
+    → IsSession history limit (IsKnown (one_at_a_time history)) from new_client commands answers
 
 -- ---- reads
 
@@ -50,6 +50,12 @@ abbrev pub AreReads : List Entry → ℕ → List Snapshot → List Command → 
 AreReads history last snapshots (first ∷ commands) (answer ∷ answers) = IsRead history last snapshots first answer × AreReads history (last_after last first answer) (labels_after snapshots first answer) commands answers
 AreReads history last snapshots commands answers = Unit {0}
 
+-- The reads of a session are values of the history.
+abbrev pub ReadsAreValues : Type 0
+ReadsAreValues = (history : List Entry) (limit last : ℕ) (known : Claim → Bool) (client : Client) (commands : List Command) (answers : List Reply)
+    → IsSession history limit (IsKnown known) last client commands answers
+    → AreReads history last client.snapshots commands answers
+
 -- ---- numbers
 
 -- each fresh number is at least the one before it, and at most the history's length
@@ -57,16 +63,34 @@ abbrev pub NeverFall : List Entry → ℕ → List Command → List Reply → Ty
 NeverFall history last (first ∷ commands) (answer ∷ answers) = IfSome (fresh_in first answer) (IsFresh history last) × NeverFall history (last_after last first answer) commands answers
 NeverFall history last commands answers = Unit {0}
 
--- The entries that the reply acknowledges are in the history with its numbers, and are what the command asked for.
-abbrev pub IsLoggedFor : List Entry → Txn → Command → Reply → Type 0
-IsLoggedFor history Idle (command.Put key value) (reply.Put n) = entry_at history n ≡ Some (entry.Write (change.Put key value ∷ []))
-IsLoggedFor history Idle (command.Del key) (reply.Del n) = entry_at history n ≡ Some (entry.Write (change.Del key ∷ []))
-IsLoggedFor history (Open name batch) command.Prepare (reply.Prepared n) = entry_at history n ≡ Some (entry.Prepare name batch)
-IsLoggedFor history (Open name batch) command.Commit (reply.Committed n) = entry_at history n ≡ Some (entry.Write batch)
-IsLoggedFor history (Prepared p) command.Commit (reply.Committed n) = entry_at history n ≡ Some (entry.Commit p)
-IsLoggedFor history (Prepared p) command.Rollback (reply.RolledBack n) = ((batch : List Change) × (entry_at history (n - 1) ≡ Some (entry.Undo p batch))) × (entry_at history n ≡ Some (entry.Close p))
-IsLoggedFor history txn command answer = acknowledged answer ≡ []
+abbrev pub FreshNumbersNeverFall : Type 0
+FreshNumbersNeverFall = (history : List Entry) (limit last : ℕ) (known : Claim → Bool) (client : Client) (commands : List Command) (answers : List Reply)
+    → IsSession history limit (IsKnown known) last client commands answers
+    → NeverFall history last commands answers
 
-abbrev pub AreLogged : List Entry → Client → List Command → List Reply → Type 0
-AreLogged history client (first ∷ commands) (answer ∷ answers) = IsLoggedFor history client.txn first answer × ((p : ℕ) × AreLogged history (after_reply p client first answer) commands answers)
-AreLogged history client commands answers = Unit {0}
+-- ---- entries
+
+-- the command asks the log for the entry
+abbrev pub Asks : Txn → Command → Entry → Type 0
+Asks Idle (command.Put key value) e = e ≡ entry.Write (change.Put key value ∷ [])
+Asks Idle (command.Del key) e = e ≡ entry.Write (change.Del key ∷ [])
+Asks (Open name batch) command.Prepare e = e ≡ entry.Prepare name batch
+Asks (Open name batch) command.Commit e = e ≡ entry.Write batch
+Asks (Prepared p) command.Commit e = e ≡ entry.Commit p
+Asks (Prepared p) command.Rollback e = (e ≡ entry.Close p) ⊎ ((batch : List Change) × (e ≡ entry.Undo p batch))
+Asks txn command e = ⊥
+
+-- each number is past all that the client has seen, and is that of an entry that the command asks for
+abbrev pub AreAsked : List Entry → ℕ → Txn → Command → List ℕ → Type 0
+AreAsked history last txn command [] = Unit {0}
+AreAsked history last txn command (n ∷ numbers) = ((e : Entry) × IsLoggedAt history last n e × Asks txn command e) × AreAsked history last txn command numbers
+
+-- what the replies acknowledge is in the history
+abbrev pub AreLogged : List Entry → ℕ → Client → List Command → List Reply → Type 0
+AreLogged history last client (first ∷ commands) (answer ∷ answers) = AreAsked history last client.txn first (acknowledged answer) × ((p : ℕ) × AreLogged history (last_after last first answer) (after_reply p client first answer) commands answers)
+AreLogged history last client commands answers = Unit {0}
+
+abbrev pub AcknowledgedAreLogged : Type 0
+AcknowledgedAreLogged = (history : List Entry) (limit last : ℕ) (known : Claim → Bool) (client : Client) (commands : List Command) (answers : List Reply)
+    → IsSession history limit (IsKnown known) last client commands answers
+    → AreLogged history last client commands answers

@@ -1,6 +1,6 @@
 -- The table of replies: each reply is given only where its row says so, over a history, with what is known of the other
 -- clients. Each row stays true as the history grows, and as more is known of the others.
-use Rattle.std.specs.Prelude.{◌≡◌, ◌⊎◌, ℕ, ◌+◌, ◌-◌, ◌<◌, ◌≤◌, true, nat_le, List, [], ◌∷◌, length, take, Option, Some, None, is_some, if◌then◌else◌}
+use Rattle.std.specs.Prelude.{◌≡◌, ◌⊎◌, ℕ, ◌+◌, ◌-◌, ◌<◌, ◌≤◌, ◌==◌, Bool, true, false, nat_le, List, [], ◌∷◌, length, take, Option, Some, None, is_some, if◌then◌else◌}
 use Rattle.wp_model.specs.declared.change.Change.{Change}
 use Rattle.wp_model.specs.declared.change.Change.TheVariants as change
 use Rattle.wp_model.specs.declared.entry.Entry.{Entry}
@@ -26,9 +26,13 @@ pub data Claim : Type 0 where
   LogFailed : ℕ → Claim  -- the log failed, and so many entries are all of the history
 
 -- what one history alone says, where no two clients run at once
-abbrev pub OneAtATime : List Entry → Claim → Type 0
-OneAtATime history (LogFailed n) = n ≡ length history
-OneAtATime history other = ⊥
+abbrev pub one_at_a_time : List Entry → Claim → Bool
+one_at_a_time history (LogFailed n) = n == length history
+one_at_a_time history other = false
+
+-- what passes a test of claims
+abbrev pub IsKnown : (Claim → Bool) → Claim → Type 0
+IsKnown known claim = known claim ≡ true
 
 -- ---- what the client's own transaction and snapshots refuse, whatever the store has
 
@@ -145,7 +149,7 @@ CommitsAt history last (Prepared p) n = IsLoggedAt history last n (entry.Commit 
 
 -- n is the number of the Close, right after its Undo
 abbrev pub RollsBackAt : List Entry → ℕ → Txn → ℕ → Type 0
-RollsBackAt history last (Prepared p) n = IsLoggedAt history last n (entry.Close p) × ((batch : List Change) × (entry_at history (n - 1) ≡ Some (entry.Undo p batch)))
+RollsBackAt history last (Prepared p) n = IsLoggedAt history last n (entry.Close p) × ((batch : List Change) × IsLoggedAt history last (n - 1) (entry.Undo p batch))
 RollsBackAt history last other n = ⊥
 
 -- ---- the rows
