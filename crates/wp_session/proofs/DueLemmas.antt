@@ -1,7 +1,6 @@
 -- Replies that are due at moments of the history, one after another, are a session.
-use Rattle.std.proofs.Common.{◌≡◌, ℕ, zero, suc, ◌+◌, ◌-◌, ◌≤◌, ◌<◌, ◌⊎◌, Bool, true, false, List, [], ◌∷◌, ◌++◌, length, take, drop, Option, Some, None, refl, sym, ap, ◌∙◌, subst, append_assoc, length-append, arith, inl, inr}
+use Rattle.std.proofs.Common.{◌≡◌, ℕ, zero, suc, ◌+◌, ◌-◌, ◌≤◌, ◌<◌, ◌⊎◌, true, false, List, [], ◌∷◌, ◌++◌, length, take, drop, Option, Some, None, refl, sym, ap, ◌∙◌, subst, append_assoc, length-append, arith, inl, inr}
 use Rattle.std.specs.Prelude.{IfSome, slice_get, is_some, nat_le, nat_lt, unwrap_or}
-use Rattle.std.specs.Option.{option_map}
 use Rattle.std.proofs.lemmas.Bool.{cases_Bool, eq-eqb, ltb-true}
 use Rattle.std.specs.Str.{bytes_eq}
 use Rattle.std.proofs.lemmas.Slice.Eq.{bytes_eq-Decides}
@@ -11,23 +10,22 @@ use Rattle.wp_model.specs.declared.change.Change.TheVariants as change
 use Rattle.wp_model.specs.declared.entry.Entry.{Entry}
 use Rattle.wp_model.specs.declared.entry.Entry.TheVariants as entry
 use Rattle.wp_model.specs.Batch.{key_of, change_to}
-use Rattle.wp_model.specs.History.{entry_at, name_at, batch_at, is_undecided, is_changed, named, holder_of, newest, value_at}
+use Rattle.wp_model.specs.History.{entry_at, name_at, batch_at, named, holder_of, newest, value_at}
 use Rattle.wp_model.specs.Legal.{prior}
 use Rattle.wp_text.specs.declared.script.Command.{Command}
 use Rattle.wp_text.specs.declared.script.Command.TheVariants as command
 use Rattle.wp_text.specs.declared.reply.Reply.{Reply}
 use Rattle.wp_text.specs.declared.reply.Reply.TheVariants as reply
 use Rattle.wp_session.specs.declared.session.TheConstants.{MOST_SNAPSHOTS}
-use Rattle.wp_session.specs.declared.session.Snapshot.{Snapshot}
 use Rattle.wp_session.specs.declared.session.Txn.{Txn}
 use Rattle.wp_session.specs.declared.session.Txn.TheVariants.{Idle, Open, Prepared}
 use Rattle.wp_session.specs.declared.plan.Plan.{Plan}
 use Rattle.wp_session.specs.declared.plan.Plan.TheVariants.{Say, Log, RollBack}
-use Rattle.wp_session.specs.Client.{Client, new_client, AreWithin, number_of, own_batch, has_no_room}
+use Rattle.wp_session.specs.Client.{Client, AreWithin, number_of, own_batch, has_no_room}
 use Rattle.wp_session.specs.After.{with_held, labels_after}
 use Rattle.wp_session.specs.Kind.{is_logged, fresh_in, last_after}
-use Rattle.wp_session.specs.Replies.{IsKnown, one_at_a_time, refusal_of, refuses_change, IsFresh, IsLoggedAt, WasUndecided, IsBusy, IsOpen, TxnIsWithin, OwnSays, needed, unless_labelled, unless_idle, unless_open, if_idle, unless_prepared, PreparesAt, CommitsAt, RollsBackAt, Row, UnlessRefused, Allows}
-use Rattle.wp_session.specs.Plan.{plan, asked_of, next, held_or, change_plan, read_reply, get_reply, get_at_reply, snap_reply, free_reply, begin_reply, begin_plan, prepare_plan, commit_plan, rollback_plan, leave_plan, take_reply, take_plan}
+use Rattle.wp_session.specs.Replies.{IsKnown, one_at_a_time, refusal_of, refuses_change, IsFresh, IsLoggedAt, WasUndecided, IsBusy, TxnIsOpen, TxnIsWithin, OwnSays, needed, unless_labelled, unless_idle, unless_open, if_idle, unless_prepared, PreparesAt, CommitsAt, RollsBackAt, Row, UnlessRefused, Allows}
+use Rattle.wp_session.specs.Plan.{plan, asked_of, next, held_or, change_plan, read_reply, get_reply, get_at_reply, free_reply, begin_reply, begin_plan, prepare_plan, commit_plan, rollback_plan, leave_plan, take_reply, take_plan}
 use Rattle.wp_session.specs.Due.{Store, logged, reply_to, due, IsReply, logged_entries, taken, client_after}
 use Rattle.wp_session.specs.Moments.{store_at, IsDueFrom, AreDueFrom}
 use Rattle.wp_session.specs.Session.{IsSession}
@@ -128,6 +126,7 @@ log_allowed {client = client} {c = c} {answer = answer} s count made free needs 
   where
     needs_some : 1 ≤ needed client.txn c
     needs_some = omega (arith, needs, some)
+
     on_log : answer ≡ logged (store_in s) count made → RowOf s answer
     on_log is =
         elim (cases_Bool s.given.stopped) [
@@ -144,6 +143,7 @@ log_allowed {client = client} {c = c} {answer = answer} s count made free needs 
                 subst (RowOf s) (sym answered) (row answered)
           ]
         ]
+
     by : IsReply (store_in s) client c answer → RowOf s answer
     by (inl is) = on_log (is ∙ due_is)
     by (inr fault) = subst (RowOf s) (sym fault.0) needs_some
@@ -159,9 +159,9 @@ one_allowed : {client : Client} {c : Command} {answer : Reply} (s : Scene client
     → (IsLoggedAt s.h s.last (next (front s)) e → RowOf s made) → IsAllowed s
 one_allowed s e made is logs free needs row =
     log_allowed s 1 made free needs (omega arith) (ap (reply_to (store_in s)) is) (λ answered.
-      let all = entries_in s (Log e made) made is logs answered in
-      let here = entry_in_front s.h s.given.after (next (front s)) e (subst (λ (xs : List Entry). entry_at xs (next (front s)) ≡ Some e) (sym all) (next_entry (front s) [] e (next (front s)) refl)) in
-      row (omega (arith, (front_fresh s).0), here))
+    let all = entries_in s (Log e made) made is logs answered in
+    let here = entry_in_front s.h s.given.after (next (front s)) e (subst (λ (xs : List Entry). entry_at xs (next (front s)) ≡ Some e) (sym all) (next_entry (front s) [] e (next (front s)) refl)) in
+    row (omega (arith, (front_fresh s).0), here))
 
 -- ---- put, del
 
@@ -179,7 +179,7 @@ change_allowed : {client : Client} {c : Command} {answer : Reply} (s : Scene cli
     → plan (front s) client c ≡ change_plan (front s) client.txn change made → refusal_of client c ≡ refuses_change client.txn (key_of change) → (client.txn ≡ Idle → needed client.txn c ≡ 1) → is_logged made ≡ true
     → (client.txn ≡ Idle → IsLoggedAt s.h s.last (next (front s)) (entry.Write (change ∷ [])) → RowOf s made)
     → ((name : List ℕ) → IsBusy s.h (IsKnown (one_at_a_time s.h)) s.last (key_of change) name → RowOf s (reply.Busy name))
-    → (IsOpen client.txn → RowOf s reply.Held) → IsAllowed s
+    → (TxnIsOpen client.txn → RowOf s reply.Held) → IsAllowed s
 change_allowed {client = client} {c = c} s change made plan_is refusal_is needs logs row busy held = by client.txn refl
   where
     on_holder : (other : Plan) → plan (front s) client c ≡ held_or (front s) (holder_of (front s) (key_of change)) other → refusal_of client c ≡ None → (plan (front s) client c ≡ other → IsAllowed s) → IsAllowed s
@@ -188,6 +188,7 @@ change_allowed {client = client} {c = c} s change made plan_is refusal_is needs 
           | inl none ↦ rest (is ∙ ap (λ (o : Option ℕ). held_or (front s) o other) none)
           | inr found ↦ say_allowed s (reply.Busy (name_at (front s) found.0)) (is ∙ ap (λ (o : Option ℕ). held_or (front s) o other) found.1) refl free (busy _ (busy_in s (key_of change) found.0 found.1))
         ]
+
     by : (txn : Txn) → client.txn ≡ txn → IsAllowed s
     by Idle is =
         let asked : plan (front s) client c ≡ change_plan (front s) Idle change made = plan_is ∙ ap (λ (t : Txn). change_plan (front s) t change made) is in
@@ -200,7 +201,7 @@ change_allowed {client = client} {c = c} s change made plan_is refusal_is needs 
           | inl full ↦ say_refused s reply.TooMany (rw full at asked) refl (rw full at refuses)
           | inr room ↦
               let free : refusal_of client c ≡ None = rw room at refuses in
-              on_holder (Say reply.Held) (rw room at asked) free (λ says. say_allowed s reply.Held says refl free (held (subst IsOpen (sym is) tt)))
+              on_holder (Say reply.Held) (rw room at asked) free (λ says. say_allowed s reply.Held says refl free (held (subst TxnIsOpen (sym is) tt)))
         ]
     by (Prepared p) is =
         say_refused s reply.State (plan_is ∙ ap (λ (t : Txn). change_plan (front s) t change made) is) refl (refusal_is ∙ ap (λ (t : Txn). refuses_change t (key_of change)) is)
@@ -231,6 +232,7 @@ get_allowed {client = client} key s = by (change_to (own_batch (front s) client.
         read : (v : Option (List ℕ)) → plan (front s) client (command.Get key) ≡ Say (read_reply v (length (front s))) → OwnSays s.h client.txn key None → value_at s.h key (length (front s)) ≡ v → IsAllowed s
         read (Some v) says own here = say_allowed s (reply.Got v (length (front s))) says refl refl (own, front_fresh s, here)
         read None says own here = say_allowed s (reply.Missing (length (front s))) says refl refl (own, front_fresh s, here)
+
     by : (own : Option (Option (List ℕ))) → change_to (own_batch (front s) client.txn) key ≡ own → IsAllowed s
     by (Some (Some value)) is = say_allowed s (reply.GotOwn value) (ap (λ (o : Option (Option (List ℕ))). Say (get_reply (front s) o key)) is) refl refl (subst (OwnSays s.h client.txn key) is (own_in s key))
     by (Some None) is = say_allowed s reply.MissingOwn (ap (λ (o : Option (Option (List ℕ))). Say (get_reply (front s) o key)) is) refl refl (subst (OwnSays s.h client.txn key) is (own_in s key))
@@ -242,6 +244,7 @@ get_at_allowed {client = client} key label s = by (number_of client.snapshots la
     read : (n : ℕ) (value : Option (List ℕ)) → plan (front s) client (command.GetAt key label) ≡ Say (read_reply value n) → number_of client.snapshots label ≡ Some n → n ≤ length s.h → value_at s.h key n ≡ value → IsAllowed s
     read n (Some v) says is within here = say_allowed s (reply.Got v n) says refl (ap (λ (o : Option ℕ). unless_labelled o label) is) ((is, within), here)
     read n None says is within here = say_allowed s (reply.Missing n) says refl (ap (λ (o : Option ℕ). unless_labelled o label) is) ((is, within), here)
+
     by : (number : Option ℕ) → number_of client.snapshots label ≡ number → IsAllowed s
     by None is = say_refused s (reply.UnknownSnapshot label) (ap (λ (o : Option ℕ). Say (get_at_reply (front s) o key label)) is) refl (ap (λ (o : Option ℕ). unless_labelled o label) is)
     by (Some n) is =
@@ -284,6 +287,7 @@ begin_allowed {client = client} name s = by client.txn refl
     by_holder : (holder : Option ℕ) → named (front s) name ≡ holder → client.txn ≡ Idle → IsAllowed s
     by_holder None is idle = say_allowed s reply.Begun (ap (λ (t : Txn). begin_plan (front s) t name) idle ∙ ap (λ (o : Option ℕ). Say (begin_reply o name)) is) refl (ap unless_idle idle) tt
     by_holder (Some p) is idle = say_allowed s (reply.Taken name) (ap (λ (t : Txn). begin_plan (front s) t name) idle ∙ ap (λ (o : Option ℕ). Say (begin_reply o name)) is) refl (ap unless_idle idle) (refl, inl (p, was_in s name p is))
+
     by : (txn : Txn) → client.txn ≡ txn → IsAllowed s
     by Idle is = by_holder (named (front s) name) refl is
     by (Open other batch) is = say_refused s reply.State (ap (λ (t : Txn). begin_plan (front s) t name) is) refl (ap unless_idle is)
@@ -317,9 +321,10 @@ rollback_allowed {client = client} {answer = answer} s = by client.txn refl
         let closed : entry_at s.h n ≡ Some (entry.Close p) = entry_in_front s.h s.given.after n (entry.Close p) (subst (λ (xs : List Entry). entry_at xs n ≡ Some (entry.Close p)) (sym split) (next_entry (front s ++ entry.Undo p batch ∷ []) [] (entry.Close p) n (omega (arith, length-append (front s) (entry.Undo p batch ∷ []))))) in
         let undone : entry_at s.h (n - 1) ≡ Some (entry.Undo p batch) = entry_in_front s.h s.given.after (n - 1) (entry.Undo p batch) (subst (λ (xs : List Entry). entry_at xs (n - 1) ≡ Some (entry.Undo p batch)) (sym all) (next_entry (front s) (entry.Close p ∷ []) (entry.Undo p batch) (n - 1) (omega arith))) in
         ((omega (arith, (front_fresh s).0), closed), (batch, (omega (arith, (front_fresh s).0), undone)))
+
     by : (txn : Txn) → client.txn ≡ txn → IsAllowed s
     by Idle is = say_refused s reply.State (ap (rollback_plan (front s)) is) refl (ap if_idle is)
-    by (Open name batch) is = say_allowed s reply.Dropped (ap (rollback_plan (front s)) is) refl (ap if_idle is) (subst IsOpen (sym is) tt)
+    by (Open name batch) is = say_allowed s reply.Dropped (ap (rollback_plan (front s)) is) refl (ap if_idle is) (subst TxnIsOpen (sym is) tt)
     by (Prepared p) is = log_allowed s 2 (reply.RolledBack (next (front s) + 1)) (ap if_idle is) (ap (λ (t : Txn). needed t command.Rollback) is) (omega arith) (ap (λ (t : Txn). reply_to (store_in s) (rollback_plan (front s) t)) is) (λ answered. subst (λ (t : Txn). RollsBackAt s.h s.last t (next (front s) + 1)) (sym is) (rolled p is answered))
 
 leave_allowed : {client : Client} {answer : Reply} (s : Scene client command.Leave answer) → IsAllowed s
@@ -340,6 +345,7 @@ take_allowed {client = client} name s = by client.txn refl
     by_holder (Some p) is idle =
         let takes : taken (front s) (command.Take name) ≡ p = ap (λ (o : Option ℕ). unwrap_or o 0) is in
         say_allowed s reply.Took (ap (λ (t : Txn). take_plan (front s) t name) idle ∙ ap (λ (o : Option ℕ). Say (take_reply (front s) o name)) is) refl (ap unless_idle idle) (subst (WasUndecided s.h s.last name) (sym takes) (was_in s name p is))
+
     by : (txn : Txn) → client.txn ≡ txn → IsAllowed s
     by Idle is = by_holder (named (front s) name) refl is
     by (Open other batch) is = say_refused s reply.State (ap (λ (t : Txn). take_plan (front s) t name) is) refl (ap unless_idle is)
@@ -417,10 +423,12 @@ due_session h limit from last client (c ∷ cs) [] low txn snapshots due = absur
 due_session h limit from last client (c ∷ cs) (r ∷ rs) low txn snapshots (given, rest) =
     let s : Scene client c r = record { h = h; limit = limit; from = from; last = last; low = low; txn = txn; snapshots = snapshots; given = given } in
     let later : from ≤ given.after = omega (arith, given.earlier, given.grows) in
-    let allowed = due_allowed client c r s in
-    (taken (take given.before h) c, allowed,
+    let allowed = due_allowed client c r s in (
+      taken (take given.before h) c,
+      allowed,
       due_session h limit given.after (last_after last c r) (client_after (take given.before h) client c r) cs rs
-      (last_within last given.before given.after (fresh_in c r) (omega (arith, low, given.earlier)) given.grows given.fresh)
-      (txn_within client c r s allowed (txn_more from given.after client.txn later txn))
-      (subst (AreWithin given.after) (sym (snapshots_after (taken (take given.before h) c) client c r)) (labels_within client c r s (within_more from given.after client.snapshots later snapshots)))
-      rest)
+          (last_within last given.before given.after (fresh_in c r) (omega (arith, low, given.earlier)) given.grows given.fresh)
+          (txn_within client c r s allowed (txn_more from given.after client.txn later txn))
+          (subst (AreWithin given.after) (sym (snapshots_after (taken (take given.before h) c) client c r)) (labels_within client c r s (within_more from given.after client.snapshots later snapshots)))
+          rest,
+    )

@@ -11,8 +11,8 @@ found_passes : (keeps test : ℕ → Bool) (numbers : List ℕ) → IfSome (find
 found_passes keeps test [] = tt
 found_passes keeps test (n ∷ numbers) =
     elim (cases_Bool (keeps n)) [
-      | inl kept ↦ rw kept (elim (cases_Bool (test n)) [
-        | inl passes ↦ rw passes (kept, passes)
+      | inl retained ↦ rw retained (elim (cases_Bool (test n)) [
+        | inl passes ↦ rw passes (retained, passes)
         | inr fails ↦ rw fails (found_passes keeps test numbers)
       ])
       | inr dropped ↦ rw dropped (found_passes keeps test numbers)

@@ -14,7 +14,7 @@ use Rattle.wp_session.specs.declared.session.Txn.TheVariants.{Idle, Open, Prepar
 use Rattle.wp_session.specs.Client.{Client}
 use Rattle.wp_session.specs.After.{labels_after, after_reply}
 use Rattle.wp_session.specs.Kind.{last_after}
-use Rattle.wp_session.specs.Replies.{Claim, HasName, HasKey, LogFailed, refusal_of, IsFresh, IsLoggedAt, WasUndecided, IsBusy, IsTaken, TxnIsWithin, OwnSays, IsSnapshot, PreparesAt, CommitsAt, RollsBackAt, Row, UnlessRefused, Allows}
+use Rattle.wp_session.specs.Replies.{Claim, HasName, HasKey, LogFailed, refusal_of, IsFresh, IsLoggedAt, WasUndecided, IsBusy, IsNameTaken, OwnSays, PreparesAt, CommitsAt, RollsBackAt, Row, UnlessRefused}
 use Rattle.wp_session.specs.Session.{IsSession}
 
 -- ---- entries
@@ -68,7 +68,7 @@ unfolding was_more
 busy_more h more P Q f last key name (inl (p, was, changed)) = inl (p, was_more h more last name p was, front_more (λ f. is_changed (batch_at f p) key ≡ true) h more was.at was.fresh.1 changed)
 busy_more h more P Q f last key name (inr claim) = inr (f (HasKey name key) claim)
 
-taken_more : (h more : List Entry) (P Q : Claim → Type 0) → ((claim : Claim) → P claim → Q claim) → (last : ℕ) (name : List ℕ) → IsTaken h P last name → IsTaken (h ++ more) Q last name
+taken_more : (h more : List Entry) (P Q : Claim → Type 0) → ((claim : Claim) → P claim → Q claim) → (last : ℕ) (name : List ℕ) → IsNameTaken h P last name → IsNameTaken (h ++ more) Q last name
 taken_more h more P Q f last name (inl (p, was)) = inl (p, was_more h more last name p was)
 taken_more h more P Q f last name (inr claim) = inr (f (HasName name) claim)
 

@@ -24,11 +24,10 @@ use Rattle.wp_session.specs.declared.session.Txn.TheVariants.{Idle, Open, Prepar
 use Rattle.wp_session.specs.declared.plan.Plan.{Plan}
 use Rattle.wp_session.specs.declared.plan.Plan.TheVariants.{Say, Log}
 use Rattle.wp_session.proofs.Found.{named_is_undecided}
-use Rattle.wp_session.specs.Client.{Client, ClientFits, TxnFits, AreWithin, number_of, own_batch, has_no_room}
+use Rattle.wp_session.specs.Client.{Client, ClientFits, AreWithin, number_of, own_batch, has_no_room}
 use Rattle.wp_session.specs.After.{with_held}
 use Rattle.wp_session.specs.Due.{client_after}
 use Rattle.wp_session.specs.Kind.{acknowledged, is_logged, is_fault, is_stopped, number_in, fresh_in}
-use Rattle.wp_session.specs.Room.{NamesPrepared}
 use Rattle.wp_session.specs.Plan.{plan, held_or, change_plan, begin_reply, begin_plan, prepare_plan, commit_plan, rollback_plan, leave_plan, take_reply, take_plan, read_reply, get_reply, get_at_reply, snap_reply, free_reply}
 
 -- ---- the reply
@@ -46,27 +45,27 @@ pub record IsPlain (h : List Entry) (c : Command) (answer : Reply) : Type 0 wher
 abbrev pub IsBare : Reply → Type 0
 IsBare answer = (acknowledged answer ≡ []) × (is_logged answer ≡ false) × (is_fault answer ≡ false) × (is_stopped answer ≡ false) × (number_in answer ≡ None)
 
-said_is : (answer told : Reply) → Say answer ≡ Say told → answer ≡ told
-said_is answer told is = cc
+said_is : (answer given : Reply) → Say answer ≡ Say given → answer ≡ given
+said_is answer given is = cc
 
 -- a bare reply, as the plan says it
-bare : (answer told : Reply) → IsBare answer → Say answer ≡ Say told → IsBare told
-bare answer told b is = subst IsBare (said_is answer told is) b
+bare : (answer given : Reply) → IsBare answer → Say answer ≡ Say given → IsBare given
+bare answer given b is = subst IsBare (said_is answer given is) b
 
 plain_if_bare : (h : List Entry) (c : Command) (answer : Reply) → (IsBare answer → fresh_in c answer ≡ None) → IsBare answer → IsPlain h c answer
 plain_if_bare h c answer fresh b = record { none = b.0; unlogged = b.1; faultless = b.2; running = b.3; current = rw (fresh b) tt }
 
-held_or_answers : (P : Reply → Type 0) (h : List Entry) (holder : Option ℕ) (made : Plan) (answer : Reply) → ((name : List ℕ) → P (reply.Busy name)) → ((told : Reply) → holder ≡ None → made ≡ Say told → P told) → held_or h holder made ≡ Say answer → P answer
+held_or_answers : (P : Reply → Type 0) (h : List Entry) (holder : Option ℕ) (made : Plan) (answer : Reply) → ((name : List ℕ) → P (reply.Busy name)) → ((given : Reply) → holder ≡ None → made ≡ Say given → P given) → held_or h holder made ≡ Say answer → P answer
 held_or_answers P h None made answer busy others is = others answer refl is
 held_or_answers P h (Some p) made answer busy others is = subst P (said_is (reply.Busy (name_at h p)) answer is) (busy (name_at h p))
 
 -- what has P, if each reply has it that a change may be given without the log
 change_answers : (P : Reply → Type 0) (h : List Entry) (txn : Txn) (c : Change) (made answer : Reply) → P reply.State → ((name : List ℕ) → P (reply.Busy name)) → P reply.TooMany → ((name : List ℕ) (batch : List Change) → txn ≡ Open name batch → holder_of h (key_of c) ≡ None → P reply.Held) → change_plan h txn c made ≡ Say answer → P answer
-change_answers P h Idle c made answer state busy many held is = held_or_answers P h (holder_of h (key_of c)) (Log (entry.Write (c ∷ [])) made) answer busy (λ told none said. absurd cc) is
+change_answers P h Idle c made answer state busy many held is = held_or_answers P h (holder_of h (key_of c)) (Log (entry.Write (c ∷ [])) made) answer busy (λ given none said. absurd cc) is
 change_answers P h (Open name batch) c made answer state busy many held is =
     elim (cases_Bool (has_no_room batch (key_of c))) [
       | inl full ↦ subst P (said_is reply.TooMany answer (rw full at is)) many
-      | inr room ↦ held_or_answers P h (holder_of h (key_of c)) (Say reply.Held) answer busy (λ told none said. subst P (said_is reply.Held told said) (held name batch refl none)) (rw room at is)
+      | inr room ↦ held_or_answers P h (holder_of h (key_of c)) (Say reply.Held) answer busy (λ given none said. subst P (said_is reply.Held given said) (held name batch refl none)) (rw room at is)
     ]
 change_answers P h (Prepared p) c made answer state busy many held is = subst P (said_is reply.State answer is) state
 
@@ -137,8 +136,8 @@ take_is_plain : (h : List Entry) (holder : Option ℕ) (name : List ℕ) → IsP
 take_is_plain h (Some p) name = record { none = refl; unlogged = refl; faultless = refl; running = refl; current = tt }
 take_is_plain h None name = record { none = refl; unlogged = refl; faultless = refl; running = refl; current = refl }
 
-plain : (h : List Entry) (c : Command) (answer told : Reply) → IsPlain h c answer → Say answer ≡ Say told → IsPlain h c told
-plain h c answer told p is = subst (λ (r : Reply). IsPlain h c r) (said_is answer told is) p
+plain : (h : List Entry) (c : Command) (answer given : Reply) → IsPlain h c answer → Say answer ≡ Say given → IsPlain h c given
+plain h c answer given p is = subst (λ (r : Reply). IsPlain h c r) (said_is answer given is) p
 
 take_says : (h : List Entry) (txn : Txn) (name : List ℕ) (answer : Reply) → take_plan h txn name ≡ Say answer → IsPlain h (command.Take name) answer
 take_says h Idle name answer is = plain h (command.Take name) (take_reply h (named h name) name) answer (take_is_plain h (named h name) name) is
@@ -297,17 +296,3 @@ plan_fits h client command.Commit answer fits is = commit_fits h client client.t
 plan_fits h client command.Rollback answer fits is = rollback_fits h client client.txn answer fits is
 plan_fits h client command.Leave answer fits is = leave_fits h client client.txn answer fits is
 plan_fits h client (command.Take name) answer fits is = take_fits h client client.txn name answer fits is
-
-names_prepared : (h : List Entry) (name : List ℕ) (holder : Option ℕ) → named h name ≡ holder → Say (take_reply h holder name) ≡ Say reply.Took → is_some (named h name) ≡ true
-names_prepared h name None is said = absurd cc
-names_prepared h name (Some p) is said = rw is refl
-
--- where a take has its transaction, one of that name is undecided
-pub took_names_prepared : (h : List Entry) (client : Client) (c : Command) → plan h client c ≡ Say reply.Took → NamesPrepared h c
-took_names_prepared h client (command.Take name) is = by client.txn is
-  where
-    by : (txn : Txn) → take_plan h txn name ≡ Say reply.Took → is_some (named h name) ≡ true
-    by Idle said = names_prepared h name (named h name) refl said
-    by (Open other batch) said = absurd cc
-    by (Prepared p) said = absurd cc
-took_names_prepared h client other is = tt

@@ -1,5 +1,5 @@
 -- What is true of every session: of its reads, its numbers and its entries.
-use Rattle.std.proofs.Common.{◌≡◌, ℕ, suc, zero, ◌<◌, ◌≤◌, List, [], ◌∷◌, length, Option, Some, None, refl, sym, ap, ◌∙◌, subst, arith, rules, inl, inr}
+use Rattle.std.proofs.Common.{◌≡◌, ℕ, suc, zero, ◌≤◌, List, [], ◌∷◌, length, Option, Some, None, refl, sym, ap, ◌∙◌, subst, arith, rules, inl, inr}
 use Rattle.std.specs.Prelude.{IfSome, is_some, nat_le}
 use Rattle.std.proofs.lemmas.Bool.{cases_Bool}
 use Rattle.std.proofs.lemmas.Option.{slice_get_within}
@@ -16,11 +16,11 @@ use Rattle.wp_session.specs.declared.session.Snapshot.{Snapshot}
 use Rattle.wp_session.specs.declared.session.Txn.{Txn}
 use Rattle.wp_session.specs.declared.session.Txn.TheVariants.{Idle, Open, Prepared}
 use Rattle.wp_session.specs.Client.{Client, number_of, has_no_room}
-use Rattle.wp_session.specs.After.{labels_after, after_reply}
+use Rattle.wp_session.specs.After.{after_reply}
 use Rattle.wp_session.specs.Kind.{Plain, kind, number_of_kind, numbers_logged, acknowledged, fresh_in, last_after}
 use Rattle.wp_session.specs.Replies.{Claim, refuses_change, unless_idle, unless_open, unless_prepared, if_idle, unless_labelled, refuses_label, refusal_of, IsFresh, IsLoggedAt, PreparesAt, CommitsAt, RollsBackAt, Row, UnlessRefused, Allows}
 use Rattle.wp_session.specs.Session.{IsSession}
-use Rattle.wp_session.specs.Laws.{IsRead, AreReads, NeverFall, Asks, AreAsked, AreLogged}
+use Rattle.wp_session.specs.Laws.{ReadsValue, AreReads, NeverFall, AsksLog, AreAsked, AreLogged}
 use Rattle.wp_session.proofs.Rows.{snapshots_after}
 
 -- ---- refusals speak of no entry
@@ -70,7 +70,7 @@ allowed_gives Q (Some refusal) r row plain by_row by_kind allowed = by_kind (ap 
 
 -- ---- reads
 
-allowed_read : (h : List Entry) (limit : ℕ) (P : Claim → Type 0) (last : ℕ) (client : Client) (p : ℕ) (c : Command) (r : Reply) → Allows h limit P last client p c r → IsRead h last client.snapshots c r
+allowed_read : (h : List Entry) (limit : ℕ) (P : Claim → Type 0) (last : ℕ) (client : Client) (p : ℕ) (c : Command) (r : Reply) → Allows h limit P last client p c r → ReadsValue h last client.snapshots c r
 allowed_read h limit P last client p (command.Get key) (reply.Got value n) a = (a.1, a.2)
 allowed_read h limit P last client p (command.Get key) (reply.Missing n) a = (a.1, a.2)
 allowed_read h limit P last client p (command.GetAt key label) (reply.Got value n) a = allowed_gives _ (unless_labelled (number_of client.snapshots label) label) (reply.Got value n) _ (labelled_plain (number_of client.snapshots label) label) (λ row. (row.0.0, row.0.1, row.1)) (λ plain. absurd cc) a
@@ -81,9 +81,10 @@ pub session_reads : (h : List Entry) (limit : ℕ) (P : Claim → Type 0) (last 
 session_reads h limit P last client [] [] s = tt
 session_reads h limit P last client [] (r ∷ rs) s = tt
 session_reads h limit P last client (c ∷ cs) [] s = tt
-session_reads h limit P last client (c ∷ cs) (r ∷ rs) (p, allowed, rest) =
-    (allowed_read h limit P last client p c r allowed,
-      subst (λ (snapshots : List Snapshot). AreReads h (last_after last c r) snapshots cs rs) (snapshots_after p client c r) (session_reads h limit P (last_after last c r) (after_reply p client c r) cs rs rest))
+session_reads h limit P last client (c ∷ cs) (r ∷ rs) (p, allowed, rest) = (
+  allowed_read h limit P last client p c r allowed,
+  subst (λ (snapshots : List Snapshot). AreReads h (last_after last c r) snapshots cs rs) (snapshots_after p client c r) (session_reads h limit P (last_after last c r) (after_reply p client c r) cs rs rest),
+)
 
 -- ---- numbers
 
@@ -129,9 +130,10 @@ pub session_numbers : (h : List Entry) (limit : ℕ) (P : Claim → Type 0) (las
 session_numbers h limit P last client [] [] s = tt
 session_numbers h limit P last client [] (r ∷ rs) s = tt
 session_numbers h limit P last client (c ∷ cs) [] s = tt
-session_numbers h limit P last client (c ∷ cs) (r ∷ rs) (p, allowed, rest) =
-    (allowed_gives _ (refusal_of client c) r _ (refusal_plain client c) (row_fresh h limit P last client p c r) (fresh_none h last c r) allowed,
-      session_numbers h limit P (last_after last c r) (after_reply p client c r) cs rs rest)
+session_numbers h limit P last client (c ∷ cs) (r ∷ rs) (p, allowed, rest) = (
+  allowed_gives _ (refusal_of client c) r _ (refusal_plain client c) (row_fresh h limit P last client p c r) (fresh_none h last c r) allowed,
+  session_numbers h limit P (last_after last c r) (after_reply p client c r) cs rs rest,
+)
 
 -- ---- entries
 
@@ -149,8 +151,8 @@ rolls_asked h last (Prepared p) n (closed, (batch, undone)) = ((_, undone, inr (
 rolls_asked h last _ n l = absurd l
 
 row_asked : (h : List Entry) (limit : ℕ) (P : Claim → Type 0) (last : ℕ) (client : Client) (p : ℕ) (c : Command) (r : Reply) → Row h limit P last client p c r → AreAsked h last client.txn c (acknowledged r)
-row_asked h limit P last client p (command.Put key value) (reply.Put n) k = ((entry.Write (change.Put key value ∷ []), k.1, subst (λ (t : Txn). Asks t (command.Put key value) (entry.Write (change.Put key value ∷ []))) (sym k.0) refl), tt)
-row_asked h limit P last client p (command.Del key) (reply.Del n) k = ((entry.Write (change.Del key ∷ []), k.1, subst (λ (t : Txn). Asks t (command.Del key) (entry.Write (change.Del key ∷ []))) (sym k.0) refl), tt)
+row_asked h limit P last client p (command.Put key value) (reply.Put n) k = ((entry.Write (change.Put key value ∷ []), k.1, subst (λ (t : Txn). AsksLog t (command.Put key value) (entry.Write (change.Put key value ∷ []))) (sym k.0) refl), tt)
+row_asked h limit P last client p (command.Del key) (reply.Del n) k = ((entry.Write (change.Del key ∷ []), k.1, subst (λ (t : Txn). AsksLog t (command.Del key) (entry.Write (change.Del key ∷ []))) (sym k.0) refl), tt)
 row_asked h limit P last client p command.Prepare (reply.Prepared n) k = prepares_asked h last client.txn n k
 row_asked h limit P last client p command.Commit (reply.Committed n) k = commits_asked h last client.txn n k
 row_asked h limit P last client p command.Rollback (reply.RolledBack n) k = rolls_asked h last client.txn n k
@@ -164,6 +166,7 @@ pub session_logged : (h : List Entry) (limit : ℕ) (P : Claim → Type 0) (last
 session_logged h limit P last client [] [] s = tt
 session_logged h limit P last client [] (r ∷ rs) s = tt
 session_logged h limit P last client (c ∷ cs) [] s = tt
-session_logged h limit P last client (c ∷ cs) (r ∷ rs) (p, allowed, rest) =
-    (allowed_gives _ (refusal_of client c) r _ (refusal_plain client c) (row_asked h limit P last client p c r) (asked_none h last client.txn c r) allowed,
-      (p, session_logged h limit P (last_after last c r) (after_reply p client c r) cs rs rest))
+session_logged h limit P last client (c ∷ cs) (r ∷ rs) (p, allowed, rest) = (
+  allowed_gives _ (refusal_of client c) r _ (refusal_plain client c) (row_asked h limit P last client p c r) (asked_none h last client.txn c r) allowed,
+  (p, session_logged h limit P (last_after last c r) (after_reply p client c r) cs rs rest),
+)

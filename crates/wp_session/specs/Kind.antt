@@ -36,30 +36,30 @@ numbers_logged other = []
 abbrev pub acknowledged : Reply → List ℕ
 acknowledged answer = numbers_logged (kind answer)
 
-abbrev pub logs : Kind → Bool
-logs (Logged n) = true
-logs (RolledBack n) = true
-logs other = false
+abbrev pub says_logged : Kind → Bool
+says_logged (Logged n) = true
+says_logged (RolledBack n) = true
+says_logged other = false
 
 -- it acknowledges entries
 abbrev pub is_logged : Reply → Bool
-is_logged answer = logs (kind answer)
+is_logged answer = says_logged (kind answer)
 
-abbrev pub fails : Kind → Bool
-fails Failed = true
-fails other = false
+abbrev pub says_failed : Kind → Bool
+says_failed Failed = true
+says_failed other = false
 
 -- the log failed at its command
 abbrev pub is_fault : Reply → Bool
-is_fault answer = fails (kind answer)
+is_fault answer = says_failed (kind answer)
 
-abbrev pub stops : Kind → Bool
-stops Stopped = true
-stops other = false
+abbrev pub says_stopped : Kind → Bool
+says_stopped Stopped = true
+says_stopped other = false
 
 -- the log had failed before its command
 abbrev pub is_stopped : Reply → Bool
-is_stopped answer = stops (kind answer)
+is_stopped answer = says_stopped (kind answer)
 
 abbrev pub number_of_kind : Kind → Option ℕ
 number_of_kind (Logged n) = Some n

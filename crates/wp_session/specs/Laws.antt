@@ -1,5 +1,5 @@
 -- What is true of every session.
-use Rattle.std.specs.Prelude.{◌≡◌, ◌⊎◌, ℕ, ◌≤◌, Bool, true, List, [], ◌∷◌, ◌++◌, length, Option, Some, None, IfSome}
+use Rattle.std.specs.Prelude.{◌≡◌, ◌⊎◌, ℕ, ◌≤◌, Bool, true, List, [], ◌∷◌, ◌++◌, length, Some, None, IfSome}
 use Rattle.wp_model.specs.declared.change.Change.{Change}
 use Rattle.wp_model.specs.declared.change.Change.TheVariants as change
 use Rattle.wp_model.specs.declared.entry.Entry.{Entry}
@@ -31,23 +31,23 @@ SessionGrows = (history more : List Entry) (limit last : ℕ) (known later : Cla
 -- Replies that are due at moments of the history, one after another, are a session, and nothing need be known of the
 -- other clients.
 abbrev pub DueIsSession : Type 0
-DueIsSession = (history : List Entry) (limit from : ℕ) (commands : List Command) (answers : List Reply)
-    → AreDueFrom history limit from new_client commands answers
-    → IsSession history limit (IsKnown (one_at_a_time history)) from new_client commands answers
+DueIsSession = (history : List Entry) (limit last from : ℕ) (commands : List Command) (answers : List Reply)
+    → last ≤ from → AreDueFrom history limit from new_client commands answers
+    → IsSession history limit (IsKnown (one_at_a_time history)) last new_client commands answers
 
 -- ---- reads
 
 -- The value that a read is answered is what the first n entries leave under the key, where n is the reply's number. A
 -- fresh n is nothing that the client has seen pass, and a snapshot's is the one that it was taken at.
-abbrev pub IsRead : List Entry → ℕ → List Snapshot → Command → Reply → Type 0
-IsRead history last snapshots (command.Get key) (reply.Got value n) = IsFresh history last n × (value_at history key n ≡ Some value)
-IsRead history last snapshots (command.Get key) (reply.Missing n) = IsFresh history last n × (value_at history key n ≡ None)
-IsRead history last snapshots (command.GetAt key label) (reply.Got value n) = (number_of snapshots label ≡ Some n) × (n ≤ length history) × (value_at history key n ≡ Some value)
-IsRead history last snapshots (command.GetAt key label) (reply.Missing n) = (number_of snapshots label ≡ Some n) × (n ≤ length history) × (value_at history key n ≡ None)
-IsRead history last snapshots command answer = Unit {0}
+abbrev pub ReadsValue : List Entry → ℕ → List Snapshot → Command → Reply → Type 0
+ReadsValue history last snapshots (command.Get key) (reply.Got value n) = IsFresh history last n × (value_at history key n ≡ Some value)
+ReadsValue history last snapshots (command.Get key) (reply.Missing n) = IsFresh history last n × (value_at history key n ≡ None)
+ReadsValue history last snapshots (command.GetAt key label) (reply.Got value n) = (number_of snapshots label ≡ Some n) × (n ≤ length history) × (value_at history key n ≡ Some value)
+ReadsValue history last snapshots (command.GetAt key label) (reply.Missing n) = (number_of snapshots label ≡ Some n) × (n ≤ length history) × (value_at history key n ≡ None)
+ReadsValue history last snapshots command answer = Unit {0}
 
 abbrev pub AreReads : List Entry → ℕ → List Snapshot → List Command → List Reply → Type 0
-AreReads history last snapshots (first ∷ commands) (answer ∷ answers) = IsRead history last snapshots first answer × AreReads history (last_after last first answer) (labels_after snapshots first answer) commands answers
+AreReads history last snapshots (first ∷ commands) (answer ∷ answers) = ReadsValue history last snapshots first answer × AreReads history (last_after last first answer) (labels_after snapshots first answer) commands answers
 AreReads history last snapshots commands answers = Unit {0}
 
 -- The reads of a session are values of the history.
@@ -71,19 +71,19 @@ FreshNumbersNeverFall = (history : List Entry) (limit last : ℕ) (known : Claim
 -- ---- entries
 
 -- the command asks the log for the entry
-abbrev pub Asks : Txn → Command → Entry → Type 0
-Asks Idle (command.Put key value) e = e ≡ entry.Write (change.Put key value ∷ [])
-Asks Idle (command.Del key) e = e ≡ entry.Write (change.Del key ∷ [])
-Asks (Open name batch) command.Prepare e = e ≡ entry.Prepare name batch
-Asks (Open name batch) command.Commit e = e ≡ entry.Write batch
-Asks (Prepared p) command.Commit e = e ≡ entry.Commit p
-Asks (Prepared p) command.Rollback e = (e ≡ entry.Close p) ⊎ ((batch : List Change) × (e ≡ entry.Undo p batch))
-Asks txn command e = ⊥
+abbrev pub AsksLog : Txn → Command → Entry → Type 0
+AsksLog Idle (command.Put key value) e = e ≡ entry.Write (change.Put key value ∷ [])
+AsksLog Idle (command.Del key) e = e ≡ entry.Write (change.Del key ∷ [])
+AsksLog (Open name batch) command.Prepare e = e ≡ entry.Prepare name batch
+AsksLog (Open name batch) command.Commit e = e ≡ entry.Write batch
+AsksLog (Prepared p) command.Commit e = e ≡ entry.Commit p
+AsksLog (Prepared p) command.Rollback e = (e ≡ entry.Close p) ⊎ ((batch : List Change) × (e ≡ entry.Undo p batch))
+AsksLog txn command e = ⊥
 
 -- each number is past all that the client has seen, and is that of an entry that the command asks for
 abbrev pub AreAsked : List Entry → ℕ → Txn → Command → List ℕ → Type 0
 AreAsked history last txn command [] = Unit {0}
-AreAsked history last txn command (n ∷ numbers) = ((e : Entry) × IsLoggedAt history last n e × Asks txn command e) × AreAsked history last txn command numbers
+AreAsked history last txn command (n ∷ numbers) = ((e : Entry) × IsLoggedAt history last n e × AsksLog txn command e) × AreAsked history last txn command numbers
 
 -- what the replies acknowledge is in the history
 abbrev pub AreLogged : List Entry → ℕ → Client → List Command → List Reply → Type 0

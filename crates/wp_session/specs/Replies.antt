@@ -103,14 +103,14 @@ abbrev pub IsBusy : List Entry → (Claim → Type 0) → ℕ → List ℕ → L
 IsBusy history others last key name = ((p : ℕ) × (was : WasUndecided history last name p) × (is_changed (batch_at (take was.at history) p) key ≡ true)) ⊎ others (HasKey name key)
 
 -- the name was that of an undecided prepare, or it is another client's
-abbrev pub IsTaken : List Entry → (Claim → Type 0) → ℕ → List ℕ → Type 0
-IsTaken history others last name = ((p : ℕ) × WasUndecided history last name p) ⊎ others (HasName name)
+abbrev pub IsNameTaken : List Entry → (Claim → Type 0) → ℕ → List ℕ → Type 0
+IsNameTaken history others last name = ((p : ℕ) × WasUndecided history last name p) ⊎ others (HasName name)
 
 -- ---- what a row says of the client
 
-abbrev pub IsOpen : Txn → Type 0
-IsOpen (Open name batch) = Unit {0}
-IsOpen other = ⊥
+abbrev pub TxnIsOpen : Txn → Type 0
+TxnIsOpen (Open name batch) = Unit {0}
+TxnIsOpen other = ⊥
 
 -- the number of a prepared transaction is at most n
 abbrev pub TxnIsWithin : ℕ → Txn → Type 0
@@ -161,10 +161,10 @@ Row history limit others last client p command (reply.Full published most) = (1 
 Row history limit others last client p command reply.FaultLog = 1 ≤ needed client.txn command
 Row history limit others last client p command (reply.Stopped n) = (1 ≤ needed client.txn command) × IsFresh history last n × others (LogFailed n)
 Row history limit others last client p (command.Put key value) (reply.Put n) = (client.txn ≡ Idle) × IsLoggedAt history last n (entry.Write (change.Put key value ∷ []))
-Row history limit others last client p (command.Put key value) reply.Held = IsOpen client.txn
+Row history limit others last client p (command.Put key value) reply.Held = TxnIsOpen client.txn
 Row history limit others last client p (command.Put key value) (reply.Busy name) = IsBusy history others last key name
 Row history limit others last client p (command.Del key) (reply.Del n) = (client.txn ≡ Idle) × IsLoggedAt history last n (entry.Write (change.Del key ∷ []))
-Row history limit others last client p (command.Del key) reply.Held = IsOpen client.txn
+Row history limit others last client p (command.Del key) reply.Held = TxnIsOpen client.txn
 Row history limit others last client p (command.Del key) (reply.Busy name) = IsBusy history others last key name
 Row history limit others last client p (command.Get key) (reply.Got value n) = OwnSays history client.txn key None × IsFresh history last n × (value_at history key n ≡ Some value)
 Row history limit others last client p (command.Get key) (reply.Missing n) = OwnSays history client.txn key None × IsFresh history last n × (value_at history key n ≡ None)
@@ -175,10 +175,10 @@ Row history limit others last client p (command.GetAt key label) (reply.Missing 
 Row history limit others last client p (command.Snap label) (reply.Snapped n) = IsFresh history last n
 Row history limit others last client p (command.Free label) reply.Freed = Unit {0}
 Row history limit others last client p (command.Begin name) reply.Begun = Unit {0}
-Row history limit others last client p (command.Begin name) (reply.Taken other) = (other ≡ name) × IsTaken history others last name
+Row history limit others last client p (command.Begin name) (reply.Taken other) = (other ≡ name) × IsNameTaken history others last name
 Row history limit others last client p command.Prepare (reply.Prepared n) = PreparesAt history last client.txn n
 Row history limit others last client p command.Commit (reply.Committed n) = CommitsAt history last client.txn n
-Row history limit others last client p command.Rollback reply.Dropped = IsOpen client.txn
+Row history limit others last client p command.Rollback reply.Dropped = TxnIsOpen client.txn
 Row history limit others last client p command.Rollback (reply.RolledBack n) = RollsBackAt history last client.txn n
 Row history limit others last client p command.Leave reply.Left = Unit {0}
 Row history limit others last client p (command.Take name) reply.Took = WasUndecided history last name p

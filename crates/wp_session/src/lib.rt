@@ -12,3 +12,6 @@ mod session;
 
 pub use plan::{Plan, plan_of};
 pub use session::{MOST_SNAPSHOTS, Session, Snapshot, Txn};
+
+#[cfg(test)]
+mod tests;
