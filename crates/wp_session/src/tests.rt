@@ -50,15 +50,21 @@ fn store(alloc: Global) -> Result<History, Fail> {
     Ok(history)
 }
 
+fn reply_in(plan: Plan) -> Reply {
+    match plan {
+        Plan::Say(reply) => reply,
+        Plan::Log(_entry, reply) => reply,
+        Plan::RollBack(_p, _batch, reply) => reply,
+    }
+}
+
 fn first_reply(alloc: Global, history: &History, command: &Command) -> Result<Reply, Fail> {
     let mut session = Session::new(alloc);
-    match plan_of(alloc, history, &session, command)? {
-        Plan::Say(reply) => {
-            session.take(alloc, history, command, &reply)?;
-            Ok(reply)
-        }
-        Plan::Log(_, reply) | Plan::RollBack(_, _, reply) => Ok(reply),
+    let plan = plan_of(alloc, history, &session, command)?;
+    if let Plan::Say(reply) = &plan {
+        session.take(alloc, history, command, reply)?;
     }
+    Ok(reply_in(plan))
 }
 
 fn line_of(alloc: Global, history: &History, script: &[u8]) -> Result<Vec<u8>, Fail> {
