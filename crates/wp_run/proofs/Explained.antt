@@ -1,6 +1,6 @@
 -- What the clients are answered one after another on one thread is explained by the entries at the end.
-use Rattle.std.proofs.Common.{◌≡◌, ℕ, zero, suc, ◌+◌, ◌<◌, ◌≤◌, ◌==◌, Bool, true, false, cond, eqb, List, [], ◌∷◌, ◌++◌, length, take, Option, Some, None, refl, sym, ap, add-zero, zero-add, subst, ◌∙◌, append_assoc, arith, length-append, inl, inr, if◌then◌else◌}
-use Rattle.std.specs.Prelude.{count_by, unwrap_or, IfSome}
+use Rattle.std.proofs.Common.{◌≡◌, ℕ, zero, suc, ◌+◌, ◌<◌, ◌≤◌, ◌==◌, Bool, true, false, cond, eqb, List, [], ◌∷◌, ◌++◌, length, take, refl, sym, ap, add-zero, zero-add, subst, ◌∙◌, append_assoc, arith, length-append, inl, inr, if◌then◌else◌}
+use Rattle.std.specs.Prelude.{count_by}
 use Rattle.std.specs.List.{range_with_len, flat_map, list_any}
 use Rattle.std.proofs.lemmas.List.Concat.{flat_map-cons, flat_map-append}
 use Rattle.std.proofs.lemmas.List.Folds.{list_any-append}
@@ -13,10 +13,9 @@ use Rattle.wp_text.specs.declared.script.Command.{Command}
 use Rattle.wp_text.specs.declared.script.Part.{Part}
 use Rattle.wp_text.specs.declared.reply.Reply.{Reply}
 use Rattle.wp_session.specs.Client.{Client, new_client}
-use Rattle.wp_session.specs.Kind.{acknowledged, is_fault, fresh_in, last_after, is_stopped}
+use Rattle.wp_session.specs.Kind.{acknowledged, is_fault, is_stopped}
 use Rattle.wp_session.specs.Due.{Store, IsReply, logged_entries, store_after, client_after}
 use Rattle.wp_session.specs.Moments.{store_at, IsDueFrom, AreDueFrom}
-use Rattle.wp_session.specs.Session.{IsSession}
 use Rattle.wp_session.specs.Current.{RunsAlone}
 use Rattle.wp_session.specs.Laws.{DueIsSession}
 use Rattle.wp_run.specs.Transcript.{AreSessions, IsExact, all_replies, Explains}

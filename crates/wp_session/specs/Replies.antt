@@ -82,7 +82,7 @@ refusal_of client (command.Take name) = unless_idle client.txn
 
 -- ---- what a row says of the history
 
--- the client may be told the number: it has seen nothing later
+-- the number may be answered: the client has seen nothing later
 abbrev pub IsFresh : List Entry → ℕ → ℕ → Type 0
 IsFresh history last n = (last ≤ n) × (n ≤ length history)
 
