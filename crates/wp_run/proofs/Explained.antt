@@ -1,6 +1,6 @@
 -- What the clients are answered one after another on one thread is explained by the entries at the end.
-use Rattle.std.proofs.Common.{◌≡◌, ℕ, zero, suc, ◌+◌, ◌<◌, ◌≤◌, ◌==◌, Bool, true, false, cond, eqb, List, [], ◌∷◌, ◌++◌, length, take, Option, Some, None, refl, sym, ap, add-zero, zero-add, subst, ◌∙◌, append_assoc, arith, length-append, inl, inr, if◌then◌else◌}
-use Rattle.std.specs.Prelude.{count_by, unwrap_or, IfSome}
+use Rattle.std.proofs.Common.{◌≡◌, ℕ, zero, suc, ◌+◌, ◌<◌, ◌≤◌, ◌==◌, Bool, true, false, cond, eqb, List, [], ◌∷◌, ◌++◌, length, take, refl, sym, ap, add-zero, zero-add, subst, ◌∙◌, append_assoc, arith, length-append, inl, inr, if◌then◌else◌}
+use Rattle.std.specs.Prelude.{count_by}
 use Rattle.std.specs.List.{range_with_len, flat_map, list_any}
 use Rattle.std.proofs.lemmas.List.Concat.{flat_map-cons, flat_map-append}
 use Rattle.std.proofs.lemmas.List.Folds.{list_any-append}
@@ -13,9 +13,11 @@ use Rattle.wp_text.specs.declared.script.Command.{Command}
 use Rattle.wp_text.specs.declared.script.Part.{Part}
 use Rattle.wp_text.specs.declared.reply.Reply.{Reply}
 use Rattle.wp_session.specs.Client.{Client, new_client}
-use Rattle.wp_session.specs.Due.{Store, IsReply, acknowledged, added, is_fault, store_after, client_after}
-use Rattle.wp_session.specs.Session.{fresh_in, last_after, store_at, IsAnswer, IsSession, is_stopped}
+use Rattle.wp_session.specs.Kind.{acknowledged, is_fault, is_stopped}
+use Rattle.wp_session.specs.Due.{Store, IsReply, logged_entries, store_after, client_after}
+use Rattle.wp_session.specs.Moments.{store_at, IsDueFrom, AreDueFrom}
 use Rattle.wp_session.specs.Current.{RunsAlone}
+use Rattle.wp_session.specs.Laws.{DueIsSession}
 use Rattle.wp_run.specs.Transcript.{AreSessions, IsExact, all_replies, Explains}
 use Rattle.wp_run.specs.Engine.{State, bit, store_of, Later, Steps, Runs, AllRun}
 use Rattle.wp_run.proofs.LaterLemmas.{Later-equal, Later-same, Later-trans, Steps-later}
@@ -39,57 +41,53 @@ longer_by old new later = omega (arith, ap (λ (xs : List Entry). length xs) lat
 
 -- ---- answers
 
-last_within : (old new last : ℕ) (number : Option ℕ) → last ≤ old → old ≤ new → IfSome number (λ n. (old ≤ n) × (n ≤ new)) → (last ≤ unwrap_or number last) × (unwrap_or number last ≤ new)
-last_within old new last (Some n) le longer within = (omega (arith, within.0), within.1)
-last_within old new last None le longer within = (omega arith, omega arith)
-
 -- a command's reply in every later history
-answered : (old new final : State) (last : ℕ) (was now : Client) (c : Command) (answer : Reply) → last ≤ length old.entries → Steps old was c answer new now → Later new final
-    → (given : IsAnswer final.entries old.limit last was c answer) × (client_after (take given.at final.entries) was c answer ≡ now) × (last_after last c answer ≤ length new.entries)
-answered old new final last was now c answer le step later =
-    let new_is = added (store_of old) was c answer in
+answered : (old new final : State) (was now : Client) (c : Command) (answer : Reply) → Steps old was c answer new now → Later new final
+    → (given : IsDueFrom final.entries old.limit (length old.entries) was c answer) × (client_after (take given.before final.entries) was c answer ≡ now) × (given.after ≡ length new.entries)
+answered old new final was now c answer step later =
+    let new_is = logged_entries (store_of old) was c answer in
+    let first = Steps-later old new was now c answer step in
     let whole : final.entries ≡ (old.entries ++ new_is) ++ later.grows.0 = later.grows.1 ∙ ap (λ (xs : List Entry). xs ++ later.grows.0) step.entries in
     let split : final.entries ≡ old.entries ++ (new_is ++ later.grows.0) = whole ∙ append_assoc old.entries new_is later.grows.0 in
     let front : take (length old.entries) final.entries ≡ old.entries = ap (λ (xs : List Entry). take (length old.entries) xs) split ∙ take-append_seam old.entries (new_is ++ later.grows.0) in
-    let size : length (old.entries ++ new_is) ≡ length old.entries + length new_is = length-append old.entries new_is in
-    let both : take (length old.entries + length new_is) final.entries ≡ old.entries ++ new_is =
-    ap (λ (n : ℕ). take n final.entries) (sym size) ∙ ap (λ (xs : List Entry). take (length (old.entries ++ new_is)) xs) whole ∙ take-append_seam (old.entries ++ new_is) later.grows.0 in
-    let all = Later-trans old new final (Steps-later old new was now c answer step) later in
-    let first = last_within (length old.entries) (length new.entries) last (fresh_in c answer) le (longer_by old new (Steps-later old new was now c answer step)) step.fresh in
+    let both : take (length new.entries) final.entries ≡ old.entries ++ new_is = ap (λ (xs : List Entry). take (length new.entries) xs) later.grows.1 ∙ take-append_seam new.entries later.grows.0 ∙ step.entries in
+    let all = Later-trans old new final first later in
     let at = store_at final.entries old.limit old.stopped (length old.entries) in
     let same : at ≡ store_of old = ap (λ (h : List Entry). record { history = h; stopped = old.stopped; limit = old.limit }) front in (
       record {
-        at = length old.entries;
-        seen = le;
-        within = longer_by old final all;
+        before = length old.entries;
+        after = length new.entries;
+        earlier = omega arith;
+        grows = longer_by old new first;
+        within = longer_by new final later;
         stopped = old.stopped;
         replied = subst (λ (s : Store). IsReply s was c answer) (sym same) step.replied;
-        stands = subst (λ (s : Store). take (length old.entries + length (added s was c answer)) final.entries ≡ take (length old.entries) final.entries ++ added s was c answer) (sym same) (rw front both);
+        logged = subst (λ (s : Store). take (length new.entries) final.entries ≡ take (length old.entries) final.entries ++ logged_entries s was c answer) (sym same) (rw front both);
         ended = λ s. ap (λ (xs : List Entry). length xs) (sym (all.stays s));
-        rises = first.0;
+        fresh = step.fresh;
       },
       ap (λ (h : List Entry). client_after h was c answer) front ∙ sym step.client,
-      first.1,
+      refl,
     )
 
-is_session : (old new final : State) (last : ℕ) (was now : Client) (commands : List Command) (answers : List Reply) → last ≤ length old.entries → Runs old was commands answers new now → Later new final → IsSession final.entries old.limit last was commands answers
-is_session old new final last was now [] [] le h later = tt
-is_session old new final last was now [] (a ∷ answers) le h later = absurd h
-is_session old new final last was now (c ∷ commands) [] le h later = absurd h
-is_session old new final last was now (c ∷ commands) (a ∷ answers) le (mid, next, step, rest) later =
-    let here = answered old mid final last was next c a le step (Later-trans mid new final (Runs-later mid new next now commands answers rest) later) in
-    let more = is_session mid new final (last_after last c a) next now commands answers here.2 rest later in
-    (here.0, subst (λ (x : Client). IsSession final.entries old.limit (last_after last c a) x commands answers) (sym here.1) (subst (λ (k : ℕ). IsSession final.entries k (last_after last c a) next commands answers) step.limited more))
+are_due : (old new final : State) (was now : Client) (commands : List Command) (answers : List Reply) → Runs old was commands answers new now → Later new final → AreDueFrom final.entries old.limit (length old.entries) was commands answers
+are_due old new final was now [] [] h later = tt
+are_due old new final was now [] (a ∷ answers) h later = absurd h
+are_due old new final was now (c ∷ commands) [] h later = absurd h
+are_due old new final was now (c ∷ commands) (a ∷ answers) (mid, next, step, rest) later =
+    let here = answered old mid final was next c a step (Later-trans mid new final (Runs-later mid new next now commands answers rest) later) in
+    let more : AreDueFrom final.entries old.limit (length mid.entries) next commands answers = subst (λ (k : ℕ). AreDueFrom final.entries k (length mid.entries) next commands answers) step.limited (are_due mid new final next now commands answers rest later) in
+    (here.0, subst (λ (n : ℕ). AreDueFrom final.entries old.limit n (client_after (take here.0.before final.entries) was c a) commands answers) (sym here.2) (subst (λ (x : Client). AreDueFrom final.entries old.limit (length mid.entries) x commands answers) (sym here.1) more))
 
-are_sessions : (old new final : State) (opened : ℕ) (parts : List Part) (sessions : List (List Reply)) → opened ≤ length old.entries → AllRun old parts sessions new → Later new final → AreSessions final.entries old.limit opened parts sessions
-are_sessions old new final opened [] [] le h later = tt
-are_sessions old new final opened [] (a ∷ sessions) le h later = absurd h
-are_sessions old new final opened (p ∷ parts) [] le h later = absurd h
-are_sessions old new final opened (p ∷ parts) (a ∷ sessions) le (mid, (last, run), rest) later =
+are_sessions : DueIsSession → (old new final : State) (opened : ℕ) (parts : List Part) (sessions : List (List Reply)) → opened ≤ length old.entries → AllRun old parts sessions new → Later new final → AreSessions final.entries old.limit opened parts sessions
+are_sessions law old new final opened [] [] le h later = tt
+are_sessions law old new final opened [] (a ∷ sessions) le h later = absurd h
+are_sessions law old new final opened (p ∷ parts) [] le h later = absurd h
+are_sessions law old new final opened (p ∷ parts) (a ∷ sessions) le (mid, (last, run), rest) later =
     let first = Runs-later old mid new_client last p.commands a run in
     let longer = longer_by old mid first in (
-      is_session old mid final opened new_client last p.commands a le run (Later-trans mid new final (AllRun-later mid new parts sessions rest) later),
-      subst (λ (k : ℕ). AreSessions final.entries k opened parts sessions) first.limited (are_sessions mid new final opened parts sessions (omega arith) rest later),
+      law final.entries old.limit opened (length old.entries) p.commands a le (are_due old mid final new_client last p.commands a run (Later-trans mid new final (AllRun-later mid new parts sessions rest) later)),
+      subst (λ (k : ℕ). AreSessions final.entries k opened parts sessions) first.limited (are_sessions law mid new final opened parts sessions (omega arith) rest later),
     )
 
 -- ---- counts
@@ -123,8 +121,8 @@ run_totals old new was now [] [] e = totals_same old new e.0
 run_totals old new was now [] (a ∷ answers) h = absurd h
 run_totals old new was now (c ∷ commands) [] h = absurd h
 run_totals old new was now (c ∷ commands) (a ∷ answers) (mid, next, step, rest) =
-    let here = length (added (store_of old) was c a) in
-    let longer : length mid.entries ≡ length old.entries + here = ap (λ (xs : List Entry). length xs) step.entries ∙ length-append old.entries (added (store_of old) was c a) in
+    let here = length (logged_entries (store_of old) was c a) in
+    let longer : length mid.entries ≡ length old.entries + here = ap (λ (xs : List Entry). length xs) step.entries ∙ length-append old.entries (logged_entries (store_of old) was c a) in
     let more = run_totals mid new next now commands answers rest in
     let later = Runs-later mid new next now commands answers rest in
     record {
@@ -190,13 +188,13 @@ exact_of old new (p ∷ []) (answers ∷ []) (mid, (last, run), rest) fresh = su
 exact_of old new parts sessions h fresh = tt
 
 -- what the clients are answered one after another, from a store whose log has not failed
-pub explained : (old new : State) (parts : List Part) (sessions : List (List Reply)) → AllRun old parts sessions new → old.stopped ≡ false → IsLegal new.entries → Explains old.limit (bit new.stopped) parts old.entries new.entries sessions
-explained old new parts sessions h fresh legal =
+pub explained : DueIsSession → (old new : State) (parts : List Part) (sessions : List (List Reply)) → AllRun old parts sessions new → old.stopped ≡ false → IsLegal new.entries → Explains old.limit (bit new.stopped) parts old.entries new.entries sessions
+explained law old new parts sessions h fresh legal =
     let total = all_totals old new parts sessions h in
     record {
       legal = legal;
       begins = (AllRun-later old new parts sessions h).grows;
-      answered = are_sessions old new new (length old.entries) parts sessions (omega arith) h (Later-same new);
+      answered = are_sessions law old new new (length old.entries) parts sessions (omega arith) h (Later-same new);
       paired = λ n after within. rw total.numbers (count_once n (length old.entries + 1) total.count (omega arith) (omega (arith, total.longer)));
       failed = omega (arith, total.failed, ap bit fresh);
       stopped = λ t. rw (total.told t) (omega arith);

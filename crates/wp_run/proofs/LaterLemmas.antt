@@ -10,7 +10,8 @@ use Rattle.wp_gatelog.specs.Moments.{Leaves}
 use Rattle.wp_text.specs.declared.script.Command.{Command}
 use Rattle.wp_text.specs.declared.reply.Reply.{Reply}
 use Rattle.wp_session.specs.Client.{Client}
-use Rattle.wp_session.specs.Due.{added, is_fault}
+use Rattle.wp_session.specs.Kind.{is_fault}
+use Rattle.wp_session.specs.Due.{logged_entries}
 use Rattle.wp_wal.specs.Spelling.{MAGIC}
 use Rattle.wp_run.specs.Engine.{State, store_of, Later, Steps}
 use Rattle.wp_wal.specs.Wal.{LosesNothing}
@@ -89,7 +90,7 @@ newly_stopped false before now is running stopped = false_is_true now (is ∙ ru
 
 pub Steps-later : (old new : State) (was now : Client) (c : Command) (answer : Reply) → Steps old was c answer new now → Later old new
 Steps-later old new was now c answer step = record {
-  grows = (added (store_of old) was c answer, step.entries);
+  grows = (logged_entries (store_of old) was c answer, step.entries);
   stays = step.stays;
   stopped = still_stopped (is_fault answer) old.stopped new.stopped step.stopped;
   rose = λ running stopped. step.rose (newly_stopped (is_fault answer) old.stopped new.stopped step.stopped running stopped);

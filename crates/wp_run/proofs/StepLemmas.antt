@@ -12,9 +12,10 @@ use Rattle.wp_text.specs.declared.script.Command.TheVariants as command
 use Rattle.wp_text.specs.declared.reply.Reply.{Reply}
 use Rattle.wp_text.specs.declared.reply.Reply.TheVariants as reply
 use Rattle.wp_session.specs.declared.plan.Plan.TheVariants.{Say, Log, RollBack}
-use Rattle.wp_session.specs.Client.{Client, Fits}
-use Rattle.wp_session.specs.Due.{Store, logged, reply_to, due, acknowledged, is_logged, is_fault, added, settled, client_after}
-use Rattle.wp_session.specs.Session.{number_in, fresh_in, is_stopped}
+use Rattle.wp_session.specs.Client.{Client, ClientFits}
+use Rattle.wp_session.specs.Kind.{acknowledged, is_logged, is_fault, number_in, fresh_in, is_stopped}
+use Rattle.wp_session.specs.After.{after_decision}
+use Rattle.wp_session.specs.Due.{Store, logged, reply_to, due, logged_entries, client_after}
 use Rattle.wp_run.specs.Engine.{State, store_of, Steps}
 use Rattle.wp_session.specs.Plan.{plan, asked_of}
 use Rattle.wp_run.specs.Write.{Takes, FailsAt, Tells}
@@ -31,7 +32,7 @@ faultless : (r : Reply) → is_logged r ≡ true → is_fault r ≡ false
 faultless reply.FaultLog is = absurd cc
 faultless other is = refl
 
-settles : (h : List Entry) (client : Client) (c : Command) (r : Reply) → is_logged r ≡ true → client_after h client c r ≡ settled client r
+settles : (h : List Entry) (client : Client) (c : Command) (r : Reply) → is_logged r ≡ true → client_after h client c r ≡ after_decision client r
 settles h client c (reply.Put n) is = refl
 settles h client c (reply.Del n) is = refl
 settles h client c (reply.Prepared n) is = refl
@@ -39,7 +40,7 @@ settles h client c (reply.Committed n) is = refl
 settles h client c (reply.RolledBack n) is = refl
 settles h client c other is = absurd cc
 
-settled_snapshots : (client : Client) (r : Reply) → (settled client r).snapshots ≡ client.snapshots
+settled_snapshots : (client : Client) (r : Reply) → (after_decision client r).snapshots ≡ client.snapshots
 settled_snapshots client (reply.Prepared n) = refl
 settled_snapshots client (reply.Committed n) = refl
 settled_snapshots client reply.Dropped = refl
@@ -79,9 +80,9 @@ not_stopped : (r : Reply) → is_logged r ≡ true → is_stopped r ≡ false
 not_stopped (reply.Stopped n) is = absurd cc
 not_stopped other is = refl
 
-takes_steps : (old new : State) (was now : Client) (c : Command) (entries : List Entry) (told : Reply) → Asks old was c entries told → Takes old new entries → now ≡ settled was told → Steps old was c told new now
+takes_steps : (old new : State) (was now : Client) (c : Command) (entries : List Entry) (told : Reply) → Asks old was c entries told → Takes old new entries → now ≡ after_decision was told → Steps old was c told new now
 takes_steps old new was now c entries told asks takes is =
-    let added_is : added (store_of old) was c told ≡ entries = rw (asks.logs.logged, asks.asked) refl in
+    let added_is : logged_entries (store_of old) was c told ≡ entries = rw (asks.logs.logged, asks.asked) refl in
     let longer : new.entries ≡ old.entries ++ entries = ap (λ (s : State). s.entries) takes.changed in
     record {
       replied = inl (sym (asks.replies ∙ logged_takes (store_of old) (length entries) told takes.running takes.fits));
@@ -155,17 +156,17 @@ told_steps old new was now c entries told answer asks tells = elim tells [
       (still_steps old was was c (reply.Stopped (length old.entries)) (sym (asks.replies ∙ logged_stopped (store_of old) (length entries) told stopped.0.stopped)) refl refl refl refl (λ t. stopped.0.stopped) (fresh_if_numbered _ c (reply.Stopped (length old.entries)) tt))
 ]
 
-pub told_fits : (old new : State) (was now : Client) (entries : List Entry) (told answer : Reply) → Logs old.entries was entries told → Fits old.entries was → Tells old was entries told answer new now → Fits new.entries now
+pub told_fits : (old new : State) (was now : Client) (entries : List Entry) (told answer : Reply) → Logs old.entries was entries told → ClientFits old.entries was → Tells old was entries told answer new now → ClientFits new.entries now
 told_fits old new was now entries told answer logs fits tells = elim tells [
   | inl accepted ↦
       let longer : new.entries ≡ old.entries ++ entries = ap (λ (s : State). s.entries) accepted.0.changed in
-      subst (λ (x : Client). Fits new.entries x) (sym accepted.2) (record {
+      subst (λ (x : Client). ClientFits new.entries x) (sym accepted.2) (record {
         txn = rw longer logs.txn;
         snapshots = rw (settled_snapshots was told, longer, length-append old.entries entries) (within_more (length old.entries) (length old.entries + length entries) was.snapshots (omega arith) fits.snapshots);
       })
-  | inr (inl failed) ↦ subst (λ (x : Client). Fits new.entries x) (sym failed.2) (rw (ap (λ (s : State). s.entries) failed.0.changed) fits)
-  | inr (inr (inl full)) ↦ subst (λ (x : Client). Fits new.entries x) (sym full.2) (rw full.0.same fits)
-  | inr (inr (inr stopped)) ↦ subst (λ (x : Client). Fits new.entries x) (sym stopped.2) (rw stopped.0.same fits)
+  | inr (inl failed) ↦ subst (λ (x : Client). ClientFits new.entries x) (sym failed.2) (rw (ap (λ (s : State). s.entries) failed.0.changed) fits)
+  | inr (inr (inl full)) ↦ subst (λ (x : Client). ClientFits new.entries x) (sym full.2) (rw full.0.same fits)
+  | inr (inr (inr stopped)) ↦ subst (λ (x : Client). ClientFits new.entries x) (sym stopped.2) (rw stopped.0.same fits)
 ]
 
 pub said_steps : (s : State) (was now : Client) (c : Command) (answer : Reply) → plan s.entries was c ≡ Say answer → now ≡ client_after s.entries was c answer → Steps s was c answer s now

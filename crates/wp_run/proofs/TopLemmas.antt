@@ -24,6 +24,7 @@ use Rattle.wp_words.specs.declared.choice.Action.{Action}
 use Rattle.wp_words.specs.declared.choice.Action.TheVariants as action
 use Rattle.wp_run.specs.Run.{Tells, Breaks, Serves, Outside, IsChosen, IsUnread, IsReadAs, Ends}
 use Rattle.wp_run.specs.Told.{IsTold, IsToldAs, HasTold, HasBroken, Finishes}
+use Rattle.wp_session.specs.Laws.{DueIsSession}
 use Rattle.wp_run.proofs.Explained.{AllRun-later, explained}
 
 -- each client has one list of replies
@@ -51,11 +52,11 @@ pub record IsOpened (state : State) (asked : ℕ) (before : List Moment) : Type 
   pub found : IfKnown before (λ m. IsLogOf state.id state.entries m.reads)
   pub made : IfKnown before (λ m. IsUnmade m.reads → state.id ≡ asked)
 
-is_transcript : (old new : State) (script : List Part) (text : List ℕ) (asked : ℕ) (before : List Moment) → IsOpened old asked before → IsLegal new.entries → IsTold old new script text → IsTranscript old.limit (bit new.stopped) script old.entries new.entries text
-is_transcript old new script text asked before opened legal (sessions, run, is) = (sessions, explained old new script sessions run opened.running legal, is)
+is_transcript : DueIsSession → (old new : State) (script : List Part) (text : List ℕ) (asked : ℕ) (before : List Moment) → IsOpened old asked before → IsLegal new.entries → IsTold old new script text → IsTranscript old.limit (bit new.stopped) script old.entries new.entries text
+is_transcript law old new script text asked before opened legal (sessions, run, is) = (sessions, explained law old new script sessions run opened.running legal, is)
 
-tells : (old new : State) (script : List Part) (text : List ℕ) (asked : ℕ) (before after : List Moment) (stopped : Bool) → IsOpened old asked before → IsLegal new.entries → IsTold old new script text → IfKnown after (KeptBy (bit new.stopped) new.id new.entries) → new.stopped ≡ stopped → Tells old.limit asked (bit stopped) script before after text
-tells old new script text asked before after stopped opened legal told kept is =
+tells : DueIsSession → (old new : State) (script : List Part) (text : List ℕ) (asked : ℕ) (before after : List Moment) (stopped : Bool) → IsOpened old asked before → IsLegal new.entries → IsTold old new script text → IfKnown after (KeptBy (bit new.stopped) new.id new.entries) → new.stopped ≡ stopped → Tells old.limit asked (bit stopped) script before after text
+tells law old new script text asked before after stopped opened legal told kept is =
     let later = AllRun-later old new script told.0 told.1 in
     record {
       id = old.id;
@@ -63,7 +64,7 @@ tells old new script text asked before after stopped opened legal told kept is =
       opened = old.entries;
       found = opened.found;
       history = new.entries;
-      told = subst (λ (b : Bool). IsTranscript old.limit (bit b) script old.entries new.entries text) is (is_transcript old new script text asked before opened legal told);
+      told = subst (λ (b : Bool). IsTranscript old.limit (bit b) script old.entries new.entries text) is (is_transcript law old new script text asked before opened legal told);
       kept = subst (λ (n : ℕ). IfKnown after (KeptBy (bit stopped) n new.entries)) later.named (subst (λ (b : Bool). IfKnown after (KeptBy (bit b) new.id new.entries)) is kept);
     }
 
@@ -93,27 +94,27 @@ breaks old asked before after opened broken = record {
   kept = subst (λ (n : ℕ). IfKnown after (KeptBy 1 n broken.new.entries)) broken.later.named broken.kept;
 }
 
-pub serves : (old : State) (asked : ℕ) (script : List Part) (before after : List Moment) (first now : ℕ) (sink_rose : Type 0) (written written_now : Option (List ℕ)) (end : Status) → IsOpened old asked before → first ≤ old.faults → Finishes old script after now sink_rose written written_now end → Serves old.limit asked script before after (Rose first now) sink_rose written written_now end
-serves old asked script before after first now sink_rose written written_now status.Memory opened le h = inr (breaks old asked before after opened h)
-serves old asked script before after first now sink_rose written written_now status.Ok opened le h =
-    (h.text, tells old h.new script h.text asked before after false opened h.legal h.told h.kept h.ended.0, h.ended.1)
-serves old asked script before after first now sink_rose written written_now status.LogFault opened le h =
-    (rose old h.new script h.text now first h.told opened.running le h.faults h.ended.0, h.text, tells old h.new script h.text asked before after true opened h.legal h.told h.kept h.ended.0, h.ended.1)
-serves old asked script before after first now sink_rose written written_now status.SinkFault opened le h =
-    (h.ended.0, bit h.new.stopped, bit_few h.new.stopped, (λ up. rose old h.new script h.text now first h.told opened.running le h.faults (bit_is h.new.stopped up)), h.text, tells old h.new script h.text asked before after h.new.stopped opened h.legal h.told h.kept refl, h.ended.1)
-serves old asked script before after first now sink_rose written written_now status.Words opened le h = absurd h.ended
-serves old asked script before after first now sink_rose written written_now status.SourceFault opened le h = absurd h.ended
-serves old asked script before after first now sink_rose written written_now (status.Script fault) opened le h = absurd h.ended
-serves old asked script before after first now sink_rose written written_now (status.Contents damage) opened le h = absurd h.ended
-serves old asked script before after first now sink_rose written written_now (status.OpenFault d) opened le h = absurd h.ended
+pub serves : DueIsSession → (old : State) (asked : ℕ) (script : List Part) (before after : List Moment) (first now : ℕ) (sink_rose : Type 0) (written written_now : Option (List ℕ)) (end : Status) → IsOpened old asked before → first ≤ old.faults → Finishes old script after now sink_rose written written_now end → Serves old.limit asked script before after (Rose first now) sink_rose written written_now end
+serves law old asked script before after first now sink_rose written written_now status.Memory opened le h = inr (breaks old asked before after opened h)
+serves law old asked script before after first now sink_rose written written_now status.Ok opened le h =
+    (h.text, tells law old h.new script h.text asked before after false opened h.legal h.told h.kept h.ended.0, h.ended.1)
+serves law old asked script before after first now sink_rose written written_now status.LogFault opened le h =
+    (rose old h.new script h.text now first h.told opened.running le h.faults h.ended.0, h.text, tells law old h.new script h.text asked before after true opened h.legal h.told h.kept h.ended.0, h.ended.1)
+serves law old asked script before after first now sink_rose written written_now status.SinkFault opened le h =
+    (h.ended.0, bit h.new.stopped, bit_few h.new.stopped, (λ up. rose old h.new script h.text now first h.told opened.running le h.faults (bit_is h.new.stopped up)), h.text, tells law old h.new script h.text asked before after h.new.stopped opened h.legal h.told h.kept refl, h.ended.1)
+serves law old asked script before after first now sink_rose written written_now status.Words opened le h = absurd h.ended
+serves law old asked script before after first now sink_rose written written_now status.SourceFault opened le h = absurd h.ended
+serves law old asked script before after first now sink_rose written written_now (status.Script fault) opened le h = absurd h.ended
+serves law old asked script before after first now sink_rose written written_now (status.Contents damage) opened le h = absurd h.ended
+serves law old asked script before after first now sink_rose written written_now (status.OpenFault d) opened le h = absurd h.ended
 
-pub serves_opened : (state : State) (limit asked : ℕ) (wal : WalState) (entries : List Entry) (script : List Part) (before after : List Moment) (first now : ℕ) (sink_rose : Type 0) (written written_now : Option (List ℕ)) (end : Status)
+pub serves_opened : DueIsSession → (state : State) (limit asked : ℕ) (wal : WalState) (entries : List Entry) (script : List Part) (before after : List Moment) (first now : ℕ) (sink_rose : Type 0) (written written_now : Option (List ℕ)) (end : Status)
     → state ≡ record { entries = entries; stopped = false; limit = limit; id = wal.id; faults = wal.faults; moments = wal.moments }
     → IfKnown before (λ m. IsLogOf wal.id entries m.reads) → IfKnown before (λ m. IsUnmade m.reads → wal.id ≡ asked) → first ≤ wal.faults
     → Finishes state script after now sink_rose written written_now end → Serves limit asked script before after (Rose first now) sink_rose written written_now end
-serves_opened state limit asked wal entries script before after first now sink_rose written written_now end is found made le h =
+serves_opened law state limit asked wal entries script before after first now sink_rose written written_now end is found made le h =
     let opened : State = record { entries = entries; stopped = false; limit = limit; id = wal.id; faults = wal.faults; moments = wal.moments } in
-    serves opened asked script before after first now sink_rose written written_now end (record { running = refl; found = found; made = made }) le
+    serves law opened asked script before after first now sink_rose written written_now end (record { running = refl; found = found; made = made }) le
     (subst (λ (s : State). Finishes s script after now sink_rose written written_now end) is h)
 
 pub serves_refused : (why : OpenError) (end : Status) (limit asked : ℕ) (script : List Part) (before after : List Moment) (log_rose sink_rose : Type 0) (written written_now : Option (List ℕ))

@@ -8,9 +8,9 @@ use Rattle.wp_text.specs.declared.reply.Reply.{Reply}
 use Rattle.wp_outside.specs.Disk.{Moment}
 use Rattle.wp_outside.specs.Faults.{Rose}
 use Rattle.wp_session.specs.Client.{Client, new_client}
-use Rattle.wp_session.specs.Due.{Store, IsReply, acknowledged, added, is_fault, client_after}
+use Rattle.wp_session.specs.Kind.{acknowledged, is_fault, fresh_in, is_stopped}
+use Rattle.wp_session.specs.Due.{Store, IsReply, logged_entries, client_after}
 use Rattle.wp_wal.specs.Wal.{LosesNothing}
-use Rattle.wp_session.specs.Session.{fresh_in, is_stopped}
 
 pub record State : Type 0 where
   pub entries : List Entry  -- the history so far
@@ -41,7 +41,7 @@ pub record Later (old new : State) : Type 0 where
 -- a command's step from one state to the next, and its reply
 pub record Steps (old : State) (was : Client) (command : Command) (answer : Reply) (new : State) (now : Client) : Type 0 where
   pub replied : IsReply (store_of old) was command answer
-  pub entries : new.entries ≡ old.entries ++ added (store_of old) was command answer
+  pub entries : new.entries ≡ old.entries ++ logged_entries (store_of old) was command answer
   pub stopped : new.stopped ≡ (if is_fault answer then true else old.stopped)
   pub client : now ≡ client_after old.entries was command answer
   pub rose : is_fault answer ≡ true → Rose old.faults new.faults
@@ -50,7 +50,7 @@ pub record Steps (old : State) (was : Client) (command : Command) (answer : Repl
   pub named : new.id ≡ old.id
   pub lasting : LosesNothing old.moments new.moments
   -- the numbers in the reply
-  pub numbers : acknowledged answer ≡ range_with_len (length old.entries + 1) (length (added (store_of old) was command answer))
+  pub numbers : acknowledged answer ≡ range_with_len (length old.entries + 1) (length (logged_entries (store_of old) was command answer))
   pub fresh : IfSome (fresh_in command answer) (λ n. (length old.entries ≤ n) × (n ≤ length new.entries))
   -- the log fails once, and takes nothing afterwards
   pub running : is_fault answer ≡ true → old.stopped ≡ false

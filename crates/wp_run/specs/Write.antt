@@ -8,7 +8,7 @@ use Rattle.wp_text.specs.declared.reply.Reply.TheVariants as reply
 use Rattle.wp_run.specs.declared.engine.WriteError.{WriteError}
 use Rattle.wp_run.specs.declared.engine.WriteError.TheVariants.{Memory, NumbersFull, LogFault, Stopped}
 use Rattle.wp_session.specs.Client.{Client}
-use Rattle.wp_session.specs.Due.{settled}
+use Rattle.wp_session.specs.After.{after_decision}
 use Rattle.wp_run.specs.Engine.{State}
 use Rattle.wp_wal.specs.Wal.{LosesNothing}
 
@@ -64,7 +64,7 @@ IsRefusalOf (Stopped published) (Err e) = ⊥
 -- The entries were taken, and the client told so; or they were refused, and the client told why.
 abbrev pub Tells : State → Client → List Entry → Reply → Reply → State → Client → Type 0
 Tells old was entries told answer new now =
-    (Takes old new entries × (answer ≡ told) × (now ≡ settled was told))
+    (Takes old new entries × (answer ≡ told) × (now ≡ after_decision was told))
     ⊎ (FailsAt old new entries × (answer ≡ reply.FaultLog) × (now ≡ was))
     ⊎ (IsFull old new entries (length old.entries) old.limit × (answer ≡ reply.Full (length old.entries) old.limit) × (now ≡ was))
     ⊎ (HasStopped old new (length old.entries) × (answer ≡ reply.Stopped (length old.entries)) × (now ≡ was))

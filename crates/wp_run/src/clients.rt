@@ -1,7 +1,7 @@
 ghost use Rattle.std.specs.Prelude.{◌≡◌, true, map, IfOk, OnOk, OnErr};
 ghost use Rattle.wp_model.specs.Batch.{is_batch};
 ghost use Rattle.wp_model.specs.Legal.{changes_in};
-ghost use Rattle.wp_session.specs.Client.{Fits};
+ghost use Rattle.wp_session.specs.Client.{ClientFits};
 ghost use Rattle.wp_run.specs.Engine.{Later, Steps, IsRun, AllRun};
 ghost use Rattle.wp_session.specs.Next.{AreNext};
 ghost use Rattle.wp_run.specs.Write.{IsRefusalOf, Tells};
@@ -38,7 +38,7 @@ fn tell<D: Disk>(
 {
     match engine.log(entries) {
         Ok(()) => {
-            session.settle(&told);
+            session.decide(&told);
             Ok(told)
         }
         Err(error) => refusal_of(error),
@@ -64,9 +64,9 @@ fn answer<D: Disk>(
     session: &mut Session,
     command: &Command,
 ) -> Result<Reply, AllocError>
-    requires fits { Fits engine.old.entries session.old }
+    requires fits { ClientFits engine.old.entries session.old }
     ensures steps { IfOk result (λ reply. Steps engine.old session.old command.now reply engine.new session.new) }
-    ensures fits { OnOk result (Fits engine.new.entries session.new) }
+    ensures fits { OnOk result (ClientFits engine.new.entries session.new) }
     ensures err { OnErr result (engine.new ≡ engine.old) }
 {
     laws::last_entry_undoes();

@@ -6,8 +6,8 @@ ghost use Rattle.wp_run.specs.Status.{IsStatusOf};
 ghost use Rattle.wp_run.specs.Run.{IsSilent, Serves};
 ghost use Rattle.wp_run.specs.Told.{IsTold, IsToldAs, Finishes};
 
-use crate::engine::Engine;
 use crate::clients::run_all;
+use crate::engine::Engine;
 use crate::status::Status;
 use crate::transcript::transcript;
 use std::alloc::{AllocError, Global};
@@ -15,6 +15,7 @@ use wp_gatelog::DiskRefused;
 use wp_model::Seq;
 use wp_open::{OpenError, Opened, open};
 use wp_outside::{Disk, Failed, Sink, write_all};
+use wp_session::laws;
 use wp_text::Part;
 
 /// How a script was served, and the log's device.
@@ -103,6 +104,7 @@ pub(crate) fn serve<D: Disk, K: Sink>(
     ensures lasts { LosesNothing (D.moments disk) (D.moments result.disk) }
     ensures log_later { D.faults disk ≤ D.faults result.disk }
 {
+    laws::due_is_session();
     match open(alloc, disk, id) {
         Ok(Opened { wal, history }) => finish(alloc, Engine::new(wal, history, limit), parts, sink),
         Err(DiskRefused { disk, why }) => {

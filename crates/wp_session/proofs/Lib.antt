@@ -1,3 +1,6 @@
 pub mod Found
 pub mod PlanLemmas
 pub mod SaidLemmas
+pub mod Rows
+pub mod DueLemmas
+pub mod SessionLemmas

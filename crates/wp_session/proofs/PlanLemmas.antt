@@ -19,17 +19,17 @@ use Rattle.wp_session.specs.declared.session.Txn.{Txn}
 use Rattle.wp_session.specs.declared.session.Txn.TheVariants.{Idle, Open, Prepared}
 use Rattle.wp_session.specs.declared.plan.Plan.{Plan}
 use Rattle.wp_session.specs.declared.plan.Plan.TheVariants.{Say, Log, RollBack}
-use Rattle.wp_session.specs.Client.{Client, Fits, TxnFits}
-use Rattle.wp_session.specs.Due.{acknowledged, is_logged, settled}
+use Rattle.wp_session.specs.Client.{Client, ClientFits, TxnFits, has_no_room}
+use Rattle.wp_session.specs.After.{after_decision}
+use Rattle.wp_session.specs.Kind.{acknowledged, is_logged, number_in}
 use Rattle.wp_session.specs.Next.{AreNext}
-use Rattle.wp_session.specs.Session.{number_in}
-use Rattle.wp_session.specs.Plan.{plan, next, held_or, unless_held, has_no_room, change_plan, begin_plan, prepare_plan, commit_plan, rollback_plan, leave_plan, take_plan}
+use Rattle.wp_session.specs.Plan.{plan, next, held_or, unless_held, change_plan, begin_plan, prepare_plan, commit_plan, rollback_plan, leave_plan, take_plan}
 
--- what a history undoes last stands at its end
+-- what a history undoes last is at its end
 abbrev pub LastIs : Type 0
 LastIs = (front others : List Entry) (e : Entry) → undone_last (front ++ e ∷ others) ≡ undone_last (e ∷ others)
 
--- an Undo may be followed by its Close
+-- the Close of an Undo may follow it
 abbrev pub Follows : Type 0
 Follows = (h : List Entry) (p : ℕ) (batch : List Change) → IsLegalNext h (entry.Undo p batch) → IsLegalNext (h ++ entry.Undo p batch ∷ []) (entry.Close p)
 
@@ -40,7 +40,7 @@ prepared_within h zero (Some e) at is = absurd cc
 prepared_within h (suc p) (Some e) at is = let lt = slice_get_within h p e at in (omega arith, omega (arith, lt))
 prepared_within h p None at is = absurd cc
 
-undecided_within : (h : List Entry) (p : ℕ) → is_undecided h p ≡ true → (1 ≤ p) × (p ≤ length h)
+pub undecided_within : (h : List Entry) (p : ℕ) → is_undecided h p ≡ true → (1 ≤ p) × (p ≤ length h)
 undecided_within h p is = prepared_within h p (entry_at h p) refl (and_parts _ _ is).0
 
 write_next : LastIs → (h : List Entry) (batch : List Change) → undone_last h ≡ None → is_batch batch ≡ true → AreFree h batch → AreNext h (entry.Write batch ∷ [])
@@ -79,110 +79,110 @@ rollback_next last follows h p closed is whole =
 
 -- ---- plans that ask the log
 
--- The entries may be logged next, the reply acknowledges just them, and the transaction goes with the history behind them.
-pub record Logs (h : List Entry) (client : Client) (entries : List Entry) (told : Reply) : Type 0 where
+-- The entries may be logged next, the reply acknowledges just them, and the transaction goes with the history that has them.
+pub record Logs (h : List Entry) (client : Client) (entries : List Entry) (answer : Reply) : Type 0 where
   pub next : AreNext h entries
-  pub logged : is_logged told ≡ true
-  pub numbers : acknowledged told ≡ range_with_len (length h + 1) (length entries)
-  pub fresh : IfSome (number_in told) (λ n. (length h ≤ n) × (n ≤ length h + length entries))
-  pub txn : TxnFits (h ++ entries) (settled client told).txn
+  pub logged : is_logged answer ≡ true
+  pub numbers : acknowledged answer ≡ range_with_len (length h + 1) (length entries)
+  pub fresh : IfSome (number_in answer) (λ n. (length h ≤ n) × (n ≤ length h + length entries))
+  pub txn : TxnFits (h ++ entries) (after_decision client answer).txn
 
-logs_by : (h : List Entry) (client : Client) (first e : Entry) (made told : Reply) → Log first made ≡ Log e told → (is_batch (changes_in first) ≡ true → AreNext h (first ∷ [])) → is_logged made ≡ true → acknowledged made ≡ next h ∷ [] → number_in made ≡ Some (next h) → TxnFits (h ++ first ∷ []) (settled client made).txn → is_batch (changes_in e) ≡ true → Logs h client (e ∷ []) told
-logs_by h client first e made told is may logged numbers number txn whole =
+logs_by : (h : List Entry) (client : Client) (first e : Entry) (made answer : Reply) → Log first made ≡ Log e answer → (is_batch (changes_in first) ≡ true → AreNext h (first ∷ [])) → is_logged made ≡ true → acknowledged made ≡ next h ∷ [] → number_in made ≡ Some (next h) → TxnFits (h ++ first ∷ []) (after_decision client made).txn → is_batch (changes_in e) ≡ true → Logs h client (e ∷ []) answer
+logs_by h client first e made answer is may logged numbers number txn whole =
     let same_entry : first ≡ e = cc in
-    let same_reply : made ≡ told = cc in
+    let same_reply : made ≡ answer = cc in
     record {
       next = subst (λ (x : Entry). AreNext h (x ∷ [])) same_entry (may (rw same_entry whole));
       logged = rw (← same_reply) logged;
       numbers = rw (← same_reply) numbers;
       fresh = rw (← same_reply, number) (omega arith, omega arith);
-      txn = subst (λ (x : Entry). TxnFits (h ++ x ∷ []) (settled client told).txn) same_entry (subst (λ (r : Reply). TxnFits (h ++ first ∷ []) (settled client r).txn) same_reply txn);
+      txn = subst (λ (x : Entry). TxnFits (h ++ x ∷ []) (after_decision client answer).txn) same_entry (subst (λ (r : Reply). TxnFits (h ++ first ∷ []) (after_decision client r).txn) same_reply txn);
     }
 
-held_or_logs : (h : List Entry) (holder : Option ℕ) (made : Plan) (e : Entry) (told : Reply) → held_or h holder made ≡ Log e told → (holder ≡ None) × (made ≡ Log e told)
-held_or_logs h None made e told is = (refl, is)
-held_or_logs h (Some p) made e told is = absurd cc
+held_or_logs : (h : List Entry) (holder : Option ℕ) (made : Plan) (e : Entry) (answer : Reply) → held_or h holder made ≡ Log e answer → (holder ≡ None) × (made ≡ Log e answer)
+held_or_logs h None made e answer is = (refl, is)
+held_or_logs h (Some p) made e answer is = absurd cc
 
 -- a change that is logged is written at once, and its key is free
-change_logs : (h : List Entry) (txn : Txn) (c : Change) (made : Reply) (e : Entry) (told : Reply) → change_plan h txn c made ≡ Log e told → (txn ≡ Idle) × (holder_of h (key_of c) ≡ None) × (Log (entry.Write (c ∷ [])) made ≡ Log e told)
-change_logs h Idle c made e told is = let l = held_or_logs h (holder_of h (key_of c)) (Log (entry.Write (c ∷ [])) made) e told is in (refl, l.0, l.1)
-change_logs h (Open name batch) c made e told is =
+change_logs : (h : List Entry) (txn : Txn) (c : Change) (made : Reply) (e : Entry) (answer : Reply) → change_plan h txn c made ≡ Log e answer → (txn ≡ Idle) × (holder_of h (key_of c) ≡ None) × (Log (entry.Write (c ∷ [])) made ≡ Log e answer)
+change_logs h Idle c made e answer is = let l = held_or_logs h (holder_of h (key_of c)) (Log (entry.Write (c ∷ [])) made) e answer is in (refl, l.0, l.1)
+change_logs h (Open name batch) c made e answer is =
     elim (cases_Bool (has_no_room batch (key_of c))) [
-      | inl full ↦ let said : Say reply.TooMany ≡ Log e told = rw full at is in absurd cc
+      | inl full ↦ let said : Say reply.TooMany ≡ Log e answer = rw full at is in absurd cc
       | inr room ↦
-          let asked : unless_held h (key_of c) (Say reply.Held) ≡ Log e told = rw room at is in
-          let said = held_or_logs h (holder_of h (key_of c)) (Say reply.Held) e told asked in
+          let asked : unless_held h (key_of c) (Say reply.Held) ≡ Log e answer = rw room at is in
+          let said = held_or_logs h (holder_of h (key_of c)) (Say reply.Held) e answer asked in
           absurd cc
     ]
-change_logs h (Prepared p) c made e told is = absurd cc
+change_logs h (Prepared p) c made e answer is = absurd cc
 
-change_is_logged : LastIs → (h : List Entry) (client : Client) (c : Change) (made : Reply) (e : Entry) (told : Reply) → undone_last h ≡ None → is_logged made ≡ true → acknowledged made ≡ next h ∷ [] → number_in made ≡ Some (next h) → settled client made ≡ client → is_batch (changes_in e) ≡ true → change_plan h client.txn c made ≡ Log e told → Logs h client (e ∷ []) told
-change_is_logged last h client c made e told closed logged numbers number still whole is =
-    let l = change_logs h client.txn c made e told is in
-    logs_by h client (entry.Write (c ∷ [])) e made told l.2 (λ b. write_next last h (c ∷ []) closed b (l.1, tt)) logged numbers number
+change_is_logged : LastIs → (h : List Entry) (client : Client) (c : Change) (made : Reply) (e : Entry) (answer : Reply) → undone_last h ≡ None → is_logged made ≡ true → acknowledged made ≡ next h ∷ [] → number_in made ≡ Some (next h) → after_decision client made ≡ client → is_batch (changes_in e) ≡ true → change_plan h client.txn c made ≡ Log e answer → Logs h client (e ∷ []) answer
+change_is_logged last h client c made e answer closed logged numbers number still whole is =
+    let l = change_logs h client.txn c made e answer is in
+    logs_by h client (entry.Write (c ∷ [])) e made answer l.2 (λ b. write_next last h (c ∷ []) closed b (l.1, tt)) logged numbers number
     (subst (λ (x : Client). TxnFits (h ++ entry.Write (c ∷ []) ∷ []) x.txn) (sym still) (subst (λ (t : Txn). TxnFits (h ++ entry.Write (c ∷ []) ∷ []) t) (sym l.0) tt)) whole
 
 -- a Prepare is undecided
 abbrev pub IsPending : Type 0
 IsPending = (h : List Entry) (name : List ℕ) (batch : List Change) → IsLegal h → is_undecided (h ++ entry.Prepare name batch ∷ []) (length h + 1) ≡ true
 
-prepare_is_logged : LastIs → IsPending → (h : List Entry) (client : Client) (txn : Txn) (e : Entry) (told : Reply) → IsLegal h → undone_last h ≡ None → TxnFits h txn → is_batch (changes_in e) ≡ true → prepare_plan h txn ≡ Log e told → Logs h client (e ∷ []) told
-prepare_is_logged last pending h client Idle e told legal closed fits whole is = absurd cc
-prepare_is_logged last pending h client (Open name batch) e told legal closed fits whole is =
-    logs_by h client (entry.Prepare name batch) e (reply.Prepared (next h)) told is (λ b. prepare_next last h name batch closed b fits.0 fits.1) refl refl refl (pending h name batch legal) whole
-prepare_is_logged last pending h client (Prepared p) e told legal closed fits whole is = absurd cc
+prepare_is_logged : LastIs → IsPending → (h : List Entry) (client : Client) (txn : Txn) (e : Entry) (answer : Reply) → IsLegal h → undone_last h ≡ None → TxnFits h txn → is_batch (changes_in e) ≡ true → prepare_plan h txn ≡ Log e answer → Logs h client (e ∷ []) answer
+prepare_is_logged last pending h client Idle e answer legal closed fits whole is = absurd cc
+prepare_is_logged last pending h client (Open name batch) e answer legal closed fits whole is =
+    logs_by h client (entry.Prepare name batch) e (reply.Prepared (next h)) answer is (λ b. prepare_next last h name batch closed b fits.0 fits.1) refl refl refl (pending h name batch legal) whole
+prepare_is_logged last pending h client (Prepared p) e answer legal closed fits whole is = absurd cc
 
-commit_is_logged : LastIs → (h : List Entry) (client : Client) (txn : Txn) (e : Entry) (told : Reply) → undone_last h ≡ None → TxnFits h txn → is_batch (changes_in e) ≡ true → commit_plan h txn ≡ Log e told → Logs h client (e ∷ []) told
-commit_is_logged last h client Idle e told closed fits whole is = absurd cc
-commit_is_logged last h client (Open name batch) e told closed fits whole is =
-    logs_by h client (entry.Write batch) e (reply.Committed (next h)) told is (λ b. write_next last h batch closed b fits.0) refl refl refl tt whole
-commit_is_logged last h client (Prepared p) e told closed fits whole is =
-    logs_by h client (entry.Commit p) e (reply.Committed (next h)) told is (λ b. commit_next last h p closed fits) refl refl refl tt whole
+commit_is_logged : LastIs → (h : List Entry) (client : Client) (txn : Txn) (e : Entry) (answer : Reply) → undone_last h ≡ None → TxnFits h txn → is_batch (changes_in e) ≡ true → commit_plan h txn ≡ Log e answer → Logs h client (e ∷ []) answer
+commit_is_logged last h client Idle e answer closed fits whole is = absurd cc
+commit_is_logged last h client (Open name batch) e answer closed fits whole is =
+    logs_by h client (entry.Write batch) e (reply.Committed (next h)) answer is (λ b. write_next last h batch closed b fits.0) refl refl refl tt whole
+commit_is_logged last h client (Prepared p) e answer closed fits whole is =
+    logs_by h client (entry.Commit p) e (reply.Committed (next h)) answer is (λ b. commit_next last h p closed fits) refl refl refl tt whole
 
-rollback_asks : (h : List Entry) (txn : Txn) (e : Entry) (told : Reply) → rollback_plan h txn ≡ Log e told → ⊥
-rollback_asks h Idle e told is = absurd cc
-rollback_asks h (Open name batch) e told is = absurd cc
-rollback_asks h (Prepared p) e told is = absurd cc
+rollback_asks : (h : List Entry) (txn : Txn) (e : Entry) (answer : Reply) → rollback_plan h txn ≡ Log e answer → ⊥
+rollback_asks h Idle e answer is = absurd cc
+rollback_asks h (Open name batch) e answer is = absurd cc
+rollback_asks h (Prepared p) e answer is = absurd cc
 
-leave_asks : (txn : Txn) (e : Entry) (told : Reply) → leave_plan txn ≡ Log e told → ⊥
-leave_asks Idle e told is = absurd cc
-leave_asks (Open name batch) e told is = absurd cc
-leave_asks (Prepared p) e told is = absurd cc
+leave_asks : (txn : Txn) (e : Entry) (answer : Reply) → leave_plan txn ≡ Log e answer → ⊥
+leave_asks Idle e answer is = absurd cc
+leave_asks (Open name batch) e answer is = absurd cc
+leave_asks (Prepared p) e answer is = absurd cc
 
-begin_asks : (h : List Entry) (txn : Txn) (name : List ℕ) (e : Entry) (told : Reply) → begin_plan h txn name ≡ Log e told → ⊥
-begin_asks h Idle name e told is = absurd cc
-begin_asks h (Open other batch) name e told is = absurd cc
-begin_asks h (Prepared p) name e told is = absurd cc
+begin_asks : (h : List Entry) (txn : Txn) (name : List ℕ) (e : Entry) (answer : Reply) → begin_plan h txn name ≡ Log e answer → ⊥
+begin_asks h Idle name e answer is = absurd cc
+begin_asks h (Open other batch) name e answer is = absurd cc
+begin_asks h (Prepared p) name e answer is = absurd cc
 
-take_asks : (h : List Entry) (txn : Txn) (name : List ℕ) (e : Entry) (told : Reply) → take_plan h txn name ≡ Log e told → ⊥
-take_asks h Idle name e told is = absurd cc
-take_asks h (Open other batch) name e told is = absurd cc
-take_asks h (Prepared p) name e told is = absurd cc
+take_asks : (h : List Entry) (txn : Txn) (name : List ℕ) (e : Entry) (answer : Reply) → take_plan h txn name ≡ Log e answer → ⊥
+take_asks h Idle name e answer is = absurd cc
+take_asks h (Open other batch) name e answer is = absurd cc
+take_asks h (Prepared p) name e answer is = absurd cc
 
 -- a plan with one entry
-pub plan_logs : LastIs → IsPending → (h : List Entry) (client : Client) (c : Command) (e : Entry) (told : Reply) → IsLegal h → undone_last h ≡ None → Fits h client → is_batch (changes_in e) ≡ true → plan h client c ≡ Log e told → Logs h client (e ∷ []) told
-plan_logs last pending h client (command.Put key value) e told legal closed fits whole is = change_is_logged last h client (change.Put key value) (reply.Put (next h)) e told closed refl refl refl refl whole is
-plan_logs last pending h client (command.Del key) e told legal closed fits whole is = change_is_logged last h client (change.Del key) (reply.Del (next h)) e told closed refl refl refl refl whole is
-plan_logs last pending h client (command.Get key) e told legal closed fits whole is = absurd cc
-plan_logs last pending h client (command.GetAt key label) e told legal closed fits whole is = absurd cc
-plan_logs last pending h client (command.Snap label) e told legal closed fits whole is = absurd cc
-plan_logs last pending h client (command.Free label) e told legal closed fits whole is = absurd cc
-plan_logs last pending h client (command.Begin name) e told legal closed fits whole is = absurd (begin_asks h client.txn name e told is)
-plan_logs last pending h client command.Prepare e told legal closed fits whole is = prepare_is_logged last pending h client client.txn e told legal closed fits.txn whole is
-plan_logs last pending h client command.Commit e told legal closed fits whole is = commit_is_logged last h client client.txn e told closed fits.txn whole is
-plan_logs last pending h client command.Rollback e told legal closed fits whole is = absurd (rollback_asks h client.txn e told is)
-plan_logs last pending h client command.Leave e told legal closed fits whole is = absurd (leave_asks client.txn e told is)
-plan_logs last pending h client (command.Take name) e told legal closed fits whole is = absurd (take_asks h client.txn name e told is)
+pub plan_logs : LastIs → IsPending → (h : List Entry) (client : Client) (c : Command) (e : Entry) (answer : Reply) → IsLegal h → undone_last h ≡ None → ClientFits h client → is_batch (changes_in e) ≡ true → plan h client c ≡ Log e answer → Logs h client (e ∷ []) answer
+plan_logs last pending h client (command.Put key value) e answer legal closed fits whole is = change_is_logged last h client (change.Put key value) (reply.Put (next h)) e answer closed refl refl refl refl whole is
+plan_logs last pending h client (command.Del key) e answer legal closed fits whole is = change_is_logged last h client (change.Del key) (reply.Del (next h)) e answer closed refl refl refl refl whole is
+plan_logs last pending h client (command.Get key) e answer legal closed fits whole is = absurd cc
+plan_logs last pending h client (command.GetAt key label) e answer legal closed fits whole is = absurd cc
+plan_logs last pending h client (command.Snap label) e answer legal closed fits whole is = absurd cc
+plan_logs last pending h client (command.Free label) e answer legal closed fits whole is = absurd cc
+plan_logs last pending h client (command.Begin name) e answer legal closed fits whole is = absurd (begin_asks h client.txn name e answer is)
+plan_logs last pending h client command.Prepare e answer legal closed fits whole is = prepare_is_logged last pending h client client.txn e answer legal closed fits.txn whole is
+plan_logs last pending h client command.Commit e answer legal closed fits whole is = commit_is_logged last h client client.txn e answer closed fits.txn whole is
+plan_logs last pending h client command.Rollback e answer legal closed fits whole is = absurd (rollback_asks h client.txn e answer is)
+plan_logs last pending h client command.Leave e answer legal closed fits whole is = absurd (leave_asks client.txn e answer is)
+plan_logs last pending h client (command.Take name) e answer legal closed fits whole is = absurd (take_asks h client.txn name e answer is)
 
 -- ---- plans that roll back
 
-rolled_back : LastIs → Follows → (h : List Entry) (client : Client) (txn : Txn) (q : ℕ) (batch : List Change) (told : Reply) → undone_last h ≡ None → TxnFits h txn → is_batch batch ≡ true → rollback_plan h txn ≡ RollBack q batch told → Logs h client (entry.Undo q batch ∷ entry.Close q ∷ []) told
-rolled_back last follows h client Idle q batch told closed fits whole is = absurd cc
-rolled_back last follows h client (Open name own) q batch told closed fits whole is = absurd cc
-rolled_back last follows h client (Prepared p) q batch told closed fits whole is =
+rolled_back : LastIs → Follows → (h : List Entry) (client : Client) (txn : Txn) (q : ℕ) (batch : List Change) (answer : Reply) → undone_last h ≡ None → TxnFits h txn → is_batch batch ≡ true → rollback_plan h txn ≡ RollBack q batch answer → Logs h client (entry.Undo q batch ∷ entry.Close q ∷ []) answer
+rolled_back last follows h client Idle q batch answer closed fits whole is = absurd cc
+rolled_back last follows h client (Open name own) q batch answer closed fits whole is = absurd cc
+rolled_back last follows h client (Prepared p) q batch answer closed fits whole is =
     let same_number : p ≡ q = cc in
     let same_batch : prior h (batch_at h p) ≡ batch = cc in
-    let same_reply : reply.RolledBack (next h + 1) ≡ told = cc in
+    let same_reply : reply.RolledBack (next h + 1) ≡ answer = cc in
     let before : next h + 1 - 1 ≡ length h + 1 = omega arith in
     subst (λ (r : Reply). Logs h client (entry.Undo q batch ∷ entry.Close q ∷ []) r) same_reply
     (subst (λ (b : List Change). Logs h client (entry.Undo q b ∷ entry.Close q ∷ []) (reply.RolledBack (next h + 1))) same_batch
@@ -194,58 +194,58 @@ rolled_back last follows h client (Prepared p) q batch told closed fits whole is
       txn = tt;
     })))
 
-held_or_rolls : (h : List Entry) (holder : Option ℕ) (made : Plan) (q : ℕ) (batch : List Change) (told : Reply) → held_or h holder made ≡ RollBack q batch told → made ≡ RollBack q batch told
-held_or_rolls h None made q batch told is = is
-held_or_rolls h (Some p) made q batch told is = absurd cc
+held_or_rolls : (h : List Entry) (holder : Option ℕ) (made : Plan) (q : ℕ) (batch : List Change) (answer : Reply) → held_or h holder made ≡ RollBack q batch answer → made ≡ RollBack q batch answer
+held_or_rolls h None made q batch answer is = is
+held_or_rolls h (Some p) made q batch answer is = absurd cc
 
-change_rolls : (h : List Entry) (txn : Txn) (c : Change) (made : Reply) (q : ℕ) (batch : List Change) (told : Reply) → change_plan h txn c made ≡ RollBack q batch told → ⊥
-change_rolls h Idle c made q batch told is = let said = held_or_rolls h (holder_of h (key_of c)) (Log (entry.Write (c ∷ [])) made) q batch told is in absurd cc
-change_rolls h (Open name own) c made q batch told is =
+change_rolls : (h : List Entry) (txn : Txn) (c : Change) (made : Reply) (q : ℕ) (batch : List Change) (answer : Reply) → change_plan h txn c made ≡ RollBack q batch answer → ⊥
+change_rolls h Idle c made q batch answer is = let said = held_or_rolls h (holder_of h (key_of c)) (Log (entry.Write (c ∷ [])) made) q batch answer is in absurd cc
+change_rolls h (Open name own) c made q batch answer is =
     elim (cases_Bool (has_no_room own (key_of c))) [
-      | inl full ↦ let said : Say reply.TooMany ≡ RollBack q batch told = rw full at is in absurd cc
+      | inl full ↦ let said : Say reply.TooMany ≡ RollBack q batch answer = rw full at is in absurd cc
       | inr room ↦
-          let asked : unless_held h (key_of c) (Say reply.Held) ≡ RollBack q batch told = rw room at is in
-          let said = held_or_rolls h (holder_of h (key_of c)) (Say reply.Held) q batch told asked in
+          let asked : unless_held h (key_of c) (Say reply.Held) ≡ RollBack q batch answer = rw room at is in
+          let said = held_or_rolls h (holder_of h (key_of c)) (Say reply.Held) q batch answer asked in
           absurd cc
     ]
-change_rolls h (Prepared p) c made q batch told is = absurd cc
+change_rolls h (Prepared p) c made q batch answer is = absurd cc
 
-begin_rolls : (h : List Entry) (txn : Txn) (name : List ℕ) (q : ℕ) (batch : List Change) (told : Reply) → begin_plan h txn name ≡ RollBack q batch told → ⊥
-begin_rolls h Idle name q batch told is = absurd cc
-begin_rolls h (Open other own) name q batch told is = absurd cc
-begin_rolls h (Prepared p) name q batch told is = absurd cc
+begin_rolls : (h : List Entry) (txn : Txn) (name : List ℕ) (q : ℕ) (batch : List Change) (answer : Reply) → begin_plan h txn name ≡ RollBack q batch answer → ⊥
+begin_rolls h Idle name q batch answer is = absurd cc
+begin_rolls h (Open other own) name q batch answer is = absurd cc
+begin_rolls h (Prepared p) name q batch answer is = absurd cc
 
-prepare_rolls : (h : List Entry) (txn : Txn) (q : ℕ) (batch : List Change) (told : Reply) → prepare_plan h txn ≡ RollBack q batch told → ⊥
-prepare_rolls h Idle q batch told is = absurd cc
-prepare_rolls h (Open name own) q batch told is = absurd cc
-prepare_rolls h (Prepared p) q batch told is = absurd cc
+prepare_rolls : (h : List Entry) (txn : Txn) (q : ℕ) (batch : List Change) (answer : Reply) → prepare_plan h txn ≡ RollBack q batch answer → ⊥
+prepare_rolls h Idle q batch answer is = absurd cc
+prepare_rolls h (Open name own) q batch answer is = absurd cc
+prepare_rolls h (Prepared p) q batch answer is = absurd cc
 
-commit_rolls : (h : List Entry) (txn : Txn) (q : ℕ) (batch : List Change) (told : Reply) → commit_plan h txn ≡ RollBack q batch told → ⊥
-commit_rolls h Idle q batch told is = absurd cc
-commit_rolls h (Open name own) q batch told is = absurd cc
-commit_rolls h (Prepared p) q batch told is = absurd cc
+commit_rolls : (h : List Entry) (txn : Txn) (q : ℕ) (batch : List Change) (answer : Reply) → commit_plan h txn ≡ RollBack q batch answer → ⊥
+commit_rolls h Idle q batch answer is = absurd cc
+commit_rolls h (Open name own) q batch answer is = absurd cc
+commit_rolls h (Prepared p) q batch answer is = absurd cc
 
-leave_rolls : (txn : Txn) (q : ℕ) (batch : List Change) (told : Reply) → leave_plan txn ≡ RollBack q batch told → ⊥
-leave_rolls Idle q batch told is = absurd cc
-leave_rolls (Open name own) q batch told is = absurd cc
-leave_rolls (Prepared p) q batch told is = absurd cc
+leave_rolls : (txn : Txn) (q : ℕ) (batch : List Change) (answer : Reply) → leave_plan txn ≡ RollBack q batch answer → ⊥
+leave_rolls Idle q batch answer is = absurd cc
+leave_rolls (Open name own) q batch answer is = absurd cc
+leave_rolls (Prepared p) q batch answer is = absurd cc
 
-take_rolls : (h : List Entry) (txn : Txn) (name : List ℕ) (q : ℕ) (batch : List Change) (told : Reply) → take_plan h txn name ≡ RollBack q batch told → ⊥
-take_rolls h Idle name q batch told is = absurd cc
-take_rolls h (Open other own) name q batch told is = absurd cc
-take_rolls h (Prepared p) name q batch told is = absurd cc
+take_rolls : (h : List Entry) (txn : Txn) (name : List ℕ) (q : ℕ) (batch : List Change) (answer : Reply) → take_plan h txn name ≡ RollBack q batch answer → ⊥
+take_rolls h Idle name q batch answer is = absurd cc
+take_rolls h (Open other own) name q batch answer is = absurd cc
+take_rolls h (Prepared p) name q batch answer is = absurd cc
 
 -- a plan with an Undo and its Close
-pub plan_rolls_back : LastIs → Follows → (h : List Entry) (client : Client) (c : Command) (p : ℕ) (batch : List Change) (told : Reply) → undone_last h ≡ None → Fits h client → is_batch batch ≡ true → plan h client c ≡ RollBack p batch told → Logs h client (entry.Undo p batch ∷ entry.Close p ∷ []) told
-plan_rolls_back last follows h client command.Rollback p batch told closed fits whole is = rolled_back last follows h client client.txn p batch told closed fits.txn whole is
-plan_rolls_back last follows h client (command.Put key value) p batch told closed fits whole is = absurd (change_rolls h client.txn (change.Put key value) _ p batch told is)
-plan_rolls_back last follows h client (command.Del key) p batch told closed fits whole is = absurd (change_rolls h client.txn (change.Del key) _ p batch told is)
-plan_rolls_back last follows h client (command.Get key) p batch told closed fits whole is = absurd cc
-plan_rolls_back last follows h client (command.GetAt key label) p batch told closed fits whole is = absurd cc
-plan_rolls_back last follows h client (command.Snap label) p batch told closed fits whole is = absurd cc
-plan_rolls_back last follows h client (command.Free label) p batch told closed fits whole is = absurd cc
-plan_rolls_back last follows h client (command.Begin name) p batch told closed fits whole is = absurd (begin_rolls h client.txn name p batch told is)
-plan_rolls_back last follows h client command.Prepare p batch told closed fits whole is = absurd (prepare_rolls h client.txn p batch told is)
-plan_rolls_back last follows h client command.Commit p batch told closed fits whole is = absurd (commit_rolls h client.txn p batch told is)
-plan_rolls_back last follows h client command.Leave p batch told closed fits whole is = absurd (leave_rolls client.txn p batch told is)
-plan_rolls_back last follows h client (command.Take name) p batch told closed fits whole is = absurd (take_rolls h client.txn name p batch told is)
+pub plan_rolls_back : LastIs → Follows → (h : List Entry) (client : Client) (c : Command) (p : ℕ) (batch : List Change) (answer : Reply) → undone_last h ≡ None → ClientFits h client → is_batch batch ≡ true → plan h client c ≡ RollBack p batch answer → Logs h client (entry.Undo p batch ∷ entry.Close p ∷ []) answer
+plan_rolls_back last follows h client command.Rollback p batch answer closed fits whole is = rolled_back last follows h client client.txn p batch answer closed fits.txn whole is
+plan_rolls_back last follows h client (command.Put key value) p batch answer closed fits whole is = absurd (change_rolls h client.txn (change.Put key value) _ p batch answer is)
+plan_rolls_back last follows h client (command.Del key) p batch answer closed fits whole is = absurd (change_rolls h client.txn (change.Del key) _ p batch answer is)
+plan_rolls_back last follows h client (command.Get key) p batch answer closed fits whole is = absurd cc
+plan_rolls_back last follows h client (command.GetAt key label) p batch answer closed fits whole is = absurd cc
+plan_rolls_back last follows h client (command.Snap label) p batch answer closed fits whole is = absurd cc
+plan_rolls_back last follows h client (command.Free label) p batch answer closed fits whole is = absurd cc
+plan_rolls_back last follows h client (command.Begin name) p batch answer closed fits whole is = absurd (begin_rolls h client.txn name p batch answer is)
+plan_rolls_back last follows h client command.Prepare p batch answer closed fits whole is = absurd (prepare_rolls h client.txn p batch answer is)
+plan_rolls_back last follows h client command.Commit p batch answer closed fits whole is = absurd (commit_rolls h client.txn p batch answer is)
+plan_rolls_back last follows h client command.Leave p batch answer closed fits whole is = absurd (leave_rolls client.txn p batch answer is)
+plan_rolls_back last follows h client (command.Take name) p batch answer closed fits whole is = absurd (take_rolls h client.txn name p batch answer is)

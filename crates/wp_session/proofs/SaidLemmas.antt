@@ -17,16 +17,18 @@ use Rattle.wp_text.specs.declared.script.Command.{Command}
 use Rattle.wp_text.specs.declared.script.Command.TheVariants as command
 use Rattle.wp_text.specs.declared.reply.Reply.{Reply}
 use Rattle.wp_text.specs.declared.reply.Reply.TheVariants as reply
+use Rattle.wp_session.specs.declared.session.TheConstants.{MOST_SNAPSHOTS}
 use Rattle.wp_session.specs.declared.session.Snapshot.{Snapshot}
 use Rattle.wp_session.specs.declared.session.Txn.{Txn}
 use Rattle.wp_session.specs.declared.session.Txn.TheVariants.{Idle, Open, Prepared}
 use Rattle.wp_session.specs.declared.plan.Plan.{Plan}
 use Rattle.wp_session.specs.declared.plan.Plan.TheVariants.{Say, Log}
 use Rattle.wp_session.proofs.Found.{named_is_undecided}
-use Rattle.wp_session.specs.Client.{Client, Fits, TxnFits, AreWithin, number_of, own_batch}
-use Rattle.wp_session.specs.Due.{acknowledged, is_logged, is_fault, with_held, prepared_as, client_after}
-use Rattle.wp_session.specs.Session.{is_stopped, number_in, fresh_in}
-use Rattle.wp_session.specs.Plan.{plan, held_or, has_no_room, change_plan, begin_reply, begin_plan, prepare_plan, commit_plan, rollback_plan, leave_plan, take_reply, take_plan, read_reply, get_reply, get_at_reply, snap_reply, free_reply}
+use Rattle.wp_session.specs.Client.{Client, ClientFits, AreWithin, number_of, own_batch, has_no_room}
+use Rattle.wp_session.specs.After.{with_held}
+use Rattle.wp_session.specs.Due.{client_after}
+use Rattle.wp_session.specs.Kind.{acknowledged, is_logged, is_fault, is_stopped, number_in, fresh_in}
+use Rattle.wp_session.specs.Plan.{plan, held_or, change_plan, begin_reply, begin_plan, prepare_plan, commit_plan, rollback_plan, leave_plan, take_reply, take_plan, read_reply, get_reply, get_at_reply, snap_reply, free_reply}
 
 -- ---- the reply
 
@@ -43,27 +45,27 @@ pub record IsPlain (h : List Entry) (c : Command) (answer : Reply) : Type 0 wher
 abbrev pub IsBare : Reply → Type 0
 IsBare answer = (acknowledged answer ≡ []) × (is_logged answer ≡ false) × (is_fault answer ≡ false) × (is_stopped answer ≡ false) × (number_in answer ≡ None)
 
-said_is : (answer told : Reply) → Say answer ≡ Say told → answer ≡ told
-said_is answer told is = cc
+said_is : (answer given : Reply) → Say answer ≡ Say given → answer ≡ given
+said_is answer given is = cc
 
 -- a bare reply, as the plan says it
-bare : (answer told : Reply) → IsBare answer → Say answer ≡ Say told → IsBare told
-bare answer told b is = subst IsBare (said_is answer told is) b
+bare : (answer given : Reply) → IsBare answer → Say answer ≡ Say given → IsBare given
+bare answer given b is = subst IsBare (said_is answer given is) b
 
 plain_if_bare : (h : List Entry) (c : Command) (answer : Reply) → (IsBare answer → fresh_in c answer ≡ None) → IsBare answer → IsPlain h c answer
 plain_if_bare h c answer fresh b = record { none = b.0; unlogged = b.1; faultless = b.2; running = b.3; current = rw (fresh b) tt }
 
-held_or_answers : (P : Reply → Type 0) (h : List Entry) (holder : Option ℕ) (made : Plan) (answer : Reply) → ((name : List ℕ) → P (reply.Busy name)) → ((told : Reply) → holder ≡ None → made ≡ Say told → P told) → held_or h holder made ≡ Say answer → P answer
+held_or_answers : (P : Reply → Type 0) (h : List Entry) (holder : Option ℕ) (made : Plan) (answer : Reply) → ((name : List ℕ) → P (reply.Busy name)) → ((given : Reply) → holder ≡ None → made ≡ Say given → P given) → held_or h holder made ≡ Say answer → P answer
 held_or_answers P h None made answer busy others is = others answer refl is
 held_or_answers P h (Some p) made answer busy others is = subst P (said_is (reply.Busy (name_at h p)) answer is) (busy (name_at h p))
 
 -- what has P, if each reply has it that a change may be given without the log
 change_answers : (P : Reply → Type 0) (h : List Entry) (txn : Txn) (c : Change) (made answer : Reply) → P reply.State → ((name : List ℕ) → P (reply.Busy name)) → P reply.TooMany → ((name : List ℕ) (batch : List Change) → txn ≡ Open name batch → holder_of h (key_of c) ≡ None → P reply.Held) → change_plan h txn c made ≡ Say answer → P answer
-change_answers P h Idle c made answer state busy many held is = held_or_answers P h (holder_of h (key_of c)) (Log (entry.Write (c ∷ [])) made) answer busy (λ told none said. absurd cc) is
+change_answers P h Idle c made answer state busy many held is = held_or_answers P h (holder_of h (key_of c)) (Log (entry.Write (c ∷ [])) made) answer busy (λ given none said. absurd cc) is
 change_answers P h (Open name batch) c made answer state busy many held is =
     elim (cases_Bool (has_no_room batch (key_of c))) [
       | inl full ↦ subst P (said_is reply.TooMany answer (rw full at is)) many
-      | inr room ↦ held_or_answers P h (holder_of h (key_of c)) (Say reply.Held) answer busy (λ told none said. subst P (said_is reply.Held told said) (held name batch refl none)) (rw room at is)
+      | inr room ↦ held_or_answers P h (holder_of h (key_of c)) (Say reply.Held) answer busy (λ given none said. subst P (said_is reply.Held given said) (held name batch refl none)) (rw room at is)
     ]
 change_answers P h (Prepared p) c made answer state busy many held is = subst P (said_is reply.State answer is) state
 
@@ -91,7 +93,7 @@ snap_is_plain : (h : List Entry) (snapshots : List Snapshot) (label : List ℕ) 
 snap_is_plain h snapshots label =
     elim (cases_Bool (is_some (number_of snapshots label))) [
       | inl taken ↦ rw taken (record { none = refl; unlogged = refl; faultless = refl; running = refl; current = tt })
-      | inr new ↦ rw new (elim (cases_Bool (nat_le 64 (length snapshots))) [
+      | inr new ↦ rw new (elim (cases_Bool (nat_le MOST_SNAPSHOTS (length snapshots))) [
         | inl full ↦ rw full (record { none = refl; unlogged = refl; faultless = refl; running = refl; current = tt })
         | inr room ↦ rw room (record { none = refl; unlogged = refl; faultless = refl; running = refl; current = refl })
       ])
@@ -134,8 +136,8 @@ take_is_plain : (h : List Entry) (holder : Option ℕ) (name : List ℕ) → IsP
 take_is_plain h (Some p) name = record { none = refl; unlogged = refl; faultless = refl; running = refl; current = tt }
 take_is_plain h None name = record { none = refl; unlogged = refl; faultless = refl; running = refl; current = refl }
 
-plain : (h : List Entry) (c : Command) (answer told : Reply) → IsPlain h c answer → Say answer ≡ Say told → IsPlain h c told
-plain h c answer told p is = subst (λ (r : Reply). IsPlain h c r) (said_is answer told is) p
+plain : (h : List Entry) (c : Command) (answer given : Reply) → IsPlain h c answer → Say answer ≡ Say given → IsPlain h c given
+plain h c answer given p is = subst (λ (r : Reply). IsPlain h c r) (said_is answer given is) p
 
 take_says : (h : List Entry) (txn : Txn) (name : List ℕ) (answer : Reply) → take_plan h txn name ≡ Say answer → IsPlain h (command.Take name) answer
 take_says h Idle name answer is = plain h (command.Take name) (take_reply h (named h name) name) answer (take_is_plain h (named h name) name) is
@@ -158,11 +160,11 @@ plan_says h client (command.Take name) answer is = take_says h client.txn name a
 
 -- ---- the client
 
-within_same : (n : ℕ) (front back : List Snapshot) → AreWithin n front → AreWithin n back → AreWithin n (front ++ back)
+pub within_same : (n : ℕ) (front back : List Snapshot) → AreWithin n front → AreWithin n back → AreWithin n (front ++ back)
 within_same n [] back f b = b
 within_same n (s ∷ front) back f b = (f.0, within_same n front back f.1 b)
 
-within_filter : (n : ℕ) (keeps : Snapshot → Bool) (snapshots : List Snapshot) → AreWithin n snapshots → AreWithin n (filter keeps snapshots)
+pub within_filter : (n : ℕ) (keeps : Snapshot → Bool) (snapshots : List Snapshot) → AreWithin n snapshots → AreWithin n (filter keeps snapshots)
 within_filter n keeps [] w = tt
 within_filter n keeps (s ∷ snapshots) w =
     elim (cases_Bool (keeps s)) [
@@ -192,11 +194,11 @@ free_with_change h [] c free new = (new, tt)
 free_with_change h (first ∷ others) c free new =
     free_by_order (key_cmp (key_of c) (key_of first)) h (c ∷ first ∷ others) (c ∷ others) (first ∷ with_change others c) (new, free) (new, free.1) (free.0, free_with_change h others c free.1 new)
 
-change_fits : (h : List Entry) (client : Client) (c : Command) (change : Change) (made answer : Reply) → Fits h client
+change_fits : (h : List Entry) (client : Client) (c : Command) (change : Change) (made answer : Reply) → ClientFits h client
     → client_after h client c reply.Held ≡ record client { txn = with_held client.txn change }
-    → change_plan h client.txn change made ≡ Say answer → Fits h (client_after h client c answer)
+    → change_plan h client.txn change made ≡ Say answer → ClientFits h (client_after h client c answer)
 change_fits h client c change made answer fits held is =
-    change_answers (λ (r : Reply). Fits h (client_after h client c r)) h client.txn change made answer fits (λ name. fits) fits
+    change_answers (λ (r : Reply). ClientFits h (client_after h client c r)) h client.txn change made answer fits (λ name. fits) fits
     (λ name batch o none. rw held (record {
       txn = rw o (let own = rw o at fits.txn in (free_with_change h batch change own.0 none, own.1));
       snapshots = fits.snapshots;
@@ -216,17 +218,17 @@ get_at_stays h client c (Some n) key label = read_stays h client c (value_at h k
 get_at_stays h client c None key label = refl
 
 -- the client with the reply that the plan says
-fits_by : (h : List Entry) (client : Client) (c : Command) (made answer : Reply) → Fits h (client_after h client c made) → Say made ≡ Say answer → Fits h (client_after h client c answer)
-fits_by h client c made answer fits is = subst (λ (r : Reply). Fits h (client_after h client c r)) (said_is made answer is) fits
+fits_by : (h : List Entry) (client : Client) (c : Command) (made answer : Reply) → ClientFits h (client_after h client c made) → Say made ≡ Say answer → ClientFits h (client_after h client c answer)
+fits_by h client c made answer fits is = subst (λ (r : Reply). ClientFits h (client_after h client c r)) (said_is made answer is) fits
 
-fits_if_same : (h : List Entry) (client now : Client) → Fits h client → now ≡ client → Fits h now
-fits_if_same h client now fits is = subst (Fits h) (sym is) fits
+fits_if_same : (h : List Entry) (client now : Client) → ClientFits h client → now ≡ client → ClientFits h now
+fits_if_same h client now fits is = subst (ClientFits h) (sym is) fits
 
-snap_fits : (h : List Entry) (client : Client) (label : List ℕ) → Fits h client → Fits h (client_after h client (command.Snap label) (snap_reply h client.snapshots label))
+snap_fits : (h : List Entry) (client : Client) (label : List ℕ) → ClientFits h client → ClientFits h (client_after h client (command.Snap label) (snap_reply h client.snapshots label))
 snap_fits h client label fits =
     elim (cases_Bool (is_some (number_of client.snapshots label))) [
       | inl taken ↦ rw taken fits
-      | inr new ↦ rw new (elim (cases_Bool (nat_le 64 (length client.snapshots))) [
+      | inr new ↦ rw new (elim (cases_Bool (nat_le MOST_SNAPSHOTS (length client.snapshots))) [
         | inl full ↦ rw full fits
         | inr room ↦ rw room (record {
           txn = fits.txn;
@@ -235,57 +237,53 @@ snap_fits h client label fits =
       ])
     ]
 
-free_fits : (h : List Entry) (client : Client) (number : Option ℕ) (label : List ℕ) → Fits h client → Fits h (client_after h client (command.Free label) (free_reply number label))
+free_fits : (h : List Entry) (client : Client) (number : Option ℕ) (label : List ℕ) → ClientFits h client → ClientFits h (client_after h client (command.Free label) (free_reply number label))
 free_fits h client (Some n) label fits = record { txn = fits.txn; snapshots = within_filter (length h) (λ s. not (bytes_eq s.label label)) client.snapshots fits.snapshots }
 free_fits h client None label fits = fits
 
-begin_reply_fits : (h : List Entry) (client : Client) (holder : Option ℕ) (name : List ℕ) → named h name ≡ holder → Fits h client → Fits h (client_after h client (command.Begin name) (begin_reply holder name))
+begin_reply_fits : (h : List Entry) (client : Client) (holder : Option ℕ) (name : List ℕ) → named h name ≡ holder → ClientFits h client → ClientFits h (client_after h client (command.Begin name) (begin_reply holder name))
 begin_reply_fits h client (Some p) name is fits = fits
 begin_reply_fits h client None name is fits = record { txn = (tt, is); snapshots = fits.snapshots }
 
-begin_fits : (h : List Entry) (client : Client) (txn : Txn) (name : List ℕ) (answer : Reply) → Fits h client → begin_plan h txn name ≡ Say answer → Fits h (client_after h client (command.Begin name) answer)
+begin_fits : (h : List Entry) (client : Client) (txn : Txn) (name : List ℕ) (answer : Reply) → ClientFits h client → begin_plan h txn name ≡ Say answer → ClientFits h (client_after h client (command.Begin name) answer)
 begin_fits h client Idle name answer fits is = fits_by h client (command.Begin name) (begin_reply (named h name) name) answer (begin_reply_fits h client (named h name) name refl fits) is
 begin_fits h client (Open other batch) name answer fits is = fits_by h client (command.Begin name) reply.State answer fits is
 begin_fits h client (Prepared p) name answer fits is = fits_by h client (command.Begin name) reply.State answer fits is
 
-prepare_fits : (h : List Entry) (client : Client) (txn : Txn) (answer : Reply) → Fits h client → prepare_plan h txn ≡ Say answer → Fits h (client_after h client command.Prepare answer)
+prepare_fits : (h : List Entry) (client : Client) (txn : Txn) (answer : Reply) → ClientFits h client → prepare_plan h txn ≡ Say answer → ClientFits h (client_after h client command.Prepare answer)
 prepare_fits h client Idle answer fits is = fits_by h client command.Prepare reply.State answer fits is
 prepare_fits h client (Open name batch) answer fits is = absurd cc
 prepare_fits h client (Prepared p) answer fits is = fits_by h client command.Prepare reply.State answer fits is
 
-commit_fits : (h : List Entry) (client : Client) (txn : Txn) (answer : Reply) → Fits h client → commit_plan h txn ≡ Say answer → Fits h (client_after h client command.Commit answer)
+commit_fits : (h : List Entry) (client : Client) (txn : Txn) (answer : Reply) → ClientFits h client → commit_plan h txn ≡ Say answer → ClientFits h (client_after h client command.Commit answer)
 commit_fits h client Idle answer fits is = fits_by h client command.Commit reply.State answer fits is
 commit_fits h client (Open name batch) answer fits is = absurd cc
 commit_fits h client (Prepared p) answer fits is = absurd cc
 
-idle_fits : (h : List Entry) (client : Client) → Fits h client → Fits h (record client { txn = Idle })
+idle_fits : (h : List Entry) (client : Client) → ClientFits h client → ClientFits h (record client { txn = Idle })
 idle_fits h client fits = record { txn = tt; snapshots = fits.snapshots }
 
-rollback_fits : (h : List Entry) (client : Client) (txn : Txn) (answer : Reply) → Fits h client → rollback_plan h txn ≡ Say answer → Fits h (client_after h client command.Rollback answer)
+rollback_fits : (h : List Entry) (client : Client) (txn : Txn) (answer : Reply) → ClientFits h client → rollback_plan h txn ≡ Say answer → ClientFits h (client_after h client command.Rollback answer)
 rollback_fits h client Idle answer fits is = fits_by h client command.Rollback reply.State answer fits is
 rollback_fits h client (Open name batch) answer fits is = fits_by h client command.Rollback reply.Dropped answer (idle_fits h client fits) is
 rollback_fits h client (Prepared p) answer fits is = absurd cc
 
-leave_fits : (h : List Entry) (client : Client) (txn : Txn) (answer : Reply) → Fits h client → leave_plan txn ≡ Say answer → Fits h (client_after h client command.Leave answer)
+leave_fits : (h : List Entry) (client : Client) (txn : Txn) (answer : Reply) → ClientFits h client → leave_plan txn ≡ Say answer → ClientFits h (client_after h client command.Leave answer)
 leave_fits h client Idle answer fits is = fits_by h client command.Leave reply.State answer fits is
 leave_fits h client (Open name batch) answer fits is = fits_by h client command.Leave reply.State answer fits is
 leave_fits h client (Prepared p) answer fits is = fits_by h client command.Leave reply.Left answer (idle_fits h client fits) is
 
-prepared_fits : (h : List Entry) (holder : Option ℕ) (name : List ℕ) → named h name ≡ holder → TxnFits h (prepared_as holder)
-prepared_fits h (Some p) name is = named_is_undecided h name p is
-prepared_fits h None name is = tt
+take_reply_fits : (h : List Entry) (client : Client) (holder : Option ℕ) (name : List ℕ) → named h name ≡ holder → ClientFits h client → ClientFits h (client_after h client (command.Take name) (take_reply h holder name))
+take_reply_fits h client (Some p) name is fits = record { txn = rw is (named_is_undecided h name p is); snapshots = fits.snapshots }
+take_reply_fits h client None name is fits = fits
 
-take_reply_fits : (h : List Entry) (client : Client) (holder : Option ℕ) (name : List ℕ) → Fits h client → Fits h (client_after h client (command.Take name) (take_reply h holder name))
-take_reply_fits h client (Some p) name fits = record { txn = prepared_fits h (named h name) name refl; snapshots = fits.snapshots }
-take_reply_fits h client None name fits = fits
-
-take_fits : (h : List Entry) (client : Client) (txn : Txn) (name : List ℕ) (answer : Reply) → Fits h client → take_plan h txn name ≡ Say answer → Fits h (client_after h client (command.Take name) answer)
-take_fits h client Idle name answer fits is = fits_by h client (command.Take name) (take_reply h (named h name) name) answer (take_reply_fits h client (named h name) name fits) is
+take_fits : (h : List Entry) (client : Client) (txn : Txn) (name : List ℕ) (answer : Reply) → ClientFits h client → take_plan h txn name ≡ Say answer → ClientFits h (client_after h client (command.Take name) answer)
+take_fits h client Idle name answer fits is = fits_by h client (command.Take name) (take_reply h (named h name) name) answer (take_reply_fits h client (named h name) name refl fits) is
 take_fits h client (Open other batch) name answer fits is = fits_by h client (command.Take name) reply.State answer fits is
 take_fits h client (Prepared p) name answer fits is = fits_by h client (command.Take name) reply.State answer fits is
 
 -- the client goes with the history once it has a reply without the log
-pub plan_fits : (h : List Entry) (client : Client) (c : Command) (answer : Reply) → Fits h client → plan h client c ≡ Say answer → Fits h (client_after h client c answer)
+pub plan_fits : (h : List Entry) (client : Client) (c : Command) (answer : Reply) → ClientFits h client → plan h client c ≡ Say answer → ClientFits h (client_after h client c answer)
 plan_fits h client (command.Put key value) answer fits is = change_fits h client (command.Put key value) (change.Put key value) _ answer fits refl is
 plan_fits h client (command.Del key) answer fits is = change_fits h client (command.Del key) (change.Del key) _ answer fits refl is
 plan_fits h client (command.Get key) answer fits is = fits_by h client (command.Get key) _ answer (fits_if_same h client _ fits (get_stays h client (command.Get key) (change_to (own_batch h client.txn) key) key)) is

@@ -1,11 +1,12 @@
 -- A client between two of its commands: its transaction, and its snapshots.
-use Rattle.std.specs.Prelude.{◌≡◌, ℕ, ◌≤◌, true, not, List, [], ◌∷◌, length, Option, None}
+use Rattle.std.specs.Prelude.{◌≡◌, ℕ, ◌≤◌, Bool, true, ◌&&◌, not, nat_le, List, [], ◌∷◌, length, Option, None}
 use Rattle.std.specs.List.{filter, find}
 use Rattle.std.specs.Option.{option_map}
 use Rattle.std.specs.Str.{bytes_eq}
+use Rattle.wp_model.specs.declared.batch.TheConstants.{MOST_KEYS}
 use Rattle.wp_model.specs.declared.change.Change.{Change}
 use Rattle.wp_model.specs.declared.entry.Entry.{Entry}
-use Rattle.wp_model.specs.History.{is_undecided, named, batch_at}
+use Rattle.wp_model.specs.History.{is_undecided, is_changed, named, batch_at}
 use Rattle.wp_model.specs.Legal.{AreFree}
 use Rattle.wp_session.specs.declared.session.Snapshot.{Snapshot}
 use Rattle.wp_session.specs.declared.session.Txn.{Txn}
@@ -24,14 +25,18 @@ abbrev pub number_of : List Snapshot → List ℕ → Option ℕ
 number_of snapshots label = option_map (λ s. s.number) (find (λ s. bytes_eq s.label label) snapshots)
 
 -- the snapshots but the one with that label
-abbrev pub without : List Snapshot → List ℕ → List Snapshot
-without snapshots label = filter (λ s. not (bytes_eq s.label label)) snapshots
+abbrev pub without_label : List Snapshot → List ℕ → List Snapshot
+without_label snapshots label = filter (λ s. not (bytes_eq s.label label)) snapshots
 
 -- what the client's own transaction has changed so far
 abbrev pub own_batch : List Entry → Txn → List Change
 own_batch history Idle = []
 own_batch history (Open name batch) = batch
 own_batch history (Prepared p) = batch_at history p
+
+-- as many keys as a transaction may change are changed, and this is none of them
+abbrev pub has_no_room : List Change → List ℕ → Bool
+has_no_room batch key = nat_le MOST_KEYS (length batch) && not (is_changed batch key)
 
 -- The transaction goes with the history: one that is open has a name and keys that are free; one that is prepared is
 -- undecided.
@@ -45,6 +50,6 @@ abbrev pub AreWithin : ℕ → List Snapshot → Type 0
 AreWithin published [] = Unit {0}
 AreWithin published (first ∷ others) = (first.number ≤ published) × AreWithin published others
 
-pub record Fits (history : List Entry) (client : Client) : Type 0 where
+pub record ClientFits (history : List Entry) (client : Client) : Type 0 where
   pub txn : TxnFits history client.txn
   pub snapshots : AreWithin (length history) client.snapshots

@@ -5,7 +5,7 @@ use Rattle.wp_text.specs.declared.reply.Reply.{Reply}
 use Rattle.wp_session.specs.Client.{Client}
 use Rattle.wp_session.specs.Due.{Store, IsReply, store_after, client_after}
 
--- each command is answered as the store stands then, and leaves it so to the next
+-- each command is answered as the store is then, and leaves it so to the next
 abbrev pub RunsAlone : Store → Client → List Command → List Reply → Type 0
 RunsAlone store client [] [] = Unit {0}
 RunsAlone store client [] (answer ∷ answers) = ⊥

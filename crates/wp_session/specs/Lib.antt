@@ -1,7 +1,12 @@
+pub mod Kind
 pub mod Client
+pub mod After
+pub mod Replies
+pub mod Session
 pub mod Plan
 pub mod Due
-pub mod Room
-pub mod Session
+pub mod Moments
 pub mod Current
+pub mod Room
 pub mod Next
+pub mod Laws

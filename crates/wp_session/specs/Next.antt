@@ -4,7 +4,7 @@ use Rattle.wp_model.specs.declared.entry.Entry.{Entry}
 use Rattle.wp_model.specs.Legal.{IsLegalNext, undone_last}
 use Rattle.wp_entry.specs.Record.{FormRecord}
 
--- the entries may stand behind the history, one after another
+-- the entries may follow the history, one after another
 abbrev pub AreLegalNext : List Entry → List Entry → Type 0
 AreLegalNext history [] = Unit {0}
 AreLegalNext history (entry ∷ entries) = IsLegalNext history entry × AreLegalNext (history ++ entry ∷ []) entries

@@ -1,24 +1,24 @@
--- What a command comes to, by the history and the client's state: the table of commands and refusals. A command that the
--- log has to take comes to its entries and the reply that tells them.
-use Rattle.std.specs.Prelude.{ℕ, ◌+◌, Bool, ◌&&◌, nat_le, not, List, [], ◌∷◌, length, Option, Some, None, is_some, if◌then◌else◌}
-use Rattle.wp_model.specs.declared.batch.TheConstants.{MOST_KEYS}
+-- What a command comes to where nobody else changes the store: exactly one reply, or the entries that the log is asked to
+-- take and the reply that acknowledges them.
+use Rattle.std.specs.Prelude.{ℕ, ◌+◌, nat_le, List, [], ◌∷◌, length, Option, Some, None, is_some, if◌then◌else◌}
 use Rattle.wp_model.specs.declared.change.Change.{Change}
 use Rattle.wp_model.specs.declared.change.Change.TheVariants as change
 use Rattle.wp_model.specs.declared.entry.Entry.{Entry}
 use Rattle.wp_model.specs.declared.entry.Entry.TheVariants as entry
 use Rattle.wp_model.specs.Batch.{key_of, change_to}
-use Rattle.wp_model.specs.History.{name_at, batch_at, named, is_changed, holder_of, value_at}
+use Rattle.wp_model.specs.History.{name_at, batch_at, named, holder_of, value_at}
 use Rattle.wp_model.specs.Legal.{prior}
 use Rattle.wp_text.specs.declared.script.Command.{Command}
 use Rattle.wp_text.specs.declared.script.Command.TheVariants as command
 use Rattle.wp_text.specs.declared.reply.Reply.{Reply}
 use Rattle.wp_text.specs.declared.reply.Reply.TheVariants as reply
+use Rattle.wp_session.specs.declared.session.TheConstants.{MOST_SNAPSHOTS}
 use Rattle.wp_session.specs.declared.session.Snapshot.{Snapshot}
 use Rattle.wp_session.specs.declared.session.Txn.{Txn}
 use Rattle.wp_session.specs.declared.session.Txn.TheVariants.{Idle, Open, Prepared}
 use Rattle.wp_session.specs.declared.plan.Plan.{Plan}
 use Rattle.wp_session.specs.declared.plan.Plan.TheVariants.{Say, Log, RollBack}
-use Rattle.wp_session.specs.Client.{Client, own_batch, number_of}
+use Rattle.wp_session.specs.Client.{Client, own_batch, number_of, has_no_room}
 
 -- the number of the next entry
 abbrev pub next : List Entry → ℕ
@@ -34,15 +34,11 @@ held_or history (Some p) plan = Say (reply.Busy (name_at history p))
 abbrev pub unless_held : List Entry → List ℕ → Plan → Plan
 unless_held history key plan = held_or history (holder_of history key) plan
 
--- as many keys as a transaction may change are changed, and this is none of them
-abbrev pub has_no_room : List Change → List ℕ → Bool
-has_no_room batch key = nat_le MOST_KEYS (length batch) && not (is_changed batch key)
-
--- a change that is written at once is told so
+-- the reply is that of a change that is written at once
 abbrev pub change_plan : List Entry → Txn → Change → Reply → Plan
-change_plan history Idle change told = unless_held history (key_of change) (Log (entry.Write (change ∷ [])) told)
-change_plan history (Open name batch) change told = if has_no_room batch (key_of change) then Say reply.TooMany else unless_held history (key_of change) (Say reply.Held)
-change_plan history (Prepared p) change told = Say reply.State
+change_plan history Idle change answer = unless_held history (key_of change) (Log (entry.Write (change ∷ [])) answer)
+change_plan history (Open name batch) change answer = if has_no_room batch (key_of change) then Say reply.TooMany else unless_held history (key_of change) (Say reply.Held)
+change_plan history (Prepared p) change answer = Say reply.State
 
 -- ---- get
 
@@ -67,7 +63,7 @@ get_at_reply history (Some n) key label = read_reply (value_at history key n) n
 abbrev pub snap_reply : List Entry → List Snapshot → List ℕ → Reply
 snap_reply history snapshots label =
     if is_some (number_of snapshots label) then reply.Taken label
-    else (if nat_le 64 (length snapshots) then reply.TooMany else reply.Snapped (length history))
+    else (if nat_le MOST_SNAPSHOTS (length snapshots) then reply.TooMany else reply.Snapped (length history))
 
 abbrev pub free_reply : Option ℕ → List ℕ → Reply
 free_reply None label = reply.UnknownSnapshot label
@@ -96,7 +92,7 @@ commit_plan history Idle = Say reply.State
 commit_plan history (Open name batch) = Log (entry.Write batch) (reply.Committed (next history))
 commit_plan history (Prepared p) = Log (entry.Commit p) (reply.Committed (next history))
 
--- a rollback of a prepared transaction is told with the number of its Close
+-- a rollback of a prepared transaction is answered with the number of its Close
 abbrev pub rollback_plan : List Entry → Txn → Plan
 rollback_plan history Idle = Say reply.State
 rollback_plan history (Open name batch) = Say reply.Dropped
@@ -129,5 +125,5 @@ plan history client (command.Take name) = take_plan history client.txn name
 -- the entries that it asks the log to take, as one record
 abbrev pub asked_of : Plan → List Entry
 asked_of (Say answer) = []
-asked_of (Log entry told) = entry ∷ []
-asked_of (RollBack p batch told) = entry.Undo p batch ∷ entry.Close p ∷ []
+asked_of (Log entry answer) = entry ∷ []
+asked_of (RollBack p batch answer) = entry.Undo p batch ∷ entry.Close p ∷ []

@@ -1,11 +1,17 @@
 //! A client's session: what each of its commands is answered, and what it leaves of the client.
 //!
-//! A session has a transaction and snapshots. `plan_of` says what a command asks of a store as it is, and `Session::take`
-//! what its reply leaves of the client. The definitions of a session over a history are here.
+//! A session has a transaction and snapshots. `specs/Replies.antt` is the table of replies: each is given only where its
+//! row says so of the history. Where nobody else changes the store, `plan_of` says exactly what a command asks of it, and
+//! `Session::take` what the reply leaves of the client. The laws tie the exact replies to the table, and say what follows
+//! from the table for reads and for acknowledged entries.
 #![tactic(auto)]
 
+pub mod laws;
 mod plan;
 mod session;
 
 pub use plan::{Plan, plan_of};
 pub use session::{MOST_SNAPSHOTS, Session, Snapshot, Txn};
+
+#[cfg(test)]
+mod tests;

@@ -2,7 +2,7 @@ ghost use Rattle.std.specs.Prelude.{◌≡◌, ◌≤◌, ◌^◌, true, length,
 ghost use Rattle.std.specs.Option.{option_map, option_copied};
 ghost use Rattle.wp_model.specs.Batch.{change_to};
 ghost use Rattle.wp_model.specs.History.{is_undecided};
-ghost use Rattle.wp_session.specs.Client.{own_batch, TxnFits, Fits};
+ghost use Rattle.wp_session.specs.Client.{own_batch, has_no_room, TxnFits, ClientFits};
 ghost use Rattle.wp_session.specs.Plan as plans;
 
 use crate::session::{Session, Txn};
@@ -16,10 +16,10 @@ use wp_text::{Command, Reply};
 pub enum Plan {
     /// It is answered so, and the log is not called.
     Say(Reply),
-    /// The log is asked to take the entry, which the reply tells.
+    /// The log is asked to take the entry, which the reply acknowledges.
     Log(Entry, Reply),
-    /// The log is asked to take the Undo of the prepare with this number, which holds this batch, and its Close. The
-    /// reply tells the Close.
+    /// The log is asked to take the Undo of the prepare with this number, which has this batch, and its Close. The reply
+    /// has the number of the Close.
     RollBack(Seq, Batch, Reply),
 }
 
@@ -49,7 +49,7 @@ fn held_or(
 }
 
 fn has_no_room(batch: &Batch, key: &Key) -> bool
-    ensures { result ≡ plans.has_no_room batch.now key.now }
+    ensures { result ≡ has_no_room batch.now key.now }
 {
     if batch.changes().len() < MOST_KEYS {
         return false;
@@ -57,21 +57,21 @@ fn has_no_room(batch: &Batch, key: &Key) -> bool
     batch.get(key).is_none()
 }
 
-/// What a put or del comes to. If it is written at once, it is told so.
+/// What a put or del comes to. The reply is that of a change that is written at once.
 fn change_plan(
     alloc: Global,
     history: &History,
     txn: &Txn,
     change: Change,
-    told: Reply,
+    reply: Reply,
 ) -> Result<Plan, AllocError>
-    ensures { IfOk result (λ made. made ≡ plans.change_plan history.now.entries txn.now change told) }
+    ensures { IfOk result (λ made. made ≡ plans.change_plan history.now.entries txn.now change reply) }
 {
     let holder = history.holder_of(change.key());
     match txn {
         Txn::Idle => {
             let write = Entry::Write(Batch::of(alloc, change)?);
-            held_or(alloc, history, holder, Plan::Log(write, told))
+            held_or(alloc, history, holder, Plan::Log(write, reply))
         }
         Txn::Open(_, batch) => {
             if has_no_room(batch, change.key()) {
@@ -268,7 +268,7 @@ pub fn plan_of(
     session: &Session,
     command: &Command,
 ) -> Result<Plan, AllocError>
-    requires { Fits history.now.entries session.now }
+    requires { ClientFits history.now.entries session.now }
     ensures { IfOk result (λ made. made ≡ plans.plan history.now.entries session.now command.now) }
 {
     let txn = session.txn();

@@ -1,9 +1,11 @@
 ghost use Rattle.std.specs.Prelude.{◌≡◌, false, nat_le, length, OnOk};
 ghost use Rattle.wp_model.specs.Batch.{key_of, with_change};
-ghost use Rattle.wp_session.specs.Client.{new_client, number_of, without};
-ghost use Rattle.wp_session.specs.Due.{with_held, after_held, after_snapped, after_freed, after_begun, after_took, settled, client_after};
-ghost use Rattle.wp_session.specs.Plan.{plan, has_no_room};
-ghost use Rattle.wp_session.specs.Room.{HasRoom, HasRoomFor};
+ghost use Rattle.wp_session.specs.Client.{new_client, number_of, without_label, has_no_room};
+ghost use Rattle.wp_session.specs.After.{with_held, after_held, after_begun, after_decision, with_labels_after};
+ghost use Rattle.wp_session.specs.Due.{client_after};
+ghost use Rattle.wp_session.specs.Plan.{plan};
+ghost use Rattle.wp_session.specs.Room.{TakesChange, TakesChangeOf, NamesPrepared};
+ghost use Rattle.wp_text.specs.declared.reply.Reply.TheVariants as reply;
 ghost use Rattle.wp_session.specs.declared.plan.Plan.TheVariants.{Say};
 
 use std::alloc::{AllocError, Global};
@@ -62,7 +64,7 @@ fn add(batch: &mut Batch, change: Change) -> Result<(), AllocError>
 
 /// Takes the snapshot with that label out.
 fn forget(snapshots: &mut Vec<Snapshot>, label: &Name)
-    ensures { snapshots.new.items ≡ without snapshots.old.items label.now }
+    ensures { snapshots.new.items ≡ without_label snapshots.old.items label.now }
 {
     snapshots.retain(|snapshot| snapshot.label != *label);
 }
@@ -102,7 +104,7 @@ impl Session {
     }
 
     fn hold(&mut self, change: Change) -> Result<(), AllocError>
-        requires { HasRoom self.old.txn change }
+        requires { TakesChange self.old.txn change }
         ensures { OnOk result (self.new ≡ record self.old { txn = with_held self.old.txn change }) }
     {
         match &mut self.txn {
@@ -112,7 +114,7 @@ impl Session {
     }
 
     fn held(&mut self, alloc: Global, command: &Command) -> Result<(), AllocError>
-        requires { HasRoomFor self.old.txn command.now }
+        requires { TakesChangeOf self.old.txn command.now }
         ensures { OnOk result (self.new ≡ after_held self.old command.now) }
     {
         match command {
@@ -126,7 +128,7 @@ impl Session {
     }
 
     fn snapped(&mut self, alloc: Global, command: &Command, n: Seq) -> Result<(), AllocError>
-        ensures { OnOk result (self.new ≡ after_snapped self.old command.now n) }
+        ensures { OnOk result (self.new ≡ with_labels_after self.old command.now (reply.Snapped n)) }
     {
         if let Command::Snap(label) = command {
             let label = label.copy(alloc)?;
@@ -136,7 +138,7 @@ impl Session {
     }
 
     fn freed(&mut self, command: &Command)
-        ensures { self.new ≡ after_freed self.old command.now }
+        ensures { self.new ≡ with_labels_after self.old command.now reply.Freed }
     {
         if let Command::Free(label) = command {
             forget(&mut self.snapshots, label);
@@ -153,19 +155,19 @@ impl Session {
     }
 
     fn took(&mut self, history: &History, command: &Command)
-        ensures { self.new ≡ after_took history.now.entries self.old command.now }
+        requires { NamesPrepared history.now.entries command.now }
+        ensures { self.new ≡ client_after history.now.entries self.old command.now reply.Took }
     {
         if let Command::Take(name) = command {
-            self.txn = match history.named(name) {
-                Some(p) => Txn::Prepared(p),
-                None => Txn::Idle,
-            };
+            if let Some(p) = history.named(name) {
+                self.txn = Txn::Prepared(p);
+            }
         }
     }
 
-    /// Takes a reply in that changes the transaction by itself. It takes no memory.
-    pub fn settle(&mut self, reply: &Reply)
-        ensures { self.new ≡ settled self.old reply.now }
+    /// Takes in a reply that prepares or decides the transaction. It takes no memory.
+    pub fn decide(&mut self, reply: &Reply)
+        ensures { self.new ≡ after_decision self.old reply.now }
     {
         match reply {
             Reply::Prepared(n) => self.txn = Txn::Prepared(*n),
@@ -200,7 +202,7 @@ impl Session {
                 Ok(())
             }
             _ => {
-                self.settle(reply);
+                self.decide(reply);
                 Ok(())
             }
         }

@@ -5,7 +5,7 @@ use Rattle.wp_run.proofs.serve.serve.Goals as goal
 pub returns-in-Ok-clause-serves : goal.returns-in-Ok-clause-serves
 returns-in-Ok-clause-serves g c =
     let opened = c.in-Ok.field-0 in
-    serves_opened c.new.result c.args.limit c.args.id opened.wal opened.history.entries c.args.parts.now _ _ _ _ _ _ _ c.finish.result.status
+    serves_opened c.due_is_session.ensures c.new.result c.args.limit c.args.id opened.wal opened.history.entries c.args.parts.now _ _ _ _ _ _ _ c.finish.result.status
     c.new.ensures c.in-Ok.ensures.found c.in-Ok.ensures.made c.in-Ok.ensures.later
     c.finish.ensures.finishes
 

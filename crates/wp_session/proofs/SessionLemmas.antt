@@ -1,0 +1,172 @@
+-- What is true of every session: of its reads, its numbers and its entries.
+use Rattle.std.proofs.Common.{◌≡◌, ℕ, suc, zero, ◌≤◌, List, [], ◌∷◌, length, Option, Some, None, refl, sym, ap, ◌∙◌, subst, arith, rules, inl, inr}
+use Rattle.std.specs.Prelude.{IfSome, is_some, nat_le}
+use Rattle.std.proofs.lemmas.Bool.{cases_Bool}
+use Rattle.std.proofs.lemmas.Option.{slice_get_within}
+use Rattle.wp_model.specs.declared.entry.Entry.{Entry}
+use Rattle.wp_model.specs.declared.entry.Entry.TheVariants as entry
+use Rattle.wp_model.specs.declared.change.Change.TheVariants as change
+use Rattle.wp_model.specs.History.{entry_at}
+use Rattle.wp_text.specs.declared.script.Command.{Command}
+use Rattle.wp_text.specs.declared.script.Command.TheVariants as command
+use Rattle.wp_text.specs.declared.reply.Reply.{Reply}
+use Rattle.wp_text.specs.declared.reply.Reply.TheVariants as reply
+use Rattle.wp_session.specs.declared.session.TheConstants.{MOST_SNAPSHOTS}
+use Rattle.wp_session.specs.declared.session.Snapshot.{Snapshot}
+use Rattle.wp_session.specs.declared.session.Txn.{Txn}
+use Rattle.wp_session.specs.declared.session.Txn.TheVariants.{Idle, Open, Prepared}
+use Rattle.wp_session.specs.Client.{Client, number_of, has_no_room}
+use Rattle.wp_session.specs.After.{after_reply}
+use Rattle.wp_session.specs.Kind.{Plain, kind, number_of_kind, numbers_logged, acknowledged, fresh_in, last_after}
+use Rattle.wp_session.specs.Replies.{Claim, refuses_change, unless_idle, unless_open, unless_prepared, if_idle, unless_labelled, refuses_label, refusal_of, IsFresh, IsLoggedAt, PreparesAt, CommitsAt, RollsBackAt, Row, UnlessRefused, Allows}
+use Rattle.wp_session.specs.Session.{IsSession}
+use Rattle.wp_session.specs.Laws.{ReadsValue, AreReads, NeverFall, AsksLog, AreAsked, AreLogged}
+use Rattle.wp_session.proofs.Rows.{snapshots_after}
+
+-- ---- refusals speak of no entry
+
+abbrev pub IsPlainIfSome : Option Reply → Type 0
+IsPlainIfSome refusal = IfSome refusal (λ r. kind r ≡ Plain)
+
+change_plain : (txn : Txn) (key : List ℕ) → IsPlainIfSome (refuses_change txn key)
+change_plain Idle key = tt
+change_plain (Open name batch) key = elim (cases_Bool (has_no_room batch key)) [ inl full ↦ rw full refl | inr room ↦ rw room tt ]
+change_plain (Prepared p) key = refl
+
+labelled_plain : (number : Option ℕ) (label : List ℕ) → IsPlainIfSome (unless_labelled number label)
+labelled_plain (Some n) label = tt
+labelled_plain None label = refl
+
+label_plain : (snapshots : List Snapshot) (label : List ℕ) → IsPlainIfSome (refuses_label snapshots label)
+label_plain snapshots label =
+    elim (cases_Bool (is_some (number_of snapshots label))) [
+      | inl has ↦ rw has refl
+      | inr new ↦ elim (cases_Bool (nat_le MOST_SNAPSHOTS (length snapshots))) [ inl full ↦ rw (new, full) refl | inr room ↦ rw (new, room) tt ]
+    ]
+
+idle_plain : (txn : Txn) → IsPlainIfSome (unless_idle txn) × IsPlainIfSome (unless_open txn) × IsPlainIfSome (unless_prepared txn) × IsPlainIfSome (if_idle txn)
+idle_plain Idle = (tt, refl, refl, refl)
+idle_plain (Open name batch) = (refl, tt, refl, tt)
+idle_plain (Prepared p) = (refl, refl, tt, tt)
+
+refusal_plain : (client : Client) (c : Command) → IsPlainIfSome (refusal_of client c)
+refusal_plain client (command.Put key value) = change_plain client.txn key
+refusal_plain client (command.Del key) = change_plain client.txn key
+refusal_plain client (command.Get key) = tt
+refusal_plain client (command.GetAt key label) = labelled_plain (number_of client.snapshots label) label
+refusal_plain client (command.Snap label) = label_plain client.snapshots label
+refusal_plain client (command.Free label) = labelled_plain (number_of client.snapshots label) label
+refusal_plain client (command.Begin name) = (idle_plain client.txn).0
+refusal_plain client command.Prepare = (idle_plain client.txn).1
+refusal_plain client command.Commit = (idle_plain client.txn).3
+refusal_plain client command.Rollback = (idle_plain client.txn).3
+refusal_plain client command.Leave = (idle_plain client.txn).2
+refusal_plain client (command.Take name) = (idle_plain client.txn).0
+
+-- what is true by the row, and where the reply speaks of no entry
+allowed_gives : (Q : Type 0) (refusal : Option Reply) (r : Reply) (row : Type 0) → IsPlainIfSome refusal → (row → Q) → (kind r ≡ Plain → Q) → UnlessRefused refusal r row → Q
+allowed_gives Q None r row plain by_row by_kind allowed = by_row allowed
+allowed_gives Q (Some refusal) r row plain by_row by_kind allowed = by_kind (ap kind allowed ∙ plain)
+
+-- ---- reads
+
+allowed_read : (h : List Entry) (limit : ℕ) (P : Claim → Type 0) (last : ℕ) (client : Client) (p : ℕ) (c : Command) (r : Reply) → Allows h limit P last client p c r → ReadsValue h last client.snapshots c r
+allowed_read h limit P last client p (command.Get key) (reply.Got value n) a = (a.1, a.2)
+allowed_read h limit P last client p (command.Get key) (reply.Missing n) a = (a.1, a.2)
+allowed_read h limit P last client p (command.GetAt key label) (reply.Got value n) a = allowed_gives _ (unless_labelled (number_of client.snapshots label) label) (reply.Got value n) _ (labelled_plain (number_of client.snapshots label) label) (λ row. (row.0.0, row.0.1, row.1)) (λ plain. absurd cc) a
+allowed_read h limit P last client p (command.GetAt key label) (reply.Missing n) a = allowed_gives _ (unless_labelled (number_of client.snapshots label) label) (reply.Missing n) _ (labelled_plain (number_of client.snapshots label) label) (λ row. (row.0.0, row.0.1, row.1)) (λ plain. absurd cc) a
+allowed_read h limit P last client p c r a = tt
+
+pub session_reads : (h : List Entry) (limit : ℕ) (P : Claim → Type 0) (last : ℕ) (client : Client) (cs : List Command) (rs : List Reply) → IsSession h limit P last client cs rs → AreReads h last client.snapshots cs rs
+session_reads h limit P last client [] [] s = tt
+session_reads h limit P last client [] (r ∷ rs) s = tt
+session_reads h limit P last client (c ∷ cs) [] s = tt
+session_reads h limit P last client (c ∷ cs) (r ∷ rs) (p, allowed, rest) = (
+  allowed_read h limit P last client p c r allowed,
+  subst (λ (snapshots : List Snapshot). AreReads h (last_after last c r) snapshots cs rs) (snapshots_after p client c r) (session_reads h limit P (last_after last c r) (after_reply p client c r) cs rs rest),
+)
+
+-- ---- numbers
+
+entry_within : (h : List Entry) (n : ℕ) (e : Entry) → entry_at h n ≡ Some e → n ≤ length h
+entry_within h zero e is = omega arith
+entry_within h (suc n) e is = omega (arith, slice_get_within h n e is)
+
+logged_fresh : (h : List Entry) (last n : ℕ) (e : Entry) → IsLoggedAt h last n e → IsFresh h last n
+logged_fresh h last n e l = (omega (arith, l.0), entry_within h n e l.1)
+
+prepares_fresh : (h : List Entry) (last : ℕ) (txn : Txn) (n : ℕ) → PreparesAt h last txn n → IsFresh h last n
+prepares_fresh h last (Open name batch) n l = logged_fresh h last n _ l
+prepares_fresh h last _ n l = absurd l
+
+commits_fresh : (h : List Entry) (last : ℕ) (txn : Txn) (n : ℕ) → CommitsAt h last txn n → IsFresh h last n
+commits_fresh h last Idle n l = absurd l
+commits_fresh h last (Open name batch) n l = logged_fresh h last n _ l
+commits_fresh h last (Prepared p) n l = logged_fresh h last n _ l
+
+rolls_fresh : (h : List Entry) (last : ℕ) (txn : Txn) (n : ℕ) → RollsBackAt h last txn n → IsFresh h last n
+rolls_fresh h last (Prepared p) n l = logged_fresh h last n _ l.0
+rolls_fresh h last _ n l = absurd l
+
+row_fresh : (h : List Entry) (limit : ℕ) (P : Claim → Type 0) (last : ℕ) (client : Client) (p : ℕ) (c : Command) (r : Reply) → Row h limit P last client p c r → IfSome (fresh_in c r) (IsFresh h last)
+row_fresh h limit P last client p (command.Put key value) (reply.Put n) k = logged_fresh h last n _ k.1
+row_fresh h limit P last client p (command.Del key) (reply.Del n) k = logged_fresh h last n _ k.1
+row_fresh h limit P last client p (command.Get key) (reply.Got value n) k = k.1
+row_fresh h limit P last client p (command.Get key) (reply.Missing n) k = k.1
+row_fresh h limit P last client p (command.GetAt key label) r k = tt
+row_fresh h limit P last client p (command.Snap label) (reply.Snapped n) k = k
+row_fresh h limit P last client p command.Prepare (reply.Prepared n) k = prepares_fresh h last client.txn n k
+row_fresh h limit P last client p command.Commit (reply.Committed n) k = commits_fresh h last client.txn n k
+row_fresh h limit P last client p command.Rollback (reply.RolledBack n) k = rolls_fresh h last client.txn n k
+row_fresh h limit P last client p (command.Take name) (reply.Unknown other n) k = k.1
+row_fresh h limit P last client p c reply.Held k = tt
+row_fresh h limit P last client p c r k = first_of (search rules, cc)
+
+fresh_none : (h : List Entry) (last : ℕ) (c : Command) (r : Reply) → kind r ≡ Plain → IfSome (fresh_in c r) (IsFresh h last)
+fresh_none h last (command.GetAt key label) r plain = tt
+fresh_none h last c r plain = subst (λ (o : Option ℕ). IfSome o (IsFresh h last)) (sym (ap number_of_kind plain)) tt
+
+pub session_numbers : (h : List Entry) (limit : ℕ) (P : Claim → Type 0) (last : ℕ) (client : Client) (cs : List Command) (rs : List Reply) → IsSession h limit P last client cs rs → NeverFall h last cs rs
+session_numbers h limit P last client [] [] s = tt
+session_numbers h limit P last client [] (r ∷ rs) s = tt
+session_numbers h limit P last client (c ∷ cs) [] s = tt
+session_numbers h limit P last client (c ∷ cs) (r ∷ rs) (p, allowed, rest) = (
+  allowed_gives _ (refusal_of client c) r _ (refusal_plain client c) (row_fresh h limit P last client p c r) (fresh_none h last c r) allowed,
+  session_numbers h limit P (last_after last c r) (after_reply p client c r) cs rs rest,
+)
+
+-- ---- entries
+
+prepares_asked : (h : List Entry) (last : ℕ) (txn : Txn) (n : ℕ) → PreparesAt h last txn n → AreAsked h last txn command.Prepare (n ∷ [])
+prepares_asked h last (Open name batch) n l = ((_, l, refl), tt)
+prepares_asked h last _ n l = absurd l
+
+commits_asked : (h : List Entry) (last : ℕ) (txn : Txn) (n : ℕ) → CommitsAt h last txn n → AreAsked h last txn command.Commit (n ∷ [])
+commits_asked h last Idle n l = absurd l
+commits_asked h last (Open name batch) n l = ((_, l, refl), tt)
+commits_asked h last (Prepared p) n l = ((_, l, refl), tt)
+
+rolls_asked : (h : List Entry) (last : ℕ) (txn : Txn) (n : ℕ) → RollsBackAt h last txn n → AreAsked h last txn command.Rollback (acknowledged (reply.RolledBack n))
+rolls_asked h last (Prepared p) n (closed, (batch, undone)) = ((_, undone, inr (batch, refl)), ((_, closed, inl refl), tt))
+rolls_asked h last _ n l = absurd l
+
+row_asked : (h : List Entry) (limit : ℕ) (P : Claim → Type 0) (last : ℕ) (client : Client) (p : ℕ) (c : Command) (r : Reply) → Row h limit P last client p c r → AreAsked h last client.txn c (acknowledged r)
+row_asked h limit P last client p (command.Put key value) (reply.Put n) k = ((entry.Write (change.Put key value ∷ []), k.1, subst (λ (t : Txn). AsksLog t (command.Put key value) (entry.Write (change.Put key value ∷ []))) (sym k.0) refl), tt)
+row_asked h limit P last client p (command.Del key) (reply.Del n) k = ((entry.Write (change.Del key ∷ []), k.1, subst (λ (t : Txn). AsksLog t (command.Del key) (entry.Write (change.Del key ∷ []))) (sym k.0) refl), tt)
+row_asked h limit P last client p command.Prepare (reply.Prepared n) k = prepares_asked h last client.txn n k
+row_asked h limit P last client p command.Commit (reply.Committed n) k = commits_asked h last client.txn n k
+row_asked h limit P last client p command.Rollback (reply.RolledBack n) k = rolls_asked h last client.txn n k
+row_asked h limit P last client p c reply.Held k = tt
+row_asked h limit P last client p c r k = first_of (search rules, cc)
+
+asked_none : (h : List Entry) (last : ℕ) (txn : Txn) (c : Command) (r : Reply) → kind r ≡ Plain → AreAsked h last txn c (acknowledged r)
+asked_none h last txn c r plain = subst (AreAsked h last txn c) (sym (ap numbers_logged plain)) tt
+
+pub session_logged : (h : List Entry) (limit : ℕ) (P : Claim → Type 0) (last : ℕ) (client : Client) (cs : List Command) (rs : List Reply) → IsSession h limit P last client cs rs → AreLogged h last client cs rs
+session_logged h limit P last client [] [] s = tt
+session_logged h limit P last client [] (r ∷ rs) s = tt
+session_logged h limit P last client (c ∷ cs) [] s = tt
+session_logged h limit P last client (c ∷ cs) (r ∷ rs) (p, allowed, rest) = (
+  allowed_gives _ (refusal_of client c) r _ (refusal_plain client c) (row_asked h limit P last client p c r) (asked_none h last client.txn c r) allowed,
+  (p, session_logged h limit P (last_after last c r) (after_reply p client c r) cs rs rest),
+)

@@ -1,0 +1,81 @@
+-- What a reply says of the history: the one list of all replies that say something.
+use Rattle.std.specs.Prelude.{ℕ, ◌-◌, Bool, true, false, List, [], ◌∷◌, Option, Some, None, unwrap_or}
+use Rattle.wp_text.specs.declared.script.Command.{Command}
+use Rattle.wp_text.specs.declared.script.Command.TheVariants as command
+use Rattle.wp_text.specs.declared.reply.Reply.{Reply}
+use Rattle.wp_text.specs.declared.reply.Reply.TheVariants as reply
+
+pub data Kind : Type 0 where
+  Logged : ℕ → Kind  -- it acknowledges the entry with this number
+  RolledBack : ℕ → Kind  -- it acknowledges an Undo, and its Close, which has this number
+  Published : ℕ → Kind  -- it was given over so many entries
+  Failed : Kind  -- the log failed
+  Stopped : Kind  -- the log had failed before
+  Plain : Kind  -- it speaks of no entry
+
+abbrev pub kind : Reply → Kind
+kind (reply.Put n) = Logged n
+kind (reply.Del n) = Logged n
+kind (reply.Prepared n) = Logged n
+kind (reply.Committed n) = Logged n
+kind (reply.RolledBack n) = RolledBack n
+kind (reply.Got value n) = Published n
+kind (reply.Missing n) = Published n
+kind (reply.Snapped n) = Published n
+kind (reply.Unknown name n) = Published n
+kind reply.FaultLog = Failed
+kind (reply.Stopped n) = Stopped
+kind other = Plain
+
+abbrev pub numbers_logged : Kind → List ℕ
+numbers_logged (Logged n) = n ∷ []
+numbers_logged (RolledBack n) = (n - 1) ∷ n ∷ []
+numbers_logged other = []
+
+-- the numbers of the entries that a reply acknowledges
+abbrev pub acknowledged : Reply → List ℕ
+acknowledged answer = numbers_logged (kind answer)
+
+abbrev pub says_logged : Kind → Bool
+says_logged (Logged n) = true
+says_logged (RolledBack n) = true
+says_logged other = false
+
+-- it acknowledges entries
+abbrev pub is_logged : Reply → Bool
+is_logged answer = says_logged (kind answer)
+
+abbrev pub says_failed : Kind → Bool
+says_failed Failed = true
+says_failed other = false
+
+-- the log failed at its command
+abbrev pub is_fault : Reply → Bool
+is_fault answer = says_failed (kind answer)
+
+abbrev pub says_stopped : Kind → Bool
+says_stopped Stopped = true
+says_stopped other = false
+
+-- the log had failed before its command
+abbrev pub is_stopped : Reply → Bool
+is_stopped answer = says_stopped (kind answer)
+
+abbrev pub number_of_kind : Kind → Option ℕ
+number_of_kind (Logged n) = Some n
+number_of_kind (RolledBack n) = Some n
+number_of_kind (Published n) = Some n
+number_of_kind other = None
+
+-- the number after the @ of a reply
+abbrev pub number_in : Reply → Option ℕ
+number_in answer = number_of_kind (kind answer)
+
+-- the fresh number of a reply: that of a read at a snapshot is none
+abbrev pub fresh_in : Command → Reply → Option ℕ
+fresh_in (command.GetAt key label) answer = None
+fresh_in other answer = number_in answer
+
+-- the greatest fresh number after a reply
+abbrev pub last_after : ℕ → Command → Reply → ℕ
+last_after last command answer = unwrap_or (fresh_in command answer) last

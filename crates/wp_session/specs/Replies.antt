@@ -1,0 +1,196 @@
+-- The table of replies: each reply is given only where its row says so, over a history, with what is known of the other
+-- clients. Each row stays true as the history grows, and as more is known of the others.
+use Rattle.std.specs.Prelude.{◌≡◌, ◌⊎◌, ℕ, ◌+◌, ◌-◌, ◌<◌, ◌≤◌, ◌==◌, Bool, true, false, nat_le, List, [], ◌∷◌, length, take, Option, Some, None, is_some, if◌then◌else◌}
+use Rattle.wp_model.specs.declared.change.Change.{Change}
+use Rattle.wp_model.specs.declared.change.Change.TheVariants as change
+use Rattle.wp_model.specs.declared.entry.Entry.{Entry}
+use Rattle.wp_model.specs.declared.entry.Entry.TheVariants as entry
+use Rattle.wp_model.specs.Batch.{change_to}
+use Rattle.wp_model.specs.History.{entry_at, name_at, batch_at, is_undecided, is_changed, named, value_at}
+use Rattle.wp_text.specs.declared.script.Command.{Command}
+use Rattle.wp_text.specs.declared.script.Command.TheVariants as command
+use Rattle.wp_text.specs.declared.reply.Reply.{Reply}
+use Rattle.wp_text.specs.declared.reply.Reply.TheVariants as reply
+use Rattle.wp_session.specs.declared.session.TheConstants.{MOST_SNAPSHOTS}
+use Rattle.wp_session.specs.declared.session.Snapshot.{Snapshot}
+use Rattle.wp_session.specs.declared.session.Txn.{Txn}
+use Rattle.wp_session.specs.declared.session.Txn.TheVariants.{Idle, Open, Prepared}
+use Rattle.wp_session.specs.Client.{Client, number_of, own_batch, has_no_room}
+
+-- ---- what is known of the others
+
+-- what a row may say of the other clients and of the log
+pub data Claim : Type 0 where
+  HasName : List ℕ → Claim  -- another client was answered `begun` or `took` for the name
+  HasKey : List ℕ → List ℕ → Claim  -- another client's transaction of this name has the key in its batch
+  LogFailed : ℕ → Claim  -- the log failed, and so many entries are all of the history
+
+-- what one history alone says, where no two clients run at once
+abbrev pub one_at_a_time : List Entry → Claim → Bool
+one_at_a_time history (LogFailed n) = n == length history
+one_at_a_time history other = false
+
+-- what passes a test of claims
+abbrev pub IsKnown : (Claim → Bool) → Claim → Type 0
+IsKnown known claim = known claim ≡ true
+
+-- ---- what the client's own transaction and snapshots refuse, whatever the store has
+
+abbrev pub refuses_change : Txn → List ℕ → Option Reply
+refuses_change Idle key = None
+refuses_change (Open name batch) key = if has_no_room batch key then Some reply.TooMany else None
+refuses_change (Prepared p) key = Some reply.State
+
+abbrev pub unless_idle : Txn → Option Reply
+unless_idle Idle = None
+unless_idle other = Some reply.State
+
+abbrev pub unless_open : Txn → Option Reply
+unless_open (Open name batch) = None
+unless_open other = Some reply.State
+
+abbrev pub unless_prepared : Txn → Option Reply
+unless_prepared (Prepared p) = None
+unless_prepared other = Some reply.State
+
+abbrev pub if_idle : Txn → Option Reply
+if_idle Idle = Some reply.State
+if_idle other = None
+
+abbrev pub unless_labelled : Option ℕ → List ℕ → Option Reply
+unless_labelled (Some n) label = None
+unless_labelled None label = Some (reply.UnknownSnapshot label)
+
+abbrev pub refuses_label : List Snapshot → List ℕ → Option Reply
+refuses_label snapshots label =
+    if is_some (number_of snapshots label) then Some (reply.Taken label)
+    else (if nat_le MOST_SNAPSHOTS (length snapshots) then Some reply.TooMany else None)
+
+abbrev pub refusal_of : Client → Command → Option Reply
+refusal_of client (command.Put key value) = refuses_change client.txn key
+refusal_of client (command.Del key) = refuses_change client.txn key
+refusal_of client (command.Get key) = None
+refusal_of client (command.GetAt key label) = unless_labelled (number_of client.snapshots label) label
+refusal_of client (command.Snap label) = refuses_label client.snapshots label
+refusal_of client (command.Free label) = unless_labelled (number_of client.snapshots label) label
+refusal_of client (command.Begin name) = unless_idle client.txn
+refusal_of client command.Prepare = unless_open client.txn
+refusal_of client command.Commit = if_idle client.txn
+refusal_of client command.Rollback = if_idle client.txn
+refusal_of client command.Leave = unless_prepared client.txn
+refusal_of client (command.Take name) = unless_idle client.txn
+
+-- ---- what a row says of the history
+
+-- the number may be answered: the client has seen nothing later
+abbrev pub IsFresh : List Entry → ℕ → ℕ → Type 0
+IsFresh history last n = (last ≤ n) × (n ≤ length history)
+
+-- the entry is logged with the number, later than all that the client has seen
+abbrev pub IsLoggedAt : List Entry → ℕ → ℕ → Entry → Type 0
+IsLoggedAt history last n entry = (last < n) × (entry_at history n ≡ Some entry)
+
+-- The prepare with the number p, of that name, was undecided when so many entries were published, and the client had
+-- seen nothing later.
+pub record WasUndecided (history : List Entry) (last : ℕ) (name : List ℕ) (p : ℕ) : Type 0 where
+  pub at : ℕ
+  pub fresh : IsFresh history last at
+  pub undecided : is_undecided (take at history) p ≡ true
+  pub named : name_at (take at history) p ≡ name
+
+-- the transaction of that name has the key in its batch: it was undecided, or it is another client's
+abbrev pub IsBusy : List Entry → (Claim → Type 0) → ℕ → List ℕ → List ℕ → Type 0
+IsBusy history others last key name = ((p : ℕ) × (was : WasUndecided history last name p) × (is_changed (batch_at (take was.at history) p) key ≡ true)) ⊎ others (HasKey name key)
+
+-- the name was that of an undecided prepare, or it is another client's
+abbrev pub IsNameTaken : List Entry → (Claim → Type 0) → ℕ → List ℕ → Type 0
+IsNameTaken history others last name = ((p : ℕ) × WasUndecided history last name p) ⊎ others (HasName name)
+
+-- ---- what a row says of the client
+
+abbrev pub TxnIsOpen : Txn → Type 0
+TxnIsOpen (Open name batch) = Unit {0}
+TxnIsOpen other = ⊥
+
+-- the number of a prepared transaction is at most n
+abbrev pub TxnIsWithin : ℕ → Txn → Type 0
+TxnIsWithin n (Prepared p) = p ≤ n
+TxnIsWithin n other = Unit {0}
+
+-- what the batch of the client's own transaction says of the key
+abbrev pub OwnSays : List Entry → Txn → List ℕ → Option (Option (List ℕ)) → Type 0
+OwnSays history txn key said = TxnIsWithin (length history) txn × (change_to (own_batch history txn) key ≡ said)
+
+-- the client's snapshot of that label has the number
+abbrev pub IsSnapshot : List Entry → Client → List ℕ → ℕ → Type 0
+IsSnapshot history client label n = (number_of client.snapshots label ≡ Some n) × (n ≤ length history)
+
+-- how many numbers the command needs in the log: none where it is not logged
+abbrev pub needed : Txn → Command → ℕ
+needed Idle (command.Put key value) = 1
+needed Idle (command.Del key) = 1
+needed (Open name batch) command.Prepare = 1
+needed (Open name batch) command.Commit = 1
+needed (Prepared p) command.Commit = 1
+needed (Prepared p) command.Rollback = 2
+needed txn other = 0
+
+-- ---- transactions in the log
+
+abbrev pub PreparesAt : List Entry → ℕ → Txn → ℕ → Type 0
+PreparesAt history last (Open name batch) n = IsLoggedAt history last n (entry.Prepare name batch)
+PreparesAt history last other n = ⊥
+
+-- from an open transaction all of its changes are one Write
+abbrev pub CommitsAt : List Entry → ℕ → Txn → ℕ → Type 0
+CommitsAt history last Idle n = ⊥
+CommitsAt history last (Open name batch) n = IsLoggedAt history last n (entry.Write batch)
+CommitsAt history last (Prepared p) n = IsLoggedAt history last n (entry.Commit p)
+
+-- n is the number of the Close, right after its Undo
+abbrev pub RollsBackAt : List Entry → ℕ → Txn → ℕ → Type 0
+RollsBackAt history last (Prepared p) n = IsLoggedAt history last n (entry.Close p) × ((batch : List Change) × IsLoggedAt history last (n - 1) (entry.Undo p batch))
+RollsBackAt history last other n = ⊥
+
+-- ---- the rows
+
+-- A row for each command and reply. Last is the greatest fresh number so far, and `took` gives the prepare with the
+-- number p. Of `held`, `freed`, `begun`, `dropped` and `left` the client's state alone decides.
+abbrev pub Row : List Entry → ℕ → (Claim → Type 0) → ℕ → Client → ℕ → Command → Reply → Type 0
+Row history limit others last client p command (reply.Full published most) = (1 ≤ needed client.txn command) × IsFresh history last published × (most ≡ limit) × (limit < published + needed client.txn command)
+Row history limit others last client p command reply.FaultLog = 1 ≤ needed client.txn command
+Row history limit others last client p command (reply.Stopped n) = (1 ≤ needed client.txn command) × IsFresh history last n × others (LogFailed n)
+Row history limit others last client p (command.Put key value) (reply.Put n) = (client.txn ≡ Idle) × IsLoggedAt history last n (entry.Write (change.Put key value ∷ []))
+Row history limit others last client p (command.Put key value) reply.Held = TxnIsOpen client.txn
+Row history limit others last client p (command.Put key value) (reply.Busy name) = IsBusy history others last key name
+Row history limit others last client p (command.Del key) (reply.Del n) = (client.txn ≡ Idle) × IsLoggedAt history last n (entry.Write (change.Del key ∷ []))
+Row history limit others last client p (command.Del key) reply.Held = TxnIsOpen client.txn
+Row history limit others last client p (command.Del key) (reply.Busy name) = IsBusy history others last key name
+Row history limit others last client p (command.Get key) (reply.Got value n) = OwnSays history client.txn key None × IsFresh history last n × (value_at history key n ≡ Some value)
+Row history limit others last client p (command.Get key) (reply.Missing n) = OwnSays history client.txn key None × IsFresh history last n × (value_at history key n ≡ None)
+Row history limit others last client p (command.Get key) (reply.GotOwn value) = OwnSays history client.txn key (Some (Some value))
+Row history limit others last client p (command.Get key) reply.MissingOwn = OwnSays history client.txn key (Some None)
+Row history limit others last client p (command.GetAt key label) (reply.Got value n) = IsSnapshot history client label n × (value_at history key n ≡ Some value)
+Row history limit others last client p (command.GetAt key label) (reply.Missing n) = IsSnapshot history client label n × (value_at history key n ≡ None)
+Row history limit others last client p (command.Snap label) (reply.Snapped n) = IsFresh history last n
+Row history limit others last client p (command.Free label) reply.Freed = Unit {0}
+Row history limit others last client p (command.Begin name) reply.Begun = Unit {0}
+Row history limit others last client p (command.Begin name) (reply.Taken other) = (other ≡ name) × IsNameTaken history others last name
+Row history limit others last client p command.Prepare (reply.Prepared n) = PreparesAt history last client.txn n
+Row history limit others last client p command.Commit (reply.Committed n) = CommitsAt history last client.txn n
+Row history limit others last client p command.Rollback reply.Dropped = TxnIsOpen client.txn
+Row history limit others last client p command.Rollback (reply.RolledBack n) = RollsBackAt history last client.txn n
+Row history limit others last client p command.Leave reply.Left = Unit {0}
+Row history limit others last client p (command.Take name) reply.Took = WasUndecided history last name p
+Row history limit others last client p (command.Take name) (reply.Unknown other n) = (other ≡ name) × IsFresh history last n × (named (take n history) name ≡ None)
+Row history limit others last client p command answer = ⊥
+
+-- the reply is the refusal, where there is one
+abbrev pub UnlessRefused : Option Reply → Reply → Type 0 → Type 0
+UnlessRefused None answer row = row
+UnlessRefused (Some refusal) answer row = answer ≡ refusal
+
+-- `state`, `toomany`, `taken S` and `unknown S` come exactly where the client's state and labels say so; else the row
+-- has the last word.
+abbrev pub Allows : List Entry → ℕ → (Claim → Type 0) → ℕ → Client → ℕ → Command → Reply → Type 0
+Allows history limit others last client p command answer = UnlessRefused (refusal_of client command) answer (Row history limit others last client p command answer)
