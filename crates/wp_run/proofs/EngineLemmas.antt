@@ -8,8 +8,8 @@ use Rattle.wp_outside.specs.Disk.{Moment, IfKnown}
 use Rattle.wp_entry.specs.Record.{FormRecord, IsRecord}
 use Rattle.wp_wal.specs.Spelling.{AreEntries, IsLogOrNext}
 use Rattle.wp_wal.specs.Wal.{Reserved, State as WalState, reserved_of, LeavesHistory, LeavesHistoryOrNext, StoresHistory, IsReserved}
-use Rattle.wp_run.specs.Engine.{bit}
-use Rattle.wp_run.specs.Kept.{IsLogOrOneMore, KeptBy, IsWhole}
+use Rattle.wp_run.specs.Engine.{fault_count}
+use Rattle.wp_run.specs.Stored.{IsLogOrOneMore, CrashLeaves, IsConsistent}
 use Rattle.wp_session.specs.Next.{AreLegalNext, AreNext}
 use Rattle.wp_wal.specs.Wal.{LosesNothing}
 use Rattle.wp_session.proofs.PlanLemmas.{LastIs}
@@ -35,7 +35,7 @@ records_closed last first (r ∷ records) entries (front, rest, parts, is, bytes
 
 -- ---- a store
 
-pub whole_new : LastIs → (wal : WalState) (entries : List Entry) (limit : ℕ) → StoresHistory wal entries [] → IsLegal entries → wal.closed ≡ false → limit < 2 ^ 32 → IsWhole wal entries false limit
+pub whole_new : LastIs → (wal : WalState) (entries : List Entry) (limit : ℕ) → StoresHistory wal entries [] → IsLegal entries → wal.closed ≡ false → limit < 2 ^ 32 → IsConsistent wal entries false limit
 whole_new last wal entries limit keeps legal running small = record {
   failed = [];
   keeps = keeps;
@@ -60,7 +60,7 @@ keeps_reserved : (wal : WalState) (entries : List Entry) (reserved : Option Rese
 keeps_reserved wal entries reserved keeps = record { records = keeps.records; spelled = keeps.spelled; counted = keeps.counted; numbered = keeps.numbered; rests = keeps.rests; left = keeps.left }
 
 -- the record of the entries stands reserved
-pub ready_for : (old ready : WalState) (entries added : List Entry) (stopped : Bool) (limit : ℕ) → IsWhole old entries stopped limit → stopped ≡ false
+pub ready_for : (old ready : WalState) (entries added : List Entry) (stopped : Bool) (limit : ℕ) → IsConsistent old entries stopped limit → stopped ≡ false
     → ready ≡ record old { reserved = Some (reserved_of old.due added) } → IsRecord old.due added → IsReserved ready entries added
 ready_for old ready entries added stopped limit whole running is record_is =
     let kept : StoresHistory old entries [] = subst (λ (xs : List Entry). StoresHistory old entries xs) (whole.none running) whole.keeps in
@@ -75,7 +75,7 @@ lasting_from old ready new reserved is lasting = subst (λ (w : WalState). Loses
 -- the log took the entries
 pub whole_taken : ((history : List Entry) (e : Entry) → IsLegal history → IsLegalNext history e → length history + 1 < 2 ^ 32 → IsLegal (history ++ e ∷ []))
     → (new : WalState) (entries added : List Entry) (stopped : Bool) (limit : ℕ) → stopped ≡ false → IsLegal entries → AreNext entries added → length entries + length added ≤ limit → limit < 2 ^ 32
-    → StoresHistory new (entries ++ added) [] → new.closed ≡ false → IsWhole new (entries ++ added) stopped limit
+    → StoresHistory new (entries ++ added) [] → new.closed ≡ false → IsConsistent new (entries ++ added) stopped limit
 whole_taken grows new entries added stopped limit running legal next fits small keeps runs =
     let few : length entries + length added < 2 ^ 32 = omega (arith, fits, small) in
     record {
@@ -91,8 +91,8 @@ whole_taken grows new entries added stopped limit running legal next fits small 
 
 -- the log failed as it took the entries
 pub whole_failed : ((history : List Entry) (e : Entry) → IsLegal history → IsLegalNext history e → length history + 1 < 2 ^ 32 → IsLegal (history ++ e ∷ []))
-    → (old new : WalState) (entries added : List Entry) (stopped : Bool) (limit : ℕ) → IsWhole old entries stopped limit → stopped ≡ false → IsLegal entries → AreNext entries added → length entries + length added ≤ limit
-    → IsRecord old.due added → StoresHistory new entries added → new.closed ≡ true → IsWhole new entries true limit
+    → (old new : WalState) (entries added : List Entry) (stopped : Bool) (limit : ℕ) → IsConsistent old entries stopped limit → stopped ≡ false → IsLegal entries → AreNext entries added → length entries + length added ≤ limit
+    → IsRecord old.due added → StoresHistory new entries added → new.closed ≡ true → IsConsistent new entries true limit
 whole_failed grows old new entries added stopped limit whole running legal next fits record_is keeps closed =
     let few : length entries + length added < 2 ^ 32 = omega (arith, fits, whole.numbers) in
     record {
@@ -114,16 +114,16 @@ or_next id entries failed image legal longer is spelled = elim spelled [
   | inr after ↦ (entries ++ failed, inr (failed, is, refl), longer, after)
 ]
 
-kept_running : (id : ℕ) (entries : List Entry) (moments : List Moment) → IfKnown moments (LeavesHistory id entries) → IfKnown moments (KeptBy 0 id entries)
+kept_running : (id : ℕ) (entries : List Entry) (moments : List Moment) → IfKnown moments (LeavesHistory id entries) → IfKnown moments (CrashLeaves 0 id entries)
 kept_running id entries [] left = tt
 kept_running id entries (m ∷ past) left = left
 
-kept_failed : (id : ℕ) (entries failed : List Entry) (moments : List Moment) → IsLegal entries → IsLegal (entries ++ failed) → IsRecord (length entries + 1) failed → IfKnown moments (LeavesHistoryOrNext id entries failed) → IfKnown moments (KeptBy 1 id entries)
+kept_failed : (id : ℕ) (entries failed : List Entry) (moments : List Moment) → IsLegal entries → IsLegal (entries ++ failed) → IsRecord (length entries + 1) failed → IfKnown moments (LeavesHistoryOrNext id entries failed) → IfKnown moments (CrashLeaves 1 id entries)
 kept_failed id entries failed [] legal longer is left = tt
 kept_failed id entries failed (m ∷ past) legal longer is left = λ image at. (or_next id entries failed image legal longer is (left image at).0, (left image at).1)
 
-pub whole_keeps : (wal : WalState) (entries : List Entry) (stopped : Bool) (limit : ℕ) → IsWhole wal entries stopped limit → IsLegal entries
+pub whole_keeps : (wal : WalState) (entries : List Entry) (stopped : Bool) (limit : ℕ) → IsConsistent wal entries stopped limit → IsLegal entries
     → ((history next : List Entry) → StoresHistory wal history next → wal.closed ≡ false → IfKnown wal.moments (LeavesHistory wal.id history))
-    → IfKnown wal.moments (KeptBy (bit stopped) wal.id entries)
+    → IfKnown wal.moments (CrashLeaves (fault_count stopped) wal.id entries)
 whole_keeps wal entries false limit whole legal left = kept_running wal.id entries wal.moments (left entries whole.failed whole.keeps whole.state)
 whole_keeps wal entries true limit whole legal left = kept_failed wal.id entries whole.failed wal.moments legal whole.legal (whole.whole refl) (whole.keeps.left whole.state)

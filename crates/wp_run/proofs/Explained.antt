@@ -17,24 +17,33 @@ use Rattle.wp_session.specs.Due.{Store, IsReply, acknowledged, added, is_fault, 
 use Rattle.wp_session.specs.Session.{fresh_in, last_after, store_at, IsAnswer, IsSession, is_stopped}
 use Rattle.wp_session.specs.Current.{RunsAlone}
 use Rattle.wp_run.specs.Transcript.{AreSessions, IsExact, all_replies, Explains}
-use Rattle.wp_run.specs.Engine.{State, bit, store_of, Later, Steps, Runs, AllRun}
+use Rattle.wp_run.specs.Engine.{EngineState, Answered, fault_count, store_of, Later, Steps, Runs, AllRun, IsRunSoFar, AllRunSoFar}
 use Rattle.wp_run.proofs.LaterLemmas.{Later-equal, Later-same, Later-trans, Steps-later}
 
 -- ---- runs
 
-pub Runs-later : (old new : State) (was now : Client) (commands : List Command) (answers : List Reply) → Runs old was commands answers new now → Later old new
+pub Runs-later : (old new : EngineState) (was now : Client) (commands : List Command) (answers : List Reply) → Runs old was commands answers new now → Later old new
 Runs-later old new was now [] [] e = Later-equal old new e.0
 Runs-later old new was now [] (a ∷ answers) h = absurd h
 Runs-later old new was now (c ∷ commands) [] h = absurd h
 Runs-later old new was now (c ∷ commands) (a ∷ answers) (mid, next, step, rest) = Later-trans old mid new (Steps-later old mid was next c a step) (Runs-later mid new next now commands answers rest)
 
-pub AllRun-later : (old new : State) (parts : List Part) (sessions : List (List Reply)) → AllRun old parts sessions new → Later old new
+pub AllRun-later : (old new : EngineState) (parts : List Part) (sessions : List (List Reply)) → AllRun old parts sessions new → Later old new
 AllRun-later old new [] [] e = Later-equal old new e
 AllRun-later old new [] (a ∷ sessions) h = absurd h
 AllRun-later old new (p ∷ parts) [] h = absurd h
 AllRun-later old new (p ∷ parts) (a ∷ sessions) (mid, (last, run), rest) = Later-trans old mid new (Runs-later old mid new_client last p.commands a run) (AllRun-later mid new parts sessions rest)
 
-longer_by : (old new : State) → Later old new → length old.entries ≤ length new.entries
+pub RunSoFar-later : (old new : EngineState) (commands : List Command) (answered : Answered) → IsRunSoFar old commands answered new → Later old new
+RunSoFar-later old new commands answered ran = Runs-later old new new_client ran.run.0 ran.first answered.replies ran.run.1
+
+pub AllRunSoFar-later : (old new : EngineState) (parts : List Part) (sessions : List Answered) → AllRunSoFar old parts sessions new → Later old new
+AllRunSoFar-later old new [] [] e = Later-equal old new e
+AllRunSoFar-later old new [] (a ∷ sessions) h = absurd h
+AllRunSoFar-later old new (p ∷ parts) [] h = absurd h
+AllRunSoFar-later old new (p ∷ parts) (a ∷ sessions) (mid, ran, rest) = Later-trans old mid new (RunSoFar-later old mid p.commands a ran) (AllRunSoFar-later mid new parts sessions rest)
+
+longer_by : (old new : EngineState) → Later old new → length old.entries ≤ length new.entries
 longer_by old new later = omega (arith, ap (λ (xs : List Entry). length xs) later.grows.1, length-append old.entries later.grows.0)
 
 -- ---- answers
@@ -44,7 +53,7 @@ last_within old new last (Some n) le longer within = (omega (arith, within.0), w
 last_within old new last None le longer within = (omega arith, omega arith)
 
 -- a command's reply in every later history
-answered : (old new final : State) (last : ℕ) (was now : Client) (c : Command) (answer : Reply) → last ≤ length old.entries → Steps old was c answer new now → Later new final
+answered : (old new final : EngineState) (last : ℕ) (was now : Client) (c : Command) (answer : Reply) → last ≤ length old.entries → Steps old was c answer new now → Later new final
     → (given : IsAnswer final.entries old.limit last was c answer) × (client_after (take given.at final.entries) was c answer ≡ now) × (last_after last c answer ≤ length new.entries)
 answered old new final last was now c answer le step later =
     let new_is = added (store_of old) was c answer in
@@ -72,7 +81,7 @@ answered old new final last was now c answer le step later =
       first.1,
     )
 
-is_session : (old new final : State) (last : ℕ) (was now : Client) (commands : List Command) (answers : List Reply) → last ≤ length old.entries → Runs old was commands answers new now → Later new final → IsSession final.entries old.limit last was commands answers
+is_session : (old new final : EngineState) (last : ℕ) (was now : Client) (commands : List Command) (answers : List Reply) → last ≤ length old.entries → Runs old was commands answers new now → Later new final → IsSession final.entries old.limit last was commands answers
 is_session old new final last was now [] [] le h later = tt
 is_session old new final last was now [] (a ∷ answers) le h later = absurd h
 is_session old new final last was now (c ∷ commands) [] le h later = absurd h
@@ -81,7 +90,7 @@ is_session old new final last was now (c ∷ commands) (a ∷ answers) le (mid, 
     let more = is_session mid new final (last_after last c a) next now commands answers here.2 rest later in
     (here.0, subst (λ (x : Client). IsSession final.entries old.limit (last_after last c a) x commands answers) (sym here.1) (subst (λ (k : ℕ). IsSession final.entries k (last_after last c a) next commands answers) step.limited more))
 
-are_sessions : (old new final : State) (opened : ℕ) (parts : List Part) (sessions : List (List Reply)) → opened ≤ length old.entries → AllRun old parts sessions new → Later new final → AreSessions final.entries old.limit opened parts sessions
+are_sessions : (old new final : EngineState) (opened : ℕ) (parts : List Part) (sessions : List (List Reply)) → opened ≤ length old.entries → AllRun old parts sessions new → Later new final → AreSessions final.entries old.limit opened parts sessions
 are_sessions old new final opened [] [] le h later = tt
 are_sessions old new final opened [] (a ∷ sessions) le h later = absurd h
 are_sessions old new final opened (p ∷ parts) [] le h later = absurd h
@@ -94,17 +103,17 @@ are_sessions old new final opened (p ∷ parts) (a ∷ sessions) le (mid, (last,
 
 -- ---- counts
 
-pub record Totals (old new : State) (answers : List Reply) : Type 0 where
+pub record Totals (old new : EngineState) (answers : List Reply) : Type 0 where
   pub count : ℕ
   pub longer : length new.entries ≡ length old.entries + count
   pub numbers : flat_map acknowledged answers ≡ range_with_len (length old.entries + 1) count
-  pub failed : count_by is_fault answers + bit old.stopped ≡ bit new.stopped
+  pub failed : count_by is_fault answers + fault_count old.stopped ≡ fault_count new.stopped
   pub told : list_any is_stopped answers ≡ true → new.stopped ≡ true
 
-fault_counts : (answer : Reply) (before now : Bool) → now ≡ (if is_fault answer then true else before) → (is_fault answer ≡ true → before ≡ false) → cond (is_fault answer) 1 0 + bit before ≡ bit now
+fault_counts : (answer : Reply) (before now : Bool) → now ≡ (if is_fault answer then true else before) → (is_fault answer ≡ true → before ≡ false) → cond (is_fault answer) 1 0 + fault_count before ≡ fault_count now
 fault_counts answer before now is running = by (is_fault answer) is running
   where
-    by : (fault : Bool) → now ≡ (if fault then true else before) → (fault ≡ true → before ≡ false) → cond fault 1 0 + bit before ≡ bit now
+    by : (fault : Bool) → now ≡ (if fault then true else before) → (fault ≡ true → before ≡ false) → cond fault 1 0 + fault_count before ≡ fault_count now
     by true is running = rw (is, running refl) refl
     by false is running = rw is (omega arith)
 
@@ -115,10 +124,10 @@ range-append a (suc k) m =
     let whole : suc k + m ≡ suc (k + m) = omega arith in
     rw (next, whole) (ap (λ (xs : List ℕ). a ∷ xs) (range-append (a + 1) k m))
 
-totals_same : (old new : State) → new ≡ old → Totals old new []
+totals_same : (old new : EngineState) → new ≡ old → Totals old new []
 totals_same old new e = record { count = 0; longer = rw e (omega arith); numbers = refl; failed = rw e (omega arith); told = λ t. absurd cc }
 
-run_totals : (old new : State) (was now : Client) (commands : List Command) (answers : List Reply) → Runs old was commands answers new now → Totals old new answers
+run_totals : (old new : EngineState) (was now : Client) (commands : List Command) (answers : List Reply) → Runs old was commands answers new now → Totals old new answers
 run_totals old new was now [] [] e = totals_same old new e.0
 run_totals old new was now [] (a ∷ answers) h = absurd h
 run_totals old new was now (c ∷ commands) [] h = absurd h
@@ -138,7 +147,7 @@ run_totals old new was now (c ∷ commands) (a ∷ answers) (mid, next, step, re
     }
 
 -- one client's answers behind another's
-totals_append : (old mid new : State) (front back : List Reply) → Totals old mid front → Totals mid new back → Later mid new → Totals old new (front ++ back)
+totals_append : (old mid new : EngineState) (front back : List Reply) → Totals old mid front → Totals mid new back → Later mid new → Totals old new (front ++ back)
 totals_append old mid new front back a b later = record {
   count = a.count + b.count;
   longer = omega (arith, a.longer, b.longer);
@@ -149,7 +158,7 @@ totals_append old mid new front back a b later = record {
   told = λ t. elim (or_cases _ _ (sym (list_any-append is_stopped front back) ∙ t)) [ inl first ↦ later.stopped (a.told first) | inr others ↦ b.told others ];
 }
 
-all_totals : (old new : State) (parts : List Part) (sessions : List (List Reply)) → AllRun old parts sessions new → Totals old new (all_replies sessions)
+all_totals : (old new : EngineState) (parts : List Part) (sessions : List (List Reply)) → AllRun old parts sessions new → Totals old new (all_replies sessions)
 all_totals old new [] [] e = totals_same old new e
 all_totals old new [] (a ∷ sessions) h = absurd h
 all_totals old new (p ∷ parts) [] h = absurd h
@@ -176,7 +185,7 @@ count_once n a (suc k) le lt =
 
 -- ---- the explanation
 
-alone : (old new : State) (was now : Client) (commands : List Command) (answers : List Reply) → Runs old was commands answers new now → RunsAlone (store_of old) was commands answers
+alone : (old new : EngineState) (was now : Client) (commands : List Command) (answers : List Reply) → Runs old was commands answers new now → RunsAlone (store_of old) was commands answers
 alone old new was now [] [] h = tt
 alone old new was now [] (a ∷ answers) h = absurd h
 alone old new was now (c ∷ commands) [] h = absurd h
@@ -185,12 +194,12 @@ alone old new was now (c ∷ commands) (a ∷ answers) (mid, next, step, rest) =
     rw (step.entries, step.stopped, step.limited) refl in
     (step.replied, subst (λ (s : Store). RunsAlone s (client_after old.entries was c a) commands answers) store (subst (λ (x : Client). RunsAlone (store_of mid) x commands answers) step.client (alone mid new next now commands answers rest)))
 
-exact_of : (old new : State) (parts : List Part) (sessions : List (List Reply)) → AllRun old parts sessions new → old.stopped ≡ false → IsExact old.limit old.entries parts sessions
+exact_of : (old new : EngineState) (parts : List Part) (sessions : List (List Reply)) → AllRun old parts sessions new → old.stopped ≡ false → IsExact old.limit old.entries parts sessions
 exact_of old new (p ∷ []) (answers ∷ []) (mid, (last, run), rest) fresh = subst (λ (b : Bool). RunsAlone (record { history = old.entries; stopped = b; limit = old.limit }) new_client p.commands answers) fresh (alone old mid new_client last p.commands answers run)
 exact_of old new parts sessions h fresh = tt
 
 -- what the clients are answered one after another, from a store whose log has not failed
-pub explained : (old new : State) (parts : List Part) (sessions : List (List Reply)) → AllRun old parts sessions new → old.stopped ≡ false → IsLegal new.entries → Explains old.limit (bit new.stopped) parts old.entries new.entries sessions
+pub explained : (old new : EngineState) (parts : List Part) (sessions : List (List Reply)) → AllRun old parts sessions new → old.stopped ≡ false → IsLegal new.entries → Explains old.limit (fault_count new.stopped) parts old.entries new.entries sessions
 explained old new parts sessions h fresh legal =
     let total = all_totals old new parts sessions h in
     record {
@@ -198,7 +207,7 @@ explained old new parts sessions h fresh legal =
       begins = (AllRun-later old new parts sessions h).grows;
       answered = are_sessions old new new (length old.entries) parts sessions (omega arith) h (Later-same new);
       paired = λ n after within. rw total.numbers (count_once n (length old.entries + 1) total.count (omega arith) (omega (arith, total.longer)));
-      failed = omega (arith, total.failed, ap bit fresh);
+      failed = omega (arith, total.failed, ap fault_count fresh);
       stopped = λ t. rw (total.told t) (omega arith);
       exact = exact_of old new parts sessions h fresh;
     }

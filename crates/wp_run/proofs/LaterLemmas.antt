@@ -12,7 +12,7 @@ use Rattle.wp_text.specs.declared.reply.Reply.{Reply}
 use Rattle.wp_session.specs.Client.{Client}
 use Rattle.wp_session.specs.Due.{added, is_fault}
 use Rattle.wp_wal.specs.Spelling.{MAGIC}
-use Rattle.wp_run.specs.Engine.{State, store_of, Later, Steps}
+use Rattle.wp_run.specs.Engine.{EngineState, store_of, Later, Steps}
 use Rattle.wp_wal.specs.Wal.{LosesNothing}
 use Rattle.wp_run.proofs.StepLemmas.{false_is_true}
 
@@ -35,7 +35,7 @@ lasting_trans old mid new a b = λ id records. lasts_on (Leaves (HasAcknowledged
 
 -- ---- the store
 
-pub Later-same : (s : State) → Later s s
+pub Later-same : (s : EngineState) → Later s s
 Later-same s = record {
   grows = ([], sym (append-nil s.entries));
   stays = λ e. refl;
@@ -47,11 +47,11 @@ Later-same s = record {
   lasting = lasting_same s.moments;
 }
 
-pub Later-equal : (old new : State) → new ≡ old → Later old new
-Later-equal old new e = subst (λ (s : State). Later old s) (sym e) (Later-same old)
+pub Later-equal : (old new : EngineState) → new ≡ old → Later old new
+Later-equal old new e = subst (λ (s : EngineState). Later old s) (sym e) (Later-same old)
 
-pub Later-kept : (old mid new : State) → Later old mid → new ≡ mid → Later old new
-Later-kept old mid new later e = subst (λ (s : State). Later old s) (sym e) later
+pub Later-kept : (old mid new : EngineState) → Later old mid → new ≡ mid → Later old new
+Later-kept old mid new later e = subst (λ (s : EngineState). Later old s) (sym e) later
 
 rose_between : (a b c : ℕ) → a ≤ b → Rose b c → Rose a c
 rose_between a b c le h = omega arith
@@ -60,14 +60,14 @@ rose_before : (a b c : ℕ) → Rose a b → b ≤ c → Rose a c
 rose_before a b c h le = omega arith
 
 -- which of two steps stopped the log
-rose_on : (old mid new : State) → Later old mid → Later mid new → old.stopped ≡ false → new.stopped ≡ true → Rose old.faults new.faults
+rose_on : (old mid new : EngineState) → Later old mid → Later mid new → old.stopped ≡ false → new.stopped ≡ true → Rose old.faults new.faults
 rose_on old mid new a b fresh now =
     elim (cases_Bool mid.stopped) [
       | inl first ↦ rose_before old.faults mid.faults new.faults (a.rose fresh first) b.counted
       | inr second ↦ rose_between old.faults mid.faults new.faults a.counted (b.rose second now)
     ]
 
-pub Later-trans : (old mid new : State) → Later old mid → Later mid new → Later old new
+pub Later-trans : (old mid new : EngineState) → Later old mid → Later mid new → Later old new
 Later-trans old mid new a b = record {
   grows = (a.grows.0 ++ b.grows.0, b.grows.1 ∙ ap (λ (xs : List Entry). xs ++ b.grows.0) a.grows.1 ∙ append_assoc old.entries a.grows.0 b.grows.0);
   stays = λ e. b.stays (a.stopped e) ∙ a.stays e;
@@ -87,7 +87,7 @@ newly_stopped : (fault before now : Bool) → now ≡ (if fault then true else b
 newly_stopped true before now is running stopped = refl
 newly_stopped false before now is running stopped = false_is_true now (is ∙ running) stopped
 
-pub Steps-later : (old new : State) (was now : Client) (c : Command) (answer : Reply) → Steps old was c answer new now → Later old new
+pub Steps-later : (old new : EngineState) (was now : Client) (c : Command) (answer : Reply) → Steps old was c answer new now → Later old new
 Steps-later old new was now c answer step = record {
   grows = (added (store_of old) was c answer, step.entries);
   stays = step.stays;

@@ -15,9 +15,9 @@ use Rattle.wp_session.specs.declared.plan.Plan.TheVariants.{Say, Log, RollBack}
 use Rattle.wp_session.specs.Client.{Client, Fits}
 use Rattle.wp_session.specs.Due.{Store, logged, reply_to, due, acknowledged, is_logged, is_fault, added, settled, client_after}
 use Rattle.wp_session.specs.Session.{number_in, fresh_in, is_stopped}
-use Rattle.wp_run.specs.Engine.{State, store_of, Steps}
+use Rattle.wp_run.specs.Engine.{EngineState, store_of, Steps}
 use Rattle.wp_session.specs.Plan.{plan, asked_of}
-use Rattle.wp_run.specs.Write.{Takes, FailsAt, Tells}
+use Rattle.wp_run.specs.Logging.{HasLogged, HasFailed, IsLogAnswer}
 use Rattle.wp_session.proofs.PlanLemmas.{Logs}
 use Rattle.wp_session.proofs.SaidLemmas.{plan_says, within_more}
 
@@ -60,15 +60,15 @@ logged_stopped store needed told stopped = rw stopped refl
 -- ---- steps
 
 -- what a plan that asks the log comes to, where the log does not fail
-pub record Asks (s : State) (client : Client) (c : Command) (entries : List Entry) (told : Reply) : Type 0 where
+pub record Asks (s : EngineState) (client : Client) (c : Command) (entries : List Entry) (told : Reply) : Type 0 where
   pub asked : asked_of (plan s.entries client c) ≡ entries
   pub replies : due (store_of s) client c ≡ logged (store_of s) (length entries) told
   pub logs : Logs s.entries client entries told
 
-pub log_asks : (s : State) (client : Client) (c : Command) (e : Entry) (told : Reply) → plan s.entries client c ≡ Log e told → Logs s.entries client (e ∷ []) told → Asks s client c (e ∷ []) told
+pub log_asks : (s : EngineState) (client : Client) (c : Command) (e : Entry) (told : Reply) → plan s.entries client c ≡ Log e told → Logs s.entries client (e ∷ []) told → Asks s client c (e ∷ []) told
 log_asks s client c e told planned logs = record { asked = ap asked_of planned; replies = ap (reply_to (store_of s)) planned; logs = logs }
 
-pub rollback_asks : (s : State) (client : Client) (c : Command) (p : ℕ) (batch : List Change) (told : Reply) → plan s.entries client c ≡ RollBack p batch told → Logs s.entries client (entry.Undo p batch ∷ entry.Close p ∷ []) told → Asks s client c (entry.Undo p batch ∷ entry.Close p ∷ []) told
+pub rollback_asks : (s : EngineState) (client : Client) (c : Command) (p : ℕ) (batch : List Change) (told : Reply) → plan s.entries client c ≡ RollBack p batch told → Logs s.entries client (entry.Undo p batch ∷ entry.Close p ∷ []) told → Asks s client c (entry.Undo p batch ∷ entry.Close p ∷ []) told
 rollback_asks s client c p batch told planned logs = record { asked = ap asked_of planned; replies = ap (reply_to (store_of s)) planned; logs = logs }
 
 fresh_if_numbered : (P : ℕ → Type 0) (c : Command) (r : Reply) → IfSome (number_in r) P → IfSome (fresh_in c r) P
@@ -79,19 +79,19 @@ not_stopped : (r : Reply) → is_logged r ≡ true → is_stopped r ≡ false
 not_stopped (reply.Stopped n) is = absurd cc
 not_stopped other is = refl
 
-takes_steps : (old new : State) (was now : Client) (c : Command) (entries : List Entry) (told : Reply) → Asks old was c entries told → Takes old new entries → now ≡ settled was told → Steps old was c told new now
+takes_steps : (old new : EngineState) (was now : Client) (c : Command) (entries : List Entry) (told : Reply) → Asks old was c entries told → HasLogged old new entries → now ≡ settled was told → Steps old was c told new now
 takes_steps old new was now c entries told asks takes is =
     let added_is : added (store_of old) was c told ≡ entries = rw (asks.logs.logged, asks.asked) refl in
-    let longer : new.entries ≡ old.entries ++ entries = ap (λ (s : State). s.entries) takes.changed in
+    let longer : new.entries ≡ old.entries ++ entries = ap (λ (s : EngineState). s.entries) takes.changed in
     record {
       replied = inl (sym (asks.replies ∙ logged_takes (store_of old) (length entries) told takes.running takes.fits));
       entries = longer ∙ ap (λ (xs : List Entry). old.entries ++ xs) (sym added_is);
-      stopped = ap (λ (s : State). s.stopped) takes.changed ∙ rw (faultless told asks.logs.logged) refl;
+      stopped = ap (λ (s : EngineState). s.stopped) takes.changed ∙ rw (faultless told asks.logs.logged) refl;
       client = is ∙ sym (settles old.entries was c told asks.logs.logged);
       rose = λ f. false_is_true (is_fault told) (faultless told asks.logs.logged) f;
       counted = takes.counted;
-      limited = ap (λ (s : State). s.limit) takes.changed;
-      named = ap (λ (s : State). s.id) takes.changed;
+      limited = ap (λ (s : EngineState). s.limit) takes.changed;
+      named = ap (λ (s : EngineState). s.id) takes.changed;
       lasting = takes.lasting;
       numbers = asks.logs.numbers ∙ ap (λ (xs : List Entry). range_with_len (length old.entries + 1) (length xs)) (sym added_is);
       fresh = rw (longer, length-append old.entries entries) (fresh_if_numbered (λ n. (length old.entries ≤ n) × (n ≤ length old.entries + length entries)) c told asks.logs.fresh);
@@ -100,16 +100,16 @@ takes_steps old new was now c entries told asks takes is =
       stays = λ s. false_is_true old.stopped takes.running s;
     }
 
-fails_steps : (old new : State) (was : Client) (c : Command) (entries : List Entry) (told : Reply) → Asks old was c entries told → FailsAt old new entries → Steps old was c reply.FaultLog new was
+fails_steps : (old new : EngineState) (was : Client) (c : Command) (entries : List Entry) (told : Reply) → Asks old was c entries told → HasFailed old new entries → Steps old was c reply.FaultLog new was
 fails_steps old new was c entries told asks fails = record {
   replied = inr (refl, ap is_logged (asks.replies ∙ logged_takes (store_of old) (length entries) told fails.running fails.fits) ∙ asks.logs.logged);
-  entries = ap (λ (s : State). s.entries) fails.changed ∙ sym (append-nil old.entries);
-  stopped = ap (λ (s : State). s.stopped) fails.changed;
+  entries = ap (λ (s : EngineState). s.entries) fails.changed ∙ sym (append-nil old.entries);
+  stopped = ap (λ (s : EngineState). s.stopped) fails.changed;
   client = refl;
   rose = λ f. fails.rose;
   counted = fails.counted;
-  limited = ap (λ (s : State). s.limit) fails.changed;
-  named = ap (λ (s : State). s.id) fails.changed;
+  limited = ap (λ (s : EngineState). s.limit) fails.changed;
+  named = ap (λ (s : EngineState). s.id) fails.changed;
   lasting = fails.lasting;
   numbers = refl;
   fresh = fresh_if_numbered _ c reply.FaultLog tt;
@@ -119,7 +119,7 @@ fails_steps old new was c entries told asks fails = record {
 }
 
 -- a reply without the log changes nothing of the store
-still_steps : (old : State) (was now : Client) (c : Command) (answer : Reply) → answer ≡ due (store_of old) was c → now ≡ client_after old.entries was c answer → acknowledged answer ≡ [] → is_logged answer ≡ false → is_fault answer ≡ false → (is_stopped answer ≡ true → old.stopped ≡ true) → IfSome (fresh_in c answer) (λ n. n ≡ length old.entries) → Steps old was c answer old now
+still_steps : (old : EngineState) (was now : Client) (c : Command) (answer : Reply) → answer ≡ due (store_of old) was c → now ≡ client_after old.entries was c answer → acknowledged answer ≡ [] → is_logged answer ≡ false → is_fault answer ≡ false → (is_stopped answer ≡ true → old.stopped ≡ true) → IfSome (fresh_in c answer) (λ n. n ≡ length old.entries) → Steps old was c answer old now
 still_steps old was now c answer is client none unlogged faultless stopped fresh = record {
   replied = inl is;
   entries = rw unlogged (sym (append-nil old.entries));
@@ -141,11 +141,11 @@ still_steps old was now c answer is client none unlogged faultless stopped fresh
     if_current (Some m) n at = (omega (arith, at), omega (arith, at))
     if_current None n at = tt
 
-step_at : (old new : State) (was now : Client) (c : Command) (answer told : Reply) → answer ≡ told → new ≡ old → now ≡ was → Steps old was c told old was → Steps old was c answer new now
+step_at : (old new : EngineState) (was now : Client) (c : Command) (answer told : Reply) → answer ≡ told → new ≡ old → now ≡ was → Steps old was c told old was → Steps old was c answer new now
 step_at old new was now c answer told a n i step =
-    subst (λ (r : Reply). Steps old was c r new now) (sym a) (subst (λ (s : State). Steps old was c told s now) (sym n) (subst (λ (x : Client). Steps old was c told old x) (sym i) step))
+    subst (λ (r : Reply). Steps old was c r new now) (sym a) (subst (λ (s : EngineState). Steps old was c told s now) (sym n) (subst (λ (x : Client). Steps old was c told old x) (sym i) step))
 
-pub told_steps : (old new : State) (was now : Client) (c : Command) (entries : List Entry) (told answer : Reply) → Asks old was c entries told → Tells old was entries told answer new now → Steps old was c answer new now
+pub told_steps : (old new : EngineState) (was now : Client) (c : Command) (entries : List Entry) (told answer : Reply) → Asks old was c entries told → IsLogAnswer old was entries told answer new now → Steps old was c answer new now
 told_steps old new was now c entries told answer asks tells = elim tells [
   | inl accepted ↦ subst (λ (r : Reply). Steps old was c r new now) (sym accepted.1) (takes_steps old new was now c entries told asks accepted.0 accepted.2)
   | inr (inl failed) ↦ subst (λ (r : Reply). Steps old was c r new now) (sym failed.1) (subst (λ (x : Client). Steps old was c reply.FaultLog new x) (sym failed.2) (fails_steps old new was c entries told asks failed.0))
@@ -155,20 +155,20 @@ told_steps old new was now c entries told answer asks tells = elim tells [
       (still_steps old was was c (reply.Stopped (length old.entries)) (sym (asks.replies ∙ logged_stopped (store_of old) (length entries) told stopped.0.stopped)) refl refl refl refl (λ t. stopped.0.stopped) (fresh_if_numbered _ c (reply.Stopped (length old.entries)) tt))
 ]
 
-pub told_fits : (old new : State) (was now : Client) (entries : List Entry) (told answer : Reply) → Logs old.entries was entries told → Fits old.entries was → Tells old was entries told answer new now → Fits new.entries now
+pub told_fits : (old new : EngineState) (was now : Client) (entries : List Entry) (told answer : Reply) → Logs old.entries was entries told → Fits old.entries was → IsLogAnswer old was entries told answer new now → Fits new.entries now
 told_fits old new was now entries told answer logs fits tells = elim tells [
   | inl accepted ↦
-      let longer : new.entries ≡ old.entries ++ entries = ap (λ (s : State). s.entries) accepted.0.changed in
+      let longer : new.entries ≡ old.entries ++ entries = ap (λ (s : EngineState). s.entries) accepted.0.changed in
       subst (λ (x : Client). Fits new.entries x) (sym accepted.2) (record {
         txn = rw longer logs.txn;
         snapshots = rw (settled_snapshots was told, longer, length-append old.entries entries) (within_more (length old.entries) (length old.entries + length entries) was.snapshots (omega arith) fits.snapshots);
       })
-  | inr (inl failed) ↦ subst (λ (x : Client). Fits new.entries x) (sym failed.2) (rw (ap (λ (s : State). s.entries) failed.0.changed) fits)
+  | inr (inl failed) ↦ subst (λ (x : Client). Fits new.entries x) (sym failed.2) (rw (ap (λ (s : EngineState). s.entries) failed.0.changed) fits)
   | inr (inr (inl full)) ↦ subst (λ (x : Client). Fits new.entries x) (sym full.2) (rw full.0.same fits)
   | inr (inr (inr stopped)) ↦ subst (λ (x : Client). Fits new.entries x) (sym stopped.2) (rw stopped.0.same fits)
 ]
 
-pub said_steps : (s : State) (was now : Client) (c : Command) (answer : Reply) → plan s.entries was c ≡ Say answer → now ≡ client_after s.entries was c answer → Steps s was c answer s now
+pub said_steps : (s : EngineState) (was now : Client) (c : Command) (answer : Reply) → plan s.entries was c ≡ Say answer → now ≡ client_after s.entries was c answer → Steps s was c answer s now
 said_steps s was now c answer planned is =
     let plain = plan_says s.entries was c answer planned in
     still_steps s was now c answer (sym (ap (reply_to (store_of s)) planned)) is plain.none plain.unlogged plain.faultless (λ t. false_is_true (is_stopped answer) plain.running t) plain.current
