@@ -108,7 +108,7 @@ pub record Totals (old new : EngineState) (answers : List Reply) : Type 0 where
   pub longer : length new.entries ≡ length old.entries + count
   pub numbers : flat_map acknowledged answers ≡ range_with_len (length old.entries + 1) count
   pub failed : count_by is_fault answers + fault_count old.stopped ≡ fault_count new.stopped
-  pub told : list_any is_stopped answers ≡ true → new.stopped ≡ true
+  pub stopped : list_any is_stopped answers ≡ true → new.stopped ≡ true
 
 fault_counts : (answer : Reply) (before now : Bool) → now ≡ (if is_fault answer then true else before) → (is_fault answer ≡ true → before ≡ false) → cond (is_fault answer) 1 0 + fault_count before ≡ fault_count now
 fault_counts answer before now is running = by (is_fault answer) is running
@@ -125,7 +125,7 @@ range-append a (suc k) m =
     rw (next, whole) (ap (λ (xs : List ℕ). a ∷ xs) (range-append (a + 1) k m))
 
 totals_same : (old new : EngineState) → new ≡ old → Totals old new []
-totals_same old new e = record { count = 0; longer = rw e (omega arith); numbers = refl; failed = rw e (omega arith); told = λ t. absurd cc }
+totals_same old new e = record { count = 0; longer = rw e (omega arith); numbers = refl; failed = rw e (omega arith); stopped = λ t. absurd cc }
 
 run_totals : (old new : EngineState) (was now : Client) (commands : List Command) (answers : List Reply) → Runs old was commands answers new now → Totals old new answers
 run_totals old new was now [] [] e = totals_same old new e.0
@@ -143,10 +143,10 @@ run_totals old new was now (c ∷ commands) (a ∷ answers) (mid, next, step, re
           let from : length mid.entries + 1 ≡ (length old.entries + 1) + here = omega (arith, longer) in
           rw (flat_map-cons acknowledged a answers, step.numbers, more.numbers, from) (range-append (length old.entries + 1) here more.count);
       failed = omega (arith, sum_by-cons (λ x. cond (is_fault x) 1 0) a answers, fault_counts a old.stopped mid.stopped step.stopped step.running, more.failed);
-      told = λ t. elim (or_cases _ _ t) [ inl first ↦ later.stopped ((Steps-later old mid was next c a step).stopped (step.told first)) | inr others ↦ more.told others ];
+      stopped = λ t. elim (or_cases _ _ t) [ inl first ↦ later.stopped ((Steps-later old mid was next c a step).stopped (step.stopped_before first)) | inr others ↦ more.stopped others ];
     }
 
--- one client's answers behind another's
+-- one client's answers after another's
 totals_append : (old mid new : EngineState) (front back : List Reply) → Totals old mid front → Totals mid new back → Later mid new → Totals old new (front ++ back)
 totals_append old mid new front back a b later = record {
   count = a.count + b.count;
@@ -155,7 +155,7 @@ totals_append old mid new front back a b later = record {
       let from : length mid.entries + 1 ≡ (length old.entries + 1) + a.count = omega (arith, a.longer) in
       rw (flat_map-append acknowledged front back, a.numbers, b.numbers, from) (range-append (length old.entries + 1) a.count b.count);
   failed = omega (arith, sum_by-append (λ x. cond (is_fault x) 1 0) front back, a.failed, b.failed);
-  told = λ t. elim (or_cases _ _ (sym (list_any-append is_stopped front back) ∙ t)) [ inl first ↦ later.stopped (a.told first) | inr others ↦ b.told others ];
+  stopped = λ t. elim (or_cases _ _ (sym (list_any-append is_stopped front back) ∙ t)) [ inl first ↦ later.stopped (a.stopped first) | inr others ↦ b.stopped others ];
 }
 
 all_totals : (old new : EngineState) (parts : List Part) (sessions : List (List Reply)) → AllRun old parts sessions new → Totals old new (all_replies sessions)
@@ -167,7 +167,7 @@ all_totals old new (p ∷ parts) (a ∷ sessions) (mid, (last, run), rest) =
 
 -- ---- the pairing
 
--- how often a number stands in a range
+-- how often a number is in a range
 count_below : (n a k : ℕ) → n < a → count_by (λ m. m == n) (range_with_len a k) ≡ 0
 count_below n a zero lt = refl
 count_below n a (suc k) lt =
@@ -208,6 +208,6 @@ explained old new parts sessions h fresh legal =
       answered = are_sessions old new new (length old.entries) parts sessions (omega arith) h (Later-same new);
       paired = λ n after within. rw total.numbers (count_once n (length old.entries + 1) total.count (omega arith) (omega (arith, total.longer)));
       failed = omega (arith, total.failed, ap fault_count fresh);
-      stopped = λ t. rw (total.told t) (omega arith);
+      stopped = λ t. rw (total.stopped t) (omega arith);
       exact = exact_of old new parts sessions h fresh;
     }

@@ -40,9 +40,6 @@ none_ran s commands = record { first = []; rest = commands; parts = refl; run = 
 pub broke_off : (old new : EngineState) (last : Client) (commands : List Command) (i : ℕ) (answers : List Reply) → Runs old new_client (take i commands) answers new last → IsRunSoFar old commands (record { replies = answers; whole = false }) new
 broke_off old new last commands i answers run = record { first = take i commands; rest = drop i commands; parts = sym (take-append-drop i commands); run = (last, run); whole = λ w. absurd cc }
 
-pub ran_whole : (old new : EngineState) (last : Client) (commands : List Command) (answers : List Reply) → Runs old new_client commands answers new last → IsRunSoFar old commands (record { replies = answers; whole = true }) new
-ran_whole old new last commands answers run = record { first = commands; rest = []; parts = sym (append-nil commands); run = (last, run); whole = λ w. refl }
-
 -- ---- the first commands alone
 
 -- the clients that ran, with their first commands alone

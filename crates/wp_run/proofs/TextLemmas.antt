@@ -8,7 +8,7 @@ use Rattle.wp_text.specs.Lines.{entry_line, entry_lines}
 use Rattle.wp_run.specs.Engine.{Answered, replies_of}
 use Rattle.wp_run.specs.Transcript.{client_text, client_lines}
 
--- one more piece behind what was appended so far
+-- one more piece after what was appended so far
 pub appends : (start front mid piece now whole : List ℕ) → mid ≡ start ++ front → now ≡ mid ++ piece → whole ≡ front ++ piece → now ≡ start ++ whole
 appends start front mid piece now whole so_far one is = one ∙ ap (λ (xs : List ℕ). xs ++ piece) so_far ∙ append_assoc start front piece ∙ ap (λ (xs : List ℕ). start ++ xs) (sym is)
 

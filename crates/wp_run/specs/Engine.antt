@@ -37,7 +37,7 @@ pub record Later (old new : EngineState) : Type 0 where
   pub counted : old.faults ≤ new.faults
   pub limited : new.limit ≡ old.limit
   pub named : new.id ≡ old.id
-  pub lasting : LosesNothing old.moments new.moments
+  pub durable : LosesNothing old.moments new.moments
 
 -- a command's step from one state to the next, and its reply
 pub record Steps (old : EngineState) (was : Client) (command : Command) (answer : Reply) (new : EngineState) (now : Client) : Type 0 where
@@ -49,13 +49,13 @@ pub record Steps (old : EngineState) (was : Client) (command : Command) (answer 
   pub counted : old.faults ≤ new.faults
   pub limited : new.limit ≡ old.limit
   pub named : new.id ≡ old.id
-  pub lasting : LosesNothing old.moments new.moments
+  pub durable : LosesNothing old.moments new.moments
   -- the numbers in the reply
   pub numbers : acknowledged answer ≡ range_with_len (length old.entries + 1) (length (added (store_of old) was command answer))
   pub fresh : IfSome (fresh_in command answer) (λ n. (length old.entries ≤ n) × (n ≤ length new.entries))
   -- the log fails once, and takes nothing afterwards
   pub running : is_fault answer ≡ true → old.stopped ≡ false
-  pub told : is_stopped answer ≡ true → old.stopped ≡ true
+  pub stopped_before : is_stopped answer ≡ true → old.stopped ≡ true
   pub stays : old.stopped ≡ true → new.entries ≡ old.entries
 
 -- a client's commands run one after another, from one state to the last

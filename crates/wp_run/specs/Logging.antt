@@ -18,7 +18,7 @@ pub record HasLogged (old new : EngineState) (entries : List Entry) : Type 0 whe
   pub fits : length old.entries + length entries ≤ old.limit
   pub changed : new ≡ record old { entries = old.entries ++ entries; faults = new.faults; moments = new.moments }
   pub counted : old.faults ≤ new.faults
-  pub lasting : LosesNothing old.moments new.moments
+  pub durable : LosesNothing old.moments new.moments
 
 -- the log failed as it took them
 pub record HasFailed (old new : EngineState) (entries : List Entry) : Type 0 where
@@ -27,7 +27,7 @@ pub record HasFailed (old new : EngineState) (entries : List Entry) : Type 0 whe
   pub changed : new ≡ record old { stopped = true; faults = new.faults; moments = new.moments }
   pub rose : Rose old.faults new.faults
   pub counted : old.faults ≤ new.faults
-  pub lasting : LosesNothing old.moments new.moments
+  pub durable : LosesNothing old.moments new.moments
 
 -- there are too few numbers for them, of which those given are the last one used and the greatest one
 pub record IsFull (old new : EngineState) (entries : List Entry) (published limit : ℕ) : Type 0 where
@@ -50,7 +50,7 @@ IsLogResult old new entries (Err (NumbersFull published limit)) = IsFull old new
 IsLogResult old new entries (Err LogFault) = HasFailed old new entries
 IsLogResult old new entries (Err (Stopped published)) = HasStopped old new published
 
--- the reply that tells an error, if it isn't want of memory
+-- the reply that names an error, if it isn't want of memory
 abbrev pub IsRefusalOf : WriteError → Result Reply AllocError → Type 0
 IsRefusalOf Memory (Ok answer) = ⊥
 IsRefusalOf Memory (Err e) = Unit {0}
@@ -61,10 +61,10 @@ IsRefusalOf LogFault (Err e) = ⊥
 IsRefusalOf (Stopped published) (Ok answer) = answer ≡ reply.Stopped published
 IsRefusalOf (Stopped published) (Err e) = ⊥
 
--- The entries were taken, and the client told so; or they were refused, and the client told why.
+-- The entries were logged and the client was answered so; or they were refused, and it was answered why.
 abbrev pub IsLogAnswer : EngineState → Client → List Entry → Reply → Reply → EngineState → Client → Type 0
-IsLogAnswer old was entries told answer new now =
-    (HasLogged old new entries × (answer ≡ told) × (now ≡ settled was told))
+IsLogAnswer old was entries success answer new now =
+    (HasLogged old new entries × (answer ≡ success) × (now ≡ settled was success))
     ⊎ (HasFailed old new entries × (answer ≡ reply.FaultLog) × (now ≡ was))
     ⊎ (IsFull old new entries (length old.entries) old.limit × (answer ≡ reply.Full (length old.entries) old.limit) × (now ≡ was))
     ⊎ (HasStopped old new (length old.entries) × (answer ≡ reply.Stopped (length old.entries)) × (now ≡ was))

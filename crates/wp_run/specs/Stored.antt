@@ -1,4 +1,4 @@
--- What a store on one thread keeps in its log.
+-- What the log of a store on one thread stores.
 use Rattle.std.specs.Prelude.{◌≡◌, ◌⊎◌, ℕ, zero, suc, ◌+◌, ◌^◌, ◌<◌, Bool, false, true, List, [], ◌∷◌, ◌++◌, length, None}
 use Rattle.wp_model.specs.declared.entry.Entry.{Entry}
 use Rattle.wp_model.specs.Legal.{IsLegal, IsLegalNext, undone_last}
@@ -30,7 +30,7 @@ CrashLeaves (suc faults) id history m = Leaves (λ image. IsLogOrOneMore id hist
 -- The store's fields go together. Once an append has failed, the log may have its record.
 pub record IsConsistent (wal : State) (entries : List Entry) (stopped : Bool) (limit : ℕ) : Type 0 where
   pub failed : List Entry
-  pub keeps : StoresHistory wal entries failed
+  pub stores : StoresHistory wal entries failed
   pub legal : IsLegal (entries ++ failed)
   pub none : stopped ≡ false → failed ≡ []
   pub whole : stopped ≡ true → IsRecord (length entries + 1) failed

@@ -33,7 +33,7 @@ pub record Explains (limit faults : ℕ) (script : List Part) (opened history : 
   pub legal : IsLegal history
   pub begins : (added : List Entry) × (history ≡ opened ++ added)
   pub answered : AreSessions history limit (length opened) script sessions
-  -- each entry behind the opening history is that of exactly one reply, an Undo together with its Close
+  -- each entry after the opening history is that of exactly one reply, an Undo together with its Close
   pub paired : (n : ℕ) → length opened < n → n ≤ length history → count_by (λ m. m == n) (flat_map acknowledged (all_replies sessions)) ≡ 1
   pub failed : count_by is_fault (all_replies sessions) ≡ faults
   pub stopped : list_any is_stopped (all_replies sessions) ≡ true → 1 ≤ faults

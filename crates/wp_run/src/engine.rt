@@ -58,7 +58,7 @@ impl<D: Disk> Model for Engine<D> {
     ghost invariant = { λ e. IsConsistent e.wal e.history.entries e.stopped e.limit };
 }
 
-/// Puts the entries behind the others, in memory that is there.
+/// Puts the entries after the others, in memory that is there.
 fn push_all(history: &mut History, entries: Vec<Entry>)
     requires legal { AreLegalNext history.old.entries entries.items }
     requires few { length history.old.entries + length entries.items < 2 ^ 32 }
@@ -73,7 +73,7 @@ fn push_all(history: &mut History, entries: Vec<Entry>)
 impl<D: Disk> Engine<D> {
     /// A store with this log and the history that it spells. Numbers end at the limit.
     pub(crate) fn new(wal: Wal<D>, history: History, limit: Seq) -> Engine<D>
-        requires keeps { StoresHistory wal history.entries [] }
+        requires stores { StoresHistory wal history.entries [] }
         requires running { wal.closed ≡ false }
         requires limit { limit < 2 ^ 32 }
         ensures { result ≡ record { entries = history.entries; stopped = false; limit = limit; id = wal.id; faults = wal.faults; moments = wal.moments } }
@@ -107,7 +107,7 @@ impl<D: Disk> Engine<D> {
 
     /// Gives the log's device back.
     pub(crate) fn into_disk(self) -> D
-        ensures kept { IfKnown (D.moments result) (CrashLeaves (fault_count self.stopped) self.id self.entries) }
+        ensures stored { IfKnown (D.moments result) (CrashLeaves (fault_count self.stopped) self.id self.entries) }
         ensures moments { D.moments result ≡ self.moments }
         ensures faults { D.faults result ≡ self.faults }
     {

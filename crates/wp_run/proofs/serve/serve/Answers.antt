@@ -1,4 +1,4 @@
-use Rattle.wp_run.proofs.LaterLemmas.{lasting_trans}
+use Rattle.wp_run.proofs.LaterLemmas.{durable_trans}
 use Rattle.wp_run.proofs.TopLemmas.{serves_opened, serves_refused}
 use Rattle.wp_run.proofs.serve.serve.Goals as goal
 
@@ -15,4 +15,4 @@ returns-in-Err-clause-serves g c =
     serves_refused refused.why c.status_of-status.result _ c.status_of-status.ensures c.in-Err.ensures.cause c.in-Err.ensures.survives c.in-Err.ensures.left
 
 pub returns-in-Ok-clause-durable : goal.returns-in-Ok-clause-durable
-returns-in-Ok-clause-durable g c = lasting_trans _ _ _ c.in-Ok.ensures.lasts (rw c.new.ensures at c.finish.ensures.durable)
+returns-in-Ok-clause-durable g c = durable_trans _ _ _ c.in-Ok.ensures.lasts (rw c.new.ensures at c.finish.ensures.durable)
