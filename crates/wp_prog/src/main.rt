@@ -20,7 +20,7 @@ fn words<R: Env + AllocGlobal>(rt: &R) -> Result<Vec<String>, Status> {
     }
 }
 
-fn tell(rt: &HostRuntime, status: &Status) -> io::Result<()> {
+fn report(rt: &HostRuntime, status: &Status) -> io::Result<()> {
     let mut line = status.line(rt.alloc())?;
     line.push(b'\n')?;
     rt.stderr().write_all(&line)
@@ -43,7 +43,7 @@ fn main(rt: HostRuntime) -> ExitCode {
     };
     if status != Status::Ok {
         // Where not even this can be said, the exit status still does.
-        let _ = tell(&rt, &status);
+        let _ = report(&rt, &status);
     }
     ExitCode::from(status.code())
 }

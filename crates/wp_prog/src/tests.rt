@@ -111,7 +111,7 @@ fn seen<R: Threads + Wait + Sync + AllocGlobal>(
 }
 
 #[test]
-fn first_script_is_answered_and_kept(rt: HostRuntime) -> Result<(), Fail> {
+fn first_script_is_answered_and_stored(rt: HostRuntime) -> Result<(), Fail> {
     let first = seen(&rt, &script("client a\nput k 1\nget k\n", &[]))?;
     assert_eq!(rt; first.code, 0);
     assert_eq!(rt; first.text.as_slice(), FIRST.as_bytes());
@@ -288,14 +288,14 @@ fn longest_put(
 #[test]
 fn longest_words_are_stored(rt: HostRuntime) -> Result<(), Fail> {
     let alloc = rt.alloc();
-    let told = longest_put(
+    let stored = longest_put(
         alloc,
         "client a\nput @1\nhistory\n1 write ",
         64,
         "\nend 1 0\n",
     )?;
     for (key_len, code, line, text) in [
-        (64, 0, "wp: ok", told.as_slice()),
+        (64, 0, "wp: ok", stored.as_slice()),
         (65, 6, "wp: script line 2: bad word", b"".as_slice()),
     ] {
         let put = longest_put(alloc, "client a\n", key_len, "\n")?;
@@ -312,7 +312,7 @@ fn longest_words_are_stored(rt: HostRuntime) -> Result<(), Fail> {
 }
 
 #[test]
-fn what_a_crash_left_is_mended_or_named(rt: HostRuntime) -> Result<(), Fail> {
+fn what_a_crash_left_is_repaired_or_named(rt: HostRuntime) -> Result<(), Fail> {
     let alloc = rt.alloc();
     let mut longer = LOG.to_vec(alloc)?;
     longer.extend_from_slice(b"\xff\xff")?;
@@ -347,7 +347,7 @@ const HISTORIES: [&str; 4] = [
     "history\n1 write put k 1\n2 write put k 2\n3 write put k 3\nend 3 0\n",
 ];
 
-/// Runs the sweep's script on a new store whose log's device fails at this call, and shows what the log keeps.
+/// Runs the sweep's script on a new store whose log's device fails at this call, and shows what the log stores.
 fn swept<R: Threads + Wait + Sync + AllocGlobal>(
     rt: &R,
     call: u64,
@@ -361,8 +361,8 @@ fn swept<R: Threads + Wait + Sync + AllocGlobal>(
     Ok((outcome, show))
 }
 
-/// The log keeps the entries that were acknowledged, or those and the next one.
-fn keeps(show: &Outcome, before: &str, after: &str) -> bool {
+/// The log stores the entries that were acknowledged, or those and the next one.
+fn stores(show: &Outcome, before: &str, after: &str) -> bool {
     show.text.as_slice() == before.as_bytes() || show.text.as_slice() == after.as_bytes()
 }
 
@@ -390,7 +390,7 @@ fn each_call_of_an_append_may_fail(rt: HostRuntime) -> Result<(), Fail> {
             outcome.text.as_slice(),
             b"client a\nfault log\nstopped 0\nmissing @0\nstopped 0\nhistory\nend 0 0\n".as_slice()
         );
-        assert!(rt; keeps(&show, HISTORIES[0], HISTORIES[1]));
+        assert!(rt; stores(&show, HISTORIES[0], HISTORIES[1]));
     }
     for call in 14..18 {
         let (outcome, show) = swept(&rt, call)?;
@@ -399,7 +399,7 @@ fn each_call_of_an_append_may_fail(rt: HostRuntime) -> Result<(), Fail> {
             outcome.text.as_slice(),
             b"client a\nput @1\nfault log\nget 1 @1\nstopped 1\nhistory\n1 write put k 1\nend 1 0\n".as_slice()
         );
-        assert!(rt; keeps(&show, HISTORIES[1], HISTORIES[2]));
+        assert!(rt; stores(&show, HISTORIES[1], HISTORIES[2]));
     }
     let (outcome, show) = swept(&rt, 22)?;
     assert_eq!(rt; outcome.code, 0);
@@ -407,13 +407,19 @@ fn each_call_of_an_append_may_fail(rt: HostRuntime) -> Result<(), Fail> {
     Ok(())
 }
 
-/// So many bytes of a log whose second append was broken off before its gate, and one byte behind them.
-fn torn(alloc: Global, whole: &[u8], len: usize, junk: u8) -> Result<Vec<u8>, AllocError> {
-    let mut bytes = Vec::new(alloc);
-    bytes.extend_from_slice(&LOG[..31])?;
-    bytes.push(0)?;
-    bytes.extend_from_slice(whole.get(32..len).unwrap_or(&[]))?;
-    bytes.push(junk)?;
+/// The log with this as its last gate, and this after it.
+fn with_gate(alloc: Global, log: &[u8], gate: u8, rest: &[u8]) -> Result<Vec<u8>, AllocError> {
+    let mut bytes = log.to_vec(alloc)?;
+    bytes.pop();
+    bytes.push(gate)?;
+    bytes.extend_from_slice(rest)?;
+    Ok(bytes)
+}
+
+/// So many bytes of a log whose second append was broken off before its gate, and one byte after them.
+fn torn(alloc: Global, whole: &[u8], len: usize) -> Result<Vec<u8>, AllocError> {
+    let mut bytes = with_gate(alloc, LOG, 0, whole.get(32..len).unwrap_or(&[]))?;
+    bytes.push(255)?;
     Ok(bytes)
 }
 
@@ -423,7 +429,7 @@ fn torn_append_opens_to_the_entry_before(rt: HostRuntime) -> Result<(), Fail> {
     let whole = seen(&rt, &script("client a\nput k 2\n", LOG))?.log;
     assert_eq!(rt; whole.len(), 53);
     for len in 32..54 {
-        let show = shown(&rt, &torn(alloc, &whole, len, 255)?)?;
+        let show = shown(&rt, &torn(alloc, &whole, len)?)?;
         assert_eq!(rt; show.text.as_slice(), HISTORIES[1].as_bytes());
         assert_eq!(rt; show.log.as_slice(), LOG.as_slice());
     }

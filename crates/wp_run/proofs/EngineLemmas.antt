@@ -1,4 +1,4 @@
--- A store whose log keeps its history.
+-- A store whose log stores its history.
 use Rattle.std.proofs.Common.{◌≡◌, ℕ, ◌+◌, ◌^◌, ◌<◌, ◌≤◌, Bool, true, false, List, [], ◌∷◌, ◌++◌, length, Option, Some, None, refl, sym, ap, ◌∙◌, subst, append_assoc, length-append, arith, inl, inr}
 use Rattle.std.proofs.lemmas.List.{append-nil}
 use Rattle.wp_model.specs.declared.entry.Entry.{Entry}
@@ -8,8 +8,8 @@ use Rattle.wp_outside.specs.Disk.{Moment, IfKnown}
 use Rattle.wp_entry.specs.Record.{FormRecord, IsRecord}
 use Rattle.wp_wal.specs.Spelling.{AreEntries, IsLogOrNext}
 use Rattle.wp_wal.specs.Wal.{Reserved, State as WalState, reserved_of, LeavesHistory, LeavesHistoryOrNext, StoresHistory, IsReserved}
-use Rattle.wp_run.specs.Engine.{bit}
-use Rattle.wp_run.specs.Kept.{IsLogOrOneMore, KeptBy, IsWhole}
+use Rattle.wp_run.specs.Engine.{fault_count}
+use Rattle.wp_run.specs.Stored.{IsLogOrOneMore, CrashLeaves, IsConsistent}
 use Rattle.wp_session.specs.Next.{AreLegalNext, AreNext}
 use Rattle.wp_wal.specs.Wal.{LosesNothing}
 use Rattle.wp_session.proofs.PlanLemmas.{LastIs}
@@ -24,64 +24,64 @@ form_closed first (entry.Commit p ∷ []) form = refl
 form_closed first (entry.Undo p batch ∷ entry.Close q ∷ []) form = refl
 form_closed first others form = absurd form
 
-closed_behind : LastIs → (front rest : List Entry) → undone_last front ≡ None → undone_last rest ≡ None → undone_last (front ++ rest) ≡ None
-closed_behind last front [] closed rest_closed = ap undone_last (append-nil front) ∙ closed
-closed_behind last front (e ∷ rest) closed rest_closed = last front rest e ∙ rest_closed
+closed_after : LastIs → (front rest : List Entry) → undone_last front ≡ None → undone_last rest ≡ None → undone_last (front ++ rest) ≡ None
+closed_after last front [] closed rest_closed = ap undone_last (append-nil front) ∙ closed
+closed_after last front (e ∷ rest) closed rest_closed = last front rest e ∙ rest_closed
 
 pub records_closed : LastIs → (first : ℕ) (records : List (List ℕ)) (entries : List Entry) → AreEntries first records entries → undone_last entries ≡ None
 records_closed last first [] entries is = ap undone_last is
 records_closed last first (r ∷ records) entries (front, rest, parts, is, bytes, more) =
-    ap undone_last parts ∙ closed_behind last front rest (form_closed first front is.form) (records_closed last (first + length front) records rest more)
+    ap undone_last parts ∙ closed_after last front rest (form_closed first front is.form) (records_closed last (first + length front) records rest more)
 
 -- ---- a store
 
-pub whole_new : LastIs → (wal : WalState) (entries : List Entry) (limit : ℕ) → StoresHistory wal entries [] → IsLegal entries → wal.closed ≡ false → limit < 2 ^ 32 → IsWhole wal entries false limit
-whole_new last wal entries limit keeps legal running small = record {
+pub new_consistent : LastIs → (wal : WalState) (entries : List Entry) (limit : ℕ) → StoresHistory wal entries [] → IsLegal entries → wal.closed ≡ false → limit < 2 ^ 32 → IsConsistent wal entries false limit
+new_consistent last wal entries limit stores legal running small = record {
   failed = [];
-  keeps = keeps;
+  stores = stores;
   legal = subst IsLegal (sym (append-nil entries)) legal;
   none = λ e. refl;
   whole = λ e. absurd cc;
   state = running;
-  closed = records_closed last 1 keeps.records entries keeps.spelled;
+  closed = records_closed last 1 stores.records entries stores.spelled;
   numbers = small;
 }
 
--- entries that may stand behind a legal history, one after another
-pub legal_behind : ((history : List Entry) (e : Entry) → IsLegal history → IsLegalNext history e → length history + 1 < 2 ^ 32 → IsLegal (history ++ e ∷ []))
+-- entries that may follow a legal history, one after another
+pub legal_after : ((history : List Entry) (e : Entry) → IsLegal history → IsLegalNext history e → length history + 1 < 2 ^ 32 → IsLegal (history ++ e ∷ []))
     → (history entries : List Entry) → IsLegal history → AreLegalNext history entries → length history + length entries < 2 ^ 32 → IsLegal (history ++ entries)
-legal_behind grows history [] legal behind few = subst IsLegal (sym (append-nil history)) legal
-legal_behind grows history (e ∷ entries) legal behind few =
+legal_after grows history [] legal follow few = subst IsLegal (sym (append-nil history)) legal
+legal_after grows history (e ∷ entries) legal follow few =
     let one : length (history ++ e ∷ []) ≡ length history + 1 = length-append history (e ∷ []) in
     let rest : length (history ++ e ∷ []) + length entries < 2 ^ 32 = omega (arith, few, one) in
-    subst IsLegal (append_assoc history (e ∷ []) entries) (legal_behind grows (history ++ e ∷ []) entries (grows history e legal behind.0 (omega (arith, few))) behind.1 rest)
+    subst IsLegal (append_assoc history (e ∷ []) entries) (legal_after grows (history ++ e ∷ []) entries (grows history e legal follow.0 (omega (arith, few))) follow.1 rest)
 
-keeps_reserved : (wal : WalState) (entries : List Entry) (reserved : Option Reserved) → StoresHistory wal entries [] → StoresHistory (record wal { reserved = reserved }) entries []
-keeps_reserved wal entries reserved keeps = record { records = keeps.records; spelled = keeps.spelled; counted = keeps.counted; numbered = keeps.numbered; rests = keeps.rests; left = keeps.left }
+stores_reserved : (wal : WalState) (entries : List Entry) (reserved : Option Reserved) → StoresHistory wal entries [] → StoresHistory (record wal { reserved = reserved }) entries []
+stores_reserved wal entries reserved stores = record { records = stores.records; spelled = stores.spelled; counted = stores.counted; numbered = stores.numbered; rests = stores.rests; left = stores.left }
 
--- the record of the entries stands reserved
-pub ready_for : (old ready : WalState) (entries added : List Entry) (stopped : Bool) (limit : ℕ) → IsWhole old entries stopped limit → stopped ≡ false
+-- the record of the entries is reserved
+pub ready_for : (old ready : WalState) (entries added : List Entry) (stopped : Bool) (limit : ℕ) → IsConsistent old entries stopped limit → stopped ≡ false
     → ready ≡ record old { reserved = Some (reserved_of old.due added) } → IsRecord old.due added → IsReserved ready entries added
 ready_for old ready entries added stopped limit whole running is record_is =
-    let kept : StoresHistory old entries [] = subst (λ (xs : List Entry). StoresHistory old entries xs) (whole.none running) whole.keeps in
+    let stored : StoresHistory old entries [] = subst (λ (xs : List Entry). StoresHistory old entries xs) (whole.none running) whole.stores in
     let reserved : IsReserved (record old { reserved = Some (reserved_of old.due added) }) entries added =
-    record { keeps = keeps_reserved old entries (Some (reserved_of old.due added)) kept; running = whole.state ∙ running; is = record_is; reserved = refl } in
+    record { keeps = stores_reserved old entries (Some (reserved_of old.due added)) stored; running = whole.state ∙ running; is = record_is; reserved = refl } in
     subst (λ (w : WalState). IsReserved w entries added) (sym is) reserved
 
 -- to reserve a record is nothing to the disk
-pub lasting_from : (old ready : WalState) (new : List Moment) (reserved : Option Reserved) → ready ≡ record old { reserved = reserved } → LosesNothing ready.moments new → LosesNothing old.moments new
-lasting_from old ready new reserved is lasting = subst (λ (w : WalState). LosesNothing w.moments new) is lasting
+pub durable_from : (old ready : WalState) (new : List Moment) (reserved : Option Reserved) → ready ≡ record old { reserved = reserved } → LosesNothing ready.moments new → LosesNothing old.moments new
+durable_from old ready new reserved is durable = subst (λ (w : WalState). LosesNothing w.moments new) is durable
 
 -- the log took the entries
-pub whole_taken : ((history : List Entry) (e : Entry) → IsLegal history → IsLegalNext history e → length history + 1 < 2 ^ 32 → IsLegal (history ++ e ∷ []))
+pub logged_consistent : ((history : List Entry) (e : Entry) → IsLegal history → IsLegalNext history e → length history + 1 < 2 ^ 32 → IsLegal (history ++ e ∷ []))
     → (new : WalState) (entries added : List Entry) (stopped : Bool) (limit : ℕ) → stopped ≡ false → IsLegal entries → AreNext entries added → length entries + length added ≤ limit → limit < 2 ^ 32
-    → StoresHistory new (entries ++ added) [] → new.closed ≡ false → IsWhole new (entries ++ added) stopped limit
-whole_taken grows new entries added stopped limit running legal next fits small keeps runs =
+    → StoresHistory new (entries ++ added) [] → new.closed ≡ false → IsConsistent new (entries ++ added) stopped limit
+logged_consistent grows new entries added stopped limit running legal next fits small stores runs =
     let few : length entries + length added < 2 ^ 32 = omega (arith, fits, small) in
     record {
       failed = [];
-      keeps = keeps;
-      legal = subst IsLegal (sym (append-nil (entries ++ added))) (legal_behind grows entries added legal next.legal few);
+      stores = stores;
+      legal = subst IsLegal (sym (append-nil (entries ++ added))) (legal_after grows entries added legal next.legal few);
       none = λ e. refl;
       whole = λ e. false_is_true stopped running e;
       state = runs ∙ sym running;
@@ -90,17 +90,17 @@ whole_taken grows new entries added stopped limit running legal next fits small 
     }
 
 -- the log failed as it took the entries
-pub whole_failed : ((history : List Entry) (e : Entry) → IsLegal history → IsLegalNext history e → length history + 1 < 2 ^ 32 → IsLegal (history ++ e ∷ []))
-    → (old new : WalState) (entries added : List Entry) (stopped : Bool) (limit : ℕ) → IsWhole old entries stopped limit → stopped ≡ false → IsLegal entries → AreNext entries added → length entries + length added ≤ limit
-    → IsRecord old.due added → StoresHistory new entries added → new.closed ≡ true → IsWhole new entries true limit
-whole_failed grows old new entries added stopped limit whole running legal next fits record_is keeps closed =
+pub failed_consistent : ((history : List Entry) (e : Entry) → IsLegal history → IsLegalNext history e → length history + 1 < 2 ^ 32 → IsLegal (history ++ e ∷ []))
+    → (old new : WalState) (entries added : List Entry) (stopped : Bool) (limit : ℕ) → IsConsistent old entries stopped limit → stopped ≡ false → IsLegal entries → AreNext entries added → length entries + length added ≤ limit
+    → IsRecord old.due added → StoresHistory new entries added → new.closed ≡ true → IsConsistent new entries true limit
+failed_consistent grows old new entries added stopped limit whole running legal next fits record_is stores closed =
     let few : length entries + length added < 2 ^ 32 = omega (arith, fits, whole.numbers) in
     record {
       failed = added;
-      keeps = keeps;
-      legal = legal_behind grows entries added legal next.legal few;
+      stores = stores;
+      legal = legal_after grows entries added legal next.legal few;
       none = λ e. absurd cc;
-      whole = λ e. subst (λ (n : ℕ). IsRecord n added) whole.keeps.numbered record_is;
+      whole = λ e. subst (λ (n : ℕ). IsRecord n added) whole.stores.numbered record_is;
       state = closed;
       closed = whole.closed;
       numbers = whole.numbers;
@@ -114,16 +114,16 @@ or_next id entries failed image legal longer is spelled = elim spelled [
   | inr after ↦ (entries ++ failed, inr (failed, is, refl), longer, after)
 ]
 
-kept_running : (id : ℕ) (entries : List Entry) (moments : List Moment) → IfKnown moments (LeavesHistory id entries) → IfKnown moments (KeptBy 0 id entries)
-kept_running id entries [] left = tt
-kept_running id entries (m ∷ past) left = left
+stored_running : (id : ℕ) (entries : List Entry) (moments : List Moment) → IfKnown moments (LeavesHistory id entries) → IfKnown moments (CrashLeaves 0 id entries)
+stored_running id entries [] left = tt
+stored_running id entries (m ∷ past) left = left
 
-kept_failed : (id : ℕ) (entries failed : List Entry) (moments : List Moment) → IsLegal entries → IsLegal (entries ++ failed) → IsRecord (length entries + 1) failed → IfKnown moments (LeavesHistoryOrNext id entries failed) → IfKnown moments (KeptBy 1 id entries)
-kept_failed id entries failed [] legal longer is left = tt
-kept_failed id entries failed (m ∷ past) legal longer is left = λ image at. (or_next id entries failed image legal longer is (left image at).0, (left image at).1)
+stored_failed : (id : ℕ) (entries failed : List Entry) (moments : List Moment) → IsLegal entries → IsLegal (entries ++ failed) → IsRecord (length entries + 1) failed → IfKnown moments (LeavesHistoryOrNext id entries failed) → IfKnown moments (CrashLeaves 1 id entries)
+stored_failed id entries failed [] legal longer is left = tt
+stored_failed id entries failed (m ∷ past) legal longer is left = λ image at. (or_next id entries failed image legal longer is (left image at).0, (left image at).1)
 
-pub whole_keeps : (wal : WalState) (entries : List Entry) (stopped : Bool) (limit : ℕ) → IsWhole wal entries stopped limit → IsLegal entries
+pub crash_leaves : (wal : WalState) (entries : List Entry) (stopped : Bool) (limit : ℕ) → IsConsistent wal entries stopped limit → IsLegal entries
     → ((history next : List Entry) → StoresHistory wal history next → wal.closed ≡ false → IfKnown wal.moments (LeavesHistory wal.id history))
-    → IfKnown wal.moments (KeptBy (bit stopped) wal.id entries)
-whole_keeps wal entries false limit whole legal left = kept_running wal.id entries wal.moments (left entries whole.failed whole.keeps whole.state)
-whole_keeps wal entries true limit whole legal left = kept_failed wal.id entries whole.failed wal.moments legal whole.legal (whole.whole refl) (whole.keeps.left whole.state)
+    → IfKnown wal.moments (CrashLeaves (fault_count stopped) wal.id entries)
+crash_leaves wal entries false limit whole legal left = stored_running wal.id entries wal.moments (left entries whole.failed whole.stores whole.state)
+crash_leaves wal entries true limit whole legal left = stored_failed wal.id entries whole.failed wal.moments legal whole.legal (whole.whole refl) (whole.stores.left whole.state)

@@ -1,6 +1,6 @@
 -- What the clients are answered one after another on one thread is explained by the entries at the end.
-use Rattle.std.proofs.Common.{◌≡◌, ℕ, zero, suc, ◌+◌, ◌<◌, ◌≤◌, ◌==◌, Bool, true, false, cond, eqb, List, [], ◌∷◌, ◌++◌, length, take, refl, sym, ap, add-zero, zero-add, subst, ◌∙◌, append_assoc, arith, length-append, inl, inr, if◌then◌else◌}
-use Rattle.std.specs.Prelude.{count_by}
+use Rattle.std.proofs.Common.{◌≡◌, ℕ, zero, suc, ◌+◌, ◌<◌, ◌≤◌, ◌==◌, Bool, true, false, cond, eqb, List, [], ◌∷◌, ◌++◌, length, take, Option, Some, None, refl, sym, ap, add-zero, zero-add, subst, ◌∙◌, append_assoc, arith, length-append, inl, inr, if◌then◌else◌}
+use Rattle.std.specs.Prelude.{count_by, unwrap_or, IfSome}
 use Rattle.std.specs.List.{range_with_len, flat_map, list_any}
 use Rattle.std.proofs.lemmas.List.Concat.{flat_map-cons, flat_map-append}
 use Rattle.std.proofs.lemmas.List.Folds.{list_any-append}
@@ -13,36 +13,45 @@ use Rattle.wp_text.specs.declared.script.Command.{Command}
 use Rattle.wp_text.specs.declared.script.Part.{Part}
 use Rattle.wp_text.specs.declared.reply.Reply.{Reply}
 use Rattle.wp_session.specs.Client.{Client, new_client}
-use Rattle.wp_session.specs.Kind.{acknowledged, is_fault, is_stopped}
 use Rattle.wp_session.specs.Due.{Store, IsReply, logged_entries, store_after, client_after}
+use Rattle.wp_session.specs.Kind.{acknowledged, is_fault, is_stopped}
+use Rattle.wp_session.specs.Laws.{DueIsSession}
 use Rattle.wp_session.specs.Moments.{store_at, IsDueFrom, AreDueFrom}
 use Rattle.wp_session.specs.Current.{RunsAlone}
-use Rattle.wp_session.specs.Laws.{DueIsSession}
 use Rattle.wp_run.specs.Transcript.{AreSessions, IsExact, all_replies, Explains}
-use Rattle.wp_run.specs.Engine.{State, bit, store_of, Later, Steps, Runs, AllRun}
+use Rattle.wp_run.specs.Engine.{EngineState, Answered, fault_count, store_of, Later, Steps, Runs, AllRun, IsRunSoFar, AllRunSoFar}
 use Rattle.wp_run.proofs.LaterLemmas.{Later-equal, Later-same, Later-trans, Steps-later}
 
 -- ---- runs
 
-pub Runs-later : (old new : State) (was now : Client) (commands : List Command) (answers : List Reply) → Runs old was commands answers new now → Later old new
+pub Runs-later : (old new : EngineState) (was now : Client) (commands : List Command) (answers : List Reply) → Runs old was commands answers new now → Later old new
 Runs-later old new was now [] [] e = Later-equal old new e.0
 Runs-later old new was now [] (a ∷ answers) h = absurd h
 Runs-later old new was now (c ∷ commands) [] h = absurd h
 Runs-later old new was now (c ∷ commands) (a ∷ answers) (mid, next, step, rest) = Later-trans old mid new (Steps-later old mid was next c a step) (Runs-later mid new next now commands answers rest)
 
-pub AllRun-later : (old new : State) (parts : List Part) (sessions : List (List Reply)) → AllRun old parts sessions new → Later old new
+pub AllRun-later : (old new : EngineState) (parts : List Part) (sessions : List (List Reply)) → AllRun old parts sessions new → Later old new
 AllRun-later old new [] [] e = Later-equal old new e
 AllRun-later old new [] (a ∷ sessions) h = absurd h
 AllRun-later old new (p ∷ parts) [] h = absurd h
 AllRun-later old new (p ∷ parts) (a ∷ sessions) (mid, (last, run), rest) = Later-trans old mid new (Runs-later old mid new_client last p.commands a run) (AllRun-later mid new parts sessions rest)
 
-longer_by : (old new : State) → Later old new → length old.entries ≤ length new.entries
+pub RunSoFar-later : (old new : EngineState) (commands : List Command) (answered : Answered) → IsRunSoFar old commands answered new → Later old new
+RunSoFar-later old new commands answered ran = Runs-later old new new_client ran.run.0 ran.first answered.replies ran.run.1
+
+pub AllRunSoFar-later : (old new : EngineState) (parts : List Part) (sessions : List Answered) → AllRunSoFar old parts sessions new → Later old new
+AllRunSoFar-later old new [] [] e = Later-equal old new e
+AllRunSoFar-later old new [] (a ∷ sessions) h = absurd h
+AllRunSoFar-later old new (p ∷ parts) [] h = absurd h
+AllRunSoFar-later old new (p ∷ parts) (a ∷ sessions) (mid, ran, rest) = Later-trans old mid new (RunSoFar-later old mid p.commands a ran) (AllRunSoFar-later mid new parts sessions rest)
+
+longer_by : (old new : EngineState) → Later old new → length old.entries ≤ length new.entries
 longer_by old new later = omega (arith, ap (λ (xs : List Entry). length xs) later.grows.1, length-append old.entries later.grows.0)
 
 -- ---- answers
 
 -- a command's reply in every later history
-answered : (old new final : State) (was now : Client) (c : Command) (answer : Reply) → Steps old was c answer new now → Later new final
+answered : (old new final : EngineState) (was now : Client) (c : Command) (answer : Reply) → Steps old was c answer new now → Later new final
     → (given : IsDueFrom final.entries old.limit (length old.entries) was c answer) × (client_after (take given.before final.entries) was c answer ≡ now) × (given.after ≡ length new.entries)
 answered old new final was now c answer step later =
     let new_is = logged_entries (store_of old) was c answer in
@@ -70,7 +79,7 @@ answered old new final was now c answer step later =
       refl,
     )
 
-are_due : (old new final : State) (was now : Client) (commands : List Command) (answers : List Reply) → Runs old was commands answers new now → Later new final → AreDueFrom final.entries old.limit (length old.entries) was commands answers
+are_due : (old new final : EngineState) (was now : Client) (commands : List Command) (answers : List Reply) → Runs old was commands answers new now → Later new final → AreDueFrom final.entries old.limit (length old.entries) was commands answers
 are_due old new final was now [] [] h later = tt
 are_due old new final was now [] (a ∷ answers) h later = absurd h
 are_due old new final was now (c ∷ commands) [] h later = absurd h
@@ -79,7 +88,7 @@ are_due old new final was now (c ∷ commands) (a ∷ answers) (mid, next, step,
     let more : AreDueFrom final.entries old.limit (length mid.entries) next commands answers = subst (λ (k : ℕ). AreDueFrom final.entries k (length mid.entries) next commands answers) step.limited (are_due mid new final next now commands answers rest later) in
     (here.0, subst (λ (n : ℕ). AreDueFrom final.entries old.limit n (client_after (take here.0.before final.entries) was c a) commands answers) (sym here.2) (subst (λ (x : Client). AreDueFrom final.entries old.limit (length mid.entries) x commands answers) (sym here.1) more))
 
-are_sessions : DueIsSession → (old new final : State) (opened : ℕ) (parts : List Part) (sessions : List (List Reply)) → opened ≤ length old.entries → AllRun old parts sessions new → Later new final → AreSessions final.entries old.limit opened parts sessions
+are_sessions : DueIsSession → (old new final : EngineState) (opened : ℕ) (parts : List Part) (sessions : List (List Reply)) → opened ≤ length old.entries → AllRun old parts sessions new → Later new final → AreSessions final.entries old.limit opened parts sessions
 are_sessions law old new final opened [] [] le h later = tt
 are_sessions law old new final opened [] (a ∷ sessions) le h later = absurd h
 are_sessions law old new final opened (p ∷ parts) [] le h later = absurd h
@@ -92,17 +101,17 @@ are_sessions law old new final opened (p ∷ parts) (a ∷ sessions) le (mid, (l
 
 -- ---- counts
 
-pub record Totals (old new : State) (answers : List Reply) : Type 0 where
+pub record Totals (old new : EngineState) (answers : List Reply) : Type 0 where
   pub count : ℕ
   pub longer : length new.entries ≡ length old.entries + count
   pub numbers : flat_map acknowledged answers ≡ range_with_len (length old.entries + 1) count
-  pub failed : count_by is_fault answers + bit old.stopped ≡ bit new.stopped
-  pub told : list_any is_stopped answers ≡ true → new.stopped ≡ true
+  pub failed : count_by is_fault answers + fault_count old.stopped ≡ fault_count new.stopped
+  pub stopped : list_any is_stopped answers ≡ true → new.stopped ≡ true
 
-fault_counts : (answer : Reply) (before now : Bool) → now ≡ (if is_fault answer then true else before) → (is_fault answer ≡ true → before ≡ false) → cond (is_fault answer) 1 0 + bit before ≡ bit now
+fault_counts : (answer : Reply) (before now : Bool) → now ≡ (if is_fault answer then true else before) → (is_fault answer ≡ true → before ≡ false) → cond (is_fault answer) 1 0 + fault_count before ≡ fault_count now
 fault_counts answer before now is running = by (is_fault answer) is running
   where
-    by : (fault : Bool) → now ≡ (if fault then true else before) → (fault ≡ true → before ≡ false) → cond fault 1 0 + bit before ≡ bit now
+    by : (fault : Bool) → now ≡ (if fault then true else before) → (fault ≡ true → before ≡ false) → cond fault 1 0 + fault_count before ≡ fault_count now
     by true is running = rw (is, running refl) refl
     by false is running = rw is (omega arith)
 
@@ -113,10 +122,10 @@ range-append a (suc k) m =
     let whole : suc k + m ≡ suc (k + m) = omega arith in
     rw (next, whole) (ap (λ (xs : List ℕ). a ∷ xs) (range-append (a + 1) k m))
 
-totals_same : (old new : State) → new ≡ old → Totals old new []
-totals_same old new e = record { count = 0; longer = rw e (omega arith); numbers = refl; failed = rw e (omega arith); told = λ t. absurd cc }
+totals_same : (old new : EngineState) → new ≡ old → Totals old new []
+totals_same old new e = record { count = 0; longer = rw e (omega arith); numbers = refl; failed = rw e (omega arith); stopped = λ t. absurd cc }
 
-run_totals : (old new : State) (was now : Client) (commands : List Command) (answers : List Reply) → Runs old was commands answers new now → Totals old new answers
+run_totals : (old new : EngineState) (was now : Client) (commands : List Command) (answers : List Reply) → Runs old was commands answers new now → Totals old new answers
 run_totals old new was now [] [] e = totals_same old new e.0
 run_totals old new was now [] (a ∷ answers) h = absurd h
 run_totals old new was now (c ∷ commands) [] h = absurd h
@@ -132,11 +141,11 @@ run_totals old new was now (c ∷ commands) (a ∷ answers) (mid, next, step, re
           let from : length mid.entries + 1 ≡ (length old.entries + 1) + here = omega (arith, longer) in
           rw (flat_map-cons acknowledged a answers, step.numbers, more.numbers, from) (range-append (length old.entries + 1) here more.count);
       failed = omega (arith, sum_by-cons (λ x. cond (is_fault x) 1 0) a answers, fault_counts a old.stopped mid.stopped step.stopped step.running, more.failed);
-      told = λ t. elim (or_cases _ _ t) [ inl first ↦ later.stopped ((Steps-later old mid was next c a step).stopped (step.told first)) | inr others ↦ more.told others ];
+      stopped = λ t. elim (or_cases _ _ t) [ inl first ↦ later.stopped ((Steps-later old mid was next c a step).stopped (step.stopped_before first)) | inr others ↦ more.stopped others ];
     }
 
--- one client's answers behind another's
-totals_append : (old mid new : State) (front back : List Reply) → Totals old mid front → Totals mid new back → Later mid new → Totals old new (front ++ back)
+-- one client's answers after another's
+totals_append : (old mid new : EngineState) (front back : List Reply) → Totals old mid front → Totals mid new back → Later mid new → Totals old new (front ++ back)
 totals_append old mid new front back a b later = record {
   count = a.count + b.count;
   longer = omega (arith, a.longer, b.longer);
@@ -144,10 +153,10 @@ totals_append old mid new front back a b later = record {
       let from : length mid.entries + 1 ≡ (length old.entries + 1) + a.count = omega (arith, a.longer) in
       rw (flat_map-append acknowledged front back, a.numbers, b.numbers, from) (range-append (length old.entries + 1) a.count b.count);
   failed = omega (arith, sum_by-append (λ x. cond (is_fault x) 1 0) front back, a.failed, b.failed);
-  told = λ t. elim (or_cases _ _ (sym (list_any-append is_stopped front back) ∙ t)) [ inl first ↦ later.stopped (a.told first) | inr others ↦ b.told others ];
+  stopped = λ t. elim (or_cases _ _ (sym (list_any-append is_stopped front back) ∙ t)) [ inl first ↦ later.stopped (a.stopped first) | inr others ↦ b.stopped others ];
 }
 
-all_totals : (old new : State) (parts : List Part) (sessions : List (List Reply)) → AllRun old parts sessions new → Totals old new (all_replies sessions)
+all_totals : (old new : EngineState) (parts : List Part) (sessions : List (List Reply)) → AllRun old parts sessions new → Totals old new (all_replies sessions)
 all_totals old new [] [] e = totals_same old new e
 all_totals old new [] (a ∷ sessions) h = absurd h
 all_totals old new (p ∷ parts) [] h = absurd h
@@ -156,7 +165,7 @@ all_totals old new (p ∷ parts) (a ∷ sessions) (mid, (last, run), rest) =
 
 -- ---- the pairing
 
--- how often a number stands in a range
+-- how often a number is in a range
 count_below : (n a k : ℕ) → n < a → count_by (λ m. m == n) (range_with_len a k) ≡ 0
 count_below n a zero lt = refl
 count_below n a (suc k) lt =
@@ -174,7 +183,7 @@ count_once n a (suc k) le lt =
 
 -- ---- the explanation
 
-alone : (old new : State) (was now : Client) (commands : List Command) (answers : List Reply) → Runs old was commands answers new now → RunsAlone (store_of old) was commands answers
+alone : (old new : EngineState) (was now : Client) (commands : List Command) (answers : List Reply) → Runs old was commands answers new now → RunsAlone (store_of old) was commands answers
 alone old new was now [] [] h = tt
 alone old new was now [] (a ∷ answers) h = absurd h
 alone old new was now (c ∷ commands) [] h = absurd h
@@ -183,12 +192,12 @@ alone old new was now (c ∷ commands) (a ∷ answers) (mid, next, step, rest) =
     rw (step.entries, step.stopped, step.limited) refl in
     (step.replied, subst (λ (s : Store). RunsAlone s (client_after old.entries was c a) commands answers) store (subst (λ (x : Client). RunsAlone (store_of mid) x commands answers) step.client (alone mid new next now commands answers rest)))
 
-exact_of : (old new : State) (parts : List Part) (sessions : List (List Reply)) → AllRun old parts sessions new → old.stopped ≡ false → IsExact old.limit old.entries parts sessions
+exact_of : (old new : EngineState) (parts : List Part) (sessions : List (List Reply)) → AllRun old parts sessions new → old.stopped ≡ false → IsExact old.limit old.entries parts sessions
 exact_of old new (p ∷ []) (answers ∷ []) (mid, (last, run), rest) fresh = subst (λ (b : Bool). RunsAlone (record { history = old.entries; stopped = b; limit = old.limit }) new_client p.commands answers) fresh (alone old mid new_client last p.commands answers run)
 exact_of old new parts sessions h fresh = tt
 
 -- what the clients are answered one after another, from a store whose log has not failed
-pub explained : DueIsSession → (old new : State) (parts : List Part) (sessions : List (List Reply)) → AllRun old parts sessions new → old.stopped ≡ false → IsLegal new.entries → Explains old.limit (bit new.stopped) parts old.entries new.entries sessions
+pub explained : DueIsSession → (old new : EngineState) (parts : List Part) (sessions : List (List Reply)) → AllRun old parts sessions new → old.stopped ≡ false → IsLegal new.entries → Explains old.limit (fault_count new.stopped) parts old.entries new.entries sessions
 explained law old new parts sessions h fresh legal =
     let total = all_totals old new parts sessions h in
     record {
@@ -196,7 +205,7 @@ explained law old new parts sessions h fresh legal =
       begins = (AllRun-later old new parts sessions h).grows;
       answered = are_sessions law old new new (length old.entries) parts sessions (omega arith) h (Later-same new);
       paired = λ n after within. rw total.numbers (count_once n (length old.entries + 1) total.count (omega arith) (omega (arith, total.longer)));
-      failed = omega (arith, total.failed, ap bit fresh);
-      stopped = λ t. rw (total.told t) (omega arith);
+      failed = omega (arith, total.failed, ap fault_count fresh);
+      stopped = λ t. rw (total.stopped t) (omega arith);
       exact = exact_of old new parts sessions h fresh;
     }

@@ -13,30 +13,30 @@ use Rattle.wp_session.specs.Client.{Client}
 use Rattle.wp_session.specs.Kind.{is_fault}
 use Rattle.wp_session.specs.Due.{logged_entries}
 use Rattle.wp_wal.specs.Spelling.{MAGIC}
-use Rattle.wp_run.specs.Engine.{State, store_of, Later, Steps}
+use Rattle.wp_run.specs.Engine.{EngineState, store_of, Later, Steps}
 use Rattle.wp_wal.specs.Wal.{LosesNothing}
 use Rattle.wp_run.proofs.StepLemmas.{false_is_true}
 
--- ---- what lasts
+-- ---- what is preserved
 
-pub lasting_same : (ms : List Moment) → LosesNothing ms ms
-lasting_same ms = λ id records. ([], refl, tt)
+pub durable_same : (ms : List Moment) → LosesNothing ms ms
+durable_same ms = λ id records. ([], refl, tt)
 
 passed_on : (P : Moment → Type 0) (old more later : List Moment) → PassedOn P old more → PassedOn P (more ++ old) later → PassedOn P old (later ++ more)
 passed_on P old more [] first rest = first
 passed_on P old more (m ∷ later) first rest =
-    ((λ told. rest.0 (subst (λ (xs : List Moment). IfKnown xs P) (append_assoc later more old) told)), passed_on P old more later first rest.1)
+    ((λ known. rest.0 (subst (λ (xs : List Moment). IfKnown xs P) (append_assoc later more old) known)), passed_on P old more later first rest.1)
 
-lasts_on : (P : Moment → Type 0) (old mid new : List Moment) → Preserves P old mid → Preserves P mid new → Preserves P old new
-lasts_on P old mid new (more, is, first) (later, new_is, rest) =
+preserves_on : (P : Moment → Type 0) (old mid new : List Moment) → Preserves P old mid → Preserves P mid new → Preserves P old new
+preserves_on P old mid new (more, is, first) (later, new_is, rest) =
     (later ++ more, new_is ∙ ap (λ (xs : List Moment). later ++ xs) is ∙ sym (append_assoc later more old), passed_on P old more later first (subst (λ (xs : List Moment). PassedOn P xs later) is rest))
 
-pub lasting_trans : (old mid new : List Moment) → LosesNothing old mid → LosesNothing mid new → LosesNothing old new
-lasting_trans old mid new a b = λ id records. lasts_on (Leaves (HasAcknowledged MAGIC id records)) old mid new (a id records) (b id records)
+pub durable_trans : (old mid new : List Moment) → LosesNothing old mid → LosesNothing mid new → LosesNothing old new
+durable_trans old mid new a b = λ id records. preserves_on (Leaves (HasAcknowledged MAGIC id records)) old mid new (a id records) (b id records)
 
 -- ---- the store
 
-pub Later-same : (s : State) → Later s s
+pub Later-same : (s : EngineState) → Later s s
 Later-same s = record {
   grows = ([], sym (append-nil s.entries));
   stays = λ e. refl;
@@ -45,14 +45,11 @@ Later-same s = record {
   counted = omega arith;
   limited = refl;
   named = refl;
-  lasting = lasting_same s.moments;
+  durable = durable_same s.moments;
 }
 
-pub Later-equal : (old new : State) → new ≡ old → Later old new
-Later-equal old new e = subst (λ (s : State). Later old s) (sym e) (Later-same old)
-
-pub Later-kept : (old mid new : State) → Later old mid → new ≡ mid → Later old new
-Later-kept old mid new later e = subst (λ (s : State). Later old s) (sym e) later
+pub Later-equal : (old new : EngineState) → new ≡ old → Later old new
+Later-equal old new e = subst (λ (s : EngineState). Later old s) (sym e) (Later-same old)
 
 rose_between : (a b c : ℕ) → a ≤ b → Rose b c → Rose a c
 rose_between a b c le h = omega arith
@@ -61,14 +58,14 @@ rose_before : (a b c : ℕ) → Rose a b → b ≤ c → Rose a c
 rose_before a b c h le = omega arith
 
 -- which of two steps stopped the log
-rose_on : (old mid new : State) → Later old mid → Later mid new → old.stopped ≡ false → new.stopped ≡ true → Rose old.faults new.faults
+rose_on : (old mid new : EngineState) → Later old mid → Later mid new → old.stopped ≡ false → new.stopped ≡ true → Rose old.faults new.faults
 rose_on old mid new a b fresh now =
     elim (cases_Bool mid.stopped) [
       | inl first ↦ rose_before old.faults mid.faults new.faults (a.rose fresh first) b.counted
       | inr second ↦ rose_between old.faults mid.faults new.faults a.counted (b.rose second now)
     ]
 
-pub Later-trans : (old mid new : State) → Later old mid → Later mid new → Later old new
+pub Later-trans : (old mid new : EngineState) → Later old mid → Later mid new → Later old new
 Later-trans old mid new a b = record {
   grows = (a.grows.0 ++ b.grows.0, b.grows.1 ∙ ap (λ (xs : List Entry). xs ++ b.grows.0) a.grows.1 ∙ append_assoc old.entries a.grows.0 b.grows.0);
   stays = λ e. b.stays (a.stopped e) ∙ a.stays e;
@@ -77,7 +74,7 @@ Later-trans old mid new a b = record {
   counted = omega (arith, a.counted, b.counted);
   limited = b.limited ∙ a.limited;
   named = b.named ∙ a.named;
-  lasting = lasting_trans old.moments mid.moments new.moments a.lasting b.lasting;
+  durable = durable_trans old.moments mid.moments new.moments a.durable b.durable;
 }
 
 still_stopped : (fault before now : Bool) → now ≡ (if fault then true else before) → before ≡ true → now ≡ true
@@ -88,7 +85,7 @@ newly_stopped : (fault before now : Bool) → now ≡ (if fault then true else b
 newly_stopped true before now is running stopped = refl
 newly_stopped false before now is running stopped = false_is_true now (is ∙ running) stopped
 
-pub Steps-later : (old new : State) (was now : Client) (c : Command) (answer : Reply) → Steps old was c answer new now → Later old new
+pub Steps-later : (old new : EngineState) (was now : Client) (c : Command) (answer : Reply) → Steps old was c answer new now → Later old new
 Steps-later old new was now c answer step = record {
   grows = (logged_entries (store_of old) was c answer, step.entries);
   stays = step.stays;
@@ -97,5 +94,5 @@ Steps-later old new was now c answer step = record {
   counted = step.counted;
   limited = step.limited;
   named = step.named;
-  lasting = step.lasting;
+  durable = step.durable;
 }

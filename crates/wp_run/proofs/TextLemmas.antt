@@ -1,14 +1,14 @@
 -- The transcript's lines, one more at a time.
 use Rattle.std.proofs.Common.{◌≡◌, ℕ, suc, ◌+◌, ◌<◌, List, [], ◌∷◌, ◌++◌, length, get_or, take, map, sym, ap, ◌∙◌, append_assoc, add-zero, arith}
-use Rattle.std.specs.Global.{Vec}
 use Rattle.std.proofs.lemmas.List.{take_more, append-nil, map_push, length-map, length-take}
 use Rattle.wp_model.specs.declared.entry.Entry.{Entry}
 use Rattle.wp_text.specs.declared.script.Part.{Part}
 use Rattle.wp_text.specs.declared.reply.Reply.{Reply}
 use Rattle.wp_text.specs.Lines.{entry_line, entry_lines}
+use Rattle.wp_run.specs.Engine.{Answered, replies_of}
 use Rattle.wp_run.specs.Transcript.{client_text, client_lines}
 
--- one more piece behind what was appended so far
+-- one more piece after what was appended so far
 pub appends : (start front mid piece now whole : List ℕ) → mid ≡ start ++ front → now ≡ mid ++ piece → whole ≡ front ++ piece → now ≡ start ++ whole
 appends start front mid piece now whole so_far one is = one ∙ ap (λ (xs : List ℕ). xs ++ piece) so_far ∙ append_assoc start front piece ∙ ap (λ (xs : List ℕ). start ++ xs) (sym is)
 
@@ -31,10 +31,10 @@ client_lines-push (p ∷ parts) (a ∷ sessions) part answers same =
     let first = client_text p a in
     ap (λ (xs : List ℕ). first ++ xs) (client_lines-push parts sessions part answers (omega arith)) ∙ sym (append_assoc first (client_lines parts sessions) (client_text part answers))
 
-pub client_lines_more : (parts : List Part) (sessions : List (Vec Reply)) (i : ℕ) (part : Part) (answers : Vec Reply) → length parts ≡ length sessions → i < length parts → part ≡ get_or parts i part → answers ≡ get_or sessions i answers
-    → client_lines (take (i + 1) parts) (map (λ v. v.items) (take (i + 1) sessions)) ≡ client_lines (take i parts) (map (λ v. v.items) (take i sessions)) ++ client_text part answers.items
-client_lines_more parts sessions i part answers same lt part-is answers-is =
-    let items : Vec Reply → List Reply = λ v. v.items in
-    let fronts : length (take i parts) ≡ length (map items (take i sessions)) = omega (arith, length-map (take i sessions) items, length-take i parts, length-take i sessions) in
+pub client_lines_more : (parts : List Part) (sessions : List Answered) (i : ℕ) (part : Part) (answered : Answered) → length parts ≡ length sessions → i < length parts → part ≡ get_or parts i part → answered ≡ get_or sessions i answered
+    → client_lines (take (i + 1) parts) (replies_of (take (i + 1) sessions)) ≡ client_lines (take i parts) (replies_of (take i sessions)) ++ client_text part answered.replies
+client_lines_more parts sessions i part answered same lt part-is answered-is =
+    let given : Answered → List Reply = λ s. s.replies in
+    let fronts : length (take i parts) ≡ length (replies_of (take i sessions)) = omega (arith, length-map (take i sessions) given, length-take i parts, length-take i sessions) in
     let within : i < length sessions = omega arith in
-    rw (take_more parts i part lt, ← part-is, take_more sessions i answers within, ← answers-is, map_push items (take i sessions) answers) (client_lines-push (take i parts) (map items (take i sessions)) part answers.items fronts)
+    rw (take_more parts i part lt, ← part-is, take_more sessions i answered within, ← answered-is, map_push given (take i sessions) answered) (client_lines-push (take i parts) (replies_of (take i sessions)) part answered.replies fronts)

@@ -17,151 +17,143 @@ use Rattle.wp_open.specs.Opening.{IsOpenCause, IsLeftWhere}
 use Rattle.wp_run.specs.Status.{IsStatusOf}
 use Rattle.wp_wal.specs.Spelling.{MAGIC, IsLogOf}
 use Rattle.wp_wal.specs.Wal.{State as WalState}
-use Rattle.wp_run.specs.Kept.{KeptBy}
-use Rattle.wp_run.specs.Transcript.{IsTranscript}
-use Rattle.wp_run.specs.Engine.{State, bit, Later, AllRun}
+use Rattle.wp_run.specs.Stored.{CrashLeaves}
+use Rattle.wp_run.specs.Transcript.{Explains}
+use Rattle.wp_run.specs.Engine.{EngineState, Answered, fault_count, replies_of, Later, AllRun, AllRunSoFar}
 use Rattle.wp_words.specs.declared.choice.Action.{Action}
 use Rattle.wp_words.specs.declared.choice.Action.TheVariants as action
-use Rattle.wp_run.specs.Run.{Tells, Breaks, Serves, Outside, IsChosen, IsUnread, IsReadAs, Ends}
-use Rattle.wp_run.specs.Told.{IsTold, IsToldAs, HasTold, HasBroken, Finishes}
+use Rattle.wp_run.specs.Run.{Call, IsChosen, IsUnread, IsReadAs, Ends}
+use Rattle.wp_run.specs.Serving.{Serving, HasStored, AnswersScript, BreaksOff, Serves, IsTextOf, HasRun, IsWritten, HasEnded, Finishes}
+use Rattle.wp_run.specs.Use.{DiskUse, SinkUse}
 use Rattle.wp_session.specs.Laws.{DueIsSession}
-use Rattle.wp_run.proofs.Explained.{AllRun-later, explained}
+use Rattle.wp_run.proofs.Explained.{AllRunSoFar-later, explained}
+use Rattle.wp_run.proofs.RunLemmas.{firsts_ran}
 
 -- each client has one list of replies
-pub AllRun-length : (old new : State) (parts : List Part) (sessions : List (List Reply)) → AllRun old parts sessions new → length parts ≡ length sessions
-AllRun-length old new [] [] h = refl
-AllRun-length old new [] (a ∷ sessions) h = absurd h
-AllRun-length old new (p ∷ parts) [] h = absurd h
-AllRun-length old new (p ∷ parts) (a ∷ sessions) (mid, run, rest) = omega (arith, AllRun-length mid new parts sessions rest)
+pub AllRunSoFar-length : (old new : EngineState) (parts : List Part) (sessions : List Answered) → AllRunSoFar old parts sessions new → length parts ≡ length sessions
+AllRunSoFar-length old new [] [] h = refl
+AllRunSoFar-length old new [] (a ∷ sessions) h = absurd h
+AllRunSoFar-length old new (p ∷ parts) [] h = absurd h
+AllRunSoFar-length old new (p ∷ parts) (a ∷ sessions) (mid, run, rest) = omega (arith, AllRunSoFar-length mid new parts sessions rest)
 
--- ---- what the log keeps
-
-or_next : (id faults : ℕ) (entries : List Entry) (m : Moment) → IsLegal entries → KeptBy faults id entries m → KeptBy 1 id entries m
-or_next id zero entries m legal kept = λ image is. ((entries, inl refl, legal, (kept image is).0), (kept image is).1)
-or_next id (suc faults) entries m legal kept = kept
-
-kept_anyway : (id faults : ℕ) (entries : List Entry) (moments : List Moment) → IsLegal entries → IfKnown moments (KeptBy faults id entries) → IfKnown moments (KeptBy 1 id entries)
-kept_anyway id faults entries [] legal kept = tt
-kept_anyway id faults entries (m ∷ past) legal kept = or_next id faults entries m legal kept
-
--- ---- what the clients were told
+-- ---- a store
 
 -- the store as it was opened
-pub record IsOpened (state : State) (asked : ℕ) (before : List Moment) : Type 0 where
+pub record IsOpened (state : EngineState) (s : Serving) : Type 0 where
   pub running : state.stopped ≡ false
-  pub found : IfKnown before (λ m. IsLogOf state.id state.entries m.reads)
-  pub made : IfKnown before (λ m. IsUnmade m.reads → state.id ≡ asked)
+  pub limit : state.limit ≡ s.limit
+  pub counted : s.log.faults_before ≤ state.faults
+  pub found : IfKnown s.log.before (λ m. IsLogOf state.id state.entries m.reads)
+  pub made : IfKnown s.log.before (λ m. IsUnmade m.reads → state.id ≡ s.id)
 
-is_transcript : DueIsSession → (old new : State) (script : List Part) (text : List ℕ) (asked : ℕ) (before : List Moment) → IsOpened old asked before → IsLegal new.entries → IsTold old new script text → IsTranscript old.limit (bit new.stopped) script old.entries new.entries text
-is_transcript law old new script text asked before opened legal (sessions, run, is) = (sessions, explained law old new script sessions run opened.running legal, is)
+fault_count_few : (stopped : Bool) → fault_count stopped ≤ 1
+fault_count_few true = omega arith
+fault_count_few false = omega arith
 
-tells : DueIsSession → (old new : State) (script : List Part) (text : List ℕ) (asked : ℕ) (before after : List Moment) (stopped : Bool) → IsOpened old asked before → IsLegal new.entries → IsTold old new script text → IfKnown after (KeptBy (bit new.stopped) new.id new.entries) → new.stopped ≡ stopped → Tells old.limit asked (bit stopped) script before after text
-tells law old new script text asked before after stopped opened legal told kept is =
-    let later = AllRun-later old new script told.0 told.1 in
-    record {
-      id = old.id;
-      made = opened.made;
-      opened = old.entries;
-      found = opened.found;
-      history = new.entries;
-      told = subst (λ (b : Bool). IsTranscript old.limit (bit b) script old.entries new.entries text) is (is_transcript law old new script text asked before opened legal told);
-      kept = subst (λ (n : ℕ). IfKnown after (KeptBy (bit stopped) n new.entries)) later.named (subst (λ (b : Bool). IfKnown after (KeptBy (bit b) new.id new.entries)) is kept);
-    }
+fault_count_is : (stopped : Bool) → 1 ≤ fault_count stopped → stopped ≡ true
+fault_count_is true le = refl
+fault_count_is false le = absurd (omega arith)
 
--- once the log has failed its device's count has risen
-rose : (old new : State) (script : List Part) (text : List ℕ) (now first : ℕ) → IsTold old new script text → old.stopped ≡ false → first ≤ old.faults → new.faults ≡ now → new.stopped ≡ true → Rose first now
-rose old new script text now first told running le is stopped =
-    let later = AllRun-later old new script told.0 told.1 in
-    let up : Rose old.faults now = subst (λ (n : ℕ). Rose old.faults n) is (later.rose running stopped) in
-    omega (arith, up)
+-- how an open store and its log are after the clients ran
+pub record IsLeft (new : EngineState) (log : DiskUse) : Type 0 where
+  pub legal : IsLegal new.entries
+  pub stored : IfKnown log.after (CrashLeaves (fault_count new.stopped) new.id new.entries)
+  pub faults : new.faults ≡ log.faults_after
 
-bit_few : (stopped : Bool) → bit stopped ≤ 1
-bit_few true = omega arith
-bit_few false = omega arith
-
-bit_is : (stopped : Bool) → 1 ≤ bit stopped → stopped ≡ true
-bit_is true le = refl
-bit_is false le = absurd (omega arith)
-
-breaks : (old : State) (asked : ℕ) (before after : List Moment) → IsOpened old asked before → HasBroken old after → Breaks asked before after
-breaks old asked before after opened broken = record {
+stores : (old new : EngineState) (s : Serving) → IsOpened old s → Later old new → IsLeft new s.log → HasStored s (fault_count new.stopped) old.entries new.entries
+stores old new s opened later left = record {
   id = old.id;
   made = opened.made;
-  opened = old.entries;
   found = opened.found;
-  history = broken.new.entries;
-  begins = broken.later.grows;
-  kept = subst (λ (n : ℕ). IfKnown after (KeptBy 1 n broken.new.entries)) broken.later.named broken.kept;
+  stored = subst (λ (n : ℕ). IfKnown s.log.after (CrashLeaves (fault_count new.stopped) n new.entries)) later.named left.stored;
+  once = fault_count_few new.stopped;
+  cause = λ up.
+      let rose : Rose old.faults s.log.faults_after = subst (λ (n : ℕ). Rose old.faults n) left.faults (later.rose opened.running (fault_count_is new.stopped up)) in
+      omega (arith, rose, opened.counted);
 }
 
-pub serves : DueIsSession → (old : State) (asked : ℕ) (script : List Part) (before after : List Moment) (first now : ℕ) (sink_rose : Type 0) (written written_now : Option (List ℕ)) (end : Status) → IsOpened old asked before → first ≤ old.faults → Finishes old script after now sink_rose written written_now end → Serves old.limit asked script before after (Rose first now) sink_rose written written_now end
-serves law old asked script before after first now sink_rose written written_now status.Memory opened le h = inr (breaks old asked before after opened h)
-serves law old asked script before after first now sink_rose written written_now status.Ok opened le h =
-    (h.text, tells law old h.new script h.text asked before after false opened h.legal h.told h.kept h.ended.0, h.ended.1)
-serves law old asked script before after first now sink_rose written written_now status.LogFault opened le h =
-    (rose old h.new script h.text now first h.told opened.running le h.faults h.ended.0, h.text, tells law old h.new script h.text asked before after true opened h.legal h.told h.kept h.ended.0, h.ended.1)
-serves law old asked script before after first now sink_rose written written_now status.SinkFault opened le h =
-    (h.ended.0, bit h.new.stopped, bit_few h.new.stopped, (λ up. rose old h.new script h.text now first h.told opened.running le h.faults (bit_is h.new.stopped up)), h.text, tells law old h.new script h.text asked before after h.new.stopped opened h.legal h.told h.kept refl, h.ended.1)
-serves law old asked script before after first now sink_rose written written_now status.Words opened le h = absurd h.ended
-serves law old asked script before after first now sink_rose written written_now status.SourceFault opened le h = absurd h.ended
-serves law old asked script before after first now sink_rose written written_now (status.Script fault) opened le h = absurd h.ended
-serves law old asked script before after first now sink_rose written written_now (status.Contents damage) opened le h = absurd h.ended
-serves law old asked script before after first now sink_rose written written_now (status.OpenFault d) opened le h = absurd h.ended
+explains : DueIsSession → (old new : EngineState) (s : Serving) (parts : List Part) (replies : List (List Reply)) → IsOpened old s → IsLegal new.entries → AllRun old parts replies new → Explains s.limit (fault_count new.stopped) parts old.entries new.entries replies
+explains law old new s parts replies opened legal run = subst (λ (k : ℕ). Explains k (fault_count new.stopped) parts old.entries new.entries replies) opened.limit (explained law old new parts replies run opened.running legal)
 
-pub serves_opened : DueIsSession → (state : State) (limit asked : ℕ) (wal : WalState) (entries : List Entry) (script : List Part) (before after : List Moment) (first now : ℕ) (sink_rose : Type 0) (written written_now : Option (List ℕ)) (end : Status)
-    → state ≡ record { entries = entries; stopped = false; limit = limit; id = wal.id; faults = wal.faults; moments = wal.moments }
-    → IfKnown before (λ m. IsLogOf wal.id entries m.reads) → IfKnown before (λ m. IsUnmade m.reads → wal.id ≡ asked) → first ≤ wal.faults
-    → Finishes state script after now sink_rose written written_now end → Serves limit asked script before after (Rose first now) sink_rose written written_now end
-serves_opened law state limit asked wal entries script before after first now sink_rose written written_now end is found made le h =
-    let opened : State = record { entries = entries; stopped = false; limit = limit; id = wal.id; faults = wal.faults; moments = wal.moments } in
-    serves law opened asked script before after first now sink_rose written written_now end (record { running = refl; found = found; made = made }) le
-    (subst (λ (s : State). Finishes s script after now sink_rose written written_now end) is h)
+breaks_off : DueIsSession → (old new : EngineState) (s : Serving) → IsOpened old s → IsLeft new s.log → HasRun old new s.script → BreaksOff s
+breaks_off law old new s opened left (sessions, ran) =
+    let alone = firsts_ran old new s.script sessions ran in
+    record {
+      faults = fault_count new.stopped;
+      opened = old.entries;
+      history = new.entries;
+      store = stores old new s opened (AllRunSoFar-later old new s.script sessions ran) left;
+      run = alone.firsts;
+      first = alone.are;
+      replies = replies_of sessions;
+      explained = explains law old new s alone.firsts (replies_of sessions) opened left.legal alone.run;
+    }
 
-pub serves_refused : (why : OpenError) (end : Status) (limit asked : ℕ) (script : List Part) (before after : List Moment) (log_rose sink_rose : Type 0) (written written_now : Option (List ℕ))
-    → IsStatusOf why end → IsOpenCause log_rose before why → SurvivesThrough MAGIC asked before after → IsLeftWhere before after why → Serves limit asked script before after log_rose sink_rose written written_now end
-serves_refused open_error.Memory end limit asked script before after log_rose sink_rose written written_now is cause survives left = rw is (inl survives)
-serves_refused (open_error.OpenFault device.Log) end limit asked script before after log_rose sink_rose written written_now is cause survives left = rw is (survives, cause)
-serves_refused (open_error.OpenFault device.Manifest) end limit asked script before after log_rose sink_rose written written_now is cause survives left = absurd cause
-serves_refused (open_error.OpenFault device.Tables) end limit asked script before after log_rose sink_rose written written_now is cause survives left = absurd cause
-serves_refused (open_error.Contents damage) end limit asked script before after log_rose sink_rose written written_now is cause survives left = rw is (survives, cause, left)
+answers : DueIsSession → (old new : EngineState) (s : Serving) (text : List ℕ) (stopped : Bool) → IsOpened old s → IsLeft new s.log → IsTextOf old new s.script text → new.stopped ≡ stopped → AnswersScript s (fault_count stopped) text
+answers law old new s text stopped opened left (sessions, ran, whole, is) stopped-is =
+    let alone = firsts_ran old new s.script sessions ran in
+    let run = subst (λ (parts : List Part). AllRun old parts (replies_of sessions) new) (alone.whole whole) alone.run in
+    subst (λ (b : Bool). AnswersScript s (fault_count b) text) stopped-is (record {
+      opened = old.entries;
+      history = new.entries;
+      store = stores old new s opened (AllRunSoFar-later old new s.script sessions ran) left;
+      transcript = (replies_of sessions, explains law old new s s.script (replies_of sessions) opened left.legal run, is);
+    })
+
+-- ---- how a script was served
+
+left_by : (old : EngineState) (s : Serving) (end : Status) → (h : Finishes old s.script s.log s.sink end) → IsLeft h.new s.log
+left_by old s end h = record { legal = h.legal; stored = h.stored; faults = h.faults }
+
+pub serves : DueIsSession → (old : EngineState) (s : Serving) (end : Status) → IsOpened old s → Finishes old s.script s.log s.sink end → Serves s end
+serves law old s status.Memory opened h = inr (breaks_off law old h.new s opened (left_by old s status.Memory h) h.ended)
+serves law old s status.Ok opened h = (h.ended.0, answers law old h.new s h.ended.0 false opened (left_by old s status.Ok h) h.ended.1 h.ended.2.0, h.ended.2.1)
+serves law old s status.LogFault opened h = (h.ended.0, answers law old h.new s h.ended.0 true opened (left_by old s status.LogFault h) h.ended.1 h.ended.2.0, h.ended.2.1)
+serves law old s status.SinkFault opened h = (h.ended.2.0, fault_count h.new.stopped, h.ended.0, answers law old h.new s h.ended.0 h.new.stopped opened (left_by old s status.SinkFault h) h.ended.1 refl, h.ended.2.1)
+serves law old s status.Words opened h = absurd h.ended.2
+serves law old s status.SourceFault opened h = absurd h.ended.2
+serves law old s (status.Script fault) opened h = absurd h.ended.2
+serves law old s (status.Contents damage) opened h = absurd h.ended.2
+serves law old s (status.OpenFault d) opened h = absurd h.ended.2
+
+pub serves_opened : DueIsSession → (s : Serving) (wal : WalState) (entries : List Entry) (end : Status)
+    → IfKnown s.log.before (λ m. IsLogOf wal.id entries m.reads) → IfKnown s.log.before (λ m. IsUnmade m.reads → wal.id ≡ s.id) → s.log.faults_before ≤ wal.faults
+    → Finishes (record { entries = entries; stopped = false; limit = s.limit; id = wal.id; faults = wal.faults; moments = wal.moments }) s.script (record { before = wal.moments; after = s.log.after; faults_before = wal.faults; faults_after = s.log.faults_after }) s.sink end
+    → Serves s end
+serves_opened law s wal entries end found made le h =
+    serves law (record { entries = entries; stopped = false; limit = s.limit; id = wal.id; faults = wal.faults; moments = wal.moments }) s end
+    (record { running = refl; limit = refl; counted = le; found = found; made = made })
+    (record { new = h.new; legal = h.legal; stored = h.stored; faults = h.faults; ended = h.ended })
+
+pub serves_refused : (why : OpenError) (end : Status) (s : Serving)
+    → IsStatusOf why end → IsOpenCause (Rose s.log.faults_before s.log.faults_after) s.log.before why → SurvivesThrough MAGIC s.id s.log.before s.log.after → IsLeftWhere s.log.before s.log.after why → Serves s end
+serves_refused open_error.Memory end s is cause survives left = rw is (inl survives)
+serves_refused (open_error.OpenFault device.Log) end s is cause survives left = rw is (survives, cause)
+serves_refused (open_error.OpenFault device.Manifest) end s is cause survives left = absurd cause
+serves_refused (open_error.OpenFault device.Tables) end s is cause survives left = absurd cause
+serves_refused (open_error.Contents damage) end s is cause survives left = rw is (survives, cause, left)
 
 -- ---- what an open store did
 
-finishes_told : (old : State) (script : List Part) (log : List Moment) (faults : ℕ) (sink_rose : Type 0) (written written_now : Option (List ℕ)) (end : Status) → HasTold old script log faults sink_rose written written_now end → Finishes old script log faults sink_rose written written_now end
-finishes_told old script log faults sink_rose written written_now status.Memory h = absurd h.ended
-finishes_told old script log faults sink_rose written written_now end h = h
+has_ended : (old new : EngineState) (script : List Part) (text : List ℕ) (sink : SinkUse) (end : Status) → IsTextOf old new script text → IsWritten new.stopped sink text end → HasEnded old new script sink end
+has_ended old new script text sink status.Memory is written = absurd written
+has_ended old new script text sink end is written = (text, is, written)
 
-pub finishes : (old new : State) (script : List Part) (text : List ℕ) (moments : List Moment) (faults : ℕ) (stopped : Bool) (sink_rose : Type 0) (written written_now : Option (List ℕ)) (end : Status)
-    → IsTold old new script text → IsLegal new.entries → IfKnown moments (KeptBy (bit new.stopped) new.id new.entries) → faults ≡ new.faults → stopped ≡ new.stopped
-    → IsToldAs stopped sink_rose written written_now text end → Finishes old script moments faults sink_rose written written_now end
-finishes old new script text moments faults stopped sink_rose written written_now end told legal kept now is ended =
-    finishes_told old script moments faults sink_rose written written_now end (record {
-      new = new;
-      text = text;
-      told = told;
-      legal = legal;
-      kept = kept;
-      faults = sym now;
-      ended = subst (λ (b : Bool). IsToldAs b sink_rose written written_now text end) is ended;
-    })
-
-pub breaks_off : (old new : State) (moments : List Moment) → Later old new → IsLegal new.entries → IfKnown moments (KeptBy (bit new.stopped) new.id new.entries) → HasBroken old moments
-breaks_off old new moments later legal kept = record { new = new; later = later; kept = kept_anyway new.id (bit new.stopped) new.entries moments legal kept }
+pub finishes : (old new : EngineState) (script : List Part) (log : DiskUse) (sink : SinkUse) (text : List ℕ) (stopped : Bool) (end : Status)
+    → IsTextOf old new script text → IsLegal new.entries → IfKnown log.after (CrashLeaves (fault_count new.stopped) new.id new.entries) → log.faults_after ≡ new.faults → stopped ≡ new.stopped
+    → IsWritten stopped sink text end → Finishes old script log sink end
+finishes old new script log sink text stopped end is legal stored now stopped-is written =
+    record { new = new; legal = legal; stored = stored; faults = sym now; ended = has_ended old new script text sink end is (subst (λ (b : Bool). IsWritten b sink text end) stopped-is written) }
 
 -- ---- no script
 
-unread_ends : (o : Outside) (end : Status) → IsChosen o.words action.Run → o.log_now ≡ o.log → IsUnread o.source_rose o.left o.rest end → Ends o end
-unread_ends o status.Memory chosen same why = inl same
-unread_ends o status.SourceFault chosen same why = (chosen, why)
-unread_ends o (status.Script fault) chosen same why = (chosen, why)
-unread_ends o status.Ok chosen same why = absurd why
-unread_ends o status.Words chosen same why = absurd why
-unread_ends o status.SinkFault chosen same why = absurd why
-unread_ends o status.LogFault chosen same why = absurd why
-unread_ends o (status.Contents damage) chosen same why = absurd why
-unread_ends o (status.OpenFault d) chosen same why = absurd why
+unread_ends : (call : Call) (end : Status) → IsChosen call.words action.Run → call.log.after ≡ call.log.before → IsUnread call.source end → Ends call end
+unread_ends call status.Memory chosen same why = inl same
+unread_ends call status.SourceFault chosen same why = (chosen, why)
+unread_ends call (status.Script fault) chosen same why = (chosen, why)
+unread_ends call other chosen same why = absurd why
 
 -- a choice whose script was not read, and whose log was not called
-pub scriptless_ends : (o : Outside) (chosen : Action) (end : Status) → IsChosen o.words chosen → o.log_now ≡ o.log → IsReadAs chosen o.source_rose o.untouched o.left o.rest (Err end) → Ends o end
-scriptless_ends o action.Run end is same why = unread_ends o end is same why
-scriptless_ends o action.Show end is same why = rw why.1 (inl same)
+pub scriptless_ends : (call : Call) (chosen : Action) (end : Status) → IsChosen call.words chosen → call.log.after ≡ call.log.before → IsReadAs chosen call.source (Err end) → Ends call end
+scriptless_ends call action.Run end is same why = unread_ends call end is same why
+scriptless_ends call action.Show end is same why = rw why.1 (inl same)

@@ -1,7 +1,8 @@
 pub mod Transcript
-pub mod Kept
+pub mod Stored
 pub mod Engine
-pub mod Write
+pub mod Logging
 pub mod Status
+pub mod Use
+pub mod Serving
 pub mod Run
-pub mod Told

@@ -1,4 +1,4 @@
--- The exit status of each way to end.
+-- The ways to end: the exit status of each, and how far the call came.
 use Rattle.std.specs.Prelude.{◌≡◌, ℕ}
 use Rattle.wp_open.specs.declared.opening.OpenError.{OpenError}
 use Rattle.wp_open.specs.declared.opening.OpenError.TheVariants as open_error
@@ -16,7 +16,36 @@ code_of status.LogFault = 7
 code_of (status.Contents bad) = 9
 code_of (status.OpenFault device) = 10
 
--- the end that tells why a store was not opened
+-- The last that a call may have come to: its words, the source, the disks or the sink.
+pub data Stage : Type 0 where
+  AtWords : Stage
+  AtSource : Stage
+  AtDisks : Stage
+  AtSink : Stage
+
+abbrev pub stage_of : Status → Stage
+stage_of status.Words = AtWords
+stage_of status.SourceFault = AtSource
+stage_of (status.Script fault) = AtSource
+stage_of status.Memory = AtDisks
+stage_of (status.Contents damage) = AtDisks
+stage_of (status.OpenFault d) = AtDisks
+stage_of status.Ok = AtSink
+stage_of status.LogFault = AtSink
+stage_of status.SinkFault = AtSink
+
+abbrev pub IsBeforeSink : Stage → Type 0
+IsBeforeSink AtSink = ⊥
+IsBeforeSink other = Unit {0}
+
+-- What comes after a stage was not called.
+abbrev pub LeavesUncalled : Stage → (source_uncalled disks_uncalled sink_uncalled : Type 0) → Type 0
+LeavesUncalled AtWords source_uncalled disks_uncalled sink_uncalled = source_uncalled × disks_uncalled × sink_uncalled
+LeavesUncalled AtSource source_uncalled disks_uncalled sink_uncalled = disks_uncalled × sink_uncalled
+LeavesUncalled AtDisks source_uncalled disks_uncalled sink_uncalled = sink_uncalled
+LeavesUncalled AtSink source_uncalled disks_uncalled sink_uncalled = Unit {0}
+
+-- the end that names why a store was not opened
 abbrev pub IsStatusOf : OpenError → Status → Type 0
 IsStatusOf open_error.Memory end = end ≡ status.Memory
 IsStatusOf (open_error.OpenFault d) end = end ≡ status.OpenFault d

@@ -9,8 +9,8 @@ use Rattle.wp_text.specs.declared.reply.Reply.{Reply}
 use Rattle.wp_text.specs.Lines.{client_line, reply_line, entry_lines, end_line, line_end}
 use Rattle.wp_session.specs.Client.{new_client}
 use Rattle.wp_session.specs.Kind.{acknowledged, is_fault, is_stopped}
-use Rattle.wp_session.specs.Replies.{IsKnown, one_at_a_time}
 use Rattle.wp_session.specs.Session.{IsSession}
+use Rattle.wp_session.specs.Replies.{IsKnown, one_at_a_time}
 use Rattle.wp_session.specs.Current.{RunsAlone}
 
 -- each part has one session, which begins with the opening history
@@ -34,7 +34,7 @@ pub record Explains (limit faults : ℕ) (script : List Part) (opened history : 
   pub legal : IsLegal history
   pub begins : (added : List Entry) × (history ≡ opened ++ added)
   pub answered : AreSessions history limit (length opened) script sessions
-  -- each entry behind the opening history is that of exactly one reply, an Undo together with its Close
+  -- each entry after the opening history is that of exactly one reply, an Undo together with its Close
   pub paired : (n : ℕ) → length opened < n → n ≤ length history → count_by (λ m. m == n) (flat_map acknowledged (all_replies sessions)) ≡ 1
   pub failed : count_by is_fault (all_replies sessions) ≡ faults
   pub stopped : list_any is_stopped (all_replies sessions) ≡ true → 1 ≤ faults

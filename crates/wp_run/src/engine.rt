@@ -2,10 +2,10 @@ ghost use Rattle.std.specs.Prelude.{◌≡◌, ◌+◌, ◌≤◌, ◌<◌, ◌^
 ghost use Rattle.wp_model.specs.Legal.{IsLegal, undone_last};
 ghost use Rattle.wp_outside.specs.Disk.{IfKnown};
 ghost use Rattle.wp_wal.specs.Wal.{StoresHistory};
-ghost use Rattle.wp_run.specs.Engine.{State, bit};
-ghost use Rattle.wp_run.specs.Kept.{KeptBy};
+ghost use Rattle.wp_run.specs.Engine.{EngineState, fault_count};
+ghost use Rattle.wp_run.specs.Stored.{CrashLeaves};
 ghost use Rattle.wp_session.specs.Next.{AreLegalNext, AreNext};
-ghost use Rattle.wp_run.specs.Write.{Writes};
+ghost use Rattle.wp_run.specs.Logging.{IsLogResult};
 ghost use Rattle.wp_run.specs.declared.engine.WriteError.TheVariants.{Memory};
 
 use std::alloc::AllocError;
@@ -48,17 +48,17 @@ pub(crate) struct Engine<D: Disk> {
 }
 
 impl<D: Disk> Model for Engine<D> {
-    ghost use Rattle.wp_run.specs.Engine.{State};
-    ghost use Rattle.wp_run.specs.Kept.{IsWhole};
+    ghost use Rattle.wp_run.specs.Engine.{EngineState};
+    ghost use Rattle.wp_run.specs.Stored.{IsConsistent};
 
-    ghost Value = { State };
+    ghost Value = { EngineState };
 
     ghost view = { λ e. record { entries = e.history.entries; stopped = e.stopped; limit = e.limit; id = e.wal.id; faults = e.wal.faults; moments = e.wal.moments } };
 
-    ghost invariant = { λ e. IsWhole e.wal e.history.entries e.stopped e.limit };
+    ghost invariant = { λ e. IsConsistent e.wal e.history.entries e.stopped e.limit };
 }
 
-/// Puts the entries behind the others, in memory that is there.
+/// Puts the entries after the others, in memory that is there.
 fn push_all(history: &mut History, entries: Vec<Entry>)
     requires legal { AreLegalNext history.old.entries entries.items }
     requires few { length history.old.entries + length entries.items < 2 ^ 32 }
@@ -73,7 +73,7 @@ fn push_all(history: &mut History, entries: Vec<Entry>)
 impl<D: Disk> Engine<D> {
     /// A store with this log and the history that it spells. Numbers end at the limit.
     pub(crate) fn new(wal: Wal<D>, history: History, limit: Seq) -> Engine<D>
-        requires keeps { StoresHistory wal history.entries [] }
+        requires stores { StoresHistory wal history.entries [] }
         requires running { wal.closed ≡ false }
         requires limit { limit < 2 ^ 32 }
         ensures { result ≡ record { entries = history.entries; stopped = false; limit = limit; id = wal.id; faults = wal.faults; moments = wal.moments } }
@@ -107,7 +107,7 @@ impl<D: Disk> Engine<D> {
 
     /// Gives the log's device back.
     pub(crate) fn into_disk(self) -> D
-        ensures kept { IfKnown (D.moments result) (KeptBy (bit self.stopped) self.id self.entries) }
+        ensures stored { IfKnown (D.moments result) (CrashLeaves (fault_count self.stopped) self.id self.entries) }
         ensures moments { D.moments result ≡ self.moments }
         ensures faults { D.faults result ≡ self.faults }
     {
@@ -119,7 +119,7 @@ impl<D: Disk> Engine<D> {
     /// Logs the entries as one record, and then adds them to the history. The reply's number is that of the last one.
     pub(crate) fn log(&mut self, entries: Vec<Entry>) -> Result<(), WriteError>
         requires next { AreNext self.old.entries entries.items }
-        ensures { Writes self.old self.new entries.items result }
+        ensures { IsLogResult self.old self.new entries.items result }
     {
         let published = self.history.published();
         if self.stopped {

@@ -5,6 +5,7 @@
 //! first byte is written.
 #![tactic(auto)]
 
+mod client;
 mod clients;
 mod engine;
 mod serve;

@@ -1,13 +1,11 @@
-ghost use Rattle.std.specs.Prelude.{◌≡◌, ◌≤◌, ◌<◌, ◌^◌, IfOk};
-ghost use Rattle.wp_outside.specs.Faults.{Rose};
-ghost use Rattle.wp_run.specs.Engine.{Later};
+ghost use Rattle.std.specs.Prelude.{◌≡◌, ◌≤◌, ◌<◌, ◌^◌, IfOk, OnErr};
 ghost use Rattle.wp_wal.specs.Wal.{LosesNothing};
-ghost use Rattle.wp_run.specs.Status.{IsStatusOf};
-ghost use Rattle.wp_run.specs.Run.{IsSilent, Serves};
-ghost use Rattle.wp_run.specs.Told.{IsTold, IsToldAs, Finishes};
+ghost use Rattle.wp_run.specs.Engine.{Later};
+ghost use Rattle.wp_run.specs.Status.{IsStatusOf, IsBeforeSink, stage_of};
+ghost use Rattle.wp_run.specs.Serving.{IsTextOf, HasRun, IsWritten, Finishes, Serves};
 
-use crate::clients::run_all;
 use crate::engine::Engine;
+use crate::clients::{are_whole, run_all};
 use crate::status::Status;
 use crate::transcript::transcript;
 use std::alloc::{AllocError, Global};
@@ -15,7 +13,7 @@ use wp_gatelog::DiskRefused;
 use wp_model::Seq;
 use wp_open::{OpenError, Opened, open};
 use wp_outside::{Disk, Failed, Sink, write_all};
-use wp_session::laws;
+use wp_session::laws::due_is_session;
 use wp_text::Part;
 
 /// How a script was served, and the log's device.
@@ -24,22 +22,31 @@ pub(crate) struct Served<D: Disk> {
     pub(crate) disk: D,
 }
 
-/// What the script's clients are answered.
-fn text_of<D: Disk>(
+/// The text of what the script's clients are answered.
+fn answer_all<D: Disk>(
     alloc: Global,
     engine: &mut Engine<D>,
     parts: &[Part],
 ) -> Result<Vec<u8>, AllocError>
-    ensures told { IfOk result (λ text. IsTold engine.old engine.new parts.now text.items) }
+    ensures text { IfOk result (λ text. IsTextOf engine.old engine.new parts.now text.items) }
+    ensures err { OnErr result (HasRun engine.old engine.new parts.now) }
     ensures later { Later engine.old engine.new }
 {
     let sessions = run_all(alloc, engine, parts)?;
+    if !are_whole(&sessions) {
+        return Err(AllocError);
+    }
     let text = transcript(alloc, parts, &sessions, engine.history())?;
     Ok(text)
 }
 
-fn tell<K: Sink>(sink: &mut K, text: &[u8], stopped: bool) -> Status
-    ensures told { IsToldAs stopped (Rose (K.faults sink.old) (K.faults sink.new)) (K.contents sink.old) (K.contents sink.new) text.now result }
+fn write_text<K: Sink>(sink: &mut K, text: &[u8], stopped: bool) -> Status
+    ensures written { IsWritten stopped (record {
+      before = K.contents sink.old;
+      after = K.contents sink.new;
+      faults_before = K.faults sink.old;
+      faults_after = K.faults sink.new;
+    }) text.now result }
     ensures later { K.faults sink.old ≤ K.faults sink.new }
 {
     match write_all(sink, text) {
@@ -56,19 +63,29 @@ fn finish<D: Disk, K: Sink>(
     parts: &[Part],
     sink: &mut K,
 ) -> Served<D>
-    ensures finishes { Finishes engine parts.now (D.moments result.disk) (D.faults result.disk) (Rose (K.faults sink.old) (K.faults sink.new)) (K.contents sink.old) (K.contents sink.new) result.status }
-    ensures silent { IsSilent result.status → sink.new ≡ sink.old }
+    ensures finishes { Finishes engine parts.now (record {
+      before = engine.moments;
+      after = D.moments result.disk;
+      faults_before = engine.faults;
+      faults_after = D.faults result.disk;
+    }) (record {
+      before = K.contents sink.old;
+      after = K.contents sink.new;
+      faults_before = K.faults sink.old;
+      faults_after = K.faults sink.new;
+    }) result.status }
+    ensures silent { IsBeforeSink (stage_of result.status) → sink.new ≡ sink.old }
     ensures sink_later { K.faults sink.old ≤ K.faults sink.new }
-    ensures lasts { LosesNothing engine.moments (D.moments result.disk) }
+    ensures durable { LosesNothing engine.moments (D.moments result.disk) }
     ensures log_later { engine.faults ≤ D.faults result.disk }
 {
-    let text = text_of(alloc, &mut engine, parts);
+    let text = answer_all(alloc, &mut engine, parts);
     let stopped = engine.is_stopped();
     engine.history();
     let disk = engine.into_disk();
     match text {
         Ok(text) => {
-            let status = tell(sink, &text, stopped);
+            let status = write_text(sink, &text, stopped);
             Served { status, disk }
         }
         Err(AllocError) => Served {
@@ -98,13 +115,29 @@ pub(crate) fn serve<D: Disk, K: Sink>(
     sink: &mut K,
 ) -> Served<D>
     requires { limit < 2 ^ 32 }
-    ensures serves { Serves limit id parts.now (D.moments disk) (D.moments result.disk) (Rose (D.faults disk) (D.faults result.disk)) (Rose (K.faults sink.old) (K.faults sink.new)) (K.contents sink.old) (K.contents sink.new) result.status }
-    ensures silent { IsSilent result.status → sink.new ≡ sink.old }
+    ensures serves { Serves (record {
+      limit = limit;
+      id = id;
+      script = parts.now;
+      log = record {
+        before = D.moments disk;
+        after = D.moments result.disk;
+        faults_before = D.faults disk;
+        faults_after = D.faults result.disk;
+      };
+      sink = record {
+        before = K.contents sink.old;
+        after = K.contents sink.new;
+        faults_before = K.faults sink.old;
+        faults_after = K.faults sink.new;
+      };
+    }) result.status }
+    ensures silent { IsBeforeSink (stage_of result.status) → sink.new ≡ sink.old }
     ensures sink_later { K.faults sink.old ≤ K.faults sink.new }
-    ensures lasts { LosesNothing (D.moments disk) (D.moments result.disk) }
+    ensures durable { LosesNothing (D.moments disk) (D.moments result.disk) }
     ensures log_later { D.faults disk ≤ D.faults result.disk }
 {
-    laws::due_is_session();
+    due_is_session();
     match open(alloc, disk, id) {
         Ok(Opened { wal, history }) => finish(alloc, Engine::new(wal, history, limit), parts, sink),
         Err(DiskRefused { disk, why }) => {

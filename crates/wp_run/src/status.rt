@@ -24,7 +24,7 @@ pub enum Status {
     Script(Fault),
     /// The log's device failed in the run, and the text says at which command. The whole text was written.
     LogFault,
-    /// What the devices hold stands outside the formats. Nothing was written.
+    /// What is on the devices is outside the formats. Nothing was written.
     Contents(Bad),
     /// The device failed while the store was opened. Nothing was written, and no entry was added.
     OpenFault(Device),
@@ -48,7 +48,7 @@ impl Status {
         }
     }
 
-    /// The line, without its end, that tells a status other than `Ok` on standard error. That of `Ok` is never shown.
+    /// The line, without its end, that names a status other than `Ok` on standard error. That of `Ok` is never shown.
     pub fn line(&self, alloc: Global) -> Result<Vec<u8>, AllocError> {
         let text = match self {
             Status::Ok => "wp: ok".to_string(alloc)?,

@@ -1,8 +1,8 @@
 ghost use Rattle.std.specs.Prelude.{◌≡◌, ◌≤◌, map};
 ghost use Rattle.std.specs.String.{string_bytes};
-ghost use Rattle.wp_outside.specs.Faults.{Rose};
 ghost use Rattle.wp_wal.specs.Wal.{LosesNothing};
-ghost use Rattle.wp_run.specs.Run.{Outside, Ends, IsChosen, IsReadAs, IsSilent, IsUnopened};
+ghost use Rattle.wp_run.specs.Run.{Call, Ends, IsChosen, IsReadAs};
+ghost use Rattle.wp_run.specs.Status.{LeavesUncalled, stage_of};
 
 use crate::serve::{Served, serve};
 use crate::status::Status;
@@ -22,7 +22,13 @@ pub struct Ended<D> {
 
 /// The script that the source holds.
 fn script_in<S: Source>(alloc: Global, source: &mut S) -> Result<Script, Status>
-    ensures read { IsReadAs Action.Run (Rose (S.faults source.old) (S.faults source.new)) (source.new ≡ source.old) (S.left source.old) (S.left source.new) result }
+    ensures read { IsReadAs Action.Run (record {
+      before = S.left source.old;
+      after = S.left source.new;
+      faults_before = S.faults source.old;
+      faults_after = S.faults source.new;
+      uncalled = source.new ≡ source.old;
+    }) result }
     ensures later { S.faults source.old ≤ S.faults source.new }
 {
     match read_all(alloc, source, MOST_BYTES + 1) {
@@ -38,7 +44,13 @@ fn script_in<S: Source>(alloc: Global, source: &mut S) -> Result<Script, Status>
 
 /// The script that is to be run. To show a store is to run none, and the source is not called.
 fn script_of<S: Source>(alloc: Global, action: Action, source: &mut S) -> Result<Script, Status>
-    ensures read { IsReadAs action (Rose (S.faults source.old) (S.faults source.new)) (source.new ≡ source.old) (S.left source.old) (S.left source.new) result }
+    ensures read { IsReadAs action (record {
+      before = S.left source.old;
+      after = S.left source.new;
+      faults_before = S.faults source.old;
+      faults_after = S.faults source.new;
+      uncalled = source.new ≡ source.old;
+    }) result }
     ensures later { S.faults source.old ≤ S.faults source.new }
 {
     match action {
@@ -58,26 +70,33 @@ pub fn run<R: Threads + Wait + Sync, D: Disk + Send, S: Source, K: Sink, G: Gate
     sink: &mut K,
     _gate: &G,
 ) -> Ended<D>
-    // How the call ended and why, what was written and what the log keeps, by the status.
+    // How the call ended and why, what was written and what the log stores, by the status.
     ensures ends { Ends (record {
       words = map string_bytes words.now;
-      left = S.left source.old;
-      rest = S.left source.new;
-      untouched = source.new ≡ source.old;
-      source_rose = Rose (S.faults source.old) (S.faults source.new);
-      log = D.moments disks.log;
-      log_now = D.moments result.disks.log;
-      log_rose = Rose (D.faults disks.log) (D.faults result.disks.log);
-      written = K.contents sink.old;
-      written_now = K.contents sink.new;
-      sink_rose = Rose (K.faults sink.old) (K.faults sink.new);
+      source = record {
+        before = S.left source.old;
+        after = S.left source.new;
+        faults_before = S.faults source.old;
+        faults_after = S.faults source.new;
+        uncalled = source.new ≡ source.old;
+      };
+      log = record {
+        before = D.moments disks.log;
+        after = D.moments result.disks.log;
+        faults_before = D.faults disks.log;
+        faults_after = D.faults result.disks.log;
+      };
+      sink = record {
+        before = K.contents sink.old;
+        after = K.contents sink.new;
+        faults_before = K.faults sink.old;
+        faults_after = K.faults sink.new;
+      };
     }) result.status }
     // However it ended, no crash takes what each crash would have left acknowledged before.
-    ensures lasts { LosesNothing (D.moments disks.log) (D.moments result.disks.log) }
-    ensures silent { IsSilent result.status → sink.new ≡ sink.old }
-    ensures unread { result.status ≡ Status.Words → source.new ≡ source.old }
+    ensures durable { LosesNothing (D.moments disks.log) (D.moments result.disks.log) }
+    ensures uncalled { LeavesUncalled (stage_of result.status) (source.new ≡ source.old) (result.disks ≡ disks) (sink.new ≡ sink.old) }
     ensures shown { IsChosen (map string_bytes words.now) Action.Show → source.new ≡ source.old }
-    ensures unopened { IsUnopened result.status → result.disks ≡ disks }
     ensures manifest { result.disks.manifest ≡ disks.manifest }
     ensures tables { result.disks.tables ≡ disks.tables }
     ensures source_later { S.faults source.old ≤ S.faults source.new }

@@ -1,8 +1,10 @@
-ghost use Rattle.std.specs.Prelude.{◌≡◌, ◌++◌, ◌≤◌, ◌<◌, ◌^◌, length, map, IfOk, OnOk};
+ghost use Rattle.std.specs.Prelude.{◌≡◌, ◌++◌, ◌≤◌, ◌<◌, ◌^◌, length, IfOk, OnOk};
 ghost use Rattle.std.specs.List.{flat_map};
 ghost use Rattle.wp_text.specs.Lines as text;
+ghost use Rattle.wp_run.specs.Engine.{replies_of};
 ghost use Rattle.wp_run.specs.Transcript.{client_text, client_lines, text_of};
 
+use crate::client::Answers;
 use std::alloc::{AllocError, Global};
 use wp_history::History;
 use wp_model::Entry;
@@ -27,13 +29,13 @@ fn push_client(out: &mut Vec<u8>, part: &Part, replies: &[Reply]) -> Result<(), 
 fn push_clients(
     out: &mut Vec<u8>,
     parts: &[Part],
-    sessions: &[Vec<Reply>],
+    sessions: &[Answers],
 ) -> Result<(), AllocError>
     requires { length parts.now ≡ length sessions.now }
-    ensures { OnOk result (out.new.items ≡ out.old.items ++ client_lines parts.now (map (λ v. v.items) sessions.now)) }
+    ensures { OnOk result (out.new.items ≡ out.old.items ++ client_lines parts.now (replies_of sessions.now)) }
 {
     for (i, part) in parts.iter().enumerate() {
-        push_client(out, part, &sessions[i])?;
+        push_client(out, part, sessions[i].replies())?;
     }
     Ok(())
 }
@@ -51,11 +53,11 @@ fn push_history(out: &mut Vec<u8>, entries: &[Entry]) -> Result<(), AllocError>
 pub(crate) fn transcript(
     alloc: Global,
     parts: &[Part],
-    sessions: &[Vec<Reply>],
+    sessions: &[Answers],
     history: &History,
 ) -> Result<Vec<u8>, AllocError>
     requires { length parts.now ≡ length sessions.now }
-    ensures { IfOk result (λ text. text.items ≡ text_of parts.now (map (λ v. v.items) sessions.now) history.now.entries) }
+    ensures { IfOk result (λ text. text.items ≡ text_of parts.now (replies_of sessions.now) history.now.entries) }
 {
     let mut out = Vec::new(alloc);
     push_clients(&mut out, parts, sessions)?;

@@ -1,7 +1,7 @@
 //! A script with each kind of record in its log, whose device fails at each call, or which is broken off by a crash at
 //! each moment of an append.
 
-use super::{Given, Outcome, keeps, script, seen, shown};
+use super::{Given, Outcome, script, seen, shown, stores, with_gate};
 use std::alloc::{AllocError, AllocGlobal, Global};
 use std::sync::Wait;
 use std::test::Fail;
@@ -112,7 +112,7 @@ const STAGES: [Stage; 7] = [
 /// Decides what the script leaves undecided, on its log.
 const DECISION: &str = "client c\ntake v\ncommit\n";
 
-/// The store behind that decision.
+/// The store after that decision.
 const DECIDED: Opened = Opened {
     history: "history\n1 write put k 1\n2 prepare t put k 2\n3 commit 2\n4 prepare u del k\n5 undo 4 put k 2\n6 close 4\n7 prepare v put k 4\n8 commit 7\nend 8 0\n",
     next: "client c\nput @9\nunknown t @9\nstate\nunknown u @9\nstate\nunknown v @9\nstate\n",
@@ -147,7 +147,7 @@ fn failing<R: Threads + Wait + Sync + AllocGlobal>(
 }
 
 /// The transcript of these replies and this history.
-fn told(alloc: Global, replies: &str, history: &str) -> Result<Vec<u8>, AllocError> {
+fn transcript(alloc: Global, replies: &str, history: &str) -> Result<Vec<u8>, AllocError> {
     let mut text = replies.as_bytes().to_vec(alloc)?;
     text.extend_from_slice(history.as_bytes())?;
     Ok(text)
@@ -164,13 +164,13 @@ fn each_call_of_each_record_may_fail(rt: HostRuntime) -> Result<(), Fail> {
         assert_eq!(rt; outcome.code, code, "call {call}");
         assert_eq!(rt;
             outcome.text.as_slice(),
-            told(rt.alloc(), before.replies, before.opened.history)?.as_slice(),
+            transcript(rt.alloc(), before.replies, before.opened.history)?.as_slice(),
             "call {call}"
         );
         let show = shown(&rt, &outcome.log)?;
         assert_eq!(rt; show.code, 0, "call {call}");
         assert!(rt;
-            keeps(
+            stores(
                 &show,
                 before.opened.history,
                 stage_after(records + 1).opened.history
@@ -183,16 +183,16 @@ fn each_call_of_each_record_may_fail(rt: HostRuntime) -> Result<(), Fail> {
 
 /// The status and the transcript of the decision where the log's device fails at this call.
 ///
-/// The opening of a log with six records takes the calls 1 to 16 (a sync, the length, the head, two for each record, the gate behind
+/// The opening of a log with six records takes the calls 1 to 16 (a sync, the length, the head, two for each record, the gate after
 /// them), and the append of the commit four.
-fn decision_told(alloc: Global, call: u64) -> Result<(u8, Vec<u8>), AllocError> {
+fn outcome_of_decision(alloc: Global, call: u64) -> Result<(u8, Vec<u8>), AllocError> {
     let left = stage_after(RECORDS).opened;
     let (code, replies, history) = match call {
         1..=16 => (10, "", ""),
         17..=20 => (7, "client c\ntook\nfault log\n", left.history),
         _ => (0, "client c\ntook\ncommit @8\n", DECIDED.history),
     };
-    Ok((code, told(alloc, replies, history)?))
+    Ok((code, transcript(alloc, replies, history)?))
 }
 
 #[test]
@@ -205,19 +205,19 @@ fn each_call_of_a_reopening_may_fail(rt: HostRuntime) -> Result<(), Fail> {
             ..script(DECISION, &log)
         };
         let outcome = seen(&rt, &given)?;
-        let (code, text) = decision_told(rt.alloc(), call)?;
+        let (code, text) = outcome_of_decision(rt.alloc(), call)?;
         assert_eq!(rt; outcome.code, code, "call {call}");
         assert_eq!(rt; outcome.text.as_slice(), text.as_slice(), "call {call}");
         let show = shown(&rt, &outcome.log)?;
         assert!(rt;
-            keeps(&show, left.opened.history, DECIDED.history),
+            stores(&show, left.opened.history, DECIDED.history),
             "call {call}"
         );
     }
     Ok(())
 }
 
-/// What the log opens to before an append and after it, its bytes before, and the frame and closed gate written behind them.
+/// What the log opens to before an append and after it, its bytes before, and the frame and closed gate written after them.
 #[derive(Drop)]
 struct Append {
     before: Opened,
@@ -234,7 +234,7 @@ fn logged<R: Threads + Wait + Sync + AllocGlobal>(
     Ok(failing(rt, stage.commands, 0)?.log)
 }
 
-/// The log's bytes behind the append that follows that stage, and what it opens to then.
+/// The log's bytes after the append that follows that stage, and what it opens to then.
 fn appended<R: Threads + Wait + Sync + AllocGlobal>(
     rt: &R,
     records: usize,
@@ -247,8 +247,8 @@ fn appended<R: Threads + Wait + Sync + AllocGlobal>(
     Ok((DECIDED, seen(rt, &script(DECISION, old))?.log))
 }
 
-/// The append behind so many records: the script's next one, or else that of the decision.
-fn append_behind<R: Threads + Wait + Sync + AllocGlobal>(
+/// The append after so many records: the script's next one, or else that of the decision.
+fn append_after<R: Threads + Wait + Sync + AllocGlobal>(
     rt: &R,
     records: usize,
 ) -> Result<Append, AllocError> {
@@ -273,10 +273,8 @@ struct Crash {
 }
 
 fn image(alloc: Global, append: &Append, crash: Crash) -> Result<Vec<u8>, AllocError> {
-    let mut bytes = append.old.to_vec(alloc)?;
-    bytes.pop();
-    bytes.push(crash.gate)?;
-    bytes.extend_from_slice(append.frame.get(..crash.written).unwrap_or(&[]))?;
+    let frame = append.frame.get(..crash.written).unwrap_or(&[]);
+    let mut bytes = with_gate(alloc, &append.old, crash.gate, frame)?;
     for _ in 0..crash.junk {
         bytes.push(0xA5)?;
     }
@@ -299,7 +297,7 @@ fn opens_to<R: Threads + Wait + Sync + AllocGlobal>(
     )
 }
 
-/// The first length at which a frame that was torn behind its closed gate, with junk behind it or without, is not passed over.
+/// The first length at which a frame that was torn after its closed gate, with junk after it or without, is not passed over.
 fn wrong_tear<R: Threads + Wait + Sync + AllocGlobal>(
     rt: &R,
     append: &Append,
@@ -322,11 +320,11 @@ fn wrong_tear<R: Threads + Wait + Sync + AllocGlobal>(
 }
 
 #[test]
-fn what_stands_behind_a_closed_gate_is_passed_over(rt: HostRuntime) -> Result<(), Fail> {
+fn what_is_after_a_closed_gate_is_passed_over(rt: HostRuntime) -> Result<(), Fail> {
     for records in 0..=RECORDS {
-        let append = append_behind(&rt, records)?;
-        assert!(rt; !append.frame.is_empty(), "behind {records} records");
-        assert_eq!(rt; wrong_tear(&rt, &append)?, None, "behind {records} records");
+        let append = append_after(&rt, records)?;
+        assert!(rt; !append.frame.is_empty(), "after {records} records");
+        assert_eq!(rt; wrong_tear(&rt, &append)?, None, "after {records} records");
     }
     Ok(())
 }
@@ -351,10 +349,10 @@ fn wrong_gate<R: Threads + Wait + Sync + AllocGlobal>(
 }
 
 #[test]
-fn a_record_behind_any_open_gate_is_found(rt: HostRuntime) -> Result<(), Fail> {
+fn a_record_after_any_open_gate_is_found(rt: HostRuntime) -> Result<(), Fail> {
     for records in 0..=RECORDS {
-        let append = append_behind(&rt, records)?;
-        assert_eq!(rt; wrong_gate(&rt, &append)?, None, "behind {records} records");
+        let append = append_after(&rt, records)?;
+        assert_eq!(rt; wrong_gate(&rt, &append)?, None, "after {records} records");
     }
     Ok(())
 }

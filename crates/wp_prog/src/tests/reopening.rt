@@ -1,21 +1,11 @@
-//! What the log holds of a transaction, byte for byte, and what a store that is opened again does with it.
+//! What the log stores of a transaction, byte for byte, and what a store that is opened again does with it.
 
-use super::{LOG, script, seen, shown};
-use std::alloc::{AllocError, Global};
+use super::{LOG, script, seen, shown, with_gate};
 use std::test::Fail;
 
 /// The log of store 1 with the prepare of t, which puts `1` under `k`, as its entry 1.
 const PREPARED: &[u8; 34] =
     b"\x01WPLG\x01\0\0\0\x01\x01\0\0\0\0\0\0\0\x0e\0\0\0\x01\x02\x01t\x01\x01\x01k\0\x011\0";
-
-/// The log with its last gate open and this behind it.
-fn behind(alloc: Global, log: &[u8], rest: &[u8]) -> Result<Vec<u8>, AllocError> {
-    let mut bytes = log.to_vec(alloc)?;
-    bytes.pop();
-    bytes.push(1)?;
-    bytes.extend_from_slice(rest)?;
-    Ok(bytes)
-}
 
 #[test]
 fn a_prepared_transaction_is_found_again(rt: HostRuntime) -> Result<(), Fail> {
@@ -33,7 +23,7 @@ fn a_prepared_transaction_is_found_again(rt: HostRuntime) -> Result<(), Fail> {
     Ok(())
 }
 
-/// What decides the prepared transaction, and the frame with the gate behind it that the log has then.
+/// What decides the prepared transaction, and the frame with the gate after it that the log has then.
 const DECISIONS: [(&str, &[u8]); 2] = [
     (
         "client b\ntake t\ncommit\n",
@@ -52,7 +42,7 @@ fn a_decision_is_one_record(rt: HostRuntime) -> Result<(), Fail> {
         assert_eq!(rt; decided.code, 0);
         assert_eq!(rt;
             decided.log.as_slice(),
-            behind(rt.alloc(), PREPARED, frame)?.as_slice()
+            with_gate(rt.alloc(), PREPARED, 1, frame)?.as_slice()
         );
     }
     Ok(())
@@ -61,7 +51,7 @@ fn a_decision_is_one_record(rt: HostRuntime) -> Result<(), Fail> {
 #[test]
 fn an_illegal_entry_is_named_and_left(rt: HostRuntime) -> Result<(), Fail> {
     let commit = b"\0\0\0\0\0\0\0\x09\0\0\0\x02\x03\0\0\0\x01\0";
-    let log = behind(rt.alloc(), LOG, commit)?;
+    let log = with_gate(rt.alloc(), LOG, 1, commit)?;
     let show = shown(&rt, &log)?;
     assert_eq!(rt; show.code, 9);
     assert_eq!(rt; show.line.as_slice(), b"wp: contents: illegal 2".as_slice());

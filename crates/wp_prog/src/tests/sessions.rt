@@ -10,7 +10,7 @@ const NO_CACHE: &[&str] = &["wp", "run", "--bits", "0"];
 
 const LIMIT_3: &[&str] = &["wp", "run", "--limit", "3"];
 
-/// A script of one client on a new store: its commands with their replies, and the lines behind `history`.
+/// A script of one client on a new store: its commands with their replies, and the lines after `history`.
 #[derive(Clone, Copy, Drop)]
 struct Worked {
     words: &'static [&'static str],
@@ -263,13 +263,13 @@ fn a_client_leaves_what_it_prepared_and_nothing_open(rt: HostRuntime) -> Result<
     Ok(())
 }
 
-/// A session that repeats a command sixty-five times, with another number each time: what stands before these, before and
-/// behind each number, and at the end; then the replies to it, where a sixty-fourth is answered as the first.
+/// A session that repeats a command sixty-five times, with another number each time: what is before these, before and
+/// after each number, and at the end; then the replies to it, where a sixty-fourth is answered as the first.
 #[derive(Clone, Copy, Drop)]
 struct Filled {
     first: &'static str,
     before: &'static str,
-    behind: &'static str,
+    after: &'static str,
     last: &'static str,
     first_replies: &'static str,
     reply: &'static str,
@@ -280,7 +280,7 @@ const FILLED: [Filled; 2] = [
     Filled {
         first: "client a\nbegin t\n",
         before: "put k",
-        behind: " 1\n",
+        after: " 1\n",
         last: "put k1 2\n",
         first_replies: "client a\nbegun\n",
         reply: "held\n",
@@ -289,7 +289,7 @@ const FILLED: [Filled; 2] = [
     Filled {
         first: "client a\n",
         before: "snap s",
-        behind: "\n",
+        after: "\n",
         last: "",
         first_replies: "client a\n",
         reply: "snap @0\n",
@@ -302,7 +302,7 @@ fn filling(alloc: Global, filled: &Filled) -> Result<Vec<u8>, AllocError> {
     for n in 1..66u32 {
         text.extend_from_slice(filled.before.as_bytes())?;
         text.extend_from_slice(n.to_string(alloc)?.as_bytes())?;
-        text.extend_from_slice(filled.behind.as_bytes())?;
+        text.extend_from_slice(filled.after.as_bytes())?;
     }
     text.extend_from_slice(filled.last.as_bytes())?;
     Ok(text)

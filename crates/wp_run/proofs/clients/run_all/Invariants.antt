@@ -1,11 +1,10 @@
-use Rattle.std.proofs.Common.{◌≡◌, ◌≤◌, false, length, take, map, vec_capacity}
-use Rattle.wp_run.specs.Engine.{Later, AllRun}
+use Rattle.std.proofs.Common.{◌≡◌, ◌≤◌, length, take, vec_capacity}
+use Rattle.wp_run.specs.Engine.{AllRunSoFar}
 use Rattle.wp_run.proofs.clients.run_all.Given as goal
 
 abbrev pub invariant-loop-part : goal.invariant-loop-part
 invariant-loop-part g l = record {
-  runs : l.broke_off ≡ false → AllRun l.initial.engine (take l.part-index l.parts) (map (λ v. v.items) l.sessions.items) l.engine;
-  later : Later l.initial.engine l.engine;
-  few : length l.sessions.items ≤ l.part-index;
+  runs : AllRunSoFar l.initial.engine (take l.part-index l.parts) l.sessions.items l.engine;
+  count : length l.sessions.items ≡ l.part-index;
   room : length l.parts ≤ vec_capacity l.sessions;
 }

@@ -5,7 +5,7 @@ use Rattle.wp_run.proofs.engine.push_all.Given as goal
 abbrev pub invariant-loop-entry : goal.invariant-loop-entry
 invariant-loop-entry l = record {
   parts : l.fn.entries.items ≡ l.yielded ++ l.entry-iterator.rest.items;
-  behind : l.history.entries ≡ l.fn.history.entries ++ l.yielded;
+  pushed : l.history.entries ≡ l.fn.history.entries ++ l.yielded;
   legal : AreLegalNext l.history.entries l.entry-iterator.rest.items;
   few : length l.history.entries + length l.entry-iterator.rest.items < 2 ^ 32;
   room : length l.entry-iterator.rest.items ≤ l.history.room;

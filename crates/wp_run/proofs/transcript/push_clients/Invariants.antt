@@ -1,6 +1,7 @@
-use Rattle.std.proofs.Common.{◌≡◌, ◌++◌, take, map}
+use Rattle.std.proofs.Common.{◌≡◌, ◌++◌, take}
+use Rattle.wp_run.specs.Engine.{replies_of}
 use Rattle.wp_run.specs.Transcript.{client_lines}
 use Rattle.wp_run.proofs.transcript.push_clients.Given as goal
 
 abbrev pub invariant-loop-i : goal.invariant-loop-i
-invariant-loop-i l = l.out.items ≡ l.initial.out.items ++ client_lines (take l.i l.parts) (map (λ v. v.items) (take l.i l.sessions))
+invariant-loop-i l = l.out.items ≡ l.initial.out.items ++ client_lines (take l.i l.parts) (replies_of (take l.i l.sessions))

@@ -1,4 +1,4 @@
--- What a store on one thread keeps in its log.
+-- What the log of a store on one thread stores.
 use Rattle.std.specs.Prelude.{◌≡◌, ◌⊎◌, ℕ, zero, suc, ◌+◌, ◌^◌, ◌<◌, Bool, false, true, List, [], ◌∷◌, ◌++◌, length, None}
 use Rattle.wp_model.specs.declared.entry.Entry.{Entry}
 use Rattle.wp_model.specs.Legal.{IsLegal, IsLegalNext, undone_last}
@@ -21,16 +21,16 @@ IsLogOrOneMore id history bytes = (longer : List Entry) × IsOrOneMore history l
 
 -- What a crash leaves of the log: the history; or, once the log has failed, it or it and one record more, whole. The
 -- records of the history stand there acknowledged.
-abbrev pub KeptBy : ℕ → ℕ → List Entry → Moment → Type 0
-KeptBy zero id history m = LeavesHistory id history m
-KeptBy (suc faults) id history m = Leaves (λ image. IsLogOrOneMore id history image × HasAcknowledgedEntries id history image) m
+abbrev pub CrashLeaves : ℕ → ℕ → List Entry → Moment → Type 0
+CrashLeaves zero id history m = LeavesHistory id history m
+CrashLeaves (suc faults) id history m = Leaves (λ image. IsLogOrOneMore id history image × HasAcknowledgedEntries id history image) m
 
 -- ---- the store
 
 -- The store's fields go together. Once an append has failed, the log may have its record.
-pub record IsWhole (wal : State) (entries : List Entry) (stopped : Bool) (limit : ℕ) : Type 0 where
+pub record IsConsistent (wal : State) (entries : List Entry) (stopped : Bool) (limit : ℕ) : Type 0 where
   pub failed : List Entry
-  pub keeps : StoresHistory wal entries failed
+  pub stores : StoresHistory wal entries failed
   pub legal : IsLegal (entries ++ failed)
   pub none : stopped ≡ false → failed ≡ []
   pub whole : stopped ≡ true → IsRecord (length entries + 1) failed

@@ -9,28 +9,28 @@ use Rattle.wp_run.specs.declared.engine.WriteError.{WriteError}
 use Rattle.wp_run.specs.declared.engine.WriteError.TheVariants.{Memory, NumbersFull, LogFault, Stopped}
 use Rattle.wp_session.specs.Client.{Client}
 use Rattle.wp_session.specs.After.{after_decision}
-use Rattle.wp_run.specs.Engine.{State}
+use Rattle.wp_run.specs.Engine.{EngineState}
 use Rattle.wp_wal.specs.Wal.{LosesNothing}
 
 -- the entries stand in the history
-pub record Takes (old new : State) (entries : List Entry) : Type 0 where
+pub record HasLogged (old new : EngineState) (entries : List Entry) : Type 0 where
   pub running : old.stopped ≡ false
   pub fits : length old.entries + length entries ≤ old.limit
   pub changed : new ≡ record old { entries = old.entries ++ entries; faults = new.faults; moments = new.moments }
   pub counted : old.faults ≤ new.faults
-  pub lasting : LosesNothing old.moments new.moments
+  pub durable : LosesNothing old.moments new.moments
 
 -- the log failed as it took them
-pub record FailsAt (old new : State) (entries : List Entry) : Type 0 where
+pub record HasFailed (old new : EngineState) (entries : List Entry) : Type 0 where
   pub running : old.stopped ≡ false
   pub fits : length old.entries + length entries ≤ old.limit
   pub changed : new ≡ record old { stopped = true; faults = new.faults; moments = new.moments }
   pub rose : Rose old.faults new.faults
   pub counted : old.faults ≤ new.faults
-  pub lasting : LosesNothing old.moments new.moments
+  pub durable : LosesNothing old.moments new.moments
 
 -- there are too few numbers for them, of which those given are the last one used and the greatest one
-pub record IsFull (old new : State) (entries : List Entry) (published limit : ℕ) : Type 0 where
+pub record IsFull (old new : EngineState) (entries : List Entry) (published limit : ℕ) : Type 0 where
   pub running : old.stopped ≡ false
   pub past : old.limit < length old.entries + length entries
   pub published_is : published ≡ length old.entries
@@ -38,19 +38,19 @@ pub record IsFull (old new : State) (entries : List Entry) (published limit : �
   pub same : new ≡ old
 
 -- the log had failed before
-pub record HasStopped (old new : State) (published : ℕ) : Type 0 where
+pub record HasStopped (old new : EngineState) (published : ℕ) : Type 0 where
   pub stopped : old.stopped ≡ true
   pub published_is : published ≡ length old.entries
   pub same : new ≡ old
 
-abbrev pub Writes : State → State → List Entry → Result (Unit {0}) WriteError → Type 0
-Writes old new entries (Ok done) = Takes old new entries
-Writes old new entries (Err Memory) = new ≡ old
-Writes old new entries (Err (NumbersFull published limit)) = IsFull old new entries published limit
-Writes old new entries (Err LogFault) = FailsAt old new entries
-Writes old new entries (Err (Stopped published)) = HasStopped old new published
+abbrev pub IsLogResult : EngineState → EngineState → List Entry → Result (Unit {0}) WriteError → Type 0
+IsLogResult old new entries (Ok done) = HasLogged old new entries
+IsLogResult old new entries (Err Memory) = new ≡ old
+IsLogResult old new entries (Err (NumbersFull published limit)) = IsFull old new entries published limit
+IsLogResult old new entries (Err LogFault) = HasFailed old new entries
+IsLogResult old new entries (Err (Stopped published)) = HasStopped old new published
 
--- the reply that tells an error, if it isn't want of memory
+-- the reply that names an error, if it isn't want of memory
 abbrev pub IsRefusalOf : WriteError → Result Reply AllocError → Type 0
 IsRefusalOf Memory (Ok answer) = ⊥
 IsRefusalOf Memory (Err e) = Unit {0}
@@ -61,10 +61,10 @@ IsRefusalOf LogFault (Err e) = ⊥
 IsRefusalOf (Stopped published) (Ok answer) = answer ≡ reply.Stopped published
 IsRefusalOf (Stopped published) (Err e) = ⊥
 
--- The entries were taken, and the client told so; or they were refused, and the client told why.
-abbrev pub Tells : State → Client → List Entry → Reply → Reply → State → Client → Type 0
-Tells old was entries told answer new now =
-    (Takes old new entries × (answer ≡ told) × (now ≡ after_decision was told))
-    ⊎ (FailsAt old new entries × (answer ≡ reply.FaultLog) × (now ≡ was))
+-- The entries were logged and the client was answered so; or they were refused, and it was answered why.
+abbrev pub IsLogAnswer : EngineState → Client → List Entry → Reply → Reply → EngineState → Client → Type 0
+IsLogAnswer old was entries success answer new now =
+    (HasLogged old new entries × (answer ≡ success) × (now ≡ after_decision was success))
+    ⊎ (HasFailed old new entries × (answer ≡ reply.FaultLog) × (now ≡ was))
     ⊎ (IsFull old new entries (length old.entries) old.limit × (answer ≡ reply.Full (length old.entries) old.limit) × (now ≡ was))
     ⊎ (HasStopped old new (length old.entries) × (answer ≡ reply.Stopped (length old.entries)) × (now ≡ was))

@@ -1,0 +1,22 @@
+-- What a call did to each device that it was handed.
+use Rattle.std.specs.Prelude.{ℕ, List, Option}
+use Rattle.wp_outside.specs.Disk.{Moment}
+
+pub record DiskUse : Type 0 where
+  pub before : List Moment
+  pub after : List Moment
+  pub faults_before : ℕ
+  pub faults_after : ℕ
+
+pub record SinkUse : Type 0 where
+  pub before : Option (List ℕ)  -- the bytes in it, where they are known
+  pub after : Option (List ℕ)
+  pub faults_before : ℕ
+  pub faults_after : ℕ
+
+pub record SourceUse : Type 1 where
+  pub before : Option (List ℕ)  -- the bytes that it has left, where they are known
+  pub after : Option (List ℕ)
+  pub faults_before : ℕ
+  pub faults_after : ℕ
+  pub uncalled : Type 0

@@ -1,0 +1,156 @@
+ghost use Rattle.std.specs.Prelude.{◌≡◌, true, IfOk, OnOk, OnErr};
+ghost use Rattle.wp_model.specs.Batch.{is_batch};
+ghost use Rattle.wp_model.specs.Legal.{changes_in};
+ghost use Rattle.wp_session.specs.Client.{ClientFits};
+ghost use Rattle.wp_run.specs.Engine.{Steps, IsRunSoFar};
+ghost use Rattle.wp_session.specs.Next.{AreNext};
+ghost use Rattle.wp_run.specs.Logging.{IsRefusalOf, IsLogAnswer};
+
+use crate::engine::{Engine, WriteError};
+use std::alloc::{AllocError, Global};
+use std::marker::Model;
+use wp_history::laws;
+use wp_model::Entry;
+use wp_outside::Disk;
+use wp_session::{Plan, Session, plan_of};
+use wp_text::{Command, Reply};
+
+/// What a client was answered: the replies to its commands, or, where memory was wanting, to the first of them.
+#[derive(Drop)]
+pub(crate) struct Answers {
+    replies: Vec<Reply>,
+    whole: bool,
+}
+
+impl Model for Answers {
+    ghost use Rattle.wp_run.specs.Engine.{Answered};
+
+    ghost Value = { Answered };
+
+    ghost view = { λ a. record { replies = a.replies.items; whole = a.whole } };
+}
+
+impl Answers {
+    pub(crate) fn replies(&self) -> &[Reply]
+        ensures { result.now ≡ self.now.replies }
+    {
+        &self.replies
+    }
+
+    /// Whether each command has its reply.
+    pub(crate) fn is_whole(&self) -> bool
+        ensures { result ≡ self.now.whole }
+    {
+        self.whole
+    }
+}
+
+fn refusal_of(error: WriteError) -> Result<Reply, AllocError>
+    ensures { IsRefusalOf error result }
+{
+    match error {
+        WriteError::Memory => Err(AllocError),
+        WriteError::NumbersFull { published, limit } => Ok(Reply::Full { published, limit }),
+        WriteError::LogFault => Ok(Reply::FaultLog),
+        WriteError::Stopped(published) => Ok(Reply::Stopped(published)),
+    }
+}
+
+/// Logs the entries, which the reply acknowledges.
+fn log_for<D: Disk>(
+    engine: &mut Engine<D>,
+    session: &mut Session,
+    entries: Vec<Entry>,
+    reply: Reply,
+) -> Result<Reply, AllocError>
+    requires next { AreNext engine.old.entries entries.items }
+    ensures answered { IfOk result (λ answer. IsLogAnswer engine.old session.old entries.items reply answer engine.new session.new) }
+    ensures err { OnErr result (engine.new ≡ engine.old) }
+{
+    match engine.log(entries) {
+        Ok(()) => {
+            session.decide(&reply);
+            Ok(reply)
+        }
+        Err(error) => refusal_of(error),
+    }
+}
+
+/// What an entry has of changes is a batch.
+fn changes_are_a_batch(entry: &Entry)
+    ensures { is_batch (changes_in entry.now) ≡ true }
+{
+    match entry {
+        Entry::Write(batch) | Entry::Prepare(_, batch) | Entry::Undo(_, batch) => {
+            batch.changes();
+        }
+        Entry::Commit(_) | Entry::Close(_) => {}
+    }
+}
+
+/// Runs one command.
+fn answer<D: Disk>(
+    alloc: Global,
+    engine: &mut Engine<D>,
+    session: &mut Session,
+    command: &Command,
+) -> Result<Reply, AllocError>
+    requires fits { ClientFits engine.old.entries session.old }
+    ensures steps { IfOk result (λ reply. Steps engine.old session.old command.now reply engine.new session.new) }
+    ensures fits { OnOk result (ClientFits engine.new.entries session.new) }
+    ensures err { OnErr result (engine.new ≡ engine.old) }
+{
+    laws::last_entry_undoes();
+    laws::undecided_grows();
+    laws::undo_is_followed_by_its_close();
+    match plan_of(alloc, engine.history(), session, command)? {
+        Plan::Say(reply) => {
+            session.take(alloc, engine.history(), command, &reply)?;
+            Ok(reply)
+        }
+        Plan::Log(entry, reply) => {
+            changes_are_a_batch(&entry);
+            let entries = vec![in alloc; entry]?;
+            log_for(engine, session, entries, reply)
+        }
+        Plan::RollBack(p, batch, reply) => {
+            batch.changes();
+            let entries = vec![in alloc; Entry::Undo(p, batch), Entry::Close(p)]?;
+            log_for(engine, session, entries, reply)
+        }
+    }
+}
+
+/// Runs a client's commands, one after another. At its end its snapshots are gone, and so is a transaction that it has
+/// not prepared; one that it has prepared stays. Where memory is wanting the session ends before its command's entry is
+/// logged: after an entry is logged no memory is taken until its reply is there.
+pub(crate) fn run_session<D: Disk>(
+    alloc: Global,
+    engine: &mut Engine<D>,
+    commands: &[Command],
+) -> Answers
+    ensures { IsRunSoFar engine.old commands.now result engine.new }
+{
+    let mut session = Session::new(alloc);
+    let Ok(mut replies) = Vec::with_capacity(alloc, commands.len()) else {
+        return Answers {
+            replies: Vec::new(alloc),
+            whole: false,
+        };
+    };
+    for command in commands {
+        match answer(alloc, engine, &mut session, command) {
+            Ok(reply) => replies.push_reserved(reply),
+            Err(AllocError) => {
+                return Answers {
+                    replies,
+                    whole: false,
+                };
+            }
+        }
+    }
+    Answers {
+        replies,
+        whole: true,
+    }
+}
