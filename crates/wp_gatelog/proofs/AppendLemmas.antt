@@ -7,7 +7,7 @@ use Rattle.wp_outside.specs.Disk.{Moment, settled, after_write, write_end, IfKno
 use Rattle.wp_gatelog.specs.Log.{Grows, IsAcknowledged, IsAtRest, last_gate}
 use Rattle.wp_gatelog.specs.Moments.{Leaves, Within, Goes}
 use Rattle.wp_gatelog.specs.Spelling.{Gated, IsOpen, framed, frame_of, identity, all_gated, log_of}
-use Rattle.wp_gatelog.proofs.MomentLemmas.{image_behind, image_of_gate, reads_behind, told_map}
+use Rattle.wp_gatelog.proofs.MomentLemmas.{image_after, image_of_gate, reads_after, known_map}
 
 pub length-framed : (bytes : List ℕ) → length (framed bytes) ≡ 8 + length bytes
 unfolding framed
@@ -26,12 +26,12 @@ fits_disk at (b ∷ frame) bytes is bounded = fits_frame (b ∷ frame) bytes is 
 -- while the frame is written
 pub grows_staged : (front frame bytes : List ℕ) (at : ℕ) → at ≡ length front + 1 → (m : Moment) → Within (after_write at frame (settled (front ++ 0 ∷ []))) m → Leaves (Grows front bytes) m
 grows_staged front frame bytes at is m within image h =
-    let found = image_behind (front ++ 0 ∷ []) at frame image (omega (arith, length-append front (0 ∷ []))) (within image h) in
+    let found = image_after (front ++ 0 ∷ []) at frame image (omega (arith, length-append front (0 ∷ []))) (within image h) in
     (found.0, inl (found.1 ∙ append_assoc front (0 ∷ []) found.0))
 
 pub reads_staged : (front frame : List ℕ) (at : ℕ) → at ≡ length front + 1 → (after_write at frame (settled (front ++ 0 ∷ []))).reads ≡ front ++ 0 ∷ frame
 reads_staged front frame at is =
-    reads_behind (front ++ 0 ∷ []) frame at (omega (arith, length-append front (0 ∷ []))) ∙ append_assoc front (0 ∷ []) frame
+    reads_after (front ++ 0 ∷ []) frame at (omega (arith, length-append front (0 ∷ []))) ∙ append_assoc front (0 ∷ []) frame
 
 -- while the gate before it is written
 pub grows_opened : (front bytes : List ℕ) (at gate : ℕ) → at ≡ length front → length bytes < 2 ^ 64 → (m : Moment) → Within (after_write at (1 ∷ []) (settled (front ++ gate ∷ frame_of bytes))) m → Leaves (Grows front bytes) m
@@ -82,8 +82,8 @@ abbrev pub AppendDone : ℕ → List ℕ → List Moment → List Moment → Typ
 AppendDone end bytes old new = (front : List ℕ) → end ≡ length front → IfKnown old (λ m. m ≡ settled (front ++ 0 ∷ [])) → IfKnown new (λ m. m ≡ settled (front ++ 1 ∷ (framed bytes ++ 0 ∷ [])))
 
 -- one that doesn't still doesn't
-pub append_untold : (end : ℕ) (bytes : List ℕ) (new : List Moment) → AppendGoes end bytes [] new → new ≡ []
-append_untold end bytes new goes = goes (replicate end 0) (sym (length-replicate end 0)) tt
+pub append_unknown : (end : ℕ) (bytes : List ℕ) (new : List Moment) → AppendGoes end bytes [] new → new ≡ []
+append_unknown end bytes new goes = goes (replicate end 0) (sym (length-replicate end 0)) tt
 
 module _ (magic : List ℕ) (id end : ℕ) (records : List (List ℕ)) (bytes : List ℕ) where
   at_rest_more : (frame : List ℕ) → frame ≡ frame_of bytes → length bytes < 2 ^ 64 → (gated : List Gated) → IsAcknowledged gated records → end ≡ length (log_of magic id 1 gated)
@@ -94,14 +94,14 @@ module _ (magic : List ℕ) (id end : ℕ) (records : List (List ℕ)) (bytes : 
         gated = gated ++ record { gate = 1; bytes = bytes } ∷ [];
         acknowledged = acknowledged_more gated records bytes fits acknowledged;
         place = omega (arith, ap length more, ap length is, length-append (framed bytes) (0 ∷ []), length-append (log_of magic id 1 gated) (1 ∷ framed bytes));
-        settled_on = on ∙ ap settled (sym (append_assoc (log_of magic id 1 gated) (1 ∷ framed bytes) (0 ∷ [])) ∙ ap (λ (l : List ℕ). l ++ 0 ∷ []) (sym more));
+        on_disk = on ∙ ap settled (sym (append_assoc (log_of magic id 1 gated) (1 ∷ framed bytes) (0 ∷ [])) ∙ ap (λ (l : List ℕ). l ++ 0 ∷ []) (sym more));
       }
 
   pub append_rests : (frame : List ℕ) → frame ≡ frame_of bytes → length bytes < 2 ^ 64 → (old new : List Moment) → AppendGoes end bytes old new → AppendDone end bytes old new
       → IfKnown old (IsAtRest magic id end records) → IfKnown new (IsAtRest magic id (end + length frame) (records ++ bytes ∷ []))
   append_rests frame is fits [] new goes done rest =
-      subst (λ (ms : List Moment). IfKnown ms (IsAtRest magic id (end + length frame) (records ++ bytes ∷ []))) (sym (append_untold end bytes new goes)) tt
+      subst (λ (ms : List Moment). IfKnown ms (IsAtRest magic id (end + length frame) (records ++ bytes ∷ []))) (sym (append_unknown end bytes new goes)) tt
   append_rests frame is fits (m ∷ past) new goes done rest =
       let P : Moment → Type 0 = λ n. n ≡ settled (log_of magic id 1 rest.gated ++ 1 ∷ (framed bytes ++ 0 ∷ [])) in
-      told_map P (IsAtRest magic id (end + length frame) (records ++ bytes ∷ []))
-      (at_rest_more frame is fits rest.gated rest.acknowledged rest.place) new (done (log_of magic id 1 rest.gated) rest.place rest.settled_on)
+      known_map P (IsAtRest magic id (end + length frame) (records ++ bytes ∷ []))
+      (at_rest_more frame is fits rest.gated rest.acknowledged rest.place) new (done (log_of magic id 1 rest.gated) rest.place rest.on_disk)

@@ -1,6 +1,6 @@
 pub mod AppendLemmas
 pub mod HeadLemmas
-pub mod HoldsLemmas
+pub mod AcknowledgedLemmas
 pub mod DurabilityLemmas
 pub mod LawLemmas
 pub mod MakeLemmas

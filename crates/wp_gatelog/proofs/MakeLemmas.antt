@@ -6,7 +6,7 @@ use Rattle.wp_outside.specs.Disk.{Moment, settled, after_write}
 use Rattle.wp_gatelog.specs.Moments.{Leaves, Within}
 use Rattle.wp_gatelog.specs.Heads.{SpellsNone}
 use Rattle.wp_gatelog.specs.Spelling.{identity, log_of, IsUnmade}
-use Rattle.wp_gatelog.proofs.MomentLemmas.{image_behind, image_of_gate, put_gate}
+use Rattle.wp_gatelog.proofs.MomentLemmas.{image_after, image_of_gate, put_gate}
 
 -- ---- a closed gate alone
 
@@ -24,7 +24,7 @@ none_closed magic id m leaves image h = unmade_none magic id image (leaves image
 
 pub none_staged : (magic bytes : List ℕ) (id : ℕ) (m : Moment) → Within (after_write 1 bytes (settled (0 ∷ []))) m → Leaves (SpellsNone magic id) m
 none_staged magic bytes id m within image h =
-    let found = image_behind (0 ∷ []) 1 bytes image refl (within image h) in
+    let found = image_after (0 ∷ []) 1 bytes image refl (within image h) in
     unmade_none magic id image (subst IsUnmade (sym found.1) (closed_unmade found.0))
 
 log_of_none : (magic : List ℕ) (id head : ℕ) (more : List ℕ) → log_of magic id head [] ++ 0 ∷ more ≡ head ∷ (identity magic id ++ 0 ∷ more)
@@ -39,7 +39,7 @@ none_opened magic id m within image h =
         found.0,
         [],
         record {
-          behind = found.1;
+          rest = found.1;
           spelling = found.2 ∙ ap (λ (l : List ℕ). found.0 ∷ l) (append_assoc (identity magic id) (0 ∷ []) found.1) ∙ sym (log_of_none magic id found.0 found.1);
           head_open = opened;
           gates_open = tt;

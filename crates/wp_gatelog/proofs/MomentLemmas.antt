@@ -38,29 +38,29 @@ left_now P old new before passes = from passes.0 passes.1 passes.2
 
 -- ---- a disk that tells
 
-pub told_map : (P Q : Moment → Type 0) → ((m : Moment) → P m → Q m) → (ms : List Moment) → IfKnown ms P → IfKnown ms Q
-told_map P Q f [] told = tt
-told_map P Q f (m ∷ past) told = f m told
+pub known_map : (P Q : Moment → Type 0) → ((m : Moment) → P m → Q m) → (ms : List Moment) → IfKnown ms P → IfKnown ms Q
+known_map P Q f [] known = tt
+known_map P Q f (m ∷ past) known = f m known
 
-pub told_both : (P Q R : Moment → Type 0) → ((m : Moment) → P m → Q m → R m) → (ms : List Moment) → IfKnown ms P → IfKnown ms Q → IfKnown ms R
-told_both P Q R f [] p q = tt
-told_both P Q R f (m ∷ past) p q = f m p q
+pub known_both : (P Q R : Moment → Type 0) → ((m : Moment) → P m → Q m → R m) → (ms : List Moment) → IfKnown ms P → IfKnown ms Q → IfKnown ms R
+known_both P Q R f [] p q = tt
+known_both P Q R f (m ∷ past) p q = f m p q
 
-pub told_three : (P Q R S : Moment → Type 0) → ((m : Moment) → P m → Q m → R m → S m) → (ms : List Moment) → IfKnown ms P → IfKnown ms Q → IfKnown ms R → IfKnown ms S
-told_three P Q R S f [] p q r = tt
-told_three P Q R S f (m ∷ past) p q r = f m p q r
+pub known_three : (P Q R S : Moment → Type 0) → ((m : Moment) → P m → Q m → R m → S m) → (ms : List Moment) → IfKnown ms P → IfKnown ms Q → IfKnown ms R → IfKnown ms S
+known_three P Q R S f [] p q r = tt
+known_three P Q R S f (m ∷ past) p q r = f m p q r
 
 -- of a disk that tells nothing, nothing is owed but that it still tells nothing
-pub told_goes : (P Q : Moment → Type 0) (old new : List Moment) → (old ≡ [] → new ≡ []) → IfKnown old Q → ((m : Moment) → Q m → Goes P old new) → Goes P old new
-told_goes P Q [] new untold told goes = untold refl
-told_goes P Q (m ∷ past) new untold told goes = goes m told
+pub known_goes : (P Q : Moment → Type 0) (old new : List Moment) → (old ≡ [] → new ≡ []) → IfKnown old Q → ((m : Moment) → Q m → Goes P old new) → Goes P old new
+known_goes P Q [] new unknown known goes = unknown refl
+known_goes P Q (m ∷ past) new unknown known goes = goes m known
 
-pub told_new : (Q R : Moment → Type 0) (old new : List Moment) → (old ≡ [] → new ≡ []) → IfKnown old Q → ((m : Moment) → Q m → IfKnown new R) → IfKnown new R
-told_new Q R [] new untold told rests = subst (λ (ms : List Moment). IfKnown ms R) (sym (untold refl)) tt
-told_new Q R (m ∷ past) new untold told rests = rests m told
+pub known_new : (Q R : Moment → Type 0) (old new : List Moment) → (old ≡ [] → new ≡ []) → IfKnown old Q → ((m : Moment) → Q m → IfKnown new R) → IfKnown new R
+known_new Q R [] new unknown known rests = subst (λ (ms : List Moment). IfKnown ms R) (sym (unknown refl)) tt
+known_new Q R (m ∷ past) new unknown known rests = rests m known
 
-pub told_as : (ms : List Moment) (x y : List ℕ) → x ≡ y → IfKnown ms (λ m. m ≡ settled x) → IfKnown ms (λ m. m ≡ settled y)
-told_as ms x y is told = subst (λ (z : List ℕ). IfKnown ms (λ m. m ≡ settled z)) is told
+pub known_as : (ms : List Moment) (x y : List ℕ) → x ≡ y → IfKnown ms (λ m. m ≡ settled x) → IfKnown ms (λ m. m ≡ settled y)
+known_as ms x y is known = subst (λ (z : List ℕ). IfKnown ms (λ m. m ≡ settled z)) is known
 
 -- ---- bytes of which all are sure
 
@@ -113,31 +113,31 @@ module _ (step : Moment → Moment) (before : List ℕ) where
   within_step m is image h = subst (λ (n : Moment). IsImage (step n) image) is h
 
   pub torn_goes : (old new : List Moment) → IfKnown old (λ m. m ≡ settled before) → Tears step old new → Goes (Within (step (settled before))) old new
-  torn_goes [] new told torn = elim torn [ inl same ↦ same | inr w ↦ w.1 ]
-  torn_goes (m ∷ past) new told torn = elim torn [
+  torn_goes [] new known torn = elim torn [ inl same ↦ same | inr w ↦ w.1 ]
+  torn_goes (m ∷ past) new known torn = elim torn [
     | inl same ↦ ([], same, tt)
-    | inr w ↦ (record (step m) { reads = w.0 } ∷ [], w.1, (λ image h. within_step m told image h, tt))
+    | inr w ↦ (record (step m) { reads = w.0 } ∷ [], w.1, (λ image h. within_step m known image h, tt))
   ]
 
   pub step_goes : (old new : List Moment) → IfKnown old (λ m. m ≡ settled before) → new ≡ added step old → Goes (Within (step (settled before))) old new
-  step_goes [] new told adds = adds
-  step_goes (m ∷ past) new told adds = (step m ∷ [], adds, (within_step m told, tt))
+  step_goes [] new known adds = adds
+  step_goes (m ∷ past) new known adds = (step m ∷ [], adds, (within_step m known, tt))
 
   -- the step was made, and then a sync, or not
   pub synced_goes : {T E : Type 0} (old mid new : List Moment) (result : Result T E) → IsImage (step (settled before)) (step (settled before)).reads → IfKnown old (λ m. m ≡ settled before) → mid ≡ added step old → OnOk result (new ≡ added after_sync mid) → OnErr result (new ≡ mid) → Goes (Within (step (settled before))) old new
-  synced_goes [] mid new (Ok x) reads told adds syncs kept = subst (λ (l : List Moment). new ≡ added after_sync l) adds syncs
-  synced_goes [] mid new (Err e) reads told adds syncs kept = kept ∙ adds
-  synced_goes (m ∷ past) mid new (Ok x) reads told adds syncs kept =
+  synced_goes [] mid new (Ok x) reads known adds syncs kept = subst (λ (l : List Moment). new ≡ added after_sync l) adds syncs
+  synced_goes [] mid new (Err e) reads known adds syncs kept = kept ∙ adds
+  synced_goes (m ∷ past) mid new (Ok x) reads known adds syncs kept =
       let last : new ≡ settled (step m).reads ∷ step m ∷ m ∷ past = subst (λ (l : List Moment). new ≡ added after_sync l) adds syncs in
-      let is : (step m).reads ≡ (step (settled before)).reads = ap (λ (n : Moment). (step n).reads) told in (
+      let is : (step m).reads ≡ (step (settled before)).reads = ap (λ (n : Moment). (step n).reads) known in (
         settled (step m).reads ∷ step m ∷ [],
         last,
         (
           λ image h. subst (λ (l : List ℕ). IsImage (step (settled before)) l) (sym is ∙ sym (image_of_settled (step m).reads image h)) reads,
-          (within_step m told, tt),
+          (within_step m known, tt),
         ),
       )
-  synced_goes (m ∷ past) mid new (Err e) reads told adds syncs kept = step_goes (m ∷ past) new told (kept ∙ adds)
+  synced_goes (m ∷ past) mid new (Err e) reads known adds syncs kept = step_goes (m ∷ past) new known (kept ∙ adds)
 
 -- ---- images of a log that is changed
 
@@ -149,30 +149,30 @@ hide_past (suc at) n [] le = refl
 hide_past (suc at) n (x ∷ sure) le = ap (λ (s : List (Option ℕ)). x ∷ s) (hide_past at n sure (omega arith))
 
 -- bytes written behind all others leave those as they are
-pub image_behind : (front : List ℕ) (at : ℕ) (bytes image : List ℕ) → at ≡ length front → IsImage (after_write at bytes (settled front)) image → (d : List ℕ) × (image ≡ front ++ d)
-image_behind front at [] image is h = ([], image_of_settled front image h ∙ sym (append-nil front))
-image_behind front at (b ∷ bytes) image is h =
+pub image_after : (front : List ℕ) (at : ℕ) (bytes image : List ℕ) → at ≡ length front → IsImage (after_write at bytes (settled front)) image → (d : List ℕ) × (image ≡ front ++ d)
+image_after front at [] image is h = ([], image_of_settled front image h ∙ sym (append-nil front))
+image_after front at (b ∷ bytes) image is h =
     let sure : List (Option ℕ) = map (λ b. Some b) front in
     let same : hide_at at (length (b ∷ bytes)) sure ≡ sure ++ [] = hide_past at (length (b ∷ bytes)) sure (omega (arith, length-map front (λ b. Some b))) ∙ sym (append-nil sure) in
     let rest = matches_front front [] image (subst (λ (s : List (Option ℕ)). Matches s image) same h.0) in
     (rest.0, rest.1)
 
-hide_gate : (front : List ℕ) (gate : ℕ) (behind : List ℕ) → hide_at (length front) 1 (map (λ b. Some b) (front ++ gate ∷ behind)) ≡ map (λ b. Some b) front ++ None ∷ map (λ b. Some b) behind
-hide_gate [] gate behind = refl
-hide_gate (x ∷ front) gate behind = ap (λ (s : List (Option ℕ)). Some x ∷ s) (hide_gate front gate behind)
+hide_gate : (front : List ℕ) (gate : ℕ) (following : List ℕ) → hide_at (length front) 1 (map (λ b. Some b) (front ++ gate ∷ following)) ≡ map (λ b. Some b) front ++ None ∷ map (λ b. Some b) following
+hide_gate [] gate following = refl
+hide_gate (x ∷ front) gate following = ap (λ (s : List (Option ℕ)). Some x ∷ s) (hide_gate front gate following)
 
-any_gate : (front behind d image : List ℕ) → image ≡ front ++ d → Matches (None ∷ map (λ b. Some b) behind) d → (gate : ℕ) × (more : List ℕ) × (image ≡ front ++ gate ∷ (behind ++ more))
-any_gate front behind [] image is h = absurd h
-any_gate front behind (gate ∷ d) image is h =
-    let rest = matches_front behind [] d (subst (λ (s : List (Option ℕ)). Matches s d) (sym (append-nil (map (λ b. Some b) behind))) h) in
+any_gate : (front following d image : List ℕ) → image ≡ front ++ d → Matches (None ∷ map (λ b. Some b) following) d → (gate : ℕ) × (more : List ℕ) × (image ≡ front ++ gate ∷ (following ++ more))
+any_gate front following [] image is h = absurd h
+any_gate front following (gate ∷ d) image is h =
+    let rest = matches_front following [] d (subst (λ (s : List (Option ℕ)). Matches s d) (sym (append-nil (map (λ b. Some b) following))) h) in
     (gate, rest.0, is ∙ ap (λ (l : List ℕ). front ++ gate ∷ l) rest.1)
 
 -- while one gate is written, it may be any, and the rest stays
-pub image_of_gate : (front : List ℕ) (at gate : ℕ) (behind image : List ℕ) → at ≡ length front → IsImage (after_write at (1 ∷ []) (settled (front ++ gate ∷ behind))) image → (g : ℕ) × (more : List ℕ) × (image ≡ front ++ g ∷ (behind ++ more))
-image_of_gate front at gate behind image is h =
-    let found : Matches (hide_at (length front) 1 (map (λ b. Some b) (front ++ gate ∷ behind))) image = subst (λ (n : ℕ). Matches (hide_at n 1 (map (λ b. Some b) (front ++ gate ∷ behind))) image) is h.0 in
-    let rest = matches_front front (None ∷ map (λ b. Some b) behind) image (subst (λ (s : List (Option ℕ)). Matches s image) (hide_gate front gate behind) found) in
-    any_gate front behind rest.0 image rest.1 rest.2
+pub image_of_gate : (front : List ℕ) (at gate : ℕ) (following image : List ℕ) → at ≡ length front → IsImage (after_write at (1 ∷ []) (settled (front ++ gate ∷ following))) image → (g : ℕ) × (more : List ℕ) × (image ≡ front ++ g ∷ (following ++ more))
+image_of_gate front at gate following image is h =
+    let found : Matches (hide_at (length front) 1 (map (λ b. Some b) (front ++ gate ∷ following))) image = subst (λ (n : ℕ). Matches (hide_at n 1 (map (λ b. Some b) (front ++ gate ∷ following))) image) is h.0 in
+    let rest = matches_front front (None ∷ map (λ b. Some b) following) image (subst (λ (s : List (Option ℕ)). Matches s image) (hide_gate front gate following) found) in
+    any_gate front following rest.0 image rest.1 rest.2
 
 -- a cut leaves what stands before it
 pub image_of_cut : (kept rest image : List ℕ) (len : ℕ) → len ≡ length kept → IsImage (after_cut len (settled (kept ++ rest))) image → (d : List ℕ) × (image ≡ kept ++ d)
@@ -184,18 +184,18 @@ image_of_cut kept rest image len is h =
 
 -- ---- what a read gives then
 
-put_behind : (front bytes : List ℕ) (at : ℕ) → at ≡ length front → put at bytes front ≡ front ++ bytes
-put_behind [] bytes zero is = ap (λ (l : List ℕ). bytes ++ l) (drop_all (length bytes) [] (omega arith)) ∙ append-nil bytes
-put_behind [] bytes (suc at) is = absurd (omega arith)
-put_behind (x ∷ front) bytes zero is = absurd (omega arith)
-put_behind (x ∷ front) bytes (suc at) is = ap (λ (l : List ℕ). x ∷ l) (put_behind front bytes at (omega arith))
+put_after : (front bytes : List ℕ) (at : ℕ) → at ≡ length front → put at bytes front ≡ front ++ bytes
+put_after [] bytes zero is = ap (λ (l : List ℕ). bytes ++ l) (drop_all (length bytes) [] (omega arith)) ∙ append-nil bytes
+put_after [] bytes (suc at) is = absurd (omega arith)
+put_after (x ∷ front) bytes zero is = absurd (omega arith)
+put_after (x ∷ front) bytes (suc at) is = ap (λ (l : List ℕ). x ∷ l) (put_after front bytes at (omega arith))
 
-pub reads_behind : (front bytes : List ℕ) (at : ℕ) → at ≡ length front → (after_write at bytes (settled front)).reads ≡ front ++ bytes
-reads_behind front [] at is = sym (append-nil front)
-reads_behind front (b ∷ bytes) at is = put_behind front (b ∷ bytes) at is
+pub reads_after : (front bytes : List ℕ) (at : ℕ) → at ≡ length front → (after_write at bytes (settled front)).reads ≡ front ++ bytes
+reads_after front [] at is = sym (append-nil front)
+reads_after front (b ∷ bytes) at is = put_after front (b ∷ bytes) at is
 
-pub put_gate : (front : List ℕ) (gate : ℕ) (behind : List ℕ) (at : ℕ) → at ≡ length front → put at (1 ∷ []) (front ++ gate ∷ behind) ≡ front ++ 1 ∷ behind
-put_gate [] gate behind zero is = refl
-put_gate [] gate behind (suc at) is = absurd (omega arith)
-put_gate (x ∷ front) gate behind zero is = absurd (omega arith)
-put_gate (x ∷ front) gate behind (suc at) is = ap (λ (l : List ℕ). x ∷ l) (put_gate front gate behind at (omega arith))
+pub put_gate : (front : List ℕ) (gate : ℕ) (following : List ℕ) (at : ℕ) → at ≡ length front → put at (1 ∷ []) (front ++ gate ∷ following) ≡ front ++ 1 ∷ following
+put_gate [] gate following zero is = refl
+put_gate [] gate following (suc at) is = absurd (omega arith)
+put_gate (x ∷ front) gate following zero is = absurd (omega arith)
+put_gate (x ∷ front) gate following (suc at) is = ap (λ (l : List ℕ). x ∷ l) (put_gate front gate following at (omega arith))

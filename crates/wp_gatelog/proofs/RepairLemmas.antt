@@ -2,7 +2,7 @@
 use Rattle.std.proofs.Common.{◌≡◌, ◌≢◌, inl, inr, ℕ, ◌+◌, List, [], ◌∷◌, ◌++◌, length, take, None, Some, refl, sym, ◌∙◌, ap, subst, arith, length-append}
 use Rattle.std.proofs.lemmas.List.{append_assoc, take_at, map_push}
 use Rattle.wp_outside.specs.Disk.{Moment, IsImage, settled, after_write, after_cut, Each}
-use Rattle.wp_gatelog.specs.declared.gate.Gate.{Gate}
+use Rattle.wp_gatelog.specs.declared.gate.GateByte.{GateByte}
 use Rattle.wp_gatelog.specs.Log.{IsAtRest, last_gate}
 use Rattle.wp_gatelog.specs.Repair.{IsReadLog, HasFront, Reopens, IsRepaired}
 use Rattle.wp_gatelog.specs.Moments.{Leaves, Within}
@@ -17,19 +17,19 @@ use Rattle.wp_gatelog.proofs.MomentLemmas.{image_of_cut, image_of_gate}
 length_closed : (front : List ℕ) (end : ℕ) → end ≡ length front → end + 1 ≡ length (front ++ 0 ∷ [])
 length_closed front end is = omega (arith, is, length-append front (0 ∷ []))
 
-pub keeps_cut : (front behind : List ℕ) (end : ℕ) → end ≡ length front → (m : Moment) → Within (after_cut (end + 1) (settled (front ++ 0 ∷ behind))) m → Leaves (HasFront front) m
-keeps_cut front behind end is m within image h =
-    let split : front ++ 0 ∷ behind ≡ (front ++ 0 ∷ []) ++ behind = sym (append_assoc front (0 ∷ []) behind) in
-    let found = image_of_cut (front ++ 0 ∷ []) behind image (end + 1) (length_closed front end is) (subst (λ (l : List ℕ). IsImage (after_cut (end + 1) (settled l)) image) split (within image h)) in
+pub has_front_cut : (front following : List ℕ) (end : ℕ) → end ≡ length front → (m : Moment) → Within (after_cut (end + 1) (settled (front ++ 0 ∷ following))) m → Leaves (HasFront front) m
+has_front_cut front following end is m within image h =
+    let split : front ++ 0 ∷ following ≡ (front ++ 0 ∷ []) ++ following = sym (append_assoc front (0 ∷ []) following) in
+    let found = image_of_cut (front ++ 0 ∷ []) following image (end + 1) (length_closed front end is) (subst (λ (l : List ℕ). IsImage (after_cut (end + 1) (settled l)) image) split (within image h)) in
     (found.0, found.1 ∙ append_assoc front (0 ∷ []) found.0)
 
-pub taken_cut : (front behind : List ℕ) (end : ℕ) → end ≡ length front → take (end + 1) (front ++ 0 ∷ behind) ≡ front ++ 0 ∷ []
-taken_cut front behind end is =
-    ap (λ (l : List ℕ). take (end + 1) l) (sym (append_assoc front (0 ∷ []) behind)) ∙ take_at (front ++ 0 ∷ []) behind (end + 1) (sym (length_closed front end is))
+pub taken_cut : (front following : List ℕ) (end : ℕ) → end ≡ length front → take (end + 1) (front ++ 0 ∷ following) ≡ front ++ 0 ∷ []
+taken_cut front following end is =
+    ap (λ (l : List ℕ). take (end + 1) l) (sym (append_assoc front (0 ∷ []) following)) ∙ take_at (front ++ 0 ∷ []) following (end + 1) (sym (length_closed front end is))
 
-pub reopens_written : (front behind : List ℕ) (at byte : ℕ) → at ≡ length front → byte ≢ 1 → (m : Moment) → Within (after_write at (1 ∷ []) (settled (front ++ byte ∷ behind))) m → Leaves (Reopens front byte behind) m
-reopens_written front behind at byte is odd m within image h =
-    let found = image_of_gate front at byte behind image is (within image h) in
+pub reopens_written : (front following : List ℕ) (at byte : ℕ) → at ≡ length front → byte ≢ 1 → (m : Moment) → Within (after_write at (1 ∷ []) (settled (front ++ byte ∷ following))) m → Leaves (Reopens front byte following) m
+reopens_written front following at byte is odd m within image h =
+    let found = image_of_gate front at byte following image is (within image h) in
     (odd, found.0, found.1, found.2)
 
 -- ---- step after step
@@ -38,9 +38,9 @@ pub each_but_last : (before : List Gated) (last : Gated) → Each IsOpen (before
 each_but_last [] last each = (tt, each.0)
 each_but_last (g ∷ before) last each = let rest = each_but_last before last each.1 in ((each.0, rest.0), rest.1)
 
-pub keeps_more : (magic : List ℕ) (id head : ℕ) (before : List Gated) (gate : ℕ) (found more image : List ℕ) → image ≡ log_of magic id head before ++ gate ∷ (framed found ++ 0 ∷ more)
+pub log_longer : (magic : List ℕ) (id head : ℕ) (before : List Gated) (gate : ℕ) (found more image : List ℕ) → image ≡ log_of magic id head before ++ gate ∷ (framed found ++ 0 ∷ more)
     → image ≡ log_of magic id head (before ++ record { gate = gate; bytes = found } ∷ []) ++ 0 ∷ more
-keeps_more magic id head before gate found more image is =
+log_longer magic id head before gate found more image is =
     is ∙ sym (append_assoc (log_of magic id head before) (gate ∷ framed found) (0 ∷ more)) ∙ ap (λ (l : List ℕ). l ++ 0 ∷ more) (sym (log_more magic id head before gate found))
 
 module _ (magic : List ℕ) (id head : ℕ) (gated : List Gated) where
@@ -52,29 +52,29 @@ module _ (magic : List ℕ) (id head : ℕ) (gated : List Gated) where
       let w = leaves image h in
       inr (inl (w.0, w.1, (w.2, w.3 ∙ ap (λ (l : List ℕ). w.1 ∷ l) (append_assoc (identity magic id ++ all_gated gated) (0 ∷ []) w.2))))
 
-  pub repaired_last : (gate : Gate) (last : IsLast (Some gate) gated) (m : Moment) → Leaves (Reopens (log_of magic id 1 last.0) gate.byte (framed last.1 ++ 0 ∷ [])) m → Leaves (IsRepaired magic id head gated) m
+  pub repaired_last : (gate : GateByte) (last : IsLast (Some gate) gated) (m : Moment) → Leaves (Reopens (log_of magic id 1 last.0) gate.byte (framed last.1 ++ 0 ∷ [])) m → Leaves (IsRepaired magic id head gated) m
   repaired_last gate last m leaves image h =
       let w = leaves image h in
       let opened = w.3 ∙ ap (λ (l : List ℕ). log_of magic id 1 last.0 ++ w.1 ∷ l) (append_assoc (framed last.1) (0 ∷ []) w.2) in
-      inr (inr (last.0, record { gate = gate.byte; bytes = last.1 }, w.1, last.2, w.0, (w.2, keeps_more magic id 1 last.0 w.1 last.1 w.2 image opened)))
+      inr (inr (last.0, record { gate = gate.byte; bytes = last.1 }, w.1, last.2, w.0, (w.2, log_longer magic id 1 last.0 w.1 last.1 w.2 image opened)))
 
   -- the log before its last record
-  pub last_split : (gate : Gate) (last : IsLast (Some gate) gated) → log_of magic id 1 gated ++ 0 ∷ [] ≡ log_of magic id 1 last.0 ++ gate.byte ∷ (framed last.1 ++ 0 ∷ [])
+  pub last_split : (gate : GateByte) (last : IsLast (Some gate) gated) → log_of magic id 1 gated ++ 0 ∷ [] ≡ log_of magic id 1 last.0 ++ gate.byte ∷ (framed last.1 ++ 0 ∷ [])
   last_split gate last =
       ap (λ (gs : List Gated). log_of magic id 1 gs ++ 0 ∷ []) last.2
-      ∙ sym (keeps_more magic id 1 last.0 gate.byte last.1 [] (log_of magic id 1 last.0 ++ gate.byte ∷ (framed last.1 ++ 0 ∷ [])) refl)
+      ∙ sym (log_longer magic id 1 last.0 gate.byte last.1 [] (log_of magic id 1 last.0 ++ gate.byte ∷ (framed last.1 ++ 0 ∷ [])) refl)
 
-  pub last_place : (gate : Gate) (last : IsLast (Some gate) gated) → length magic ≡ 4 → gate.at ≡ length (log_of magic id 1 last.0)
+  pub last_place : (gate : GateByte) (last : IsLast (Some gate) gated) → length magic ≡ 4 → gate.at ≡ length (log_of magic id 1 last.0)
   last_place gate last four = omega (arith, last.3, length-identity magic id four, length-append (identity magic id) (all_gated last.0))
 
 -- ---- at rest
 
 module _ (magic : List ℕ) (id head : ℕ) (records : List (List ℕ)) (end len : ℕ) (bytes : List ℕ) where
-  pub rests_last : (gate : Gate) (log : IsReadLog magic id head records (Some gate) end len bytes) (m : Moment) → m ≡ settled (log_of magic id 1 log.last_is.0 ++ 1 ∷ (framed log.last_is.1 ++ 0 ∷ [])) → IsAtRest magic id end records m
+  pub rests_last : (gate : GateByte) (log : IsReadLog magic id head records (Some gate) end len bytes) (m : Moment) → m ≡ settled (log_of magic id 1 log.last_is.0 ++ 1 ∷ (framed log.last_is.1 ++ 0 ∷ [])) → IsAtRest magic id end records m
   rests_last gate log m on =
       let before : List Gated = log.last_is.0 in
       let found : List ℕ = log.last_is.1 in
-      let opened = each_but_last before (record { gate = gate.byte; bytes = found }) (subst (λ (gs : List Gated). Each IsOpen gs) log.last_is.2 log.stands.gates_open) in
+      let opened = each_but_last before (record { gate = gate.byte; bytes = found }) (subst (λ (gs : List Gated). Each IsOpen gs) log.last_is.2 log.has_log.gates_open) in
       record {
         gated = before ++ record { gate = 1; bytes = found } ∷ [];
         acknowledged = record {
@@ -91,13 +91,13 @@ module _ (magic : List ℕ) (id head : ℕ) (records : List (List ℕ)) (end len
           length-append (log_of magic id head before) (gate.byte ∷ framed found),
           length-append (log_of magic id 1 before) (1 ∷ framed found),
         );
-        settled_on = on ∙ ap settled (keeps_more magic id 1 before 1 found [] (log_of magic id 1 before ++ 1 ∷ (framed found ++ 0 ∷ [])) refl);
+        on_disk = on ∙ ap settled (log_longer magic id 1 before 1 found [] (log_of magic id 1 before ++ 1 ∷ (framed found ++ 0 ∷ [])) refl);
       }
 
   pub rests_none : (log : IsReadLog magic id head records None end len bytes) (m : Moment) → m ≡ settled (log_of magic id 1 log.gated ++ 0 ∷ []) → IsAtRest magic id end records m
   rests_none log m on = record {
     gated = log.gated;
-    acknowledged = record { gates_open = log.stands.gates_open; last = ap (last_gate 1) log.last_is; same = log.same };
+    acknowledged = record { gates_open = log.has_log.gates_open; last = ap (last_gate 1) log.last_is; same = log.same };
     place = log.place;
-    settled_on = on;
+    on_disk = on;
   }

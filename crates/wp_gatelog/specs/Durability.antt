@@ -24,8 +24,8 @@ pub record HasAcknowledged (magic : List ℕ) (id : ℕ) (records : List (List �
   pub more : List (List ℕ)
   pub acknowledged : IsAcknowledged gated (records ++ more)
   pub gate : ℕ
-  pub behind : List ℕ
-  pub spelling : bytes ≡ log_of magic id 1 gated ++ gate ∷ behind
+  pub rest : List ℕ
+  pub spelling : bytes ≡ log_of magic id 1 gated ++ gate ∷ rest
 
 -- if the bytes hold the records, so does each image with P
 abbrev pub Spares : List ℕ → ℕ → List (List ℕ) → List ℕ → (List ℕ → Type 0) → Type 0

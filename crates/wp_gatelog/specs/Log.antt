@@ -3,7 +3,7 @@ use Rattle.std.specs.Prelude.{◌≡◌, ◌⊎◌, ℕ, Bool, List, [], ◌∷�
 use Rattle.wp_outside.specs.Disk.{Moment, IfKnown, Each, settled}
 use Rattle.wp_gatelog.specs.Spelling.{Gated, IsOpen, framed, frame_of, log_of, records_of, Spells}
 
-pub record State : Type 0 where
+pub record LogState : Type 0 where
   pub moments : List Moment  -- its disk's
   pub faults : ℕ  -- its disk's
   pub id : ℕ
@@ -29,17 +29,17 @@ pub record IsAtRest (magic : List ℕ) (id end : ℕ) (records : List (List ℕ)
   pub gated : List Gated
   pub acknowledged : IsAcknowledged gated records
   pub place : end ≡ length (log_of magic id 1 gated)
-  pub settled_on : m ≡ settled (log_of magic id 1 gated ++ 0 ∷ [])
+  pub on_disk : m ≡ settled (log_of magic id 1 gated ++ 0 ∷ [])
 
 -- where the log's disk tells, it is at rest with these records
-abbrev pub Rests : List ℕ → State → List (List ℕ) → Type 0
+abbrev pub Rests : List ℕ → LogState → List (List ℕ) → Type 0
 Rests magic log records = IfKnown log.moments (IsAtRest magic log.id log.end records)
 
 -- front, and behind it a closed gate; or an open one, one whole record and a closed gate
 abbrev pub Grows : List ℕ → List ℕ → List ℕ → Type 0
-Grows front bytes image = (behind : List ℕ) × (
-    (image ≡ front ++ 0 ∷ behind)
-    ⊎ ((gate : ℕ) × IsOpen (record { gate = gate; bytes = bytes }) × (image ≡ front ++ gate ∷ (framed bytes ++ 0 ∷ behind))))
+Grows front bytes image = (following : List ℕ) × (
+    (image ≡ front ++ 0 ∷ following)
+    ⊎ ((gate : ℕ) × IsOpen (record { gate = gate; bytes = bytes }) × (image ≡ front ++ gate ∷ (framed bytes ++ 0 ∷ following))))
 
 -- a crash leaves the records, or those and the new one
 abbrev pub BeforeOrAfter : List ℕ → ℕ → List (List ℕ) → List ℕ → List ℕ → Type 0

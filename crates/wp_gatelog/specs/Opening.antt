@@ -6,7 +6,7 @@ use Rattle.wp_gatelog.specs.declared.error.LogError.TheVariants.{Memory, DiskFau
 use Rattle.wp_gatelog.specs.Damage.{IsBadHead, IsCut}
 use Rattle.wp_gatelog.specs.Repair.{IsRepaired}
 use Rattle.wp_gatelog.specs.Moments.{Leaves}
-use Rattle.wp_gatelog.specs.Spelling.{Gated, IsUnmade, Stands, Spells, records_of}
+use Rattle.wp_gatelog.specs.Spelling.{Gated, IsUnmade, HasLog, Spells, records_of}
 
 -- the bytes spell these records under this id: the one that was asked for, where no log was made
 pub record IsFound (magic : List ℕ) (asked : ℕ) (bytes : List ℕ) (id : ℕ) (records : List (List ℕ)) : Type 0 where
@@ -48,14 +48,14 @@ abbrev pub Survives : List ℕ → ℕ → List ℕ → List ℕ → Type 0
 Survives magic asked found image =
     (image ≡ found)
     ⊎ (IsUnmade found × Spells image magic asked [])
-    ⊎ ((id head : ℕ) × (gated : List Gated) × Stands magic id head gated found × HasMost magic id head gated image)
+    ⊎ ((id head : ℕ) × (gated : List Gated) × HasLog magic id head gated found × HasMost magic id head gated image)
 
 -- the same, byte by byte
 abbrev pub Repairs : List ℕ → ℕ → List ℕ → List ℕ → Type 0
 Repairs magic asked found image =
     (image ≡ found)
     ⊎ (IsUnmade found × Spells image magic asked [])
-    ⊎ ((id head : ℕ) × (gated : List Gated) × Stands magic id head gated found × IsRepaired magic id head gated image)
+    ⊎ ((id head : ℕ) × (gated : List Gated) × HasLog magic id head gated found × IsRepaired magic id head gated image)
 
 -- at each moment of an opening a crash leaves what survives it
 abbrev pub SurvivesThrough : List ℕ → ℕ → List Moment → List Moment → Type 0
@@ -63,4 +63,4 @@ SurvivesThrough magic asked old new = IfKnown old (λ m. Passes (Leaves (Survive
 
 -- a log is repaired whose head was read
 abbrev pub RepairsMade : List ℕ → ℕ → ℕ → List ℕ → List ℕ → Type 0
-RepairsMade magic id head found image = (gated : List Gated) × Stands magic id head gated found × IsRepaired magic id head gated image
+RepairsMade magic id head found image = (gated : List Gated) × HasLog magic id head gated found × IsRepaired magic id head gated image

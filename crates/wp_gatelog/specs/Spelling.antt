@@ -38,9 +38,9 @@ pub record IsOpen (g : Gated) : Type 0 where
   pub length_fits : length g.bytes < 2 ^ 64
 
 -- a log stands in the bytes: its head's gate and those of its records are open, and a closed one ends it
-pub record Stands (magic : List ℕ) (id head : ℕ) (gated : List Gated) (bytes : List ℕ) : Type 0 where
-  pub behind : List ℕ
-  pub spelling : bytes ≡ log_of magic id head gated ++ 0 ∷ behind
+pub record HasLog (magic : List ℕ) (id head : ℕ) (gated : List Gated) (bytes : List ℕ) : Type 0 where
+  pub rest : List ℕ
+  pub spelling : bytes ≡ log_of magic id head gated ++ 0 ∷ rest
   pub head_open : head ≢ 0
   pub gates_open : Each IsOpen gated
 
@@ -58,4 +58,4 @@ records_of gated = map (λ g. g.bytes) gated
 abbrev pub Spells : List ℕ → List ℕ → ℕ → List (List ℕ) → Type 0
 Spells bytes magic id records =
     (IsUnmade bytes × (records ≡ []))
-    ⊎ ((head : ℕ) × (gated : List Gated) × Stands magic id head gated bytes × (records ≡ records_of gated))
+    ⊎ ((head : ℕ) × (gated : List Gated) × HasLog magic id head gated bytes × (records ≡ records_of gated))

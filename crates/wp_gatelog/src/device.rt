@@ -12,7 +12,7 @@ use wp_outside::{Disk, Failed};
 pub fn write_synced<D: Disk>(disk: &mut D, at: u64, bytes: &[u8]) -> Result<(), Failed>
     ensures passed { (before : List ℕ) → IfKnown (D.moments disk.old) (λ m. m ≡ settled before)
         → Goes (Within (after_write at bytes.now (settled before))) (D.moments disk.old) (D.moments disk.new) }
-    ensures lasts { (magic : List ℕ) (id : ℕ) (records : List (List ℕ)) (before : List ℕ)
+    ensures durable { (magic : List ℕ) (id : ℕ) (records : List (List ℕ)) (before : List ℕ)
         → Spares magic id records before (IsImage (after_write at bytes.now (settled before)))
         → IfKnown (D.moments disk.old) (λ m. m ≡ settled before)
         → Preserves (Leaves (HasAcknowledged magic id records)) (D.moments disk.old) (D.moments disk.new) }
@@ -22,7 +22,7 @@ pub fn write_synced<D: Disk>(disk: &mut D, at: u64, bytes: &[u8]) -> Result<(), 
     ensures calls { OnOk result
         (D.moments disk.new ≡ added after_sync (added (after_write at bytes.now) (D.moments disk.old))) }
     ensures bounded { OnOk result (write_end at bytes.now ≤ 2 ^ 62) }
-    ensures untold { D.moments disk.old ≡ [] → D.moments disk.new ≡ [] }
+    ensures unknown { D.moments disk.old ≡ [] → D.moments disk.new ≡ [] }
     ensures cause { HasCause (D.faults disk.old) (D.faults disk.new) result }
 {
     disk.write_at(at, bytes)?;
@@ -33,13 +33,13 @@ pub fn write_synced<D: Disk>(disk: &mut D, at: u64, bytes: &[u8]) -> Result<(), 
 pub fn cut_synced<D: Disk>(disk: &mut D, len: u64) -> Result<(), Failed>
     ensures passed { (before : List ℕ) → IfKnown (D.moments disk.old) (λ m. m ≡ settled before)
         → Goes (Within (after_cut len (settled before))) (D.moments disk.old) (D.moments disk.new) }
-    ensures lasts { (magic : List ℕ) (id : ℕ) (records : List (List ℕ)) (before : List ℕ)
+    ensures durable { (magic : List ℕ) (id : ℕ) (records : List (List ℕ)) (before : List ℕ)
         → Spares magic id records before (IsImage (after_cut len (settled before)))
         → IfKnown (D.moments disk.old) (λ m. m ≡ settled before)
         → Preserves (Leaves (HasAcknowledged magic id records)) (D.moments disk.old) (D.moments disk.new) }
     ensures done { (before : List ℕ) → IfKnown (D.moments disk.old) (λ m. m ≡ settled before)
         → OnOk result (IfKnown (D.moments disk.new) (λ m. m ≡ settled (take len before))) }
-    ensures untold { D.moments disk.old ≡ [] → D.moments disk.new ≡ [] }
+    ensures unknown { D.moments disk.old ≡ [] → D.moments disk.new ≡ [] }
     ensures cause { HasCause (D.faults disk.old) (D.faults disk.new) result }
 {
     disk.cut(len)?;

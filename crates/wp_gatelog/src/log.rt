@@ -3,7 +3,7 @@
 ghost use Rattle.std.specs.Prelude.{◌≡◌, ℕ, ◌+◌, ◌≤◌, ◌^◌, [], ◌∷◌, ◌++◌, List, length, false, IfOk, IfErr, OnOk, MatchResult};
 ghost use Rattle.wp_outside.specs.Disk.{IfKnown, Each, Passes, settled, images, added, after_write, after_sync};
 ghost use Rattle.wp_outside.specs.Faults.{HasCause};
-ghost use Rattle.wp_gatelog.specs.Append.{Appended, Refuses};
+ghost use Rattle.wp_gatelog.specs.Append.{FrameAppended, FrameRefused};
 ghost use Rattle.wp_gatelog.specs.Errors.{FaultRose};
 ghost use Rattle.wp_gatelog.specs.Durability.{Preserves, HasAcknowledged};
 ghost use Rattle.wp_gatelog.specs.Log.{Grows, BeforeOrAfter, IsFrame, Rests};
@@ -44,9 +44,9 @@ pub struct GateLog<D: Disk> {
 
 impl<D: Disk> Model for GateLog<D> {
     ghost use Rattle.std.specs.Prelude.{◌≤◌, ◌^◌};
-    ghost use Rattle.wp_gatelog.specs.Log.{State};
+    ghost use Rattle.wp_gatelog.specs.Log.{LogState};
 
-    ghost Value = { State };
+    ghost Value = { LogState };
 
     ghost view = { λ l. record {
       moments = D.moments l.disk;
@@ -88,7 +88,7 @@ impl<D: Disk> GateLog<D> {
             (λ refused. SurvivesThrough magic id (D.moments disk) (D.moments refused.disk)) }
 
         // What each crash at one moment would leave acknowledged, each crash at a later moment leaves too.
-        ensures lasts { MatchResult result
+        ensures durable { MatchResult result
             (λ log. (other : ℕ) (records : List (List ℕ))
             → Preserves (Leaves (HasAcknowledged magic other records)) (D.moments disk) log.moments)
             (λ refused. (other : ℕ) (records : List (List ℕ))
@@ -149,10 +149,10 @@ impl<D: Disk> GateLog<D> {
 
         // What each crash at one moment would leave acknowledged, each crash at a later moment leaves too: the records
         // that stood, all along. A closed log stays as it is, at rest or not.
-        ensures lasts { (magic : List ℕ) (id : ℕ) (records others : List (List ℕ))
+        ensures durable { (magic : List ℕ) (id : ℕ) (records others : List (List ℕ))
             → (self.old.closed ≡ false → Rests magic self.old others)
             → Preserves (Leaves (HasAcknowledged magic id records)) self.old.moments self.new.moments }
-        ensures holds { (magic : List ℕ) (records : List (List ℕ)) → Rests magic self.old records
+        ensures acknowledged { (magic : List ℕ) (records : List (List ℕ)) → Rests magic self.old records
             → Passes (Leaves (HasAcknowledged magic self.old.id records)) self.old.moments self.new.moments }
 
         // Once it is acknowledged, a crash leaves the new record.
@@ -168,8 +168,8 @@ impl<D: Disk> GateLog<D> {
         ensures calls { OnOk result (self.new.moments ≡ added after_sync (added (after_write self.old.end (1 ∷ []))
             (added after_sync (added (after_write (self.old.end + 1) frame.now) self.old.moments)))) }
 
-        ensures ok { OnOk result (Appended self.old self.new (length frame.now)) }
-        ensures err { IfErr result (Refuses self.old self.new) }
+        ensures ok { OnOk result (FrameAppended self.old self.new (length frame.now)) }
+        ensures err { IfErr result (FrameRefused self.old self.new) }
         ensures later { self.old.faults ≤ self.new.faults }
     {
         if self.closed {
@@ -205,7 +205,7 @@ fn append_frame<D: Disk>(disk: &mut D, end: u64, frame: &[u8]) -> Result<(), Fai
     ensures passed { (front bytes : List ℕ) → frame.now ≡ frame_of bytes → end ≡ length front
         → IfKnown (D.moments disk.old) (λ m. m ≡ settled (front ++ 0 ∷ []))
         → Goes (Leaves (Grows front bytes)) (D.moments disk.old) (D.moments disk.new) }
-    ensures lasts { (magic : List ℕ) (id : ℕ) (gated : List Gated) → Each IsOpen gated
+    ensures durable { (magic : List ℕ) (id : ℕ) (gated : List Gated) → Each IsOpen gated
         → end ≡ length (log_of magic id 1 gated)
         → IfKnown (D.moments disk.old) (λ m. m ≡ settled (log_of magic id 1 gated ++ 0 ∷ []))
         → (other : ℕ) (records : List (List ℕ))

@@ -19,14 +19,14 @@ pub fn make<D: Disk>(disk: &mut D, len: u64, magic: [u8; 4], id: u32) -> Result<
     ensures passed { (before : List ℕ) → IsUnmade before → len ≡ length before
         → IfKnown (D.moments disk.old) (λ m. m ≡ settled before)
         → Goes (Leaves (SpellsNone magic id)) (D.moments disk.old) (D.moments disk.new) }
-    ensures lasts { (before : List ℕ) → IsUnmade before → len ≡ length before
+    ensures durable { (before : List ℕ) → IsUnmade before → len ≡ length before
         → IfKnown (D.moments disk.old) (λ m. m ≡ settled before)
         → (other : ℕ) (records : List (List ℕ))
         → Preserves (Leaves (HasAcknowledged magic other records)) (D.moments disk.old) (D.moments disk.new) }
     ensures done { (before : List ℕ) → IsUnmade before → len ≡ length before
         → IfKnown (D.moments disk.old) (λ m. m ≡ settled before)
         → OnOk result (IfKnown (D.moments disk.new) (λ m. m ≡ settled (log_of magic id 1 [] ++ 0 ∷ []))) }
-    ensures untold { D.moments disk.old ≡ [] → D.moments disk.new ≡ [] }
+    ensures unknown { D.moments disk.old ≡ [] → D.moments disk.new ≡ [] }
     ensures cause { HasCause (D.faults disk.old) (D.faults disk.new) result }
 {
     close_head(disk, len)?;
@@ -39,14 +39,14 @@ fn close_head<D: Disk>(disk: &mut D, len: u64) -> Result<(), Failed>
     ensures passed { (before : List ℕ) → IsUnmade before → len ≡ length before
         → IfKnown (D.moments disk.old) (λ m. m ≡ settled before)
         → Goes (Leaves IsUnmade) (D.moments disk.old) (D.moments disk.new) }
-    ensures lasts { (before : List ℕ) → IsUnmade before → len ≡ length before
+    ensures durable { (before : List ℕ) → IsUnmade before → len ≡ length before
         → IfKnown (D.moments disk.old) (λ m. m ≡ settled before)
         → (magic : List ℕ) (id : ℕ) (records : List (List ℕ))
         → Preserves (Leaves (HasAcknowledged magic id records)) (D.moments disk.old) (D.moments disk.new) }
     ensures done { (before : List ℕ) → IsUnmade before → len ≡ length before
         → IfKnown (D.moments disk.old) (λ m. m ≡ settled before)
         → OnOk result (IfKnown (D.moments disk.new) (λ m. m ≡ settled (0 ∷ []))) }
-    ensures untold { D.moments disk.old ≡ [] → D.moments disk.new ≡ [] }
+    ensures unknown { D.moments disk.old ≡ [] → D.moments disk.new ≡ [] }
     ensures cause { HasCause (D.faults disk.old) (D.faults disk.new) result }
 {
     if len <= 1 {

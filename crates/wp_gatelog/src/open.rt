@@ -36,7 +36,7 @@ pub fn find<D: Disk>(
     requires { length magic ≡ 4 }
     ensures passed { IfKnown (D.moments disk.old) (λ m.
         Goes (Leaves (Repairs magic id m.reads)) (D.moments disk.old) (D.moments disk.new)) }
-    ensures lasts { (other : ℕ) (records : List (List ℕ))
+    ensures durable { (other : ℕ) (records : List (List ℕ))
         → Preserves (Leaves (HasAcknowledged magic other records)) (D.moments disk.old) (D.moments disk.new) }
     ensures found { IfOk result (λ found. IfKnown (D.moments disk.old)
         (λ m. IsFound magic id m.reads found.id found.records.items)) }
@@ -45,7 +45,7 @@ pub fn find<D: Disk>(
     ensures refused { IfErr result (λ why. IfKnown (D.moments disk.old) (λ m. IsRefused magic m.reads why)) }
     ensures untouched { IfErr result (IsOnlySynced (D.moments disk.old) (D.moments disk.new)) }
     ensures places { IfOk result (λ found. (vec_len found.records ≤ found.end) × (found.end ≤ 2 ^ 62)) }
-    ensures untold { D.moments disk.old ≡ [] → D.moments disk.new ≡ [] }
+    ensures unknown { D.moments disk.old ≡ [] → D.moments disk.new ≡ [] }
     ensures fault { IfErr result (FaultRose (D.faults disk.old) (D.faults disk.new)) }
     ensures later { D.faults disk.old ≤ D.faults disk.new }
 {
@@ -63,7 +63,7 @@ pub fn open_synced<D: Disk>(
     requires { length magic ≡ 4 }
     ensures passed { (bytes : List ℕ) → IfKnown (D.moments disk.old) (λ m. m ≡ settled bytes)
         → Goes (Leaves (Repairs magic id bytes)) (D.moments disk.old) (D.moments disk.new) }
-    ensures lasts { (bytes : List ℕ) → IfKnown (D.moments disk.old) (λ m. m ≡ settled bytes)
+    ensures durable { (bytes : List ℕ) → IfKnown (D.moments disk.old) (λ m. m ≡ settled bytes)
         → (other : ℕ) (records : List (List ℕ))
         → Preserves (Leaves (HasAcknowledged magic other records)) (D.moments disk.old) (D.moments disk.new) }
     ensures found { (bytes : List ℕ) → IfKnown (D.moments disk.old) (λ m. m ≡ settled bytes)
@@ -75,7 +75,7 @@ pub fn open_synced<D: Disk>(
         → IfErr result (λ why. IfKnown (D.moments disk.old) (λ _. IsRefused magic bytes why)) }
     ensures untouched { IfErr result (IsUntouched (D.moments disk.old) (D.moments disk.new)) }
     ensures places { IfOk result (λ found. (vec_len found.records ≤ found.end) × (found.end ≤ 2 ^ 62)) }
-    ensures untold { D.moments disk.old ≡ [] → D.moments disk.new ≡ [] }
+    ensures unknown { D.moments disk.old ≡ [] → D.moments disk.new ≡ [] }
     ensures fault { IfErr result (FaultRose (D.faults disk.old) (D.faults disk.new)) }
     ensures later { D.faults disk.old ≤ D.faults disk.new }
 {
@@ -113,7 +113,7 @@ pub fn open_made<D: Disk>(
     ensures passed { (magic bytes : List ℕ) → BeginsLog magic id head len bytes
         → IfKnown (D.moments disk.old) (λ m. m ≡ settled bytes)
         → Goes (Leaves (RepairsMade magic id head bytes)) (D.moments disk.old) (D.moments disk.new) }
-    ensures lasts { (magic bytes : List ℕ) → BeginsLog magic id head len bytes
+    ensures durable { (magic bytes : List ℕ) → BeginsLog magic id head len bytes
         → IfKnown (D.moments disk.old) (λ m. m ≡ settled bytes)
         → (other : ℕ) (records : List (List ℕ))
         → Preserves (Leaves (HasAcknowledged magic other records)) (D.moments disk.old) (D.moments disk.new) }
@@ -128,7 +128,7 @@ pub fn open_made<D: Disk>(
         → IfErr result (λ why. IfKnown (D.moments disk.old) (λ _. IsRefused magic bytes why)) }
     ensures untouched { IfErr result (IsUntouched (D.moments disk.old) (D.moments disk.new)) }
     ensures places { IfOk result (λ scan. (vec_len scan.records ≤ scan.end) × (scan.end ≤ 2 ^ 62)) }
-    ensures untold { D.moments disk.old ≡ [] → D.moments disk.new ≡ [] }
+    ensures unknown { D.moments disk.old ≡ [] → D.moments disk.new ≡ [] }
     ensures fault { IfErr result (FaultRose (D.faults disk.old) (D.faults disk.new)) }
     ensures later { D.faults disk.old ≤ D.faults disk.new }
 {

@@ -9,7 +9,7 @@ ghost use Rattle.wp_gatelog.specs.Repair.{IsReadLog, HasFront, Reopens, IsRepair
 ghost use Rattle.wp_gatelog.specs.Moments.{Goes, Leaves};
 
 use crate::device::{cut_synced, write_synced};
-use crate::gate::{Gate, OPEN};
+use crate::gate::{GateByte, OPEN};
 use crate::scan::Scan;
 use wp_outside::{Disk, Failed};
 
@@ -22,7 +22,7 @@ pub fn repair<D: Disk>(disk: &mut D, len: u64, head: u8, scan: &Scan) -> Result<
         (log : IsReadLog magic id head scan.now.records.items scan.now.last scan.now.end len bytes)
         → IfKnown (D.moments disk.old) (λ m. m ≡ settled bytes)
         → Goes (Leaves (IsRepaired magic id head log.gated)) (D.moments disk.old) (D.moments disk.new) }
-    ensures lasts { (magic : List ℕ) (id : ℕ) (bytes : List ℕ)
+    ensures durable { (magic : List ℕ) (id : ℕ) (bytes : List ℕ)
         → IsReadLog magic id head scan.now.records.items scan.now.last scan.now.end len bytes
         → IfKnown (D.moments disk.old) (λ m. m ≡ settled bytes)
         → (other : ℕ) (records : List (List ℕ))
@@ -31,11 +31,11 @@ pub fn repair<D: Disk>(disk: &mut D, len: u64, head: u8, scan: &Scan) -> Result<
         → IsReadLog magic id head scan.now.records.items scan.now.last scan.now.end len bytes
         → IfKnown (D.moments disk.old) (λ m. m ≡ settled bytes)
         → OnOk result (IfKnown (D.moments disk.new) (IsAtRest magic id scan.now.end scan.now.records.items)) }
-    ensures untold { D.moments disk.old ≡ [] → D.moments disk.new ≡ [] }
+    ensures unknown { D.moments disk.old ≡ [] → D.moments disk.new ≡ [] }
     ensures cause { HasCause (D.faults disk.old) (D.faults disk.new) result }
 {
-    cut_behind(disk, scan.end, len)?;
-    open_wholly(disk, Gate { at: 0, byte: head })?;
+    cut_rest(disk, scan.end, len)?;
+    open_wholly(disk, GateByte { at: 0, byte: head })?;
     match scan.last {
         Some(gate) => open_wholly(disk, gate),
         None => Ok(()),
@@ -43,21 +43,21 @@ pub fn repair<D: Disk>(disk: &mut D, len: u64, head: u8, scan: &Scan) -> Result<
 }
 
 /// Cuts what stands behind the closed gate at `end`.
-fn cut_behind<D: Disk>(disk: &mut D, end: u64, len: u64) -> Result<(), Failed>
+fn cut_rest<D: Disk>(disk: &mut D, end: u64, len: u64) -> Result<(), Failed>
     requires within { end < len }
     requires bounded { len ≤ 2 ^ 62 }
-    ensures passed { (front behind : List ℕ) → end ≡ length front → len ≡ length (front ++ 0 ∷ behind)
-        → IfKnown (D.moments disk.old) (λ m. m ≡ settled (front ++ 0 ∷ behind))
+    ensures passed { (front following : List ℕ) → end ≡ length front → len ≡ length (front ++ 0 ∷ following)
+        → IfKnown (D.moments disk.old) (λ m. m ≡ settled (front ++ 0 ∷ following))
         → Goes (Leaves (HasFront front)) (D.moments disk.old) (D.moments disk.new) }
-    ensures lasts { (front behind : List ℕ) → end ≡ length front → len ≡ length (front ++ 0 ∷ behind)
-        → IfKnown (D.moments disk.old) (λ m. m ≡ settled (front ++ 0 ∷ behind))
+    ensures durable { (front following : List ℕ) → end ≡ length front → len ≡ length (front ++ 0 ∷ following)
+        → IfKnown (D.moments disk.old) (λ m. m ≡ settled (front ++ 0 ∷ following))
         → (magic : List ℕ) (id : ℕ) (records : List (List ℕ))
-        → Spares magic id records (front ++ 0 ∷ behind) (HasFront front)
+        → Spares magic id records (front ++ 0 ∷ following) (HasFront front)
         → Preserves (Leaves (HasAcknowledged magic id records)) (D.moments disk.old) (D.moments disk.new) }
-    ensures done { (front behind : List ℕ) → end ≡ length front → len ≡ length (front ++ 0 ∷ behind)
-        → IfKnown (D.moments disk.old) (λ m. m ≡ settled (front ++ 0 ∷ behind))
+    ensures done { (front following : List ℕ) → end ≡ length front → len ≡ length (front ++ 0 ∷ following)
+        → IfKnown (D.moments disk.old) (λ m. m ≡ settled (front ++ 0 ∷ following))
         → OnOk result (IfKnown (D.moments disk.new) (λ m. m ≡ settled (front ++ 0 ∷ []))) }
-    ensures untold { D.moments disk.old ≡ [] → D.moments disk.new ≡ [] }
+    ensures unknown { D.moments disk.old ≡ [] → D.moments disk.new ≡ [] }
     ensures cause { HasCause (D.faults disk.old) (D.faults disk.new) result }
 {
     if len - end == 1 {
@@ -67,19 +67,19 @@ fn cut_behind<D: Disk>(disk: &mut D, end: u64, len: u64) -> Result<(), Failed>
 }
 
 /// Writes the gate as 01, where it is another byte.
-fn open_wholly<D: Disk>(disk: &mut D, gate: Gate) -> Result<(), Failed>
-    ensures passed { (front behind : List ℕ) → gate.at ≡ length front
-        → IfKnown (D.moments disk.old) (λ m. m ≡ settled (front ++ gate.byte ∷ behind))
-        → Goes (Leaves (Reopens front gate.byte behind)) (D.moments disk.old) (D.moments disk.new) }
-    ensures lasts { (front behind : List ℕ) → gate.at ≡ length front
-        → IfKnown (D.moments disk.old) (λ m. m ≡ settled (front ++ gate.byte ∷ behind))
+fn open_wholly<D: Disk>(disk: &mut D, gate: GateByte) -> Result<(), Failed>
+    ensures passed { (front following : List ℕ) → gate.at ≡ length front
+        → IfKnown (D.moments disk.old) (λ m. m ≡ settled (front ++ gate.byte ∷ following))
+        → Goes (Leaves (Reopens front gate.byte following)) (D.moments disk.old) (D.moments disk.new) }
+    ensures durable { (front following : List ℕ) → gate.at ≡ length front
+        → IfKnown (D.moments disk.old) (λ m. m ≡ settled (front ++ gate.byte ∷ following))
         → (magic : List ℕ) (id : ℕ) (records : List (List ℕ))
-        → Spares magic id records (front ++ gate.byte ∷ behind) (Reopens front gate.byte behind)
+        → Spares magic id records (front ++ gate.byte ∷ following) (Reopens front gate.byte following)
         → Preserves (Leaves (HasAcknowledged magic id records)) (D.moments disk.old) (D.moments disk.new) }
-    ensures done { (front behind : List ℕ) → gate.at ≡ length front
-        → IfKnown (D.moments disk.old) (λ m. m ≡ settled (front ++ gate.byte ∷ behind))
-        → OnOk result (IfKnown (D.moments disk.new) (λ m. m ≡ settled (front ++ 1 ∷ behind))) }
-    ensures untold { D.moments disk.old ≡ [] → D.moments disk.new ≡ [] }
+    ensures done { (front following : List ℕ) → gate.at ≡ length front
+        → IfKnown (D.moments disk.old) (λ m. m ≡ settled (front ++ gate.byte ∷ following))
+        → OnOk result (IfKnown (D.moments disk.new) (λ m. m ≡ settled (front ++ 1 ∷ following))) }
+    ensures unknown { D.moments disk.old ≡ [] → D.moments disk.new ≡ [] }
     ensures cause { HasCause (D.faults disk.old) (D.faults disk.new) result }
 {
     if gate.byte == OPEN {

@@ -6,7 +6,7 @@ ghost use Rattle.wp_gatelog.specs.Errors.{FaultRose, IsOutside};
 ghost use Rattle.wp_gatelog.specs.Scanning.{IsStart, IsNext, EndsWithin, HasRead, IsReadFault};
 
 use crate::error::LogError;
-use crate::gate::{CLOSED, Gate};
+use crate::gate::{CLOSED, GateByte};
 use crate::head::HEAD_LEN;
 use crate::record::Record;
 use std::alloc::Global;
@@ -22,7 +22,7 @@ pub struct Scan {
     pub records: Vec<Record>,
 
     /// The last record's gate.
-    pub last: Option<Gate>,
+    pub last: Option<GateByte>,
 
     /// The place of the first closed gate.
     pub end: u64,
@@ -48,7 +48,7 @@ pub fn read_records<D: Disk>(alloc: Global, disk: &mut D, len: u64) -> Result<Sc
     requires within { 10 < len }
     requires bounded { len ≤ 2 ^ 62 }
     ensures found { IfOk result (λ scan. IfKnown (D.moments disk.old) (λ m. len ≡ length m.reads
-        → (behind : List ℕ) × HasRead (drop 10 m.reads) (0 ∷ behind) scan.records.items scan.last scan.end)) }
+        → (following : List ℕ) × HasRead (drop 10 m.reads) (0 ∷ following) scan.records.items scan.last scan.end)) }
     ensures refused { IfErr result (λ why. IfKnown (D.moments disk.old) (λ m. len ≡ length m.reads
         → IsReadFault (drop 10 m.reads) why)) }
     ensures places { IfOk result (λ scan. (vec_len scan.records ≤ scan.end) × (scan.end < len)) }
@@ -66,7 +66,7 @@ pub fn read_records<D: Disk>(alloc: Global, disk: &mut D, len: u64) -> Result<Sc
                 index: records.len() as u64,
             }),
             Next::Open { gate, record } => {
-                last = Some(Gate {
+                last = Some(GateByte {
                     at: end,
                     byte: gate,
                 });

@@ -88,7 +88,7 @@ fn what_is_no_log_is_refused(rt: HostRuntime) -> Result<(), Fail> {
 }
 
 #[test]
-fn an_opening_repairs_gates_and_cuts_what_stands_behind(rt: HostRuntime) -> Result<(), Fail> {
+fn an_opening_repairs_gates_and_cuts_what_follows(rt: HostRuntime) -> Result<(), Fail> {
     let alloc = rt.alloc();
     let mut bytes = LOG.to_vec(alloc)?;
     bytes.extend_from_slice(b"\xff\xff")?;

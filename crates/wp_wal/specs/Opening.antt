@@ -21,12 +21,12 @@ IsIllegalLog bytes number = (id : ℕ) × (records : List (List ℕ)) × Spells 
 
 -- Why the log was not opened: its disk's count of faults rose, or where that tells its bytes they are damaged. Want of
 -- memory needs no cause.
-abbrev pub IsOpenCause : (rose : Type 0) → List Moment → WalError → Type 0
-IsOpenCause rose moments Memory = Unit {0}
-IsOpenCause rose moments DiskFault = rose
-IsOpenCause rose moments BadHead = IfKnown moments (λ m. IsBadHead MAGIC m.reads)
-IsOpenCause rose moments (BadRecord index why) = IfKnown moments (λ m. IsBadLog m.reads index why)
-IsOpenCause rose moments (Illegal number) = IfKnown moments (λ m. IsIllegalLog m.reads number)
+abbrev pub IsLogCause : (rose : Type 0) → List Moment → WalError → Type 0
+IsLogCause rose moments Memory = Unit {0}
+IsLogCause rose moments DiskFault = rose
+IsLogCause rose moments BadHead = IfKnown moments (λ m. IsBadHead MAGIC m.reads)
+IsLogCause rose moments (BadRecord index why) = IfKnown moments (λ m. IsBadLog m.reads index why)
+IsLogCause rose moments (Illegal number) = IfKnown moments (λ m. IsIllegalLog m.reads number)
 
 -- ---- what is left
 

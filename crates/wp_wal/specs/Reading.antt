@@ -16,7 +16,7 @@ pub record TakesRecord (history longer : List Entry) (bytes : List ℕ) : Type 0
   pub entries : List Entry
   pub is : IsRecord (length history + 1) entries
   pub spelling : bytes ≡ record_bytes (length history + 1) entries
-  pub behind : longer ≡ history ++ entries
+  pub whole : longer ≡ history ++ entries
 
 -- the bytes behind the legal history are no record at their number, for this reason
 pub record IsNoRecord (history : List Entry) (bytes : List ℕ) (why : RecordError) : Type 0 where
@@ -51,17 +51,17 @@ IsRefusedRecord history at bytes (Illegal number) = IsIllegalRecord history byte
 -- ---- all records
 
 -- The records before this one spell a history, and it stands behind that so.
-pub record StandsAt (records : List (List ℕ)) (index : ℕ) (history : List Entry) (bytes : List ℕ) : Type 0 where
+pub record LiesAt (records : List (List ℕ)) (index : ℕ) (history : List Entry) (bytes : List ℕ) : Type 0 where
   pub before : AreEntries 1 (take index records) history
   pub there : slice_get records index ≡ Some bytes
 
 -- the records before this one spell a legal history, and it is the first that is no record at its number
 abbrev pub IsBadRecord : List (List ℕ) → ℕ → RecordError → Type 0
-IsBadRecord records index why = (history : List Entry) × (bytes : List ℕ) × StandsAt records index history bytes × IsNoRecord history bytes why
+IsBadRecord records index why = (history : List Entry) × (bytes : List ℕ) × LiesAt records index history bytes × IsNoRecord history bytes why
 
 -- the records up to one that holds the entry with this number spell a history, and it is the first that is illegal
 abbrev pub IsIllegal : List (List ℕ) → ℕ → Type 0
-IsIllegal records number = (index : ℕ) × (history : List Entry) × (bytes : List ℕ) × StandsAt records index history bytes × IsIllegalRecord history bytes number
+IsIllegal records number = (index : ℕ) × (history : List Entry) × (bytes : List ℕ) × LiesAt records index history bytes × IsIllegalRecord history bytes number
 
 -- why the records spell no legal history; of memory it says nothing
 abbrev pub IsRecordCause : List (List ℕ) → WalError → Type 0

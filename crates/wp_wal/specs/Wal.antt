@@ -6,7 +6,7 @@ use Rattle.wp_outside.specs.Faults.{Rose}
 use Rattle.wp_entry.specs.Record.{IsRecord, record_bytes}
 use Rattle.wp_gatelog.specs.declared.log.AppendError.{AppendError}
 use Rattle.wp_gatelog.specs.declared.log.AppendError.TheVariants.{DiskFault, Closed}
-use Rattle.wp_gatelog.specs.Log.{State as LogState, IsAtRest}
+use Rattle.wp_gatelog.specs.Log.{LogState, IsAtRest}
 use Rattle.wp_gatelog.specs.Durability.{HasAcknowledged, Preserves}
 use Rattle.wp_gatelog.specs.Moments.{Leaves}
 use Rattle.wp_wal.specs.Spelling.{MAGIC, AreEntries, IsLogOf, IsLogOrNext, HasAcknowledgedEntries}
@@ -26,7 +26,7 @@ reserved_of first entries = record { bytes = record_bytes first entries; count =
 abbrev pub framed_in : List ℕ → List ℕ
 framed_in frame = take (length frame - 9) (drop 8 frame)
 
-pub record State : Type 0 where
+pub record WalState : Type 0 where
   pub moments : List Moment  -- its disk's
   pub faults : ℕ  -- its disk's
   pub id : ℕ
@@ -37,7 +37,7 @@ pub record State : Type 0 where
   pub reserved : Option Reserved
 
 -- a gate log whose next entry has that number
-abbrev pub state_of : LogState → ℕ → Option Reserved → State
+abbrev pub state_of : LogState → ℕ → Option Reserved → WalState
 state_of log due reserved = record {
   moments = log.moments;
   faults = log.faults;
@@ -64,7 +64,7 @@ LeavesHistoryOrNext id history next = Leaves (λ image. IsLogOrNext id history n
 
 -- The log keeps the history: it is at rest with records that spell it; or, once an append has failed, a crash leaves
 -- those, or those and one that spells the next entries, whole.
-pub record StoresHistory (wal : State) (history next : List Entry) : Type 0 where
+pub record StoresHistory (wal : WalState) (history next : List Entry) : Type 0 where
   pub records : List (List ℕ)
   pub spelled : AreEntries 1 records history
   pub counted : wal.count ≡ length records
@@ -75,14 +75,14 @@ pub record StoresHistory (wal : State) (history next : List Entry) : Type 0 wher
 -- ---- appending
 
 -- The log keeps the history, and the record of the next entries stands reserved.
-pub record IsReserved (wal : State) (history next : List Entry) : Type 0 where
-  pub keeps : StoresHistory wal history []
+pub record IsReserved (wal : WalState) (history next : List Entry) : Type 0 where
+  pub stores : StoresHistory wal history []
   pub running : wal.closed ≡ false
   pub is : IsRecord wal.due next
   pub reserved : wal.reserved ≡ Some (reserved_of wal.due next)
 
 -- the record that stood reserved is in the log: with nine bytes of its frame, the length and a gate
-pub record Appended (old new : State) (added : Reserved) : Type 0 where
+pub record Appended (old new : WalState) (added : Reserved) : Type 0 where
   pub was_open : old.closed ≡ false
   pub changed : new ≡ record old {
     moments = new.moments;
@@ -95,13 +95,13 @@ pub record Appended (old new : State) (added : Reserved) : Type 0 where
 
 -- The disk failed, and the log is closed from now on. Or it was closed before: nothing changes, and n is the count of
 -- its records.
-abbrev pub Refuses : State → State → AppendError → Type 0
+abbrev pub Refuses : WalState → WalState → AppendError → Type 0
 Refuses old new DiskFault =
     (old.closed ≡ false) × Rose old.faults new.faults × (new ≡ record old { moments = new.moments; faults = new.faults; closed = true; reserved = None })
 Refuses old new (Closed n) = (old.closed ≡ true) × (n ≡ old.count) × (new ≡ record old { reserved = None })
 
 -- after a fault a crash leaves the history, or it and the next entries
-abbrev pub StoresWhenRefused : State → State → AppendError → Type 0
+abbrev pub StoresWhenRefused : WalState → WalState → AppendError → Type 0
 StoresWhenRefused old new DiskFault = (history next : List Entry) → IsReserved old history next → StoresHistory new history next
 StoresWhenRefused old new (Closed n) = Unit {0}
 

@@ -9,7 +9,7 @@ ghost use Rattle.wp_gatelog.specs.Damage.{IsBadHead};
 ghost use Rattle.wp_gatelog.specs.Moments.{Leaves};
 ghost use Rattle.wp_wal.specs.Opening.{IsBadLog, IsIllegalLog};
 ghost use Rattle.wp_wal.specs.Spelling.{MAGIC, IsLogOf, HasAcknowledgedEntries};
-ghost use Rattle.wp_wal.specs.Wal.{State, StoresHistory};
+ghost use Rattle.wp_wal.specs.Wal.{WalState, StoresHistory};
 
 use wp_entry::{records_are_read, spellings_differ};
 use wp_gatelog::{acknowledged_records_come_first, bytes_are_read_in_one_way};
@@ -45,7 +45,7 @@ pub fn a_log_is_read_in_one_way()
 
 /// What a crash leaves of a log that keeps a history holds it, also where an append has failed.
 pub fn stored_history_is_acknowledged()
-    ensures { (wal : State) (history next : List Entry) → StoresHistory wal history next
+    ensures { (wal : WalState) (history next : List Entry) → StoresHistory wal history next
         → IfKnown wal.moments (Leaves (HasAcknowledgedEntries wal.id history)) }
 {}
 

@@ -10,7 +10,7 @@ ghost use Rattle.wp_gatelog.specs.Moments.{Leaves};
 ghost use Rattle.wp_gatelog.specs.Opening.{SurvivesThrough};
 ghost use Rattle.wp_gatelog.specs.Spelling.{IsUnmade};
 ghost use Rattle.wp_wal.specs.Spelling.{MAGIC, IsLogOf, IsLogOrNext, HasAcknowledgedEntries};
-ghost use Rattle.wp_wal.specs.Opening.{IsOpenCause, LeavesRecords};
+ghost use Rattle.wp_wal.specs.Opening.{IsLogCause, LeavesRecords};
 ghost use Rattle.wp_wal.specs.Wal.{StoresHistory, IsReserved, LeavesHistory, Appended, Refuses, StoresWhenRefused, reserved_of};
 
 use crate::error::WalError;
@@ -38,9 +38,9 @@ pub struct Wal<D: Disk> {
 }
 
 impl<D: Disk> Model for Wal<D> {
-    ghost use Rattle.wp_wal.specs.Wal.{State, state_of, HasNumbers};
+    ghost use Rattle.wp_wal.specs.Wal.{WalState, state_of, HasNumbers};
 
-    ghost Value = { State };
+    ghost Value = { WalState };
 
     ghost view = { λ w. state_of w.log w.due w.reserved };
 
@@ -54,7 +54,7 @@ impl<D: Disk> Wal<D> {
         disk: D,
         id: u32,
     ) -> Result<(Wal<D>, History), DiskRefused<D, WalError>>
-        ensures keeps { IfOk result (λ opened. StoresHistory opened.0 opened.1.entries []) }
+        ensures stores { IfOk result (λ opened. StoresHistory opened.0 opened.1.entries []) }
         ensures fresh { IfOk result (λ opened. (opened.0.closed ≡ false) × (opened.0.reserved ≡ None)) }
         ensures legal { IfOk result (λ opened. IsLegal opened.1.entries) }
 
@@ -62,7 +62,7 @@ impl<D: Disk> Wal<D> {
         ensures found { IfOk result (λ opened. IfKnown (D.moments disk) (λ m. IsLogOf opened.0.id opened.1.entries m.reads)) }
         ensures made { IfOk result (λ opened. IfKnown (D.moments disk) (λ m. IsUnmade m.reads → opened.0.id ≡ id)) }
 
-        ensures cause { IfErr result (λ refused. IsOpenCause (Rose (D.faults disk) (D.faults refused.disk)) (D.moments disk) refused.why) }
+        ensures cause { IfErr result (λ refused. IsLogCause (Rose (D.faults disk) (D.faults refused.disk)) (D.moments disk) refused.why) }
 
         // The bytes are left as they were, or the log in them mended, with all of its records.
         ensures left { IfErr result (λ refused. LeavesRecords (D.moments disk) (D.moments refused.disk) refused.why) }
@@ -73,7 +73,7 @@ impl<D: Disk> Wal<D> {
             (λ refused. SurvivesThrough MAGIC id (D.moments disk) (D.moments refused.disk)) }
 
         // What each crash at one moment would leave acknowledged, each crash at a later moment leaves too.
-        ensures lasts { MatchResult result
+        ensures durable { MatchResult result
             (λ opened. (other : ℕ) (records : List (List ℕ))
             → Preserves (Leaves (HasAcknowledged MAGIC other records)) (D.moments disk) opened.0.moments)
             (λ refused. (other : ℕ) (records : List (List ℕ))
@@ -135,15 +135,15 @@ impl<D: Disk> Wal<D> {
 
         // What each crash at one moment would leave acknowledged, each crash at a later moment leaves too: the history,
         // all along.
-        ensures lasts { (history next : List Entry) → StoresHistory self.old history next → (other : ℕ) (records : List (List ℕ))
+        ensures durable { (history next : List Entry) → StoresHistory self.old history next → (other : ℕ) (records : List (List ℕ))
             → Preserves (Leaves (HasAcknowledged MAGIC other records)) self.old.moments self.new.moments }
-        ensures holds { (history entries : List Entry) → IsReserved self.old history entries
+        ensures acknowledged { (history entries : List Entry) → IsReserved self.old history entries
             → Passes (Leaves (HasAcknowledgedEntries self.old.id history)) self.old.moments self.new.moments }
 
         // Once it is acknowledged, a crash leaves the new entries; and after a fault still one of the two.
-        ensures keeps { OnOk result ((history entries : List Entry) → IsReserved self.old history entries
+        ensures stores { OnOk result ((history entries : List Entry) → IsReserved self.old history entries
             → StoresHistory self.new (history ++ entries) []) }
-        ensures kept { IfErr result (StoresWhenRefused self.old self.new) }
+        ensures refused { IfErr result (StoresWhenRefused self.old self.new) }
 
         ensures ok { OnOk result (IfSome self.old.reserved (Appended self.old self.new)) }
         ensures err { IfErr result (Refuses self.old self.new) }

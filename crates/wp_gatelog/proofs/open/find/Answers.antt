@@ -5,7 +5,7 @@ use Rattle.wp_gatelog.specs.Opening.{IsFound, IsRefused}
 use Rattle.wp_gatelog.proofs.OpenLemmas.{synced_bytes, synced_goes, synced_found, synced_refused}
 use Rattle.wp_gatelog.specs.Durability.{HasAcknowledged}
 use Rattle.wp_gatelog.specs.Moments.{Leaves}
-use Rattle.wp_gatelog.proofs.DurabilityLemmas.{lasts_on, sync_lasts}
+use Rattle.wp_gatelog.proofs.DurabilityLemmas.{preserves_on, sync_preserves}
 use Rattle.wp_gatelog.proofs.open.find.Goals as goal
 
 pub returns-clause-passed : goal.returns-clause-passed
@@ -24,8 +24,8 @@ pub returns-clause-refused : goal.returns-clause-refused
 returns-clause-refused g c =
     synced_refused c.open_synced.result (λ (why : LogError) (bytes : List ℕ). IsRefused c.args.magic bytes why) _ _ c.in_ok-sync.ensures.done c.open_synced.ensures.refused
 
-pub returns-clause-lasts : goal.returns-clause-lasts
-returns-clause-lasts g c = λ other records.
+pub returns-clause-durable : goal.returns-clause-durable
+returns-clause-durable g c = λ other records.
     let synced = synced_bytes _ _ c.in_ok-sync.ensures.done in
     let P = HasAcknowledged c.args.magic other records in
-    lasts_on (Leaves P) _ _ _ (sync_lasts P _ _ (g.met.D.Disk.itself c.args.disk.now) c.in_ok-sync.ensures.done) (c.open_synced.ensures.lasts synced.0 synced.1 other records)
+    preserves_on (Leaves P) _ _ _ (sync_preserves P _ _ (g.met.D.Disk.itself c.args.disk.now) c.in_ok-sync.ensures.done) (c.open_synced.ensures.durable synced.0 synced.1 other records)

@@ -1,6 +1,6 @@
 use Rattle.std.proofs.Common.{inl, ◌+◌, ◌∷◌, [], ◌++◌, length, arith}
 use Rattle.wp_gatelog.proofs.AppendLemmas.{append_rests, fits_frame}
-use Rattle.wp_gatelog.proofs.HoldsLemmas.{append_lasts, append_holds}
+use Rattle.wp_gatelog.proofs.AcknowledgedLemmas.{append_preserves, append_acknowledged}
 use Rattle.wp_gatelog.proofs.SurvivalLemmas.{append_passes, left_before_or_after, rest_spells}
 use Rattle.wp_gatelog.proofs.log.GateLog.append.Goals as goal
 
@@ -33,22 +33,22 @@ returns-in-Ok-clause-spelled g c = rw (← c.self.view_is) (λ magic records byt
 pub returns-then-self-clause-left : goal.returns-then-self-clause-left
 returns-then-self-clause-left g c = λ magic records bytes is rest image h. inl (rest_spells magic _ _ records _ rest image h)
 
-pub returns-in-Ok-clause-lasts : goal.returns-in-Ok-clause-lasts
-returns-in-Ok-clause-lasts g c = rw (← c.self.view_is) (λ magic id records others rest.
-    append_lasts magic id c.self.inside.id c.self.inside.end records others c.requires.0 _ _ (λ front. c.append_frame.ensures.passed front c.requires.0 c.requires.1) (rest c.if-self.false)
-    (λ gated each ends told. c.append_frame.ensures.lasts magic c.self.inside.id gated each ends told id records))
+pub returns-in-Ok-clause-durable : goal.returns-in-Ok-clause-durable
+returns-in-Ok-clause-durable g c = rw (← c.self.view_is) (λ magic id records others rest.
+    append_preserves magic id c.self.inside.id c.self.inside.end records others c.requires.0 _ _ (λ front. c.append_frame.ensures.passed front c.requires.0 c.requires.1) (rest c.if-self.false)
+    (λ gated each ends known. c.append_frame.ensures.durable magic c.self.inside.id gated each ends known id records))
 
-pub returns-in-Ok-clause-holds : goal.returns-in-Ok-clause-holds
-returns-in-Ok-clause-holds g c = rw (← c.self.view_is) (λ magic records rest.
-    append_holds magic c.self.inside.id c.self.inside.end records c.requires.0 _ _ (λ front. c.append_frame.ensures.passed front c.requires.0 c.requires.1) rest
-    (λ gated each ends told. c.append_frame.ensures.lasts magic c.self.inside.id gated each ends told c.self.inside.id records))
+pub returns-in-Ok-clause-acknowledged : goal.returns-in-Ok-clause-acknowledged
+returns-in-Ok-clause-acknowledged g c = rw (← c.self.view_is) (λ magic records rest.
+    append_acknowledged magic c.self.inside.id c.self.inside.end records c.requires.0 _ _ (λ front. c.append_frame.ensures.passed front c.requires.0 c.requires.1) rest
+    (λ gated each ends known. c.append_frame.ensures.durable magic c.self.inside.id gated each ends known c.self.inside.id records))
 
-pub returns-in-Err-clause-lasts : goal.returns-in-Err-clause-lasts
-returns-in-Err-clause-lasts g c = rw (← c.self.view_is) (λ magic id records others rest.
-    append_lasts magic id c.self.inside.id c.self.inside.end records others c.requires.0 _ _ (λ front. c.append_frame.ensures.passed front c.requires.0 c.requires.1) (rest c.if-self.false)
-    (λ gated each ends told. c.append_frame.ensures.lasts magic c.self.inside.id gated each ends told id records))
+pub returns-in-Err-clause-durable : goal.returns-in-Err-clause-durable
+returns-in-Err-clause-durable g c = rw (← c.self.view_is) (λ magic id records others rest.
+    append_preserves magic id c.self.inside.id c.self.inside.end records others c.requires.0 _ _ (λ front. c.append_frame.ensures.passed front c.requires.0 c.requires.1) (rest c.if-self.false)
+    (λ gated each ends known. c.append_frame.ensures.durable magic c.self.inside.id gated each ends known id records))
 
-pub returns-in-Err-clause-holds : goal.returns-in-Err-clause-holds
-returns-in-Err-clause-holds g c = rw (← c.self.view_is) (λ magic records rest.
-    append_holds magic c.self.inside.id c.self.inside.end records c.requires.0 _ _ (λ front. c.append_frame.ensures.passed front c.requires.0 c.requires.1) rest
-    (λ gated each ends told. c.append_frame.ensures.lasts magic c.self.inside.id gated each ends told c.self.inside.id records))
+pub returns-in-Err-clause-acknowledged : goal.returns-in-Err-clause-acknowledged
+returns-in-Err-clause-acknowledged g c = rw (← c.self.view_is) (λ magic records rest.
+    append_acknowledged magic c.self.inside.id c.self.inside.end records c.requires.0 _ _ (λ front. c.append_frame.ensures.passed front c.requires.0 c.requires.1) rest
+    (λ gated each ends known. c.append_frame.ensures.durable magic c.self.inside.id gated each ends known c.self.inside.id records))
