@@ -2,15 +2,14 @@
 use Rattle.std.proofs.Common.{◌≡◌, ◌≢◌, inl, inr, ℕ, ◌+◌, List, [], ◌∷◌, ◌++◌, length, refl, sym, ◌∙◌, ap, subst, arith, length-append}
 use Rattle.std.proofs.lemmas.List.{append-nil, append_assoc, map-append}
 use Rattle.wp_outside.specs.Disk.{Moment, IsImage, IfKnown, settled, after_write, Each, Passes}
-use Rattle.wp_gatelog.specs.Durability.{Preserves, HasAcknowledged, Spares}
+use Rattle.wp_gatelog.specs.Durability.{HasAcknowledged, Spares, LosesNoRecord}
 use Rattle.wp_gatelog.specs.Log.{IsAcknowledged, IsAtRest, last_gate}
 use Rattle.wp_gatelog.specs.Repair.{HasFront, Reopens}
 use Rattle.wp_gatelog.specs.Moments.{Leaves}
 use Rattle.wp_gatelog.specs.Spelling.{Gated, IsOpen, framed, identity, all_gated, log_of, records_of, IsUnmade, Spells}
-use Rattle.wp_gatelog.proofs.AppendLemmas.{AppendGoes, append_unknown}
 use Rattle.wp_gatelog.proofs.DurabilityLemmas.{preserves_passes}
 use Rattle.wp_gatelog.proofs.LawLemmas.{made}
-use Rattle.wp_gatelog.proofs.RepairLemmas.{log_longer}
+use Rattle.wp_gatelog.proofs.AppendLemmas.{log_longer}
 use Rattle.wp_gatelog.proofs.MomentLemmas.{image_of_settled, image_after, image_of_gate, known_map}
 use Rattle.wp_gatelog.proofs.ParseLemmas.{same_parts, same_framed, first_split, length-identities}
 
@@ -170,21 +169,9 @@ acknowledged_first bytes magic id other records others has (inr w) =
           ∙ append_assoc records front.more (records_of front.rest),
     )
 
--- ---- an append
-
--- how it lasts from a log at rest
-abbrev pub AppendPreserves : List ℕ → ℕ → ℕ → (Moment → Type 0) → List Moment → List Moment → Type 0
-AppendPreserves magic id end P old new =
-    (gated : List Gated) → Each IsOpen gated → end ≡ length (log_of magic id 1 gated) → IfKnown old (λ m. m ≡ settled (log_of magic id 1 gated ++ 0 ∷ [])) → Preserves P old new
-
-pub append_preserves : (magic : List ℕ) (id other end : ℕ) (records others : List (List ℕ)) (bytes : List ℕ) (old new : List Moment) → AppendGoes end bytes old new → IfKnown old (IsAtRest magic other end others)
-    → AppendPreserves magic other end (Leaves (HasAcknowledged magic id records)) old new → Preserves (Leaves (HasAcknowledged magic id records)) old new
-append_preserves magic id other end records others bytes [] new goes rest durable = ([], append_unknown end bytes new goes, tt)
-append_preserves magic id other end records others bytes (m ∷ past) new goes rest durable = durable rest.gated rest.acknowledged.gates_open rest.place rest.on_disk
-
-pub append_acknowledged : (magic : List ℕ) (id end : ℕ) (records : List (List ℕ)) (bytes : List ℕ) (old new : List Moment) → AppendGoes end bytes old new → IfKnown old (IsAtRest magic id end records)
-    → AppendPreserves magic id end (Leaves (HasAcknowledged magic id records)) old new → Passes (Leaves (HasAcknowledged magic id records)) old new
-append_acknowledged magic id end records bytes old new goes rest durable =
+-- at each moment since a log was at rest, a crash leaves its records acknowledged
+pub acknowledged_passes : (magic : List ℕ) (id end : ℕ) (records : List (List ℕ)) (old new : List Moment) → IfKnown old (IsAtRest magic id end records) → LosesNoRecord magic old new
+    → Passes (Leaves (HasAcknowledged magic id records)) old new
+acknowledged_passes magic id end records old new rest durable =
     let P : Moment → Type 0 = Leaves (HasAcknowledged magic id records) in
-    preserves_passes P old new (known_map (IsAtRest magic id end records) P (rest_acknowledged magic id end records) old rest)
-    (append_preserves magic id id end records records bytes old new goes rest durable)
+    preserves_passes P old new (known_map (IsAtRest magic id end records) P (rest_acknowledged magic id end records) old rest) (durable id records)

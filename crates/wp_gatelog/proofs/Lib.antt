@@ -1,4 +1,6 @@
 pub mod AppendLemmas
+pub mod ChangeLemmas
+pub mod FrameLemmas
 pub mod HeadLemmas
 pub mod AcknowledgedLemmas
 pub mod DurabilityLemmas

@@ -2,7 +2,7 @@
 use Rattle.std.proofs.Common.{◌≡◌, inl, inr, ℕ, zero, suc, ◌+◌, ◌≤◌, max, List, [], ◌∷◌, ◌++◌, map, length, take, drop, Option, None, Some, Result, Ok, Err, OnOk, OnErr, refl, sym, ◌∙◌, ap, subst, arith, length-append, length-drop, length-take}
 use Rattle.std.proofs.lemmas.List.{append-nil, append_assoc, drop_all, take-map, take_at, length-map}
 use Rattle.wp_outside.specs.Disk.{Moment, Matches, IsImage, settled, put, hide, hide_at, after_write, after_cut, after_sync, IfKnown, added, Tears, Each, Passes, images}
-use Rattle.wp_gatelog.specs.Moments.{Leaves, Within, Goes}
+use Rattle.wp_gatelog.specs.Moments.{Leaves, Goes}
 
 -- ---- moments, one after another
 
@@ -109,22 +109,22 @@ cut_reads_image len before =
 -- ---- one step and its sync, from a disk that has all of its bytes for good
 
 module _ (step : Moment → Moment) (before : List ℕ) where
-  within_step : (m : Moment) → m ≡ settled before → Within (step (settled before)) (step m)
+  within_step : (m : Moment) → m ≡ settled before → Leaves (IsImage (step (settled before))) (step m)
   within_step m is image h = subst (λ (n : Moment). IsImage (step n) image) is h
 
-  pub torn_goes : (old new : List Moment) → IfKnown old (λ m. m ≡ settled before) → Tears step old new → Goes (Within (step (settled before))) old new
+  pub torn_goes : (old new : List Moment) → IfKnown old (λ m. m ≡ settled before) → Tears step old new → Goes (Leaves (IsImage (step (settled before)))) old new
   torn_goes [] new known torn = elim torn [ inl same ↦ same | inr w ↦ w.1 ]
   torn_goes (m ∷ past) new known torn = elim torn [
     | inl same ↦ ([], same, tt)
     | inr w ↦ (record (step m) { reads = w.0 } ∷ [], w.1, (λ image h. within_step m known image h, tt))
   ]
 
-  pub step_goes : (old new : List Moment) → IfKnown old (λ m. m ≡ settled before) → new ≡ added step old → Goes (Within (step (settled before))) old new
+  pub step_goes : (old new : List Moment) → IfKnown old (λ m. m ≡ settled before) → new ≡ added step old → Goes (Leaves (IsImage (step (settled before)))) old new
   step_goes [] new known adds = adds
   step_goes (m ∷ past) new known adds = (step m ∷ [], adds, (within_step m known, tt))
 
   -- the step was made, and then a sync, or not
-  pub synced_goes : {T E : Type 0} (old mid new : List Moment) (result : Result T E) → IsImage (step (settled before)) (step (settled before)).reads → IfKnown old (λ m. m ≡ settled before) → mid ≡ added step old → OnOk result (new ≡ added after_sync mid) → OnErr result (new ≡ mid) → Goes (Within (step (settled before))) old new
+  pub synced_goes : {T E : Type 0} (old mid new : List Moment) (result : Result T E) → IsImage (step (settled before)) (step (settled before)).reads → IfKnown old (λ m. m ≡ settled before) → mid ≡ added step old → OnOk result (new ≡ added after_sync mid) → OnErr result (new ≡ mid) → Goes (Leaves (IsImage (step (settled before)))) old new
   synced_goes [] mid new (Ok x) reads known adds syncs kept = subst (λ (l : List Moment). new ≡ added after_sync l) adds syncs
   synced_goes [] mid new (Err e) reads known adds syncs kept = kept ∙ adds
   synced_goes (m ∷ past) mid new (Ok x) reads known adds syncs kept =

@@ -8,8 +8,8 @@ use Rattle.wp_gatelog.specs.Repair.{HasFront, IsRepaired}
 use Rattle.wp_gatelog.specs.Moments.{Leaves, Goes}
 use Rattle.wp_gatelog.specs.Opening.{HasMost, Survives, Repairs, SurvivesThrough}
 use Rattle.wp_gatelog.specs.Spelling.{Gated, IsOpen, framed, identity, all_gated, log_of, records_of, IsUnmade, Spells}
-use Rattle.wp_gatelog.proofs.AppendLemmas.{AppendGoes, append_unknown, records_more, log_more}
-use Rattle.wp_gatelog.proofs.RepairLemmas.{each_but_last, log_longer}
+use Rattle.wp_gatelog.proofs.AppendLemmas.{records_more, log_more, log_longer}
+use Rattle.wp_gatelog.proofs.RepairLemmas.{each_but_last}
 use Rattle.wp_gatelog.proofs.MomentLemmas.{goes_map, left_now, image_of_settled}
 
 -- ---- gates of any byte
@@ -93,11 +93,6 @@ pub left_before_or_after : (magic : List ℕ) (id end : ℕ) (records : List (Li
 left_before_or_after magic id end records bytes old new rest passes =
     left_now (BeforeOrAfter magic id records bytes) old new (λ image h. inl (rest_spells magic id end records old rest image h)) passes
 
--- an append passes such moments
-pub append_passes : (magic : List ℕ) (id end : ℕ) (records : List (List ℕ)) (bytes : List ℕ) (old new : List Moment) → AppendGoes end bytes old new → IfKnown old (IsAtRest magic id end records)
-    → Passes (Leaves (BeforeOrAfter magic id records bytes)) old new
-append_passes magic id end records bytes [] new goes rest = ([], append_unknown end bytes new goes, tt)
-append_passes magic id end records bytes (m ∷ past) new goes rest =
-    goes_map (Leaves (Grows (log_of magic id 1 rest.gated) bytes)) (Leaves (BeforeOrAfter magic id records bytes))
-    (λ n leaves image h. before_or_after magic id records bytes rest.gated rest.acknowledged image (leaves image h))
-    (m ∷ past) new (goes (log_of magic id 1 rest.gated) rest.place rest.on_disk)
+pub goes_passes : (P : Moment → Type 0) (old new : List Moment) → Goes P old new → Passes P old new
+goes_passes P [] new goes = ([], goes, tt)
+goes_passes P (m ∷ past) new goes = goes

@@ -7,7 +7,6 @@ pub record LogState : Type 0 where
   pub moments : List Moment  -- its disk's
   pub faults : ℕ  -- its disk's
   pub id : ℕ
-  pub found : List (List ℕ)  -- the records at opening
   pub count : ℕ  -- of the records, those that were appended since too
   pub end : ℕ  -- the place of the gate that ends it
   pub closed : Bool  -- an append has failed

@@ -46,9 +46,9 @@ pub record HasRead (bytes rest : List ℕ) (records : List (List ℕ)) (last : O
   pub last_is : IsLast last gated
 
 -- why the records of the bytes behind the head can't be read
-abbrev pub IsReadFault : List ℕ → LogError → Type 0
-IsReadFault bytes error.Memory = ⊤
-IsReadFault bytes error.DiskFault = ⊤
-IsReadFault bytes error.BadHead = ⊥
-IsReadFault bytes (error.Cut index) = (gated : List Gated) × (gate : ℕ) × (following : List ℕ) × Each IsOpen gated
+abbrev pub IsReadFault : ℕ → List ℕ → LogError → Type 0
+IsReadFault id bytes error.Memory = ⊤
+IsReadFault id bytes error.DiskFault = ⊤
+IsReadFault id bytes error.BadHead = ⊥
+IsReadFault id bytes (error.Cut index named) = (named ≡ id) × (gated : List Gated) × (gate : ℕ) × (following : List ℕ) × Each IsOpen gated
     × (length gated ≡ index) × (gate ≢ 0) × IsShort following × (bytes ≡ all_gated gated ++ gate ∷ following)

@@ -44,13 +44,18 @@ pub enum Start {
 }
 
 /// Reads the records behind the head of a log with so many bytes, up to the first closed gate.
-pub fn read_records<D: Disk>(alloc: Global, disk: &mut D, len: u64) -> Result<Scan, LogError>
+pub fn read_records<D: Disk>(
+    alloc: Global,
+    disk: &mut D,
+    len: u64,
+    id: u32,
+) -> Result<Scan, LogError>
     requires within { 10 < len }
     requires bounded { len ≤ 2 ^ 62 }
     ensures found { IfOk result (λ scan. IfKnown (D.moments disk.old) (λ m. len ≡ length m.reads
         → (following : List ℕ) × HasRead (drop 10 m.reads) (0 ∷ following) scan.records.items scan.last scan.end)) }
     ensures refused { IfErr result (λ why. IfKnown (D.moments disk.old) (λ m. len ≡ length m.reads
-        → IsReadFault (drop 10 m.reads) why)) }
+        → IsReadFault id (drop 10 m.reads) why)) }
     ensures places { IfOk result (λ scan. (vec_len scan.records ≤ scan.end) × (scan.end < len)) }
     ensures kept { D.moments disk.new ≡ D.moments disk.old }
     ensures fault { IfErr result (FaultRose (D.faults disk.old) (D.faults disk.new)) }
@@ -64,6 +69,7 @@ pub fn read_records<D: Disk>(alloc: Global, disk: &mut D, len: u64) -> Result<Sc
             Next::Closed => return Ok(Scan { records, last, end }),
             Next::Cut => return Err(LogError::Cut {
                 index: records.len() as u64,
+                id,
             }),
             Next::Open { gate, record } => {
                 last = Some(GateByte {
