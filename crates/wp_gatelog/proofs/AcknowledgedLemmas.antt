@@ -1,4 +1,4 @@
--- The records that bytes hold, while the log in them is changed.
+-- The records that bytes have acknowledged, while the log in them is changed.
 use Rattle.std.proofs.Common.{◌≡◌, ◌≢◌, inl, inr, ℕ, ◌+◌, List, [], ◌∷◌, ◌++◌, length, refl, sym, ◌∙◌, ap, subst, arith, length-append}
 use Rattle.std.proofs.lemmas.List.{append-nil, append_assoc, map-append}
 use Rattle.wp_outside.specs.Disk.{Moment, IsImage, IfKnown, settled, after_write, Each, Passes}
@@ -27,7 +27,7 @@ log_append magic id head front rest tail =
     ∙ ap (λ (l : List ℕ). identity magic id ++ l) (all_gated_append front rest tail)
     ∙ sym (append_assoc (identity magic id) (all_gated front) (all_gated rest ++ tail)))
 
--- open gates with their records stand before a closed one
+-- open gates with their records come before a closed one
 front_gated : (gs hs : List Gated) (t u : List ℕ) → Each IsOpen gs → Each IsOpen hs → all_gated gs ++ t ≡ all_gated hs ++ 0 ∷ u → (rest : List Gated) × (hs ≡ gs ++ rest)
 front_gated [] hs t u eg eh is = (hs, refl)
 front_gated (g ∷ gs) [] t u eg eh is = absurd (eg.0.gate (cc is))
@@ -39,9 +39,9 @@ front_gated (g ∷ gs) (h ∷ hs) t u eg eh is =
     let rest = front_gated gs hs t u eg.1 eh.1 bytes.1 in
     (rest.0, λ i. record { gate = gate i; bytes = sym bytes.0 i } ∷ rest.1 i)
 
--- ---- held records in a log
+-- ---- acknowledged records in a log
 
--- the held records are the first of a log, and its head's gate is 01
+-- the acknowledged records are the first of a log, and its head's gate is 01
 record BeginsWith (magic : List ℕ) (id other head : ℕ) (records : List (List ℕ)) (gated : List Gated) : Type 0 where
   front : List Gated
   more : List (List ℕ)
@@ -65,7 +65,7 @@ first_byte : (front : List ℕ) (gate : ℕ) (tail : List ℕ) → (byte : ℕ) 
 first_byte [] gate tail = (gate, tail, refl)
 first_byte (b ∷ front) gate tail = (b, front ++ gate ∷ tail, refl)
 
--- whatever gate stands behind the log, it holds them
+-- whatever gate follows the log, they are acknowledged
 still_acknowledged : (magic : List ℕ) (id other head : ℕ) (records : List (List ℕ)) (gated : List Gated) (gate : ℕ) (tail image : List ℕ) → BeginsWith magic id other head records gated → image ≡ log_of magic other head gated ++ gate ∷ tail → HasAcknowledged magic id records image
 still_acknowledged magic id other head records gated gate tail image front is =
     let next = first_byte (all_gated front.rest) gate tail in
@@ -83,7 +83,7 @@ still_acknowledged magic id other head records gated gate tail image front is =
 
 -- ---- changes that spare them
 
--- a change of the gate that ends the log and of what stands behind it
+-- a change of the gate that ends the log and of what follows it
 spares_rest : (magic : List ℕ) (id other head : ℕ) (records : List (List ℕ)) (gated : List Gated) (following : List ℕ) → Each IsOpen gated
     → Spares magic id records (log_of magic other head gated ++ 0 ∷ following) (λ image. (gate : ℕ) × (tail : List ℕ) × (image ≡ log_of magic other head gated ++ gate ∷ tail))
 spares_rest magic id other head records gated following each has image h =
@@ -93,7 +93,7 @@ pub spares_cut : (magic : List ℕ) (id other head : ℕ) (records : List (List 
     → Spares magic id records (log_of magic other head gated ++ 0 ∷ following) (HasFront (log_of magic other head gated))
 spares_cut magic id other head records gated following each has image h = spares_rest magic id other head records gated following each has image (0, h.0, h.1)
 
--- a write behind that gate
+-- a write after that gate
 pub spares_frame : (magic : List ℕ) (id other : ℕ) (records : List (List ℕ)) (gated : List Gated) (at : ℕ) (frame : List ℕ) → Each IsOpen gated → at ≡ length (log_of magic other 1 gated) + 1
     → Spares magic id records (log_of magic other 1 gated ++ 0 ∷ []) (IsImage (after_write at frame (settled (log_of magic other 1 gated ++ 0 ∷ []))))
 spares_frame magic id other records gated at frame each place has image h =
@@ -108,7 +108,7 @@ spares_gate magic id other records gated at following each place has image h =
     let found = image_of_gate (log_of magic other 1 gated) at 0 following image place h in
     spares_rest magic id other 1 records gated following each has image (found.0, following ++ found.1, found.2)
 
--- where the head's gate is not 01, no records are held
+-- where the head's gate is not 01, no records are acknowledged
 pub spares_head : (magic : List ℕ) (id head : ℕ) (records : List (List ℕ)) (following : List ℕ) → Spares magic id records (head ∷ following) (Reopens [] head following)
 spares_head magic id head records following has image h =
     let is = has.spelling in
@@ -128,7 +128,7 @@ without_last first (b ∷ before) (h ∷ front) rest last odd one is =
     let others = without_last h.gate before front rest last odd one following in
     (others.0, λ i. same i ∷ others.1 i)
 
--- a last record whose gate is not 01 is not held
+-- a last record whose gate is not 01 is not acknowledged
 pub spares_last : (magic : List ℕ) (id other : ℕ) (records : List (List ℕ)) (before : List Gated) (gate : ℕ) (bytes : List ℕ) → Each IsOpen (before ++ record { gate = gate; bytes = bytes } ∷ [])
     → Spares magic id records (log_of magic other 1 before ++ gate ∷ (framed bytes ++ 0 ∷ [])) (Reopens (log_of magic other 1 before) gate (framed bytes ++ 0 ∷ []))
 spares_last magic id other records before gate bytes each has image h =
@@ -145,7 +145,7 @@ acknowledged_made : (magic : List ℕ) (id : ℕ) (records : List (List ℕ)) (b
 acknowledged_made magic id records bytes has =
     made 1 ((identity magic id ++ all_gated has.gated) ++ has.gate ∷ has.rest) bytes (omega (arith, length-append (identity magic id ++ all_gated has.gated) (has.gate ∷ has.rest))) (λ e. cc e) has.spelling
 
--- where no log was made, no records are held
+-- where no log was made, no records are acknowledged
 pub spares_unmade : (magic : List ℕ) (id : ℕ) (records : List (List ℕ)) (bytes : List ℕ) (P : List ℕ → Type 0) → IsUnmade bytes → Spares magic id records bytes P
 spares_unmade magic id records bytes P unmade has image h = absurd (acknowledged_made magic id records bytes has unmade)
 
@@ -159,7 +159,7 @@ rest_acknowledged magic id end records m rest image h = record {
   spelling = image_of_settled (log_of magic id 1 rest.gated ++ 0 ∷ []) image (subst (λ (n : Moment). IsImage n image) rest.on_disk h);
 }
 
--- held records are the first of those that are spelled
+-- acknowledged records are the first of those that are spelled
 pub acknowledged_first : (bytes magic : List ℕ) (id other : ℕ) (records others : List (List ℕ)) → HasAcknowledged magic id records bytes → Spells bytes magic other others → (more : List (List ℕ)) × (others ≡ records ++ more)
 acknowledged_first bytes magic id other records others has (inl none) = absurd (acknowledged_made magic id records bytes has none.0)
 acknowledged_first bytes magic id other records others has (inr w) =

@@ -13,7 +13,7 @@ unfolding framed
 length-framed bytes = length-append (to_be_bytes w64 (length bytes)) bytes
 
 -- a record that was written is not longer than a disk
-pub fits_frame : (frame bytes : List ℕ) → frame ≡ frame_of bytes → length frame ≤ 2 ^ 62 → length bytes < 2 ^ 64
+fits_frame : (frame bytes : List ℕ) → frame ≡ frame_of bytes → length frame ≤ 2 ^ 62 → length bytes < 2 ^ 64
 fits_frame frame bytes is bounded = omega (arith, ap length is, length-append (framed bytes) (0 ∷ []), length-framed bytes)
 
 pub fits_disk : (at : ℕ) (frame bytes : List ℕ) → frame ≡ frame_of bytes → write_end at frame ≤ 2 ^ 62 → length bytes < 2 ^ 64
@@ -70,7 +70,7 @@ log_longer magic id head before gate found more image is =
     is ∙ sym (append_assoc (log_of magic id head before) (gate ∷ framed found) (0 ∷ more)) ∙ ap (λ (l : List ℕ). l ++ 0 ∷ more) (sym (log_more magic id head before gate found))
 
 -- the acknowledged records with the new one
-pub acknowledged_more : (gated : List Gated) (records : List (List ℕ)) (bytes : List ℕ) → length bytes < 2 ^ 64 → IsAcknowledged gated records → IsAcknowledged (gated ++ record { gate = 1; bytes = bytes } ∷ []) (records ++ bytes ∷ [])
+acknowledged_more : (gated : List Gated) (records : List (List ℕ)) (bytes : List ℕ) → length bytes < 2 ^ 64 → IsAcknowledged gated records → IsAcknowledged (gated ++ record { gate = 1; bytes = bytes } ∷ []) (records ++ bytes ∷ [])
 acknowledged_more gated records bytes fits acknowledged = record {
   gates_open = records_more gated 1 bytes acknowledged.gates_open (record { gate = (λ e. cc e); length_fits = fits });
   last = last_gate_more 1 gated 1 bytes;

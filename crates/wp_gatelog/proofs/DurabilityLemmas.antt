@@ -1,4 +1,4 @@
--- What lasts from one moment to the next.
+-- What is durable from one moment to the next.
 use Rattle.std.proofs.Common.{◌≡◌, inl, inr, ℕ, List, [], ◌∷◌, ◌++◌, Result, Ok, Err, OnOk, OnErr, refl, sym, ◌∙◌, subst, arith}
 use Rattle.std.proofs.lemmas.List.{append_assoc}
 use Rattle.wp_outside.specs.Disk.{Moment, IsImage, settled, after_sync, IfKnown, added, Tears, Each, Passes, ReadsItself}
@@ -18,11 +18,6 @@ preserves_on P old mid new first second =
     let later : Preserves P (first.0 ++ old) new = subst (λ (ms : List Moment). Preserves P ms new) first.1 second in
     (later.0 ++ first.0, later.1 ∙ sym (append_assoc later.0 first.0 old), passed_on_from P old first.0 later.0 later.2 first.2)
 
--- of a disk that tells nothing, nothing is owed but that it still tells nothing
-pub preserves_known : (P Q : Moment → Type 0) (old new : List Moment) → (old ≡ [] → new ≡ []) → IfKnown old Q → ((m : Moment) → Q m → Preserves P old new) → Preserves P old new
-preserves_known P Q [] new unknown known durable = ([], unknown refl, tt)
-preserves_known P Q (m ∷ past) new unknown known durable = durable m known
-
 each_passed_on : (P : Moment → Type 0) (old more : List Moment) → IfKnown old P → PassedOn P old more → Each P more × IfKnown (more ++ old) P
 each_passed_on P old [] before passed = (tt, before)
 each_passed_on P old (m ∷ more) before passed =
@@ -30,7 +25,7 @@ each_passed_on P old (m ∷ more) before passed =
     let here = passed.0 rest.1 in
     ((here, rest.0), here)
 
--- what holds before, and lasts, holds at each moment
+-- what is so before, and durable, is so at each moment
 pub preserves_passes : (P : Moment → Type 0) (old new : List Moment) → IfKnown old P → Preserves P old new → Passes P old new
 preserves_passes P old new before durable = (durable.0, durable.1, (each_passed_on P old durable.0 before durable.2).0)
 

@@ -59,7 +59,7 @@ spelled_or_cut bytes magic id index records (inr a) b =
 
 -- ---- a head
 
--- what stands at the places of the head's fields
+-- what is at the places of the head's fields
 pub record HasFields (magic bytes : List ℕ) : Type 0 where
   pub size : 11 ≤ length bytes
   pub magic_is : take 4 (drop 1 bytes) ≡ magic

@@ -28,7 +28,7 @@ pub goes_map : (P Q : Moment → Type 0) → ((m : Moment) → P m → Q m) → 
 goes_map P Q f [] new goes = goes
 goes_map P Q f (m ∷ past) new goes = (goes.0, goes.1, each_map P Q f goes.0 goes.2)
 
--- what holds of what a crash left before, and at each moment since, holds of what it leaves now
+-- what is so of all that a crash left before, and at each moment since, is so of what it leaves now
 pub left_now : (P : List ℕ → Type 0) (old new : List Moment) → ((image : List ℕ) → images old image → P image) → Passes (Leaves P) old new → (image : List ℕ) → images new image → P image
 left_now P old new before passes = from passes.0 passes.1 passes.2
   where
@@ -36,7 +36,7 @@ left_now P old new before passes = from passes.0 passes.1 passes.2
     from [] is each image h = before image (subst (λ (ms : List Moment). images ms image) is h)
     from (m ∷ more) is each image h = each.0 image (subst (λ (ms : List Moment). images ms image) is h)
 
--- ---- a disk that tells
+-- ---- a disk that is known
 
 pub known_map : (P Q : Moment → Type 0) → ((m : Moment) → P m → Q m) → (ms : List Moment) → IfKnown ms P → IfKnown ms Q
 known_map P Q f [] known = tt
@@ -45,19 +45,6 @@ known_map P Q f (m ∷ past) known = f m known
 pub known_both : (P Q R : Moment → Type 0) → ((m : Moment) → P m → Q m → R m) → (ms : List Moment) → IfKnown ms P → IfKnown ms Q → IfKnown ms R
 known_both P Q R f [] p q = tt
 known_both P Q R f (m ∷ past) p q = f m p q
-
-pub known_three : (P Q R S : Moment → Type 0) → ((m : Moment) → P m → Q m → R m → S m) → (ms : List Moment) → IfKnown ms P → IfKnown ms Q → IfKnown ms R → IfKnown ms S
-known_three P Q R S f [] p q r = tt
-known_three P Q R S f (m ∷ past) p q r = f m p q r
-
--- of a disk that tells nothing, nothing is owed but that it still tells nothing
-pub known_goes : (P Q : Moment → Type 0) (old new : List Moment) → (old ≡ [] → new ≡ []) → IfKnown old Q → ((m : Moment) → Q m → Goes P old new) → Goes P old new
-known_goes P Q [] new unknown known goes = unknown refl
-known_goes P Q (m ∷ past) new unknown known goes = goes m known
-
-pub known_new : (Q R : Moment → Type 0) (old new : List Moment) → (old ≡ [] → new ≡ []) → IfKnown old Q → ((m : Moment) → Q m → IfKnown new R) → IfKnown new R
-known_new Q R [] new unknown known rests = subst (λ (ms : List Moment). IfKnown ms R) (sym (unknown refl)) tt
-known_new Q R (m ∷ past) new unknown known rests = rests m known
 
 pub known_as : (ms : List Moment) (x y : List ℕ) → x ≡ y → IfKnown ms (λ m. m ≡ settled x) → IfKnown ms (λ m. m ≡ settled y)
 known_as ms x y is known = subst (λ (z : List ℕ). IfKnown ms (λ m. m ≡ settled z)) is known
@@ -69,7 +56,7 @@ matches_self [] = tt
 matches_self (x ∷ xs) = (refl, matches_self xs)
 
 -- an image begins with what is sure, and its rest matches the rest
-pub matches_front : (xs : List ℕ) (sure : List (Option ℕ)) (c : List ℕ) → Matches (map (λ b. Some b) xs ++ sure) c → (d : List ℕ) × (c ≡ xs ++ d) × Matches sure d
+matches_front : (xs : List ℕ) (sure : List (Option ℕ)) (c : List ℕ) → Matches (map (λ b. Some b) xs ++ sure) c → (d : List ℕ) × (c ≡ xs ++ d) × Matches sure d
 matches_front [] sure c h = (c, refl, h)
 matches_front (x ∷ xs) sure [] h = absurd h
 matches_front (x ∷ xs) sure (b ∷ c) h =
@@ -97,7 +84,7 @@ length-put zero bytes old = omega (arith, length-append bytes (drop (length byte
 length-put (suc at) bytes [] = omega (arith, length-put at bytes [])
 length-put (suc at) bytes (x ∷ old) = omega (arith, length-put at bytes old)
 
--- what a read gives behind a write or a cut is one of the images
+-- what a read gives after a write or a cut is one of the images
 pub write_reads_image : (at : ℕ) (bytes before : List ℕ) → IsImage (after_write at bytes (settled before)) (after_write at bytes (settled before)).reads
 write_reads_image at [] before = (matches_self before, omega arith)
 write_reads_image at (b ∷ bytes) before = (hide_put at (b ∷ bytes) before, length-put at (b ∷ bytes) before)
@@ -119,7 +106,7 @@ module _ (step : Moment → Moment) (before : List ℕ) where
     | inr w ↦ (record (step m) { reads = w.0 } ∷ [], w.1, (λ image h. within_step m known image h, tt))
   ]
 
-  pub step_goes : (old new : List Moment) → IfKnown old (λ m. m ≡ settled before) → new ≡ added step old → Goes (Leaves (IsImage (step (settled before)))) old new
+  step_goes : (old new : List Moment) → IfKnown old (λ m. m ≡ settled before) → new ≡ added step old → Goes (Leaves (IsImage (step (settled before)))) old new
   step_goes [] new known adds = adds
   step_goes (m ∷ past) new known adds = (step m ∷ [], adds, (within_step m known, tt))
 
@@ -148,7 +135,7 @@ hide_past zero n (x ∷ sure) le = absurd (omega arith)
 hide_past (suc at) n [] le = refl
 hide_past (suc at) n (x ∷ sure) le = ap (λ (s : List (Option ℕ)). x ∷ s) (hide_past at n sure (omega arith))
 
--- bytes written behind all others leave those as they are
+-- bytes written after all others leave those as they are
 pub image_after : (front : List ℕ) (at : ℕ) (bytes image : List ℕ) → at ≡ length front → IsImage (after_write at bytes (settled front)) image → (d : List ℕ) × (image ≡ front ++ d)
 image_after front at [] image is h = ([], image_of_settled front image h ∙ sym (append-nil front))
 image_after front at (b ∷ bytes) image is h =
@@ -174,7 +161,7 @@ image_of_gate front at gate following image is h =
     let rest = matches_front front (None ∷ map (λ b. Some b) following) image (subst (λ (s : List (Option ℕ)). Matches s image) (hide_gate front gate following) found) in
     any_gate front following rest.0 image rest.1 rest.2
 
--- a cut leaves what stands before it
+-- a cut leaves what is before it
 pub image_of_cut : (kept rest image : List ℕ) (len : ℕ) → len ≡ length kept → IsImage (after_cut len (settled (kept ++ rest))) image → (d : List ℕ) × (image ≡ kept ++ d)
 image_of_cut kept rest image len is h =
     let known : take len (map (λ b. Some b) (kept ++ rest)) ≡ map (λ b. Some b) kept ++ [] =

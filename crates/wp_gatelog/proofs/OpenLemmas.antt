@@ -29,7 +29,7 @@ known_at P ms past m is known = subst (λ (l : List Moment). IfKnown l P) is kno
 -- ---- a log that was read
 
 module _ (magic : List ℕ) (id head len : ℕ) (bytes : List ℕ) (begins : BeginsLog magic id head len bytes) where
-  -- the bytes behind the head are all but its ten
+  -- the bytes after the head are all but its ten
   split_head : (following : List ℕ) → drop 10 bytes ≡ following → bytes ≡ head ∷ (identity magic id ++ following)
   split_head following is =
       let size : length (head ∷ identity magic id) ≡ 10 = omega (arith, length-identity magic id begins.magic_size) in
@@ -76,19 +76,22 @@ module _ (magic : List ℕ) (id head len : ℕ) (bytes : List ℕ) (begins : Beg
   log_refused Memory w = tt
   log_refused DiskFault w = tt
   log_refused BadHead w = absurd w
-  log_refused (Cut index named) w = (record {
-    id = id;
-    head = head;
-    gated = w.1;
-    gate = w.2;
-    rest = w.3;
-    spelling = split_log w.1 (w.2 ∷ w.3) w.8;
-    head_open = begins.made.2;
-    gates_open = w.4;
-    before = w.5;
-    gate_open = w.6;
-    short = w.7;
-  }, w.0)
+  log_refused (Cut index named) w = (
+    record {
+      id = id;
+      head = head;
+      gated = w.1;
+      gate = w.2;
+      rest = w.3;
+      spelling = split_log w.1 (w.2 ∷ w.3) w.8;
+      head_open = begins.made.2;
+      gates_open = w.4;
+      before = w.5;
+      gate_open = w.6;
+      short = w.7;
+    },
+    w.0,
+  )
 
 -- ---- what an opening does and answers
 

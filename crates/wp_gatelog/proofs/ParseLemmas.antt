@@ -30,8 +30,8 @@ same_framed a b x y fits_a fits_b is =
     let size : length a ≡ length b = sym (counted_framed a x fits_a) ∙ ap counted is ∙ counted_framed b y fits_b in
     same_parts a b x y size (sym (split_framed a x) ∙ ap (λ (l : List ℕ). drop 8 l) is ∙ split_framed b y)
 
--- no record can be read there: the gate is closed, or there is no whole record behind it
-abbrev pub Stops : List ℕ → Type 0
+-- no record can be read there: the gate is closed, or there is no whole record after it
+abbrev Stops : List ℕ → Type 0
 Stops [] = ⊥
 Stops (gate ∷ following) = (gate ≡ 0) ⊎ IsShort following
 
@@ -52,7 +52,7 @@ not_whole : (g : Gated) (gs : List Gated) (t u : List ℕ) → IsOpen g → Stop
 not_whole g gs t u opened stops_t stops_u is =
     whole_goes_on g (all_gated gs ++ u) opened (omega (arith, stops_some u stops_u, length-append (all_gated gs) u)) (subst Stops (is ∙ first_split g gs u) stops_t)
 
-pub same_gated : (gs hs : List Gated) (t u : List ℕ) → Each IsOpen gs → Each IsOpen hs → Stops t → Stops u → all_gated gs ++ t ≡ all_gated hs ++ u → (gs ≡ hs) × (t ≡ u)
+same_gated : (gs hs : List Gated) (t u : List ℕ) → Each IsOpen gs → Each IsOpen hs → Stops t → Stops u → all_gated gs ++ t ≡ all_gated hs ++ u → (gs ≡ hs) × (t ≡ u)
 same_gated [] [] t u eg eh st su is = (refl, is)
 same_gated [] (h ∷ hs) t u eg eh st su is = absurd (not_whole h hs t u eh.0 st su is)
 same_gated (g ∷ gs) [] t u eg eh st su is = absurd (not_whole g gs u t eg.0 su st (sym is))

@@ -23,7 +23,7 @@ take_bytes n bytes within small i = elim (cases_lt i n) [
 
 -- ---- the records
 
--- a closed gate, or an open one without a whole record behind it
+-- a closed gate, or an open one without a whole record after it
 abbrev Ends : List ℕ → Type 0
 Ends tail = ((following : List ℕ) × (tail ≡ 0 ∷ following)) ⊎ ((gate : ℕ) × (following : List ℕ) × (gate ≢ 0) × IsShort following × (tail ≡ gate ∷ following))
 

@@ -18,7 +18,7 @@ shut_unmade : (tail : List ℕ) (gate : ℕ) → gate ≡ 0 → IsUnmade (gate �
 shut_unmade [] gate shut = tt
 shut_unmade (b ∷ tail) gate shut = shut
 
-pub spells_log : (magic : List ℕ) (id head : ℕ) (gated : List Gated) (image : List ℕ) → head ≢ 0 → Each IsOpen gated → HasFront (log_of magic id head gated) image → Spells image magic id (records_of gated)
+spells_log : (magic : List ℕ) (id head : ℕ) (gated : List Gated) (image : List ℕ) → head ≢ 0 → Each IsOpen gated → HasFront (log_of magic id head gated) image → Spells image magic id (records_of gated)
 spells_log magic id head gated image opened each kept =
     inr (head, gated, record { rest = kept.0; spelling = kept.1; head_open = opened; gates_open = each }, refl)
 

@@ -11,7 +11,7 @@ pub record FrameAppended (old new : LogState) (len : ℕ) : Type 0 where
   pub changed : new ≡ record old { moments = new.moments; faults = new.faults; count = old.count + 1; end = old.end + len }
 
 -- The disk failed, and the log is closed from now on. Or it was closed before: nothing changes, and n is the count of
--- the records that stood when an append failed.
+-- the records that there were when an append failed.
 abbrev pub FrameRefused : LogState → LogState → AppendError → Type 0
 FrameRefused old new DiskFault =
     (old.closed ≡ false) × Rose old.faults new.faults × (new ≡ record old { moments = new.moments; faults = new.faults; closed = true })

@@ -17,7 +17,7 @@ counted bytes = from_be_bytes w64 (take 8 bytes)
 abbrev pub IsShort : List ℕ → Type 0
 IsShort following = length following < 9 + counted following
 
--- so many whole records stand behind open gates, and then an open gate without a whole record behind it
+-- so many whole records follow open gates, and then an open gate comes without a whole record after it
 pub record IsCut (magic : List ℕ) (index : ℕ) (bytes : List ℕ) : Type 0 where
   pub id : ℕ
   pub head : ℕ

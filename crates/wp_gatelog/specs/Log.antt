@@ -16,25 +16,25 @@ abbrev pub last_gate : ℕ → List Gated → ℕ
 last_gate head [] = head
 last_gate head (g ∷ more) = last_gate g.gate more
 
--- A log's records as they stand once they are acknowledged: all gates are open, the head's and the last one are 01.
+-- A log's records as they are once they are acknowledged: all gates are open, the head's and the last one are 01.
 -- Only those two an opening would write anew.
 pub record IsAcknowledged (gated : List Gated) (records : List (List ℕ)) : Type 0 where
   pub gates_open : Each IsOpen gated
   pub last : last_gate 1 gated ≡ 1
   pub same : records ≡ records_of gated
 
--- the whole of the log is on the disk, and nothing stands behind it
+-- the whole of the log is on the disk, and nothing follows it
 pub record IsAtRest (magic : List ℕ) (id end : ℕ) (records : List (List ℕ)) (m : Moment) : Type 0 where
   pub gated : List Gated
   pub acknowledged : IsAcknowledged gated records
   pub place : end ≡ length (log_of magic id 1 gated)
   pub on_disk : m ≡ settled (log_of magic id 1 gated ++ 0 ∷ [])
 
--- where the log's disk tells, it is at rest with these records
+-- where the log's disk is known, it is at rest with these records
 abbrev pub Rests : List ℕ → LogState → List (List ℕ) → Type 0
 Rests magic log records = IfKnown log.moments (IsAtRest magic log.id log.end records)
 
--- front, and behind it a closed gate; or an open one, one whole record and a closed gate
+-- front, and then a closed gate; or an open one, one whole record and a closed gate
 abbrev pub Grows : List ℕ → List ℕ → List ℕ → Type 0
 Grows front bytes image = (following : List ℕ) × (
     (image ≡ front ++ 0 ∷ following)

@@ -14,7 +14,7 @@ pub record IsReadLog (magic : List ℕ) (id head : ℕ) (records : List (List �
   pub size : len ≡ length bytes
   pub magic_size : length magic ≡ 4
 
--- front is kept, and a closed gate behind it
+-- the bytes begin with front and a closed gate
 abbrev pub HasFront : List ℕ → List ℕ → Type 0
 HasFront front image = (more : List ℕ) × (image ≡ front ++ 0 ∷ more)
 
@@ -23,7 +23,7 @@ abbrev pub Reopens : List ℕ → ℕ → List ℕ → List ℕ → Type 0
 Reopens front byte following image = (byte ≢ 1) × (gate : ℕ) × (more : List ℕ) × (image ≡ front ++ gate ∷ (following ++ more))
 
 -- While a log is repaired, a crash leaves its head and its records with their gates; but where the head's gate was not
--- 01, it may be any, and behind a head's gate of 01 so may the last record's gate that was not.
+-- 01, it may be any, and after a head's gate of 01 so may the last record's gate that was not.
 abbrev pub IsRepaired : List ℕ → ℕ → ℕ → List Gated → List ℕ → Type 0
 IsRepaired magic id head gated image =
     HasFront (log_of magic id head gated) image

@@ -18,13 +18,13 @@ IsStart bytes start.Closed = (bytes ≡ []) ⊎ ((following : List ℕ) × (byte
 IsStart bytes start.Short = (gate : ℕ) × (following : List ℕ) × (gate ≢ 0) × (bytes ≡ gate ∷ following) × (length following < 8)
 IsStart bytes (start.Open gate len) = (following : List ℕ) × (gate ≢ 0) × (len < 2 ^ 64) × (bytes ≡ gate ∷ (to_be_bytes w64 len ++ following))
 
--- a gate, and behind an open one a record and a further gate, begin these bytes
+-- a gate, and after an open one a record and a further gate, begin these bytes
 abbrev pub IsNext : List ℕ → Next → Type 0
 IsNext bytes next.Closed = (following : List ℕ) × (bytes ≡ 0 ∷ following)
 IsNext bytes next.Cut = (gate : ℕ) × (following : List ℕ) × (gate ≢ 0) × (bytes ≡ gate ∷ following) × IsShort following
 IsNext bytes (next.Open gate found) = (rest : List ℕ) × IsOpen (record { gate = gate; bytes = found }) × (0 < length rest) × (bytes ≡ gate ∷ (framed found ++ rest))
 
--- the gate behind the record, too, stands before the log's end
+-- the gate after the record, too, is before the log's end
 abbrev pub EndsWithin : ℕ → ℕ → Next → Type 0
 EndsWithin at len next.Closed = ⊤
 EndsWithin at len next.Cut = ⊤
@@ -36,7 +36,7 @@ IsLast None gated = gated ≡ []
 IsLast (Some last) gated = (before : List Gated) × (found : List ℕ)
     × (gated ≡ before ++ record { gate = last.byte; bytes = found } ∷ []) × (last.at ≡ 10 + length (all_gated before))
 
--- these records were read of the bytes behind the head, and rest is left
+-- these records were read of the bytes after the head, and rest is left
 pub record HasRead (bytes rest : List ℕ) (records : List (List ℕ)) (last : Option GateByte) (end : ℕ) : Type 0 where
   pub gated : List Gated
   pub spelling : bytes ≡ all_gated gated ++ rest
@@ -45,7 +45,7 @@ pub record HasRead (bytes rest : List ℕ) (records : List (List ℕ)) (last : O
   pub place : end ≡ 10 + length (all_gated gated)
   pub last_is : IsLast last gated
 
--- why the records of the bytes behind the head can't be read
+-- why the records of the bytes after the head can't be read
 abbrev pub IsReadFault : ℕ → List ℕ → LogError → Type 0
 IsReadFault id bytes error.Memory = ⊤
 IsReadFault id bytes error.DiskFault = ⊤

@@ -1,4 +1,4 @@
-//! A log that stands open.
+//! An open log.
 
 ghost use Rattle.std.specs.Prelude.{◌≡◌, ℕ, ◌+◌, ◌≤◌, ◌^◌, [], ◌∷◌, ◌++◌, List, length, false, IfOk, IfErr, OnOk, MatchResult};
 ghost use Rattle.wp_outside.specs.Disk.{IfKnown, Passes, images, added, after_write, after_sync};
@@ -24,7 +24,7 @@ use wp_outside::{Disk, Failed};
 /// Why a record was not acknowledged.
 #[derive(Clone, Copy, Debug, PartialEq, Eq)]
 pub enum AppendError {
-    /// The disk failed, so the record may stand in the log or not. The log is closed from now on: open it again.
+    /// The disk failed, so the record may be in the log or not. The log is closed from now on: open it again.
     DiskFault,
 
     /// An append of this value failed before, and so many records were acknowledged by then.
@@ -139,7 +139,7 @@ impl<D: Disk> GateLog<D> {
             → (image : List ℕ) → images self.new.moments image → BeforeOrAfter magic self.old.id records bytes image }
 
         // What each crash at one moment would leave acknowledged, each crash at a later moment leaves too: the records
-        // that stood, all along. A closed log stays as it is, at rest or not.
+        // at rest, all along. A closed log stays as it is, at rest or not.
         ensures durable { (magic : List ℕ) (records : List (List ℕ))
             → (self.old.closed ≡ false → Rests magic self.old records)
             → LosesNoRecord magic self.old.moments self.new.moments }
@@ -155,7 +155,7 @@ impl<D: Disk> GateLog<D> {
             → (image : List ℕ) → images self.new.moments image
             → Spells image magic self.new.id (records ++ bytes ∷ [])) }
 
-        // A disk that tells passes four moments: the frame is written behind the closed gate, a sync, that gate, a sync.
+        // A known disk passes four moments: the frame is written after the closed gate, a sync, that gate, a sync.
         ensures calls { OnOk result (self.new.moments ≡ added after_sync (added (after_write self.old.end (1 ∷ []))
             (added after_sync (added (after_write (self.old.end + 1) frame.now) self.old.moments)))) }
 

@@ -13,7 +13,7 @@ use std::alloc::Global;
 use wp_fields::Fields;
 use wp_outside::Disk;
 
-/// How many bytes a gate and the length behind it take.
+/// How many bytes a gate and the length after it take.
 const START_LEN: u64 = 9;
 
 /// The records of a log.
@@ -28,7 +28,7 @@ pub struct Scan {
     pub end: u64,
 }
 
-/// What stands at a gate.
+/// What is at a gate.
 #[derive(Drop)]
 pub enum Next {
     Closed,
@@ -36,14 +36,14 @@ pub enum Next {
     Open { gate: u8, record: Record },
 }
 
-/// A gate and the length behind it.
+/// A gate and the length after it.
 pub enum Start {
     Closed,
     Short,
     Open { gate: u8, len: u64 },
 }
 
-/// Reads the records behind the head of a log with so many bytes, up to the first closed gate.
+/// Reads the records after the head of a log with so many bytes, up to the first closed gate. `id` is the head's.
 pub fn read_records<D: Disk>(
     alloc: Global,
     disk: &mut D,
@@ -83,7 +83,7 @@ pub fn read_records<D: Disk>(
     }
 }
 
-/// Reads what stands at the gate at `at` of a log with so many bytes.
+/// Reads what is at the gate at `at` of a log with so many bytes.
 fn read_next<D: Disk>(alloc: Global, disk: &mut D, at: u64, len: u64) -> Result<Next, LogError>
     requires within { at < len }
     requires bounded { len ≤ 2 ^ 62 }

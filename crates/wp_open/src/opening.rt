@@ -21,7 +21,7 @@ pub enum OpenError {
     Memory,
     /// The device failed.
     OpenFault(Device),
-    /// What was read stands outside the formats.
+    /// What was read is outside the formats.
     Contents(Bad),
 }
 

@@ -1,4 +1,4 @@
--- What an append makes of a log that keeps a history.
+-- What an append makes of a log that stores a history.
 use Rattle.std.proofs.Common.{◌≡◌, ℕ, ◌+◌, ◌≤◌, Bool, true, false, List, [], ◌∷◌, ◌++◌, length, map, Option, Some, None, refl, ap, subst, ◌∙◌, inl, inr, arith, length-append}
 use Rattle.std.proofs.lemmas.List.{append-nil}
 use Rattle.std.specs.Prelude.{IfSome}
@@ -66,7 +66,7 @@ known_other : (P Q : List ℕ → Type 0) (moments : List Moment) → ((image : 
 known_other P Q [] implies known = tt
 known_other P Q (m ∷ past) implies known = λ image is. implies image (known image is)
 
--- a kept history is held, by an open log and by a closed one
+-- a stored history is acknowledged, by an open log and by a closed one
 pub stored_acknowledged : (wal : WalState) (history next : List Entry) → StoresHistory wal history next → IfKnown wal.moments (Leaves (HasAcknowledgedEntries wal.id history))
 stored_acknowledged wal history next stores = by wal.closed refl
   where
@@ -87,9 +87,9 @@ left_both P Q old new before ps qs =
     both [] p q = tt
     both (m ∷ past) p q = λ image is. (p image is, q image is)
 
--- ---- the record behind the history
+-- ---- the record after the history
 
--- The frame is that of the record of the next entries, which stands reserved with their count.
+-- The frame is that of the record of the next entries, which is reserved with their count.
 record IsNext (history next : List Entry) (due count : ℕ) (frame : List ℕ) : Type 0 where
   framed : frame ≡ frame_of (record_bytes (length history + 1) next)
   numbered : due ≡ length history + 1
@@ -119,15 +119,15 @@ grown_history id records history next image spelled one h =
 -- ---- an append of the gate log, as its contract says it
 
 -- at each moment a crash leaves its records, or those and the new one
-abbrev pub GrowsThrough : LogState → LogState → List ℕ → Type 0
+abbrev GrowsThrough : LogState → LogState → List ℕ → Type 0
 GrowsThrough old new frame = (magic : List ℕ) (records : List (List ℕ)) (bytes : List ℕ) → frame ≡ frame_of bytes → Rests magic old records → Passes (Leaves (BeforeOrAfter magic old.id records bytes)) old.moments new.moments
 
--- and those it holds
-abbrev pub AcknowledgesThrough : LogState → LogState → Type 0
+-- and those that are acknowledged
+abbrev AcknowledgesThrough : LogState → LogState → Type 0
 AcknowledgesThrough old new = (magic : List ℕ) (records : List (List ℕ)) → Rests magic old records → Passes (Leaves (HasAcknowledged magic old.id records)) old.moments new.moments
 
 -- in the end it is at rest with the new one
-abbrev pub RestsAfter : LogState → LogState → List ℕ → Type 0
+abbrev RestsAfter : LogState → LogState → List ℕ → Type 0
 RestsAfter old new frame = (magic : List ℕ) (records : List (List ℕ)) (bytes : List ℕ) → frame ≡ frame_of bytes → Rests magic old records → Rests magic new (records ++ bytes ∷ [])
 
 -- ---- an append

@@ -25,7 +25,7 @@ push first (r ∷ records) entries added (front, rest, parts, is, bytes, more) o
       subst (λ (n : ℕ). AreEntries (first + length front) (records ++ record_bytes n added ∷ []) (rest ++ added)) (sym far) (push (first + length front) records rest added more (subst (λ (n : ℕ). IsRecord n added) far one)),
     )
 
--- a record behind those of a history
+-- a record after those of a history
 pub AreEntries-push : (records : List (List ℕ)) (history next : List Entry) → AreEntries 1 records history → IsRecord (length history + 1) next → AreEntries 1 (records ++ record_bytes (length history + 1) next ∷ []) (history ++ next)
 AreEntries-push records history next spelled one =
     let place : 1 + length history ≡ length history + 1 = omega arith in

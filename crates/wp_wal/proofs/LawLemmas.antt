@@ -24,7 +24,7 @@ AreRead = (first : ℕ) (entries : List Entry) → IsRecord first entries → re
 abbrev pub HasLegalFronts : Type 0
 HasLegalFronts = (history more : List Entry) → IsLegal (history ++ more) → IsLegal history
 
--- each entry of a legal history may stand behind those before it
+-- each entry of a legal history may come after those before it
 abbrev pub IsLegalAtEach : Type 0
 IsLegalAtEach = (front more : List Entry) (entry : Entry) → IsLegal (front ++ entry ∷ more) → IsLegalNext front entry
 
@@ -52,7 +52,7 @@ no_record read history bytes why entries refused is spelled = err_not_ok why ent
 
 -- ---- the entries of the first records
 
--- all entries are those of the first records and those that the records behind spell
+-- all entries are those of the first records and those that the records after them spell
 record Splits (first : ℕ) (following : List (List ℕ)) (front whole : List Entry) : Type 0 where
   rest : List Entry
   parts : whole ≡ front ++ rest
@@ -85,7 +85,7 @@ cut_at [] index bytes at = absurd (none-some bytes at)
 cut_at (first ∷ records) zero bytes at = ap (λ (b : List ℕ). b ∷ records) (same_Some first bytes at)
 cut_at (first ∷ records) (suc index) bytes at = ap (λ (rest : List (List ℕ)). first ∷ rest) (cut_at records index bytes at)
 
--- The record behind the history is entries that stand there in the whole.
+-- The record after the history is entries that are there in the whole.
 record TakenAt (history whole : List Entry) (bytes : List ℕ) : Type 0 where
   entries : List Entry
   rest : List Entry
@@ -117,7 +117,7 @@ entries_not_bad read records index why whole all (history, bytes, lies, refused)
     let taken = taken_at read records index history whole bytes lies all in
     no_record read history bytes why taken.entries refused taken.is taken.spelling
 
--- the entry with that number stands in the whole where it may not
+-- the entry with that number is in the whole where it may not be
 illegal_within : IsLegalAtEach → (history entries rest whole : List Entry) (number : ℕ) → whole ≡ history ++ (entries ++ rest) → IsLegal whole → IsIllegalAmong history entries number → ⊥
 illegal_within each history entries rest whole number parts legal among =
     let tail : entries ++ rest ≡ among.before ++ among.entry ∷ (among.after ++ rest) = ap (λ (e : List Entry). e ++ rest) among.parts ∙ append_assoc among.before (among.entry ∷ among.after) rest in
@@ -139,24 +139,24 @@ slice_get_take [] (suc n) i lt = refl
 slice_get_take (bytes ∷ records) (suc n) zero lt = refl
 slice_get_take (bytes ∷ records) (suc n) (suc i) lt = slice_get_take records n i (omega arith)
 
--- a record stands so among those before a later one
+-- a record lies so among those before a later one
 lies_before : (records : List (List ℕ)) (index later : ℕ) (history : List Entry) (bytes : List ℕ) → index < later → LiesAt records index history bytes → LiesAt (take later records) index history bytes
 lies_before records index later history bytes lt lies = record {
   before = subst (λ (r : List (List ℕ)). AreEntries 1 r history) (sym (take-take index later records (omega arith))) lies.before;
   there = slice_get_take records later index lt ∙ lies.there;
 }
 
--- no record before one that stands behind a history is bad
+-- no record before one that comes after a history is bad
 none_bad_before : AreRead → (records : List (List ℕ)) (index later : ℕ) (why : RecordError) (history : List Entry) (bytes : List ℕ) → index < later → IsBadRecord records index why → LiesAt records later history bytes → ⊥
 none_bad_before read records index later why history bytes lt (front, here, lies, refused) following =
     entries_not_bad read (take later records) index why history following.before (front, here, lies_before records index later front here lt lies, refused)
 
--- an illegal entry stands in no record before one that stands behind a legal history
+-- an illegal entry is in no record before one that comes after a legal history
 none_illegal_before : AreRead → IsLegalAtEach → (records : List (List ℕ)) (index later number : ℕ) (front history : List Entry) (here bytes : List ℕ) → index < later → LiesAt records index front here → IsIllegalRecord front here number → LiesAt records later history bytes → IsLegal history → ⊥
 none_illegal_before read each records index later number front history here bytes lt lies illegal following legal =
     legal_not_illegal read each (take later records) number history following.before legal (index, front, here, lies_before records index later front here lt lies, illegal)
 
--- what stands at one place is the same
+-- what is at one place is the same
 at_same_place : AreRead → (records : List (List ℕ)) (index : ℕ) (history another : List Entry) (bytes those : List ℕ) → LiesAt records index history bytes → LiesAt records index another those → (P : List Entry → List ℕ → Type 0) → P another those → P history bytes
 at_same_place read records index history another bytes those one other P p =
     let entries : another ≡ history = one_entries read (take index records) another history other.before one.before in
@@ -229,7 +229,7 @@ one_illegal_here read each records index number other history another bytes thos
     let same : moved.entries ≡ illegal.entries = same_entries read (length history + 1) bytes moved.entries illegal.entries moved.is moved.spelling illegal.is illegal.spelling in
     one_illegal_among each history illegal.entries number other illegal.among (subst (λ (e : List Entry). IsIllegalAmong history e other) same moved.among)
 
--- an illegal entry comes first behind a legal history
+-- an illegal entry comes first after a legal history
 legal_so_far : HasLegalFronts → (history : List Entry) (bytes : List ℕ) (number : ℕ) → IsIllegalRecord history bytes number → IsLegal history
 legal_so_far fronts history bytes number illegal = fronts history illegal.among.before illegal.among.legal
 

@@ -76,7 +76,7 @@ fn an_append_that_failed_closes_the_log(rt: HostRuntime) -> Result<(), Fail> {
     Ok(())
 }
 
-/// The log of store 1 with these bytes behind its head.
+/// The log of store 1 with these bytes after its head.
 fn refusal(alloc: Global, following: &[u8]) -> Result<WalError, Fail> {
     let mut bytes = LOG[..10].to_vec(alloc)?;
     bytes.extend_from_slice(following)?;

@@ -15,4 +15,4 @@ returns-in-Err-clause-serves g c =
     serves_refused refused.why c.status_of-status.result c.args.limit c.args.id c.args.parts.now _ _ _ _ _ _ c.status_of-status.ensures c.in-Err.ensures.cause c.in-Err.ensures.survives c.in-Err.ensures.left
 
 pub returns-in-Ok-clause-lasts : goal.returns-in-Ok-clause-lasts
-returns-in-Ok-clause-lasts g c = lasting_trans _ _ _ c.in-Ok.ensures.lasts (rw c.new.ensures at c.finish.ensures.lasts)
+returns-in-Ok-clause-lasts g c = lasting_trans _ _ _ c.in-Ok.ensures.durable (rw c.new.ensures at c.finish.ensures.lasts)

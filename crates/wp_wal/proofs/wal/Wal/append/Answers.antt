@@ -22,13 +22,13 @@ pub returns-clause-ok : goal.returns-clause-ok
 returns-clause-ok g c = rw (← c.self.view_is, c.take.ensures.after, c.count.ensures) (appended_reserved c.self.inside.log c.append.new.self c.self.inside.due c.self.inside.reserved c.in-Some.reserved c.frame.result.now (sym c.take.ensures.value ∙ c.in-Some.is) c.frame.ensures c.in_ok-append.ensures.ok)
 
 pub returns-in_err-append-clause-durable : goal.returns-in_err-append-clause-durable
-returns-in_err-append-clause-durable g c = rw (← c.self.view_is) (λ history next stores other records. c.in_err-append.ensures.durable MAGIC other records stores.records stores.rests)
+returns-in_err-append-clause-durable g c = rw (← c.self.view_is) (λ history next stores. c.in_err-append.ensures.durable MAGIC stores.records stores.rests)
 
 pub returns-in_err-append-clause-acknowledged : goal.returns-in_err-append-clause-acknowledged
 returns-in_err-append-clause-acknowledged g c = rw (← c.self.view_is) (passes_acknowledged c.self.inside.log c.append.new.self c.self.inside.due c.self.inside.reserved c.in_err-append.ensures.acknowledged)
 
 pub returns-clause-durable : goal.returns-clause-durable
-returns-clause-durable g c = rw (← c.self.view_is) (λ history next stores other records. c.in_ok-append.ensures.durable MAGIC other records stores.records stores.rests)
+returns-clause-durable g c = rw (← c.self.view_is) (λ history next stores. c.in_ok-append.ensures.durable MAGIC stores.records stores.rests)
 
 pub returns-clause-acknowledged : goal.returns-clause-acknowledged
 returns-clause-acknowledged g c = rw (← c.self.view_is) (passes_acknowledged c.self.inside.log c.append.new.self c.self.inside.due c.self.inside.reserved c.in_ok-append.ensures.acknowledged)
