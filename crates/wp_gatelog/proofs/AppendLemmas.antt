@@ -3,18 +3,17 @@ use Rattle.std.proofs.Common.{◌≡◌, inl, inr, ℕ, ◌+◌, ◌<◌, ◌≤
 use Rattle.std.proofs.lemmas.Bool.{cases_eq}
 use Rattle.std.proofs.lemmas.List.{append-nil, append_assoc, map_push, length-replicate}
 use Rattle.std.specs.Int.{w64, to_be_bytes}
-use Rattle.wp_outside.specs.Disk.{Moment, settled, after_write, write_end, IfKnown, Each}
+use Rattle.wp_outside.specs.Disk.{Moment, IsImage, synced, after_write, write_end, IfKnown, Each}
 use Rattle.wp_gatelog.specs.Log.{Grows, IsAcknowledged, IsAtRest, last_gate}
-use Rattle.wp_gatelog.specs.Moments.{Leaves, Within, Goes}
 use Rattle.wp_gatelog.specs.Spelling.{Gated, IsOpen, framed, frame_of, identity, all_gated, log_of}
-use Rattle.wp_gatelog.proofs.MomentLemmas.{image_behind, image_of_gate, reads_behind, told_map}
+use Rattle.wp_gatelog.proofs.MomentLemmas.{image_after, image_of_gate, reads_after, known_map}
 
 pub length-framed : (bytes : List ℕ) → length (framed bytes) ≡ 8 + length bytes
 unfolding framed
 length-framed bytes = length-append (to_be_bytes w64 (length bytes)) bytes
 
 -- a record that was written is not longer than a disk
-pub fits_frame : (frame bytes : List ℕ) → frame ≡ frame_of bytes → length frame ≤ 2 ^ 62 → length bytes < 2 ^ 64
+fits_frame : (frame bytes : List ℕ) → frame ≡ frame_of bytes → length frame ≤ 2 ^ 62 → length bytes < 2 ^ 64
 fits_frame frame bytes is bounded = omega (arith, ap length is, length-append (framed bytes) (0 ∷ []), length-framed bytes)
 
 pub fits_disk : (at : ℕ) (frame bytes : List ℕ) → frame ≡ frame_of bytes → write_end at frame ≤ 2 ^ 62 → length bytes < 2 ^ 64
@@ -24,19 +23,19 @@ fits_disk at (b ∷ frame) bytes is bounded = fits_frame (b ∷ frame) bytes is 
 -- ---- the two writes
 
 -- while the frame is written
-pub grows_staged : (front frame bytes : List ℕ) (at : ℕ) → at ≡ length front + 1 → (m : Moment) → Within (after_write at frame (settled (front ++ 0 ∷ []))) m → Leaves (Grows front bytes) m
-grows_staged front frame bytes at is m within image h =
-    let found = image_behind (front ++ 0 ∷ []) at frame image (omega (arith, length-append front (0 ∷ []))) (within image h) in
+pub grows_staged : (front frame bytes : List ℕ) (at : ℕ) → at ≡ length front + 1 → (image : List ℕ) → IsImage (after_write at frame (synced (front ++ 0 ∷ []))) image → Grows front bytes image
+grows_staged front frame bytes at is image h =
+    let found = image_after (front ++ 0 ∷ []) at frame image (omega (arith, length-append front (0 ∷ []))) h in
     (found.0, inl (found.1 ∙ append_assoc front (0 ∷ []) found.0))
 
-pub reads_staged : (front frame : List ℕ) (at : ℕ) → at ≡ length front + 1 → (after_write at frame (settled (front ++ 0 ∷ []))).reads ≡ front ++ 0 ∷ frame
+pub reads_staged : (front frame : List ℕ) (at : ℕ) → at ≡ length front + 1 → (after_write at frame (synced (front ++ 0 ∷ []))).reads ≡ front ++ 0 ∷ frame
 reads_staged front frame at is =
-    reads_behind (front ++ 0 ∷ []) frame at (omega (arith, length-append front (0 ∷ []))) ∙ append_assoc front (0 ∷ []) frame
+    reads_after (front ++ 0 ∷ []) frame at (omega (arith, length-append front (0 ∷ []))) ∙ append_assoc front (0 ∷ []) frame
 
 -- while the gate before it is written
-pub grows_opened : (front bytes : List ℕ) (at gate : ℕ) → at ≡ length front → length bytes < 2 ^ 64 → (m : Moment) → Within (after_write at (1 ∷ []) (settled (front ++ gate ∷ frame_of bytes))) m → Leaves (Grows front bytes) m
-grows_opened front bytes at gate is fits m within image h =
-    let found = image_of_gate front at gate (frame_of bytes) image is (within image h) in
+pub grows_opened : (front bytes : List ℕ) (at gate : ℕ) → at ≡ length front → length bytes < 2 ^ 64 → (image : List ℕ) → IsImage (after_write at (1 ∷ []) (synced (front ++ gate ∷ frame_of bytes))) image → Grows front bytes image
+grows_opened front bytes at gate is fits image h =
+    let found = image_of_gate front at gate (frame_of bytes) image is h in
     elim (cases_eq found.0 0) [
       | inl shut ↦ (frame_of bytes ++ found.1, inl (found.2 ∙ ap (λ (g : ℕ). front ++ g ∷ (frame_of bytes ++ found.1)) shut))
       | inr opened ↦ (found.1, inr (found.0, record { gate = opened; length_fits = fits }, found.2 ∙ ap (λ (l : List ℕ). front ++ found.0 ∷ l) (append_assoc (framed bytes) (0 ∷ []) found.1)))
@@ -64,44 +63,28 @@ log_more magic id head gated gate bytes =
     ap (λ (l : List ℕ). head ∷ (identity magic id ++ l)) (all_gated_more gated gate bytes)
     ∙ ap (λ (l : List ℕ). head ∷ l) (sym (append_assoc (identity magic id) (all_gated gated) (gate ∷ framed bytes)))
 
+-- the same of the bytes that begin with it
+pub log_longer : (magic : List ℕ) (id head : ℕ) (before : List Gated) (gate : ℕ) (found more image : List ℕ) → image ≡ log_of magic id head before ++ gate ∷ (framed found ++ 0 ∷ more)
+    → image ≡ log_of magic id head (before ++ record { gate = gate; bytes = found } ∷ []) ++ 0 ∷ more
+log_longer magic id head before gate found more image is =
+    is ∙ sym (append_assoc (log_of magic id head before) (gate ∷ framed found) (0 ∷ more)) ∙ ap (λ (l : List ℕ). l ++ 0 ∷ more) (sym (log_more magic id head before gate found))
+
 -- the acknowledged records with the new one
-pub acknowledged_more : (gated : List Gated) (records : List (List ℕ)) (bytes : List ℕ) → length bytes < 2 ^ 64 → IsAcknowledged gated records → IsAcknowledged (gated ++ record { gate = 1; bytes = bytes } ∷ []) (records ++ bytes ∷ [])
+acknowledged_more : (gated : List Gated) (records : List (List ℕ)) (bytes : List ℕ) → length bytes < 2 ^ 64 → IsAcknowledged gated records → IsAcknowledged (gated ++ record { gate = 1; bytes = bytes } ∷ []) (records ++ bytes ∷ [])
 acknowledged_more gated records bytes fits acknowledged = record {
   gates_open = records_more gated 1 bytes acknowledged.gates_open (record { gate = (λ e. cc e); length_fits = fits });
   last = last_gate_more 1 gated 1 bytes;
   same = ap (λ (l : List (List ℕ)). l ++ bytes ∷ []) acknowledged.same ∙ sym (map_push (λ (g : Gated). g.bytes) gated (record { gate = 1; bytes = bytes }));
 }
 
--- ---- what an append passes, of a disk that tells and of one that doesn't
-
--- how it goes on from any front
-abbrev pub AppendGoes : ℕ → List ℕ → List Moment → List Moment → Type 0
-AppendGoes end bytes old new = (front : List ℕ) → end ≡ length front → IfKnown old (λ m. m ≡ settled (front ++ 0 ∷ [])) → Goes (Leaves (Grows front bytes)) old new
-
-abbrev pub AppendDone : ℕ → List ℕ → List Moment → List Moment → Type 0
-AppendDone end bytes old new = (front : List ℕ) → end ≡ length front → IfKnown old (λ m. m ≡ settled (front ++ 0 ∷ [])) → IfKnown new (λ m. m ≡ settled (front ++ 1 ∷ (framed bytes ++ 0 ∷ [])))
-
--- one that doesn't still doesn't
-pub append_untold : (end : ℕ) (bytes : List ℕ) (new : List Moment) → AppendGoes end bytes [] new → new ≡ []
-append_untold end bytes new goes = goes (replicate end 0) (sym (length-replicate end 0)) tt
-
-module _ (magic : List ℕ) (id end : ℕ) (records : List (List ℕ)) (bytes : List ℕ) where
-  at_rest_more : (frame : List ℕ) → frame ≡ frame_of bytes → length bytes < 2 ^ 64 → (gated : List Gated) → IsAcknowledged gated records → end ≡ length (log_of magic id 1 gated)
-      → (m : Moment) → m ≡ settled (log_of magic id 1 gated ++ 1 ∷ (framed bytes ++ 0 ∷ [])) → IsAtRest magic id (end + length frame) (records ++ bytes ∷ []) m
-  at_rest_more frame is fits gated acknowledged place m on =
-      let more = log_more magic id 1 gated 1 bytes in
-      record {
-        gated = gated ++ record { gate = 1; bytes = bytes } ∷ [];
-        acknowledged = acknowledged_more gated records bytes fits acknowledged;
-        place = omega (arith, ap length more, ap length is, length-append (framed bytes) (0 ∷ []), length-append (log_of magic id 1 gated) (1 ∷ framed bytes));
-        settled_on = on ∙ ap settled (sym (append_assoc (log_of magic id 1 gated) (1 ∷ framed bytes) (0 ∷ [])) ∙ ap (λ (l : List ℕ). l ++ 0 ∷ []) (sym more));
-      }
-
-  pub append_rests : (frame : List ℕ) → frame ≡ frame_of bytes → length bytes < 2 ^ 64 → (old new : List Moment) → AppendGoes end bytes old new → AppendDone end bytes old new
-      → IfKnown old (IsAtRest magic id end records) → IfKnown new (IsAtRest magic id (end + length frame) (records ++ bytes ∷ []))
-  append_rests frame is fits [] new goes done rest =
-      subst (λ (ms : List Moment). IfKnown ms (IsAtRest magic id (end + length frame) (records ++ bytes ∷ []))) (sym (append_untold end bytes new goes)) tt
-  append_rests frame is fits (m ∷ past) new goes done rest =
-      let P : Moment → Type 0 = λ n. n ≡ settled (log_of magic id 1 rest.gated ++ 1 ∷ (framed bytes ++ 0 ∷ [])) in
-      told_map P (IsAtRest magic id (end + length frame) (records ++ bytes ∷ []))
-      (at_rest_more frame is fits rest.gated rest.acknowledged rest.place) new (done (log_of magic id 1 rest.gated) rest.place rest.settled_on)
+-- at rest with the new one
+pub at_rest_more : (magic : List ℕ) (id end : ℕ) (records : List (List ℕ)) (frame bytes : List ℕ) → frame ≡ frame_of bytes → length bytes < 2 ^ 64 → (gated : List Gated) → IsAcknowledged gated records
+    → end ≡ length (log_of magic id 1 gated) → (m : Moment) → m ≡ synced (log_of magic id 1 gated ++ 1 ∷ frame_of bytes) → IsAtRest magic id (end + length frame) (records ++ bytes ∷ []) m
+at_rest_more magic id end records frame bytes is fits gated acknowledged place m on =
+    let more = log_more magic id 1 gated 1 bytes in
+    record {
+      gated = gated ++ record { gate = 1; bytes = bytes } ∷ [];
+      acknowledged = acknowledged_more gated records bytes fits acknowledged;
+      place = omega (arith, ap length more, ap length is, length-append (framed bytes) (0 ∷ []), length-append (log_of magic id 1 gated) (1 ∷ framed bytes));
+      on_disk = on ∙ ap synced (sym (append_assoc (log_of magic id 1 gated) (1 ∷ framed bytes) (0 ∷ [])) ∙ ap (λ (l : List ℕ). l ++ 0 ∷ []) (sym more));
+    }

@@ -1,7 +1,7 @@
--- What lasts from one moment to the next.
+-- What is durable from one moment to the next.
 use Rattle.std.proofs.Common.{◌≡◌, inl, inr, ℕ, List, [], ◌∷◌, ◌++◌, Result, Ok, Err, OnOk, OnErr, refl, sym, ◌∙◌, subst, arith}
 use Rattle.std.proofs.lemmas.List.{append_assoc}
-use Rattle.wp_outside.specs.Disk.{Moment, IsImage, settled, after_sync, IfKnown, added, Tears, Each, Passes, ReadsItself}
+use Rattle.wp_outside.specs.Disk.{Moment, IsImage, synced, after_sync, IfKnown, added, Tears, Each, Passes, ReadsItself}
 use Rattle.wp_gatelog.specs.Durability.{PassedOn, Preserves}
 use Rattle.wp_gatelog.specs.Moments.{Leaves}
 use Rattle.wp_gatelog.proofs.MomentLemmas.{matches_self, image_of_settled}
@@ -13,15 +13,10 @@ passed_on_from P old more [] second first = first
 passed_on_from P old more (m ∷ new) second first =
     (subst (λ (ms : List Moment). IfKnown ms P → P m) (sym (append_assoc new more old)) second.0, passed_on_from P old more new second.1 first)
 
-pub lasts_on : (P : Moment → Type 0) (old mid new : List Moment) → Preserves P old mid → Preserves P mid new → Preserves P old new
-lasts_on P old mid new first second =
+pub preserves_on : (P : Moment → Type 0) (old mid new : List Moment) → Preserves P old mid → Preserves P mid new → Preserves P old new
+preserves_on P old mid new first second =
     let later : Preserves P (first.0 ++ old) new = subst (λ (ms : List Moment). Preserves P ms new) first.1 second in
     (later.0 ++ first.0, later.1 ∙ sym (append_assoc later.0 first.0 old), passed_on_from P old first.0 later.0 later.2 first.2)
-
--- of a disk that tells nothing, nothing is owed but that it still tells nothing
-pub lasts_told : (P Q : Moment → Type 0) (old new : List Moment) → (old ≡ [] → new ≡ []) → IfKnown old Q → ((m : Moment) → Q m → Preserves P old new) → Preserves P old new
-lasts_told P Q [] new untold told lasts = ([], untold refl, tt)
-lasts_told P Q (m ∷ past) new untold told lasts = lasts m told
 
 each_passed_on : (P : Moment → Type 0) (old more : List Moment) → IfKnown old P → PassedOn P old more → Each P more × IfKnown (more ++ old) P
 each_passed_on P old [] before passed = (tt, before)
@@ -30,41 +25,41 @@ each_passed_on P old (m ∷ more) before passed =
     let here = passed.0 rest.1 in
     ((here, rest.0), here)
 
--- what holds before, and lasts, holds at each moment
-pub lasts_passes : (P : Moment → Type 0) (old new : List Moment) → IfKnown old P → Preserves P old new → Passes P old new
-lasts_passes P old new before lasts = (lasts.0, lasts.1, (each_passed_on P old lasts.0 before lasts.2).0)
+-- what is so before, and durable, is so at each moment
+pub preserves_passes : (P : Moment → Type 0) (old new : List Moment) → IfKnown old P → Preserves P old new → Passes P old new
+preserves_passes P old new before durable = (durable.0, durable.1, (each_passed_on P old durable.0 before durable.2).0)
 
 -- ---- one step and its sync
 
 -- a sync leaves one of the images that a crash before it left
-pub sync_lasts : (P : List ℕ → Type 0) (old new : List Moment) → ReadsItself old → new ≡ added after_sync old → Preserves (Leaves P) old new
-sync_lasts P [] new itself syncs = ([], syncs, tt)
-sync_lasts P (m ∷ past) new itself syncs =
-    (settled m.reads ∷ [], syncs, (λ holds image h. subst P (sym (image_of_settled m.reads image h)) (holds m.reads itself), tt))
+pub sync_preserves : (P : List ℕ → Type 0) (old new : List Moment) → ReadsItself old → new ≡ added after_sync old → Preserves (Leaves P) old new
+sync_preserves P [] new itself syncs = ([], syncs, tt)
+sync_preserves P (m ∷ past) new itself syncs =
+    (synced m.reads ∷ [], syncs, (λ has image h. subst P (sym (image_of_settled m.reads image h)) (has m.reads itself), tt))
 
-module _ (P : List ℕ → Type 0) (step : Moment → Moment) (before : List ℕ) (spares : P before → (image : List ℕ) → IsImage (step (settled before)) image → P image) where
-  step_lasts : (m : Moment) → m ≡ settled before → Leaves P m → Leaves P (step m)
-  step_lasts m is holds image h =
-      spares (holds before (subst (λ (n : Moment). IsImage n before) (sym is) (matches_self before, omega arith))) image (subst (λ (n : Moment). IsImage (step n) image) is h)
+module _ (P : List ℕ → Type 0) (step : Moment → Moment) (before : List ℕ) (spares : P before → (image : List ℕ) → IsImage (step (synced before)) image → P image) where
+  step_preserves : (m : Moment) → m ≡ synced before → Leaves P m → Leaves P (step m)
+  step_preserves m is has image h =
+      spares (has before (subst (λ (n : Moment). IsImage n before) (sym is) (matches_self before, omega arith))) image (subst (λ (n : Moment). IsImage (step n) image) is h)
 
-  pub torn_lasts : (old new : List Moment) → IfKnown old (λ m. m ≡ settled before) → Tears step old new → Preserves (Leaves P) old new
-  torn_lasts [] new told torn = elim torn [ inl same ↦ ([], same, tt) | inr w ↦ ([], w.1, tt) ]
-  torn_lasts (m ∷ past) new told torn = elim torn [
+  pub torn_preserves : (old new : List Moment) → IfKnown old (λ m. m ≡ synced before) → Tears step old new → Preserves (Leaves P) old new
+  torn_preserves [] new known torn = elim torn [ inl same ↦ ([], same, tt) | inr w ↦ ([], w.1, tt) ]
+  torn_preserves (m ∷ past) new known torn = elim torn [
     | inl same ↦ ([], same, tt)
-    | inr w ↦ (record (step m) { reads = w.0 } ∷ [], w.1, (λ holds image h. step_lasts m told holds image h, tt))
+    | inr w ↦ (record (step m) { reads = w.0 } ∷ [], w.1, (λ has image h. step_preserves m known has image h, tt))
   ]
 
-  stepped_lasts : (old new : List Moment) → IfKnown old (λ m. m ≡ settled before) → new ≡ added step old → Preserves (Leaves P) old new
-  stepped_lasts [] new told adds = ([], adds, tt)
-  stepped_lasts (m ∷ past) new told adds = (step m ∷ [], adds, (step_lasts m told, tt))
+  stepped_preserves : (old new : List Moment) → IfKnown old (λ m. m ≡ synced before) → new ≡ added step old → Preserves (Leaves P) old new
+  stepped_preserves [] new known adds = ([], adds, tt)
+  stepped_preserves (m ∷ past) new known adds = (step m ∷ [], adds, (step_preserves m known, tt))
 
   -- the step was made, and then a sync, or not
-  pub synced_lasts : {T E : Type 0} (old mid new : List Moment) (result : Result T E) → IsImage (step (settled before)) (step (settled before)).reads → IfKnown old (λ m. m ≡ settled before) → mid ≡ added step old → OnOk result (new ≡ added after_sync mid) → OnErr result (new ≡ mid) → Preserves (Leaves P) old new
-  synced_lasts old mid new (Ok x) reads told adds syncs kept =
-      lasts_on (Leaves P) old mid new (stepped_lasts old mid told adds) (sync_lasts P mid new (itself old mid told adds) syncs)
+  pub synced_preserves : {T E : Type 0} (old mid new : List Moment) (result : Result T E) → IsImage (step (synced before)) (step (synced before)).reads → IfKnown old (λ m. m ≡ synced before) → mid ≡ added step old → OnOk result (new ≡ added after_sync mid) → OnErr result (new ≡ mid) → Preserves (Leaves P) old new
+  synced_preserves old mid new (Ok x) reads known adds syncs kept =
+      preserves_on (Leaves P) old mid new (stepped_preserves old mid known adds) (sync_preserves P mid new (itself old mid known adds) syncs)
     where
-      itself : (old mid : List Moment) → IfKnown old (λ m. m ≡ settled before) → mid ≡ added step old → ReadsItself mid
-      itself [] mid told adds = subst ReadsItself (sym adds) tt
-      itself (m ∷ past) mid told adds =
-          subst ReadsItself (sym adds) (subst (λ (n : Moment). IsImage (step n) (step n).reads) (sym told) reads)
-  synced_lasts old mid new (Err e) reads told adds syncs kept = stepped_lasts old new told (kept ∙ adds)
+      itself : (old mid : List Moment) → IfKnown old (λ m. m ≡ synced before) → mid ≡ added step old → ReadsItself mid
+      itself [] mid known adds = subst ReadsItself (sym adds) tt
+      itself (m ∷ past) mid known adds =
+          subst ReadsItself (sym adds) (subst (λ (n : Moment). IsImage (step n) (step n).reads) (sym known) reads)
+  synced_preserves old mid new (Err e) reads known adds syncs kept = stepped_preserves old new known (kept ∙ adds)

@@ -4,7 +4,7 @@ use Rattle.std.proofs.lemmas.List.{append_assoc, append_cancel_left, take_at, ge
 use Rattle.std.proofs.lemmas.Nat.{from_be_bytes-to_be_bytes_4}
 use Rattle.std.specs.Int.{w32, to_be_bytes, from_be_bytes}
 use Rattle.wp_gatelog.specs.Damage.{IsBadHead, IsCut}
-use Rattle.wp_gatelog.specs.Spelling.{Gated, identity, all_gated, records_of, IsUnmade, Stands, Spells}
+use Rattle.wp_gatelog.specs.Spelling.{Gated, identity, all_gated, records_of, IsUnmade, HasLog, Spells}
 use Rattle.wp_gatelog.proofs.HeadLemmas.{length-identity}
 use Rattle.wp_gatelog.proofs.ParseLemmas.{same_log, SameLog}
 
@@ -14,22 +14,22 @@ pub made : (head : ℕ) (tail bytes : List ℕ) → 0 < length tail → head ≢
 made head [] bytes some opened is unmade = omega arith
 made head (b ∷ tail) bytes some opened is unmade = opened (subst IsUnmade is unmade)
 
-stands_made : (magic : List ℕ) (id head : ℕ) (gated : List Gated) (bytes : List ℕ) → Stands magic id head gated bytes → IsUnmade bytes → ⊥
-stands_made magic id head gated bytes stands =
-    made head ((identity magic id ++ all_gated gated) ++ 0 ∷ stands.behind) bytes (omega (arith, length-append (identity magic id ++ all_gated gated) (0 ∷ stands.behind))) stands.head_open stands.spelling
+has_log_made : (magic : List ℕ) (id head : ℕ) (gated : List Gated) (bytes : List ℕ) → HasLog magic id head gated bytes → IsUnmade bytes → ⊥
+has_log_made magic id head gated bytes has_log =
+    made head ((identity magic id ++ all_gated gated) ++ 0 ∷ has_log.rest) bytes (omega (arith, length-append (identity magic id ++ all_gated gated) (0 ∷ has_log.rest))) has_log.head_open has_log.spelling
 
 cut_made : (magic : List ℕ) (index : ℕ) (bytes : List ℕ) → (cut : IsCut magic index bytes) → IsUnmade bytes → ⊥
 cut_made magic index bytes cut =
-    made cut.head ((identity magic cut.id ++ all_gated cut.gated) ++ cut.gate ∷ cut.behind) bytes (omega (arith, length-append (identity magic cut.id ++ all_gated cut.gated) (cut.gate ∷ cut.behind))) cut.head_open cut.spelling
+    made cut.head ((identity magic cut.id ++ all_gated cut.gated) ++ cut.gate ∷ cut.rest) bytes (omega (arith, length-append (identity magic cut.id ++ all_gated cut.gated) (cut.gate ∷ cut.rest))) cut.head_open cut.spelling
 
-same_stands : (magic bytes : List ℕ) (id other h k : ℕ) (gs hs : List Gated) (a : Stands magic id h gs bytes) (b : Stands magic other k hs bytes) → SameLog magic id other h k gs hs (0 ∷ a.behind) (0 ∷ b.behind)
+same_stands : (magic bytes : List ℕ) (id other h k : ℕ) (gs hs : List Gated) (a : HasLog magic id h gs bytes) (b : HasLog magic other k hs bytes) → SameLog magic id other h k gs hs (0 ∷ a.rest) (0 ∷ b.rest)
 same_stands magic bytes id other h k gs hs a b =
-    same_log magic id other h k gs hs (0 ∷ a.behind) (0 ∷ b.behind) a.gates_open b.gates_open (inl refl) (inl refl) (sym a.spelling ∙ b.spelling)
+    same_log magic id other h k gs hs (0 ∷ a.rest) (0 ∷ b.rest) a.gates_open b.gates_open (inl refl) (inl refl) (sym a.spelling ∙ b.spelling)
 
 pub one_list : (bytes magic : List ℕ) (id other : ℕ) (records others : List (List ℕ)) → Spells bytes magic id records → Spells bytes magic other others → records ≡ others
 one_list bytes magic id other records others (inl a) (inl b) = a.1 ∙ sym b.1
-one_list bytes magic id other records others (inl a) (inr b) = absurd (stands_made magic other b.0 b.1 bytes b.2 a.0)
-one_list bytes magic id other records others (inr a) (inl b) = absurd (stands_made magic id a.0 a.1 bytes a.2 b.0)
+one_list bytes magic id other records others (inl a) (inr b) = absurd (has_log_made magic other b.0 b.1 bytes b.2 a.0)
+one_list bytes magic id other records others (inr a) (inl b) = absurd (has_log_made magic id a.0 a.1 bytes a.2 b.0)
 one_list bytes magic id other records others (inr a) (inr b) =
     a.3 ∙ ap records_of (same_stands magic bytes id other a.0 b.0 a.1 b.1 a.2 b.2).gated ∙ sym b.3
 
@@ -47,19 +47,19 @@ one_id bytes magic id other records others is_made fits fits_other (inr a) (inr 
 
 pub one_index : (bytes magic : List ℕ) (index other : ℕ) → IsCut magic index bytes → IsCut magic other bytes → index ≡ other
 one_index bytes magic index other a b =
-    let same = same_log magic a.id b.id a.head b.head a.gated b.gated (a.gate ∷ a.behind) (b.gate ∷ b.behind) a.gates_open b.gates_open (inr a.short) (inr b.short) (sym a.spelling ∙ b.spelling) in
+    let same = same_log magic a.id b.id a.head b.head a.gated b.gated (a.gate ∷ a.rest) (b.gate ∷ b.rest) a.gates_open b.gates_open (inr a.short) (inr b.short) (sym a.spelling ∙ b.spelling) in
     sym a.before ∙ ap length same.gated ∙ b.before
 
 pub spelled_or_cut : (bytes magic : List ℕ) (id index : ℕ) (records : List (List ℕ)) → Spells bytes magic id records → IsCut magic index bytes → ⊥
 spelled_or_cut bytes magic id index records (inl a) b = cut_made magic index bytes b a.0
 spelled_or_cut bytes magic id index records (inr a) b =
-    let same = same_log magic id b.id a.0 b.head a.1 b.gated (0 ∷ a.2.behind) (b.gate ∷ b.behind) a.2.gates_open b.gates_open (inl refl) (inr b.short) (sym a.2.spelling ∙ b.spelling) in
-    let shut : b.gate ≡ 0 = cc same.behind in
+    let same = same_log magic id b.id a.0 b.head a.1 b.gated (0 ∷ a.2.rest) (b.gate ∷ b.rest) a.2.gates_open b.gates_open (inl refl) (inr b.short) (sym a.2.spelling ∙ b.spelling) in
+    let shut : b.gate ≡ 0 = cc same.rest in
     b.gate_open shut
 
 -- ---- a head
 
--- what stands at the places of the head's fields
+-- what is at the places of the head's fields
 pub record HasFields (magic bytes : List ℕ) : Type 0 where
   pub size : 11 ≤ length bytes
   pub magic_is : take 4 (drop 1 bytes) ≡ magic
@@ -87,8 +87,8 @@ fields_not_bad magic bytes fields bad = elim bad.wrong [
 
 pub spelled_or_bad : (bytes magic : List ℕ) (id : ℕ) (records : List (List ℕ)) → length magic ≡ 4 → Spells bytes magic id records → IsBadHead magic bytes → ⊥
 spelled_or_bad bytes magic id records four (inl a) bad = bad.made a.0
-spelled_or_bad bytes magic id records four (inr a) bad = fields_not_bad magic bytes (fields_of magic id a.0 (all_gated a.1) (0 ∷ a.2.behind) bytes four (omega arith) a.2.spelling) bad
+spelled_or_bad bytes magic id records four (inr a) bad = fields_not_bad magic bytes (fields_of magic id a.0 (all_gated a.1) (0 ∷ a.2.rest) bytes four (omega arith) a.2.spelling) bad
 
 pub cut_or_bad : (bytes magic : List ℕ) (index : ℕ) → length magic ≡ 4 → IsCut magic index bytes → IsBadHead magic bytes → ⊥
 cut_or_bad bytes magic index four cut bad =
-    fields_not_bad magic bytes (fields_of magic cut.id cut.head (all_gated cut.gated) (cut.gate ∷ cut.behind) bytes four (omega arith) cut.spelling) bad
+    fields_not_bad magic bytes (fields_of magic cut.id cut.head (all_gated cut.gated) (cut.gate ∷ cut.rest) bytes four (omega arith) cut.spelling) bad

@@ -1,6 +1,8 @@
 pub mod AppendLemmas
+pub mod ChangeLemmas
+pub mod FrameLemmas
 pub mod HeadLemmas
-pub mod HoldsLemmas
+pub mod AcknowledgedLemmas
 pub mod DurabilityLemmas
 pub mod LawLemmas
 pub mod MakeLemmas

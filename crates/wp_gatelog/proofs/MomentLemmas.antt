@@ -1,8 +1,8 @@
 -- The moments of one change and its sync, and the images that they leave.
 use Rattle.std.proofs.Common.{◌≡◌, inl, inr, ℕ, zero, suc, ◌+◌, ◌≤◌, max, List, [], ◌∷◌, ◌++◌, map, length, take, drop, Option, None, Some, Result, Ok, Err, OnOk, OnErr, refl, sym, ◌∙◌, ap, subst, arith, length-append, length-drop, length-take}
 use Rattle.std.proofs.lemmas.List.{append-nil, append_assoc, drop_all, take-map, take_at, length-map}
-use Rattle.wp_outside.specs.Disk.{Moment, Matches, IsImage, settled, put, hide, hide_at, after_write, after_cut, after_sync, IfKnown, added, Tears, Each, Passes, images}
-use Rattle.wp_gatelog.specs.Moments.{Leaves, Within, Goes}
+use Rattle.wp_outside.specs.Disk.{Moment, Matches, IsImage, synced, put, hide, hide_at, after_write, after_cut, after_sync, IfKnown, added, Tears, Each, Passes, images}
+use Rattle.wp_gatelog.specs.Moments.{Leaves, Goes}
 
 -- ---- moments, one after another
 
@@ -28,7 +28,7 @@ pub goes_map : (P Q : Moment → Type 0) → ((m : Moment) → P m → Q m) → 
 goes_map P Q f [] new goes = goes
 goes_map P Q f (m ∷ past) new goes = (goes.0, goes.1, each_map P Q f goes.0 goes.2)
 
--- what holds of what a crash left before, and at each moment since, holds of what it leaves now
+-- what is so of all that a crash left before, and at each moment since, is so of what it leaves now
 pub left_now : (P : List ℕ → Type 0) (old new : List Moment) → ((image : List ℕ) → images old image → P image) → Passes (Leaves P) old new → (image : List ℕ) → images new image → P image
 left_now P old new before passes = from passes.0 passes.1 passes.2
   where
@@ -36,31 +36,18 @@ left_now P old new before passes = from passes.0 passes.1 passes.2
     from [] is each image h = before image (subst (λ (ms : List Moment). images ms image) is h)
     from (m ∷ more) is each image h = each.0 image (subst (λ (ms : List Moment). images ms image) is h)
 
--- ---- a disk that tells
+-- ---- a disk that is known
 
-pub told_map : (P Q : Moment → Type 0) → ((m : Moment) → P m → Q m) → (ms : List Moment) → IfKnown ms P → IfKnown ms Q
-told_map P Q f [] told = tt
-told_map P Q f (m ∷ past) told = f m told
+pub known_map : (P Q : Moment → Type 0) → ((m : Moment) → P m → Q m) → (ms : List Moment) → IfKnown ms P → IfKnown ms Q
+known_map P Q f [] known = tt
+known_map P Q f (m ∷ past) known = f m known
 
-pub told_both : (P Q R : Moment → Type 0) → ((m : Moment) → P m → Q m → R m) → (ms : List Moment) → IfKnown ms P → IfKnown ms Q → IfKnown ms R
-told_both P Q R f [] p q = tt
-told_both P Q R f (m ∷ past) p q = f m p q
+pub known_both : (P Q R : Moment → Type 0) → ((m : Moment) → P m → Q m → R m) → (ms : List Moment) → IfKnown ms P → IfKnown ms Q → IfKnown ms R
+known_both P Q R f [] p q = tt
+known_both P Q R f (m ∷ past) p q = f m p q
 
-pub told_three : (P Q R S : Moment → Type 0) → ((m : Moment) → P m → Q m → R m → S m) → (ms : List Moment) → IfKnown ms P → IfKnown ms Q → IfKnown ms R → IfKnown ms S
-told_three P Q R S f [] p q r = tt
-told_three P Q R S f (m ∷ past) p q r = f m p q r
-
--- of a disk that tells nothing, nothing is owed but that it still tells nothing
-pub told_goes : (P Q : Moment → Type 0) (old new : List Moment) → (old ≡ [] → new ≡ []) → IfKnown old Q → ((m : Moment) → Q m → Goes P old new) → Goes P old new
-told_goes P Q [] new untold told goes = untold refl
-told_goes P Q (m ∷ past) new untold told goes = goes m told
-
-pub told_new : (Q R : Moment → Type 0) (old new : List Moment) → (old ≡ [] → new ≡ []) → IfKnown old Q → ((m : Moment) → Q m → IfKnown new R) → IfKnown new R
-told_new Q R [] new untold told rests = subst (λ (ms : List Moment). IfKnown ms R) (sym (untold refl)) tt
-told_new Q R (m ∷ past) new untold told rests = rests m told
-
-pub told_as : (ms : List Moment) (x y : List ℕ) → x ≡ y → IfKnown ms (λ m. m ≡ settled x) → IfKnown ms (λ m. m ≡ settled y)
-told_as ms x y is told = subst (λ (z : List ℕ). IfKnown ms (λ m. m ≡ settled z)) is told
+pub known_as : (ms : List Moment) (x y : List ℕ) → x ≡ y → IfKnown ms (λ m. m ≡ synced x) → IfKnown ms (λ m. m ≡ synced y)
+known_as ms x y is known = subst (λ (z : List ℕ). IfKnown ms (λ m. m ≡ synced z)) is known
 
 -- ---- bytes of which all are sure
 
@@ -69,14 +56,14 @@ matches_self [] = tt
 matches_self (x ∷ xs) = (refl, matches_self xs)
 
 -- an image begins with what is sure, and its rest matches the rest
-pub matches_front : (xs : List ℕ) (sure : List (Option ℕ)) (c : List ℕ) → Matches (map (λ b. Some b) xs ++ sure) c → (d : List ℕ) × (c ≡ xs ++ d) × Matches sure d
+matches_front : (xs : List ℕ) (sure : List (Option ℕ)) (c : List ℕ) → Matches (map (λ b. Some b) xs ++ sure) c → (d : List ℕ) × (c ≡ xs ++ d) × Matches sure d
 matches_front [] sure c h = (c, refl, h)
 matches_front (x ∷ xs) sure [] h = absurd h
 matches_front (x ∷ xs) sure (b ∷ c) h =
     let rest = matches_front xs sure c h.1 in
     (rest.0, (λ i. h.0 i ∷ rest.1 i), rest.2)
 
-pub image_of_settled : (xs c : List ℕ) → IsImage (settled xs) c → c ≡ xs
+pub image_of_settled : (xs c : List ℕ) → IsImage (synced xs) c → c ≡ xs
 image_of_settled [] [] h = refl
 image_of_settled [] (b ∷ c) h = absurd (omega (arith, h.1))
 image_of_settled (x ∷ xs) [] h = absurd h.0
@@ -97,47 +84,47 @@ length-put zero bytes old = omega (arith, length-append bytes (drop (length byte
 length-put (suc at) bytes [] = omega (arith, length-put at bytes [])
 length-put (suc at) bytes (x ∷ old) = omega (arith, length-put at bytes old)
 
--- what a read gives behind a write or a cut is one of the images
-pub write_reads_image : (at : ℕ) (bytes before : List ℕ) → IsImage (after_write at bytes (settled before)) (after_write at bytes (settled before)).reads
+-- what a read gives after a write or a cut is one of the images
+pub write_reads_image : (at : ℕ) (bytes before : List ℕ) → IsImage (after_write at bytes (synced before)) (after_write at bytes (synced before)).reads
 write_reads_image at [] before = (matches_self before, omega arith)
 write_reads_image at (b ∷ bytes) before = (hide_put at (b ∷ bytes) before, length-put at (b ∷ bytes) before)
 
-pub cut_reads_image : (len : ℕ) (before : List ℕ) → IsImage (after_cut len (settled before)) (after_cut len (settled before)).reads
+pub cut_reads_image : (len : ℕ) (before : List ℕ) → IsImage (after_cut len (synced before)) (after_cut len (synced before)).reads
 cut_reads_image len before =
     (subst (λ (s : List (Option ℕ)). Matches s (take len before)) (sym (take-map (λ b. Some b) len before)) (matches_self (take len before)), omega (arith, length-take len before))
 
 -- ---- one step and its sync, from a disk that has all of its bytes for good
 
 module _ (step : Moment → Moment) (before : List ℕ) where
-  within_step : (m : Moment) → m ≡ settled before → Within (step (settled before)) (step m)
+  within_step : (m : Moment) → m ≡ synced before → Leaves (IsImage (step (synced before))) (step m)
   within_step m is image h = subst (λ (n : Moment). IsImage (step n) image) is h
 
-  pub torn_goes : (old new : List Moment) → IfKnown old (λ m. m ≡ settled before) → Tears step old new → Goes (Within (step (settled before))) old new
-  torn_goes [] new told torn = elim torn [ inl same ↦ same | inr w ↦ w.1 ]
-  torn_goes (m ∷ past) new told torn = elim torn [
+  pub torn_goes : (old new : List Moment) → IfKnown old (λ m. m ≡ synced before) → Tears step old new → Goes (Leaves (IsImage (step (synced before)))) old new
+  torn_goes [] new known torn = elim torn [ inl same ↦ same | inr w ↦ w.1 ]
+  torn_goes (m ∷ past) new known torn = elim torn [
     | inl same ↦ ([], same, tt)
-    | inr w ↦ (record (step m) { reads = w.0 } ∷ [], w.1, (λ image h. within_step m told image h, tt))
+    | inr w ↦ (record (step m) { reads = w.0 } ∷ [], w.1, (λ image h. within_step m known image h, tt))
   ]
 
-  pub step_goes : (old new : List Moment) → IfKnown old (λ m. m ≡ settled before) → new ≡ added step old → Goes (Within (step (settled before))) old new
-  step_goes [] new told adds = adds
-  step_goes (m ∷ past) new told adds = (step m ∷ [], adds, (within_step m told, tt))
+  step_goes : (old new : List Moment) → IfKnown old (λ m. m ≡ synced before) → new ≡ added step old → Goes (Leaves (IsImage (step (synced before)))) old new
+  step_goes [] new known adds = adds
+  step_goes (m ∷ past) new known adds = (step m ∷ [], adds, (within_step m known, tt))
 
   -- the step was made, and then a sync, or not
-  pub synced_goes : {T E : Type 0} (old mid new : List Moment) (result : Result T E) → IsImage (step (settled before)) (step (settled before)).reads → IfKnown old (λ m. m ≡ settled before) → mid ≡ added step old → OnOk result (new ≡ added after_sync mid) → OnErr result (new ≡ mid) → Goes (Within (step (settled before))) old new
-  synced_goes [] mid new (Ok x) reads told adds syncs kept = subst (λ (l : List Moment). new ≡ added after_sync l) adds syncs
-  synced_goes [] mid new (Err e) reads told adds syncs kept = kept ∙ adds
-  synced_goes (m ∷ past) mid new (Ok x) reads told adds syncs kept =
-      let last : new ≡ settled (step m).reads ∷ step m ∷ m ∷ past = subst (λ (l : List Moment). new ≡ added after_sync l) adds syncs in
-      let is : (step m).reads ≡ (step (settled before)).reads = ap (λ (n : Moment). (step n).reads) told in (
-        settled (step m).reads ∷ step m ∷ [],
+  pub synced_goes : {T E : Type 0} (old mid new : List Moment) (result : Result T E) → IsImage (step (synced before)) (step (synced before)).reads → IfKnown old (λ m. m ≡ synced before) → mid ≡ added step old → OnOk result (new ≡ added after_sync mid) → OnErr result (new ≡ mid) → Goes (Leaves (IsImage (step (synced before)))) old new
+  synced_goes [] mid new (Ok x) reads known adds syncs kept = subst (λ (l : List Moment). new ≡ added after_sync l) adds syncs
+  synced_goes [] mid new (Err e) reads known adds syncs kept = kept ∙ adds
+  synced_goes (m ∷ past) mid new (Ok x) reads known adds syncs kept =
+      let last : new ≡ synced (step m).reads ∷ step m ∷ m ∷ past = subst (λ (l : List Moment). new ≡ added after_sync l) adds syncs in
+      let is : (step m).reads ≡ (step (synced before)).reads = ap (λ (n : Moment). (step n).reads) known in (
+        synced (step m).reads ∷ step m ∷ [],
         last,
         (
-          λ image h. subst (λ (l : List ℕ). IsImage (step (settled before)) l) (sym is ∙ sym (image_of_settled (step m).reads image h)) reads,
-          (within_step m told, tt),
+          λ image h. subst (λ (l : List ℕ). IsImage (step (synced before)) l) (sym is ∙ sym (image_of_settled (step m).reads image h)) reads,
+          (within_step m known, tt),
         ),
       )
-  synced_goes (m ∷ past) mid new (Err e) reads told adds syncs kept = step_goes (m ∷ past) new told (kept ∙ adds)
+  synced_goes (m ∷ past) mid new (Err e) reads known adds syncs kept = step_goes (m ∷ past) new known (kept ∙ adds)
 
 -- ---- images of a log that is changed
 
@@ -148,34 +135,34 @@ hide_past zero n (x ∷ sure) le = absurd (omega arith)
 hide_past (suc at) n [] le = refl
 hide_past (suc at) n (x ∷ sure) le = ap (λ (s : List (Option ℕ)). x ∷ s) (hide_past at n sure (omega arith))
 
--- bytes written behind all others leave those as they are
-pub image_behind : (front : List ℕ) (at : ℕ) (bytes image : List ℕ) → at ≡ length front → IsImage (after_write at bytes (settled front)) image → (d : List ℕ) × (image ≡ front ++ d)
-image_behind front at [] image is h = ([], image_of_settled front image h ∙ sym (append-nil front))
-image_behind front at (b ∷ bytes) image is h =
+-- bytes written after all others leave those as they are
+pub image_after : (front : List ℕ) (at : ℕ) (bytes image : List ℕ) → at ≡ length front → IsImage (after_write at bytes (synced front)) image → (d : List ℕ) × (image ≡ front ++ d)
+image_after front at [] image is h = ([], image_of_settled front image h ∙ sym (append-nil front))
+image_after front at (b ∷ bytes) image is h =
     let sure : List (Option ℕ) = map (λ b. Some b) front in
     let same : hide_at at (length (b ∷ bytes)) sure ≡ sure ++ [] = hide_past at (length (b ∷ bytes)) sure (omega (arith, length-map front (λ b. Some b))) ∙ sym (append-nil sure) in
     let rest = matches_front front [] image (subst (λ (s : List (Option ℕ)). Matches s image) same h.0) in
     (rest.0, rest.1)
 
-hide_gate : (front : List ℕ) (gate : ℕ) (behind : List ℕ) → hide_at (length front) 1 (map (λ b. Some b) (front ++ gate ∷ behind)) ≡ map (λ b. Some b) front ++ None ∷ map (λ b. Some b) behind
-hide_gate [] gate behind = refl
-hide_gate (x ∷ front) gate behind = ap (λ (s : List (Option ℕ)). Some x ∷ s) (hide_gate front gate behind)
+hide_gate : (front : List ℕ) (gate : ℕ) (following : List ℕ) → hide_at (length front) 1 (map (λ b. Some b) (front ++ gate ∷ following)) ≡ map (λ b. Some b) front ++ None ∷ map (λ b. Some b) following
+hide_gate [] gate following = refl
+hide_gate (x ∷ front) gate following = ap (λ (s : List (Option ℕ)). Some x ∷ s) (hide_gate front gate following)
 
-any_gate : (front behind d image : List ℕ) → image ≡ front ++ d → Matches (None ∷ map (λ b. Some b) behind) d → (gate : ℕ) × (more : List ℕ) × (image ≡ front ++ gate ∷ (behind ++ more))
-any_gate front behind [] image is h = absurd h
-any_gate front behind (gate ∷ d) image is h =
-    let rest = matches_front behind [] d (subst (λ (s : List (Option ℕ)). Matches s d) (sym (append-nil (map (λ b. Some b) behind))) h) in
+any_gate : (front following d image : List ℕ) → image ≡ front ++ d → Matches (None ∷ map (λ b. Some b) following) d → (gate : ℕ) × (more : List ℕ) × (image ≡ front ++ gate ∷ (following ++ more))
+any_gate front following [] image is h = absurd h
+any_gate front following (gate ∷ d) image is h =
+    let rest = matches_front following [] d (subst (λ (s : List (Option ℕ)). Matches s d) (sym (append-nil (map (λ b. Some b) following))) h) in
     (gate, rest.0, is ∙ ap (λ (l : List ℕ). front ++ gate ∷ l) rest.1)
 
 -- while one gate is written, it may be any, and the rest stays
-pub image_of_gate : (front : List ℕ) (at gate : ℕ) (behind image : List ℕ) → at ≡ length front → IsImage (after_write at (1 ∷ []) (settled (front ++ gate ∷ behind))) image → (g : ℕ) × (more : List ℕ) × (image ≡ front ++ g ∷ (behind ++ more))
-image_of_gate front at gate behind image is h =
-    let found : Matches (hide_at (length front) 1 (map (λ b. Some b) (front ++ gate ∷ behind))) image = subst (λ (n : ℕ). Matches (hide_at n 1 (map (λ b. Some b) (front ++ gate ∷ behind))) image) is h.0 in
-    let rest = matches_front front (None ∷ map (λ b. Some b) behind) image (subst (λ (s : List (Option ℕ)). Matches s image) (hide_gate front gate behind) found) in
-    any_gate front behind rest.0 image rest.1 rest.2
+pub image_of_gate : (front : List ℕ) (at gate : ℕ) (following image : List ℕ) → at ≡ length front → IsImage (after_write at (1 ∷ []) (synced (front ++ gate ∷ following))) image → (g : ℕ) × (more : List ℕ) × (image ≡ front ++ g ∷ (following ++ more))
+image_of_gate front at gate following image is h =
+    let found : Matches (hide_at (length front) 1 (map (λ b. Some b) (front ++ gate ∷ following))) image = subst (λ (n : ℕ). Matches (hide_at n 1 (map (λ b. Some b) (front ++ gate ∷ following))) image) is h.0 in
+    let rest = matches_front front (None ∷ map (λ b. Some b) following) image (subst (λ (s : List (Option ℕ)). Matches s image) (hide_gate front gate following) found) in
+    any_gate front following rest.0 image rest.1 rest.2
 
--- a cut leaves what stands before it
-pub image_of_cut : (kept rest image : List ℕ) (len : ℕ) → len ≡ length kept → IsImage (after_cut len (settled (kept ++ rest))) image → (d : List ℕ) × (image ≡ kept ++ d)
+-- a cut leaves what is before it
+pub image_of_cut : (kept rest image : List ℕ) (len : ℕ) → len ≡ length kept → IsImage (after_cut len (synced (kept ++ rest))) image → (d : List ℕ) × (image ≡ kept ++ d)
 image_of_cut kept rest image len is h =
     let known : take len (map (λ b. Some b) (kept ++ rest)) ≡ map (λ b. Some b) kept ++ [] =
     take-map (λ b. Some b) len (kept ++ rest) ∙ ap (λ (l : List ℕ). map (λ b. Some b) l) (take_at kept rest len (sym is)) ∙ sym (append-nil (map (λ b. Some b) kept)) in
@@ -184,18 +171,18 @@ image_of_cut kept rest image len is h =
 
 -- ---- what a read gives then
 
-put_behind : (front bytes : List ℕ) (at : ℕ) → at ≡ length front → put at bytes front ≡ front ++ bytes
-put_behind [] bytes zero is = ap (λ (l : List ℕ). bytes ++ l) (drop_all (length bytes) [] (omega arith)) ∙ append-nil bytes
-put_behind [] bytes (suc at) is = absurd (omega arith)
-put_behind (x ∷ front) bytes zero is = absurd (omega arith)
-put_behind (x ∷ front) bytes (suc at) is = ap (λ (l : List ℕ). x ∷ l) (put_behind front bytes at (omega arith))
+put_after : (front bytes : List ℕ) (at : ℕ) → at ≡ length front → put at bytes front ≡ front ++ bytes
+put_after [] bytes zero is = ap (λ (l : List ℕ). bytes ++ l) (drop_all (length bytes) [] (omega arith)) ∙ append-nil bytes
+put_after [] bytes (suc at) is = absurd (omega arith)
+put_after (x ∷ front) bytes zero is = absurd (omega arith)
+put_after (x ∷ front) bytes (suc at) is = ap (λ (l : List ℕ). x ∷ l) (put_after front bytes at (omega arith))
 
-pub reads_behind : (front bytes : List ℕ) (at : ℕ) → at ≡ length front → (after_write at bytes (settled front)).reads ≡ front ++ bytes
-reads_behind front [] at is = sym (append-nil front)
-reads_behind front (b ∷ bytes) at is = put_behind front (b ∷ bytes) at is
+pub reads_after : (front bytes : List ℕ) (at : ℕ) → at ≡ length front → (after_write at bytes (synced front)).reads ≡ front ++ bytes
+reads_after front [] at is = sym (append-nil front)
+reads_after front (b ∷ bytes) at is = put_after front (b ∷ bytes) at is
 
-pub put_gate : (front : List ℕ) (gate : ℕ) (behind : List ℕ) (at : ℕ) → at ≡ length front → put at (1 ∷ []) (front ++ gate ∷ behind) ≡ front ++ 1 ∷ behind
-put_gate [] gate behind zero is = refl
-put_gate [] gate behind (suc at) is = absurd (omega arith)
-put_gate (x ∷ front) gate behind zero is = absurd (omega arith)
-put_gate (x ∷ front) gate behind (suc at) is = ap (λ (l : List ℕ). x ∷ l) (put_gate front gate behind at (omega arith))
+pub put_gate : (front : List ℕ) (gate : ℕ) (following : List ℕ) (at : ℕ) → at ≡ length front → put at (1 ∷ []) (front ++ gate ∷ following) ≡ front ++ 1 ∷ following
+put_gate [] gate following zero is = refl
+put_gate [] gate following (suc at) is = absurd (omega arith)
+put_gate (x ∷ front) gate following zero is = absurd (omega arith)
+put_gate (x ∷ front) gate following (suc at) is = ap (λ (l : List ℕ). x ∷ l) (put_gate front gate following at (omega arith))

@@ -1,115 +1,69 @@
 -- A log is opened.
-use Rattle.std.proofs.Common.{◌≡◌, inl, inr, ℕ, ◌<◌, List, [], ◌∷◌, ◌++◌, length, drop, Option, Result, Ok, Err, IfOk, IfErr, refl, sym, ◌∙◌, ap, subst, arith, length-append}
+use Rattle.std.proofs.Common.{◌≡◌, inl, inr, ℕ, ◌<◌, List, [], ◌∷◌, ◌++◌, length, drop, Option, Result, Ok, Err, refl, sym, ◌∙◌, ap, subst, arith, length-append}
 use Rattle.std.proofs.lemmas.List.{append_assoc, drop_at}
-use Rattle.wp_outside.specs.Disk.{Moment, settled, IfKnown, added, after_sync}
+use Rattle.wp_outside.specs.Disk.{Moment, synced, IfKnown, added, after_sync, ReadsItself}
 use Rattle.wp_gatelog.specs.declared.error.LogError.{LogError}
 use Rattle.wp_gatelog.specs.declared.error.LogError.TheVariants.{Memory, DiskFault, BadHead, Cut}
-use Rattle.wp_gatelog.specs.declared.gate.Gate.{Gate}
-use Rattle.wp_gatelog.specs.declared.head.Head.TheVariants.{Unmade, Made}
+use Rattle.wp_gatelog.specs.declared.gate.GateByte.{GateByte}
+use Rattle.wp_gatelog.specs.declared.open.Found.{Found}
+use Rattle.wp_gatelog.specs.declared.head.Head.TheVariants.{Made}
+use Rattle.wp_gatelog.specs.Answers.{Answers, Opens}
+use Rattle.wp_gatelog.specs.Changes.{BringsTo}
+use Rattle.wp_gatelog.specs.Durability.{HasAcknowledged, LosesNoRecord}
 use Rattle.wp_gatelog.specs.Heads.{BeginsLog, IsHead, SpellsNone}
-use Rattle.wp_gatelog.specs.Durability.{Preserves}
 use Rattle.wp_gatelog.specs.Log.{IsAtRest}
 use Rattle.wp_gatelog.specs.Repair.{IsReadLog, IsRepaired}
 use Rattle.wp_gatelog.specs.Moments.{Leaves, Goes}
-use Rattle.wp_gatelog.specs.Opening.{IsFound, IsRefused, Repairs, RepairsMade}
+use Rattle.wp_gatelog.specs.Opening.{IsFound, IsRefused, Repairs}
 use Rattle.wp_gatelog.specs.Scanning.{HasRead, IsReadFault}
 use Rattle.wp_gatelog.specs.Spelling.{Gated, identity, all_gated, log_of, IsUnmade}
+use Rattle.wp_gatelog.proofs.DurabilityLemmas.{preserves_on, sync_preserves}
 use Rattle.wp_gatelog.proofs.HeadLemmas.{length-identity}
-use Rattle.wp_gatelog.proofs.DurabilityLemmas.{lasts_told}
-use Rattle.wp_gatelog.proofs.MomentLemmas.{goes_on, goes_map, told_map, told_both, told_three, told_goes, told_new, image_of_settled}
+use Rattle.wp_gatelog.proofs.MomentLemmas.{goes_on, goes_map, image_of_settled}
+
+-- ---- a disk that is known
+
+pub known_at : (P : Moment → Type 0) (ms past : List Moment) (m : Moment) → ms ≡ m ∷ past → IfKnown ms P → P m
+known_at P ms past m is known = subst (λ (l : List Moment). IfKnown l P) is known
+
+-- ---- a log that was read
 
 module _ (magic : List ℕ) (id head len : ℕ) (bytes : List ℕ) (begins : BeginsLog magic id head len bytes) where
-  -- the bytes behind the head are all but its ten
-  split_head : (behind : List ℕ) → drop 10 bytes ≡ behind → bytes ≡ head ∷ (identity magic id ++ behind)
-  split_head behind is =
+  -- the bytes after the head are all but its ten
+  split_head : (following : List ℕ) → drop 10 bytes ≡ following → bytes ≡ head ∷ (identity magic id ++ following)
+  split_head following is =
       let size : length (head ∷ identity magic id) ≡ 10 = omega (arith, length-identity magic id begins.magic_size) in
       let rest : drop 10 bytes ≡ begins.made.0 ∷ begins.made.1 =
       ap (λ (l : List ℕ). drop 10 l) begins.made.3 ∙ drop_at (head ∷ identity magic id) (begins.made.0 ∷ begins.made.1) 10 size in
       begins.made.3 ∙ ap (λ (l : List ℕ). head ∷ (identity magic id ++ l)) (sym rest ∙ is)
 
-  split_log : (gated : List Gated) (behind : List ℕ) → drop 10 bytes ≡ all_gated gated ++ behind → bytes ≡ log_of magic id head gated ++ behind
-  split_log gated behind is =
-      split_head (all_gated gated ++ behind) is ∙ ap (λ (l : List ℕ). head ∷ l) (sym (append_assoc (identity magic id) (all_gated gated) behind))
+  split_log : (gated : List Gated) (following : List ℕ) → drop 10 bytes ≡ all_gated gated ++ following → bytes ≡ log_of magic id head gated ++ following
+  split_log gated following is =
+      split_head (all_gated gated ++ following) is ∙ ap (λ (l : List ℕ). head ∷ l) (sym (append_assoc (identity magic id) (all_gated gated) following))
 
-  log_read : (records : List (List ℕ)) (last : Option Gate) (end : ℕ) (m : Moment) → m ≡ settled bytes
-      → (len ≡ length m.reads → (behind : List ℕ) × HasRead (drop 10 m.reads) (0 ∷ behind) records last end) → IsReadLog magic id head records last end len bytes
-  log_read records last end m on found =
-      let reads : m.reads ≡ bytes = ap (λ (n : Moment). n.reads) on in
-      let w = found (begins.size ∙ ap length (sym reads)) in
-      record {
-        gated = w.1.gated;
-        stands = record {
-          behind = w.0;
-          spelling = split_log w.1.gated (0 ∷ w.0) (ap (λ (l : List ℕ). drop 10 l) (sym reads) ∙ w.1.spelling);
-          head_open = begins.made.2;
-          gates_open = w.1.gates_open;
-        };
-        same = w.1.same;
-        last_is = w.1.last_is;
-        place = omega (arith, w.1.place, length-append (identity magic id) (all_gated w.1.gated), length-identity magic id begins.magic_size);
-        size = begins.size;
-        magic_size = begins.magic_size;
-      }
+  pub begins_long : 10 < len
+  begins_long =
+      omega (arith, begins.size, ap length begins.made.3, length-identity magic id begins.magic_size, length-append (identity magic id) (begins.made.0 ∷ begins.made.1))
 
-  log_found : (records : List (List ℕ)) (last : Option Gate) (end : ℕ) → IsReadLog magic id head records last end len bytes → IsFound magic id bytes id records
-  log_found records last end log = record { spelled = inr (head, log.gated, log.stands, log.same); unmade = λ _. refl }
+  pub log_read : (records : List (List ℕ)) (last : Option GateByte) (end : ℕ) → (following : List ℕ) × HasRead (drop 10 bytes) (0 ∷ following) records last end → IsReadLog magic id head records last end len bytes
+  log_read records last end w = record {
+    gated = w.1.gated;
+    has_log = record {
+      rest = w.0;
+      spelling = split_log w.1.gated (0 ∷ w.0) w.1.spelling;
+      head_open = begins.made.2;
+      gates_open = w.1.gates_open;
+    };
+    same = w.1.same;
+    last_is = w.1.last_is;
+    place = omega (arith, w.1.place, length-append (identity magic id) (all_gated w.1.gated), length-identity magic id begins.magic_size);
+    size = begins.size;
+    magic_size = begins.magic_size;
+  }
 
-  pub log_refused : (why : LogError) (m : Moment) → m ≡ settled bytes → (len ≡ length m.reads → IsReadFault (drop 10 m.reads) why) → IsRefused magic bytes why
-  log_refused Memory m on found = tt
-  log_refused DiskFault m on found = tt
-  log_refused BadHead m on found = absurd (found (begins.size ∙ ap (λ (n : Moment). length n.reads) (sym on)))
-  log_refused (Cut index) m on found =
-      let reads : m.reads ≡ bytes = ap (λ (n : Moment). n.reads) on in
-      let w = found (begins.size ∙ ap length (sym reads)) in
-      record {
-        id = id;
-        head = head;
-        gated = w.0;
-        gate = w.1;
-        behind = w.2;
-        spelling = split_log w.0 (w.1 ∷ w.2) (ap (λ (l : List ℕ). drop 10 l) (sym reads) ∙ w.7);
-        head_open = begins.made.2;
-        gates_open = w.3;
-        before = w.4;
-        gate_open = w.5;
-        short = w.6;
-      }
-
-  -- by the disk's moments as they were found, as they were read and as they are left
-  module _ (records : List (List ℕ)) (last : Option Gate) (end : ℕ) (old read new : List Moment) (kept : read ≡ old) (told : IfKnown old (λ m. m ≡ settled bytes))
-      (found : IfKnown old (λ m. len ≡ length m.reads → (behind : List ℕ) × HasRead (drop 10 m.reads) (0 ∷ behind) records last end)) where
-    logs : IfKnown old (λ _. IsReadLog magic id head records last end len bytes)
-    logs =
-        told_both (λ m. m ≡ settled bytes) (λ m. len ≡ length m.reads → (behind : List ℕ) × HasRead (drop 10 m.reads) (0 ∷ behind) records last end)
-        (λ _. IsReadLog magic id head records last end len bytes) (log_read records last end) old told found
-
-    told_kept : IfKnown read (λ m. m ≡ settled bytes)
-    told_kept = subst (λ (ms : List Moment). IfKnown ms (λ m. m ≡ settled bytes)) (sym kept) told
-
-    pub logs_found : IfKnown old (λ _. IsFound magic id bytes id records)
-    logs_found = told_map (λ _. IsReadLog magic id head records last end len bytes) (λ _. IsFound magic id bytes id records) (λ _. log_found records last end) old logs
-
-    pub logs_go : (read ≡ [] → new ≡ [])
-        → ((log : IsReadLog magic id head records last end len bytes) → IfKnown read (λ m. m ≡ settled bytes) → Goes (Leaves (IsRepaired magic id head log.gated)) read new) → Goes (Leaves (RepairsMade magic id head bytes)) old new
-    logs_go untold goes =
-        let P : Moment → Type 0 = Leaves (RepairsMade magic id head bytes) in
-        told_goes P (λ _. IsReadLog magic id head records last end len bytes) old new (λ none. untold (kept ∙ none)) logs
-        (λ m log. subst (λ (ms : List Moment). Goes P ms new) kept
-        (goes_map (Leaves (IsRepaired magic id head log.gated)) P (λ n leaves image h. (log.gated, log.stands, leaves image h)) read new (goes log told_kept)))
-
-    pub logs_last : (P : Moment → Type 0) → (read ≡ [] → new ≡ []) → (IsReadLog magic id head records last end len bytes → IfKnown read (λ m. m ≡ settled bytes) → Preserves P read new) → Preserves P old new
-    logs_last P untold lasts =
-        lasts_told P (λ _. IsReadLog magic id head records last end len bytes) old new (λ none. untold (kept ∙ none)) logs
-        (λ m log. subst (λ (ms : List Moment). Preserves P ms new) kept (lasts log told_kept))
-
-    pub logs_rest : (read ≡ [] → new ≡ [])
-        → (IsReadLog magic id head records last end len bytes → IfKnown read (λ m. m ≡ settled bytes) → IfKnown new (IsAtRest magic id end records)) → IfKnown new (IsAtRest magic id end records)
-    logs_rest untold rests =
-        told_new (λ _. IsReadLog magic id head records last end len bytes) (IsAtRest magic id end records) old new (λ none. untold (kept ∙ none)) logs (λ m log. rests log told_kept)
-
-  found_made : (asked : ℕ) (records : List (List ℕ)) → IsFound magic id bytes id records → IsFound magic asked bytes id records
-  found_made asked records found = record {
-    spelled = found.spelled;
+  pub log_found : (asked : ℕ) (records : List (List ℕ)) (last : Option GateByte) (end : ℕ) → IsReadLog magic id head records last end len bytes → IsFound magic asked bytes id records
+  log_found asked records last end log = record {
+    spelled = inr (head, log.gated, log.has_log, log.same);
     unmade = λ unmade. absurd (opened (identity magic id ++ begins.made.0 ∷ begins.made.1)
         (omega (arith, length-append (identity magic id) (begins.made.0 ∷ begins.made.1))) (subst IsUnmade begins.made.3 unmade));
   }
@@ -118,114 +72,125 @@ module _ (magic : List ℕ) (id head len : ℕ) (bytes : List ℕ) (begins : Beg
       opened [] some unmade = omega arith
       opened (b ∷ tail) some unmade = begins.made.2 unmade
 
-module _ (magic : List ℕ) (len : ℕ) (bytes : List ℕ) where
-  unmade_told : (m : Moment) → m ≡ settled bytes → len ≡ length m.reads → IsHead magic m.reads Unmade → IsUnmade bytes × (len ≡ length bytes)
-  unmade_told m on size head =
-      let reads : m.reads ≡ bytes = ap (λ (n : Moment). n.reads) on in
-      (subst IsUnmade reads head, size ∙ ap length reads)
+  pub log_refused : (why : LogError) → IsReadFault id (drop 10 bytes) why → IsRefused magic bytes why
+  log_refused Memory w = tt
+  log_refused DiskFault w = tt
+  log_refused BadHead w = absurd w
+  log_refused (Cut index named) w = (
+    record {
+      id = id;
+      head = head;
+      gated = w.1;
+      gate = w.2;
+      rest = w.3;
+      spelling = split_log w.1 (w.2 ∷ w.3) w.8;
+      head_open = begins.made.2;
+      gates_open = w.4;
+      before = w.5;
+      gate_open = w.6;
+      short = w.7;
+    },
+    w.0,
+  )
 
-  made_told : (gate id : ℕ) → length magic ≡ 4 → (m : Moment) → m ≡ settled bytes → len ≡ length m.reads → IsHead magic m.reads (Made gate id) → BeginsLog magic id gate len bytes
-  made_told gate id four m on size head =
-      let reads : m.reads ≡ bytes = ap (λ (n : Moment). n.reads) on in
-      record { magic_size = four; made = subst (λ (l : List ℕ). IsHead magic l (Made gate id)) reads head; size = size ∙ ap length reads }
+-- ---- what an opening does and answers
 
-made_rests : (magic : List ℕ) (id : ℕ) (records : List (List ℕ)) → length magic ≡ 4 → records ≡ [] → (m : Moment) → m ≡ settled (log_of magic id 1 [] ++ 0 ∷ []) → IsAtRest magic id 10 records m
+-- it is refused, and the disk is as it was
+pub opens_refused : (magic : List ℕ) (asked : ℕ) (bytes : List ℕ) (why : LogError) (old new : List Moment) → new ≡ old → IsRefused magic bytes why → Opens magic asked bytes old new (Err why)
+opens_refused magic asked bytes why old new same refused = record {
+  passed = subst (λ (ms : List Moment). Goes (Leaves (Repairs magic asked bytes)) old ms) (sym same) (none old);
+  durable = λ id records. ([], same, tt);
+  answered = refused;
+}
+  where
+    none : (ms : List Moment) → Goes (Leaves (Repairs magic asked bytes)) ms ms
+    none [] = refl
+    none (m ∷ past) = ([], refl, tt)
+
+-- by cases on whether the disk is known
+module _ (magic : List ℕ) (asked : ℕ) (new : List Moment) (result : Result Found LogError) where
+  pub made_cases : (id head len : ℕ) (old : List Moment) → ((past : List Moment) (m : Moment) → old ≡ m ∷ past → m ≡ synced m.reads → BeginsLog magic id head len m.reads → Opens magic asked m.reads old new result)
+      → IfKnown old (λ m. m ≡ synced m.reads → BeginsLog magic id head len m.reads → Opens magic asked m.reads old new result)
+  made_cases id head len [] f = tt
+  made_cases id head len (m ∷ past) f = f past m refl
+
+  pub synced_cases : (old : List Moment) → ((past : List Moment) (m : Moment) → old ≡ m ∷ past → m ≡ synced m.reads → Opens magic asked m.reads old new result)
+      → IfKnown old (λ m. m ≡ synced m.reads → Opens magic asked m.reads old new result)
+  synced_cases [] f = tt
+  synced_cases (m ∷ past) f = f past m refl
+
+  pub found_cases : (old : List Moment) → ((past : List Moment) (m : Moment) → old ≡ m ∷ past → Opens magic asked m.reads old new result) → IfKnown old (λ m. Opens magic asked m.reads old new result)
+  found_cases [] f = tt
+  found_cases (m ∷ past) f = f past m refl
+
+-- by a call that brings the disk somewhere
+pub opens_brings : {T E : Type 0} (magic : List ℕ) (asked : ℕ) (bytes : List ℕ) (P : List ℕ → Type 0) (Q : Moment → Type 0) (old read new : List Moment) (done : Result T E) (result : Result Found LogError)
+    → read ≡ old → ((image : List ℕ) → P image → Repairs magic asked bytes image) → Answers magic asked bytes new result → BringsTo magic P Q read new done → Opens magic asked bytes old new result
+opens_brings magic asked bytes P Q old read new done result kept f answered brings =
+    subst (λ (ms : List Moment). Opens magic asked bytes ms new result) kept (record {
+      passed = goes_map (Leaves P) (Leaves (Repairs magic asked bytes)) (λ m leaves image h. f image (leaves image h)) read new brings.passed;
+      durable = brings.durable;
+      answered = answered;
+    })
+
+pub repairs_made : (magic : List ℕ) (asked id head : ℕ) (records : List (List ℕ)) (last : Option GateByte) (end len : ℕ) (bytes : List ℕ) (log : IsReadLog magic id head records last end len bytes)
+    → (image : List ℕ) → IsRepaired magic id head log.gated image → Repairs magic asked bytes image
+repairs_made magic asked id head records last end len bytes log image repaired = inr (inr (id, head, log.gated, log.has_log, repaired))
+
+pub repairs_unmade : (magic : List ℕ) (asked : ℕ) (bytes : List ℕ) → IsUnmade bytes → (image : List ℕ) → SpellsNone magic asked image → Repairs magic asked bytes image
+repairs_unmade magic asked bytes unmade image none = inr (inl (unmade, none))
+
+pub begins : (magic : List ℕ) (len : ℕ) (bytes : List ℕ) (gate id : ℕ) → length magic ≡ 4 → len ≡ length bytes → IsHead magic bytes (Made gate id) → BeginsLog magic id gate len bytes
+begins magic len bytes gate id four size head = record { magic_size = four; made = head; size = size }
+
+-- the same, of a disk that was only read before
+pub opens_read : (magic : List ℕ) (asked : ℕ) (bytes : List ℕ) (old read new : List Moment) (result : Result Found LogError) → read ≡ old → Opens magic asked bytes read new result → Opens magic asked bytes old new result
+opens_read magic asked bytes old read new result kept opens = subst (λ (ms : List Moment). Opens magic asked bytes ms new result) kept opens
+
+pub found_none : (magic : List ℕ) (asked : ℕ) (bytes : List ℕ) → IsUnmade bytes → (records : List (List ℕ)) → records ≡ [] → IsFound magic asked bytes asked records
+found_none magic asked bytes unmade records none = record { spelled = inl (unmade, none); unmade = λ _. refl }
+
+pub made_rests : (magic : List ℕ) (id : ℕ) (records : List (List ℕ)) → length magic ≡ 4 → records ≡ [] → (m : Moment) → m ≡ synced (log_of magic id 1 [] ++ 0 ∷ []) → IsAtRest magic id 10 records m
 made_rests magic id records four none m on = record {
   gated = [];
   acknowledged = record { gates_open = tt; last = refl; same = none };
   place = omega (arith, length-identity magic id four, length-append {A = ℕ} (identity magic id) []);
-  settled_on = on;
+  on_disk = on;
 }
 
--- ---- the two ways, by the disk's moments as they were found, as they were read and as they are left
+-- after the first sync
+pub opens_synced : (magic : List ℕ) (asked : ℕ) (result : Result Found LogError) (old mid new past : List Moment) (m : Moment) → old ≡ m ∷ past → ReadsItself old → mid ≡ added after_sync old
+    → IfKnown mid (λ n. n ≡ synced n.reads → Opens magic asked n.reads mid new result) → Opens magic asked m.reads old new result
+opens_synced magic asked result old mid new past m is itself synced opens =
+    let P : List ℕ → Type 0 = Repairs magic asked m.reads in
+    let more : mid ≡ synced m.reads ∷ m ∷ past = synced ∙ ap (λ (ms : List Moment). added after_sync ms) is in
+    let rest : Opens magic asked m.reads mid new result = known_at (λ n. n ≡ synced n.reads → Opens magic asked n.reads mid new result) mid (m ∷ past) (synced m.reads) more opens refl in
+    let first : Goes (Leaves P) old mid = subst (λ (ms : List Moment). Goes (Leaves P) ms mid) (sym is) (synced m.reads ∷ [], more, (λ image h. inl (image_of_settled m.reads image h), tt)) in
+    record {
+      passed = goes_on (Leaves P) old mid new first rest.passed;
+      durable = λ id records. preserves_on (Leaves (HasAcknowledged magic id records)) old mid new (sync_preserves (HasAcknowledged magic id records) old mid itself synced) (rest.durable id records);
+      answered = rest.answered;
+    }
 
-module _ (magic : List ℕ) (asked len : ℕ) (bytes : List ℕ) (old read new : List Moment) (kept : read ≡ old) (untold : read ≡ [] → new ≡ [])
-    (told : IfKnown old (λ m. m ≡ settled bytes)) (size : IfKnown old (λ m. len ≡ length m.reads)) where
-  told_read : IfKnown read (λ m. m ≡ settled bytes)
-  told_read = subst (λ (ms : List Moment). IfKnown ms (λ m. m ≡ settled bytes)) (sym kept) told
+-- ---- what is known of a disk before and after
 
-  unmade : IfKnown old (λ m. IsHead magic m.reads Unmade) → IfKnown old (λ _. IsUnmade bytes × (len ≡ length bytes))
-  unmade head =
-      told_three (λ m. m ≡ settled bytes) (λ m. len ≡ length m.reads) (λ m. IsHead magic m.reads Unmade) (λ _. IsUnmade bytes × (len ≡ length bytes))
-      (unmade_told magic len bytes) old told size head
+module _ (magic : List ℕ) (asked : ℕ) where
+  pub opens_passed : (result : Result Found LogError) (old new : List Moment) → IfKnown old (λ m. Opens magic asked m.reads old new result) → IfKnown old (λ m. Goes (Leaves (Repairs magic asked m.reads)) old new)
+  opens_passed result [] new opens = tt
+  opens_passed result (m ∷ past) new opens = opens.passed
 
-  pub unmade_goes : IfKnown old (λ m. IsHead magic m.reads Unmade)
-      → (IsUnmade bytes → len ≡ length bytes → IfKnown read (λ m. m ≡ settled bytes) → Goes (Leaves (SpellsNone magic asked)) read new) → Goes (Leaves (Repairs magic asked bytes)) old new
-  unmade_goes head goes =
-      let P : Moment → Type 0 = Leaves (Repairs magic asked bytes) in
-      told_goes P (λ _. IsUnmade bytes × (len ≡ length bytes)) old new (λ none. untold (kept ∙ none)) (unmade head)
-      (λ m f. subst (λ (ms : List Moment). Goes P ms new) kept
-      (goes_map (Leaves (SpellsNone magic asked)) P (λ n leaves image h. inr (inl (f.0, leaves image h))) read new (goes f.0 f.1 told_read)))
+  pub opens_durable : (result : Result Found LogError) (old new : List Moment) → (old ≡ [] → new ≡ []) → IfKnown old (λ m. Opens magic asked m.reads old new result) → LosesNoRecord magic old new
+  opens_durable result [] new unknown opens = λ id records. ([], unknown refl, tt)
+  opens_durable result (m ∷ past) new unknown opens = opens.durable
 
-  pub unmade_lasts : IfKnown old (λ m. IsHead magic m.reads Unmade) → (P : Moment → Type 0) → (IsUnmade bytes → len ≡ length bytes → IfKnown read (λ m. m ≡ settled bytes) → Preserves P read new) → Preserves P old new
-  unmade_lasts head P lasts =
-      lasts_told P (λ _. IsUnmade bytes × (len ≡ length bytes)) old new (λ none. untold (kept ∙ none)) (unmade head)
-      (λ m f. subst (λ (ms : List Moment). Preserves P ms new) kept (lasts f.0 f.1 told_read))
+  pub opens_found : (found : Found) (old new : List Moment) → IfKnown old (λ m. Opens magic asked m.reads old new (Ok found)) → IfKnown old (λ m. IsFound magic asked m.reads found.id found.records.items)
+  opens_found found [] new opens = tt
+  opens_found found (m ∷ past) new opens = opens.answered.0
 
-  pub unmade_rests : (records : List (List ℕ)) → length magic ≡ 4 → records ≡ [] → IfKnown old (λ m. IsHead magic m.reads Unmade)
-      → (IsUnmade bytes → len ≡ length bytes → IfKnown read (λ m. m ≡ settled bytes) → IfKnown new (λ m. m ≡ settled (log_of magic asked 1 [] ++ 0 ∷ []))) → IfKnown new (IsAtRest magic asked 10 records)
-  unmade_rests records four none head done =
-      told_new (λ _. IsUnmade bytes × (len ≡ length bytes)) (IsAtRest magic asked 10 records) old new (λ e. untold (kept ∙ e)) (unmade head)
-      (λ m f. told_map (λ n. n ≡ settled (log_of magic asked 1 [] ++ 0 ∷ [])) (IsAtRest magic asked 10 records) (made_rests magic asked records four none) new (done f.0 f.1 told_read))
+  pub opens_rests : (found : Found) (old new : List Moment) → (old ≡ [] → new ≡ []) → IfKnown old (λ m. Opens magic asked m.reads old new (Ok found)) → IfKnown new (IsAtRest magic found.id found.end found.records.items)
+  opens_rests found [] new unknown opens = subst (λ (ms : List Moment). IfKnown ms (IsAtRest magic found.id found.end found.records.items)) (sym (unknown refl)) tt
+  opens_rests found (m ∷ past) new unknown opens = opens.answered.1
 
-  module _ (head id : ℕ) (four : length magic ≡ 4) (is_head : IfKnown old (λ m. IsHead magic m.reads (Made head id))) where
-    begun : IfKnown old (λ _. BeginsLog magic id head len bytes)
-    begun =
-        told_three (λ m. m ≡ settled bytes) (λ m. len ≡ length m.reads) (λ m. IsHead magic m.reads (Made head id)) (λ _. BeginsLog magic id head len bytes)
-        (made_told magic len bytes head id four) old told size is_head
-
-    pub made_goes : (BeginsLog magic id head len bytes → IfKnown read (λ m. m ≡ settled bytes) → Goes (Leaves (RepairsMade magic id head bytes)) read new) → Goes (Leaves (Repairs magic asked bytes)) old new
-    made_goes goes =
-        let P : Moment → Type 0 = Leaves (Repairs magic asked bytes) in
-        told_goes P (λ _. BeginsLog magic id head len bytes) old new (λ none. untold (kept ∙ none)) begun
-        (λ m begins. subst (λ (ms : List Moment). Goes P ms new) kept
-        (goes_map (Leaves (RepairsMade magic id head bytes)) P (λ n leaves image h. let w = leaves image h in inr (inr (id, head, w.0, w.1, w.2))) read new (goes begins told_read)))
-
-    pub made_lasts : (P : Moment → Type 0) → (BeginsLog magic id head len bytes → IfKnown read (λ m. m ≡ settled bytes) → Preserves P read new) → Preserves P old new
-    made_lasts P lasts =
-        lasts_told P (λ _. BeginsLog magic id head len bytes) old new (λ none. untold (kept ∙ none)) begun
-        (λ m begins. subst (λ (ms : List Moment). Preserves P ms new) kept (lasts begins told_read))
-
-    -- what is found behind the head holds of the bytes as they were found
-    made_told_of : (P Q : Type 0) → (BeginsLog magic id head len bytes → P → Q) → (BeginsLog magic id head len bytes → IfKnown read (λ m. m ≡ settled bytes) → IfKnown read (λ _. P)) → IfKnown old (λ _. Q)
-    made_told_of P Q f told_of =
-        told_new (λ _. BeginsLog magic id head len bytes) (λ _. Q) old old (λ none. none) begun
-        (λ m begins. told_map (λ _. P) (λ _. Q) (λ _ p. f begins p) old (subst (λ (ms : List Moment). IfKnown ms (λ _. P)) kept (told_of begins told_read)))
-
-    pub made_found : (records : List (List ℕ)) → (BeginsLog magic id head len bytes → IfKnown read (λ m. m ≡ settled bytes) → IfKnown read (λ _. IsFound magic id bytes id records))
-        → IfKnown old (λ _. IsFound magic asked bytes id records)
-    made_found records = made_told_of (IsFound magic id bytes id records) (IsFound magic asked bytes id records) (λ begins found. found_made magic id head len bytes begins asked records found)
-
-    pub made_refused : (why : LogError) → (BeginsLog magic id head len bytes → IfKnown read (λ m. m ≡ settled bytes) → IfKnown read (λ _. IsRefused magic bytes why)) → IfKnown old (λ _. IsRefused magic bytes why)
-    made_refused why = made_told_of (IsRefused magic bytes why) (IsRefused magic bytes why) (λ begins refused. refused)
-
--- ---- behind the first sync
-
--- where the disk tells, it has the bytes for good that it read
-pub synced_bytes : (old mid : List Moment) → mid ≡ added after_sync old → (bytes : List ℕ) × IfKnown mid (λ m. m ≡ settled bytes)
-synced_bytes [] mid synced = ([], subst (λ (ms : List Moment). IfKnown ms (λ m. m ≡ settled [])) (sym synced) tt)
-synced_bytes (m ∷ past) mid synced = (m.reads, subst (λ (ms : List Moment). IfKnown ms (λ n. n ≡ settled m.reads)) (sym synced) refl)
-
-pub synced_goes : (magic : List ℕ) (asked : ℕ) (old mid new : List Moment) → mid ≡ added after_sync old
-    → ((bytes : List ℕ) → IfKnown mid (λ m. m ≡ settled bytes) → Goes (Leaves (Repairs magic asked bytes)) mid new) → IfKnown old (λ m. Goes (Leaves (Repairs magic asked m.reads)) old new)
-synced_goes magic asked [] mid new synced goes = tt
-synced_goes magic asked (m ∷ past) mid new synced goes =
-    let P : Moment → Type 0 = Leaves (Repairs magic asked m.reads) in
-    let rest = goes m.reads (subst (λ (ms : List Moment). IfKnown ms (λ n. n ≡ settled m.reads)) (sym synced) refl) in
-    goes_on P (m ∷ past) mid new
-    (subst (λ (ms : List Moment). Goes P (m ∷ past) ms) (sym synced) (settled m.reads ∷ [], refl, (λ image h. inl (image_of_settled m.reads image h), tt))) rest
-
-synced_told : (P : List ℕ → Type 0) (old mid : List Moment) → mid ≡ added after_sync old → ((bytes : List ℕ) → IfKnown mid (λ m. m ≡ settled bytes) → IfKnown mid (λ _. P bytes)) → IfKnown old (λ m. P m.reads)
-synced_told P [] mid synced told = tt
-synced_told P (m ∷ past) mid synced told =
-    subst (λ (ms : List Moment). IfKnown ms (λ _. P m.reads)) synced (told m.reads (subst (λ (ms : List Moment). IfKnown ms (λ n. n ≡ settled m.reads)) (sym synced) refl))
-
-pub synced_found : {T E : Type 0} (result : Result T E) (P : T → List ℕ → Type 0) (old mid : List Moment) → mid ≡ added after_sync old
-    → ((bytes : List ℕ) → IfKnown mid (λ m. m ≡ settled bytes) → IfOk result (λ x. IfKnown mid (λ _. P x bytes))) → IfOk result (λ x. IfKnown old (λ m. P x m.reads))
-synced_found (Ok x) P old mid synced found = synced_told (P x) old mid synced found
-synced_found (Err e) P old mid synced found = tt
-
-pub synced_refused : {T E : Type 0} (result : Result T E) (P : E → List ℕ → Type 0) (old mid : List Moment) → mid ≡ added after_sync old
-    → ((bytes : List ℕ) → IfKnown mid (λ m. m ≡ settled bytes) → IfErr result (λ e. IfKnown mid (λ _. P e bytes))) → IfErr result (λ e. IfKnown old (λ m. P e m.reads))
-synced_refused (Ok x) P old mid synced refused = tt
-synced_refused (Err e) P old mid synced refused = synced_told (P e) old mid synced refused
+  pub opens_why : (why : LogError) (old new : List Moment) → IfKnown old (λ m. Opens magic asked m.reads old new (Err why)) → IfKnown old (λ m. IsRefused magic m.reads why)
+  opens_why why [] new opens = tt
+  opens_why why (m ∷ past) new opens = opens.answered

@@ -30,14 +30,14 @@ same_framed a b x y fits_a fits_b is =
     let size : length a ≡ length b = sym (counted_framed a x fits_a) ∙ ap counted is ∙ counted_framed b y fits_b in
     same_parts a b x y size (sym (split_framed a x) ∙ ap (λ (l : List ℕ). drop 8 l) is ∙ split_framed b y)
 
--- no record can be read there: the gate is closed, or there is no whole record behind it
-abbrev pub Stops : List ℕ → Type 0
+-- no record can be read there: the gate is closed, or there is no whole record after it
+abbrev Stops : List ℕ → Type 0
 Stops [] = ⊥
-Stops (gate ∷ behind) = (gate ≡ 0) ⊎ IsShort behind
+Stops (gate ∷ following) = (gate ≡ 0) ⊎ IsShort following
 
 stops_some : (bytes : List ℕ) → Stops bytes → 0 < length bytes
 stops_some [] h = absurd h
-stops_some (gate ∷ behind) h = omega arith
+stops_some (gate ∷ following) h = omega arith
 
 whole_goes_on : (g : Gated) (rest : List ℕ) → IsOpen g → 0 < length rest → Stops (g.gate ∷ (framed g.bytes ++ rest)) → ⊥
 whole_goes_on g rest opened some stops = elim stops [
@@ -52,15 +52,15 @@ not_whole : (g : Gated) (gs : List Gated) (t u : List ℕ) → IsOpen g → Stop
 not_whole g gs t u opened stops_t stops_u is =
     whole_goes_on g (all_gated gs ++ u) opened (omega (arith, stops_some u stops_u, length-append (all_gated gs) u)) (subst Stops (is ∙ first_split g gs u) stops_t)
 
-pub same_gated : (gs hs : List Gated) (t u : List ℕ) → Each IsOpen gs → Each IsOpen hs → Stops t → Stops u → all_gated gs ++ t ≡ all_gated hs ++ u → (gs ≡ hs) × (t ≡ u)
+same_gated : (gs hs : List Gated) (t u : List ℕ) → Each IsOpen gs → Each IsOpen hs → Stops t → Stops u → all_gated gs ++ t ≡ all_gated hs ++ u → (gs ≡ hs) × (t ≡ u)
 same_gated [] [] t u eg eh st su is = (refl, is)
 same_gated [] (h ∷ hs) t u eg eh st su is = absurd (not_whole h hs t u eh.0 st su is)
 same_gated (g ∷ gs) [] t u eg eh st su is = absurd (not_whole g gs u t eg.0 su st (sym is))
 same_gated (g ∷ gs) (h ∷ hs) t u eg eh st su is =
     let both : g.gate ∷ (framed g.bytes ++ (all_gated gs ++ t)) ≡ h.gate ∷ (framed h.bytes ++ (all_gated hs ++ u)) = sym (first_split g gs t) ∙ is ∙ first_split h hs u in
     let gate : g.gate ≡ h.gate = cc in
-    let behind : framed g.bytes ++ (all_gated gs ++ t) ≡ framed h.bytes ++ (all_gated hs ++ u) = cc in
-    let bytes = same_framed g.bytes h.bytes (all_gated gs ++ t) (all_gated hs ++ u) eg.0.length_fits eh.0.length_fits behind in
+    let following : framed g.bytes ++ (all_gated gs ++ t) ≡ framed h.bytes ++ (all_gated hs ++ u) = cc in
+    let bytes = same_framed g.bytes h.bytes (all_gated gs ++ t) (all_gated hs ++ u) eg.0.length_fits eh.0.length_fits following in
     let rest = same_gated gs hs t u eg.1 eh.1 st su bytes.1 in
     ((λ i. record { gate = gate i; bytes = bytes.0 i } ∷ rest.0 i), rest.1)
 
@@ -73,7 +73,7 @@ pub record SameLog (magic : List ℕ) (id other h k : ℕ) (gs hs : List Gated) 
   pub head : h ≡ k
   pub named : identity magic id ≡ identity magic other
   pub gated : gs ≡ hs
-  pub behind : t ≡ u
+  pub rest : t ≡ u
 
 pub same_log : (magic : List ℕ) (id other h k : ℕ) (gs hs : List Gated) (t u : List ℕ) → Each IsOpen gs → Each IsOpen hs → Stops t → Stops u
     → log_of magic id h gs ++ t ≡ log_of magic other k hs ++ u → SameLog magic id other h k gs hs t u
@@ -82,5 +82,5 @@ same_log magic id other h k gs hs t u eg eh st su is =
     let rest : (identity magic id ++ all_gated gs) ++ t ≡ (identity magic other ++ all_gated hs) ++ u = cc in
     let split = same_parts (identity magic id) (identity magic other) (all_gated gs ++ t) (all_gated hs ++ u) (length-identities magic id other)
     (sym (append_assoc (identity magic id) (all_gated gs) t) ∙ rest ∙ append_assoc (identity magic other) (all_gated hs) u) in
-    let behind = same_gated gs hs t u eg eh st su split.1 in
-    record { head = head; named = split.0; gated = behind.0; behind = behind.1 }
+    let following = same_gated gs hs t u eg eh st su split.1 in
+    record { head = head; named = split.0; gated = following.0; rest = following.1 }

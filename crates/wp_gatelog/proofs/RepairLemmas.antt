@@ -1,35 +1,42 @@
 -- A log is repaired.
-use Rattle.std.proofs.Common.{◌≡◌, ◌≢◌, inl, inr, ℕ, ◌+◌, List, [], ◌∷◌, ◌++◌, length, take, None, Some, refl, sym, ◌∙◌, ap, subst, arith, length-append}
+use Rattle.std.proofs.Common.{◌≡◌, ◌≢◌, inl, inr, ℕ, ◌+◌, List, [], ◌∷◌, ◌++◌, length, take, Option, None, Some, Result, Ok, refl, sym, ◌∙◌, ap, subst, arith, length-append}
 use Rattle.std.proofs.lemmas.List.{append_assoc, take_at, map_push}
-use Rattle.wp_outside.specs.Disk.{Moment, IsImage, settled, after_write, after_cut, Each}
-use Rattle.wp_gatelog.specs.declared.gate.Gate.{Gate}
+use Rattle.wp_outside.specs.Disk.{Moment, IsImage, synced, after_write, after_cut, Each}
+use Rattle.wp_gatelog.specs.declared.gate.GateByte.{GateByte}
+use Rattle.wp_gatelog.specs.Changes.{Changes, BringsTo}
 use Rattle.wp_gatelog.specs.Log.{IsAtRest, last_gate}
 use Rattle.wp_gatelog.specs.Repair.{IsReadLog, HasFront, Reopens, IsRepaired}
-use Rattle.wp_gatelog.specs.Moments.{Leaves, Within}
 use Rattle.wp_gatelog.specs.Scanning.{IsLast}
 use Rattle.wp_gatelog.specs.Spelling.{Gated, IsOpen, framed, identity, all_gated, log_of, records_of}
-use Rattle.wp_gatelog.proofs.AppendLemmas.{records_more, last_gate_more, log_more}
+use Rattle.wp_gatelog.proofs.AppendLemmas.{records_more, last_gate_more, log_more, log_longer}
+use Rattle.wp_gatelog.proofs.AcknowledgedLemmas.{spares_cut, spares_head, spares_last}
+use Rattle.wp_gatelog.proofs.ChangeLemmas.{brings_of}
 use Rattle.wp_gatelog.proofs.HeadLemmas.{length-identity}
-use Rattle.wp_gatelog.proofs.MomentLemmas.{image_of_cut, image_of_gate}
+use Rattle.wp_gatelog.proofs.MomentLemmas.{image_of_cut, image_of_gate, known_map}
 
 -- ---- one step
 
 length_closed : (front : List ℕ) (end : ℕ) → end ≡ length front → end + 1 ≡ length (front ++ 0 ∷ [])
 length_closed front end is = omega (arith, is, length-append front (0 ∷ []))
 
-pub keeps_cut : (front behind : List ℕ) (end : ℕ) → end ≡ length front → (m : Moment) → Within (after_cut (end + 1) (settled (front ++ 0 ∷ behind))) m → Leaves (HasFront front) m
-keeps_cut front behind end is m within image h =
-    let split : front ++ 0 ∷ behind ≡ (front ++ 0 ∷ []) ++ behind = sym (append_assoc front (0 ∷ []) behind) in
-    let found = image_of_cut (front ++ 0 ∷ []) behind image (end + 1) (length_closed front end is) (subst (λ (l : List ℕ). IsImage (after_cut (end + 1) (settled l)) image) split (within image h)) in
+pub has_front_cut : (front following : List ℕ) (end : ℕ) → end ≡ length front → (image : List ℕ) → IsImage (after_cut (end + 1) (synced (front ++ 0 ∷ following))) image → HasFront front image
+has_front_cut front following end is image h =
+    let split : front ++ 0 ∷ following ≡ (front ++ 0 ∷ []) ++ following = sym (append_assoc front (0 ∷ []) following) in
+    let found = image_of_cut (front ++ 0 ∷ []) following image (end + 1) (length_closed front end is) (subst (λ (l : List ℕ). IsImage (after_cut (end + 1) (synced l)) image) split h) in
     (found.0, found.1 ∙ append_assoc front (0 ∷ []) found.0)
 
-pub taken_cut : (front behind : List ℕ) (end : ℕ) → end ≡ length front → take (end + 1) (front ++ 0 ∷ behind) ≡ front ++ 0 ∷ []
-taken_cut front behind end is =
-    ap (λ (l : List ℕ). take (end + 1) l) (sym (append_assoc front (0 ∷ []) behind)) ∙ take_at (front ++ 0 ∷ []) behind (end + 1) (sym (length_closed front end is))
+-- nothing follows the closed gate
+pub nothing_follows : (front following : List ℕ) → length (front ++ 0 ∷ following) ≡ length front + 1 → front ++ 0 ∷ following ≡ front ++ 0 ∷ []
+nothing_follows front [] size = refl
+nothing_follows front (b ∷ following) size = absurd (omega (arith, length-append front (0 ∷ b ∷ following)))
 
-pub reopens_written : (front behind : List ℕ) (at byte : ℕ) → at ≡ length front → byte ≢ 1 → (m : Moment) → Within (after_write at (1 ∷ []) (settled (front ++ byte ∷ behind))) m → Leaves (Reopens front byte behind) m
-reopens_written front behind at byte is odd m within image h =
-    let found = image_of_gate front at byte behind image is (within image h) in
+pub taken_cut : (front following : List ℕ) (end : ℕ) → end ≡ length front → take (end + 1) (front ++ 0 ∷ following) ≡ front ++ 0 ∷ []
+taken_cut front following end is =
+    ap (λ (l : List ℕ). take (end + 1) l) (sym (append_assoc front (0 ∷ []) following)) ∙ take_at (front ++ 0 ∷ []) following (end + 1) (sym (length_closed front end is))
+
+pub reopens_written : (front following : List ℕ) (at byte : ℕ) → at ≡ length front → byte ≢ 1 → (image : List ℕ) → IsImage (after_write at (1 ∷ []) (synced (front ++ byte ∷ following))) image → Reopens front byte following image
+reopens_written front following at byte is odd image h =
+    let found = image_of_gate front at byte following image is h in
     (odd, found.0, found.1, found.2)
 
 -- ---- step after step
@@ -38,66 +45,96 @@ pub each_but_last : (before : List Gated) (last : Gated) → Each IsOpen (before
 each_but_last [] last each = (tt, each.0)
 each_but_last (g ∷ before) last each = let rest = each_but_last before last each.1 in ((each.0, rest.0), rest.1)
 
-pub keeps_more : (magic : List ℕ) (id head : ℕ) (before : List Gated) (gate : ℕ) (found more image : List ℕ) → image ≡ log_of magic id head before ++ gate ∷ (framed found ++ 0 ∷ more)
-    → image ≡ log_of magic id head (before ++ record { gate = gate; bytes = found } ∷ []) ++ 0 ∷ more
-keeps_more magic id head before gate found more image is =
-    is ∙ sym (append_assoc (log_of magic id head before) (gate ∷ framed found) (0 ∷ more)) ∙ ap (λ (l : List ℕ). l ++ 0 ∷ more) (sym (log_more magic id head before gate found))
-
 module _ (magic : List ℕ) (id head : ℕ) (gated : List Gated) where
-  pub repaired_cut : (m : Moment) → Leaves (HasFront (log_of magic id head gated)) m → Leaves (IsRepaired magic id head gated) m
-  repaired_cut m leaves image h = inl (leaves image h)
+  repaired_cut : (image : List ℕ) → HasFront (log_of magic id head gated) image → IsRepaired magic id head gated image
+  repaired_cut image kept = inl kept
 
-  pub repaired_head : (m : Moment) → Leaves (Reopens [] head ((identity magic id ++ all_gated gated) ++ 0 ∷ [])) m → Leaves (IsRepaired magic id head gated) m
-  repaired_head m leaves image h =
-      let w = leaves image h in
+  repaired_head : (image : List ℕ) → Reopens [] head ((identity magic id ++ all_gated gated) ++ 0 ∷ []) image → IsRepaired magic id head gated image
+  repaired_head image w =
       inr (inl (w.0, w.1, (w.2, w.3 ∙ ap (λ (l : List ℕ). w.1 ∷ l) (append_assoc (identity magic id ++ all_gated gated) (0 ∷ []) w.2))))
 
-  pub repaired_last : (gate : Gate) (last : IsLast (Some gate) gated) (m : Moment) → Leaves (Reopens (log_of magic id 1 last.0) gate.byte (framed last.1 ++ 0 ∷ [])) m → Leaves (IsRepaired magic id head gated) m
-  repaired_last gate last m leaves image h =
-      let w = leaves image h in
+  repaired_last : (gate : GateByte) (last : IsLast (Some gate) gated) (image : List ℕ) → Reopens (log_of magic id 1 last.0) gate.byte (framed last.1 ++ 0 ∷ []) image → IsRepaired magic id head gated image
+  repaired_last gate last image w =
       let opened = w.3 ∙ ap (λ (l : List ℕ). log_of magic id 1 last.0 ++ w.1 ∷ l) (append_assoc (framed last.1) (0 ∷ []) w.2) in
-      inr (inr (last.0, record { gate = gate.byte; bytes = last.1 }, w.1, last.2, w.0, (w.2, keeps_more magic id 1 last.0 w.1 last.1 w.2 image opened)))
+      inr (inr (last.0, record { gate = gate.byte; bytes = last.1 }, w.1, last.2, w.0, (w.2, log_longer magic id 1 last.0 w.1 last.1 w.2 image opened)))
 
   -- the log before its last record
-  pub last_split : (gate : Gate) (last : IsLast (Some gate) gated) → log_of magic id 1 gated ++ 0 ∷ [] ≡ log_of magic id 1 last.0 ++ gate.byte ∷ (framed last.1 ++ 0 ∷ [])
+  pub last_split : (gate : GateByte) (last : IsLast (Some gate) gated) → log_of magic id 1 gated ++ 0 ∷ [] ≡ log_of magic id 1 last.0 ++ gate.byte ∷ (framed last.1 ++ 0 ∷ [])
   last_split gate last =
       ap (λ (gs : List Gated). log_of magic id 1 gs ++ 0 ∷ []) last.2
-      ∙ sym (keeps_more magic id 1 last.0 gate.byte last.1 [] (log_of magic id 1 last.0 ++ gate.byte ∷ (framed last.1 ++ 0 ∷ [])) refl)
+      ∙ sym (log_longer magic id 1 last.0 gate.byte last.1 [] (log_of magic id 1 last.0 ++ gate.byte ∷ (framed last.1 ++ 0 ∷ [])) refl)
 
-  pub last_place : (gate : Gate) (last : IsLast (Some gate) gated) → length magic ≡ 4 → gate.at ≡ length (log_of magic id 1 last.0)
+  pub last_place : (gate : GateByte) (last : IsLast (Some gate) gated) → length magic ≡ 4 → gate.at ≡ length (log_of magic id 1 last.0)
   last_place gate last four = omega (arith, last.3, length-identity magic id four, length-append (identity magic id) (all_gated last.0))
 
 -- ---- at rest
 
-module _ (magic : List ℕ) (id head : ℕ) (records : List (List ℕ)) (end len : ℕ) (bytes : List ℕ) where
-  pub rests_last : (gate : Gate) (log : IsReadLog magic id head records (Some gate) end len bytes) (m : Moment) → m ≡ settled (log_of magic id 1 log.last_is.0 ++ 1 ∷ (framed log.last_is.1 ++ 0 ∷ [])) → IsAtRest magic id end records m
-  rests_last gate log m on =
-      let before : List Gated = log.last_is.0 in
-      let found : List ℕ = log.last_is.1 in
-      let opened = each_but_last before (record { gate = gate.byte; bytes = found }) (subst (λ (gs : List Gated). Each IsOpen gs) log.last_is.2 log.stands.gates_open) in
+module _ (magic : List ℕ) (id head : ℕ) (records : List (List ℕ)) (found : Option GateByte) (end len : ℕ) (bytes : List ℕ) (log : IsReadLog magic id head records found end len bytes) where
+  rests_last : (gate : GateByte) (last : IsLast (Some gate) log.gated) (m : Moment) → m ≡ synced (log_of magic id 1 last.0 ++ 1 ∷ (framed last.1 ++ 0 ∷ [])) → IsAtRest magic id end records m
+  rests_last gate last m on =
+      let before : List Gated = last.0 in
+      let found : List ℕ = last.1 in
+      let opened = each_but_last before (record { gate = gate.byte; bytes = found }) (subst (λ (gs : List Gated). Each IsOpen gs) last.2 log.has_log.gates_open) in
       record {
         gated = before ++ record { gate = 1; bytes = found } ∷ [];
         acknowledged = record {
           gates_open = records_more before 1 found opened.0 (record { gate = (λ e. cc e); length_fits = opened.1.length_fits });
           last = last_gate_more 1 before 1 found;
-          same = log.same ∙ ap records_of log.last_is.2 ∙ map_push (λ (g : Gated). g.bytes) before (record { gate = gate.byte; bytes = found }) ∙ sym (map_push (λ (g : Gated). g.bytes) before (record { gate = 1; bytes = found }));
+          same = log.same ∙ ap records_of last.2 ∙ map_push (λ (g : Gated). g.bytes) before (record { gate = gate.byte; bytes = found }) ∙ sym (map_push (λ (g : Gated). g.bytes) before (record { gate = 1; bytes = found }));
         };
         place = omega (
           arith,
           log.place,
-          ap (λ (gs : List Gated). length (log_of magic id head gs)) log.last_is.2,
+          ap (λ (gs : List Gated). length (log_of magic id head gs)) last.2,
           ap length (log_more magic id head before gate.byte found),
           ap length (log_more magic id 1 before 1 found),
           length-append (log_of magic id head before) (gate.byte ∷ framed found),
           length-append (log_of magic id 1 before) (1 ∷ framed found),
         );
-        settled_on = on ∙ ap settled (keeps_more magic id 1 before 1 found [] (log_of magic id 1 before ++ 1 ∷ (framed found ++ 0 ∷ [])) refl);
+        on_disk = on ∙ ap synced (log_longer magic id 1 before 1 found [] (log_of magic id 1 before ++ 1 ∷ (framed found ++ 0 ∷ [])) refl);
       }
 
-  pub rests_none : (log : IsReadLog magic id head records None end len bytes) (m : Moment) → m ≡ settled (log_of magic id 1 log.gated ++ 0 ∷ []) → IsAtRest magic id end records m
-  rests_none log m on = record {
+  rests_none : IsLast None log.gated → (m : Moment) → m ≡ synced (log_of magic id 1 log.gated ++ 0 ∷ []) → IsAtRest magic id end records m
+  rests_none none m on = record {
     gated = log.gated;
-    acknowledged = record { gates_open = log.stands.gates_open; last = ap (last_gate 1) log.last_is; same = log.same };
+    acknowledged = record { gates_open = log.has_log.gates_open; last = ap (last_gate 1) none; same = log.same };
     place = log.place;
-    settled_on = on;
+    on_disk = on;
+  }
+
+  -- ---- call by call
+
+  pub brings_cut : {T E : Type 0} (old new : List Moment) (result : Result T E) → Changes (HasFront (log_of magic id head log.gated)) (log_of magic id head log.gated ++ 0 ∷ log.has_log.rest) (log_of magic id head log.gated ++ 0 ∷ []) old new result
+      → BringsTo magic (IsRepaired magic id head log.gated) (λ m. m ≡ synced (log_of magic id head log.gated ++ 0 ∷ [])) old new result
+  brings_cut old new result changes =
+      let front : List ℕ = log_of magic id head log.gated in
+      brings_of magic (HasFront front) (IsRepaired magic id head log.gated) (λ m. m ≡ synced (front ++ 0 ∷ [])) (front ++ 0 ∷ log.has_log.rest) (front ++ 0 ∷ []) old new result
+      (λ other others. spares_cut magic other id head others log.gated log.has_log.rest log.has_log.gates_open) (repaired_cut magic id head log.gated) (λ m on. on) changes
+
+  pub brings_head : {T E : Type 0} (old new : List Moment) (result : Result T E)
+      → Changes (Reopens [] head ((identity magic id ++ all_gated log.gated) ++ 0 ∷ [])) (log_of magic id head log.gated ++ 0 ∷ []) (log_of magic id 1 log.gated ++ 0 ∷ []) old new result
+      → BringsTo magic (IsRepaired magic id head log.gated) (λ m. m ≡ synced (log_of magic id 1 log.gated ++ 0 ∷ [])) old new result
+  brings_head old new result changes =
+      let tail : List ℕ = (identity magic id ++ all_gated log.gated) ++ 0 ∷ [] in
+      brings_of magic (Reopens [] head tail) (IsRepaired magic id head log.gated) (λ m. m ≡ synced (1 ∷ tail)) (head ∷ tail) (1 ∷ tail) old new result
+      (λ other others. spares_head magic other head others tail) (repaired_head magic id head log.gated) (λ m on. on) changes
+
+  pub brings_last : {T E : Type 0} (gate : GateByte) (last : IsLast (Some gate) log.gated) (old new : List Moment) (result : Result T E)
+      → Changes (Reopens (log_of magic id 1 last.0) gate.byte (framed last.1 ++ 0 ∷ [])) (log_of magic id 1 last.0 ++ gate.byte ∷ (framed last.1 ++ 0 ∷ [])) (log_of magic id 1 last.0 ++ 1 ∷ (framed last.1 ++ 0 ∷ [])) old new result
+      → BringsTo magic (IsRepaired magic id head log.gated) (IsAtRest magic id end records) old new result
+  brings_last gate last old new result changes =
+      let front : List ℕ = log_of magic id 1 last.0 in
+      let tail : List ℕ = framed last.1 ++ 0 ∷ [] in
+      brings_of magic (Reopens front gate.byte tail) (IsRepaired magic id head log.gated) (IsAtRest magic id end records) (front ++ gate.byte ∷ tail) (front ++ 1 ∷ tail) old new result
+      (λ other others. spares_last magic other id others last.0 gate.byte last.1 (subst (λ (gs : List Gated). Each IsOpen gs) last.2 log.has_log.gates_open))
+      (repaired_last magic id head log.gated gate last) (rests_last gate last) changes
+
+  -- a log without records is at rest once its head's gate is open wholly
+  pub brings_none : {T U E F : Type 0} (x : T) (y : U) → IsLast None log.gated → (old new : List Moment)
+      → BringsTo {T = T} {E = E} magic (IsRepaired magic id head log.gated) (λ m. m ≡ synced (log_of magic id 1 log.gated ++ 0 ∷ [])) old new (Ok x)
+      → BringsTo {T = U} {E = F} magic (IsRepaired magic id head log.gated) (IsAtRest magic id end records) old new (Ok y)
+  brings_none x y none old new brings = record {
+    passed = brings.passed;
+    durable = brings.durable;
+    done = known_map (λ m. m ≡ synced (log_of magic id 1 log.gated ++ 0 ∷ [])) (IsAtRest magic id end records) (rests_none none) new brings.done;
   }

@@ -4,7 +4,7 @@ use Rattle.std.proofs.lemmas.List.{append-nil, append_assoc, take-append-drop, t
 use Rattle.std.proofs.lemmas.Nat.{from_be_bytes-to_be_bytes_8}
 use Rattle.std.specs.Int.{w64, to_be_bytes, from_be_bytes}
 use Rattle.wp_outside.specs.Disk.{IsRead}
-use Rattle.wp_gatelog.specs.declared.gate.Gate.{Gate}
+use Rattle.wp_gatelog.specs.declared.gate.GateByte.{GateByte}
 use Rattle.wp_gatelog.specs.declared.scan.Next.TheVariants as next
 use Rattle.wp_gatelog.specs.declared.scan.Start.{Start}
 use Rattle.wp_gatelog.specs.declared.scan.Start.TheVariants as start
@@ -29,7 +29,7 @@ next_closed (b ∷ bytes) some h = elim h [
   | inr w ↦ (bytes, (let is : b ≡ 0 = cc w.1 in λ i. is i ∷ bytes))
 ]
 
--- an open gate and a length stand before the rest
+-- an open gate and a length come before the rest
 start_split : (bytes : List ℕ) (gate len : ℕ) → IsStart (take 9 bytes) (start.Open gate len) → bytes ≡ gate ∷ (to_be_bytes w64 len ++ drop 9 bytes)
 start_split bytes gate len h =
     let none : h.0 ≡ [] = nil_from_length h.0 (omega (arith, length-take 9 bytes, ap length h.3, length-append (to_be_bytes w64 len) h.0)) in
@@ -65,10 +65,7 @@ next_open bytes gate len found room h is =
 -- ---- record after record
 
 module _ (bytes : List ℕ) where
-  pub read_none : HasRead (drop 10 bytes) (drop 10 bytes) [] None 10
-  read_none = record { gated = []; spelling = refl; gates_open = tt; same = refl; place = refl; last_is = refl }
-
-  pub read_more : (records : List (List ℕ)) (last : Option Gate) (end gate : ℕ) (found : List ℕ) → HasRead (drop 10 bytes) (drop end bytes) records last end → IsNext (drop end bytes) (next.Open gate found)
+  pub read_more : (records : List (List ℕ)) (last : Option GateByte) (end gate : ℕ) (found : List ℕ) → HasRead (drop 10 bytes) (drop end bytes) records last end → IsNext (drop end bytes) (next.Open gate found)
       → HasRead (drop 10 bytes) (drop (end + (9 + length found)) bytes) (records ++ found ∷ []) (Some (record { at = end; byte = gate })) (end + (9 + length found))
   read_more records last end gate found read next =
       let size : length (gate ∷ framed found) ≡ 9 + length found = omega (arith, length-framed found) in

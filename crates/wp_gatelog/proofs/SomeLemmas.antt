@@ -23,9 +23,9 @@ take_bytes n bytes within small i = elim (cases_lt i n) [
 
 -- ---- the records
 
--- a closed gate, or an open one without a whole record behind it
+-- a closed gate, or an open one without a whole record after it
 abbrev Ends : List ℕ → Type 0
-Ends tail = ((behind : List ℕ) × (tail ≡ 0 ∷ behind)) ⊎ ((gate : ℕ) × (behind : List ℕ) × (gate ≢ 0) × IsShort behind × (tail ≡ gate ∷ behind))
+Ends tail = ((following : List ℕ) × (tail ≡ 0 ∷ following)) ⊎ ((gate : ℕ) × (following : List ℕ) × (gate ≢ 0) × IsShort following × (tail ≡ gate ∷ following))
 
 record Reads (bytes : List ℕ) : Type 0 where
   gated : List Gated
@@ -34,32 +34,32 @@ record Reads (bytes : List ℕ) : Type 0 where
   spelling : bytes ≡ all_gated gated ++ tail
   ends : Ends tail
 
-counted_fits : (behind : List ℕ) → 8 ≤ length behind → AreBytes behind → counted behind < 2 ^ 64
+counted_fits : (following : List ℕ) → 8 ≤ length following → AreBytes following → counted following < 2 ^ 64
 unfolding counted
-counted_fits behind within small =
-    let b = take_bytes 8 behind within small in
+counted_fits following within small =
+    let b = take_bytes 8 following within small in
     omega (arith, b 0, b 1, b 2, b 3, b 4, b 5, b 6, b 7)
 
-number_spelled : (behind : List ℕ) → 8 ≤ length behind → AreBytes behind → to_be_bytes w64 (counted behind) ≡ take 8 behind
+number_spelled : (following : List ℕ) → 8 ≤ length following → AreBytes following → to_be_bytes w64 (counted following) ≡ take 8 following
 unfolding counted
-number_spelled behind within small = be_bytes_8 (take 8 behind) (from_be_bytes w64 (take 8 behind)) (length-take-le 8 behind within) (take_bytes 8 behind within small) refl
+number_spelled following within small = be_bytes_8 (take 8 following) (from_be_bytes w64 (take 8 following)) (length-take-le 8 following within) (take_bytes 8 following within small) refl
 
-whole_split : (behind : List ℕ) → 9 + counted behind ≤ length behind → AreBytes behind
-    → (length (take (counted behind) (drop 8 behind)) ≡ counted behind) × (behind ≡ framed (take (counted behind) (drop 8 behind)) ++ drop (counted behind) (drop 8 behind))
+whole_split : (following : List ℕ) → 9 + counted following ≤ length following → AreBytes following
+    → (length (take (counted following) (drop 8 following)) ≡ counted following) × (following ≡ framed (take (counted following) (drop 8 following)) ++ drop (counted following) (drop 8 following))
 unfolding framed
-whole_split behind whole small =
-    let len : ℕ = counted behind in
-    let found : List ℕ = take len (drop 8 behind) in
-    let rest : List ℕ = drop len (drop 8 behind) in
-    let size : length found ≡ len = length-take-le len (drop 8 behind) (omega (arith, whole, length-drop 8 behind)) in
-    let number : to_be_bytes w64 (length found) ≡ take 8 behind = ap (to_be_bytes w64) size ∙ number_spelled behind (omega (arith, whole)) small in (
+whole_split following whole small =
+    let len : ℕ = counted following in
+    let found : List ℕ = take len (drop 8 following) in
+    let rest : List ℕ = drop len (drop 8 following) in
+    let size : length found ≡ len = length-take-le len (drop 8 following) (omega (arith, whole, length-drop 8 following)) in
+    let number : to_be_bytes w64 (length found) ≡ take 8 following = ap (to_be_bytes w64) size ∙ number_spelled following (omega (arith, whole)) small in (
       size,
-      sym (take-append-drop 8 behind) ∙ ap (λ (l : List ℕ). take 8 behind ++ l) (sym (take-append-drop len (drop 8 behind)))
+      sym (take-append-drop 8 following) ∙ ap (λ (l : List ℕ). take 8 following ++ l) (sym (take-append-drop len (drop 8 following)))
           ∙ ap (λ (l : List ℕ). l ++ (found ++ rest)) (sym number) ∙ sym (append_assoc (to_be_bytes w64 (length found)) found rest),
     )
 
-reads_more : (gate : ℕ) (found rest behind : List ℕ) → IsOpen (record { gate = gate; bytes = found }) → behind ≡ framed found ++ rest → Reads rest → Reads (gate ∷ behind)
-reads_more gate found rest behind opened is reads = record {
+reads_more : (gate : ℕ) (found rest following : List ℕ) → IsOpen (record { gate = gate; bytes = found }) → following ≡ framed found ++ rest → Reads rest → Reads (gate ∷ following)
+reads_more gate found rest following opened is reads = record {
   gated = record { gate = gate; bytes = found } ∷ reads.gated;
   tail = reads.tail;
   gates_open = (opened, reads.gates_open);
@@ -70,18 +70,18 @@ reads_more gate found rest behind opened is reads = record {
 reads_some : (n : ℕ) (bytes : List ℕ) → length bytes ≤ n → 0 < length bytes → AreBytes bytes → Reads bytes
 reads_some zero bytes within some small = absurd (omega arith)
 reads_some (suc n) [] within some small = absurd (omega arith)
-reads_some (suc n) (gate ∷ behind) within some small = elim (cases_eq gate 0) [
-  | inl shut ↦ record { gated = []; tail = gate ∷ behind; gates_open = tt; spelling = refl; ends = inl (behind, λ i. shut i ∷ behind) }
-  | inr opens ↦ elim (cases_lt (length behind) (9 + counted behind)) [
-    | inl short ↦ record { gated = []; tail = gate ∷ behind; gates_open = tt; spelling = refl; ends = inr (gate, behind, opens, short, refl) }
+reads_some (suc n) (gate ∷ following) within some small = elim (cases_eq gate 0) [
+  | inl shut ↦ record { gated = []; tail = gate ∷ following; gates_open = tt; spelling = refl; ends = inl (following, λ i. shut i ∷ following) }
+  | inr opens ↦ elim (cases_lt (length following) (9 + counted following)) [
+    | inl short ↦ record { gated = []; tail = gate ∷ following; gates_open = tt; spelling = refl; ends = inr (gate, following, opens, short, refl) }
     | inr whole ↦
-        let bytes : AreBytes behind = λ i. small (suc i) in
-        let split = whole_split behind whole bytes in
-        let rest : List ℕ = drop (counted behind) (drop 8 behind) in
-        let size : length rest ≡ length behind - 8 - counted behind = length-drop (counted behind) (drop 8 behind) ∙ ap (λ (k : ℕ). k - counted behind) (length-drop 8 behind) in
-        let fits = counted_fits behind (omega (arith, whole)) bytes in
-        reads_more gate (take (counted behind) (drop 8 behind)) rest behind (record { gate = opens; length_fits = omega (arith, split.0, fits) }) split.1
-        (reads_some n rest (omega (arith, size, whole, within)) (omega (arith, size, whole)) (drop_bytes (counted behind) (drop 8 behind) (drop_bytes 8 behind bytes)))
+        let bytes : AreBytes following = λ i. small (suc i) in
+        let split = whole_split following whole bytes in
+        let rest : List ℕ = drop (counted following) (drop 8 following) in
+        let size : length rest ≡ length following - 8 - counted following = length-drop (counted following) (drop 8 following) ∙ ap (λ (k : ℕ). k - counted following) (length-drop 8 following) in
+        let fits = counted_fits following (omega (arith, whole)) bytes in
+        reads_more gate (take (counted following) (drop 8 following)) rest following (record { gate = opens; length_fits = omega (arith, split.0, fits) }) split.1
+        (reads_some n rest (omega (arith, size, whole, within)) (omega (arith, size, whole)) (drop_bytes (counted following) (drop 8 following) (drop_bytes 8 following bytes)))
   ]
 ]
 
@@ -104,8 +104,8 @@ abbrev pub Reading : List ℕ → List ℕ → Type 0
 Reading bytes magic = ((id : ℕ) × (records : List (List ℕ)) × Spells bytes magic id records) ⊎ IsBadHead magic bytes ⊎ ((index : ℕ) × IsCut magic index bytes)
 
 module _ (magic : List ℕ) (bytes : List ℕ) (head : ℕ) (opened : head ≢ 0) where
-  read_behind : (id : ℕ) (behind : List ℕ) → bytes ≡ head ∷ (identity magic id ++ behind) → Reads behind → Reading bytes magic
-  read_behind id behind is reads =
+  read_after : (id : ℕ) (following : List ℕ) → bytes ≡ head ∷ (identity magic id ++ following) → Reads following → Reading bytes magic
+  read_after id following is reads =
       let log : bytes ≡ log_of magic id head reads.gated ++ reads.tail =
       is ∙ ap (λ (l : List ℕ). head ∷ (identity magic id ++ l)) reads.spelling ∙ ap (λ (l : List ℕ). head ∷ l) (sym (append_assoc (identity magic id) (all_gated reads.gated) reads.tail)) in
       elim reads.ends [
@@ -115,7 +115,7 @@ module _ (magic : List ℕ) (bytes : List ℕ) (head : ℕ) (opened : head ≢ 0
           inr (
             head,
             reads.gated,
-            record { behind = w.0; spelling = log ∙ ap (λ (l : List ℕ). log_of magic id head reads.gated ++ l) w.1; head_open = opened; gates_open = reads.gates_open },
+            record { rest = w.0; spelling = log ∙ ap (λ (l : List ℕ). log_of magic id head reads.gated ++ l) w.1; head_open = opened; gates_open = reads.gates_open },
             refl,
           ),
         )
@@ -126,7 +126,7 @@ module _ (magic : List ℕ) (bytes : List ℕ) (head : ℕ) (opened : head ≢ 0
             head = head;
             gated = reads.gated;
             gate = w.0;
-            behind = w.1;
+            rest = w.1;
             spelling = log ∙ ap (λ (l : List ℕ). log_of magic id head reads.gated ++ l) w.4;
             head_open = opened;
             gates_open = reads.gates_open;
@@ -149,10 +149,10 @@ module _ (magic : List ℕ) (bytes : List ℕ) (head : ℕ) (opened : head ≢ 0
       let third : drop 6 bytes ≡ to_be_bytes w32 id ++ drop 10 bytes =
       sym (take-append-drop 4 (drop 6 bytes)) ∙ ap (λ (l : List ℕ). l ++ drop 4 (drop 6 bytes)) (sym number) ∙ ap (λ (l : List ℕ). to_be_bytes w32 id ++ l) (drop-drop 4 6 bytes) in
       let fourth = drop_more bytes 10 0 (omega (arith, size)) in
-      let behind = identity_spelled magic (drop 1 bytes) (drop 5 bytes) (drop 6 bytes) (drop 10 bytes) (drop 11 bytes) id (get_or bytes 10 0) first second third fourth in
+      let following = identity_spelled magic (drop 1 bytes) (drop 5 bytes) (drop 6 bytes) (drop 10 bytes) (drop 11 bytes) id (get_or bytes 10 0) first second third fourth in
       let whole : bytes ≡ head ∷ (identity magic id ++ drop 10 bytes) =
-      is ∙ ap (λ (l : List ℕ). head ∷ l) (sym (ap (λ (l : List ℕ). drop 1 l) is) ∙ behind ∙ ap (λ (l : List ℕ). identity magic id ++ l) (sym fourth)) in
-      read_behind id (drop 10 bytes) whole (reads_some (length (drop 10 bytes)) (drop 10 bytes) (omega arith) (omega (arith, size, length-drop 10 bytes)) (drop_bytes 10 bytes small))
+      is ∙ ap (λ (l : List ℕ). head ∷ l) (sym (ap (λ (l : List ℕ). drop 1 l) is) ∙ following ∙ ap (λ (l : List ℕ). identity magic id ++ l) (sym fourth)) in
+      read_after id (drop 10 bytes) whole (reads_some (length (drop 10 bytes)) (drop 10 bytes) (omega arith) (omega (arith, size, length-drop 10 bytes)) (drop_bytes 10 bytes small))
 
   read_head : (tail : List ℕ) → bytes ≡ head ∷ tail → (IsUnmade bytes → ⊥) → AreBytes bytes → Reading bytes magic
   read_head tail is is_made small = elim (cases_lt (length bytes) 11) [

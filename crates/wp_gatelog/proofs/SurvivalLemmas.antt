@@ -8,8 +8,8 @@ use Rattle.wp_gatelog.specs.Repair.{HasFront, IsRepaired}
 use Rattle.wp_gatelog.specs.Moments.{Leaves, Goes}
 use Rattle.wp_gatelog.specs.Opening.{HasMost, Survives, Repairs, SurvivesThrough}
 use Rattle.wp_gatelog.specs.Spelling.{Gated, IsOpen, framed, identity, all_gated, log_of, records_of, IsUnmade, Spells}
-use Rattle.wp_gatelog.proofs.AppendLemmas.{AppendGoes, append_untold, records_more, log_more}
-use Rattle.wp_gatelog.proofs.RepairLemmas.{each_but_last, keeps_more}
+use Rattle.wp_gatelog.proofs.AppendLemmas.{records_more, log_more, log_longer}
+use Rattle.wp_gatelog.proofs.RepairLemmas.{each_but_last}
 use Rattle.wp_gatelog.proofs.MomentLemmas.{goes_map, left_now, image_of_settled}
 
 -- ---- gates of any byte
@@ -18,9 +18,9 @@ shut_unmade : (tail : List ℕ) (gate : ℕ) → gate ≡ 0 → IsUnmade (gate �
 shut_unmade [] gate shut = tt
 shut_unmade (b ∷ tail) gate shut = shut
 
-pub spells_log : (magic : List ℕ) (id head : ℕ) (gated : List Gated) (image : List ℕ) → head ≢ 0 → Each IsOpen gated → HasFront (log_of magic id head gated) image → Spells image magic id (records_of gated)
+spells_log : (magic : List ℕ) (id head : ℕ) (gated : List Gated) (image : List ℕ) → head ≢ 0 → Each IsOpen gated → HasFront (log_of magic id head gated) image → Spells image magic id (records_of gated)
 spells_log magic id head gated image opened each kept =
-    inr (head, gated, record { behind = kept.0; spelling = kept.1; head_open = opened; gates_open = each }, refl)
+    inr (head, gated, record { rest = kept.0; spelling = kept.1; head_open = opened; gates_open = each }, refl)
 
 -- a log whose last record's gate is closed ends before that record
 front_closed : (magic : List ℕ) (id head : ℕ) (before : List Gated) (found : List ℕ) (gate : ℕ) (image : List ℕ) → gate ≡ 0 → HasFront (log_of magic id head (before ++ record { gate = gate; bytes = found } ∷ [])) image → HasFront (log_of magic id head before) image
@@ -38,13 +38,13 @@ records_push before gate other found =
 one_open : ◌≡◌ {A = ℕ} 1 0 → ⊥
 one_open e = cc e
 
-repaired_keeps : (magic : List ℕ) (id head : ℕ) (gated : List Gated) (image : List ℕ) → head ≢ 0 → Each IsOpen gated → IsRepaired magic id head gated image → HasMost magic id head gated image
-repaired_keeps magic id head gated image opened each (inl kept) = inl (spells_log magic id head gated image opened each kept)
-repaired_keeps magic id head gated image opened each (inr (inl w)) = elim (cases_eq w.1 0) [
+repaired_most : (magic : List ℕ) (id head : ℕ) (gated : List Gated) (image : List ℕ) → head ≢ 0 → Each IsOpen gated → IsRepaired magic id head gated image → HasMost magic id head gated image
+repaired_most magic id head gated image opened each (inl kept) = inl (spells_log magic id head gated image opened each kept)
+repaired_most magic id head gated image opened each (inr (inl w)) = elim (cases_eq w.1 0) [
   | inl shut ↦ inr (inl (w.0, inl (subst IsUnmade (sym w.2.1) (shut_unmade ((identity magic id ++ all_gated gated) ++ 0 ∷ w.2.0) w.1 shut), refl)))
   | inr opens ↦ inl (spells_log magic id w.1 gated image opens each w.2)
 ]
-repaired_keeps magic id head gated image opened each (inr (inr w)) =
+repaired_most magic id head gated image opened each (inr (inr w)) =
     let before : List Gated = w.0 in
     let last : Gated = w.1 in
     let parts = each_but_last before last (subst (λ (gs : List Gated). Each IsOpen gs) w.3 each) in
@@ -59,7 +59,7 @@ pub survives : (magic : List ℕ) (asked : ℕ) (found image : List ℕ) → Rep
 survives magic asked found image (inl same) = inl same
 survives magic asked found image (inr (inl w)) = inr (inl w)
 survives magic asked found image (inr (inr w)) =
-    inr (inr (w.0, w.1, w.2, w.3, repaired_keeps magic w.0 w.1 w.2 image w.3.head_open w.3.gates_open w.4))
+    inr (inr (w.0, w.1, w.2, w.3, repaired_most magic w.0 w.1 w.2 image w.3.head_open w.3.gates_open w.4))
 
 -- ---- moment by moment
 
@@ -72,32 +72,27 @@ survives_through magic asked (m ∷ past) new goes =
 pub rest_spells : (magic : List ℕ) (id end : ℕ) (records : List (List ℕ)) (ms : List Moment) → IfKnown ms (IsAtRest magic id end records) → (image : List ℕ) → images ms image → Spells image magic id records
 rest_spells magic id end records [] rest image h = absurd h
 rest_spells magic id end records (m ∷ past) rest image h =
-    let is : image ≡ log_of magic id 1 rest.gated ++ 0 ∷ [] = image_of_settled (log_of magic id 1 rest.gated ++ 0 ∷ []) image (subst (λ (n : Moment). IsImage n image) rest.settled_on h) in
+    let is : image ≡ log_of magic id 1 rest.gated ++ 0 ∷ [] = image_of_settled (log_of magic id 1 rest.gated ++ 0 ∷ []) image (subst (λ (n : Moment). IsImage n image) rest.on_disk h) in
     subst (λ (rs : List (List ℕ)). Spells image magic id rs) (sym rest.acknowledged.same)
     (spells_log magic id 1 rest.gated image one_open rest.acknowledged.gates_open ([], is))
 
 -- before or after, an image spells the records without the new one or with it
 pub before_or_after : (magic : List ℕ) (id : ℕ) (records : List (List ℕ)) (bytes : List ℕ) (gated : List Gated) → IsAcknowledged gated records → (image : List ℕ) → Grows (log_of magic id 1 gated) bytes image
     → BeforeOrAfter magic id records bytes image
-before_or_after magic id records bytes gated acknowledged image (behind, inl is) =
+before_or_after magic id records bytes gated acknowledged image (following, inl is) =
     inl (subst (λ (rs : List (List ℕ)). Spells image magic id rs) (sym acknowledged.same)
-    (spells_log magic id 1 gated image one_open acknowledged.gates_open (behind, is)))
-before_or_after magic id records bytes gated acknowledged image (behind, inr w) =
+    (spells_log magic id 1 gated image one_open acknowledged.gates_open (following, is)))
+before_or_after magic id records bytes gated acknowledged image (following, inr w) =
     inr (subst (λ (rs : List (List ℕ)). Spells image magic id rs)
     (map_push (λ (g : Gated). g.bytes) gated (record { gate = w.0; bytes = bytes }) ∙ ap (λ (rs : List (List ℕ)). rs ++ bytes ∷ []) (sym acknowledged.same))
     (spells_log magic id 1 (gated ++ record { gate = w.0; bytes = bytes } ∷ []) image one_open
-    (records_more gated w.0 bytes acknowledged.gates_open w.1) (behind, keeps_more magic id 1 gated w.0 bytes behind image w.2)))
+    (records_more gated w.0 bytes acknowledged.gates_open w.1) (following, log_longer magic id 1 gated w.0 bytes following image w.2)))
 
 pub left_before_or_after : (magic : List ℕ) (id end : ℕ) (records : List (List ℕ)) (bytes : List ℕ) (old new : List Moment) → IfKnown old (IsAtRest magic id end records)
     → Passes (Leaves (BeforeOrAfter magic id records bytes)) old new → (image : List ℕ) → images new image → BeforeOrAfter magic id records bytes image
 left_before_or_after magic id end records bytes old new rest passes =
     left_now (BeforeOrAfter magic id records bytes) old new (λ image h. inl (rest_spells magic id end records old rest image h)) passes
 
--- an append passes such moments
-pub append_passes : (magic : List ℕ) (id end : ℕ) (records : List (List ℕ)) (bytes : List ℕ) (old new : List Moment) → AppendGoes end bytes old new → IfKnown old (IsAtRest magic id end records)
-    → Passes (Leaves (BeforeOrAfter magic id records bytes)) old new
-append_passes magic id end records bytes [] new goes rest = ([], append_untold end bytes new goes, tt)
-append_passes magic id end records bytes (m ∷ past) new goes rest =
-    goes_map (Leaves (Grows (log_of magic id 1 rest.gated) bytes)) (Leaves (BeforeOrAfter magic id records bytes))
-    (λ n leaves image h. before_or_after magic id records bytes rest.gated rest.acknowledged image (leaves image h))
-    (m ∷ past) new (goes (log_of magic id 1 rest.gated) rest.place rest.settled_on)
+pub goes_passes : (P : Moment → Type 0) (old new : List Moment) → Goes P old new → Passes P old new
+goes_passes P [] new goes = ([], goes, tt)
+goes_passes P (m ∷ past) new goes = goes

@@ -15,18 +15,18 @@ counted bytes = from_be_bytes w64 (take 8 bytes)
 
 -- fewer bytes than a length of eight bytes, the bytes that it counts and the next gate
 abbrev pub IsShort : List ℕ → Type 0
-IsShort behind = length behind < 9 + counted behind
+IsShort following = length following < 9 + counted following
 
--- so many whole records stand behind open gates, and then an open gate without a whole record behind it
+-- so many whole records follow open gates, and then an open gate comes without a whole record after it
 pub record IsCut (magic : List ℕ) (index : ℕ) (bytes : List ℕ) : Type 0 where
   pub id : ℕ
   pub head : ℕ
   pub gated : List Gated
   pub gate : ℕ
-  pub behind : List ℕ
-  pub spelling : bytes ≡ log_of magic id head gated ++ gate ∷ behind
+  pub rest : List ℕ
+  pub spelling : bytes ≡ log_of magic id head gated ++ gate ∷ rest
   pub head_open : head ≢ 0
   pub gates_open : Each IsOpen gated
   pub before : length gated ≡ index
   pub gate_open : gate ≢ 0
-  pub short : IsShort behind
+  pub short : IsShort rest

@@ -1,7 +1,8 @@
--- What lasts on a disk from one moment to the next.
+-- What is durable on a disk from one moment to the next.
 use Rattle.std.specs.Prelude.{◌≡◌, ℕ, List, [], ◌∷◌, ◌++◌, ⊤}
 use Rattle.wp_outside.specs.Disk.{Moment, IfKnown}
 use Rattle.wp_gatelog.specs.Log.{IsAcknowledged}
+use Rattle.wp_gatelog.specs.Moments.{Leaves}
 use Rattle.wp_gatelog.specs.Spelling.{Gated, log_of}
 
 -- ---- moments
@@ -11,22 +12,26 @@ abbrev pub PassedOn : (Moment → Type 0) → List Moment → List Moment → Ty
 PassedOn P old [] = ⊤
 PassedOn P old (m ∷ more) = (IfKnown (more ++ old) P → P m) × PassedOn P old more
 
--- new is old with further moments on top, and from each moment to the next, in time, what had P keeps it
+-- new is old with further moments on top, and from each moment to the next, in time, what had P has it still
 abbrev pub Preserves : (Moment → Type 0) → List Moment → List Moment → Type 0
 Preserves P old new = (more : List Moment) × (new ≡ more ++ old) × PassedOn P old more
 
 -- ---- records
 
--- The bytes begin with acknowledged records, of which these are the first, and a further gate, any byte, stands behind
--- them. Whatever comes then, bytes that spell records spell these first.
+-- The bytes begin with acknowledged records, of which these are the first, and a further gate, any byte, follows.
+-- Whatever comes then, bytes that spell records spell these first.
 pub record HasAcknowledged (magic : List ℕ) (id : ℕ) (records : List (List ℕ)) (bytes : List ℕ) : Type 0 where
   pub gated : List Gated
   pub more : List (List ℕ)
   pub acknowledged : IsAcknowledged gated (records ++ more)
   pub gate : ℕ
-  pub behind : List ℕ
-  pub spelling : bytes ≡ log_of magic id 1 gated ++ gate ∷ behind
+  pub rest : List ℕ
+  pub spelling : bytes ≡ log_of magic id 1 gated ++ gate ∷ rest
 
--- if the bytes hold the records, so does each image with P
+-- if the bytes have the records acknowledged, so has each image with P
 abbrev pub Spares : List ℕ → ℕ → List (List ℕ) → List ℕ → (List ℕ → Type 0) → Type 0
 Spares magic id records bytes P = HasAcknowledged magic id records bytes → (image : List ℕ) → P image → HasAcknowledged magic id records image
+
+-- records that each crash at one moment would leave acknowledged, each crash at a later moment leaves so too
+abbrev pub LosesNoRecord : List ℕ → List Moment → List Moment → Type 0
+LosesNoRecord magic old new = (id : ℕ) (records : List (List ℕ)) → Preserves (Leaves (HasAcknowledged magic id records)) old new

@@ -1,5 +1,5 @@
 -- When an opening is refused.
-use Rattle.std.specs.Prelude.{ℕ, ⊤}
+use Rattle.std.specs.Prelude.{ℕ, ◌≤◌, Result, IfErr, ⊤}
 use Rattle.wp_outside.specs.Faults.{Rose}
 use Rattle.wp_gatelog.specs.declared.error.LogError.{LogError}
 use Rattle.wp_gatelog.specs.declared.error.LogError.TheVariants.{Memory, DiskFault, BadHead, Cut}
@@ -9,11 +9,16 @@ abbrev pub FaultRose : ℕ → ℕ → LogError → Type 0
 FaultRose before now Memory = ⊤
 FaultRose before now DiskFault = Rose before now
 FaultRose before now BadHead = ⊤
-FaultRose before now (Cut index) = ⊤
+FaultRose before now (Cut index id) = ⊤
+
+-- the disk's count of faults never falls, and a disk fault comes only where it rose
+pub record HasLogCause {T : Type 0} (before now : ℕ) (result : Result T LogError) : Type 0 where
+  pub later : before ≤ now
+  pub failed : IfErr result (FaultRose before now)
 
 -- the outside refused: memory, or the disk, whose count rose
 abbrev pub IsOutside : ℕ → ℕ → LogError → Type 0
 IsOutside before now Memory = ⊤
 IsOutside before now DiskFault = Rose before now
 IsOutside before now BadHead = ⊥
-IsOutside before now (Cut index) = ⊥
+IsOutside before now (Cut index id) = ⊥

@@ -1,4 +1,4 @@
--- What stands where a log's head should be.
+-- What is where a log's head should be.
 use Rattle.std.specs.Prelude.{◌≡◌, ◌≢◌, ℕ, List, [], ◌∷◌, ◌++◌, length}
 use Rattle.wp_gatelog.specs.declared.head.Head.{Head}
 use Rattle.wp_gatelog.specs.declared.head.Head.TheVariants.{Unmade, Bad, Made}

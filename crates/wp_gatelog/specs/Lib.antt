@@ -1,4 +1,6 @@
+pub mod Answers
 pub mod Append
+pub mod Changes
 pub mod Damage
 pub mod Errors
 pub mod Heads

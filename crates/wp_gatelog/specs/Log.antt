@@ -1,13 +1,12 @@
 -- An open log.
 use Rattle.std.specs.Prelude.{◌≡◌, ◌⊎◌, ℕ, Bool, List, [], ◌∷◌, ◌++◌, length}
-use Rattle.wp_outside.specs.Disk.{Moment, IfKnown, Each, settled}
+use Rattle.wp_outside.specs.Disk.{Moment, IfKnown, Each, synced}
 use Rattle.wp_gatelog.specs.Spelling.{Gated, IsOpen, framed, frame_of, log_of, records_of, Spells}
 
-pub record State : Type 0 where
+pub record LogState : Type 0 where
   pub moments : List Moment  -- its disk's
   pub faults : ℕ  -- its disk's
   pub id : ℕ
-  pub found : List (List ℕ)  -- the records at opening
   pub count : ℕ  -- of the records, those that were appended since too
   pub end : ℕ  -- the place of the gate that ends it
   pub closed : Bool  -- an append has failed
@@ -17,29 +16,29 @@ abbrev pub last_gate : ℕ → List Gated → ℕ
 last_gate head [] = head
 last_gate head (g ∷ more) = last_gate g.gate more
 
--- A log's records as they stand once they are acknowledged: all gates are open, the head's and the last one are 01.
+-- A log's records as they are once they are acknowledged: all gates are open, the head's and the last one are 01.
 -- Only those two an opening would write anew.
 pub record IsAcknowledged (gated : List Gated) (records : List (List ℕ)) : Type 0 where
   pub gates_open : Each IsOpen gated
   pub last : last_gate 1 gated ≡ 1
   pub same : records ≡ records_of gated
 
--- the whole of the log is on the disk, and nothing stands behind it
+-- the whole of the log is on the disk, and nothing follows it
 pub record IsAtRest (magic : List ℕ) (id end : ℕ) (records : List (List ℕ)) (m : Moment) : Type 0 where
   pub gated : List Gated
   pub acknowledged : IsAcknowledged gated records
   pub place : end ≡ length (log_of magic id 1 gated)
-  pub settled_on : m ≡ settled (log_of magic id 1 gated ++ 0 ∷ [])
+  pub on_disk : m ≡ synced (log_of magic id 1 gated ++ 0 ∷ [])
 
--- where the log's disk tells, it is at rest with these records
-abbrev pub Rests : List ℕ → State → List (List ℕ) → Type 0
+-- where the log's disk is known, it is at rest with these records
+abbrev pub Rests : List ℕ → LogState → List (List ℕ) → Type 0
 Rests magic log records = IfKnown log.moments (IsAtRest magic log.id log.end records)
 
--- front, and behind it a closed gate; or an open one, one whole record and a closed gate
+-- front, and then a closed gate; or an open one, one whole record and a closed gate
 abbrev pub Grows : List ℕ → List ℕ → List ℕ → Type 0
-Grows front bytes image = (behind : List ℕ) × (
-    (image ≡ front ++ 0 ∷ behind)
-    ⊎ ((gate : ℕ) × IsOpen (record { gate = gate; bytes = bytes }) × (image ≡ front ++ gate ∷ (framed bytes ++ 0 ∷ behind))))
+Grows front bytes image = (following : List ℕ) × (
+    (image ≡ front ++ 0 ∷ following)
+    ⊎ ((gate : ℕ) × IsOpen (record { gate = gate; bytes = bytes }) × (image ≡ front ++ gate ∷ (framed bytes ++ 0 ∷ following))))
 
 -- a crash leaves the records, or those and the new one
 abbrev pub BeforeOrAfter : List ℕ → ℕ → List (List ℕ) → List ℕ → List ℕ → Type 0

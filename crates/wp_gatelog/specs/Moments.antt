@@ -1,16 +1,16 @@
 -- What a disk passes through while a call changes it.
 use Rattle.std.specs.Prelude.{◌≡◌, List, [], ◌∷◌, ℕ}
-use Rattle.wp_outside.specs.Disk.{Moment, IsImage, Passes}
+use Rattle.wp_outside.specs.Disk.{Moment, IsImage, IfKnown, Passes, synced}
 
 -- each image of the moment has P
 abbrev pub Leaves : (List ℕ → Type 0) → Moment → Type 0
 Leaves P m = (image : List ℕ) → IsImage m image → P image
 
--- each image of the second moment is one of the first
-abbrev pub Within : Moment → Moment → Type 0
-Within bound m = (image : List ℕ) → IsImage m image → IsImage bound image
+-- where the disk is known, it has these bytes, synced: a crash leaves them and nothing else
+abbrev pub IsSynced : List ℕ → List Moment → Type 0
+IsSynced bytes moments = IfKnown moments (λ m. m ≡ synced bytes)
 
--- each moment that came has P; a disk that told none still tells none
+-- each moment that came has P; an unknown disk stays unknown
 abbrev pub Goes : (Moment → Type 0) → List Moment → List Moment → Type 0
 Goes P [] new = new ≡ []
 Goes P (m ∷ past) new = Passes P (m ∷ past) new

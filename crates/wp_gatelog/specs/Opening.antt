@@ -6,33 +6,33 @@ use Rattle.wp_gatelog.specs.declared.error.LogError.TheVariants.{Memory, DiskFau
 use Rattle.wp_gatelog.specs.Damage.{IsBadHead, IsCut}
 use Rattle.wp_gatelog.specs.Repair.{IsRepaired}
 use Rattle.wp_gatelog.specs.Moments.{Leaves}
-use Rattle.wp_gatelog.specs.Spelling.{Gated, IsUnmade, Stands, Spells, records_of}
+use Rattle.wp_gatelog.specs.Spelling.{Gated, IsUnmade, HasLog, Spells, records_of}
 
 -- the bytes spell these records under this id: the one that was asked for, where no log was made
 pub record IsFound (magic : List ℕ) (asked : ℕ) (bytes : List ℕ) (id : ℕ) (records : List (List ℕ)) : Type 0 where
   pub spelled : Spells bytes magic id records
   pub unmade : IsUnmade bytes → id ≡ asked
 
--- the bytes are refused so; of memory and of the disk they say nothing
+-- The bytes are refused so; of memory and of the disk they say nothing. A cut record's refusal has the id in the head.
 abbrev pub IsRefused : List ℕ → List ℕ → LogError → Type 0
 IsRefused magic bytes Memory = ⊤
 IsRefused magic bytes DiskFault = ⊤
 IsRefused magic bytes BadHead = IsBadHead magic bytes
-IsRefused magic bytes (Cut index) = IsCut magic index bytes
+IsRefused magic bytes (Cut index id) = (cut : IsCut magic index bytes) × (id ≡ cut.id)
 
 -- the refusal left the disk as it was, but where the disk failed
 abbrev pub IsUntouched : List Moment → List Moment → LogError → Type 0
 IsUntouched old new Memory = new ≡ old
 IsUntouched old new DiskFault = ⊤
 IsUntouched old new BadHead = new ≡ old
-IsUntouched old new (Cut index) = new ≡ old
+IsUntouched old new (Cut index id) = new ≡ old
 
 -- the refusal comes after nothing but a sync, but where the disk failed
 abbrev pub IsOnlySynced : List Moment → List Moment → LogError → Type 0
 IsOnlySynced old new Memory = new ≡ added after_sync old
 IsOnlySynced old new DiskFault = ⊤
 IsOnlySynced old new BadHead = new ≡ added after_sync old
-IsOnlySynced old new (Cut index) = new ≡ added after_sync old
+IsOnlySynced old new (Cut index id) = new ≡ added after_sync old
 
 -- While a log is repaired, a crash leaves its records. Where its head's gate was not 01, it may leave none, and where the
 -- last record's was not, it may leave all but that record.
@@ -48,19 +48,15 @@ abbrev pub Survives : List ℕ → ℕ → List ℕ → List ℕ → Type 0
 Survives magic asked found image =
     (image ≡ found)
     ⊎ (IsUnmade found × Spells image magic asked [])
-    ⊎ ((id head : ℕ) × (gated : List Gated) × Stands magic id head gated found × HasMost magic id head gated image)
+    ⊎ ((id head : ℕ) × (gated : List Gated) × HasLog magic id head gated found × HasMost magic id head gated image)
 
 -- the same, byte by byte
 abbrev pub Repairs : List ℕ → ℕ → List ℕ → List ℕ → Type 0
 Repairs magic asked found image =
     (image ≡ found)
     ⊎ (IsUnmade found × Spells image magic asked [])
-    ⊎ ((id head : ℕ) × (gated : List Gated) × Stands magic id head gated found × IsRepaired magic id head gated image)
+    ⊎ ((id head : ℕ) × (gated : List Gated) × HasLog magic id head gated found × IsRepaired magic id head gated image)
 
 -- at each moment of an opening a crash leaves what survives it
 abbrev pub SurvivesThrough : List ℕ → ℕ → List Moment → List Moment → Type 0
 SurvivesThrough magic asked old new = IfKnown old (λ m. Passes (Leaves (Survives magic asked m.reads)) old new)
-
--- a log is repaired whose head was read
-abbrev pub RepairsMade : List ℕ → ℕ → ℕ → List ℕ → List ℕ → Type 0
-RepairsMade magic id head found image = (gated : List Gated) × Stands magic id head gated found × IsRepaired magic id head gated image

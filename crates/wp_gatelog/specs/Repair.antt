@@ -1,29 +1,29 @@
 -- How an opening repairs a log that it read.
 use Rattle.std.specs.Prelude.{◌≡◌, ◌≢◌, ◌⊎◌, ℕ, List, [], ◌∷◌, ◌++◌, length, Option}
-use Rattle.wp_gatelog.specs.declared.gate.Gate.{Gate}
+use Rattle.wp_gatelog.specs.declared.gate.GateByte.{GateByte}
 use Rattle.wp_gatelog.specs.Scanning.{IsLast}
-use Rattle.wp_gatelog.specs.Spelling.{Gated, Stands, log_of, records_of}
+use Rattle.wp_gatelog.specs.Spelling.{Gated, HasLog, log_of, records_of}
 
 -- a log was read whole in these bytes
-pub record IsReadLog (magic : List ℕ) (id head : ℕ) (records : List (List ℕ)) (last : Option Gate) (end len : ℕ) (bytes : List ℕ) : Type 0 where
+pub record IsReadLog (magic : List ℕ) (id head : ℕ) (records : List (List ℕ)) (last : Option GateByte) (end len : ℕ) (bytes : List ℕ) : Type 0 where
   pub gated : List Gated
-  pub stands : Stands magic id head gated bytes
+  pub has_log : HasLog magic id head gated bytes
   pub same : records ≡ records_of gated
   pub last_is : IsLast last gated
   pub place : end ≡ length (log_of magic id head gated)
   pub size : len ≡ length bytes
   pub magic_size : length magic ≡ 4
 
--- front is kept, and a closed gate behind it
+-- the bytes begin with front and a closed gate
 abbrev pub HasFront : List ℕ → List ℕ → Type 0
 HasFront front image = (more : List ℕ) × (image ≡ front ++ 0 ∷ more)
 
 -- a gate that was not 01 is any
 abbrev pub Reopens : List ℕ → ℕ → List ℕ → List ℕ → Type 0
-Reopens front byte behind image = (byte ≢ 1) × (gate : ℕ) × (more : List ℕ) × (image ≡ front ++ gate ∷ (behind ++ more))
+Reopens front byte following image = (byte ≢ 1) × (gate : ℕ) × (more : List ℕ) × (image ≡ front ++ gate ∷ (following ++ more))
 
 -- While a log is repaired, a crash leaves its head and its records with their gates; but where the head's gate was not
--- 01, it may be any, and behind a head's gate of 01 so may the last record's gate that was not.
+-- 01, it may be any, and after a head's gate of 01 so may the last record's gate that was not.
 abbrev pub IsRepaired : List ℕ → ℕ → ℕ → List Gated → List ℕ → Type 0
 IsRepaired magic id head gated image =
     HasFront (log_of magic id head gated) image

@@ -1,7 +1,7 @@
 -- Which records bytes spell.
 --
--- A log is a head (a gate, four bytes magic, the version 01, four bytes id), records, each behind a gate of its own,
--- and a closed gate. What stands behind the first closed gate is nothing.
+-- A log is a head (a gate, four bytes magic, the version 01, four bytes id), records, each after a gate of its own,
+-- and a closed gate. What follows the first closed gate is nothing.
 use Rattle.std.specs.Prelude.{◌≡◌, ◌≢◌, ◌⊎◌, ℕ, ◌<◌, ◌^◌, List, [], ◌∷◌, ◌++◌, length, map, ⊤}
 use Rattle.std.specs.Int.{w32, w64, to_be_bytes}
 use Rattle.wp_outside.specs.Disk.{Each}
@@ -15,15 +15,15 @@ pub record Gated : Type 0 where
 unfoldable pub framed : List ℕ → List ℕ
 framed bytes = to_be_bytes w64 (length bytes) ++ bytes
 
--- what is written for a new record: behind it stands the next one's gate, closed
+-- what is written for a new record: the next one's gate follows it, closed
 abbrev pub frame_of : List ℕ → List ℕ
 frame_of bytes = framed bytes ++ 0 ∷ []
 
--- what stands behind the head's gate
+-- what follows the head's gate
 unfoldable pub identity : List ℕ → ℕ → List ℕ
 identity magic id = magic ++ 1 ∷ to_be_bytes w32 id
 
--- records, each behind its gate
+-- records, each after its gate
 abbrev pub all_gated : List Gated → List ℕ
 all_gated [] = []
 all_gated (g ∷ more) = g.gate ∷ (framed g.bytes ++ all_gated more)
@@ -37,10 +37,10 @@ pub record IsOpen (g : Gated) : Type 0 where
   pub gate : g.gate ≢ 0
   pub length_fits : length g.bytes < 2 ^ 64
 
--- a log stands in the bytes: its head's gate and those of its records are open, and a closed one ends it
-pub record Stands (magic : List ℕ) (id head : ℕ) (gated : List Gated) (bytes : List ℕ) : Type 0 where
-  pub behind : List ℕ
-  pub spelling : bytes ≡ log_of magic id head gated ++ 0 ∷ behind
+-- the bytes have a log: its head's gate and those of its records are open, and a closed one ends it
+pub record HasLog (magic : List ℕ) (id head : ℕ) (gated : List Gated) (bytes : List ℕ) : Type 0 where
+  pub rest : List ℕ
+  pub spelling : bytes ≡ log_of magic id head gated ++ 0 ∷ rest
   pub head_open : head ≢ 0
   pub gates_open : Each IsOpen gated
 
@@ -50,7 +50,7 @@ IsUnmade [] = ⊤
 IsUnmade (gate ∷ []) = ⊤
 IsUnmade (gate ∷ byte ∷ bytes) = gate ≡ 0
 
--- the records behind the gates
+-- the records after the gates
 abbrev pub records_of : List Gated → List (List ℕ)
 records_of gated = map (λ g. g.bytes) gated
 
@@ -58,4 +58,4 @@ records_of gated = map (λ g. g.bytes) gated
 abbrev pub Spells : List ℕ → List ℕ → ℕ → List (List ℕ) → Type 0
 Spells bytes magic id records =
     (IsUnmade bytes × (records ≡ []))
-    ⊎ ((head : ℕ) × (gated : List Gated) × Stands magic id head gated bytes × (records ≡ records_of gated))
+    ⊎ ((head : ℕ) × (gated : List Gated) × HasLog magic id head gated bytes × (records ≡ records_of gated))

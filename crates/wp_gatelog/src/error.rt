@@ -15,8 +15,9 @@ pub enum LogError {
     /// The head is cut, or has another magic or another version.
     BadHead,
 
-    /// Behind an open gate the record with this index, from 0 on, or the gate behind it is not there whole.
-    Cut { index: u64 },
+    /// After an open gate the record with this index, from 0 on, or the gate after it is not there whole. The id is the
+    /// one in the head.
+    Cut { index: u64, id: u32 },
 }
 
 /// A refusal that hands the disk back.

@@ -8,7 +8,7 @@ pub const OPEN: u8 = 1;
 
 /// An open gate at its place in the log.
 #[derive(Clone, Copy)]
-pub struct Gate {
+pub struct GateByte {
     pub at: u64,
     pub byte: u8,
 }

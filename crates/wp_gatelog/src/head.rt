@@ -1,4 +1,4 @@
-//! The head of a log: its gate, magic, version and id, and the gate behind it.
+//! The head of a log: its gate, magic, version and id, and the gate after it.
 
 ghost use Rattle.std.specs.Prelude.{◌≡◌, ◌≢◌, ◌⊎◌, ℕ, ◌<◌, ◌∷◌, [], ◌++◌, List, length, take, slice_index, IfSome, IfNone, IfOk};
 ghost use Rattle.wp_outside.specs.Disk.{IfKnown};
@@ -10,12 +10,12 @@ use crate::gate::CLOSED;
 use wp_fields::Fields;
 use wp_outside::{Disk, Failed};
 
-/// How many bytes stand before the first record's gate.
+/// How many bytes come before the first record's gate.
 pub const HEAD_LEN: u64 = 10;
 
 const VERSION: u8 = 1;
 
-/// What stands where a log's head should be.
+/// What is where a log's head should be.
 pub enum Head {
     Unmade,
     Bad,
@@ -48,7 +48,7 @@ fn head_of(bytes: &[u8], magic: &[u8]) -> Head
     }
 }
 
-/// The id behind this magic and version, where they stand behind the head's gate and a further gate follows.
+/// The id after this magic and version, where they follow the head's gate and a further gate follows them.
 fn id_of(bytes: &[u8], magic: &[u8]) -> Option<u32>
     requires { length magic.now ≡ 4 }
     ensures found { IfSome result (λ id.
@@ -70,7 +70,7 @@ fn id_of(bytes: &[u8], magic: &[u8]) -> Option<u32>
     Some(id)
 }
 
-/// The bytes behind the head's gate: magic, version, id and the closed gate of the first record.
+/// The bytes after the head's gate: magic, version, id and the closed gate of the first record.
 pub fn head_bytes(magic: [u8; 4], id: u32) -> [u8; 10]
     ensures { result ≡ identity magic id ++ 0 ∷ [] }
 {

@@ -28,7 +28,7 @@ pub fn bytes_are_read_in_one_way()
         ⊎ IsBadHead magic bytes ⊎ ((index : ℕ) × IsCut magic index bytes) }
 {}
 
-/// What a crash leaves of a log at rest holds its records, and in bytes that hold records these are the first that are
+/// What a crash leaves of a log at rest has its records acknowledged, and acknowledged records are the first that are
 /// spelled.
 pub fn acknowledged_records_come_first()
     ensures at_rest { (magic : List ℕ) (id end : ℕ) (records : List (List ℕ)) (m : Moment)

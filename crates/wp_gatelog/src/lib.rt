@@ -1,10 +1,10 @@
-//! A log of records behind gates, on a disk of its own.
+//! A log of records after gates, on a disk of its own.
 //!
-//! Each record stands behind a gate, one byte that is closed (00) or open. An append writes the record and the next
-//! gate, closed, behind the closed gate that ends the log; syncs; opens that gate; syncs. So a crash at any moment
+//! Each record follows a gate, one byte that is closed (00) or open. An append writes the record and the next
+//! gate, closed, after the closed gate that ends the log; syncs; opens that gate; syncs. So a crash at any moment
 //! leaves the records before it, or those and the new one, and no checksum is trusted for that. The head has a gate
 //! too, so a log that is being made counts as none. An opening reads the records before the first closed gate, cuts
-//! what stands behind it, and writes the gates that a crash left neither closed nor 01. Its records stay where they
+//! what follows it, and writes the gates that a crash left neither closed nor 01. Its records stay where they
 //! were acknowledged, whenever it breaks off.
 #![tactic(auto)]
 

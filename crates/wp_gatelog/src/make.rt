@@ -1,10 +1,10 @@
 //! Making a log where there is none.
 
-ghost use Rattle.std.specs.Prelude.{◌≡◌, ℕ, [], ◌∷◌, ◌++◌, List, length, OnOk};
-ghost use Rattle.wp_outside.specs.Disk.{IfKnown, settled};
+ghost use Rattle.std.specs.Prelude.{◌≡◌, ℕ, [], ◌∷◌, ◌++◌, List, length};
+ghost use Rattle.wp_outside.specs.Disk.{synced};
 ghost use Rattle.wp_outside.specs.Faults.{HasCause};
-ghost use Rattle.wp_gatelog.specs.Durability.{Preserves, HasAcknowledged};
-ghost use Rattle.wp_gatelog.specs.Moments.{Goes, Leaves};
+ghost use Rattle.wp_gatelog.specs.Changes.{BringsTo, Changes};
+ghost use Rattle.wp_gatelog.specs.Moments.{IsSynced};
 ghost use Rattle.wp_gatelog.specs.Heads.{SpellsNone};
 ghost use Rattle.wp_gatelog.specs.Spelling.{IsUnmade, log_of};
 
@@ -16,17 +16,10 @@ use wp_outside::{Disk, Failed};
 /// Makes a log without records on a disk of so many bytes. Its head's gate stays closed until the rest of the head is
 /// on the disk for good.
 pub fn make<D: Disk>(disk: &mut D, len: u64, magic: [u8; 4], id: u32) -> Result<(), Failed>
-    ensures passed { (before : List ℕ) → IsUnmade before → len ≡ length before
-        → IfKnown (D.moments disk.old) (λ m. m ≡ settled before)
-        → Goes (Leaves (SpellsNone magic id)) (D.moments disk.old) (D.moments disk.new) }
-    ensures lasts { (before : List ℕ) → IsUnmade before → len ≡ length before
-        → IfKnown (D.moments disk.old) (λ m. m ≡ settled before)
-        → (other : ℕ) (records : List (List ℕ))
-        → Preserves (Leaves (HasAcknowledged magic other records)) (D.moments disk.old) (D.moments disk.new) }
-    ensures done { (before : List ℕ) → IsUnmade before → len ≡ length before
-        → IfKnown (D.moments disk.old) (λ m. m ≡ settled before)
-        → OnOk result (IfKnown (D.moments disk.new) (λ m. m ≡ settled (log_of magic id 1 [] ++ 0 ∷ []))) }
-    ensures untold { D.moments disk.old ≡ [] → D.moments disk.new ≡ [] }
+    ensures made { (before : List ℕ) → IsUnmade before → len ≡ length before → IsSynced before (D.moments disk.old)
+        → BringsTo magic (SpellsNone magic id) (λ m. m ≡ synced (log_of magic id 1 [] ++ 0 ∷ []))
+        (D.moments disk.old) (D.moments disk.new) result }
+    ensures unknown { D.moments disk.old ≡ [] → D.moments disk.new ≡ [] }
     ensures cause { HasCause (D.faults disk.old) (D.faults disk.new) result }
 {
     close_head(disk, len)?;
@@ -34,19 +27,11 @@ pub fn make<D: Disk>(disk: &mut D, len: u64, magic: [u8; 4], id: u32) -> Result<
     write_synced(disk, 0, &[OPEN])
 }
 
-/// Leaves a closed gate and nothing behind it. A closed gate with bytes behind it is not written again: they are cut.
+/// Leaves a closed gate and nothing after it. A closed gate with bytes after it is not written again: they are cut.
 fn close_head<D: Disk>(disk: &mut D, len: u64) -> Result<(), Failed>
-    ensures passed { (before : List ℕ) → IsUnmade before → len ≡ length before
-        → IfKnown (D.moments disk.old) (λ m. m ≡ settled before)
-        → Goes (Leaves IsUnmade) (D.moments disk.old) (D.moments disk.new) }
-    ensures lasts { (before : List ℕ) → IsUnmade before → len ≡ length before
-        → IfKnown (D.moments disk.old) (λ m. m ≡ settled before)
-        → (magic : List ℕ) (id : ℕ) (records : List (List ℕ))
-        → Preserves (Leaves (HasAcknowledged magic id records)) (D.moments disk.old) (D.moments disk.new) }
-    ensures done { (before : List ℕ) → IsUnmade before → len ≡ length before
-        → IfKnown (D.moments disk.old) (λ m. m ≡ settled before)
-        → OnOk result (IfKnown (D.moments disk.new) (λ m. m ≡ settled (0 ∷ []))) }
-    ensures untold { D.moments disk.old ≡ [] → D.moments disk.new ≡ [] }
+    ensures changes { (before : List ℕ) → IsUnmade before → len ≡ length before → IsSynced before (D.moments disk.old)
+        → Changes IsUnmade before (0 ∷ []) (D.moments disk.old) (D.moments disk.new) result }
+    ensures unknown { D.moments disk.old ≡ [] → D.moments disk.new ≡ [] }
     ensures cause { HasCause (D.faults disk.old) (D.faults disk.new) result }
 {
     if len <= 1 {

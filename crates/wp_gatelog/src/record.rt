@@ -8,7 +8,7 @@ use std::alloc::{AllocError, Global};
 use std::marker::Model;
 use wp_fields::{push_piece, push_u8, push_u64};
 
-/// A record that stood in a log. Clauses see its bytes.
+/// A record of a log. Clauses see its bytes.
 #[derive(Drop)]
 pub struct Record {
     bytes: Vec<u8>,

@@ -6,14 +6,14 @@ ghost use Rattle.wp_gatelog.specs.Errors.{FaultRose, IsOutside};
 ghost use Rattle.wp_gatelog.specs.Scanning.{IsStart, IsNext, EndsWithin, HasRead, IsReadFault};
 
 use crate::error::LogError;
-use crate::gate::{CLOSED, Gate};
+use crate::gate::{CLOSED, GateByte};
 use crate::head::HEAD_LEN;
 use crate::record::Record;
 use std::alloc::Global;
 use wp_fields::Fields;
 use wp_outside::Disk;
 
-/// How many bytes a gate and the length behind it take.
+/// How many bytes a gate and the length after it take.
 const START_LEN: u64 = 9;
 
 /// The records of a log.
@@ -22,13 +22,13 @@ pub struct Scan {
     pub records: Vec<Record>,
 
     /// The last record's gate.
-    pub last: Option<Gate>,
+    pub last: Option<GateByte>,
 
     /// The place of the first closed gate.
     pub end: u64,
 }
 
-/// What stands at a gate.
+/// What is at a gate.
 #[derive(Drop)]
 pub enum Next {
     Closed,
@@ -36,21 +36,26 @@ pub enum Next {
     Open { gate: u8, record: Record },
 }
 
-/// A gate and the length behind it.
+/// A gate and the length after it.
 pub enum Start {
     Closed,
     Short,
     Open { gate: u8, len: u64 },
 }
 
-/// Reads the records behind the head of a log with so many bytes, up to the first closed gate.
-pub fn read_records<D: Disk>(alloc: Global, disk: &mut D, len: u64) -> Result<Scan, LogError>
+/// Reads the records after the head of a log with so many bytes, up to the first closed gate. `id` is the head's.
+pub fn read_records<D: Disk>(
+    alloc: Global,
+    disk: &mut D,
+    len: u64,
+    id: u32,
+) -> Result<Scan, LogError>
     requires within { 10 < len }
     requires bounded { len ≤ 2 ^ 62 }
     ensures found { IfOk result (λ scan. IfKnown (D.moments disk.old) (λ m. len ≡ length m.reads
-        → (behind : List ℕ) × HasRead (drop 10 m.reads) (0 ∷ behind) scan.records.items scan.last scan.end)) }
+        → (following : List ℕ) × HasRead (drop 10 m.reads) (0 ∷ following) scan.records.items scan.last scan.end)) }
     ensures refused { IfErr result (λ why. IfKnown (D.moments disk.old) (λ m. len ≡ length m.reads
-        → IsReadFault (drop 10 m.reads) why)) }
+        → IsReadFault id (drop 10 m.reads) why)) }
     ensures places { IfOk result (λ scan. (vec_len scan.records ≤ scan.end) × (scan.end < len)) }
     ensures kept { D.moments disk.new ≡ D.moments disk.old }
     ensures fault { IfErr result (FaultRose (D.faults disk.old) (D.faults disk.new)) }
@@ -64,9 +69,10 @@ pub fn read_records<D: Disk>(alloc: Global, disk: &mut D, len: u64) -> Result<Sc
             Next::Closed => return Ok(Scan { records, last, end }),
             Next::Cut => return Err(LogError::Cut {
                 index: records.len() as u64,
+                id,
             }),
             Next::Open { gate, record } => {
-                last = Some(Gate {
+                last = Some(GateByte {
                     at: end,
                     byte: gate,
                 });
@@ -77,7 +83,7 @@ pub fn read_records<D: Disk>(alloc: Global, disk: &mut D, len: u64) -> Result<Sc
     }
 }
 
-/// Reads what stands at the gate at `at` of a log with so many bytes.
+/// Reads what is at the gate at `at` of a log with so many bytes.
 fn read_next<D: Disk>(alloc: Global, disk: &mut D, at: u64, len: u64) -> Result<Next, LogError>
     requires within { at < len }
     requires bounded { len ≤ 2 ^ 62 }

@@ -12,7 +12,11 @@ const RECORD: &[u8; 12] = b"\0\0\0\x01\x01\x01\x01\x01k\0\x011";
 const LOG: &[u8; 32] =
     b"\x01WPLG\x01\0\0\0\x01\x01\0\0\0\0\0\0\0\x0c\0\0\0\x01\x01\x01\x01\x01k\0\x011\0";
 
-fn open(alloc: Global, bytes: &[u8], fails: &[u64]) -> Result<GateLog<MemDisk>, LogError> {
+fn open(
+    alloc: Global,
+    bytes: &[u8],
+    fails: &[u64],
+) -> Result<(GateLog<MemDisk>, Vec<Record>), LogError> {
     let disk = MemDisk::new(
         alloc,
         bytes.to_vec(alloc)?,
@@ -21,7 +25,7 @@ fn open(alloc: Global, bytes: &[u8], fails: &[u64]) -> Result<GateLog<MemDisk>, 
         fails.to_vec(alloc)?,
     )?;
     match GateLog::open(alloc, disk, MAGIC, 1) {
-        Ok(log) => Ok(log),
+        Ok(opened) => Ok(opened),
         Err(refused) => Err(refused.why),
     }
 }
@@ -29,14 +33,14 @@ fn open(alloc: Global, bytes: &[u8], fails: &[u64]) -> Result<GateLog<MemDisk>, 
 fn goes_to_a_thread<T: Send>(_value: &T) {}
 
 fn count_found(alloc: Global, bytes: &[u8]) -> Result<usize, LogError> {
-    let log = open(alloc, bytes, &[])?;
-    Ok(log.records().len())
+    let (_, records) = open(alloc, bytes, &[])?;
+    Ok(records.len())
 }
 
 #[test]
 fn a_log_is_written_and_read_as_its_format_says(rt: HostRuntime) -> Result<(), Fail> {
     let alloc = rt.alloc();
-    let mut log = open(alloc, b"", &[])?;
+    let (mut log, _) = open(alloc, b"", &[])?;
     goes_to_a_thread(&log);
     assert_eq!(rt; log.count(), 0);
     let record = frame(alloc, RECORD)?;
@@ -45,17 +49,17 @@ fn a_log_is_written_and_read_as_its_format_says(rt: HostRuntime) -> Result<(), F
     let disk = log.into_disk();
     assert_eq!(rt; disk.bytes(), LOG.as_slice());
 
-    let log = open(alloc, LOG, &[])?;
+    let (log, records) = open(alloc, LOG, &[])?;
     assert_eq!(rt; log.id(), 1);
-    assert_eq!(rt; log.records().len(), 1);
-    assert_eq!(rt; log.records()[0].bytes(), RECORD.as_slice());
+    assert_eq!(rt; records.len(), 1);
+    assert_eq!(rt; records[0].bytes(), RECORD.as_slice());
     Ok(())
 }
 
 #[test]
 fn what_is_no_log_is_refused(rt: HostRuntime) -> Result<(), Fail> {
     let alloc = rt.alloc();
-    let cut = Err(LogError::Cut { index: 0 });
+    let cut = Err(LogError::Cut { index: 0, id: 1 });
     for (what, bytes, want) in [
         ("a whole log", LOG.as_slice(), Ok(1)),
         ("a closed head", b"\0WPLG\x03".as_slice(), Ok(0)),
@@ -88,13 +92,13 @@ fn what_is_no_log_is_refused(rt: HostRuntime) -> Result<(), Fail> {
 }
 
 #[test]
-fn an_opening_repairs_gates_and_cuts_what_stands_behind(rt: HostRuntime) -> Result<(), Fail> {
+fn an_opening_repairs_gates_and_cuts_what_follows(rt: HostRuntime) -> Result<(), Fail> {
     let alloc = rt.alloc();
     let mut bytes = LOG.to_vec(alloc)?;
     bytes.extend_from_slice(b"\xff\xff")?;
     bytes[0] = 2;
     bytes[10] = 3;
-    let log = open(alloc, &bytes, &[])?;
+    let (log, _) = open(alloc, &bytes, &[])?;
     assert_eq!(rt; log.count(), 1);
     let disk = log.into_disk();
     assert_eq!(rt; disk.bytes(), LOG.as_slice());
@@ -107,7 +111,7 @@ fn a_failed_append_closes_the_log(rt: HostRuntime) -> Result<(), Fail> {
     let alloc = rt.alloc();
     let record = frame(alloc, RECORD)?;
     for call in [8, 10] {
-        let mut log = open(alloc, LOG, &[call])?;
+        let (mut log, _) = open(alloc, LOG, &[call])?;
         assert_eq!(rt;
             log.append(&record),
             Err(AppendError::DiskFault),

@@ -33,7 +33,7 @@ IsLeftWhere before after open_error.Memory = Unit {0}
 IsLeftWhere before after (open_error.OpenFault d) = Unit {0}
 IsLeftWhere before after (open_error.Contents damage) = IsLeftBy before after damage
 
--- Why the log was not opened: its count of faults rose, or where it tells its bytes they are damaged. Want of memory
+-- Why the log was not opened: its count of faults rose, or where it is known its bytes are damaged. Want of memory
 -- needs no cause.
 abbrev pub IsOpenCause : (rose : Type 0) → List Moment → OpenError → Type 0
 IsOpenCause rose moments open_error.Memory = Unit {0}

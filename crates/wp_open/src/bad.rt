@@ -3,14 +3,14 @@ use wp_entry::RecordError;
 use wp_model::Seq;
 use wp_outside::Device;
 
-/// What is wrong with what a store's devices hold: the first fault.
+/// What is wrong with the bytes of a store's devices: the first fault.
 #[derive(Debug, Drop, PartialEq, Eq)]
 pub enum Bad {
     /// The device has no whole head, or one of another magic or version.
     BadHead(Device),
     /// The log's record with this index, from 0 on, is cut; or none is, and it is the first outside the format.
     BadRecord { index: u64, why: RecordError },
-    /// The entry with this number is the first that may not stand behind those before it.
+    /// The entry with this number is the first that may not come after those before it.
     Illegal { number: Seq },
 }
 

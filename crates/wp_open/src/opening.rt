@@ -21,7 +21,7 @@ pub enum OpenError {
     Memory,
     /// The device failed.
     OpenFault(Device),
-    /// What was read stands outside the formats.
+    /// What was read is outside the formats.
     Contents(Bad),
 }
 
@@ -49,13 +49,13 @@ pub fn open<D: Disk>(
     disk: D,
     id: u32,
 ) -> Result<Opened<D>, DiskRefused<D, OpenError>>
-    ensures keeps { IfOk result (λ opened. StoresHistory opened.wal opened.history.entries []) }
+    ensures stores { IfOk result (λ opened. StoresHistory opened.wal opened.history.entries []) }
     ensures running { IfOk result (λ opened. opened.wal.closed ≡ false) }
     ensures found { IfOk result (λ opened. IfKnown (D.moments disk) (λ m. IsLogOf opened.wal.id opened.history.entries m.reads)) }
     ensures made { IfOk result (λ opened. IfKnown (D.moments disk) (λ m. IsUnmade m.reads → opened.wal.id ≡ id)) }
     ensures cause { IfErr result (λ refused. IsOpenCause (Rose (D.faults disk) (D.faults refused.disk)) (D.moments disk) refused.why) }
     ensures survives { IfErr result (λ refused. SurvivesThrough MAGIC id (D.moments disk) (D.moments refused.disk)) }
-    ensures lasts { MatchResult result (λ opened. LosesNothing (D.moments disk) opened.wal.moments) (λ refused. LosesNothing (D.moments disk) (D.moments refused.disk)) }
+    ensures durable { MatchResult result (λ opened. LosesNothing (D.moments disk) opened.wal.moments) (λ refused. LosesNothing (D.moments disk) (D.moments refused.disk)) }
     ensures left { IfErr result (λ refused. IsLeftWhere (D.moments disk) (D.moments refused.disk) refused.why) }
     ensures later { MatchResult result (λ opened. D.faults disk ≤ opened.wal.faults) (λ refused. D.faults disk ≤ D.faults refused.disk) }
 {

@@ -7,7 +7,7 @@ use Rattle.wp_model.specs.Legal.{IsLegal, IsLegalNext, undone_last}
 use Rattle.wp_outside.specs.Disk.{Moment, IfKnown}
 use Rattle.wp_entry.specs.Record.{FormRecord, IsRecord}
 use Rattle.wp_wal.specs.Spelling.{AreEntries, IsLogOrNext}
-use Rattle.wp_wal.specs.Wal.{Reserved, State as WalState, reserved_of, LeavesHistory, LeavesHistoryOrNext, StoresHistory, IsReserved}
+use Rattle.wp_wal.specs.Wal.{Reserved, WalState, reserved_of, LeavesHistory, LeavesHistoryOrNext, StoresHistory, IsReserved}
 use Rattle.wp_run.specs.Engine.{fault_count}
 use Rattle.wp_run.specs.Stored.{IsLogOrOneMore, CrashLeaves, IsConsistent}
 use Rattle.wp_session.specs.Next.{AreLegalNext, AreNext}
@@ -65,7 +65,7 @@ pub ready_for : (old ready : WalState) (entries added : List Entry) (stopped : B
 ready_for old ready entries added stopped limit whole running is record_is =
     let stored : StoresHistory old entries [] = subst (λ (xs : List Entry). StoresHistory old entries xs) (whole.none running) whole.stores in
     let reserved : IsReserved (record old { reserved = Some (reserved_of old.due added) }) entries added =
-    record { keeps = stores_reserved old entries (Some (reserved_of old.due added)) stored; running = whole.state ∙ running; is = record_is; reserved = refl } in
+    record { stores = stores_reserved old entries (Some (reserved_of old.due added)) stored; running = whole.state ∙ running; is = record_is; reserved = refl } in
     subst (λ (w : WalState). IsReserved w entries added) (sym is) reserved
 
 -- to reserve a record is nothing to the disk

@@ -16,7 +16,7 @@ use Rattle.wp_gatelog.specs.Opening.{SurvivesThrough}
 use Rattle.wp_open.specs.Opening.{IsOpenCause, IsLeftWhere}
 use Rattle.wp_run.specs.Status.{IsStatusOf}
 use Rattle.wp_wal.specs.Spelling.{MAGIC, IsLogOf}
-use Rattle.wp_wal.specs.Wal.{State as WalState}
+use Rattle.wp_wal.specs.Wal.{WalState}
 use Rattle.wp_run.specs.Stored.{CrashLeaves}
 use Rattle.wp_run.specs.Transcript.{Explains}
 use Rattle.wp_run.specs.Engine.{EngineState, Answered, fault_count, replies_of, Later, AllRun, AllRunSoFar}

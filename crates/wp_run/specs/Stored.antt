@@ -7,7 +7,7 @@ use Rattle.wp_entry.specs.Record.{FormRecord, IsRecord}
 use Rattle.wp_gatelog.specs.Durability.{HasAcknowledged, Preserves}
 use Rattle.wp_gatelog.specs.Moments.{Leaves}
 use Rattle.wp_wal.specs.Spelling.{MAGIC, IsLogOf, HasAcknowledgedEntries}
-use Rattle.wp_wal.specs.Wal.{State, LeavesHistory, StoresHistory}
+use Rattle.wp_wal.specs.Wal.{WalState, LeavesHistory, StoresHistory}
 
 -- ---- the log of a history
 
@@ -28,7 +28,7 @@ CrashLeaves (suc faults) id history m = Leaves (λ image. IsLogOrOneMore id hist
 -- ---- the store
 
 -- The store's fields go together. Once an append has failed, the log may have its record.
-pub record IsConsistent (wal : State) (entries : List Entry) (stopped : Bool) (limit : ℕ) : Type 0 where
+pub record IsConsistent (wal : WalState) (entries : List Entry) (stopped : Bool) (limit : ℕ) : Type 0 where
   pub failed : List Entry
   pub stores : StoresHistory wal entries failed
   pub legal : IsLegal (entries ++ failed)

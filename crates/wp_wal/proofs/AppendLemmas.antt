@@ -1,20 +1,20 @@
--- What an append makes of a log that keeps a history.
+-- What an append makes of a log that stores a history.
 use Rattle.std.proofs.Common.{◌≡◌, ℕ, ◌+◌, ◌≤◌, Bool, true, false, List, [], ◌∷◌, ◌++◌, length, map, Option, Some, None, refl, ap, subst, ◌∙◌, inl, inr, arith, length-append}
 use Rattle.std.proofs.lemmas.List.{append-nil}
 use Rattle.std.specs.Prelude.{IfSome}
 use Rattle.wp_model.specs.declared.entry.Entry.{Entry}
-use Rattle.wp_outside.specs.Disk.{Moment, Matches, IsImage, settled, IfKnown, Each, Passes}
+use Rattle.wp_outside.specs.Disk.{Moment, Matches, IsImage, synced, IfKnown, Each, Passes}
 use Rattle.wp_entry.specs.Record.{IsRecord, record_bytes}
 use Rattle.wp_gatelog.specs.declared.log.AppendError.{AppendError}
 use Rattle.wp_gatelog.specs.declared.log.AppendError.TheVariants.{DiskFault, Closed}
-use Rattle.wp_gatelog.specs.Append.{Appended as LogAppended, Refuses as LogRefuses}
+use Rattle.wp_gatelog.specs.Append.{FrameAppended, FrameRefused}
 use Rattle.wp_gatelog.specs.Durability.{HasAcknowledged}
-use Rattle.wp_gatelog.specs.Log.{State as LogState, IsAtRest, Rests, BeforeOrAfter}
+use Rattle.wp_gatelog.specs.Log.{LogState, IsAtRest, Rests, BeforeOrAfter}
 use Rattle.wp_gatelog.specs.Moments.{Leaves}
 use Rattle.wp_gatelog.specs.Spelling.{Spells, frame_of, log_of}
 use Rattle.wp_wal.specs.Spelling.{MAGIC, AreEntries, IsLogOf, IsLogOrNext, HasAcknowledgedEntries}
-use Rattle.wp_wal.specs.Wal.{Reserved, reserved_of, State, state_of, StoresHistory, LeavesHistory, IsReserved, Appended, StoresWhenRefused}
-use Rattle.wp_wal.proofs.EntriesLemmas.{AreEntries-behind}
+use Rattle.wp_wal.specs.Wal.{Reserved, reserved_of, WalState, state_of, StoresHistory, LeavesHistory, IsReserved, Appended, StoresWhenRefused}
+use Rattle.wp_wal.proofs.EntriesLemmas.{AreEntries-push}
 use Rattle.wp_wal.proofs.FrameLemmas.{length-frame_of}
 
 -- ---- images
@@ -30,20 +30,20 @@ matches_whole (x ∷ bytes) (b ∷ image) h le =
 rests_image : (magic : List ℕ) (id end : ℕ) (records : List (List ℕ)) (m : Moment) (rests : IsAtRest magic id end records m) (image : List ℕ) → IsImage m image → image ≡ log_of magic id 1 rests.gated ++ 0 ∷ []
 rests_image magic id end records m rests image is =
     let whole = log_of magic id 1 rests.gated ++ 0 ∷ [] in
-    let on : IsImage (settled whole) image = subst (λ (s : Moment). IsImage s image) rests.settled_on is in
+    let on : IsImage (synced whole) image = subst (λ (s : Moment). IsImage s image) rests.on_disk is in
     matches_whole whole image on.0 on.1
 
 rests_spells : (magic : List ℕ) (id end : ℕ) (records : List (List ℕ)) (m : Moment) → IsAtRest magic id end records m → Leaves (λ image. Spells image magic id records) m
 rests_spells magic id end records m rests image is =
-    inr (1, rests.gated, record { behind = []; spelling = rests_image magic id end records m rests image is; head_open = λ e. absurd cc; gates_open = rests.acknowledged.gates_open }, rests.acknowledged.same)
+    inr (1, rests.gated, record { rest = []; spelling = rests_image magic id end records m rests image is; head_open = λ e. absurd cc; gates_open = rests.acknowledged.gates_open }, rests.acknowledged.same)
 
-rests_holds : (magic : List ℕ) (id end : ℕ) (records : List (List ℕ)) (m : Moment) → IsAtRest magic id end records m → Leaves (HasAcknowledged magic id records) m
-rests_holds magic id end records m rests image is = record {
+rests_acknowledged : (magic : List ℕ) (id end : ℕ) (records : List (List ℕ)) (m : Moment) → IsAtRest magic id end records m → Leaves (HasAcknowledged magic id records) m
+rests_acknowledged magic id end records m rests image is = record {
   gated = rests.gated;
   more = [];
   acknowledged = record { gates_open = rests.acknowledged.gates_open; last = rests.acknowledged.last; same = append-nil records ∙ rests.acknowledged.same };
   gate = 0;
-  behind = [];
+  rest = [];
   spelling = rests_image magic id end records m rests image is;
 }
 
@@ -51,10 +51,10 @@ rests_holds magic id end records m rests image is = record {
 rests_history : (id end : ℕ) (records : List (List ℕ)) (history : List Entry) (moments : List Moment) → AreEntries 1 records history → IfKnown moments (IsAtRest MAGIC id end records) → IfKnown moments (LeavesHistory id history)
 rests_history id end records history [] spelled rests = tt
 rests_history id end records history (m ∷ past) spelled rests = λ image is.
-    ((records, rests_spells MAGIC id end records m rests image is, spelled), (records, rests_holds MAGIC id end records m rests image is, spelled))
+    ((records, rests_spells MAGIC id end records m rests image is, spelled), (records, rests_acknowledged MAGIC id end records m rests image is, spelled))
 
-pub running_history : (wal : State) (history next : List Entry) → StoresHistory wal history next → wal.closed ≡ false → IfKnown wal.moments (LeavesHistory wal.id history)
-running_history wal history next keeps running = rests_history wal.id wal.end keeps.records history wal.moments keeps.spelled (keeps.rests running)
+pub running_history : (wal : WalState) (history next : List Entry) → StoresHistory wal history next → wal.closed ≡ false → IfKnown wal.moments (LeavesHistory wal.id history)
+running_history wal history next stores running = rests_history wal.id wal.end stores.records history wal.moments stores.spelled (stores.rests running)
 
 -- ---- moments
 
@@ -62,17 +62,17 @@ each_other : (P Q : List ℕ → Type 0) (moments : List Moment) → ((image : L
 each_other P Q [] implies each = tt
 each_other P Q (m ∷ more) implies each = (λ image is. implies image (each.0 image is), each_other P Q more implies each.1)
 
-told_other : (P Q : List ℕ → Type 0) (moments : List Moment) → ((image : List ℕ) → P image → Q image) → IfKnown moments (Leaves P) → IfKnown moments (Leaves Q)
-told_other P Q [] implies told = tt
-told_other P Q (m ∷ past) implies told = λ image is. implies image (told image is)
+known_other : (P Q : List ℕ → Type 0) (moments : List Moment) → ((image : List ℕ) → P image → Q image) → IfKnown moments (Leaves P) → IfKnown moments (Leaves Q)
+known_other P Q [] implies known = tt
+known_other P Q (m ∷ past) implies known = λ image is. implies image (known image is)
 
--- a kept history is held, by an open log and by a closed one
-pub kept_held : (wal : State) (history next : List Entry) → StoresHistory wal history next → IfKnown wal.moments (Leaves (HasAcknowledgedEntries wal.id history))
-kept_held wal history next keeps = by wal.closed refl
+-- a stored history is acknowledged, by an open log and by a closed one
+pub stored_acknowledged : (wal : WalState) (history next : List Entry) → StoresHistory wal history next → IfKnown wal.moments (Leaves (HasAcknowledgedEntries wal.id history))
+stored_acknowledged wal history next stores = by wal.closed refl
   where
     by : (closed : Bool) → wal.closed ≡ closed → IfKnown wal.moments (Leaves (HasAcknowledgedEntries wal.id history))
-    by true is = told_other (λ image. IsLogOrNext wal.id history next image × HasAcknowledgedEntries wal.id history image) (HasAcknowledgedEntries wal.id history) wal.moments (λ image h. h.1) (keeps.left is)
-    by false is = told_other (λ image. IsLogOf wal.id history image × HasAcknowledgedEntries wal.id history image) (HasAcknowledgedEntries wal.id history) wal.moments (λ image h. h.1) (running_history wal history next keeps is)
+    by true is = known_other (λ image. IsLogOrNext wal.id history next image × HasAcknowledgedEntries wal.id history image) (HasAcknowledgedEntries wal.id history) wal.moments (λ image h. h.1) (stores.left is)
+    by false is = known_other (λ image. IsLogOf wal.id history image × HasAcknowledgedEntries wal.id history image) (HasAcknowledgedEntries wal.id history) wal.moments (λ image h. h.1) (running_history wal history next stores is)
 
 -- what each moment since then leaves, and that one too, the newest leaves
 left_now : (P : List ℕ → Type 0) (old new : List Moment) → IfKnown old (Leaves P) → Passes (Leaves P) old new → IfKnown new (Leaves P)
@@ -81,15 +81,15 @@ left_now P old new before (m ∷ more, is, each) = rw is each.0
 
 left_both : (P Q : List ℕ → Type 0) (old new : List Moment) → IfKnown old (Leaves (λ image. P image × Q image)) → Passes (Leaves P) old new → Passes (Leaves Q) old new → IfKnown new (Leaves (λ image. P image × Q image))
 left_both P Q old new before ps qs =
-    both new (left_now P old new (told_other (λ image. P image × Q image) P old (λ image h. h.0) before) ps) (left_now Q old new (told_other (λ image. P image × Q image) Q old (λ image h. h.1) before) qs)
+    both new (left_now P old new (known_other (λ image. P image × Q image) P old (λ image h. h.0) before) ps) (left_now Q old new (known_other (λ image. P image × Q image) Q old (λ image h. h.1) before) qs)
   where
     both : (new : List Moment) → IfKnown new (Leaves P) → IfKnown new (Leaves Q) → IfKnown new (Leaves (λ image. P image × Q image))
     both [] p q = tt
     both (m ∷ past) p q = λ image is. (p image is, q image is)
 
--- ---- the record behind the history
+-- ---- the record after the history
 
--- The frame is that of the record of the next entries, which stands reserved with their count.
+-- The frame is that of the record of the next entries, which is reserved with their count.
 record IsNext (history next : List Entry) (due count : ℕ) (frame : List ℕ) : Type 0 where
   framed : frame ≡ frame_of (record_bytes (length history + 1) next)
   numbered : due ≡ length history + 1
@@ -98,8 +98,8 @@ record IsNext (history next : List Entry) (due count : ℕ) (frame : List ℕ) :
 
 next_reserved : (log : LogState) (due : ℕ) (reserved : Option Reserved) (r : Reserved) (frame : List ℕ) (history next : List Entry) → reserved ≡ Some r → frame ≡ frame_of r.bytes → IsReserved (state_of log due reserved) history next → IsNext history next due r.count frame
 next_reserved log due reserved r frame history next there framed is =
-    let numbered : due ≡ length history + 1 = is.keeps.numbered in
-    let stands : reserved ≡ Some (reserved_of due next) = is.reserved in
+    let numbered : due ≡ length history + 1 = is.stores.numbered in
+    let lies : reserved ≡ Some (reserved_of due next) = is.reserved in
     let same : r ≡ reserved_of due next = cc in
     record {
       framed = framed ∙ ap (λ (s : Reserved). frame_of s.bytes) same ∙ ap (λ (n : ℕ). frame_of (record_bytes n next)) numbered;
@@ -113,26 +113,26 @@ grown_history : (id : ℕ) (records : List (List ℕ)) (history next : List Entr
 grown_history id records history next image spelled one h =
     elim h [
       | inl before ↦ inl (records, before, spelled)
-      | inr after ↦ inr (records ++ record_bytes (length history + 1) next ∷ [], after, AreEntries-behind records history next spelled one)
+      | inr after ↦ inr (records ++ record_bytes (length history + 1) next ∷ [], after, AreEntries-push records history next spelled one)
     ]
 
 -- ---- an append of the gate log, as its contract says it
 
 -- at each moment a crash leaves its records, or those and the new one
-abbrev pub GrowsThrough : LogState → LogState → List ℕ → Type 0
+abbrev GrowsThrough : LogState → LogState → List ℕ → Type 0
 GrowsThrough old new frame = (magic : List ℕ) (records : List (List ℕ)) (bytes : List ℕ) → frame ≡ frame_of bytes → Rests magic old records → Passes (Leaves (BeforeOrAfter magic old.id records bytes)) old.moments new.moments
 
--- and those it holds
-abbrev pub HoldsThrough : LogState → LogState → Type 0
-HoldsThrough old new = (magic : List ℕ) (records : List (List ℕ)) → Rests magic old records → Passes (Leaves (HasAcknowledged magic old.id records)) old.moments new.moments
+-- and those that are acknowledged
+abbrev AcknowledgesThrough : LogState → LogState → Type 0
+AcknowledgesThrough old new = (magic : List ℕ) (records : List (List ℕ)) → Rests magic old records → Passes (Leaves (HasAcknowledged magic old.id records)) old.moments new.moments
 
 -- in the end it is at rest with the new one
-abbrev pub RestsBehind : LogState → LogState → List ℕ → Type 0
-RestsBehind old new frame = (magic : List ℕ) (records : List (List ℕ)) (bytes : List ℕ) → frame ≡ frame_of bytes → Rests magic old records → Rests magic new (records ++ bytes ∷ [])
+abbrev RestsAfter : LogState → LogState → List ℕ → Type 0
+RestsAfter old new frame = (magic : List ℕ) (records : List (List ℕ)) (bytes : List ℕ) → frame ≡ frame_of bytes → Rests magic old records → Rests magic new (records ++ bytes ∷ [])
 
 -- ---- an append
 
-pub appended_reserved : (old new : LogState) (due : ℕ) (reserved : Option Reserved) (r : Reserved) (frame : List ℕ) → reserved ≡ Some r → frame ≡ frame_of r.bytes → LogAppended old new (length frame)
+pub appended_reserved : (old new : LogState) (due : ℕ) (reserved : Option Reserved) (r : Reserved) (frame : List ℕ) → reserved ≡ Some r → frame ≡ frame_of r.bytes → FrameAppended old new (length frame)
     → IfSome reserved (Appended (state_of old due reserved) (state_of new (due + r.count) None))
 appended_reserved old new due reserved r frame there framed appended =
     let size : length frame ≡ length r.bytes + 9 = ap (λ (xs : List ℕ). length xs) framed ∙ length-frame_of r.bytes in
@@ -147,57 +147,57 @@ pub passes_history : (old new : LogState) (due : ℕ) (reserved : Option Reserve
     → (history next : List Entry) → IsReserved (state_of old due reserved) history next → Passes (Leaves (IsLogOrNext old.id history next)) old.moments new.moments
 passes_history old new due reserved r frame there framed grows history next is =
     let one = next_reserved old due reserved r frame history next there framed is in
-    let records = is.keeps.records in
+    let records = is.stores.records in
     let bytes = record_bytes (length history + 1) next in
-    let passed = grows MAGIC records bytes one.framed (is.keeps.rests is.running) in
-    (passed.0, passed.1, each_other (BeforeOrAfter MAGIC old.id records bytes) (IsLogOrNext old.id history next) passed.0 (λ image h. grown_history old.id records history next image is.keeps.spelled one.is h) passed.2)
+    let passed = grows MAGIC records bytes one.framed (is.stores.rests is.running) in
+    (passed.0, passed.1, each_other (BeforeOrAfter MAGIC old.id records bytes) (IsLogOrNext old.id history next) passed.0 (λ image h. grown_history old.id records history next image is.stores.spelled one.is h) passed.2)
 
-pub passes_holds : (old new : LogState) (due : ℕ) (reserved : Option Reserved) → HoldsThrough old new
+pub passes_acknowledged : (old new : LogState) (due : ℕ) (reserved : Option Reserved) → AcknowledgesThrough old new
     → (history next : List Entry) → IsReserved (state_of old due reserved) history next → Passes (Leaves (HasAcknowledgedEntries old.id history)) old.moments new.moments
-passes_holds old new due reserved holds history next is =
-    let records = is.keeps.records in
-    let passed = holds MAGIC records (is.keeps.rests is.running) in
-    (passed.0, passed.1, each_other (HasAcknowledged MAGIC old.id records) (HasAcknowledgedEntries old.id history) passed.0 (λ image h. (records, h, is.keeps.spelled)) passed.2)
+passes_acknowledged old new due reserved has history next is =
+    let records = is.stores.records in
+    let passed = has MAGIC records (is.stores.rests is.running) in
+    (passed.0, passed.1, each_other (HasAcknowledged MAGIC old.id records) (HasAcknowledgedEntries old.id history) passed.0 (λ image h. (records, h, is.stores.spelled)) passed.2)
 
-pub keeps_appended : (old new : LogState) (due : ℕ) (reserved : Option Reserved) (r : Reserved) (frame : List ℕ) (len : ℕ) → reserved ≡ Some r → frame ≡ frame_of r.bytes → LogAppended old new len → RestsBehind old new frame
+pub stores_appended : (old new : LogState) (due : ℕ) (reserved : Option Reserved) (r : Reserved) (frame : List ℕ) (len : ℕ) → reserved ≡ Some r → frame ≡ frame_of r.bytes → FrameAppended old new len → RestsAfter old new frame
     → (history next : List Entry) → IsReserved (state_of old due reserved) history next → StoresHistory (state_of new (due + r.count) None) (history ++ next) []
-keeps_appended old new due reserved r frame len there framed appended rests history next is =
+stores_appended old new due reserved r frame len there framed appended rests history next is =
     let one = next_reserved old due reserved r frame history next there framed is in
-    let records = is.keeps.records in
+    let records = is.stores.records in
     let bytes = record_bytes (length history + 1) next in
     let count : new.count ≡ old.count + 1 = ap (λ (s : LogState). s.count) appended.changed in
-    let before : old.count ≡ length records = is.keeps.counted in
+    let before : old.count ≡ length records = is.stores.counted in
     let running : new.closed ≡ old.closed = ap (λ (s : LogState). s.closed) appended.changed in
     let was_open = appended.was_open in
     record {
       records = records ++ bytes ∷ [];
-      spelled = AreEntries-behind records history next is.keeps.spelled one.is;
+      spelled = AreEntries-push records history next is.stores.spelled one.is;
       counted = omega (arith, count, before, length-append records (bytes ∷ []));
       numbered = omega (arith, one.numbered, one.counted, length-append history next);
-      rests = λ _. rests MAGIC records bytes one.framed (is.keeps.rests is.running);
+      rests = λ _. rests MAGIC records bytes one.framed (is.stores.rests is.running);
       left = λ closed. absurd cc;
     }
 
-keeps_failed : (old new : LogState) (due : ℕ) (reserved : Option Reserved) (r : Reserved) (frame : List ℕ) → reserved ≡ Some r → frame ≡ frame_of r.bytes → LogRefuses old new DiskFault → GrowsThrough old new frame → HoldsThrough old new
+stores_failed : (old new : LogState) (due : ℕ) (reserved : Option Reserved) (r : Reserved) (frame : List ℕ) → reserved ≡ Some r → frame ≡ frame_of r.bytes → FrameRefused old new DiskFault → GrowsThrough old new frame → AcknowledgesThrough old new
     → (history next : List Entry) → IsReserved (state_of old due reserved) history next → StoresHistory (state_of new due None) history next
-keeps_failed old new due reserved r frame there framed refuses grows holds history next is =
+stores_failed old new due reserved r frame there framed refuses grows has history next is =
     let passed = passes_history old new due reserved r frame there framed grows history next is in
-    let held = passes_holds old new due reserved holds history next is in
-    let before = told_other (λ image. IsLogOf old.id history image × HasAcknowledgedEntries old.id history image) (λ image. IsLogOrNext old.id history next image × HasAcknowledgedEntries old.id history image) old.moments
-    (λ image h. (inl h.0, h.1)) (running_history (state_of old due reserved) history [] is.keeps is.running) in
+    let still = passes_acknowledged old new due reserved has history next is in
+    let before = known_other (λ image. IsLogOf old.id history image × HasAcknowledgedEntries old.id history image) (λ image. IsLogOrNext old.id history next image × HasAcknowledgedEntries old.id history image) old.moments
+    (λ image h. (inl h.0, h.1)) (running_history (state_of old due reserved) history [] is.stores is.running) in
     let same : new.id ≡ old.id = ap (λ (s : LogState). s.id) refuses.2 in
     let closed : new.closed ≡ true = ap (λ (s : LogState). s.closed) refuses.2 in
     let count : new.count ≡ old.count = ap (λ (s : LogState). s.count) refuses.2 in
     record {
-      records = is.keeps.records;
-      spelled = is.keeps.spelled;
-      counted = count ∙ is.keeps.counted;
-      numbered = is.keeps.numbered;
+      records = is.stores.records;
+      spelled = is.stores.spelled;
+      counted = count ∙ is.stores.counted;
+      numbered = is.stores.numbered;
       rests = λ reopened. absurd cc;
-      left = λ _. rw same (left_both (IsLogOrNext old.id history next) (HasAcknowledgedEntries old.id history) old.moments new.moments before passed held);
+      left = λ _. rw same (left_both (IsLogOrNext old.id history next) (HasAcknowledgedEntries old.id history) old.moments new.moments before passed still);
     }
 
-pub keeps_refused : (old new : LogState) (due : ℕ) (reserved : Option Reserved) (r : Reserved) (frame : List ℕ) (why : AppendError) → reserved ≡ Some r → frame ≡ frame_of r.bytes → LogRefuses old new why → GrowsThrough old new frame → HoldsThrough old new
+pub stores_refused : (old new : LogState) (due : ℕ) (reserved : Option Reserved) (r : Reserved) (frame : List ℕ) (why : AppendError) → reserved ≡ Some r → frame ≡ frame_of r.bytes → FrameRefused old new why → GrowsThrough old new frame → AcknowledgesThrough old new
     → StoresWhenRefused (state_of old due reserved) (state_of new due None) why
-keeps_refused old new due reserved r frame DiskFault there framed refuses grows holds = keeps_failed old new due reserved r frame there framed refuses grows holds
-keeps_refused old new due reserved r frame (Closed n) there framed refuses grows holds = tt
+stores_refused old new due reserved r frame DiskFault there framed refuses grows has = stores_failed old new due reserved r frame there framed refuses grows has
+stores_refused old new due reserved r frame (Closed n) there framed refuses grows has = tt

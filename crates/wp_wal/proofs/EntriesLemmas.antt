@@ -7,7 +7,7 @@ use Rattle.wp_entry.specs.Record.{IsRecord, record_bytes}
 use Rattle.wp_wal.specs.declared.error.WalError.{WalError}
 use Rattle.wp_wal.specs.declared.error.WalError.TheVariants.{Memory, DiskFault, BadHead, BadRecord, Illegal}
 use Rattle.wp_wal.specs.Spelling.{AreEntries}
-use Rattle.wp_wal.specs.Reading.{TakesRecord, StandsAt, IsRefusedRecord, IsRecordCause}
+use Rattle.wp_wal.specs.Reading.{TakesRecord, LiesAt, IsRefusedRecord, IsRecordCause}
 
 -- ---- one record more
 
@@ -25,9 +25,9 @@ push first (r ∷ records) entries added (front, rest, parts, is, bytes, more) o
       subst (λ (n : ℕ). AreEntries (first + length front) (records ++ record_bytes n added ∷ []) (rest ++ added)) (sym far) (push (first + length front) records rest added more (subst (λ (n : ℕ). IsRecord n added) far one)),
     )
 
--- a record behind those of a history
-pub AreEntries-behind : (records : List (List ℕ)) (history next : List Entry) → AreEntries 1 records history → IsRecord (length history + 1) next → AreEntries 1 (records ++ record_bytes (length history + 1) next ∷ []) (history ++ next)
-AreEntries-behind records history next spelled one =
+-- a record after those of a history
+pub AreEntries-push : (records : List (List ℕ)) (history next : List Entry) → AreEntries 1 records history → IsRecord (length history + 1) next → AreEntries 1 (records ++ record_bytes (length history + 1) next ∷ []) (history ++ next)
+AreEntries-push records history next spelled one =
     let place : 1 + length history ≡ length history + 1 = omega arith in
     subst (λ (n : ℕ). AreEntries 1 (records ++ record_bytes n next ∷ []) (history ++ next)) place (push 1 records history next spelled (subst (λ (n : ℕ). IsRecord n next) (sym place) one))
 
@@ -35,7 +35,7 @@ AreEntries-behind records history next spelled one =
 pub AreEntries-more : (records : List (List ℕ)) (i : ℕ) (here : List ℕ) (history longer : List Entry) → i < length records → here ≡ get_or records i here → AreEntries 1 (take i records) history → TakesRecord history longer here → AreEntries 1 (take (i + 1) records) longer
 AreEntries-more records i here history longer lt is so_far takes =
     let piece : take (i + 1) records ≡ take i records ++ record_bytes (length history + 1) takes.entries ∷ [] = take_more records i here lt ∙ ap (λ (x : List ℕ). take i records ++ x ∷ []) (sym is ∙ takes.spelling) in
-    rw (takes.behind, piece) (AreEntries-behind (take i records) history takes.entries so_far takes.is)
+    rw (takes.whole, piece) (AreEntries-push (take i records) history takes.entries so_far takes.is)
 
 -- ---- records that begin others
 
@@ -47,10 +47,10 @@ pub AreEntries-first : SpellingsDiffer → (first : ℕ) (records others : List 
 AreEntries-first differ first [] others history longer none all = (longer, ap (λ (xs : List Entry). xs ++ longer) (sym none))
 AreEntries-first differ first (r ∷ records) others history longer (front, rest, parts, is, bytes, more) (other_front, other_rest, other_parts, other_is, other_bytes, other_more) =
     let same : other_front ≡ front = differ first other_front front other_is is (sym other_bytes ∙ bytes) in
-    let behind = AreEntries-first differ (first + length front) records others rest other_rest more (subst (λ (xs : List Entry). AreEntries (first + length xs) (records ++ others) other_rest) same other_more) in (
-      behind.0,
-      other_parts ∙ ap (λ (xs : List Entry). xs ++ other_rest) same ∙ ap (λ (xs : List Entry). front ++ xs) behind.1 ∙ sym (append_assoc front rest behind.0)
-          ∙ ap (λ (xs : List Entry). xs ++ behind.0) (sym parts),
+    let following = AreEntries-first differ (first + length front) records others rest other_rest more (subst (λ (xs : List Entry). AreEntries (first + length xs) (records ++ others) other_rest) same other_more) in (
+      following.0,
+      other_parts ∙ ap (λ (xs : List Entry). xs ++ other_rest) same ∙ ap (λ (xs : List Entry). front ++ xs) following.1 ∙ sym (append_assoc front rest following.0)
+          ∙ ap (λ (xs : List Entry). xs ++ following.0) (sym parts),
     )
 
 -- ---- a record that is refused
@@ -60,8 +60,8 @@ refused_cause records i here history Memory lt is so_far refused = tt
 refused_cause records i here history DiskFault lt is so_far refused = absurd refused
 refused_cause records i here history BadHead lt is so_far refused = absurd refused
 refused_cause records i here history (BadRecord index why) lt is so_far refused =
-    let stands : StandsAt records i history here = record { before = so_far; there = slice_get_read records (length records) i here refl lt is } in
-    rw refused.0 (history, here, stands, refused.1)
+    let lies : LiesAt records i history here = record { before = so_far; there = slice_get_read records (length records) i here refl lt is } in
+    rw refused.0 (history, here, lies, refused.1)
 refused_cause records i here history (Illegal number) lt is so_far refused =
-    let stands : StandsAt records i history here = record { before = so_far; there = slice_get_read records (length records) i here refl lt is } in
-    (i, history, here, stands, refused)
+    let lies : LiesAt records i history here = record { before = so_far; there = slice_get_read records (length records) i here refl lt is } in
+    (i, history, here, lies, refused)

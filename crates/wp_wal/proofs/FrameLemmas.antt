@@ -1,4 +1,4 @@
--- A frame holds its record.
+-- A frame has its record.
 use Rattle.std.proofs.Common.{◌≡◌, ℕ, ◌+◌, ◌-◌, List, [], ◌∷◌, length, refl, sym, ap, ◌∙◌, arith, length-append}
 use Rattle.std.proofs.lemmas.List.{take_at}
 use Rattle.wp_model.specs.declared.entry.Entry.{Entry}

@@ -12,7 +12,7 @@ use Rattle.wp_gatelog.specs.Damage.{IsBadHead, IsCut}
 use Rattle.wp_gatelog.specs.Spelling.{Spells}
 use Rattle.wp_wal.specs.Spelling.{MAGIC, AreEntries, IsLogOf}
 use Rattle.wp_wal.specs.Opening.{IsBadLog, IsIllegalLog}
-use Rattle.wp_wal.specs.Reading.{IsNoRecord, IsIllegalAmong, IsIllegalRecord, StandsAt, IsBadRecord, IsIllegal}
+use Rattle.wp_wal.specs.Reading.{IsNoRecord, IsIllegalAmong, IsIllegalRecord, LiesAt, IsBadRecord, IsIllegal}
 
 -- ---- what the layers below say
 
@@ -24,7 +24,7 @@ AreRead = (first : ℕ) (entries : List Entry) → IsRecord first entries → re
 abbrev pub HasLegalFronts : Type 0
 HasLegalFronts = (history more : List Entry) → IsLegal (history ++ more) → IsLegal history
 
--- each entry of a legal history may stand behind those before it
+-- each entry of a legal history may come after those before it
 abbrev pub IsLegalAtEach : Type 0
 IsLegalAtEach = (front more : List Entry) (entry : Entry) → IsLegal (front ++ entry ∷ more) → IsLegalNext front entry
 
@@ -52,25 +52,25 @@ no_record read history bytes why entries refused is spelled = err_not_ok why ent
 
 -- ---- the entries of the first records
 
--- all entries are those of the first records and those that the records behind spell
-record Splits (first : ℕ) (behind : List (List ℕ)) (front whole : List Entry) : Type 0 where
+-- all entries are those of the first records and those that the records after them spell
+record Splits (first : ℕ) (following : List (List ℕ)) (front whole : List Entry) : Type 0 where
   rest : List Entry
   parts : whole ≡ front ++ rest
-  spelled : AreEntries (first + length front) behind rest
+  spelled : AreEntries (first + length front) following rest
 
-entries_split : AreRead → (first : ℕ) (before behind : List (List ℕ)) (front whole : List Entry) → AreEntries first before front → AreEntries first (before ++ behind) whole → Splits first behind front whole
-entries_split read first [] behind front whole none all =
+entries_split : AreRead → (first : ℕ) (before following : List (List ℕ)) (front whole : List Entry) → AreEntries first before front → AreEntries first (before ++ following) whole → Splits first following front whole
+entries_split read first [] following front whole none all =
     let place : first ≡ first + length front = rw none (omega arith) in
-    record { rest = whole; parts = rw none refl; spelled = subst (λ (n : ℕ). AreEntries n behind whole) place all }
-entries_split read first (bytes ∷ before) behind front whole (one, others, parts, is, spelled, more) (this, those, all_parts, this_is, this_spelled, all_more) =
+    record { rest = whole; parts = rw none refl; spelled = subst (λ (n : ℕ). AreEntries n following whole) place all }
+entries_split read first (bytes ∷ before) following front whole (one, others, parts, is, spelled, more) (this, those, all_parts, this_is, this_spelled, all_more) =
     let same : this ≡ one = same_entries read first bytes this one this_is this_spelled is spelled in
-    let next : AreEntries (first + length one) (before ++ behind) those = subst (λ (e : List Entry). AreEntries (first + length e) (before ++ behind) those) same all_more in
-    let split = entries_split read (first + length one) before behind others those more next in
+    let next : AreEntries (first + length one) (before ++ following) those = subst (λ (e : List Entry). AreEntries (first + length e) (before ++ following) those) same all_more in
+    let split = entries_split read (first + length one) before following others those more next in
     let place : (first + length one) + length others ≡ first + length front = omega (arith, ap (λ (e : List Entry). length e) parts, length-append one others) in
     record {
       rest = split.rest;
       parts = all_parts ∙ ap (λ (e : List Entry). e ++ those) same ∙ ap (λ (e : List Entry). one ++ e) split.parts ∙ sym (append_assoc one others split.rest) ∙ ap (λ (e : List Entry). e ++ split.rest) (sym parts);
-      spelled = subst (λ (n : ℕ). AreEntries n behind split.rest) place split.spelled;
+      spelled = subst (λ (n : ℕ). AreEntries n following split.rest) place split.spelled;
     }
 
 one_entries : AreRead → (records : List (List ℕ)) (history another : List Entry) → AreEntries 1 records history → AreEntries 1 records another → history ≡ another
@@ -85,7 +85,7 @@ cut_at [] index bytes at = absurd (none-some bytes at)
 cut_at (first ∷ records) zero bytes at = ap (λ (b : List ℕ). b ∷ records) (same_Some first bytes at)
 cut_at (first ∷ records) (suc index) bytes at = ap (λ (rest : List (List ℕ)). first ∷ rest) (cut_at records index bytes at)
 
--- The record behind the history is entries that stand there in the whole.
+-- The record after the history is entries that are there in the whole.
 record TakenAt (history whole : List Entry) (bytes : List ℕ) : Type 0 where
   entries : List Entry
   rest : List Entry
@@ -93,8 +93,8 @@ record TakenAt (history whole : List Entry) (bytes : List ℕ) : Type 0 where
   spelling : bytes ≡ record_bytes (length history + 1) entries
   parts : whole ≡ history ++ (entries ++ rest)
 
-taken_behind : (history whole : List Entry) (bytes : List ℕ) (behind : List (List ℕ)) → Splits 1 (bytes ∷ behind) history whole → TakenAt history whole bytes
-taken_behind history whole bytes behind split =
+taken_after : (history whole : List Entry) (bytes : List ℕ) (following : List (List ℕ)) → Splits 1 (bytes ∷ following) history whole → TakenAt history whole bytes
+taken_after history whole bytes following split =
     let found = split.spelled in
     let place : 1 + length history ≡ length history + 1 = omega arith in
     record {
@@ -105,19 +105,19 @@ taken_behind history whole bytes behind split =
       parts = split.parts ∙ ap (λ (e : List Entry). history ++ e) found.2;
     }
 
-taken_at : AreRead → (records : List (List ℕ)) (index : ℕ) (history whole : List Entry) (bytes : List ℕ) → StandsAt records index history bytes → AreEntries 1 records whole → TakenAt history whole bytes
-taken_at read records index history whole bytes stands all =
-    let behind = drop (suc index) records in
-    let cut : AreEntries 1 (take index records ++ bytes ∷ behind) whole = subst (λ (r : List (List ℕ)). AreEntries 1 r whole) (cut_at records index bytes stands.there) all in
-    taken_behind history whole bytes behind (entries_split read 1 (take index records) (bytes ∷ behind) history whole stands.before cut)
+taken_at : AreRead → (records : List (List ℕ)) (index : ℕ) (history whole : List Entry) (bytes : List ℕ) → LiesAt records index history bytes → AreEntries 1 records whole → TakenAt history whole bytes
+taken_at read records index history whole bytes lies all =
+    let following = drop (suc index) records in
+    let cut : AreEntries 1 (take index records ++ bytes ∷ following) whole = subst (λ (r : List (List ℕ)). AreEntries 1 r whole) (cut_at records index bytes lies.there) all in
+    taken_after history whole bytes following (entries_split read 1 (take index records) (bytes ∷ following) history whole lies.before cut)
 
 -- where all records spell entries, none is bad
 entries_not_bad : AreRead → (records : List (List ℕ)) (index : ℕ) (why : RecordError) (whole : List Entry) → AreEntries 1 records whole → IsBadRecord records index why → ⊥
-entries_not_bad read records index why whole all (history, bytes, stands, refused) =
-    let taken = taken_at read records index history whole bytes stands all in
+entries_not_bad read records index why whole all (history, bytes, lies, refused) =
+    let taken = taken_at read records index history whole bytes lies all in
     no_record read history bytes why taken.entries refused taken.is taken.spelling
 
--- the entry with that number stands in the whole where it may not
+-- the entry with that number is in the whole where it may not be
 illegal_within : IsLegalAtEach → (history entries rest whole : List Entry) (number : ℕ) → whole ≡ history ++ (entries ++ rest) → IsLegal whole → IsIllegalAmong history entries number → ⊥
 illegal_within each history entries rest whole number parts legal among =
     let tail : entries ++ rest ≡ among.before ++ among.entry ∷ (among.after ++ rest) = ap (λ (e : List Entry). e ++ rest) among.parts ∙ append_assoc among.before (among.entry ∷ among.after) rest in
@@ -126,8 +126,8 @@ illegal_within each history entries rest whole number parts legal among =
 
 -- where all records spell a legal history, none of its entries is illegal
 legal_not_illegal : AreRead → IsLegalAtEach → (records : List (List ℕ)) (number : ℕ) (whole : List Entry) → AreEntries 1 records whole → IsLegal whole → IsIllegal records number → ⊥
-legal_not_illegal read each records number whole all legal (index, history, bytes, stands, illegal) =
-    let taken = taken_at read records index history whole bytes stands all in
+legal_not_illegal read each records number whole all legal (index, history, bytes, lies, illegal) =
+    let taken = taken_at read records index history whole bytes lies all in
     let same : taken.entries ≡ illegal.entries = same_entries read (length history + 1) bytes taken.entries illegal.entries taken.is taken.spelling illegal.is illegal.spelling in
     illegal_within each history illegal.entries taken.rest whole number (taken.parts ∙ ap (λ (e : List Entry). history ++ (e ++ taken.rest)) same) legal illegal.among
 
@@ -139,25 +139,25 @@ slice_get_take [] (suc n) i lt = refl
 slice_get_take (bytes ∷ records) (suc n) zero lt = refl
 slice_get_take (bytes ∷ records) (suc n) (suc i) lt = slice_get_take records n i (omega arith)
 
--- a record stands so among those before a later one
-stands_before : (records : List (List ℕ)) (index later : ℕ) (history : List Entry) (bytes : List ℕ) → index < later → StandsAt records index history bytes → StandsAt (take later records) index history bytes
-stands_before records index later history bytes lt stands = record {
-  before = subst (λ (r : List (List ℕ)). AreEntries 1 r history) (sym (take-take index later records (omega arith))) stands.before;
-  there = slice_get_take records later index lt ∙ stands.there;
+-- a record lies so among those before a later one
+lies_before : (records : List (List ℕ)) (index later : ℕ) (history : List Entry) (bytes : List ℕ) → index < later → LiesAt records index history bytes → LiesAt (take later records) index history bytes
+lies_before records index later history bytes lt lies = record {
+  before = subst (λ (r : List (List ℕ)). AreEntries 1 r history) (sym (take-take index later records (omega arith))) lies.before;
+  there = slice_get_take records later index lt ∙ lies.there;
 }
 
--- no record before one that stands behind a history is bad
-none_bad_before : AreRead → (records : List (List ℕ)) (index later : ℕ) (why : RecordError) (history : List Entry) (bytes : List ℕ) → index < later → IsBadRecord records index why → StandsAt records later history bytes → ⊥
-none_bad_before read records index later why history bytes lt (front, here, stands, refused) behind =
-    entries_not_bad read (take later records) index why history behind.before (front, here, stands_before records index later front here lt stands, refused)
+-- no record before one that comes after a history is bad
+none_bad_before : AreRead → (records : List (List ℕ)) (index later : ℕ) (why : RecordError) (history : List Entry) (bytes : List ℕ) → index < later → IsBadRecord records index why → LiesAt records later history bytes → ⊥
+none_bad_before read records index later why history bytes lt (front, here, lies, refused) following =
+    entries_not_bad read (take later records) index why history following.before (front, here, lies_before records index later front here lt lies, refused)
 
--- an illegal entry stands in no record before one that stands behind a legal history
-none_illegal_before : AreRead → IsLegalAtEach → (records : List (List ℕ)) (index later number : ℕ) (front history : List Entry) (here bytes : List ℕ) → index < later → StandsAt records index front here → IsIllegalRecord front here number → StandsAt records later history bytes → IsLegal history → ⊥
-none_illegal_before read each records index later number front history here bytes lt stands illegal behind legal =
-    legal_not_illegal read each (take later records) number history behind.before legal (index, front, here, stands_before records index later front here lt stands, illegal)
+-- an illegal entry is in no record before one that comes after a legal history
+none_illegal_before : AreRead → IsLegalAtEach → (records : List (List ℕ)) (index later number : ℕ) (front history : List Entry) (here bytes : List ℕ) → index < later → LiesAt records index front here → IsIllegalRecord front here number → LiesAt records later history bytes → IsLegal history → ⊥
+none_illegal_before read each records index later number front history here bytes lt lies illegal following legal =
+    legal_not_illegal read each (take later records) number history following.before legal (index, front, here, lies_before records index later front here lt lies, illegal)
 
--- what stands at one place is the same
-at_same_place : AreRead → (records : List (List ℕ)) (index : ℕ) (history another : List Entry) (bytes those : List ℕ) → StandsAt records index history bytes → StandsAt records index another those → (P : List Entry → List ℕ → Type 0) → P another those → P history bytes
+-- what is at one place is the same
+at_same_place : AreRead → (records : List (List ℕ)) (index : ℕ) (history another : List Entry) (bytes those : List ℕ) → LiesAt records index history bytes → LiesAt records index another those → (P : List Entry → List ℕ → Type 0) → P another those → P history bytes
 at_same_place read records index history another bytes those one other P p =
     let entries : another ≡ history = one_entries read (take index records) another history other.before one.before in
     let here : those ≡ bytes = same_Some those bytes (sym other.there ∙ one.there) in
@@ -166,8 +166,8 @@ at_same_place read records index history another bytes those one other P p =
 -- ---- the first record that is bad
 
 one_why : AreRead → (records : List (List ℕ)) (index : ℕ) (why also : RecordError) → IsBadRecord records index why → IsBadRecord records index also → why ≡ also
-one_why read records index why also (history, bytes, stands, refused) (another, those, stands_too, refused_too) =
-    let moved = at_same_place read records index history another bytes those stands stands_too (λ (e : List Entry) (b : List ℕ). IsNoRecord e b also) refused_too in
+one_why read records index why also (history, bytes, lies, refused) (another, those, lies_too, refused_too) =
+    let moved = at_same_place read records index history another bytes those lies lies_too (λ (e : List Entry) (b : List ℕ). IsNoRecord e b also) refused_too in
     same_err why also (sym refused.wrong ∙ moved.wrong)
 
 one_bad_record : AreRead → (records : List (List ℕ)) (index other : ℕ) (why also : RecordError) → IsBadRecord records index why → IsBadRecord records other also → (index ≡ other) × (why ≡ also)
@@ -179,33 +179,33 @@ one_bad_record read records index other why also one two = elim (cases_order ind
   ]
 ]
 
-bad_not_illegal_here : AreRead → (records : List (List ℕ)) (index number : ℕ) (why : RecordError) (history another : List Entry) (bytes those : List ℕ) → StandsAt records index history bytes → IsNoRecord history bytes why → StandsAt records index another those → IsIllegalRecord another those number → ⊥
-bad_not_illegal_here read records index number why history another bytes those stands refused stands_too illegal =
-    let moved = at_same_place read records index history another bytes those stands stands_too (λ (e : List Entry) (b : List ℕ). IsIllegalRecord e b number) illegal in
+bad_not_illegal_here : AreRead → (records : List (List ℕ)) (index number : ℕ) (why : RecordError) (history another : List Entry) (bytes those : List ℕ) → LiesAt records index history bytes → IsNoRecord history bytes why → LiesAt records index another those → IsIllegalRecord another those number → ⊥
+bad_not_illegal_here read records index number why history another bytes those lies refused lies_too illegal =
+    let moved = at_same_place read records index history another bytes those lies lies_too (λ (e : List Entry) (b : List ℕ). IsIllegalRecord e b number) illegal in
     no_record read history bytes why moved.entries refused moved.is moved.spelling
 
 bad_not_illegal : AreRead → IsLegalAtEach → (records : List (List ℕ)) (index number : ℕ) (why : RecordError) → IsBadRecord records index why → IsIllegal records number → ⊥
-bad_not_illegal read each records index number why (history, bytes, stands, refused) (other, another, those, stands_too, illegal) = elim (cases_order index other) [
-  | inl same ↦ bad_not_illegal_here read records index number why history another bytes those stands refused (subst (λ (i : ℕ). StandsAt records i another those) (sym same) stands_too) illegal
+bad_not_illegal read each records index number why (history, bytes, lies, refused) (other, another, those, lies_too, illegal) = elim (cases_order index other) [
+  | inl same ↦ bad_not_illegal_here read records index number why history another bytes those lies refused (subst (λ (i : ℕ). LiesAt records i another those) (sym same) lies_too) illegal
   | inr apart ↦ elim apart [
-    | inl lt ↦ none_bad_before read records index other why another those lt (history, bytes, stands, refused) stands_too
-    | inr lt ↦ none_illegal_before read each records other index number another history those bytes lt stands_too illegal stands refused.legal
+    | inl lt ↦ none_bad_before read records index other why another those lt (history, bytes, lies, refused) lies_too
+    | inr lt ↦ none_illegal_before read each records other index number another history those bytes lt lies_too illegal lies refused.legal
   ]
 ]
 
 -- ---- the first entry that is illegal
 
 -- what a longer front begins with
-longer_front : (before longer : List Entry) (entry : Entry) (after behind : List Entry) → before ++ entry ∷ after ≡ longer ++ behind → length before < length longer → (more : List Entry) × (longer ≡ before ++ entry ∷ more)
-longer_front [] [] entry after behind is lt = absurd (omega arith)
-longer_front (first ∷ before) [] entry after behind is lt = absurd (omega arith)
-longer_front [] (first ∷ longer) entry after behind is lt =
+longer_front : (before longer : List Entry) (entry : Entry) (after following : List Entry) → before ++ entry ∷ after ≡ longer ++ following → length before < length longer → (more : List Entry) × (longer ≡ before ++ entry ∷ more)
+longer_front [] [] entry after following is lt = absurd (omega arith)
+longer_front (first ∷ before) [] entry after following is lt = absurd (omega arith)
+longer_front [] (first ∷ longer) entry after following is lt =
     let same : first ≡ entry = cc in
     (longer, ap (λ (e : Entry). e ∷ longer) same)
-longer_front (one ∷ before) (first ∷ longer) entry after behind is lt =
+longer_front (one ∷ before) (first ∷ longer) entry after following is lt =
     let same : first ≡ one = cc in
-    let tail : before ++ entry ∷ after ≡ longer ++ behind = cc in
-    let found = longer_front before longer entry after behind tail (omega arith) in
+    let tail : before ++ entry ∷ after ≡ longer ++ following = cc in
+    let found = longer_front before longer entry after following tail (omega arith) in
     (found.0, ap (λ (e : Entry). e ∷ longer) same ∙ ap (λ (e : List Entry). one ∷ e) found.1)
 
 none_illegal_among : IsLegalAtEach → (history entries : List Entry) (number later : ℕ) (one : IsIllegalAmong history entries number) (other : IsIllegalAmong history entries later) → length one.before < length other.before → ⊥
@@ -223,22 +223,22 @@ one_illegal_among each history entries number other one two = elim (cases_order 
   ]
 ]
 
-one_illegal_here : AreRead → IsLegalAtEach → (records : List (List ℕ)) (index number other : ℕ) (history another : List Entry) (bytes those : List ℕ) → StandsAt records index history bytes → IsIllegalRecord history bytes number → StandsAt records index another those → IsIllegalRecord another those other → number ≡ other
-one_illegal_here read each records index number other history another bytes those stands illegal stands_too illegal_too =
-    let moved = at_same_place read records index history another bytes those stands stands_too (λ (e : List Entry) (b : List ℕ). IsIllegalRecord e b other) illegal_too in
+one_illegal_here : AreRead → IsLegalAtEach → (records : List (List ℕ)) (index number other : ℕ) (history another : List Entry) (bytes those : List ℕ) → LiesAt records index history bytes → IsIllegalRecord history bytes number → LiesAt records index another those → IsIllegalRecord another those other → number ≡ other
+one_illegal_here read each records index number other history another bytes those lies illegal lies_too illegal_too =
+    let moved = at_same_place read records index history another bytes those lies lies_too (λ (e : List Entry) (b : List ℕ). IsIllegalRecord e b other) illegal_too in
     let same : moved.entries ≡ illegal.entries = same_entries read (length history + 1) bytes moved.entries illegal.entries moved.is moved.spelling illegal.is illegal.spelling in
     one_illegal_among each history illegal.entries number other illegal.among (subst (λ (e : List Entry). IsIllegalAmong history e other) same moved.among)
 
--- an illegal entry comes first behind a legal history
-legal_behind : HasLegalFronts → (history : List Entry) (bytes : List ℕ) (number : ℕ) → IsIllegalRecord history bytes number → IsLegal history
-legal_behind fronts history bytes number illegal = fronts history illegal.among.before illegal.among.legal
+-- an illegal entry comes first after a legal history
+legal_so_far : HasLegalFronts → (history : List Entry) (bytes : List ℕ) (number : ℕ) → IsIllegalRecord history bytes number → IsLegal history
+legal_so_far fronts history bytes number illegal = fronts history illegal.among.before illegal.among.legal
 
 one_illegal : AreRead → IsLegalAtEach → HasLegalFronts → (records : List (List ℕ)) (number other : ℕ) → IsIllegal records number → IsIllegal records other → number ≡ other
-one_illegal read each fronts records number other (index, history, bytes, stands, illegal) (place, another, those, stands_too, illegal_too) = elim (cases_order index place) [
-  | inl same ↦ one_illegal_here read each records index number other history another bytes those stands illegal (subst (λ (i : ℕ). StandsAt records i another those) (sym same) stands_too) illegal_too
+one_illegal read each fronts records number other (index, history, bytes, lies, illegal) (place, another, those, lies_too, illegal_too) = elim (cases_order index place) [
+  | inl same ↦ one_illegal_here read each records index number other history another bytes those lies illegal (subst (λ (i : ℕ). LiesAt records i another those) (sym same) lies_too) illegal_too
   | inr apart ↦ elim apart [
-    | inl lt ↦ absurd (none_illegal_before read each records index place number history another bytes those lt stands illegal stands_too (legal_behind fronts another those other illegal_too))
-    | inr lt ↦ absurd (none_illegal_before read each records place index other another history those bytes lt stands_too illegal_too stands (legal_behind fronts history bytes number illegal))
+    | inl lt ↦ absurd (none_illegal_before read each records index place number history another bytes those lt lies illegal lies_too (legal_so_far fronts another those other illegal_too))
+    | inr lt ↦ absurd (none_illegal_before read each records place index other another history those bytes lt lies_too illegal_too lies (legal_so_far fronts history bytes number illegal))
   ]
 ]
 

@@ -9,4 +9,4 @@ abbrev pub wal_error_of : LogError → WalError
 wal_error_of log.Memory = Memory
 wal_error_of log.DiskFault = DiskFault
 wal_error_of log.BadHead = BadHead
-wal_error_of (log.Cut index) = BadRecord index Short
+wal_error_of (log.Cut index id) = BadRecord index Short

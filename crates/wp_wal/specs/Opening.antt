@@ -19,14 +19,14 @@ IsBadLog bytes index why = (IsCut MAGIC index bytes × (why ≡ Short)) ⊎ ((id
 abbrev pub IsIllegalLog : List ℕ → ℕ → Type 0
 IsIllegalLog bytes number = (id : ℕ) × (records : List (List ℕ)) × Spells bytes MAGIC id records × IsIllegal records number
 
--- Why the log was not opened: its disk's count of faults rose, or where that tells its bytes they are damaged. Want of
+-- Why the log was not opened: its disk's count of faults rose, or where that is known its bytes are damaged. Want of
 -- memory needs no cause.
-abbrev pub IsOpenCause : (rose : Type 0) → List Moment → WalError → Type 0
-IsOpenCause rose moments Memory = Unit {0}
-IsOpenCause rose moments DiskFault = rose
-IsOpenCause rose moments BadHead = IfKnown moments (λ m. IsBadHead MAGIC m.reads)
-IsOpenCause rose moments (BadRecord index why) = IfKnown moments (λ m. IsBadLog m.reads index why)
-IsOpenCause rose moments (Illegal number) = IfKnown moments (λ m. IsIllegalLog m.reads number)
+abbrev pub IsLogCause : (rose : Type 0) → List Moment → WalError → Type 0
+IsLogCause rose moments Memory = Unit {0}
+IsLogCause rose moments DiskFault = rose
+IsLogCause rose moments BadHead = IfKnown moments (λ m. IsBadHead MAGIC m.reads)
+IsLogCause rose moments (BadRecord index why) = IfKnown moments (λ m. IsBadLog m.reads index why)
+IsLogCause rose moments (Illegal number) = IfKnown moments (λ m. IsIllegalLog m.reads number)
 
 -- ---- what is left
 
@@ -38,7 +38,7 @@ pub record RestsAsSpelled (bytes : List ℕ) (m : Moment) : Type 0 where
   pub spelled : Spells bytes MAGIC id records
   pub rests : IsAtRest MAGIC id end records m
 
--- where the disk tells, the log is left at rest, with its records as they were
+-- where the disk is known, the log is left at rest, with its records as they were
 abbrev pub IsLeftAtRest : List Moment → List Moment → Type 0
 IsLeftAtRest old new = IfKnown old (λ m. IfKnown new (RestsAsSpelled m.reads))
 

@@ -11,19 +11,19 @@ use Rattle.wp_wal.specs.Spelling.{AreEntries}
 
 -- ---- one record
 
--- the record is the entries that stand behind the history
+-- the record is the entries that come after the history
 pub record TakesRecord (history longer : List Entry) (bytes : List ℕ) : Type 0 where
   pub entries : List Entry
   pub is : IsRecord (length history + 1) entries
   pub spelling : bytes ≡ record_bytes (length history + 1) entries
-  pub behind : longer ≡ history ++ entries
+  pub whole : longer ≡ history ++ entries
 
--- the bytes behind the legal history are no record at their number, for this reason
+-- the bytes after the legal history are no record at their number, for this reason
 pub record IsNoRecord (history : List Entry) (bytes : List ℕ) (why : RecordError) : Type 0 where
   pub legal : IsLegal history
   pub wrong : record_at (length history + 1) bytes ≡ Err why
 
--- Of the entries behind the history the one with this number is the first that may not stand there.
+-- Of the entries after the history the one with this number is the first that may not come there.
 pub record IsIllegalAmong (history entries : List Entry) (number : ℕ) : Type 0 where
   pub before : List Entry
   pub entry : Entry
@@ -33,14 +33,14 @@ pub record IsIllegalAmong (history entries : List Entry) (number : ℕ) : Type 0
   pub illegal : IsLegalNext (history ++ before) entry → ⊥
   pub at : number ≡ length history + length before + 1
 
--- the bytes behind the history are a record, and the entry with this number may not stand where it does
+-- the bytes after the history are a record, and the entry with this number may not be where it is
 pub record IsIllegalRecord (history : List Entry) (bytes : List ℕ) (number : ℕ) : Type 0 where
   pub entries : List Entry
   pub is : IsRecord (length history + 1) entries
   pub spelling : bytes ≡ record_bytes (length history + 1) entries
   pub among : IsIllegalAmong history entries number
 
--- why the bytes are no record that may stand behind the history; of memory it says nothing
+-- why the bytes are no record that may come after the history; of memory it says nothing
 abbrev pub IsRefusedRecord : List Entry → ℕ → List ℕ → WalError → Type 0
 IsRefusedRecord history at bytes Memory = Unit {0}
 IsRefusedRecord history at bytes DiskFault = ⊥
@@ -50,18 +50,18 @@ IsRefusedRecord history at bytes (Illegal number) = IsIllegalRecord history byte
 
 -- ---- all records
 
--- The records before this one spell a history, and it stands behind that so.
-pub record StandsAt (records : List (List ℕ)) (index : ℕ) (history : List Entry) (bytes : List ℕ) : Type 0 where
+-- The records before this one spell a history, and it comes next.
+pub record LiesAt (records : List (List ℕ)) (index : ℕ) (history : List Entry) (bytes : List ℕ) : Type 0 where
   pub before : AreEntries 1 (take index records) history
   pub there : slice_get records index ≡ Some bytes
 
 -- the records before this one spell a legal history, and it is the first that is no record at its number
 abbrev pub IsBadRecord : List (List ℕ) → ℕ → RecordError → Type 0
-IsBadRecord records index why = (history : List Entry) × (bytes : List ℕ) × StandsAt records index history bytes × IsNoRecord history bytes why
+IsBadRecord records index why = (history : List Entry) × (bytes : List ℕ) × LiesAt records index history bytes × IsNoRecord history bytes why
 
--- the records up to one that holds the entry with this number spell a history, and it is the first that is illegal
+-- the records up to the one of the entry with this number spell a history, and it is the first that is illegal
 abbrev pub IsIllegal : List (List ℕ) → ℕ → Type 0
-IsIllegal records number = (index : ℕ) × (history : List Entry) × (bytes : List ℕ) × StandsAt records index history bytes × IsIllegalRecord history bytes number
+IsIllegal records number = (index : ℕ) × (history : List Entry) × (bytes : List ℕ) × LiesAt records index history bytes × IsIllegalRecord history bytes number
 
 -- why the records spell no legal history; of memory it says nothing
 abbrev pub IsRecordCause : List (List ℕ) → WalError → Type 0

@@ -5,7 +5,7 @@ use Rattle.wp_entry.specs.Record.{IsRecord, record_bytes}
 use Rattle.wp_gatelog.specs.Durability.{HasAcknowledged}
 use Rattle.wp_gatelog.specs.Spelling.{Spells}
 
--- the first four bytes behind the head's gate
+-- the first four bytes after the head's gate
 abbrev pub MAGIC : List ℕ
 MAGIC = codes "WPLG"
 
@@ -22,6 +22,6 @@ IsLogOf id history bytes = (records : List (List ℕ)) × Spells bytes MAGIC id 
 abbrev pub IsLogOrNext : ℕ → List Entry → List Entry → List ℕ → Type 0
 IsLogOrNext id history next bytes = IsLogOf id history bytes ⊎ IsLogOf id (history ++ next) bytes
 
--- The bytes begin with acknowledged records that spell the history: whatever comes behind, an opening finds it.
+-- The bytes begin with acknowledged records that spell the history: whatever follows, an opening finds it.
 abbrev pub HasAcknowledgedEntries : ℕ → List Entry → List ℕ → Type 0
 HasAcknowledgedEntries id history bytes = (records : List (List ℕ)) × HasAcknowledged MAGIC id records bytes × AreEntries 1 records history

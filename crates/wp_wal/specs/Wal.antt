@@ -1,4 +1,4 @@
--- An open log that keeps a history, and what an append makes of it.
+-- An open log that stores a history, and what an append makes of it.
 use Rattle.std.specs.Prelude.{◌≡◌, ℕ, ◌+◌, ◌-◌, ◌^◌, ◌≤◌, Bool, true, false, List, [], length, take, drop, Option, Some, None}
 use Rattle.wp_model.specs.declared.entry.Entry.{Entry}
 use Rattle.wp_outside.specs.Disk.{Moment, IfKnown}
@@ -6,14 +6,14 @@ use Rattle.wp_outside.specs.Faults.{Rose}
 use Rattle.wp_entry.specs.Record.{IsRecord, record_bytes}
 use Rattle.wp_gatelog.specs.declared.log.AppendError.{AppendError}
 use Rattle.wp_gatelog.specs.declared.log.AppendError.TheVariants.{DiskFault, Closed}
-use Rattle.wp_gatelog.specs.Log.{State as LogState, IsAtRest}
-use Rattle.wp_gatelog.specs.Durability.{HasAcknowledged, Preserves}
+use Rattle.wp_gatelog.specs.Log.{LogState, IsAtRest}
+use Rattle.wp_gatelog.specs.Durability.{LosesNoRecord}
 use Rattle.wp_gatelog.specs.Moments.{Leaves}
 use Rattle.wp_wal.specs.Spelling.{MAGIC, AreEntries, IsLogOf, IsLogOrNext, HasAcknowledgedEntries}
 
 -- ---- the log
 
--- a record that stands ready for the next append
+-- a record that is ready for the next append
 pub record Reserved : Type 0 where
   pub bytes : List ℕ
   pub count : ℕ  -- its entries
@@ -22,11 +22,11 @@ pub record Reserved : Type 0 where
 abbrev pub reserved_of : ℕ → List Entry → Reserved
 reserved_of first entries = record { bytes = record_bytes first entries; count = length entries }
 
--- the record whose frame this is: it stands behind eight bytes of length and before a gate
+-- the record whose frame this is: after eight bytes of length, and before a gate
 abbrev pub framed_in : List ℕ → List ℕ
 framed_in frame = take (length frame - 9) (drop 8 frame)
 
-pub record State : Type 0 where
+pub record WalState : Type 0 where
   pub moments : List Moment  -- its disk's
   pub faults : ℕ  -- its disk's
   pub id : ℕ
@@ -37,7 +37,7 @@ pub record State : Type 0 where
   pub reserved : Option Reserved
 
 -- a gate log whose next entry has that number
-abbrev pub state_of : LogState → ℕ → Option Reserved → State
+abbrev pub state_of : LogState → ℕ → Option Reserved → WalState
 state_of log due reserved = record {
   moments = log.moments;
   faults = log.faults;
@@ -54,17 +54,17 @@ abbrev pub HasNumbers : ℕ → Option Reserved → Type 0
 HasNumbers due None = due ≤ 2 ^ 32
 HasNumbers due (Some reserved) = due + reserved.count ≤ 2 ^ 32
 
--- each image of the moment spells the history, and holds it
+-- each image of the moment spells the history, and has it acknowledged
 abbrev pub LeavesHistory : ℕ → List Entry → Moment → Type 0
 LeavesHistory id history = Leaves (λ image. IsLogOf id history image × HasAcknowledgedEntries id history image)
 
--- each image of the moment spells the history, or it and the next entries, whole; and holds the history
+-- each image of the moment spells the history, or it and the next entries, whole; and has the history acknowledged
 abbrev pub LeavesHistoryOrNext : ℕ → List Entry → List Entry → Moment → Type 0
 LeavesHistoryOrNext id history next = Leaves (λ image. IsLogOrNext id history next image × HasAcknowledgedEntries id history image)
 
--- The log keeps the history: it is at rest with records that spell it; or, once an append has failed, a crash leaves
+-- The log stores the history: it is at rest with records that spell it; or, once an append has failed, a crash leaves
 -- those, or those and one that spells the next entries, whole.
-pub record StoresHistory (wal : State) (history next : List Entry) : Type 0 where
+pub record StoresHistory (wal : WalState) (history next : List Entry) : Type 0 where
   pub records : List (List ℕ)
   pub spelled : AreEntries 1 records history
   pub counted : wal.count ≡ length records
@@ -74,15 +74,15 @@ pub record StoresHistory (wal : State) (history next : List Entry) : Type 0 wher
 
 -- ---- appending
 
--- The log keeps the history, and the record of the next entries stands reserved.
-pub record IsReserved (wal : State) (history next : List Entry) : Type 0 where
-  pub keeps : StoresHistory wal history []
+-- The log stores the history, and the record of the next entries is reserved.
+pub record IsReserved (wal : WalState) (history next : List Entry) : Type 0 where
+  pub stores : StoresHistory wal history []
   pub running : wal.closed ≡ false
   pub is : IsRecord wal.due next
   pub reserved : wal.reserved ≡ Some (reserved_of wal.due next)
 
--- the record that stood reserved is in the log: with nine bytes of its frame, the length and a gate
-pub record Appended (old new : State) (added : Reserved) : Type 0 where
+-- the record that was reserved is in the log: with nine bytes of its frame, the length and a gate
+pub record Appended (old new : WalState) (added : Reserved) : Type 0 where
   pub was_open : old.closed ≡ false
   pub changed : new ≡ record old {
     moments = new.moments;
@@ -95,16 +95,16 @@ pub record Appended (old new : State) (added : Reserved) : Type 0 where
 
 -- The disk failed, and the log is closed from now on. Or it was closed before: nothing changes, and n is the count of
 -- its records.
-abbrev pub Refuses : State → State → AppendError → Type 0
+abbrev pub Refuses : WalState → WalState → AppendError → Type 0
 Refuses old new DiskFault =
     (old.closed ≡ false) × Rose old.faults new.faults × (new ≡ record old { moments = new.moments; faults = new.faults; closed = true; reserved = None })
 Refuses old new (Closed n) = (old.closed ≡ true) × (n ≡ old.count) × (new ≡ record old { reserved = None })
 
 -- after a fault a crash leaves the history, or it and the next entries
-abbrev pub StoresWhenRefused : State → State → AppendError → Type 0
+abbrev pub StoresWhenRefused : WalState → WalState → AppendError → Type 0
 StoresWhenRefused old new DiskFault = (history next : List Entry) → IsReserved old history next → StoresHistory new history next
 StoresWhenRefused old new (Closed n) = Unit {0}
 
 -- Records that each crash at one moment would leave acknowledged, each crash at a later moment leaves so too.
 abbrev pub LosesNothing : List Moment → List Moment → Type 0
-LosesNothing before after = (id : ℕ) (records : List (List ℕ)) → Preserves (Leaves (HasAcknowledged MAGIC id records)) before after
+LosesNothing = LosesNoRecord MAGIC

@@ -19,7 +19,7 @@ pub enum WalError {
     BadHead,
     /// The record with this index, from 0 on, is cut; or none is, and it is the first that is no record at its number.
     BadRecord { index: u64, why: RecordError },
-    /// The entry with this number is the first that may not stand behind those before it.
+    /// The entry with this number is the first that may not come after those before it.
     Illegal { number: Seq },
 }
 
@@ -39,7 +39,7 @@ impl From<LogError> for WalError {
             LogError::Memory => WalError::Memory,
             LogError::DiskFault => WalError::DiskFault,
             LogError::BadHead => WalError::BadHead,
-            LogError::Cut { index } => WalError::BadRecord {
+            LogError::Cut { index, .. } => WalError::BadRecord {
                 index,
                 why: RecordError::Short,
             },

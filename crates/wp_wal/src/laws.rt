@@ -1,4 +1,4 @@
-//! What bytes are as a log, and what they hold.
+//! What bytes are as a log, and what they have acknowledged.
 
 ghost use Rattle.std.specs.Prelude.{◌≡◌, ◌++◌, ℕ, List};
 ghost use Rattle.wp_model.specs.declared.entry.Entry.{Entry};
@@ -9,7 +9,7 @@ ghost use Rattle.wp_gatelog.specs.Damage.{IsBadHead};
 ghost use Rattle.wp_gatelog.specs.Moments.{Leaves};
 ghost use Rattle.wp_wal.specs.Opening.{IsBadLog, IsIllegalLog};
 ghost use Rattle.wp_wal.specs.Spelling.{MAGIC, IsLogOf, HasAcknowledgedEntries};
-ghost use Rattle.wp_wal.specs.Wal.{State, StoresHistory};
+ghost use Rattle.wp_wal.specs.Wal.{WalState, StoresHistory};
 
 use wp_entry::{records_are_read, spellings_differ};
 use wp_gatelog::{acknowledged_records_come_first, bytes_are_read_in_one_way};
@@ -43,13 +43,13 @@ pub fn a_log_is_read_in_one_way()
     legal_front();
 }
 
-/// What a crash leaves of a log that keeps a history holds it, also where an append has failed.
+/// What a crash leaves of a log that stores a history has it acknowledged, also where an append has failed.
 pub fn stored_history_is_acknowledged()
-    ensures { (wal : State) (history next : List Entry) → StoresHistory wal history next
+    ensures { (wal : WalState) (history next : List Entry) → StoresHistory wal history next
         → IfKnown wal.moments (Leaves (HasAcknowledgedEntries wal.id history)) }
 {}
 
-/// Bytes that hold a history spell none but those that begin with it.
+/// Bytes that have a history acknowledged spell none but those that begin with it.
 pub fn acknowledged_history_comes_first()
     ensures { (id other : ℕ) (history longer : List Entry) (bytes : List ℕ)
         → HasAcknowledgedEntries id history bytes → IsLogOf other longer bytes

@@ -1,7 +1,7 @@
 //! The write-ahead log: the records of a gate log that spell a legal history.
 //!
 //! An opening reads the records in order, each at the number that is due: first its grammar, then whether each of its
-//! entries may stand behind those before it. The first record that fails is named, and nothing behind it is read.
+//! entries may come after those before it. The first record that fails is named, and nothing after it is read.
 //! `reserve` makes what the next append writes, in memory that is taken there; `append` then only calls the disk. So
 //! a store that has reserved all that a commit needs meets no want of memory once its record is in the log. At each
 //! moment a crash leaves the history, or the history and the entries of one record more, whole. And what each crash at

@@ -11,7 +11,7 @@ use wp_gatelog::Record;
 use wp_history::History;
 use wp_model::{Entry, Seq};
 
-/// Puts the entries behind the history, up to the first that may not stand there: the error is its number.
+/// Puts the entries after the history, up to the first that may not come there: the error is its number.
 fn take_entries(history: &mut History, entries: Vec<Entry>) -> Result<(), Seq>
     requires few { length history.old.entries + length entries.items < 2 ^ 32 }
     requires room { length entries.items ≤ history.old.room }
@@ -27,7 +27,7 @@ fn take_entries(history: &mut History, entries: Vec<Entry>) -> Result<(), Seq>
     Ok(())
 }
 
-/// Puts the entries behind the history that the record with this index is.
+/// Puts the entries after the history that the record with this index is.
 fn take_record(
     alloc: Global,
     history: &mut History,

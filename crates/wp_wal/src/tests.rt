@@ -42,7 +42,7 @@ fn put_k_1(alloc: Global) -> Result<[Entry; 1], Fail>
 fn goes_to_a_thread<T: Send>(_value: &T) {}
 
 #[test]
-fn an_entry_that_is_appended_stands_in_the_log(rt: HostRuntime) -> Result<(), Fail> {
+fn an_entry_that_is_appended_is_in_the_log(rt: HostRuntime) -> Result<(), Fail> {
     let (mut wal, history) = open(rt.alloc(), b"", &[])?;
     goes_to_a_thread(&wal);
     assert!(rt; history.published() == 0);
@@ -53,7 +53,7 @@ fn an_entry_that_is_appended_stands_in_the_log(rt: HostRuntime) -> Result<(), Fa
 }
 
 #[test]
-fn an_entry_that_stands_in_the_log_is_found(rt: HostRuntime) -> Result<(), Fail> {
+fn an_entry_of_the_log_is_found(rt: HostRuntime) -> Result<(), Fail> {
     let (wal, history) = open(rt.alloc(), LOG, &[])?;
     assert_eq!(rt; wal.id(), 1);
     let found = format!(in rt.alloc(); "{:?}", history.entries())?;
@@ -76,16 +76,16 @@ fn an_append_that_failed_closes_the_log(rt: HostRuntime) -> Result<(), Fail> {
     Ok(())
 }
 
-/// The log of store 1 with these bytes behind its head.
-fn refusal(alloc: Global, behind: &[u8]) -> Result<WalError, Fail> {
+/// The log of store 1 with these bytes after its head.
+fn refusal(alloc: Global, following: &[u8]) -> Result<WalError, Fail> {
     let mut bytes = LOG[..10].to_vec(alloc)?;
-    bytes.extend_from_slice(behind)?;
+    bytes.extend_from_slice(following)?;
     Ok(open(alloc, &bytes, &[]).err().ok_or("the log is refused")?)
 }
 
 #[test]
 fn bytes_that_are_no_record_are_refused(rt: HostRuntime) -> Result<(), Fail> {
-    for behind in [
+    for following in [
         b"\x01\xff\xff\xff\xff\xff\xff\xff\xff".as_slice(),
         b"\x01\0\0\0\0\0\0\0\0\0".as_slice(),
     ] {
@@ -93,7 +93,7 @@ fn bytes_that_are_no_record_are_refused(rt: HostRuntime) -> Result<(), Fail> {
             index: 0,
             why: RecordError::Short,
         };
-        assert_eq!(rt; refusal(rt.alloc(), behind)?, short);
+        assert_eq!(rt; refusal(rt.alloc(), following)?, short);
     }
     Ok(())
 }
@@ -101,12 +101,12 @@ fn bytes_that_are_no_record_are_refused(rt: HostRuntime) -> Result<(), Fail> {
 // A commit of a write, and an undo that restores a value that was not there.
 #[test]
 fn entries_that_are_illegal_are_refused(rt: HostRuntime) -> Result<(), Fail> {
-    for behind in [
+    for following in [
         b"\x01\0\0\0\0\0\0\0\x0c\0\0\0\x01\x01\x01\x01\x01k\0\x011\x01\0\0\0\0\0\0\0\x09\0\0\0\x02\x03\0\0\0\x01\0".as_slice(),
         b"\x01\0\0\0\0\0\0\0\x0e\0\0\0\x01\x02\x01t\x01\x01\x01k\0\x012\x01\0\0\0\0\0\0\0\x10\0\0\0\x02\x04\0\0\0\x01\x01\x01\x01k\0\x019\0".as_slice(),
     ] {
         assert_eq!(rt;
-            refusal(rt.alloc(), behind)?,
+            refusal(rt.alloc(), following)?,
             WalError::Illegal { number: 2 }
         );
     }

@@ -1,17 +1,16 @@
-//! A write-ahead log that stands open.
-ghost use Rattle.std.specs.Prelude.{◌≡◌, ℕ, ◌+◌, ◌≤◌, ◌++◌, List, [], Some, None, true, false, is_some, length, IfOk, IfErr, IfSome, OnOk, OnErr, MatchResult};
+//! An open write-ahead log.
+ghost use Rattle.std.specs.Prelude.{◌≡◌, ◌+◌, ◌≤◌, ◌++◌, List, [], Some, None, true, false, is_some, length, IfOk, IfErr, IfSome, OnOk, OnErr, MatchResult};
 ghost use Rattle.wp_model.specs.declared.entry.Entry.{Entry};
 ghost use Rattle.wp_model.specs.Legal.{IsLegal};
 ghost use Rattle.wp_outside.specs.Disk.{IfKnown, Passes};
 ghost use Rattle.wp_outside.specs.Faults.{Rose};
 ghost use Rattle.wp_entry.specs.Record.{FormRecord, IsRecord};
-ghost use Rattle.wp_gatelog.specs.Durability.{Preserves, HasAcknowledged};
 ghost use Rattle.wp_gatelog.specs.Moments.{Leaves};
 ghost use Rattle.wp_gatelog.specs.Opening.{SurvivesThrough};
 ghost use Rattle.wp_gatelog.specs.Spelling.{IsUnmade};
 ghost use Rattle.wp_wal.specs.Spelling.{MAGIC, IsLogOf, IsLogOrNext, HasAcknowledgedEntries};
-ghost use Rattle.wp_wal.specs.Opening.{IsOpenCause, LeavesRecords};
-ghost use Rattle.wp_wal.specs.Wal.{StoresHistory, IsReserved, LeavesHistory, Appended, Refuses, StoresWhenRefused, reserved_of};
+ghost use Rattle.wp_wal.specs.Opening.{IsLogCause, LeavesRecords};
+ghost use Rattle.wp_wal.specs.Wal.{LosesNothing, StoresHistory, IsReserved, LeavesHistory, Appended, Refuses, StoresWhenRefused, reserved_of};
 
 use crate::error::WalError;
 use crate::read::history_of;
@@ -23,11 +22,11 @@ use wp_history::History;
 use wp_model::{Entry, Seq};
 use wp_outside::Disk;
 
-/// The first four bytes behind the gate of the log's head.
+/// The first four bytes after the gate of the log's head.
 const LOG_MAGIC: [u8; 4] = *b"WPLG";
 
 /// An open log whose records spell a history. Clauses see its disk's moments and faults, its id, where it ends,
-/// whether it is closed, how many records it has, the number that the next entry gets, and the record that stands
+/// whether it is closed, how many records it has, the number that the next entry gets, and the record that is
 /// reserved.
 #[derive(Drop)]
 pub struct Wal<D: Disk> {
@@ -38,9 +37,9 @@ pub struct Wal<D: Disk> {
 }
 
 impl<D: Disk> Model for Wal<D> {
-    ghost use Rattle.wp_wal.specs.Wal.{State, state_of, HasNumbers};
+    ghost use Rattle.wp_wal.specs.Wal.{WalState, state_of, HasNumbers};
 
-    ghost Value = { State };
+    ghost Value = { WalState };
 
     ghost view = { λ w. state_of w.log w.due w.reserved };
 
@@ -48,13 +47,13 @@ impl<D: Disk> Model for Wal<D> {
 }
 
 impl<D: Disk> Wal<D> {
-    /// Opens the log that stands on the disk, or makes it with this id, and reads the history that it spells.
+    /// Opens the log on the disk, or makes it with this id, and reads the history that it spells.
     pub fn open(
         alloc: Global,
         disk: D,
         id: u32,
     ) -> Result<(Wal<D>, History), DiskRefused<D, WalError>>
-        ensures keeps { IfOk result (λ opened. StoresHistory opened.0 opened.1.entries []) }
+        ensures stores { IfOk result (λ opened. StoresHistory opened.0 opened.1.entries []) }
         ensures fresh { IfOk result (λ opened. (opened.0.closed ≡ false) × (opened.0.reserved ≡ None)) }
         ensures legal { IfOk result (λ opened. IsLegal opened.1.entries) }
 
@@ -62,9 +61,9 @@ impl<D: Disk> Wal<D> {
         ensures found { IfOk result (λ opened. IfKnown (D.moments disk) (λ m. IsLogOf opened.0.id opened.1.entries m.reads)) }
         ensures made { IfOk result (λ opened. IfKnown (D.moments disk) (λ m. IsUnmade m.reads → opened.0.id ≡ id)) }
 
-        ensures cause { IfErr result (λ refused. IsOpenCause (Rose (D.faults disk) (D.faults refused.disk)) (D.moments disk) refused.why) }
+        ensures cause { IfErr result (λ refused. IsLogCause (Rose (D.faults disk) (D.faults refused.disk)) (D.moments disk) refused.why) }
 
-        // The bytes are left as they were, or the log in them mended, with all of its records.
+        // The bytes are left as they were, or the log in them repaired, with all of its records.
         ensures left { IfErr result (λ refused. LeavesRecords (D.moments disk) (D.moments refused.disk) refused.why) }
 
         // At each moment since its beginning a crash leaves the bytes as they were found, or a log of their records; but
@@ -73,21 +72,19 @@ impl<D: Disk> Wal<D> {
             (λ refused. SurvivesThrough MAGIC id (D.moments disk) (D.moments refused.disk)) }
 
         // What each crash at one moment would leave acknowledged, each crash at a later moment leaves too.
-        ensures lasts { MatchResult result
-            (λ opened. (other : ℕ) (records : List (List ℕ))
-            → Preserves (Leaves (HasAcknowledged MAGIC other records)) (D.moments disk) opened.0.moments)
-            (λ refused. (other : ℕ) (records : List (List ℕ))
-            → Preserves (Leaves (HasAcknowledged MAGIC other records)) (D.moments disk) (D.moments refused.disk)) }
+        ensures durable { MatchResult result
+            (λ opened. LosesNothing (D.moments disk) opened.0.moments)
+            (λ refused. LosesNothing (D.moments disk) (D.moments refused.disk)) }
         ensures later { MatchResult result (λ opened. D.faults disk ≤ opened.0.faults) (λ refused. D.faults disk ≤ D.faults refused.disk) }
     {
-        let log = match GateLog::open(alloc, disk, LOG_MAGIC, id) {
-            Ok(log) => log,
+        let (log, records) = match GateLog::open(alloc, disk, LOG_MAGIC, id) {
+            Ok(opened) => opened,
             Err(DiskRefused { disk, why }) => {
                 let why = WalError::from(why);
                 return Err(DiskRefused { disk, why });
             }
         };
-        match history_of(alloc, log.records()) {
+        match history_of(alloc, &records) {
             Ok(history) => {
                 let due = history.published() + 1;
                 let wal = Wal {
@@ -112,7 +109,7 @@ impl<D: Disk> Wal<D> {
         self.log.id()
     }
 
-    /// Makes the record of the entries for the next append, in place of the one that stood reserved. Their numbers are
+    /// Makes the record of the entries for the next append, in place of the one that was reserved. Their numbers are
     /// the next ones.
     pub fn reserve(&mut self, entries: &[Entry]) -> Result<(), AllocError>
         requires { FormRecord self.old.due entries.now }
@@ -124,8 +121,8 @@ impl<D: Disk> Wal<D> {
         Ok(())
     }
 
-    /// Puts the record that stands reserved into the log. It takes no memory. Whatever it answers, none stands
-    /// reserved afterwards; after a fault the log is closed, and is to be opened again.
+    /// Puts the reserved record into the log. It takes no memory. Whatever it answers, none is reserved
+    /// afterwards; after a fault the log is closed, and is to be opened again.
     pub fn append(&mut self) -> Result<(), AppendError>
         requires { is_some self.old.reserved ≡ true }
 
@@ -135,15 +132,15 @@ impl<D: Disk> Wal<D> {
 
         // What each crash at one moment would leave acknowledged, each crash at a later moment leaves too: the history,
         // all along.
-        ensures lasts { (history next : List Entry) → StoresHistory self.old history next → (other : ℕ) (records : List (List ℕ))
-            → Preserves (Leaves (HasAcknowledged MAGIC other records)) self.old.moments self.new.moments }
-        ensures holds { (history entries : List Entry) → IsReserved self.old history entries
+        ensures durable { (history next : List Entry) → StoresHistory self.old history next
+            → LosesNothing self.old.moments self.new.moments }
+        ensures acknowledged { (history entries : List Entry) → IsReserved self.old history entries
             → Passes (Leaves (HasAcknowledgedEntries self.old.id history)) self.old.moments self.new.moments }
 
         // Once it is acknowledged, a crash leaves the new entries; and after a fault still one of the two.
-        ensures keeps { OnOk result ((history entries : List Entry) → IsReserved self.old history entries
+        ensures stores { OnOk result ((history entries : List Entry) → IsReserved self.old history entries
             → StoresHistory self.new (history ++ entries) []) }
-        ensures kept { IfErr result (StoresWhenRefused self.old self.new) }
+        ensures refused { IfErr result (StoresWhenRefused self.old self.new) }
 
         ensures ok { OnOk result (IfSome self.old.reserved (Appended self.old self.new)) }
         ensures err { IfErr result (Refuses self.old self.new) }

@@ -1,5 +1,5 @@
 use Rattle.wp_gatelog.proofs.HeadLemmas.{head_read}
-use Rattle.wp_gatelog.proofs.MomentLemmas.{told_map}
+use Rattle.wp_gatelog.proofs.MomentLemmas.{known_map}
 use Rattle.wp_outside.specs.Disk.{Moment, IsRead}
 use Rattle.wp_gatelog.specs.Heads.{IsHead}
 use Rattle.std.proofs.Common.{rules}
@@ -9,4 +9,4 @@ pub returns-clause-found : goal.returns-clause-found
 returns-clause-found g c =
     let P : Moment → Type 0 = λ m. IsRead m.reads 0 c.read_at.new.buf c.in_ok-read.read in
     let Q : Moment → Type 0 = λ m. IsHead c.args.magic.now m.reads c.head_of.result in
-    told_map P Q (λ m. head_read c.args.magic.now c.read_at.new.buf m.reads c.in_ok-read.read c.head_of.result (search rules) c.head_of.ensures) _ c.in_ok-read.ensures.bytes
+    known_map P Q (λ m. head_read c.args.magic.now c.read_at.new.buf m.reads c.in_ok-read.read c.head_of.result (search rules) c.head_of.ensures) _ c.in_ok-read.ensures.bytes

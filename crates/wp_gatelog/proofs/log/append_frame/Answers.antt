@@ -1,39 +1,26 @@
-use Rattle.std.proofs.Common.{◌+◌, ◌∷◌, [], ◌++◌, ℕ, List, ap, ◌∙◌, arith}
-use Rattle.std.proofs.lemmas.Result.{on_ok_weaker}
+use Rattle.std.proofs.lemmas.Result.{err_from_is_err_and}
+use Rattle.std.proofs.Common.{◌+◌, ◌∷◌, [], ◌++◌, length}
+use Rattle.wp_outside.specs.Disk.{synced}
+use Rattle.wp_gatelog.specs.Log.{BeforeOrAfter, IsAtRest}
 use Rattle.wp_gatelog.specs.Spelling.{frame_of, log_of}
-use Rattle.wp_gatelog.specs.Log.{Grows}
-use Rattle.wp_gatelog.specs.Moments.{Leaves}
-use Rattle.wp_gatelog.proofs.AppendLemmas.{grows_staged, reads_staged, grows_opened, fits_disk}
-use Rattle.wp_gatelog.proofs.MomentLemmas.{goes_map, goes_on, put_gate, told_as}
-use Rattle.wp_gatelog.specs.Durability.{HasAcknowledged}
-use Rattle.wp_gatelog.proofs.HoldsLemmas.{spares_frame, spares_gate}
-use Rattle.wp_gatelog.proofs.DurabilityLemmas.{lasts_on}
+use Rattle.wp_gatelog.proofs.AppendLemmas.{fits_disk}
+use Rattle.wp_gatelog.proofs.ChangeLemmas.{brings_known, brings_failed, brings_on}
+use Rattle.wp_gatelog.proofs.FrameLemmas.{brings_frame, brings_gate, rest_synced}
 use Rattle.wp_gatelog.proofs.log.append_frame.Goals as goal
 
-pub returns-in_err-write_synced-clause-passed : goal.returns-in_err-write_synced-clause-passed
-returns-in_err-write_synced-clause-passed g c = λ front bytes is ends told.
-    goes_map _ (Leaves (Grows front bytes)) (grows_staged front c.args.frame.now bytes (c.args.end + 1) (omega arith)) _ _ (c.write_synced.ensures.passed (front ++ 0 ∷ []) told)
+pub returns-in_err-write_synced-clause-appended : goal.returns-in_err-write_synced-clause-appended
+returns-in_err-write_synced-clause-appended g c = λ magic id records bytes is known.
+    let p = err_from_is_err_and c.from_residual.result c.from_residual.ensures.1 in
+    let P = BeforeOrAfter magic id records bytes in
+    let R = IsAtRest magic id (c.args.end + length c.args.frame.now) (records ++ bytes ∷ []) in
+    rw p.1 (brings_known magic P (IsAtRest magic id c.args.end records) R _ _ _ c.write_synced.ensures.unknown known (λ past m old rest.
+    brings_failed p.0 magic P _ R _ _ _ (brings_frame magic id c.args.end records c.args.frame.now bytes is m rest _ _ _ (c.write_synced.ensures.changes _ (rest_synced magic id c.args.end records m past _ old rest)))))
 
-pub returns-clause-passed : goal.returns-clause-passed
-returns-clause-passed g c = λ front bytes is ends told.
-    let first = goes_map _ (Leaves (Grows front bytes)) (grows_staged front c.args.frame.now bytes (c.args.end + 1) (omega arith)) _ _ (c.write_synced.ensures.passed (front ++ 0 ∷ []) told) in
-    let staged = told_as _ _ (front ++ 0 ∷ frame_of bytes) (reads_staged front c.args.frame.now (c.args.end + 1) (omega arith) ∙ ap (λ (l : List ℕ). front ++ 0 ∷ l) is) (c.in_ok-write_synced.ensures.done (front ++ 0 ∷ []) told) in
+pub returns-clause-appended : goal.returns-clause-appended
+returns-clause-appended g c = λ magic id records bytes is known.
+    let P = BeforeOrAfter magic id records bytes in
+    let R = IsAtRest magic id (c.args.end + length c.args.frame.now) (records ++ bytes ∷ []) in
     let fits = fits_disk (c.args.end + 1) c.args.frame.now bytes is c.in_ok-write_synced.ensures.bounded in
-    goes_on _ _ _ _ first (goes_map _ (Leaves (Grows front bytes)) (grows_opened front bytes c.args.end 0 ends fits) _ _ (c.write_synced-2.ensures.passed (front ++ 0 ∷ frame_of bytes) staged))
-
-pub returns-clause-done : goal.returns-clause-done
-returns-clause-done g c = λ front bytes is ends told.
-    let staged = told_as _ _ (front ++ 0 ∷ frame_of bytes) (reads_staged front c.args.frame.now (c.args.end + 1) (omega arith) ∙ ap (λ (l : List ℕ). front ++ 0 ∷ l) is) (c.in_ok-write_synced.ensures.done (front ++ 0 ∷ []) told) in
-    on_ok_weaker _ (told_as _ _ _ (put_gate front 0 (frame_of bytes) c.args.end ends)) (c.write_synced-2.ensures.done (front ++ 0 ∷ frame_of bytes) staged)
-
-pub returns-in_err-write_synced-clause-lasts : goal.returns-in_err-write_synced-clause-lasts
-returns-in_err-write_synced-clause-lasts g c = λ magic id gated each ends told other records.
-    c.write_synced.ensures.lasts magic other records (log_of magic id 1 gated ++ 0 ∷ []) (spares_frame magic other id records gated (c.args.end + 1) c.args.frame.now each (omega (arith, ends))) told
-
-pub returns-clause-lasts : goal.returns-clause-lasts
-returns-clause-lasts g c = λ magic id gated each ends told other records.
-    let front = log_of magic id 1 gated in
-    let first = c.write_synced.ensures.lasts magic other records (front ++ 0 ∷ []) (spares_frame magic other id records gated (c.args.end + 1) c.args.frame.now each (omega (arith, ends))) told in
-    let staged = told_as _ _ (front ++ 0 ∷ c.args.frame.now) (reads_staged front c.args.frame.now (c.args.end + 1) (omega (arith, ends))) (c.in_ok-write_synced.ensures.done (front ++ 0 ∷ []) told) in
-    lasts_on (Leaves (HasAcknowledged magic other records)) _ _ _ first
-    (c.write_synced-2.ensures.lasts magic other records (front ++ 0 ∷ c.args.frame.now) (spares_gate magic other id records gated c.args.end c.args.frame.now each ends) staged)
+    brings_known magic P (IsAtRest magic id c.args.end records) R _ _ _ (λ none. c.write_synced-2.ensures.unknown (c.write_synced.ensures.unknown none)) known (λ past m old rest.
+    let framed = brings_frame magic id c.args.end records c.args.frame.now bytes is m rest _ _ _ (c.in_ok-write_synced.ensures.changes _ (rest_synced magic id c.args.end records m past _ old rest)) in
+    brings_on magic P _ R _ _ _ _ _ framed (brings_gate magic id c.args.end records c.args.frame.now bytes is m rest fits _ _ _ (c.write_synced-2.ensures.changes (log_of magic id 1 rest.gated ++ 0 ∷ frame_of bytes) framed.done)))

@@ -1,55 +1,31 @@
-use Rattle.std.proofs.Common.{◌∙◌, ◌∷◌, [], ◌++◌, ℕ, List, refl, ap}
-use Rattle.std.proofs.lemmas.Result.{on_ok_weaker}
-use Rattle.wp_gatelog.specs.Moments.{Leaves}
+use Rattle.std.proofs.Common.{◌≡◌, ◌∷◌, [], ◌++◌}
+use Rattle.std.proofs.lemmas.Result.{err_from_is_err_and}
+use Rattle.wp_outside.specs.Disk.{Moment, synced}
 use Rattle.wp_gatelog.specs.Heads.{SpellsNone}
-use Rattle.wp_gatelog.specs.Spelling.{identity}
-use Rattle.wp_gatelog.proofs.MakeLemmas.{closed_unmade, none_closed, none_staged, none_opened, reads_made}
-use Rattle.wp_gatelog.proofs.MomentLemmas.{goes_map, goes_on, told_as, reads_behind}
-use Rattle.wp_outside.specs.Disk.{IsImage, settled, after_write}
-use Rattle.wp_gatelog.specs.Durability.{HasAcknowledged}
-use Rattle.wp_gatelog.proofs.HoldsLemmas.{spares_unmade}
-use Rattle.wp_gatelog.proofs.DurabilityLemmas.{lasts_on}
+use Rattle.wp_gatelog.specs.Spelling.{identity, log_of}
+use Rattle.wp_gatelog.proofs.ChangeLemmas.{brings_on, brings_failed}
+use Rattle.wp_gatelog.proofs.MakeLemmas.{brings_closed, brings_staged, brings_opened}
 use Rattle.wp_gatelog.proofs.make.make.Goals as goal
 
-pub returns-in_err-write_synced-clause-passed : goal.returns-in_err-write_synced-clause-passed
-returns-in_err-write_synced-clause-passed g c = λ before unmade len_is told.
-    goes_on (Leaves (SpellsNone c.args.magic c.args.id)) _ _ _
-    (goes_map _ _ (none_closed c.args.magic c.args.id) _ _ (c.close_head.ensures.passed before unmade len_is told))
-    (goes_map _ _ (none_staged c.args.magic c.head_bytes.result c.args.id) _ _ (c.write_synced.ensures.passed (0 ∷ []) (c.in_ok-close_head.ensures.done before unmade len_is told)))
+pub returns-in_err-close_head-clause-made : goal.returns-in_err-close_head-clause-made
+returns-in_err-close_head-clause-made g c = λ before unmade len_is known.
+    let p = err_from_is_err_and c.from_residual.result c.from_residual.ensures.1 in
+    let R = λ (m : Moment). m ≡ synced (log_of c.args.magic c.args.id 1 [] ++ 0 ∷ []) in
+    rw p.1 (brings_failed p.0 c.args.magic (SpellsNone c.args.magic c.args.id) _ R _ _ _ (brings_closed c.args.magic c.args.id before unmade _ _ _ (c.close_head.ensures.changes before unmade len_is known)))
 
-pub returns-clause-passed : goal.returns-clause-passed
-returns-clause-passed g c = λ before unmade len_is told.
-    let closed = c.in_ok-close_head.ensures.done before unmade len_is told in
-    let staged = told_as _ _ (0 ∷ (identity c.args.magic c.args.id ++ 0 ∷ [])) (reads_behind (0 ∷ []) c.head_bytes.result 1 refl ∙ ap (λ (l : List ℕ). 0 ∷ l) c.head_bytes.ensures) (c.in_ok-write_synced.ensures.done (0 ∷ []) closed) in
-    goes_on (Leaves (SpellsNone c.args.magic c.args.id)) _ _ _
-    (goes_on (Leaves (SpellsNone c.args.magic c.args.id)) _ _ _
-    (goes_map _ _ (none_closed c.args.magic c.args.id) _ _ (c.close_head.ensures.passed before unmade len_is told))
-    (goes_map _ _ (none_staged c.args.magic c.head_bytes.result c.args.id) _ _ (c.write_synced.ensures.passed (0 ∷ []) closed)))
-    (goes_map _ _ (none_opened c.args.magic c.args.id) _ _ (c.write_synced-2.ensures.passed (0 ∷ (identity c.args.magic c.args.id ++ 0 ∷ [])) staged))
+pub returns-in_err-write_synced-clause-made : goal.returns-in_err-write_synced-clause-made
+returns-in_err-write_synced-clause-made g c = λ before unmade len_is known.
+    let p = err_from_is_err_and c.from_residual-in_err-write_synced.result c.from_residual-in_err-write_synced.ensures.1 in
+    let P = SpellsNone c.args.magic c.args.id in
+    let R = λ (m : Moment). m ≡ synced (log_of c.args.magic c.args.id 1 [] ++ 0 ∷ []) in
+    let closed = brings_closed c.args.magic c.args.id before unmade _ _ _ (c.in_ok-close_head.ensures.changes before unmade len_is known) in
+    rw p.1 (brings_failed p.0 c.args.magic P _ R _ _ _ (brings_on c.args.magic P _ _ _ _ _ _ _ closed
+    (brings_staged c.args.magic c.args.id c.head_bytes.result c.head_bytes.ensures _ _ _ (c.write_synced.ensures.changes (0 ∷ []) closed.done))))
 
-pub returns-clause-done : goal.returns-clause-done
-returns-clause-done g c = λ before unmade len_is told.
-    let closed = c.in_ok-close_head.ensures.done before unmade len_is told in
-    let staged = told_as _ _ (0 ∷ (identity c.args.magic c.args.id ++ 0 ∷ [])) (reads_behind (0 ∷ []) c.head_bytes.result 1 refl ∙ ap (λ (l : List ℕ). 0 ∷ l) c.head_bytes.ensures) (c.in_ok-write_synced.ensures.done (0 ∷ []) closed) in
-    on_ok_weaker _ (told_as _ _ _ (reads_made c.args.magic c.args.id)) (c.write_synced-2.ensures.done (0 ∷ (identity c.args.magic c.args.id ++ 0 ∷ [])) staged)
-
-pub returns-in_err-close_head-clause-lasts : goal.returns-in_err-close_head-clause-lasts
-returns-in_err-close_head-clause-lasts g c = λ before unmade len_is told other records.
-    c.close_head.ensures.lasts before unmade len_is told c.args.magic other records
-
-pub returns-in_err-write_synced-clause-lasts : goal.returns-in_err-write_synced-clause-lasts
-returns-in_err-write_synced-clause-lasts g c = λ before unmade len_is told other records.
-    let closed = c.in_ok-close_head.ensures.done before unmade len_is told in
-    let none = spares_unmade c.args.magic other records (0 ∷ []) (IsImage (after_write 1 c.head_bytes.result (settled (0 ∷ [])))) tt in
-    lasts_on (Leaves (HasAcknowledged c.args.magic other records)) _ _ _ (c.close_head.ensures.lasts before unmade len_is told c.args.magic other records)
-    (c.write_synced.ensures.lasts c.args.magic other records (0 ∷ []) none closed)
-
-pub returns-clause-lasts : goal.returns-clause-lasts
-returns-clause-lasts g c = λ before unmade len_is told other records.
-    let P = Leaves (HasAcknowledged c.args.magic other records) in
-    let closed = c.in_ok-close_head.ensures.done before unmade len_is told in
-    let none = spares_unmade c.args.magic other records (0 ∷ []) (IsImage (after_write 1 c.head_bytes.result (settled (0 ∷ [])))) tt in
-    let whole = 0 ∷ (identity c.args.magic c.args.id ++ 0 ∷ []) in
-    let staged = told_as _ _ whole (reads_behind (0 ∷ []) c.head_bytes.result 1 refl ∙ ap (λ (l : List ℕ). 0 ∷ l) c.head_bytes.ensures) (c.in_ok-write_synced.ensures.done (0 ∷ []) closed) in
-    lasts_on P _ _ _ (lasts_on P _ _ _ (c.close_head.ensures.lasts before unmade len_is told c.args.magic other records) (c.write_synced.ensures.lasts c.args.magic other records (0 ∷ []) none closed))
-    (c.write_synced-2.ensures.lasts c.args.magic other records whole (spares_unmade c.args.magic other records whole (IsImage (after_write 0 (1 ∷ []) (settled whole))) (closed_unmade (identity c.args.magic c.args.id ++ 0 ∷ []))) staged)
+pub returns-clause-made : goal.returns-clause-made
+returns-clause-made g c = λ before unmade len_is known.
+    let P = SpellsNone c.args.magic c.args.id in
+    let closed = brings_closed c.args.magic c.args.id before unmade _ _ _ (c.in_ok-close_head.ensures.changes before unmade len_is known) in
+    let staged = brings_staged c.args.magic c.args.id c.head_bytes.result c.head_bytes.ensures _ _ _ (c.in_ok-write_synced.ensures.changes (0 ∷ []) closed.done) in
+    let opened = brings_opened c.args.magic c.args.id _ _ _ (c.write_synced-2.ensures.changes (0 ∷ (identity c.args.magic c.args.id ++ 0 ∷ [])) staged.done) in
+    brings_on c.args.magic P _ _ _ _ _ _ _ (brings_on c.args.magic P _ _ _ _ _ _ _ closed staged) opened

@@ -1,68 +1,30 @@
-use Rattle.std.proofs.Common.{◌∙◌}
+use Rattle.std.proofs.Common.{◌≡◌, ◌∙◌}
 use Rattle.std.proofs.lemmas.Result.{err_from_is_err_and}
-use Rattle.wp_gatelog.proofs.OpenLemmas.{unmade_goes, unmade_lasts, unmade_rests, made_goes, made_lasts, made_found, made_refused}
-use Rattle.wp_gatelog.specs.Durability.{HasAcknowledged}
-use Rattle.wp_gatelog.specs.Moments.{Leaves}
+use Rattle.wp_outside.specs.Disk.{Moment}
+use Rattle.wp_gatelog.specs.Spelling.{IsUnmade}
+use Rattle.wp_gatelog.proofs.OpenLemmas.{synced_cases, known_at, opens_brings, opens_read, repairs_unmade, found_none, made_rests, begins}
+use Rattle.wp_gatelog.proofs.MomentLemmas.{known_map}
 use Rattle.wp_gatelog.proofs.open.open_synced.Goals as goal
 
-pub returns-in_err-make-in-Unmade-clause-passed : goal.returns-in_err-make-in-Unmade-clause-passed
-returns-in_err-make-in-Unmade-clause-passed g c = λ bytes told.
-    let head = rw (c.in-Unmade.is, c.len.ensures.kept) at c.in_ok-read_head.ensures.found in
-    unmade_goes c.args.magic c.args.id c.in_ok-len.len bytes _ _ _ (c.read_head.ensures.kept ∙ c.len.ensures.kept) c.make.ensures.untold told c.in_ok-len.ensures.length head (c.make.ensures.passed bytes)
+pub returns-in_err-make-in-Unmade-clause-opens : goal.returns-in_err-make-in-Unmade-clause-opens
+returns-in_err-make-in-Unmade-clause-opens g c = synced_cases c.args.magic c.args.id _ _ _ (λ past m old synced.
+    let kept = c.read_head.ensures.kept ∙ c.len.ensures.kept in
+    let p = err_from_is_err_and c.from_residual-in_err-make-in-Unmade.result c.from_residual-in_err-make-in-Unmade.ensures.1 in
+    let unmade : IsUnmade m.reads = known_at _ _ past m old (rw (c.in-Unmade.is, c.len.ensures.kept) at c.in_ok-read_head.ensures.found) in
+    rw (p.1, p.2) (opens_brings c.args.magic c.args.id m.reads _ _ _ _ _ _ _ kept (repairs_unmade c.args.magic c.args.id m.reads unmade) tt
+    (c.make.ensures.made m.reads unmade (known_at _ _ past m old c.in_ok-len.ensures.length) (rw (kept, old) synced))))
 
-pub returns-in_ok-make-in-Unmade-clause-passed : goal.returns-in_ok-make-in-Unmade-clause-passed
-returns-in_ok-make-in-Unmade-clause-passed g c = λ bytes told.
-    let head = rw (c.in-Unmade.is, c.len.ensures.kept) at c.in_ok-read_head.ensures.found in
-    unmade_goes c.args.magic c.args.id c.in_ok-len.len bytes _ _ _ (c.read_head.ensures.kept ∙ c.len.ensures.kept) c.make.ensures.untold told c.in_ok-len.ensures.length head (c.make.ensures.passed bytes)
+pub returns-in_ok-make-in-Unmade-clause-opens : goal.returns-in_ok-make-in-Unmade-clause-opens
+returns-in_ok-make-in-Unmade-clause-opens g c = synced_cases c.args.magic c.args.id _ _ _ (λ past m old synced.
+    let kept = c.read_head.ensures.kept ∙ c.len.ensures.kept in
+    let unmade : IsUnmade m.reads = known_at _ _ past m old (rw (c.in-Unmade.is, c.len.ensures.kept) at c.in_ok-read_head.ensures.found) in
+    let brings = c.in_ok-make-in-Unmade.ensures.made m.reads unmade (known_at _ _ past m old c.in_ok-len.ensures.length) (rw (kept, old) synced) in
+    opens_brings c.args.magic c.args.id m.reads _ _ _ _ _ _ _ kept (repairs_unmade c.args.magic c.args.id m.reads unmade)
+    (found_none c.args.magic c.args.id m.reads unmade c.new.result.items c.new.ensures.items, known_map _ _ (made_rests c.args.magic c.args.id c.new.result.items c.requires c.new.ensures.items) _ brings.done) brings)
 
-pub returns-in_ok-make-in-Unmade-clause-rests : goal.returns-in_ok-make-in-Unmade-clause-rests
-returns-in_ok-make-in-Unmade-clause-rests g c = λ bytes told.
-    let head = rw (c.in-Unmade.is, c.len.ensures.kept) at c.in_ok-read_head.ensures.found in
-    unmade_rests c.args.magic c.args.id c.in_ok-len.len bytes _ _ _ (c.read_head.ensures.kept ∙ c.len.ensures.kept) c.make.ensures.untold told c.in_ok-len.ensures.length c.new.result.items c.requires c.new.ensures.items head (c.in_ok-make-in-Unmade.ensures.done bytes)
-
-pub returns-in_err-records-in-Made-clause-passed : goal.returns-in_err-records-in-Made-clause-passed
-returns-in_err-records-in-Made-clause-passed g c = λ bytes told.
-    let head = rw (c.in-Made.is, c.len.ensures.kept) at c.in_ok-read_head.ensures.found in
-    made_goes c.args.magic c.args.id c.in_ok-len.len bytes _ _ _ (c.read_head.ensures.kept ∙ c.len.ensures.kept) c.open_made.ensures.untold told c.in_ok-len.ensures.length c.in-Made.gate c.in-Made.id c.requires head (c.open_made.ensures.passed c.args.magic bytes)
-
-pub returns-in_ok-records-in-Made-clause-passed : goal.returns-in_ok-records-in-Made-clause-passed
-returns-in_ok-records-in-Made-clause-passed g c = λ bytes told.
-    let head = rw (c.in-Made.is, c.len.ensures.kept) at c.in_ok-read_head.ensures.found in
-    made_goes c.args.magic c.args.id c.in_ok-len.len bytes _ _ _ (c.read_head.ensures.kept ∙ c.len.ensures.kept) c.open_made.ensures.untold told c.in_ok-len.ensures.length c.in-Made.gate c.in-Made.id c.requires head (c.open_made.ensures.passed c.args.magic bytes)
-
-pub returns-in_err-records-in-Made-clause-refused : goal.returns-in_err-records-in-Made-clause-refused
-returns-in_err-records-in-Made-clause-refused g c = λ bytes told.
-    let head = rw (c.in-Made.is, c.len.ensures.kept) at c.in_ok-read_head.ensures.found in
-    let p = err_from_is_err_and c.from_residual-in_err-records-in-Made.result c.from_residual-in_err-records-in-Made.ensures.1 in
-    rw (p.1, p.2) (made_refused c.args.magic c.args.id c.in_ok-len.len bytes _ _ _ (c.read_head.ensures.kept ∙ c.len.ensures.kept) c.open_made.ensures.untold told c.in_ok-len.ensures.length c.in-Made.gate c.in-Made.id c.requires head
-    c.in_err-records-in-Made.field-0.0 (c.in_err-records-in-Made.ensures.refused c.args.magic bytes))
-
-pub returns-in_ok-records-in-Made-clause-found : goal.returns-in_ok-records-in-Made-clause-found
-returns-in_ok-records-in-Made-clause-found g c = λ bytes told.
-    let head = rw (c.in-Made.is, c.len.ensures.kept) at c.in_ok-read_head.ensures.found in
-    made_found c.args.magic c.args.id c.in_ok-len.len bytes _ _ _ (c.read_head.ensures.kept ∙ c.len.ensures.kept) c.open_made.ensures.untold told c.in_ok-len.ensures.length c.in-Made.gate c.in-Made.id c.requires head
-    c.in_ok-records-in-Made.field-0.records.items (c.in_ok-records-in-Made.ensures.found c.args.magic bytes)
-
-pub returns-in_err-make-in-Unmade-clause-lasts : goal.returns-in_err-make-in-Unmade-clause-lasts
-returns-in_err-make-in-Unmade-clause-lasts g c = λ bytes told other records.
-    let head = rw (c.in-Unmade.is, c.len.ensures.kept) at c.in_ok-read_head.ensures.found in
-    unmade_lasts c.args.magic c.args.id c.in_ok-len.len bytes _ _ _ (c.read_head.ensures.kept ∙ c.len.ensures.kept) c.make.ensures.untold told c.in_ok-len.ensures.length head (Leaves (HasAcknowledged c.args.magic other records))
-    (λ unmade size read. c.make.ensures.lasts bytes unmade size read other records)
-
-pub returns-in_ok-make-in-Unmade-clause-lasts : goal.returns-in_ok-make-in-Unmade-clause-lasts
-returns-in_ok-make-in-Unmade-clause-lasts g c = λ bytes told other records.
-    let head = rw (c.in-Unmade.is, c.len.ensures.kept) at c.in_ok-read_head.ensures.found in
-    unmade_lasts c.args.magic c.args.id c.in_ok-len.len bytes _ _ _ (c.read_head.ensures.kept ∙ c.len.ensures.kept) c.make.ensures.untold told c.in_ok-len.ensures.length head (Leaves (HasAcknowledged c.args.magic other records))
-    (λ unmade size read. c.make.ensures.lasts bytes unmade size read other records)
-
-pub returns-in_err-records-in-Made-clause-lasts : goal.returns-in_err-records-in-Made-clause-lasts
-returns-in_err-records-in-Made-clause-lasts g c = λ bytes told other records.
-    let head = rw (c.in-Made.is, c.len.ensures.kept) at c.in_ok-read_head.ensures.found in
-    made_lasts c.args.magic c.args.id c.in_ok-len.len bytes _ _ _ (c.read_head.ensures.kept ∙ c.len.ensures.kept) c.open_made.ensures.untold told c.in_ok-len.ensures.length c.in-Made.gate c.in-Made.id c.requires head (Leaves (HasAcknowledged c.args.magic other records))
-    (λ begins read. c.open_made.ensures.lasts c.args.magic bytes begins read other records)
-
-pub returns-in_ok-records-in-Made-clause-lasts : goal.returns-in_ok-records-in-Made-clause-lasts
-returns-in_ok-records-in-Made-clause-lasts g c = λ bytes told other records.
-    let head = rw (c.in-Made.is, c.len.ensures.kept) at c.in_ok-read_head.ensures.found in
-    made_lasts c.args.magic c.args.id c.in_ok-len.len bytes _ _ _ (c.read_head.ensures.kept ∙ c.len.ensures.kept) c.open_made.ensures.untold told c.in_ok-len.ensures.length c.in-Made.gate c.in-Made.id c.requires head (Leaves (HasAcknowledged c.args.magic other records))
-    (λ begins read. c.open_made.ensures.lasts c.args.magic bytes begins read other records)
+pub returns-in-Made-clause-opens : goal.returns-in-Made-clause-opens
+returns-in-Made-clause-opens g c = synced_cases c.args.magic c.args.id _ _ _ (λ past m old synced.
+    let kept = c.read_head.ensures.kept ∙ c.len.ensures.kept in
+    let head = known_at _ _ past m old (rw (c.in-Made.is, c.len.ensures.kept) at c.in_ok-read_head.ensures.found) in
+    opens_read c.args.magic c.args.id m.reads _ _ _ _ kept
+    (known_at _ _ past m (kept ∙ old) (c.open_made.ensures.opens c.args.magic c.args.id) synced (begins c.args.magic c.in_ok-len.len m.reads c.in-Made.gate c.in-Made.id c.requires (known_at _ _ past m old c.in_ok-len.ensures.length) head)))

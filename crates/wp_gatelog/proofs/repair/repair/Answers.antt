@@ -1,104 +1,58 @@
-use Rattle.std.proofs.Common.{◌∙◌, List, ◌∷◌, [], ◌++◌, length, refl, ap, subst}
-use Rattle.std.proofs.lemmas.Result.{on_ok_weaker}
-use Rattle.wp_outside.specs.Disk.{Each}
+use Rattle.std.proofs.Common.{◌∙◌, ◌∷◌, [], ◌++◌, length, refl, ap}
+use Rattle.std.proofs.lemmas.Result.{err_from_is_err_and}
 use Rattle.wp_gatelog.specs.Log.{IsAtRest}
 use Rattle.wp_gatelog.specs.Repair.{IsRepaired}
-use Rattle.wp_gatelog.specs.Moments.{Leaves}
-use Rattle.wp_gatelog.specs.Spelling.{Gated, IsOpen, identity, all_gated, framed, log_of}
-use Rattle.wp_gatelog.proofs.RepairLemmas.{repaired_cut, repaired_head, repaired_last, last_split, last_place, rests_last, rests_none}
-use Rattle.wp_gatelog.proofs.MomentLemmas.{goes_map, goes_on, told_as, told_map}
-use Rattle.wp_gatelog.specs.Durability.{HasAcknowledged}
-use Rattle.wp_gatelog.proofs.HoldsLemmas.{spares_cut, spares_head, spares_last}
-use Rattle.wp_gatelog.proofs.DurabilityLemmas.{lasts_on}
+use Rattle.wp_gatelog.specs.Spelling.{identity, all_gated, framed, log_of}
+use Rattle.wp_gatelog.proofs.ChangeLemmas.{brings_on, brings_failed}
+use Rattle.wp_gatelog.proofs.MomentLemmas.{known_as}
+use Rattle.wp_gatelog.proofs.RepairLemmas.{brings_cut, brings_head, brings_last, brings_none, last_split, last_place}
 use Rattle.wp_gatelog.proofs.repair.repair.Goals as goal
 
-pub returns-in_err-cut_behind-clause-passed : goal.returns-in_err-cut_behind-clause-passed
-returns-in_err-cut_behind-clause-passed g c = λ magic id bytes log told.
-    goes_map _ (Leaves (IsRepaired magic id c.args.head log.gated)) (repaired_cut magic id c.args.head log.gated) _ _
-    (c.cut_behind.ensures.passed (log_of magic id c.args.head log.gated) log.stands.behind log.place (log.size ∙ ap length log.stands.spelling) (told_as _ _ _ log.stands.spelling told))
+pub returns-in_err-cut_rest-clause-repaired : goal.returns-in_err-cut_rest-clause-repaired
+returns-in_err-cut_rest-clause-repaired g c = λ magic id bytes log known.
+    let p = err_from_is_err_and c.from_residual.result c.from_residual.ensures.1 in
+    let front = log_of magic id c.args.head log.gated in
+    let rests = IsAtRest magic id c.args.scan.now.end c.args.scan.now.records.items in
+    rw p.1 (brings_failed p.0 magic (IsRepaired magic id c.args.head log.gated) _ rests _ _ _
+    (brings_cut magic id c.args.head c.args.scan.now.records.items c.args.scan.now.last c.args.scan.now.end c.args.len bytes log _ _ _
+    (c.cut_rest.ensures.changes front log.has_log.rest log.place (log.size ∙ ap length log.has_log.spelling) (known_as _ _ _ log.has_log.spelling known))))
 
-pub returns-in_err-open_wholly-clause-passed : goal.returns-in_err-open_wholly-clause-passed
-returns-in_err-open_wholly-clause-passed g c = λ magic id bytes log told.
-    let cut = goes_map _ (Leaves (IsRepaired magic id c.args.head log.gated)) (repaired_cut magic id c.args.head log.gated) _ _
-    (c.cut_behind.ensures.passed (log_of magic id c.args.head log.gated) log.stands.behind log.place (log.size ∙ ap length log.stands.spelling) (told_as _ _ _ log.stands.spelling told)) in
-    let headless = (c.in_ok-cut_behind.ensures.done (log_of magic id c.args.head log.gated) log.stands.behind log.place (log.size ∙ ap length log.stands.spelling) (told_as _ _ _ log.stands.spelling told)) in
-    let head = goes_map _ (Leaves (IsRepaired magic id c.args.head log.gated)) (repaired_head magic id c.args.head log.gated) _ _
-    (c.open_wholly.ensures.passed [] ((identity magic id ++ all_gated log.gated) ++ 0 ∷ []) refl headless) in
-    goes_on (Leaves (IsRepaired magic id c.args.head log.gated)) _ _ _ cut head
+pub returns-in_err-open_wholly-clause-repaired : goal.returns-in_err-open_wholly-clause-repaired
+returns-in_err-open_wholly-clause-repaired g c = λ magic id bytes log known.
+    let p = err_from_is_err_and c.from_residual-in_err-open_wholly.result c.from_residual-in_err-open_wholly.ensures.1 in
+    let P = IsRepaired magic id c.args.head log.gated in
+    let front = log_of magic id c.args.head log.gated in
+    let tail = (identity magic id ++ all_gated log.gated) ++ 0 ∷ [] in
+    let rests = IsAtRest magic id c.args.scan.now.end c.args.scan.now.records.items in
+    let cut = brings_cut magic id c.args.head c.args.scan.now.records.items c.args.scan.now.last c.args.scan.now.end c.args.len bytes log _ _ _
+    (c.in_ok-cut_rest.ensures.changes front log.has_log.rest log.place (log.size ∙ ap length log.has_log.spelling) (known_as _ _ _ log.has_log.spelling known)) in
+    rw p.1 (brings_failed p.0 magic P _ rests _ _ _ (brings_on magic P _ _ _ _ _ _ _ cut
+    (brings_head magic id c.args.head c.args.scan.now.records.items c.args.scan.now.last c.args.scan.now.end c.args.len bytes log _ _ _ (c.open_wholly.ensures.changes [] tail refl cut.done))))
 
-pub returns-in-Some-clause-passed : goal.returns-in-Some-clause-passed
-returns-in-Some-clause-passed g c = λ magic id bytes log told.
-    let cut = goes_map _ (Leaves (IsRepaired magic id c.args.head log.gated)) (repaired_cut magic id c.args.head log.gated) _ _
-    (c.cut_behind.ensures.passed (log_of magic id c.args.head log.gated) log.stands.behind log.place (log.size ∙ ap length log.stands.spelling) (told_as _ _ _ log.stands.spelling told)) in
-    let headless = (c.in_ok-cut_behind.ensures.done (log_of magic id c.args.head log.gated) log.stands.behind log.place (log.size ∙ ap length log.stands.spelling) (told_as _ _ _ log.stands.spelling told)) in
-    let head = goes_map _ (Leaves (IsRepaired magic id c.args.head log.gated)) (repaired_head magic id c.args.head log.gated) _ _
-    (c.open_wholly.ensures.passed [] ((identity magic id ++ all_gated log.gated) ++ 0 ∷ []) refl headless) in
-    let whole = (c.in_ok-open_wholly.ensures.done [] ((identity magic id ++ all_gated log.gated) ++ 0 ∷ []) refl headless) in
+pub returns-in-Some-clause-repaired : goal.returns-in-Some-clause-repaired
+returns-in-Some-clause-repaired g c = λ magic id bytes log known.
+    let P = IsRepaired magic id c.args.head log.gated in
+    let front = log_of magic id c.args.head log.gated in
+    let tail = (identity magic id ++ all_gated log.gated) ++ 0 ∷ [] in
     let last = rw c.in-Some.is at log.last_is in
-    let split = told_as _ _ _ (last_split magic id c.args.head log.gated c.in-Some.gate last) whole in
+    let cut = brings_cut magic id c.args.head c.args.scan.now.records.items c.args.scan.now.last c.args.scan.now.end c.args.len bytes log _ _ _
+    (c.in_ok-cut_rest.ensures.changes front log.has_log.rest log.place (log.size ∙ ap length log.has_log.spelling) (known_as _ _ _ log.has_log.spelling known)) in
+    let head = brings_on magic P _ _ _ _ _ _ _ cut
+    (brings_head magic id c.args.head c.args.scan.now.records.items c.args.scan.now.last c.args.scan.now.end c.args.len bytes log _ _ _ (c.in_ok-open_wholly.ensures.changes [] tail refl cut.done)) in
+    let split = known_as _ _ _ (last_split magic id c.args.head log.gated c.in-Some.gate last) head.done in
     let place = last_place magic id c.args.head log.gated c.in-Some.gate last log.magic_size in
-    goes_on (Leaves (IsRepaired magic id c.args.head log.gated)) _ _ _ (goes_on (Leaves (IsRepaired magic id c.args.head log.gated)) _ _ _ cut head)
-    (goes_map _ (Leaves (IsRepaired magic id c.args.head log.gated)) (repaired_last magic id c.args.head log.gated c.in-Some.gate last) _ _
-    (c.open_wholly-in-Some.ensures.passed (log_of magic id 1 last.0) (framed last.1 ++ 0 ∷ []) place split))
+    brings_on magic P _ _ _ _ _ _ _ head
+    (brings_last magic id c.args.head c.args.scan.now.records.items c.args.scan.now.last c.args.scan.now.end c.args.len bytes log c.in-Some.gate last _ _ _
+    (c.open_wholly-in-Some.ensures.changes (log_of magic id 1 last.0) (framed last.1 ++ 0 ∷ []) place split))
 
-pub returns-in-None-clause-passed : goal.returns-in-None-clause-passed
-returns-in-None-clause-passed g c = λ magic id bytes log told.
-    let cut = goes_map _ (Leaves (IsRepaired magic id c.args.head log.gated)) (repaired_cut magic id c.args.head log.gated) _ _
-    (c.cut_behind.ensures.passed (log_of magic id c.args.head log.gated) log.stands.behind log.place (log.size ∙ ap length log.stands.spelling) (told_as _ _ _ log.stands.spelling told)) in
-    let headless = (c.in_ok-cut_behind.ensures.done (log_of magic id c.args.head log.gated) log.stands.behind log.place (log.size ∙ ap length log.stands.spelling) (told_as _ _ _ log.stands.spelling told)) in
-    let head = goes_map _ (Leaves (IsRepaired magic id c.args.head log.gated)) (repaired_head magic id c.args.head log.gated) _ _
-    (c.open_wholly.ensures.passed [] ((identity magic id ++ all_gated log.gated) ++ 0 ∷ []) refl headless) in
-    goes_on (Leaves (IsRepaired magic id c.args.head log.gated)) _ _ _ cut head
-
-pub returns-in-Some-clause-done : goal.returns-in-Some-clause-done
-returns-in-Some-clause-done g c = λ magic id bytes read told.
-    let log = rw c.in-Some.is at read in
-    let headless = (c.in_ok-cut_behind.ensures.done (log_of magic id c.args.head log.gated) log.stands.behind log.place (log.size ∙ ap length log.stands.spelling) (told_as _ _ _ log.stands.spelling told)) in
-    let whole = (c.in_ok-open_wholly.ensures.done [] ((identity magic id ++ all_gated log.gated) ++ 0 ∷ []) refl headless) in
-    let split = told_as _ _ _ (last_split magic id c.args.head log.gated c.in-Some.gate log.last_is) whole in
-    let place = last_place magic id c.args.head log.gated c.in-Some.gate log.last_is log.magic_size in
-    on_ok_weaker _ (told_map _ (IsAtRest magic id c.args.scan.now.end c.args.scan.now.records.items) (rests_last magic id c.args.head c.args.scan.now.records.items c.args.scan.now.end c.args.len bytes c.in-Some.gate log) _)
-    (c.open_wholly-in-Some.ensures.done (log_of magic id 1 log.last_is.0) (framed log.last_is.1 ++ 0 ∷ []) place split)
-
-pub returns-in-None-clause-done : goal.returns-in-None-clause-done
-returns-in-None-clause-done g c = λ magic id bytes read told.
-    let log = rw c.in-None.is at read in
-    let headless = (c.in_ok-cut_behind.ensures.done (log_of magic id c.args.head log.gated) log.stands.behind log.place (log.size ∙ ap length log.stands.spelling) (told_as _ _ _ log.stands.spelling told)) in
-    let whole = (c.in_ok-open_wholly.ensures.done [] ((identity magic id ++ all_gated log.gated) ++ 0 ∷ []) refl headless) in
-    told_map _ (IsAtRest magic id c.args.scan.now.end c.args.scan.now.records.items) (rests_none magic id c.args.head c.args.scan.now.records.items c.args.scan.now.end c.args.len bytes log) _ whole
-
-pub returns-in_err-cut_behind-clause-lasts : goal.returns-in_err-cut_behind-clause-lasts
-returns-in_err-cut_behind-clause-lasts g c = λ magic id bytes log told other records.
-    c.cut_behind.ensures.lasts (log_of magic id c.args.head log.gated) log.stands.behind log.place (log.size ∙ ap length log.stands.spelling) (told_as _ _ _ log.stands.spelling told) magic other records
-    (spares_cut magic other id c.args.head records log.gated log.stands.behind log.stands.gates_open)
-
-pub returns-in_err-open_wholly-clause-lasts : goal.returns-in_err-open_wholly-clause-lasts
-returns-in_err-open_wholly-clause-lasts g c = λ magic id bytes log told other records.
-    let cut = c.cut_behind.ensures.lasts (log_of magic id c.args.head log.gated) log.stands.behind log.place (log.size ∙ ap length log.stands.spelling) (told_as _ _ _ log.stands.spelling told) magic other records
-    (spares_cut magic other id c.args.head records log.gated log.stands.behind log.stands.gates_open) in
-    let headless = c.in_ok-cut_behind.ensures.done (log_of magic id c.args.head log.gated) log.stands.behind log.place (log.size ∙ ap length log.stands.spelling) (told_as _ _ _ log.stands.spelling told) in
-    let head = c.open_wholly.ensures.lasts [] ((identity magic id ++ all_gated log.gated) ++ 0 ∷ []) refl headless magic other records (spares_head magic other c.args.head records ((identity magic id ++ all_gated log.gated) ++ 0 ∷ [])) in
-    lasts_on (Leaves (HasAcknowledged magic other records)) _ _ _ cut head
-
-pub returns-in-Some-clause-lasts : goal.returns-in-Some-clause-lasts
-returns-in-Some-clause-lasts g c = λ magic id bytes read told other records.
-    let log = rw c.in-Some.is at read in
-    let cut = c.cut_behind.ensures.lasts (log_of magic id c.args.head log.gated) log.stands.behind log.place (log.size ∙ ap length log.stands.spelling) (told_as _ _ _ log.stands.spelling told) magic other records
-    (spares_cut magic other id c.args.head records log.gated log.stands.behind log.stands.gates_open) in
-    let headless = c.in_ok-cut_behind.ensures.done (log_of magic id c.args.head log.gated) log.stands.behind log.place (log.size ∙ ap length log.stands.spelling) (told_as _ _ _ log.stands.spelling told) in
-    let head = c.open_wholly.ensures.lasts [] ((identity magic id ++ all_gated log.gated) ++ 0 ∷ []) refl headless magic other records (spares_head magic other c.args.head records ((identity magic id ++ all_gated log.gated) ++ 0 ∷ [])) in
-    let whole = c.in_ok-open_wholly.ensures.done [] ((identity magic id ++ all_gated log.gated) ++ 0 ∷ []) refl headless in
-    let last = log.last_is in
-    let split = told_as _ _ _ (last_split magic id c.args.head log.gated c.in-Some.gate last) whole in
-    let place = last_place magic id c.args.head log.gated c.in-Some.gate last log.magic_size in
-    let each = subst (λ (gs : List Gated). Each IsOpen gs) last.2 log.stands.gates_open in
-    lasts_on (Leaves (HasAcknowledged magic other records)) _ _ _ (lasts_on (Leaves (HasAcknowledged magic other records)) _ _ _ cut head)
-    (c.open_wholly-in-Some.ensures.lasts (log_of magic id 1 last.0) (framed last.1 ++ 0 ∷ []) place split magic other records (spares_last magic other id records last.0 c.in-Some.gate.byte last.1 each))
-
-pub returns-in-None-clause-lasts : goal.returns-in-None-clause-lasts
-returns-in-None-clause-lasts g c = λ magic id bytes log told other records.
-    let cut = c.cut_behind.ensures.lasts (log_of magic id c.args.head log.gated) log.stands.behind log.place (log.size ∙ ap length log.stands.spelling) (told_as _ _ _ log.stands.spelling told) magic other records
-    (spares_cut magic other id c.args.head records log.gated log.stands.behind log.stands.gates_open) in
-    let headless = c.in_ok-cut_behind.ensures.done (log_of magic id c.args.head log.gated) log.stands.behind log.place (log.size ∙ ap length log.stands.spelling) (told_as _ _ _ log.stands.spelling told) in
-    let head = c.open_wholly.ensures.lasts [] ((identity magic id ++ all_gated log.gated) ++ 0 ∷ []) refl headless magic other records (spares_head magic other c.args.head records ((identity magic id ++ all_gated log.gated) ++ 0 ∷ [])) in
-    lasts_on (Leaves (HasAcknowledged magic other records)) _ _ _ cut head
+pub returns-in-None-clause-repaired : goal.returns-in-None-clause-repaired
+returns-in-None-clause-repaired g c = λ magic id bytes log known.
+    let P = IsRepaired magic id c.args.head log.gated in
+    let front = log_of magic id c.args.head log.gated in
+    let tail = (identity magic id ++ all_gated log.gated) ++ 0 ∷ [] in
+    let none = rw c.in-None.is at log.last_is in
+    let cut = brings_cut magic id c.args.head c.args.scan.now.records.items c.args.scan.now.last c.args.scan.now.end c.args.len bytes log _ _ _
+    (c.in_ok-cut_rest.ensures.changes front log.has_log.rest log.place (log.size ∙ ap length log.has_log.spelling) (known_as _ _ _ log.has_log.spelling known)) in
+    let head = brings_on magic P _ _ _ _ _ _ _ cut
+    (brings_head magic id c.args.head c.args.scan.now.records.items c.args.scan.now.last c.args.scan.now.end c.args.len bytes log _ _ _ (c.in_ok-open_wholly.ensures.changes [] tail refl cut.done)) in
+    brings_none magic id c.args.head c.args.scan.now.records.items c.args.scan.now.last c.args.scan.now.end c.args.len bytes log _ _ none _ _ head

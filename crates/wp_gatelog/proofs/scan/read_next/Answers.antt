@@ -4,7 +4,7 @@ use Rattle.wp_outside.specs.Disk.{Moment, IsRead}
 use Rattle.wp_gatelog.specs.declared.scan.Next.TheVariants as next
 use Rattle.wp_gatelog.specs.declared.scan.Start.TheVariants as start
 use Rattle.wp_gatelog.specs.Scanning.{IsNext}
-use Rattle.wp_gatelog.proofs.MomentLemmas.{told_map, told_both}
+use Rattle.wp_gatelog.proofs.MomentLemmas.{known_map, known_both}
 use Rattle.wp_gatelog.proofs.ScanLemmas.{start_read, next_closed, next_cut, next_open}
 use Rattle.wp_gatelog.proofs.scan.read_next.Goals as goal
 
@@ -12,14 +12,14 @@ pub returns-in-Closed-clause-found : goal.returns-in-Closed-clause-found
 returns-in-Closed-clause-found g c =
     let P : Moment → Type 0 = λ m. IsRead m.reads c.args.at c.read_at.new.buf c.in_ok-read.read in
     let Q : Moment → Type 0 = λ m. c.args.len ≡ length m.reads → IsNext (drop c.args.at m.reads) next.Closed in
-    told_map P Q (λ m read len_is. next_closed (drop c.args.at m.reads) (omega (arith, length-drop c.args.at m.reads))
+    known_map P Q (λ m read len_is. next_closed (drop c.args.at m.reads) (omega (arith, length-drop c.args.at m.reads))
     (start_read m.reads c.read_at.new.buf c.args.at c.in_ok-read.read start.Closed (search rules) c.in-Closed.ensures read)) _ c.in_ok-read.ensures.bytes
 
 pub returns-then-saturating_sub-record_len-clause-found : goal.returns-then-saturating_sub-record_len-clause-found
 returns-then-saturating_sub-record_len-clause-found g c =
     let P : Moment → Type 0 = λ m. IsRead m.reads c.args.at c.read_at.new.buf c.in_ok-read.read in
     let Q : Moment → Type 0 = λ m. c.args.len ≡ length m.reads → IsNext (drop c.args.at m.reads) next.Cut in
-    told_map P Q (λ m read len_is. next_cut (drop c.args.at m.reads) c.in-Open.gate c.in-Open.record_len (omega (arith, length-drop c.args.at m.reads))
+    known_map P Q (λ m read len_is. next_cut (drop c.args.at m.reads) c.in-Open.gate c.in-Open.record_len (omega (arith, length-drop c.args.at m.reads))
     (start_read m.reads c.read_at.new.buf c.args.at c.in_ok-read.read (start.Open c.in-Open.gate c.in-Open.record_len) (search rules) c.in-Open.ensures read)) _ c.in_ok-read.ensures.bytes
 
 pub returns-in-Some-clause-found : goal.returns-in-Some-clause-found
@@ -29,7 +29,7 @@ returns-in-Some-clause-found g c =
     let R : Moment → Type 0 = λ m. c.args.len ≡ length m.reads → IsNext (drop c.args.at m.reads) (next.Open c.in-Open.gate c.of.result) in
     let size : c.saturating_sub.result ≡ c.args.len - c.args.at - 9 = search rules in
     let found = rw (c.in-Some.is, c.in_ok-read.ensures.kept) at c.in_ok-bytes-in-Open.ensures.found in
-    told_both P Q R (λ m read bytes_is len_is.
+    known_both P Q R (λ m read bytes_is len_is.
     let room : c.in-Open.record_len < length (drop c.args.at m.reads) - 9 = omega (arith, length-drop c.args.at m.reads) in
     next_open (drop c.args.at m.reads) c.in-Open.gate c.in-Open.record_len c.of.result room
     (start_read m.reads c.read_at.new.buf c.args.at c.in_ok-read.read (start.Open c.in-Open.gate c.in-Open.record_len) (search rules) c.in-Open.ensures read)

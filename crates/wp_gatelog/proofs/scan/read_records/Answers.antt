@@ -2,7 +2,7 @@ use Rattle.std.proofs.Common.{◌≡◌, ◌∙◌, ◌+◌, ◌++◌, ◌∷◌
 use Rattle.wp_outside.specs.Disk.{Moment, IfKnown}
 use Rattle.wp_gatelog.specs.declared.scan.Next.TheVariants as next
 use Rattle.wp_gatelog.specs.Scanning.{IsNext, HasRead}
-use Rattle.wp_gatelog.proofs.MomentLemmas.{told_both}
+use Rattle.wp_gatelog.proofs.MomentLemmas.{known_both}
 use Rattle.wp_gatelog.proofs.ScanLemmas.{read_more}
 use Rattle.wp_gatelog.proofs.scan.read_records.Goals as goal
 
@@ -14,7 +14,7 @@ gates-preserved g c =
     let P : Moment → Type 0 = λ m. c.args.len ≡ length m.reads → HasRead (drop 10 m.reads) (drop c.gates.end m.reads) c.gates.records.items c.gates.last c.gates.end in
     let Q : Moment → Type 0 = λ m. c.args.len ≡ length m.reads → IsNext (drop c.gates.end m.reads) (next.Open c.in-Open.gate c.in-Open.record) in
     let R : Moment → Type 0 = λ m. c.args.len ≡ length m.reads → HasRead (drop 10 m.reads) (drop (c.gates.end + (9 + length c.in-Open.record)) m.reads) (c.gates.records.items ++ c.in-Open.record ∷ []) (Some (record { at = c.gates.end; byte = c.in-Open.gate })) (c.gates.end + (9 + length c.in-Open.record)) in
-    let read : IfKnown (g.D.Disk.moments c.args.disk.now) R = told_both P Q R (λ m h n len_is. read_more m.reads c.gates.records.items c.gates.last c.gates.end c.in-Open.gate c.in-Open.record (h len_is) (n len_is)) _ c.gates.invariant.read found in
+    let read : IfKnown (g.D.Disk.moments c.args.disk.now) R = known_both P Q R (λ m h n len_is. read_more m.reads c.gates.records.items c.gates.last c.gates.end c.in-Open.gate c.in-Open.record (h len_is) (n len_is)) _ c.gates.invariant.read found in
     record {
       kept = c.in_ok-read_next.ensures.kept ∙ c.gates.invariant.kept;
       later = omega arith;

@@ -15,4 +15,4 @@ returns-in-Err-clause-serves g c =
     serves_refused refused.why c.status_of-status.result _ c.status_of-status.ensures c.in-Err.ensures.cause c.in-Err.ensures.survives c.in-Err.ensures.left
 
 pub returns-in-Ok-clause-durable : goal.returns-in-Ok-clause-durable
-returns-in-Ok-clause-durable g c = durable_trans _ _ _ c.in-Ok.ensures.lasts (rw c.new.ensures at c.finish.ensures.durable)
+returns-in-Ok-clause-durable g c = durable_trans _ _ _ c.in-Ok.ensures.durable (rw c.new.ensures at c.finish.ensures.durable)

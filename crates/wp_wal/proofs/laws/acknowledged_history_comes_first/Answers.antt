@@ -4,6 +4,6 @@ use Rattle.wp_wal.proofs.EntriesLemmas.{AreEntries-first}
 use Rattle.wp_wal.proofs.laws.acknowledged_history_comes_first.Goals as goal
 
 pub returns : goal.returns
-returns c = λ id other history longer bytes holds spells.
-    let more = c.acknowledged_records_come_first.ensures.first bytes MAGIC id other holds.0 spells.0 holds.1 spells.1 in
-    AreEntries-first c.spellings_differ.ensures 1 holds.0 more.0 history longer holds.2 (subst (λ (all : List (List ℕ)). AreEntries 1 all longer) more.1 spells.2)
+returns c = λ id other history longer bytes has spells.
+    let more = c.acknowledged_records_come_first.ensures.first bytes MAGIC id other has.0 spells.0 has.1 spells.1 in
+    AreEntries-first c.spellings_differ.ensures 1 has.0 more.0 history longer has.2 (subst (λ (all : List (List ℕ)). AreEntries 1 all longer) more.1 spells.2)

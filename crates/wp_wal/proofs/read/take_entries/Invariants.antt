@@ -4,6 +4,6 @@ use Rattle.wp_wal.proofs.read.take_entries.Given as goal
 abbrev pub invariant-loop-entry : goal.invariant-loop-entry
 invariant-loop-entry l = record {
   parts : l.fn.entries.items ≡ l.yielded ++ l.entry-iterator.rest.items;
-  behind : l.history.entries ≡ l.fn.history.entries ++ l.yielded;
+  following : l.history.entries ≡ l.fn.history.entries ++ l.yielded;
   room : length l.entry-iterator.rest.items ≤ l.history.room;
 }

@@ -1,54 +1,47 @@
-use Rattle.std.proofs.Common.{inl, ◌+◌, ◌∷◌, [], ◌++◌, length, arith}
-use Rattle.wp_gatelog.proofs.AppendLemmas.{append_rests, fits_frame}
-use Rattle.wp_gatelog.proofs.HoldsLemmas.{append_lasts, append_holds}
-use Rattle.wp_gatelog.proofs.SurvivalLemmas.{append_passes, left_before_or_after, rest_spells}
+use Rattle.std.proofs.Common.{inl, ◌+◌, ◌∷◌, [], ◌++◌, length}
+use Rattle.wp_gatelog.proofs.AcknowledgedLemmas.{acknowledged_passes}
+use Rattle.wp_gatelog.proofs.SurvivalLemmas.{goes_passes, left_before_or_after, rest_spells}
 use Rattle.wp_gatelog.proofs.log.GateLog.append.Goals as goal
 
 pub returns-in-Ok-clause-any_moment : goal.returns-in-Ok-clause-any_moment
 returns-in-Ok-clause-any_moment g c = rw (← c.self.view_is) (λ magic records bytes is rest.
-    append_passes magic c.self.inside.id c.self.inside.end records bytes _ _ (λ front. c.append_frame.ensures.passed front bytes is) rest)
-
-pub returns-in-Ok-clause-left : goal.returns-in-Ok-clause-left
-returns-in-Ok-clause-left g c = rw (← c.self.view_is) (λ magic records bytes is rest.
-    left_before_or_after magic c.self.inside.id c.self.inside.end records bytes _ _ rest (append_passes magic c.self.inside.id c.self.inside.end records bytes _ _ (λ front. c.append_frame.ensures.passed front bytes is) rest))
+    goes_passes _ _ _ (c.append_frame.ensures.appended magic c.self.inside.id records bytes is rest).passed)
 
 pub returns-in-Err-clause-any_moment : goal.returns-in-Err-clause-any_moment
 returns-in-Err-clause-any_moment g c = rw (← c.self.view_is) (λ magic records bytes is rest.
-    append_passes magic c.self.inside.id c.self.inside.end records bytes _ _ (λ front. c.append_frame.ensures.passed front bytes is) rest)
+    goes_passes _ _ _ (c.append_frame.ensures.appended magic c.self.inside.id records bytes is rest).passed)
+
+pub returns-in-Ok-clause-left : goal.returns-in-Ok-clause-left
+returns-in-Ok-clause-left g c = rw (← c.self.view_is) (λ magic records bytes is rest.
+    left_before_or_after magic c.self.inside.id c.self.inside.end records bytes _ _ rest (goes_passes _ _ _ (c.append_frame.ensures.appended magic c.self.inside.id records bytes is rest).passed))
 
 pub returns-in-Err-clause-left : goal.returns-in-Err-clause-left
 returns-in-Err-clause-left g c = rw (← c.self.view_is) (λ magic records bytes is rest.
-    left_before_or_after magic c.self.inside.id c.self.inside.end records bytes _ _ rest (append_passes magic c.self.inside.id c.self.inside.end records bytes _ _ (λ front. c.append_frame.ensures.passed front bytes is) rest))
-
-pub returns-in-Ok-clause-rests : goal.returns-in-Ok-clause-rests
-returns-in-Ok-clause-rests g c = rw (← c.self.view_is) (λ magic records bytes is rest.
-    let fits = fits_frame c.args.frame.now bytes is (omega (arith, c.in-Ok.ensures.bounded)) in
-    append_rests magic c.self.inside.id c.self.inside.end records bytes c.args.frame.now is fits _ _ (λ front. c.append_frame.ensures.passed front bytes is) (λ front. c.in-Ok.ensures.done front bytes is) rest)
-
-pub returns-in-Ok-clause-spelled : goal.returns-in-Ok-clause-spelled
-returns-in-Ok-clause-spelled g c = rw (← c.self.view_is) (λ magic records bytes is rest.
-    let fits = fits_frame c.args.frame.now bytes is (omega (arith, c.in-Ok.ensures.bounded)) in
-    rest_spells magic c.self.inside.id (c.self.inside.end + length c.args.frame.now) (records ++ bytes ∷ []) _ (append_rests magic c.self.inside.id c.self.inside.end records bytes c.args.frame.now is fits _ _ (λ front. c.append_frame.ensures.passed front bytes is) (λ front. c.in-Ok.ensures.done front bytes is) rest))
+    left_before_or_after magic c.self.inside.id c.self.inside.end records bytes _ _ rest (goes_passes _ _ _ (c.append_frame.ensures.appended magic c.self.inside.id records bytes is rest).passed))
 
 pub returns-then-self-clause-left : goal.returns-then-self-clause-left
 returns-then-self-clause-left g c = λ magic records bytes is rest image h. inl (rest_spells magic _ _ records _ rest image h)
 
-pub returns-in-Ok-clause-lasts : goal.returns-in-Ok-clause-lasts
-returns-in-Ok-clause-lasts g c = rw (← c.self.view_is) (λ magic id records others rest.
-    append_lasts magic id c.self.inside.id c.self.inside.end records others c.requires.0 _ _ (λ front. c.append_frame.ensures.passed front c.requires.0 c.requires.1) (rest c.if-self.false)
-    (λ gated each ends told. c.append_frame.ensures.lasts magic c.self.inside.id gated each ends told id records))
+pub returns-in-Ok-clause-rests : goal.returns-in-Ok-clause-rests
+returns-in-Ok-clause-rests g c = rw (← c.self.view_is) (λ magic records bytes is rest.
+    (c.in-Ok.ensures.appended magic c.self.inside.id records bytes is rest).done)
 
-pub returns-in-Ok-clause-holds : goal.returns-in-Ok-clause-holds
-returns-in-Ok-clause-holds g c = rw (← c.self.view_is) (λ magic records rest.
-    append_holds magic c.self.inside.id c.self.inside.end records c.requires.0 _ _ (λ front. c.append_frame.ensures.passed front c.requires.0 c.requires.1) rest
-    (λ gated each ends told. c.append_frame.ensures.lasts magic c.self.inside.id gated each ends told c.self.inside.id records))
+pub returns-in-Ok-clause-spelled : goal.returns-in-Ok-clause-spelled
+returns-in-Ok-clause-spelled g c = rw (← c.self.view_is) (λ magic records bytes is rest.
+    rest_spells magic c.self.inside.id (c.self.inside.end + length c.args.frame.now) (records ++ bytes ∷ []) _ ((c.in-Ok.ensures.appended magic c.self.inside.id records bytes is rest).done))
 
-pub returns-in-Err-clause-lasts : goal.returns-in-Err-clause-lasts
-returns-in-Err-clause-lasts g c = rw (← c.self.view_is) (λ magic id records others rest.
-    append_lasts magic id c.self.inside.id c.self.inside.end records others c.requires.0 _ _ (λ front. c.append_frame.ensures.passed front c.requires.0 c.requires.1) (rest c.if-self.false)
-    (λ gated each ends told. c.append_frame.ensures.lasts magic c.self.inside.id gated each ends told id records))
+pub returns-in-Ok-clause-durable : goal.returns-in-Ok-clause-durable
+returns-in-Ok-clause-durable g c = rw (← c.self.view_is) (λ magic records rest.
+    (c.append_frame.ensures.appended magic c.self.inside.id records c.requires.0 c.requires.1 (rest c.if-self.false)).durable)
 
-pub returns-in-Err-clause-holds : goal.returns-in-Err-clause-holds
-returns-in-Err-clause-holds g c = rw (← c.self.view_is) (λ magic records rest.
-    append_holds magic c.self.inside.id c.self.inside.end records c.requires.0 _ _ (λ front. c.append_frame.ensures.passed front c.requires.0 c.requires.1) rest
-    (λ gated each ends told. c.append_frame.ensures.lasts magic c.self.inside.id gated each ends told c.self.inside.id records))
+pub returns-in-Err-clause-durable : goal.returns-in-Err-clause-durable
+returns-in-Err-clause-durable g c = rw (← c.self.view_is) (λ magic records rest.
+    (c.append_frame.ensures.appended magic c.self.inside.id records c.requires.0 c.requires.1 (rest c.if-self.false)).durable)
+
+pub returns-in-Ok-clause-acknowledged : goal.returns-in-Ok-clause-acknowledged
+returns-in-Ok-clause-acknowledged g c = rw (← c.self.view_is) (λ magic records rest.
+    acknowledged_passes magic c.self.inside.id c.self.inside.end records _ _ rest (c.append_frame.ensures.appended magic c.self.inside.id records c.requires.0 c.requires.1 rest).durable)
+
+pub returns-in-Err-clause-acknowledged : goal.returns-in-Err-clause-acknowledged
+returns-in-Err-clause-acknowledged g c = rw (← c.self.view_is) (λ magic records rest.
+    acknowledged_passes magic c.self.inside.id c.self.inside.end records _ _ rest (c.append_frame.ensures.appended magic c.self.inside.id records c.requires.0 c.requires.1 rest).durable)

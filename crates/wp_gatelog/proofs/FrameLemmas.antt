@@ -1,0 +1,41 @@
+-- A frame is appended, call by call.
+use Rattle.std.proofs.Common.{◌≡◌, ℕ, ◌+◌, ◌<◌, ◌^◌, List, [], ◌∷◌, ◌++◌, length, Result, sym, ◌∙◌, ap, subst, arith}
+use Rattle.wp_outside.specs.Disk.{Moment, IsImage, synced, after_write, IfKnown}
+use Rattle.wp_gatelog.specs.Changes.{Steps, BringsTo}
+use Rattle.wp_gatelog.specs.Log.{BeforeOrAfter, IsAtRest}
+use Rattle.wp_gatelog.specs.Moments.{Goes, IsSynced}
+use Rattle.wp_gatelog.specs.Spelling.{frame_of, log_of}
+use Rattle.wp_gatelog.proofs.AcknowledgedLemmas.{spares_frame, spares_gate}
+use Rattle.wp_gatelog.proofs.AppendLemmas.{grows_staged, reads_staged, grows_opened, at_rest_more}
+use Rattle.wp_gatelog.proofs.ChangeLemmas.{brings_of}
+use Rattle.wp_gatelog.proofs.MomentLemmas.{put_gate}
+use Rattle.wp_gatelog.proofs.SurvivalLemmas.{before_or_after}
+
+module _ {T E : Type 0} (magic : List ℕ) (id end : ℕ) (records : List (List ℕ)) (frame bytes : List ℕ) (is : frame ≡ frame_of bytes) (m : Moment) (rest : IsAtRest magic id end records m) where
+  -- the frame is written after the closed gate
+  pub brings_frame : (old new : List Moment) (result : Result T E) → Steps (after_write (end + 1) frame) (log_of magic id 1 rest.gated ++ 0 ∷ []) old new result
+      → BringsTo magic (BeforeOrAfter magic id records bytes) (λ m. m ≡ synced (log_of magic id 1 rest.gated ++ 0 ∷ frame_of bytes)) old new result
+  brings_frame old new result steps =
+      let front : List ℕ = log_of magic id 1 rest.gated in
+      let place : end + 1 ≡ length front + 1 = omega (arith, rest.place) in
+      let stepped : Moment = after_write (end + 1) frame (synced (front ++ 0 ∷ [])) in
+      brings_of magic (IsImage stepped) (BeforeOrAfter magic id records bytes) (λ n. n ≡ synced (front ++ 0 ∷ frame_of bytes)) (front ++ 0 ∷ []) stepped.reads old new result
+      (λ other others. spares_frame magic other id others rest.gated (end + 1) frame rest.acknowledged.gates_open place)
+      (λ image h. before_or_after magic id records bytes rest.gated rest.acknowledged image (grows_staged front frame bytes (end + 1) place image h))
+      (λ n on. on ∙ ap synced (reads_staged front frame (end + 1) place ∙ ap (λ (l : List ℕ). front ++ 0 ∷ l) is)) steps
+
+  -- that gate is opened
+  pub brings_gate : length bytes < 2 ^ 64 → (old new : List Moment) (result : Result T E) → Steps (after_write end (1 ∷ [])) (log_of magic id 1 rest.gated ++ 0 ∷ frame_of bytes) old new result
+      → BringsTo magic (BeforeOrAfter magic id records bytes) (IsAtRest magic id (end + length frame) (records ++ bytes ∷ [])) old new result
+  brings_gate fits old new result steps =
+      let front : List ℕ = log_of magic id 1 rest.gated in
+      let stepped : Moment = after_write end (1 ∷ []) (synced (front ++ 0 ∷ frame_of bytes)) in
+      brings_of magic (IsImage stepped) (BeforeOrAfter magic id records bytes) (IsAtRest magic id (end + length frame) (records ++ bytes ∷ [])) (front ++ 0 ∷ frame_of bytes) stepped.reads old new result
+      (λ other others. spares_gate magic other id others rest.gated end (frame_of bytes) rest.acknowledged.gates_open rest.place)
+      (λ image h. before_or_after magic id records bytes rest.gated rest.acknowledged image (grows_opened front bytes end 0 rest.place fits image h))
+      (λ n on. at_rest_more magic id end records frame bytes is fits rest.gated rest.acknowledged rest.place n (on ∙ ap synced (put_gate front 0 (frame_of bytes) end rest.place))) steps
+
+-- where the log's disk is known, it has just the log, synced
+pub rest_synced : (magic : List ℕ) (id end : ℕ) (records : List (List ℕ)) (m : Moment) (past old : List Moment) → old ≡ m ∷ past → (rest : IsAtRest magic id end records m) → IsSynced (log_of magic id 1 rest.gated ++ 0 ∷ []) old
+rest_synced magic id end records m past old is rest =
+    subst (IsSynced (log_of magic id 1 rest.gated ++ 0 ∷ [])) (sym is) rest.on_disk

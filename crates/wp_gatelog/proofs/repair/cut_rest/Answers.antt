@@ -1,0 +1,15 @@
+use Rattle.std.proofs.Common.{◌+◌, ◌∷◌, [], ◌++◌, length, arith, length-append}
+use Rattle.wp_outside.specs.Disk.{IsImage, synced, after_cut}
+use Rattle.wp_gatelog.specs.Repair.{HasFront}
+use Rattle.wp_gatelog.proofs.ChangeLemmas.{unchanged, changes_map}
+use Rattle.wp_gatelog.proofs.RepairLemmas.{nothing_follows, has_front_cut, taken_cut}
+use Rattle.wp_gatelog.proofs.repair.cut_rest.Goals as goal
+
+pub returns-then-len-end-eq1-clause-changes : goal.returns-then-len-end-eq1-clause-changes
+returns-then-len-end-eq1-clause-changes g c = λ front following ends size known.
+    unchanged _ (HasFront front) (front ++ 0 ∷ following) (front ++ 0 ∷ []) _ (nothing_follows front following (omega (arith, ends, size))) known
+
+pub returns-clause-changes : goal.returns-clause-changes
+returns-clause-changes g c = λ front following ends size known.
+    let m = after_cut (c.args.end + 1) (synced (front ++ 0 ∷ following)) in
+    changes_map (IsImage m) (HasFront front) (front ++ 0 ∷ following) m.reads (front ++ 0 ∷ []) _ _ _ (has_front_cut front following c.args.end ends) (taken_cut front following c.args.end ends) (c.cut_synced.ensures.changes (front ++ 0 ∷ following) known)
