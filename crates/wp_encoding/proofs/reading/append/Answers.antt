@@ -2,8 +2,8 @@ use Rattle.std.proofs.Common.{◌∙◌, leb, length}
 use Rattle.std.proofs.lemmas.Bool.{and_parts}
 use Rattle.wp_model.specs.Batch.{are_ascending}
 use Rattle.wp_model.specs.declared.batch.TheConstants.{MOST_KEYS}
-use Rattle.wp_entry.proofs.Order.{with_change-last}
-use Rattle.wp_entry.proofs.reading.append.Goals as goal
+use Rattle.wp_encoding.proofs.Order.{with_change-last}
+use Rattle.wp_encoding.proofs.reading.append.Goals as goal
 
 pub returns-in-Ok-clause-appended : goal.returns-in-Ok-clause-appended
 returns-in-Ok-clause-appended c =

@@ -1,7 +1,7 @@
 use Rattle.std.proofs.Common.{◌≡◌, true, take, ◌∷◌, ◌++◌, length}
 use Rattle.std.specs.List.{flat_map, list_all}
-use Rattle.wp_entry.specs.Record.{change_bytes, is_change}
-use Rattle.wp_entry.proofs.writing.push_batch.Given as goal
+use Rattle.wp_encoding.specs.Encoding.{change_bytes, is_change}
+use Rattle.wp_encoding.proofs.writing.push_batch.Given as goal
 
 abbrev pub invariant-loop-change : goal.invariant-loop-change
 invariant-loop-change l = record {

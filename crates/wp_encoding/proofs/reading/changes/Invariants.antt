@@ -1,7 +1,7 @@
 use Rattle.std.proofs.Common.{◌≡◌, ◌-◌, true, length, []}
 use Rattle.wp_model.specs.Batch.{is_batch}
-use Rattle.wp_entry.specs.Reading.{changes_at}
-use Rattle.wp_entry.proofs.reading.changes.Given as goal
+use Rattle.wp_encoding.specs.Reading.{changes_at}
+use Rattle.wp_encoding.proofs.reading.changes.Given as goal
 
 abbrev pub invariant-loop : goal.invariant-loop
 invariant-loop l = record {

@@ -1,4 +1,4 @@
--- A change to a key above all others stands last.
+-- A change to a key above all others comes last.
 use Rattle.std.proofs.Common.{◌≡◌, ℕ, suc, ◌-◌, ◌≤◌, true, List, [], ◌∷◌, ◌++◌, length, get_or, refl, sym, ap, ◌∙◌, arith}
 use Rattle.std.specs.declared.cmp.Ordering.{Ordering}
 use Rattle.std.specs.declared.cmp.Ordering.TheVariants.{Less, Equal, Greater}
@@ -7,7 +7,7 @@ use Rattle.std.proofs.lemmas.Bool.{and_parts, and_from}
 use Rattle.std.proofs.lemmas.Cmp.{nat_list_cmp_total}
 use Rattle.wp_model.specs.declared.change.Change.{Change}
 use Rattle.wp_model.specs.Batch.{key_cmp, key_of, with_change, are_ascending}
-use Rattle.wp_entry.specs.Reading.{is_above_last}
+use Rattle.wp_encoding.specs.Reading.{is_above_last}
 
 less_from_test : (o : Ordering) → is_lt o ≡ true → o ≡ Less
 less_from_test Less h = refl
@@ -17,7 +17,7 @@ less_from_test Greater h = absurd cc
 above_from_below : (a b : List ℕ) → key_cmp a b ≡ Less → key_cmp b a ≡ Greater
 above_from_below a b e = nat_list_cmp_total.antisymm b a ∙ ap ordering_reverse e
 
--- the first two, and those behind the first
+-- the first two, and those after the first
 first_parts : (first second : Change) (others : List Change) → are_ascending (first ∷ second ∷ others) ≡ true → (key_cmp (key_of first) (key_of second) ≡ Less) × (are_ascending (second ∷ others) ≡ true)
 first_parts first second others h =
     let parts = and_parts (is_lt (key_cmp (key_of first) (key_of second))) (are_ascending (second ∷ others)) h in
