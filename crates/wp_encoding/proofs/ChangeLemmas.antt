@@ -1,5 +1,5 @@
 -- Changes and batches: what is read is spelled so, what is spelled so is read, and what is refused has the fault.
-use Rattle.std.proofs.Common.{◌≡◌, ℕ, zero, suc, ◌<◌, ◌≤◌, Bool, true, false, cond, ltb, leb, ◌&&◌, List, [], ◌∷◌, ◌++◌, length, Result, Ok, Err, refl, sym, ap, subst, ◌∙◌, append_assoc, arith, inl, inr, ◌⊎◌}
+use Rattle.std.proofs.Common.{◌≡◌, ℕ, zero, suc, ◌<◌, true, false, cond, ltb, leb, List, [], ◌∷◌, ◌++◌, length, Result, Ok, Err, refl, sym, ap, subst, ◌∙◌, append_assoc, arith, inl, inr}
 use Rattle.std.specs.List.{flat_map, list_all}
 use Rattle.std.proofs.lemmas.Bool.{ltb-true, ltb-false, lt-ltb, le-ltb, leb-true, le-leb, and_parts, and_from}
 use Rattle.std.proofs.lemmas.List.{append-nil}
@@ -9,13 +9,13 @@ use Rattle.wp_model.specs.declared.change.Change.TheVariants.{Put, Del}
 use Rattle.wp_model.specs.Word.{is_word}
 use Rattle.wp_model.specs.Batch.{key_of, are_ascending, is_batch}
 use Rattle.wp_fields.specs.Reading.{◌>>=◌, byte_at}
-use Rattle.wp_fields.proofs.Results.{bind_ok, bind_err, chosen, done, ok_is, err_is, ok_or_err}
+use Rattle.wp_fields.proofs.Results.{bind_ok, bind_err, chosen, ok_is, err_is, ok_or_err}
 use Rattle.wp_fields.proofs.FieldLemmas.{AreBytes, Begins, Begins-then, Begins-byte, refusal_missed, test_met, byte_takes}
 use Rattle.wp_encoding.specs.declared.error.EncodingError.{EncodingError}
-use Rattle.wp_encoding.specs.declared.error.EncodingError.TheVariants.{Short, Kind, Word}
+use Rattle.wp_encoding.specs.declared.error.EncodingError.TheVariants.{Memory, Short, Kind, Word}
 use Rattle.wp_encoding.specs.Encoding.{word_bytes, value_bytes, change_bytes, batch_bytes, is_change, are_changes}
 use Rattle.wp_encoding.specs.Reading.{word_at, value_at, is_above_last, next_key_at, next_change_at, changes_at, batch_at}
-use Rattle.wp_encoding.specs.Faults.{HasKey, IsKeyFault, IsChangeFault, IsNextFault, IsBatchFault}
+use Rattle.wp_encoding.specs.Faults.{IsWordFault, IsValueFault, IsKeyFault, IsChangeFault, IsBatchFault}
 use Rattle.wp_encoding.proofs.Order.{ascending_push, above_from_ascending}
 use Rattle.wp_encoding.proofs.WordLemmas.{word_takes, word_again, word_fails, word_refused, value_takes, value_again, value_fails, value_refused}
 
@@ -270,3 +270,29 @@ batch_refused (count ∷ bytes) fault (inr (few, next)) =
     let parts = and_parts (is_batch next.changes) (list_all is_change next.changes) next.right in
     let shape = and_parts (leb (length next.changes) MOST_KEYS) (are_ascending next.changes) parts.0 in
     rw (le-ltb _ _ few) (ap (changes_at count []) next.parts ∙ changes_refused next.changes [] count next.rest fault shape.1 parts.1 next.fewer next.wrong)
+
+-- ---- want of memory is no fault of the bytes
+
+pub no_memory_in_word : (most : ℕ) (bytes : List ℕ) → IsWordFault most bytes Memory → ⊥
+no_memory_in_word most [] is = cc
+no_memory_in_word most (len ∷ bytes) is = is
+
+no_memory_in_value : (bytes : List ℕ) → IsValueFault bytes Memory → ⊥
+no_memory_in_value bytes (inl short) = cc
+no_memory_in_value bytes (inr is) = is.wrong
+
+no_memory_in_key : (batch : List Change) (bytes : List ℕ) → IsKeyFault batch bytes Memory → ⊥
+no_memory_in_key batch bytes (inl wrong) = no_memory_in_word 64 bytes wrong
+no_memory_in_key batch bytes (inr (key, rest, has, below, is)) = cc
+
+no_memory_in_change : (batch : List Change) (bytes : List ℕ) → IsChangeFault batch bytes Memory → ⊥
+no_memory_in_change batch [] is = cc
+no_memory_in_change batch (zero ∷ bytes) wrong = no_memory_in_key batch bytes wrong
+no_memory_in_change batch (suc zero ∷ bytes) (inl wrong) = no_memory_in_key batch bytes wrong
+no_memory_in_change batch (suc zero ∷ bytes) (inr (key, rest, has, above, wrong)) = no_memory_in_value rest wrong
+no_memory_in_change batch (suc (suc n) ∷ bytes) is = cc
+
+pub no_memory_in_batch : (bytes : List ℕ) → IsBatchFault bytes Memory → ⊥
+no_memory_in_batch [] is = cc
+no_memory_in_batch (count ∷ bytes) (inl (many, is)) = cc
+no_memory_in_batch (count ∷ bytes) (inr (few, next)) = no_memory_in_change next.changes next.rest next.wrong

@@ -1,5 +1,5 @@
 -- Keys, names and values: what is read is spelled so, what is spelled so is read, and what is refused has the fault.
-use Rattle.std.proofs.Common.{◌≡◌, ℕ, ◌^◌, ◌<◌, ◌≤◌, Bool, true, false, cond, ltb, leb, eqb, ◌||◌, ◌&&◌, List, [], ◌∷◌, ◌++◌, length, take, drop, Result, Ok, Err, refl, sym, ap, subst, ◌∙◌, append_assoc, arith, inl, inr, ◌⊎◌}
+use Rattle.std.proofs.Common.{◌≡◌, ℕ, ◌^◌, ◌≤◌, true, false, cond, ltb, leb, eqb, ◌||◌, ◌&&◌, List, [], ◌∷◌, ◌++◌, length, take, drop, Result, Ok, Err, refl, sym, ap, subst, ◌∙◌, append_assoc, arith, inl, inr}
 use Rattle.std.specs.Int.{w16, to_be_bytes}
 use Rattle.std.specs.List.{list_all}
 use Rattle.std.proofs.lemmas.Bool.{ltb-true, ltb-false, lt-ltb, le-ltb, leb-true, eqb-true, and_parts, or_from, ne_eqb}
@@ -12,7 +12,7 @@ use Rattle.wp_encoding.specs.declared.error.EncodingError.{EncodingError}
 use Rattle.wp_encoding.specs.declared.error.EncodingError.TheVariants.{Memory, Short, Kind, Word}
 use Rattle.wp_encoding.specs.Encoding.{word_bytes, value_bytes}
 use Rattle.wp_encoding.specs.Reading.{text_at, word_at, value_at}
-use Rattle.wp_encoding.specs.Faults.{IsTextFault, IsWordFault, IsValueTextFault, IsValueFault}
+use Rattle.wp_encoding.specs.Faults.{IsTextFault, IsWordFault, IsValueFault}
 
 -- ---- texts
 

@@ -69,7 +69,11 @@ fn next_key(alloc: Global, fields: &mut Fields<'_>, batch: &Batch) -> Result<Key
 }
 
 #[tactic(auto, unfolding(crate::specs::Reading::next_change_at))]
-fn next_change(alloc: Global, fields: &mut Fields<'_>, batch: &Batch) -> Result<Change, EncodingError>
+fn next_change(
+    alloc: Global,
+    fields: &mut Fields<'_>,
+    batch: &Batch,
+) -> Result<Change, EncodingError>
     ensures read { Gives encoding_fault (λ change. (change, fields.new)) result (next_change_at batch.now fields.old) }
     ensures above { IfOk result (λ change. is_above_last batch.now (key_of change) ≡ true) }
 {
