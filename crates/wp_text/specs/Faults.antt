@@ -1,5 +1,5 @@
 -- The first fault of a script.
-use Rattle.std.specs.Prelude.{◌≡◌, ℕ, zero, suc, ◌<◌, ◌≤◌, false, List, [], ◌∷◌, ◌++◌, length, Some, ◌⊎◌, Result, Ok, Err}
+use Rattle.std.specs.Prelude.{◌≡◌, ℕ, zero, suc, ◌<◌, ◌≤◌, false, List, [], ◌∷◌, ◌++◌, length, Some, ◌⊎◌}
 use Rattle.std.specs.List.{list_all, Contains}
 use Rattle.wp_text.specs.declared.fault.Fault.{Fault}
 use Rattle.wp_text.specs.declared.fault.ScriptError.{ScriptError}

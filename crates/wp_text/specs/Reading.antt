@@ -1,6 +1,6 @@
 -- How a script is read, line by line: each step gives a value, or the first fault. The reader's own functions say in
 -- these words what they return; what a script and its first fault are is said apart from them.
-use Rattle.std.specs.Prelude.{◌≡◌, ℕ, ◌+◌, Bool, ◌&&◌, List, [], ◌∷◌, ◌++◌, length, nat_lt, codes, Option, Some, None, Result, Ok, Err, if◌then◌else◌}
+use Rattle.std.specs.Prelude.{ℕ, ◌+◌, Bool, ◌&&◌, List, [], ◌∷◌, ◌++◌, length, nat_lt, codes, Option, Some, None, Result, Ok, Err, if◌then◌else◌}
 use Rattle.std.specs.List.{list_all, find, list_any}
 use Rattle.std.specs.Str.{bytes_eq}
 use Rattle.wp_model.specs.Word.{is_word}
