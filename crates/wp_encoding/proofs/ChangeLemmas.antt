@@ -14,7 +14,7 @@ use Rattle.wp_fields.proofs.FieldLemmas.{AreBytes, Begins, Begins-then, Begins-b
 use Rattle.wp_encoding.specs.declared.error.EncodingError.{EncodingError}
 use Rattle.wp_encoding.specs.declared.error.EncodingError.TheVariants.{Memory, Short, Kind, Word}
 use Rattle.wp_encoding.specs.Encoding.{word_bytes, value_bytes, change_bytes, batch_bytes, is_change, are_changes}
-use Rattle.wp_encoding.specs.Reading.{word_at, value_at, is_above_last, next_key_at, next_change_at, changes_at, batch_at}
+use Rattle.wp_encoding.specs.Reading.{word_field_at, value_field_at, is_above_last, next_key_at, next_change_at, changes_after, batch_field_at}
 use Rattle.wp_encoding.specs.Faults.{IsWordFault, IsValueFault, IsKeyFault, IsChangeFault, IsBatchFault}
 use Rattle.wp_encoding.proofs.Order.{ascending_push, above_from_ascending}
 use Rattle.wp_encoding.proofs.WordLemmas.{word_takes, word_again, word_fails, word_refused, value_takes, value_again, value_fails, value_refused}
@@ -27,7 +27,7 @@ in_order batch key = cond (is_above_last batch key.0) (Ok key) (Err Word)
 key_takes : (batch : List Change) (bytes : List ℕ) (x : List ℕ × List ℕ) → AreBytes bytes → next_key_at batch bytes ≡ Ok x → Begins bytes (word_bytes x.0) x.1 × (is_word 64 x.0 ≡ true) × (is_above_last batch x.0 ≡ true)
 unfolding next_key_at
 key_takes batch bytes x h e =
-    let s = bind_ok (word_at 64 bytes) (in_order batch) x e in
+    let s = bind_ok (word_field_at 64 bytes) (in_order batch) x e in
     let word = word_takes 64 bytes s.0 h s.1 in
     let above = test_met (is_above_last batch s.0.0) Word (Ok s.0) x s.2 in
     let found : Begins bytes (word_bytes s.0.0) s.0.1 × (is_word 64 s.0.0 ≡ true) × (is_above_last batch s.0.0 ≡ true) = (word.0, word.1, above.0) in
@@ -40,7 +40,7 @@ key_again batch key rest is above = rw (word_again 64 key rest is, above) refl
 key_fails : (batch : List Change) (bytes : List ℕ) (fault : EncodingError) → AreBytes bytes → next_key_at batch bytes ≡ Err fault → IsKeyFault batch bytes fault
 unfolding next_key_at
 key_fails batch bytes fault h e =
-    elim (bind_err (word_at 64 bytes) (in_order batch) fault e) [
+    elim (bind_err (word_field_at 64 bytes) (in_order batch) fault e) [
       | inl wrong ↦ inl (word_fails 64 bytes fault wrong)
       | inr there ↦
           let word = word_takes 64 bytes there.0 h there.1 in
@@ -59,7 +59,7 @@ key_refused batch bytes fault (inr (key, rest, has, below, is)) =
 -- ---- changes
 
 abbrev put_with : List ℕ × List ℕ → Result (Change × List ℕ) EncodingError
-put_with key = value_at key.1 >>= λ value. Ok (Put key.0 value.0, value.1)
+put_with key = value_field_at key.1 >>= λ value. Ok (Put key.0 value.0, value.1)
 
 abbrev deleted : List ℕ × List ℕ → Result (Change × List ℕ) EncodingError
 deleted key = Ok (Del key.0, key.1)
@@ -75,7 +75,7 @@ change_takes batch (zero ∷ bytes) x h e =
     rw (← ok_is {E = EncodingError} (Del s.0.0, s.0.1) x s.2) found
 change_takes batch (suc zero ∷ bytes) x h e =
     let s = bind_ok (next_key_at batch bytes) put_with x e in
-    let t = bind_ok (value_at s.0.1) (λ value. Ok (Put s.0.0 value.0, value.1)) x s.2 in
+    let t = bind_ok (value_field_at s.0.1) (λ value. Ok (Put s.0.0 value.0, value.1)) x s.2 in
     let flag = Begins-byte 1 bytes h in
     let key = key_takes batch bytes s.0 flag.rest_bytes s.1 in
     let value = value_takes s.0.1 t.0 key.0.rest_bytes t.1 in
@@ -106,7 +106,7 @@ change_fails batch (suc zero ∷ bytes) fault h e =
       | inl wrong ↦ inl (key_fails batch bytes fault rest_bytes wrong)
       | inr there ↦
           let key = key_takes batch bytes there.0 rest_bytes there.1 in
-          elim (bind_err (value_at there.0.1) (λ value. Ok (Put there.0.0 value.0, value.1)) fault there.2) [
+          elim (bind_err (value_field_at there.0.1) (λ value. Ok (Put there.0.0 value.0, value.1)) fault there.2) [
             | inl wrong ↦ inr (there.0.0, there.0.1, record { parts = key.0.parts; in_range = key.1 }, key.2, value_fails there.0.1 fault key.0.rest_bytes wrong)
             | inr read ↦ absurd (ok_or_err (Put there.0.0 read.0.0, read.0.1) fault read.2)
           ]
@@ -135,10 +135,10 @@ record TakesChanges (count : ℕ) (batch : List Change) (bytes : List ℕ) (x : 
 
 -- the rest of the changes, after one more
 abbrev others_after : ℕ → List Change → Change × List ℕ → Result (List Change × List ℕ) EncodingError
-others_after count batch change = changes_at count (batch ++ change.0 ∷ []) change.1
+others_after count batch change = changes_after count (batch ++ change.0 ∷ []) change.1
 
-changes_take : (count : ℕ) (batch : List Change) (bytes : List ℕ) (x : List Change × List ℕ) → AreBytes bytes → changes_at count batch bytes ≡ Ok x → TakesChanges count batch bytes x
-unfolding changes_at
+changes_take : (count : ℕ) (batch : List Change) (bytes : List ℕ) (x : List Change × List ℕ) → AreBytes bytes → changes_after count batch bytes ≡ Ok x → TakesChanges count batch bytes x
+unfolding changes_after
 changes_take zero batch bytes x h e =
     let all : TakesChanges 0 batch bytes (batch, bytes) = record { more = []; appended = sym (append-nil batch); counted = refl; parts = record { parts = refl; rest_bytes = h }; in_range = refl; ascending = λ order. order } in
     rw (← ok_is {E = EncodingError} (batch, bytes) x e) all
@@ -155,8 +155,8 @@ changes_take (suc count) batch bytes x h e =
       ascending = λ order. rest.ascending (ascending_push batch s.0.0 order change.2);
     }
 
-changes_again : (more batch : List Change) (rest : List ℕ) → are_ascending (batch ++ more) ≡ true → list_all is_change more ≡ true → changes_at (length more) batch (flat_map change_bytes more ++ rest) ≡ Ok (batch ++ more, rest)
-unfolding changes_at
+changes_again : (more batch : List Change) (rest : List ℕ) → are_ascending (batch ++ more) ≡ true → list_all is_change more ≡ true → changes_after (length more) batch (flat_map change_bytes more ++ rest) ≡ Ok (batch ++ more, rest)
+unfolding changes_after
 changes_again [] batch rest order range = ap (λ (all : List Change). Ok (all, rest)) (sym (append-nil batch))
 changes_again (change ∷ more) batch rest order range =
     let parts = and_parts (is_change change) (list_all is_change more) range in
@@ -164,7 +164,7 @@ changes_again (change ∷ more) batch rest order range =
     let regrouped : (change_bytes change ++ flat_map change_bytes more) ++ rest ≡ change_bytes change ++ (flat_map change_bytes more ++ rest) = append_assoc (change_bytes change) (flat_map change_bytes more) rest in
     let all : (batch ++ change ∷ []) ++ more ≡ batch ++ change ∷ more = append_assoc batch (change ∷ []) more in
     let others = changes_again more (batch ++ change ∷ []) rest (ap are_ascending all ∙ order) parts.1 in
-    ap (changes_at (suc (length more)) batch) regrouped ∙ rw (change_again batch change (flat_map change_bytes more ++ rest) parts.0 above) (others ∙ ap (λ (changes : List Change). Ok (changes, rest)) all)
+    ap (changes_after (suc (length more)) batch) regrouped ∙ rw (change_again batch change (flat_map change_bytes more ++ rest) parts.0 above) (others ∙ ap (λ (changes : List Change). Ok (changes, rest)) all)
 
 -- fewer changes more are right, and the one after them has the fault
 record FailsAfter (count : ℕ) (batch : List Change) (bytes : List ℕ) (fault : EncodingError) : Type 0 where
@@ -176,8 +176,8 @@ record FailsAfter (count : ℕ) (batch : List Change) (bytes : List ℕ) (fault 
   fewer : length more < count
   wrong : IsChangeFault (batch ++ more) rest fault
 
-changes_fail : (count : ℕ) (batch : List Change) (bytes : List ℕ) (fault : EncodingError) → AreBytes bytes → changes_at count batch bytes ≡ Err fault → FailsAfter count batch bytes fault
-unfolding changes_at
+changes_fail : (count : ℕ) (batch : List Change) (bytes : List ℕ) (fault : EncodingError) → AreBytes bytes → changes_after count batch bytes ≡ Err fault → FailsAfter count batch bytes fault
+unfolding changes_after
 changes_fail zero batch bytes fault h e = absurd (ok_or_err (batch, bytes) fault e)
 changes_fail (suc count) batch bytes fault h e =
     elim (bind_err (next_change_at batch bytes) (others_after count batch) fault e) [
@@ -207,8 +207,8 @@ changes_fail (suc count) batch bytes fault h e =
           }
     ]
 
-changes_refused : (more batch : List Change) (count : ℕ) (rest : List ℕ) (fault : EncodingError) → are_ascending (batch ++ more) ≡ true → list_all is_change more ≡ true → length more < count → IsChangeFault (batch ++ more) rest fault → changes_at count batch (flat_map change_bytes more ++ rest) ≡ Err fault
-unfolding changes_at
+changes_refused : (more batch : List Change) (count : ℕ) (rest : List ℕ) (fault : EncodingError) → are_ascending (batch ++ more) ≡ true → list_all is_change more ≡ true → length more < count → IsChangeFault (batch ++ more) rest fault → changes_after count batch (flat_map change_bytes more ++ rest) ≡ Err fault
+unfolding changes_after
 changes_refused more batch zero rest fault order range fewer wrong = absurd (omega (arith, fewer))
 changes_refused [] batch (suc count) rest fault order range fewer wrong =
     rw (change_refused batch rest fault (subst (λ (all : List Change). IsChangeFault all rest fault) (append-nil batch) wrong)) refl
@@ -218,7 +218,7 @@ changes_refused (change ∷ more) batch (suc count) rest fault order range fewer
     let regrouped : (change_bytes change ++ flat_map change_bytes more) ++ rest ≡ change_bytes change ++ (flat_map change_bytes more ++ rest) = append_assoc (change_bytes change) (flat_map change_bytes more) rest in
     let all : (batch ++ change ∷ []) ++ more ≡ batch ++ change ∷ more = append_assoc batch (change ∷ []) more in
     let others = changes_refused more (batch ++ change ∷ []) count rest fault (ap are_ascending all ∙ order) parts.1 (omega (arith, fewer)) (subst (λ (changes : List Change). IsChangeFault changes rest fault) (sym all) wrong) in
-    ap (changes_at (suc count) batch) regrouped ∙ rw (change_again batch change (flat_map change_bytes more ++ rest) parts.0 above) others
+    ap (changes_after (suc count) batch) regrouped ∙ rw (change_again batch change (flat_map change_bytes more ++ rest) parts.0 above) others
 
 -- ---- batches
 
@@ -227,33 +227,33 @@ batch_spelled : (bytes rest : List ℕ) (count : ℕ) (batch more : List Change)
 batch_spelled bytes rest count batch more same counted begins = rw (same, counted) begins
 
 abbrev counted_changes : ℕ × List ℕ → Result (List Change × List ℕ) EncodingError
-counted_changes count = cond (ltb MOST_KEYS count.0) (Err Word) (changes_at count.0 [] count.1)
+counted_changes count = cond (ltb MOST_KEYS count.0) (Err Word) (changes_after count.0 [] count.1)
 
-pub batch_takes : (bytes : List ℕ) (x : List Change × List ℕ) → AreBytes bytes → batch_at bytes ≡ Ok x → Begins bytes (batch_bytes x.0) x.1 × (are_changes x.0 ≡ true)
-unfolding batch_at
+pub batch_takes : (bytes : List ℕ) (x : List Change × List ℕ) → AreBytes bytes → batch_field_at bytes ≡ Ok x → Begins bytes (batch_bytes x.0) x.1 × (are_changes x.0 ≡ true)
+unfolding batch_field_at
 batch_takes bytes x h e =
     let s = bind_ok (byte_at Short bytes) counted_changes x e in
     let count = byte_takes Short bytes s.0 h s.1 in
-    let t = refusal_missed (ltb MOST_KEYS s.0.0) Word (changes_at s.0.0 [] s.0.1) x s.2 in
+    let t = refusal_missed (ltb MOST_KEYS s.0.0) Word (changes_after s.0.0 [] s.0.1) x s.2 in
     let changes = changes_take s.0.0 [] s.0.1 x count.rest_bytes t.1 in
     let long : length x.0 ≡ s.0.0 = ap length changes.appended ∙ changes.counted in
     let few : leb (length x.0) MOST_KEYS ≡ true = le-leb _ _ (omega (arith, ltb-false _ _ t.0)) in
     let whole = batch_spelled bytes x.1 s.0.0 x.0 changes.more changes.appended changes.counted (Begins-then bytes (s.0.0 ∷ []) s.0.1 (flat_map change_bytes changes.more) x.1 count changes.parts) in
     (whole, and_from _ _ (and_from _ _ few (changes.ascending refl)) (rw changes.appended changes.in_range))
 
-pub batch_again : (batch : List Change) (rest : List ℕ) → are_changes batch ≡ true → batch_at (batch_bytes batch ++ rest) ≡ Ok (batch, rest)
-unfolding batch_at
+pub batch_again : (batch : List Change) (rest : List ℕ) → are_changes batch ≡ true → batch_field_at (batch_bytes batch ++ rest) ≡ Ok (batch, rest)
+unfolding batch_field_at
 batch_again batch rest is =
     let parts = and_parts (is_batch batch) (list_all is_change batch) is in
     let shape = and_parts (leb (length batch) MOST_KEYS) (are_ascending batch) parts.0 in
     let few : ltb MOST_KEYS (length batch) ≡ false = le-ltb _ _ (leb-true _ _ shape.0) in
     rw few (changes_again batch [] rest shape.1 parts.1)
 
-pub batch_fails : (bytes : List ℕ) (fault : EncodingError) → AreBytes bytes → batch_at bytes ≡ Err fault → IsBatchFault bytes fault
-unfolding batch_at
+pub batch_fails : (bytes : List ℕ) (fault : EncodingError) → AreBytes bytes → batch_field_at bytes ≡ Err fault → IsBatchFault bytes fault
+unfolding batch_field_at
 batch_fails [] fault h e = sym (err_is {A = List Change × List ℕ} Short fault e)
 batch_fails (count ∷ bytes) fault h e =
-    elim (chosen (ltb MOST_KEYS count) (Err Word) (changes_at count [] bytes) (Err fault) e) [
+    elim (chosen (ltb MOST_KEYS count) (Err Word) (changes_after count [] bytes) (Err fault) e) [
       | inl many ↦ inl (ltb-true _ _ many.0, sym (err_is {A = List Change × List ℕ} Word fault many.1))
       | inr few ↦
           let within = ltb-false MOST_KEYS count few.0 in
@@ -262,14 +262,14 @@ batch_fails (count ∷ bytes) fault h e =
           inr (within, record { changes = after.more; rest = after.rest; parts = after.parts; right = and_from _ _ (and_from _ _ small (after.ascending refl)) after.in_range; fewer = after.fewer; wrong = after.wrong })
     ]
 
-pub batch_refused : (bytes : List ℕ) (fault : EncodingError) → IsBatchFault bytes fault → batch_at bytes ≡ Err fault
-unfolding batch_at
+pub batch_refused : (bytes : List ℕ) (fault : EncodingError) → IsBatchFault bytes fault → batch_field_at bytes ≡ Err fault
+unfolding batch_field_at
 batch_refused [] fault is = rw is refl
 batch_refused (count ∷ bytes) fault (inl (many, is)) = rw (lt-ltb _ _ many, is) refl
 batch_refused (count ∷ bytes) fault (inr (few, next)) =
     let parts = and_parts (is_batch next.changes) (list_all is_change next.changes) next.right in
     let shape = and_parts (leb (length next.changes) MOST_KEYS) (are_ascending next.changes) parts.0 in
-    rw (le-ltb _ _ few) (ap (changes_at count []) next.parts ∙ changes_refused next.changes [] count next.rest fault shape.1 parts.1 next.fewer next.wrong)
+    rw (le-ltb _ _ few) (ap (changes_after count []) next.parts ∙ changes_refused next.changes [] count next.rest fault shape.1 parts.1 next.fewer next.wrong)
 
 -- ---- want of memory is no fault of the bytes
 

@@ -11,7 +11,7 @@ use Rattle.wp_fields.proofs.FieldLemmas.{AreBytes, Begins, Begins-then, Begins-p
 use Rattle.wp_encoding.specs.declared.error.EncodingError.{EncodingError}
 use Rattle.wp_encoding.specs.declared.error.EncodingError.TheVariants.{Memory, Short, Kind, Word}
 use Rattle.wp_encoding.specs.Encoding.{word_bytes, value_bytes}
-use Rattle.wp_encoding.specs.Reading.{text_at, word_at, value_at}
+use Rattle.wp_encoding.specs.Reading.{text_at, word_field_at, value_field_at}
 use Rattle.wp_encoding.specs.Faults.{IsTextFault, IsWordFault, IsValueFault}
 
 -- ---- texts
@@ -104,47 +104,47 @@ text_refused most len bytes (Kind byte) is = absurd is
 
 -- ---- keys and names
 
-pub word_takes : (most : ℕ) (bytes : List ℕ) (x : List ℕ × List ℕ) → AreBytes bytes → word_at most bytes ≡ Ok x → Begins bytes (word_bytes x.0) x.1 × (is_word most x.0 ≡ true)
-unfolding word_at
+pub word_takes : (most : ℕ) (bytes : List ℕ) (x : List ℕ × List ℕ) → AreBytes bytes → word_field_at most bytes ≡ Ok x → Begins bytes (word_bytes x.0) x.1 × (is_word most x.0 ≡ true)
+unfolding word_field_at
 word_takes most bytes x h e =
     let s = bind_ok (byte_at Short bytes) (λ len. text_at most len.0 len.1) x e in
     let len = byte_takes Short bytes s.0 h s.1 in
     let word = text_takes most s.0.0 s.0.1 x len.rest_bytes s.2 in
     (rw word.1 (Begins-then bytes (s.0.0 ∷ []) s.0.1 x.0 x.1 len word.0), word.2)
 
-pub word_again : (most : ℕ) (word rest : List ℕ) → is_word most word ≡ true → word_at most (word_bytes word ++ rest) ≡ Ok (word, rest)
-unfolding word_at
+pub word_again : (most : ℕ) (word rest : List ℕ) → is_word most word ≡ true → word_field_at most (word_bytes word ++ rest) ≡ Ok (word, rest)
+unfolding word_field_at
 word_again most word rest is = text_again most word rest is
 
-pub word_fails : (most : ℕ) (bytes : List ℕ) (fault : EncodingError) → word_at most bytes ≡ Err fault → IsWordFault most bytes fault
-unfolding word_at
+pub word_fails : (most : ℕ) (bytes : List ℕ) (fault : EncodingError) → word_field_at most bytes ≡ Err fault → IsWordFault most bytes fault
+unfolding word_field_at
 word_fails most [] fault e = sym (err_is {A = List ℕ × List ℕ} Short fault e)
 word_fails most (len ∷ bytes) fault e = text_fails most len bytes fault e
 
-pub word_refused : (most : ℕ) (bytes : List ℕ) (fault : EncodingError) → IsWordFault most bytes fault → word_at most bytes ≡ Err fault
-unfolding word_at
+pub word_refused : (most : ℕ) (bytes : List ℕ) (fault : EncodingError) → IsWordFault most bytes fault → word_field_at most bytes ≡ Err fault
+unfolding word_field_at
 word_refused most [] fault is = rw is refl
 word_refused most (len ∷ bytes) fault is = text_refused most len bytes fault is
 
 -- ---- values
 
-pub value_takes : (bytes : List ℕ) (x : List ℕ × List ℕ) → AreBytes bytes → value_at bytes ≡ Ok x → Begins bytes (value_bytes x.0) x.1 × (is_word 256 x.0 ≡ true)
-unfolding value_at
+pub value_takes : (bytes : List ℕ) (x : List ℕ × List ℕ) → AreBytes bytes → value_field_at bytes ≡ Ok x → Begins bytes (value_bytes x.0) x.1 × (is_word 256 x.0 ≡ true)
+unfolding value_field_at
 value_takes bytes x h e =
     let s = bind_ok (number_at Short w16 bytes) (λ len. text_at 256 len.0 len.1) x e in
     let len = number_takes Short w16 (2 ^ 16) fields_16 bytes s.0 h s.1 in
     let word = text_takes 256 s.0.0 s.0.1 x len.0.rest_bytes s.2 in
     (rw word.1 (Begins-then bytes (to_be_bytes w16 s.0.0) s.0.1 x.0 x.1 len.0 word.0), word.2)
 
-pub value_again : (value rest : List ℕ) → is_word 256 value ≡ true → value_at (value_bytes value ++ rest) ≡ Ok (value, rest)
-unfolding value_at
+pub value_again : (value rest : List ℕ) → is_word 256 value ≡ true → value_field_at (value_bytes value ++ rest) ≡ Ok (value, rest)
+unfolding value_field_at
 value_again value rest is =
     let range = length_of_word 256 value is in
     let regrouped : value_bytes value ++ rest ≡ to_be_bytes w16 (length value) ++ (value ++ rest) = append_assoc (to_be_bytes w16 (length value)) value rest in
-    ap value_at regrouped ∙ rw (number_again Short w16 (2 ^ 16) fields_16 (length value) (value ++ rest) (omega arith)) (text_again 256 value rest is)
+    ap value_field_at regrouped ∙ rw (number_again Short w16 (2 ^ 16) fields_16 (length value) (value ++ rest) (omega arith)) (text_again 256 value rest is)
 
-pub value_fails : (bytes : List ℕ) (fault : EncodingError) → AreBytes bytes → value_at bytes ≡ Err fault → IsValueFault bytes fault
-unfolding value_at
+pub value_fails : (bytes : List ℕ) (fault : EncodingError) → AreBytes bytes → value_field_at bytes ≡ Err fault → IsValueFault bytes fault
+unfolding value_field_at
 value_fails bytes fault h e =
     elim (bind_err (number_at Short w16 bytes) (λ len. text_at 256 len.0 len.1) fault e) [
       | inl short ↦
@@ -155,8 +155,8 @@ value_fails bytes fault h e =
           inr (record { len = there.0.0; text = there.0.1; parts = len.0.parts; small = len.1; wrong = text_fails 256 there.0.0 there.0.1 fault there.2 })
     ]
 
-pub value_refused : (bytes : List ℕ) (fault : EncodingError) → IsValueFault bytes fault → value_at bytes ≡ Err fault
-unfolding value_at
+pub value_refused : (bytes : List ℕ) (fault : EncodingError) → IsValueFault bytes fault → value_field_at bytes ≡ Err fault
+unfolding value_field_at
 value_refused bytes fault (inl short) = rw (number_short Short w16 bytes short.0, short.1) refl
 value_refused bytes fault (inr is) =
-    ap value_at is.parts ∙ rw (number_again Short w16 (2 ^ 16) fields_16 is.len is.text is.small) (text_refused 256 is.len is.text fault is.wrong)
+    ap value_field_at is.parts ∙ rw (number_again Short w16 (2 ^ 16) fields_16 is.len is.text is.small) (text_refused 256 is.len is.text fault is.wrong)

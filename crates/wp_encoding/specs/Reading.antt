@@ -18,13 +18,13 @@ text_at most len bytes =
     else (piece_at Short len bytes >>= λ text. if is_word most text.0 then Ok text else Err Word)
 
 -- a key or a name, of one to `most` bytes
-unfoldable pub word_at : ℕ → List ℕ → Result (List ℕ × List ℕ) EncodingError
-word_at most bytes = do
+unfoldable pub word_field_at : ℕ → List ℕ → Result (List ℕ × List ℕ) EncodingError
+word_field_at most bytes = do
   len ← byte_at Short bytes
   text_at most len.0 len.1
 
-unfoldable pub value_at : List ℕ → Result (List ℕ × List ℕ) EncodingError
-value_at bytes = do
+unfoldable pub value_field_at : List ℕ → Result (List ℕ × List ℕ) EncodingError
+value_field_at bytes = do
   len ← number_at Short w16 bytes
   text_at 256 len.0 len.1
 
@@ -37,7 +37,7 @@ is_above_last (first ∷ second ∷ others) key = is_above_last (second ∷ othe
 -- the key of the change after those of the batch
 unfoldable pub next_key_at : List Change → List ℕ → Result (List ℕ × List ℕ) EncodingError
 next_key_at batch bytes = do
-  key ← word_at 64 bytes
+  key ← word_field_at 64 bytes
   if is_above_last batch key.0 then Ok key else Err Word
 
 -- the change after those of the batch
@@ -48,18 +48,18 @@ next_change_at batch (zero ∷ bytes) = do
   Ok (Del key.0, key.1)
 next_change_at batch (suc zero ∷ bytes) = do
   key ← next_key_at batch bytes
-  value ← value_at key.1
+  value ← value_field_at key.1
   Ok (Put key.0 value.0, value.1)
 next_change_at batch (suc (suc n) ∷ bytes) = Err (Kind (suc (suc n)))
 
 -- the batch with so many changes more
-unfoldable pub changes_at : ℕ → List Change → List ℕ → Result (List Change × List ℕ) EncodingError
-changes_at zero batch bytes = Ok (batch, bytes)
-changes_at (suc count) batch bytes = do
+unfoldable pub changes_after : ℕ → List Change → List ℕ → Result (List Change × List ℕ) EncodingError
+changes_after zero batch bytes = Ok (batch, bytes)
+changes_after (suc count) batch bytes = do
   change ← next_change_at batch bytes
-  changes_at count (batch ++ change.0 ∷ []) change.1
+  changes_after count (batch ++ change.0 ∷ []) change.1
 
-unfoldable pub batch_at : List ℕ → Result (List Change × List ℕ) EncodingError
-batch_at bytes = do
+unfoldable pub batch_field_at : List ℕ → Result (List Change × List ℕ) EncodingError
+batch_field_at bytes = do
   count ← byte_at Short bytes
-  if nat_lt MOST_KEYS count.0 then Err Word else changes_at count.0 [] count.1
+  if nat_lt MOST_KEYS count.0 then Err Word else changes_after count.0 [] count.1

@@ -2,7 +2,7 @@ ghost use Rattle.std.specs.Prelude.{◌≡◌, [], ◌∷◌, ◌++◌, length, 
 ghost use Rattle.wp_model.specs.Batch.{key_of, is_batch};
 ghost use Rattle.wp_fields.specs.Reading.{Gives};
 ghost use Rattle.wp_encoding.specs.Errors.{encoding_fault};
-ghost use Rattle.wp_encoding.specs.Reading.{text_at, word_at, value_at, is_above_last, next_key_at, next_change_at, changes_at, batch_at};
+ghost use Rattle.wp_encoding.specs.Reading.{text_at, word_field_at, value_field_at, is_above_last, next_key_at, next_change_at, changes_after, batch_field_at};
 
 use crate::error::EncodingError;
 use crate::layout::{DELETION, PUT};
@@ -27,21 +27,21 @@ fn text<const MOST: usize>(
 }
 
 /// The key or the name of at most `MOST` bytes, after its one byte length.
-#[tactic(auto, unfolding(crate::specs::Reading::word_at))]
+#[tactic(auto, unfolding(crate::specs::Reading::word_field_at))]
 pub fn read_word<const MOST: usize>(
     alloc: Global,
     fields: &mut Fields<'_>,
 ) -> Result<Word<MOST>, EncodingError>
-    ensures { Gives encoding_fault (λ word. (word, fields.new)) result (word_at MOST fields.old) }
+    ensures { Gives encoding_fault (λ word. (word, fields.new)) result (word_field_at MOST fields.old) }
 {
     let len = fields.u8().ok_or(EncodingError::Short)?;
     text(alloc, fields, len as usize)
 }
 
 /// The value, after its two bytes length.
-#[tactic(auto, unfolding(crate::specs::Reading::value_at))]
+#[tactic(auto, unfolding(crate::specs::Reading::value_field_at))]
 pub fn read_value(alloc: Global, fields: &mut Fields<'_>) -> Result<Value, EncodingError>
-    ensures { Gives encoding_fault (λ value. (value, fields.new)) result (value_at fields.old) }
+    ensures { Gives encoding_fault (λ value. (value, fields.new)) result (value_field_at fields.old) }
 {
     let len = fields.u16().ok_or(EncodingError::Short)?;
     text(alloc, fields, len as usize)
@@ -105,7 +105,7 @@ fn append(batch: &mut Batch, change: Change) -> Result<(), EncodingError>
 
 fn changes(alloc: Global, fields: &mut Fields<'_>, count: u8) -> Result<Batch, EncodingError>
     requires { count ≤ MOST_KEYS }
-    ensures { Gives encoding_fault (λ batch. (batch, fields.new)) result (changes_at count [] fields.old) }
+    ensures { Gives encoding_fault (λ batch. (batch, fields.new)) result (changes_after count [] fields.old) }
 {
     let mut batch = Batch::new(alloc);
     for _ in 0..count {
@@ -116,9 +116,9 @@ fn changes(alloc: Global, fields: &mut Fields<'_>, count: u8) -> Result<Batch, E
 }
 
 /// The batch, after its one byte count.
-#[tactic(auto, unfolding(crate::specs::Reading::batch_at))]
+#[tactic(auto, unfolding(crate::specs::Reading::batch_field_at))]
 pub fn read_batch(alloc: Global, fields: &mut Fields<'_>) -> Result<Batch, EncodingError>
-    ensures { Gives encoding_fault (λ batch. (batch, fields.new)) result (batch_at fields.old) }
+    ensures { Gives encoding_fault (λ batch. (batch, fields.new)) result (batch_field_at fields.old) }
 {
     let count = fields.u8().ok_or(EncodingError::Short)?;
     if count as usize > MOST_KEYS {

@@ -19,9 +19,9 @@ use Rattle.wp_entry.specs.declared.layout.TheConstants.{LAST_NUMBER}
 use Rattle.wp_entry.specs.declared.error.RecordError.{RecordError}
 use Rattle.wp_entry.specs.declared.error.RecordError.TheVariants.{Memory, Short, BadNumber, BadKind, BadWord, Extra}
 use Rattle.wp_entry.specs.Errors.{record_error, record_fault}
-use Rattle.wp_entry.specs.Faults.{HasNumber, IsEarlierFault, IsEntriesFault, write_batch, prepare_name, prepare_batch, commit_number, no_number_for_close, undo_number, undo_batch, IsFaultAfterKind, HasMore, IsRecordFault}
+use Rattle.wp_entry.specs.Faults.{HasNumberField, IsEarlierFault, IsEntriesFault, write_batch, prepare_name, prepare_batch, commit_number, no_number_for_close, undo_number, undo_batch, IsFaultAfterKind, HasMore, IsRecordFault}
 use Rattle.wp_entry.specs.Record.{entries_bytes, record_bytes}
-use Rattle.wp_entry.specs.Reading.{name_at, batch_at, after_number, write_at, prepare_at, earlier_at, commit_at, rollback_at, entries_at, record_at}
+use Rattle.wp_entry.specs.Reading.{name_in_record, batch_in_record, after_number, write_at, prepare_at, earlier_at, commit_at, rollback_at, entries_at, record_at}
 use Rattle.wp_entry.proofs.Grammar.{Entries, name_takes, earlier_takes, entries_take, number_takes_due, this_kind, another, kind_by_test, at_end, entries_to_end, kind_and_entries}
 use Rattle.wp_entry.proofs.Spelled.{record_after_number, earlier_again, entries_again}
 
@@ -33,9 +33,9 @@ record IsNamed (P : EncodingError → Type 0) (fault : RecordError) : Type 0 whe
   named : record_error field_fault ≡ fault
   wrong : P field_fault
 
-batch_at_fails : (bytes : List ℕ) (fault : RecordError) → AreBytes bytes → batch_at bytes ≡ Err fault → IsNamed (IsBatchFault bytes) fault
+batch_at_fails : (bytes : List ℕ) (fault : RecordError) → AreBytes bytes → batch_in_record bytes ≡ Err fault → IsNamed (IsBatchFault bytes) fault
 batch_at_fails bytes fault h e =
-    let d = map_failed record_error (encoding.batch_at bytes) fault e in
+    let d = map_failed record_error (encoding.batch_field_at bytes) fault e in
     record { field_fault = d.0; named = d.2; wrong = batch_fails bytes d.0 h d.1 }
 
 earlier_fails : (due : ℕ) (bytes : List ℕ) (fault : RecordError) → AreBytes bytes → earlier_at due bytes ≡ Err fault → IsNamed (IsEarlierFault due bytes) fault
@@ -48,7 +48,7 @@ earlier_fails due bytes fault h e =
       | inr there ↦
           let p = there.0.0 in
           let number = number_takes Short w32 (2 ^ 32) fields_32 bytes there.0 h there.1 in
-          let has : HasNumber bytes p there.0.1 = record { parts = number.0.parts; small = number.1 } in
+          let has : HasNumberField bytes p there.0.1 = record { parts = number.0.parts; small = number.1 } in
           elim (chosen (eqb p 0 || leb due p) (Err BadWord) (Ok there.0) (Err fault) there.2) [
             | inl out ↦
                 let range : (p ≡ 0) ⊎ (due ≤ p) = elim (either (eqb p 0)) [
@@ -63,7 +63,7 @@ earlier_fails due bytes fault h e =
 write_fails : (due kind : ℕ) (bytes : List ℕ) (fault : RecordError) → AreBytes bytes → kind ≡ 1 → write_at bytes ≡ Err fault → IsNamed (IsEntriesFault due kind bytes) fault
 unfolding write_at
 write_fails due kind bytes fault h is e =
-    elim (bind_err (batch_at bytes) (λ batch. Ok (Write batch.0 ∷ [], batch.1)) fault e) [
+    elim (bind_err (batch_in_record bytes) (λ batch. Ok (Write batch.0 ∷ [], batch.1)) fault e) [
       | inl wrong ↦
           let batch = batch_at_fails bytes fault h wrong in
           record { field_fault = batch.field_fault; named = batch.named; wrong = write_batch is batch.wrong }
@@ -71,18 +71,18 @@ write_fails due kind bytes fault h is e =
     ]
 
 abbrev prepared_with : List ℕ × List ℕ → Entries
-prepared_with name = batch_at name.1 >>= λ batch. Ok (Prepare name.0 batch.0 ∷ [], batch.1)
+prepared_with name = batch_in_record name.1 >>= λ batch. Ok (Prepare name.0 batch.0 ∷ [], batch.1)
 
 prepare_fails : (due kind : ℕ) (bytes : List ℕ) (fault : RecordError) → AreBytes bytes → kind ≡ 2 → prepare_at bytes ≡ Err fault → IsNamed (IsEntriesFault due kind bytes) fault
 unfolding prepare_at
 prepare_fails due kind bytes fault h is e =
-    elim (bind_err (name_at bytes) prepared_with fault e) [
+    elim (bind_err (name_in_record bytes) prepared_with fault e) [
       | inl wrong ↦
-          let d = map_failed record_error (encoding.word_at 32 bytes) fault wrong in
+          let d = map_failed record_error (encoding.word_field_at 32 bytes) fault wrong in
           record { field_fault = d.0; named = d.2; wrong = prepare_name is (word_fails 32 bytes d.0 d.1) }
       | inr there ↦
           let name = name_takes bytes there.0 h there.1 in
-          elim (bind_err (batch_at there.0.1) (λ batch. Ok (Prepare there.0.0 batch.0 ∷ [], batch.1)) fault there.2) [
+          elim (bind_err (batch_in_record there.0.1) (λ batch. Ok (Prepare there.0.0 batch.0 ∷ [], batch.1)) fault there.2) [
             | inl wrong ↦
                 let batch = batch_at_fails there.0.1 fault name.0.rest_bytes wrong in
                 record { field_fault = batch.field_fault; named = batch.named; wrong = prepare_batch there.0.0 there.0.1 is (record { parts = name.0.parts; in_range = name.1 }) batch.wrong }
@@ -101,7 +101,7 @@ commit_fails due kind bytes fault h is e =
     ]
 
 abbrev undone_with : ℕ × List ℕ → Entries
-undone_with p = batch_at p.1 >>= λ batch. Ok (Undo p.0 batch.0 ∷ Close p.0 ∷ [], batch.1)
+undone_with p = batch_in_record p.1 >>= λ batch. Ok (Undo p.0 batch.0 ∷ Close p.0 ∷ [], batch.1)
 
 rollback_fails : (due kind : ℕ) (bytes : List ℕ) (fault : RecordError) → AreBytes bytes → kind ≡ 4 → rollback_at due bytes ≡ Err fault → IsNamed (IsEntriesFault due kind bytes) fault
 unfolding rollback_at
@@ -119,7 +119,7 @@ rollback_fails due kind bytes fault h is e =
             | inr there ↦
                 let p = earlier_takes due bytes there.0 h there.1 in
                 let below = p.1.below in
-                elim (bind_err (batch_at there.0.1) (λ batch. Ok (Undo there.0.0 batch.0 ∷ Close there.0.0 ∷ [], batch.1)) fault there.2) [
+                elim (bind_err (batch_in_record there.0.1) (λ batch. Ok (Undo there.0.0 batch.0 ∷ Close there.0.0 ∷ [], batch.1)) fault there.2) [
                   | inl wrong ↦
                       let batch = batch_at_fails there.0.1 fault p.0.rest_bytes wrong in
                       record { field_fault = batch.field_fault; named = batch.named; wrong = undo_batch there.0.0 there.0.1 is room (record { parts = p.0.parts; small = omega arith }) p.1 batch.wrong }
@@ -171,7 +171,7 @@ no_memory_in_entries due kind bytes (no_number_for_close is none same) = cc
 no_memory_in_entries due kind bytes (undo_number is room wrong) = wrong
 no_memory_in_entries due kind bytes (undo_batch p rest is room has earlier wrong) = no_memory_in_batch rest wrong
 
-after_kind_fault : (due kind : ℕ) (bytes rest : List ℕ) (fault : EncodingError) → HasNumber bytes due (kind ∷ rest) → IsEntriesFault due kind rest fault → IsRecordFault due bytes (record_error fault)
+after_kind_fault : (due kind : ℕ) (bytes rest : List ℕ) (fault : EncodingError) → HasNumberField bytes due (kind ∷ rest) → IsEntriesFault due kind rest fault → IsRecordFault due bytes (record_error fault)
 after_kind_fault due kind bytes rest encoding_error.Memory front wrong = absurd (no_memory_in_entries due kind rest wrong)
 after_kind_fault due kind bytes rest encoding_error.Short front wrong = inr (inr (record { kind = kind; rest = rest; front = front; wrong = wrong }))
 after_kind_fault due kind bytes rest (encoding_error.Kind byte) front wrong = inr (record { kind = kind; rest = rest; front = front; wrong = wrong })
@@ -190,7 +190,7 @@ due_number_fails due bytes fault h e =
       | inr there ↦
           let found = there.0.0 in
           let number = number_takes Short w32 (2 ^ 32) fields_32 bytes there.0 h there.1 in
-          let has : HasNumber bytes found there.0.1 = record { parts = number.0.parts; small = number.1 } in
+          let has : HasNumberField bytes found there.0.1 = record { parts = number.0.parts; small = number.1 } in
           elim (chosen (eqb found due) (Ok there.0.1) (Err (BadNumber found due)) (Err fault) there.2) [
             | inl is ↦ absurd (ok_or_err there.0.1 fault is.1)
             | inr another_number ↦ renamed due bytes (BadNumber found due) fault (err_is {A = List ℕ} (BadNumber found due) fault another_number.1) (refl, eqb-false found due another_number.0, (there.0.1, has))
@@ -211,11 +211,11 @@ record_fails due bytes fault h e =
           elim (bind_err (byte_at Short after.0) (entries_to_end due) fault after.2) [
             | inl short ↦
                 let kind = byte_fails Short after.0 fault short in
-                let ended : HasNumber bytes due [] = rw (← kind.0) (record { parts = number.0.parts; small = number.1 }) in
+                let ended : HasNumberField bytes due [] = rw (← kind.0) (record { parts = number.0.parts; small = number.1 }) in
                 renamed due bytes Short fault kind.1 (inr (inl ended))
             | inr there ↦
                 let kind = byte_takes Short after.0 there.0 number.0.rest_bytes there.1 in
-                let front : HasNumber bytes due (there.0.0 ∷ there.0.1) = record { parts = number.0.parts ∙ ap (λ (t : List ℕ). to_be_bytes w32 due ++ t) kind.parts; small = number.1 } in
+                let front : HasNumberField bytes due (there.0.0 ∷ there.0.1) = record { parts = number.0.parts ∙ ap (λ (t : List ℕ). to_be_bytes w32 due ++ t) kind.parts; small = number.1 } in
                 elim (bind_err (entries_at due there.0.0 there.0.1) at_end fault there.2) [
                   | inl wrong ↦ elim (entries_fail due there.0.0 there.0.1 fault kind.rest_bytes wrong) [
                     | no_kind out is ↦ renamed due bytes (BadKind there.0.0) fault (sym is) (inl (there.0.1, front, out))
@@ -284,7 +284,7 @@ short_number : (due : ℕ) (bytes : List ℕ) → length bytes < 4 → after_num
 unfolding after_number
 short_number due bytes short = rw (number_short Short w32 bytes short) refl
 
-other_number : (due found : ℕ) (bytes rest : List ℕ) → (found ≡ due → ⊥) → HasNumber bytes found rest → after_number due bytes ≡ Err (BadNumber found due)
+other_number : (due found : ℕ) (bytes rest : List ℕ) → (found ≡ due → ⊥) → HasNumberField bytes found rest → after_number due bytes ≡ Err (BadNumber found due)
 unfolding after_number
 other_number due found bytes rest differ has =
     ap (after_number due) has.parts ∙ rw (number_again Short w32 (2 ^ 32) fields_32 found rest has.small, ne_eqb found due differ) refl

@@ -21,15 +21,15 @@ use Rattle.wp_entry.specs.declared.error.RecordError.{RecordError}
 use Rattle.wp_entry.specs.declared.error.RecordError.TheVariants.{Short, BadNumber, BadKind, BadWord, Extra}
 use Rattle.wp_entry.specs.Errors.{record_error, record_fault}
 use Rattle.wp_entry.specs.Record.{entries_bytes, record_bytes, IsEarlier, IsRollback, IsRecord}
-use Rattle.wp_entry.specs.Reading.{name_at, batch_at, after_number, write_at, prepare_at, earlier_at, commit_at, rollback_at, entries_at, record_at}
+use Rattle.wp_entry.specs.Reading.{name_in_record, batch_in_record, after_number, write_at, prepare_at, earlier_at, commit_at, rollback_at, entries_at, record_at}
 
 -- ---- names and batches
 
-pub name_takes : (bytes : List ℕ) (x : List ℕ × List ℕ) → AreBytes bytes → name_at bytes ≡ Ok x → Begins bytes (word_bytes x.0) x.1 × (is_word 32 x.0 ≡ true)
-name_takes bytes x h e = word_takes 32 bytes x h (map_ok record_error (encoding.word_at 32 bytes) x e)
+pub name_takes : (bytes : List ℕ) (x : List ℕ × List ℕ) → AreBytes bytes → name_in_record bytes ≡ Ok x → Begins bytes (word_bytes x.0) x.1 × (is_word 32 x.0 ≡ true)
+name_takes bytes x h e = word_takes 32 bytes x h (map_ok record_error (encoding.word_field_at 32 bytes) x e)
 
-pub batch_takes : (bytes : List ℕ) (x : List Change × List ℕ) → AreBytes bytes → batch_at bytes ≡ Ok x → Begins bytes (batch_bytes x.0) x.1 × (are_changes x.0 ≡ true)
-batch_takes bytes x h e = encoded.batch_takes bytes x h (map_ok record_error (encoding.batch_at bytes) x e)
+pub batch_takes : (bytes : List ℕ) (x : List Change × List ℕ) → AreBytes bytes → batch_in_record bytes ≡ Ok x → Begins bytes (batch_bytes x.0) x.1 × (are_changes x.0 ≡ true)
+batch_takes bytes x h e = encoded.batch_takes bytes x h (map_ok record_error (encoding.batch_field_at bytes) x e)
 
 -- ---- numbers of earlier entries
 
@@ -63,7 +63,7 @@ kind_begins kind bytes h = record { parts = refl; rest_bytes = h }
 write_takes : (first : ℕ) (bytes : List ℕ) (x : List Entry × List ℕ) → first < 2 ^ 32 → AreBytes bytes → write_at bytes ≡ Ok x → BeginsRecord first (1 ∷ bytes) x
 unfolding write_at
 write_takes first bytes x small h e =
-    let s = bind_ok (batch_at bytes) (λ batch. Ok (Write batch.0 ∷ [], batch.1)) x e in
+    let s = bind_ok (batch_in_record bytes) (λ batch. Ok (Write batch.0 ∷ [], batch.1)) x e in
     let batch = batch_takes bytes s.0 h s.1 in
     let found : BeginsRecord first (1 ∷ bytes) (Write s.0.0 ∷ [], s.0.1) = record { parts = Begins-then (1 ∷ bytes) (1 ∷ []) bytes (batch_bytes s.0.0) s.0.1 (kind_begins 1 bytes h) batch.0; is = record { form = small; in_range = and_from _ _ batch.1 refl } } in
     rw (← ok_is {E = RecordError} (Write s.0.0 ∷ [], s.0.1) x s.2) found
@@ -71,9 +71,9 @@ write_takes first bytes x small h e =
 prepare_takes : (first : ℕ) (bytes : List ℕ) (x : List Entry × List ℕ) → first < 2 ^ 32 → AreBytes bytes → prepare_at bytes ≡ Ok x → BeginsRecord first (2 ∷ bytes) x
 unfolding prepare_at
 prepare_takes first bytes x small h e =
-    let s = bind_ok (name_at bytes) (λ name. batch_at name.1 >>= λ batch. Ok (Prepare name.0 batch.0 ∷ [], batch.1)) x e in
+    let s = bind_ok (name_in_record bytes) (λ name. batch_in_record name.1 >>= λ batch. Ok (Prepare name.0 batch.0 ∷ [], batch.1)) x e in
     let name = name_takes bytes s.0 h s.1 in
-    let t = bind_ok (batch_at s.0.1) (λ batch. Ok (Prepare s.0.0 batch.0 ∷ [], batch.1)) x s.2 in
+    let t = bind_ok (batch_in_record s.0.1) (λ batch. Ok (Prepare s.0.0 batch.0 ∷ [], batch.1)) x s.2 in
     let batch = batch_takes s.0.1 t.0 name.0.rest_bytes t.1 in
     let both = Begins-then bytes (word_bytes s.0.0) s.0.1 (batch_bytes t.0.0) t.0.1 name.0 batch.0 in
     let found : BeginsRecord first (2 ∷ bytes) (Prepare s.0.0 t.0.0 ∷ [], t.0.1) = record { parts = Begins-then (2 ∷ bytes) (2 ∷ []) bytes (word_bytes s.0.0 ++ batch_bytes t.0.0) t.0.1 (kind_begins 2 bytes h) both; is = record { form = small; in_range = and_from _ _ (and_from _ _ name.1 batch.1) refl } } in
@@ -90,10 +90,10 @@ commit_takes first bytes x small h e =
 rollback_takes : (first : ℕ) (bytes : List ℕ) (x : List Entry × List ℕ) → AreBytes bytes → rollback_at first bytes ≡ Ok x → BeginsRecord first (4 ∷ bytes) x
 unfolding rollback_at
 rollback_takes first bytes x h e =
-    let r = refusal_missed (leb LAST_NUMBER first) BadWord (earlier_at first bytes >>= λ p. batch_at p.1 >>= λ batch. Ok (Undo p.0 batch.0 ∷ Close p.0 ∷ [], batch.1)) x e in
-    let s = bind_ok (earlier_at first bytes) (λ p. batch_at p.1 >>= λ batch. Ok (Undo p.0 batch.0 ∷ Close p.0 ∷ [], batch.1)) x r.1 in
+    let r = refusal_missed (leb LAST_NUMBER first) BadWord (earlier_at first bytes >>= λ p. batch_in_record p.1 >>= λ batch. Ok (Undo p.0 batch.0 ∷ Close p.0 ∷ [], batch.1)) x e in
+    let s = bind_ok (earlier_at first bytes) (λ p. batch_in_record p.1 >>= λ batch. Ok (Undo p.0 batch.0 ∷ Close p.0 ∷ [], batch.1)) x r.1 in
     let p = earlier_takes first bytes s.0 h s.1 in
-    let t = bind_ok (batch_at s.0.1) (λ batch. Ok (Undo s.0.0 batch.0 ∷ Close s.0.0 ∷ [], batch.1)) x s.2 in
+    let t = bind_ok (batch_in_record s.0.1) (λ batch. Ok (Undo s.0.0 batch.0 ∷ Close s.0.0 ∷ [], batch.1)) x s.2 in
     let batch = batch_takes s.0.1 t.0 p.0.rest_bytes t.1 in
     let both = Begins-then bytes (to_be_bytes w32 s.0.0) s.0.1 (batch_bytes t.0.0) t.0.1 p.0 batch.0 in
     let rollback : IsRollback first s.0.0 s.0.0 = record { same = refl; earlier = p.1; small = omega (arith, leb-false _ _ r.0) } in

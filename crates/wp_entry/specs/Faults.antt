@@ -12,7 +12,7 @@ use Rattle.wp_entry.specs.declared.error.RecordError.TheVariants.{Memory, Short,
 use Rattle.wp_entry.specs.Record.{record_bytes, IsEarlier, IsRecord}
 
 -- the number is there, and bytes after it
-pub record HasNumber (bytes : List ℕ) (number : ℕ) (rest : List ℕ) : Type 0 where
+pub record HasNumberField (bytes : List ℕ) (number : ℕ) (rest : List ℕ) : Type 0 where
   pub parts : bytes ≡ to_be_bytes w32 number ++ rest
   pub small : number < 2 ^ 32
 
@@ -24,7 +24,7 @@ pub record HasName (bytes name rest : List ℕ) : Type 0 where
 -- the number of an earlier entry: fewer than four bytes are there, or no earlier entry has the number
 abbrev pub IsEarlierFault : ℕ → List ℕ → EncodingError → Type 0
 IsEarlierFault due bytes encoding.Short = length bytes < 4
-IsEarlierFault due bytes encoding.Word = (p : ℕ) × ((rest : List ℕ) × HasNumber bytes p rest × ((p ≡ 0) ⊎ (due ≤ p)))
+IsEarlierFault due bytes encoding.Word = (p : ℕ) × ((rest : List ℕ) × HasNumberField bytes p rest × ((p ≡ 0) ⊎ (due ≤ p)))
 IsEarlierFault due bytes other = ⊥
 
 -- The bytes after a kind have the fault: in the one field that comes, or in the batch after it.
@@ -35,13 +35,13 @@ pub data IsEntriesFault (due kind : ℕ) (bytes : List ℕ) (fault : EncodingErr
   commit_number : kind ≡ 3 → IsEarlierFault due bytes fault → IsEntriesFault due kind bytes fault
   no_number_for_close : kind ≡ 4 → 2 ^ 32 ≤ due + 1 → fault ≡ encoding.Word → IsEntriesFault due kind bytes fault
   undo_number : kind ≡ 4 → due + 1 < 2 ^ 32 → IsEarlierFault due bytes fault → IsEntriesFault due kind bytes fault
-  undo_batch : (p : ℕ) (rest : List ℕ) → kind ≡ 4 → due + 1 < 2 ^ 32 → HasNumber bytes p rest → IsEarlier due p → IsBatchFault rest fault → IsEntriesFault due kind bytes fault
+  undo_batch : (p : ℕ) (rest : List ℕ) → kind ≡ 4 → due + 1 < 2 ^ 32 → HasNumberField bytes p rest → IsEarlier due p → IsBatchFault rest fault → IsEntriesFault due kind bytes fault
 
 -- the number that is due and a kind are there, and what comes after them has the fault
 pub record IsFaultAfterKind (due : ℕ) (bytes : List ℕ) (fault : EncodingError) : Type 0 where
   pub kind : ℕ
   pub rest : List ℕ
-  pub front : HasNumber bytes due (kind ∷ rest)
+  pub front : HasNumberField bytes due (kind ∷ rest)
   pub wrong : IsEntriesFault due kind rest fault
 
 -- a whole record is there, and bytes after it
@@ -58,8 +58,8 @@ pub record HasMore (due : ℕ) (bytes : List ℕ) (extra : ℕ) : Type 0 where
 -- out of range; or bytes follow the record. Want of memory is no fault of theirs.
 abbrev pub IsRecordFault : ℕ → List ℕ → RecordError → Type 0
 IsRecordFault due bytes Memory = ⊥
-IsRecordFault due bytes Short = (length bytes < 4) ⊎ (HasNumber bytes due [] ⊎ IsFaultAfterKind due bytes encoding.Short)
-IsRecordFault due bytes (BadNumber found wanted) = (wanted ≡ due) × (found ≢ due) × ((rest : List ℕ) × HasNumber bytes found rest)
-IsRecordFault due bytes (BadKind byte) = ((rest : List ℕ) × HasNumber bytes due (byte ∷ rest) × ((byte ≡ 0) ⊎ (4 < byte))) ⊎ IsFaultAfterKind due bytes (encoding.Kind byte)
+IsRecordFault due bytes Short = (length bytes < 4) ⊎ (HasNumberField bytes due [] ⊎ IsFaultAfterKind due bytes encoding.Short)
+IsRecordFault due bytes (BadNumber found wanted) = (wanted ≡ due) × (found ≢ due) × ((rest : List ℕ) × HasNumberField bytes found rest)
+IsRecordFault due bytes (BadKind byte) = ((rest : List ℕ) × HasNumberField bytes due (byte ∷ rest) × ((byte ≡ 0) ⊎ (4 < byte))) ⊎ IsFaultAfterKind due bytes (encoding.Kind byte)
 IsRecordFault due bytes BadWord = IsFaultAfterKind due bytes encoding.Word
 IsRecordFault due bytes (Extra extra) = HasMore due bytes extra

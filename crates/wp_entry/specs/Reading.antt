@@ -18,23 +18,23 @@ after_number due bytes = do
   if number.0 == due then Ok number.1 else Err (BadNumber number.0 due)
 
 -- a name, and a batch, in a record
-abbrev pub name_at : List ℕ → Result (List ℕ × List ℕ) RecordError
-name_at bytes = map_err record_error (encoding.word_at 32 bytes)
+abbrev pub name_in_record : List ℕ → Result (List ℕ × List ℕ) RecordError
+name_in_record bytes = map_err record_error (encoding.word_field_at 32 bytes)
 
-abbrev pub batch_at : List ℕ → Result (List Change × List ℕ) RecordError
-batch_at bytes = map_err record_error (encoding.batch_at bytes)
+abbrev pub batch_in_record : List ℕ → Result (List Change × List ℕ) RecordError
+batch_in_record bytes = map_err record_error (encoding.batch_field_at bytes)
 
 -- one Write
 unfoldable pub write_at : List ℕ → Result (List Entry × List ℕ) RecordError
 write_at bytes = do
-  batch ← batch_at bytes
+  batch ← batch_in_record bytes
   Ok (Write batch.0 ∷ [], batch.1)
 
 -- one Prepare
 unfoldable pub prepare_at : List ℕ → Result (List Entry × List ℕ) RecordError
 prepare_at bytes = do
-  name ← name_at bytes
-  batch ← batch_at name.1
+  name ← name_in_record bytes
+  batch ← batch_in_record name.1
   Ok (Prepare name.0 batch.0 ∷ [], batch.1)
 
 -- the number of an entry before the one with the number that is due
@@ -53,7 +53,7 @@ commit_at due bytes = do
 unfoldable pub rollback_at : ℕ → List ℕ → Result (List Entry × List ℕ) RecordError
 rollback_at due bytes =
     if nat_le LAST_NUMBER due then Err BadWord
-    else (earlier_at due bytes >>= λ p. batch_at p.1 >>= λ batch. Ok (Undo p.0 batch.0 ∷ Close p.0 ∷ [], batch.1))
+    else (earlier_at due bytes >>= λ p. batch_in_record p.1 >>= λ batch. Ok (Undo p.0 batch.0 ∷ Close p.0 ∷ [], batch.1))
 
 -- the entries of a record of that kind
 unfoldable pub entries_at : ℕ → ℕ → List ℕ → Result (List Entry × List ℕ) RecordError
