@@ -1,4 +1,3 @@
-pub mod Order
-pub mod Loop
-pub mod Fields
 pub mod Grammar
+pub mod Spelled
+pub mod FaultLemmas

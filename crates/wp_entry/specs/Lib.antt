@@ -1,3 +1,4 @@
 pub mod Record
-pub mod Word
+pub mod Errors
 pub mod Reading
+pub mod Faults

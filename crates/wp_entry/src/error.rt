@@ -1,9 +1,9 @@
 ghost use Rattle.std.specs.Prelude.{◌≡◌};
-ghost use Rattle.wp_entry.specs.Word.{fault_of};
+ghost use Rattle.wp_entry.specs.Errors.{record_error};
 ghost use Rattle.wp_entry.specs.declared.error.RecordError.TheVariants.{Memory};
 
 use std::alloc::{AllocError, AllocFailed};
-use wp_model::WordError;
+use wp_encoding::EncodingError;
 
 /// Why bytes could not be read as a record: the first fault from the left.
 #[derive(Debug, Drop, PartialEq, Eq, thiserror::Error)]
@@ -20,7 +20,7 @@ pub enum RecordError {
     #[error("kind {0}")]
     BadKind(u8),
     /// A length, a count or a byte of a word is out of range, a key is not above the one before it, a number is none
-    /// of an earlier entry, or there is no number for the entry behind an Undo.
+    /// of an earlier entry, or there is no number for the entry after an Undo.
     #[error("word")]
     BadWord,
     /// So many bytes follow the record.
@@ -44,13 +44,15 @@ impl<T: Drop> From<AllocFailed<T>> for RecordError {
     }
 }
 
-impl From<WordError> for RecordError {
-    ghost from_gives = { λ e fault. fault ≡ fault_of e };
+impl From<EncodingError> for RecordError {
+    ghost from_gives = { λ e error. error ≡ record_error e };
 
-    fn from(e: WordError) -> RecordError {
+    fn from(e: EncodingError) -> RecordError {
         match e {
-            WordError::Memory => RecordError::Memory,
-            WordError::BadWord => RecordError::BadWord,
+            EncodingError::Memory => RecordError::Memory,
+            EncodingError::Short => RecordError::Short,
+            EncodingError::Kind(byte) => RecordError::BadKind(byte),
+            EncodingError::Word => RecordError::BadWord,
         }
     }
 }

@@ -14,11 +14,5 @@ pub const COMMIT: u8 = 3;
 /// The kind of the record of an Undo and its Close.
 pub const ROLLBACK: u8 = 4;
 
-/// The byte before a change that deletes its key.
-pub const DELETION: u8 = 0;
-
-/// The byte before a change that puts a value under its key.
-pub const PUT: u8 = 1;
-
 /// The last number that fits in four bytes.
 pub const LAST_NUMBER: Seq = 0xFFFF_FFFF;

@@ -2,7 +2,7 @@
 
 ghost use Rattle.std.specs.Prelude.{◌≡◌, ℕ, List, ◌∷◌, ◌++◌, length, take, IfSome};
 ghost use Rattle.std.specs.Int.{w16, w32, w64, from_be_bytes, to_be_bytes};
-ghost use Rattle.wp_fields.specs.Taken.{Takes};
+ghost use Rattle.wp_fields.specs.Taken.{TakesField};
 
 use byteorder::{BigEndian, ByteOrder};
 use std::marker::Model;
@@ -36,7 +36,7 @@ impl<'a> Fields<'a> {
 
     /// The next `len` bytes.
     pub fn piece(&mut self, len: usize) -> Option<&'a [u8]>
-        ensures taken { Takes len result self.old self.new }
+        ensures taken { TakesField len result self.old self.new }
         ensures bytes { IfSome result (λ piece. piece.now ≡ take len self.old) }
         ensures spelling { IfSome result (λ piece. self.old ≡ piece.now ++ self.new) }
     {
@@ -50,7 +50,7 @@ impl<'a> Fields<'a> {
 
     /// The next byte.
     pub fn u8(&mut self) -> Option<u8>
-        ensures taken { Takes 1 result self.old self.new }
+        ensures taken { TakesField 1 result self.old self.new }
         ensures spelling { IfSome result (λ byte. self.old ≡ byte ∷ self.new) }
     {
         match self.rest {
@@ -64,7 +64,7 @@ impl<'a> Fields<'a> {
 
     /// The number in the next two bytes.
     pub fn u16(&mut self) -> Option<u16>
-        ensures taken { Takes 2 result self.old self.new }
+        ensures taken { TakesField 2 result self.old self.new }
         ensures number { IfSome result (λ number. number ≡ from_be_bytes w16 (take 2 self.old)) }
         ensures spelling { IfSome result (λ number. self.old ≡ to_be_bytes w16 number ++ self.new) }
     {
@@ -74,7 +74,7 @@ impl<'a> Fields<'a> {
 
     /// The number in the next four bytes.
     pub fn u32(&mut self) -> Option<u32>
-        ensures taken { Takes 4 result self.old self.new }
+        ensures taken { TakesField 4 result self.old self.new }
         ensures number { IfSome result (λ number. number ≡ from_be_bytes w32 (take 4 self.old)) }
         ensures spelling { IfSome result (λ number. self.old ≡ to_be_bytes w32 number ++ self.new) }
     {
@@ -84,7 +84,7 @@ impl<'a> Fields<'a> {
 
     /// The number in the next eight bytes.
     pub fn u64(&mut self) -> Option<u64>
-        ensures taken { Takes 8 result self.old self.new }
+        ensures taken { TakesField 8 result self.old self.new }
         ensures number { IfSome result (λ number. number ≡ from_be_bytes w64 (take 8 self.old)) }
         ensures spelling { IfSome result (λ number. self.old ≡ to_be_bytes w64 number ++ self.new) }
     {

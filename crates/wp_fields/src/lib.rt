@@ -2,7 +2,7 @@
 //!
 //! `Fields` takes fields from the front of a record, a table or an edit. The `push` functions put the same
 //! fields at the end of a buffer. Each format above is written and read through these alone, so that how a
-//! number stands in bytes is said once.
+//! number is written in bytes is said once.
 #![tactic(auto)]
 
 mod fields;

@@ -6,28 +6,29 @@ use Rattle.wp_text.specs.declared.fault.ScriptError.{ScriptError}
 use Rattle.wp_text.specs.declared.fault.ScriptError.TheVariants as errors
 use Rattle.wp_text.specs.declared.script.Part.{Part}
 use Rattle.wp_text.specs.Grammar.{IsScript}
-use Rattle.wp_text.specs.Faults.{IsFault, IsErrorOf, GivesScript, HasOneReading}
-use Rattle.wp_text.specs.Reading.{script_of}
-use Rattle.wp_text.proofs.Results.{ok_is, err_is, ok_or_err}
-use Rattle.wp_text.proofs.ScriptLaws.{is_script, is_fault, is_script_again, is_fault_again}
+use Rattle.wp_text.specs.Faults.{IsFault, IsErrorOf, HasOneReading}
+use Rattle.wp_fields.specs.Reading.{Gives}
+use Rattle.wp_text.specs.Reading.{script_of, script_fault}
+use Rattle.wp_fields.proofs.Results.{ok_is, err_is, ok_or_err}
+use Rattle.wp_text.proofs.ScriptLaws.{is_script, has_fault, is_script_again, is_fault_again}
 
-pub script_given : (bytes : List ℕ) (result : Result (List Part) ScriptError) (P : List Part → Type 0) → GivesScript result (script_of bytes) → ((parts : List Part) → IsScript bytes parts → P parts) → IfOk result P
+pub script_given : (bytes : List ℕ) (result : Result (List Part) ScriptError) (P : List Part → Type 0) → Gives script_fault (λ parts. parts) result (script_of bytes) → ((parts : List Part) → IsScript bytes parts → P parts) → IfOk result P
 script_given bytes (Ok parts) P given so = so parts (is_script bytes parts given)
 script_given bytes (Err e) P given so = tt
 
-pub error_given : (bytes : List ℕ) (result : Result (List Part) ScriptError) → GivesScript result (script_of bytes) → IfErr result (λ e. IsErrorOf bytes e)
+pub error_given : (bytes : List ℕ) (result : Result (List Part) ScriptError) → Gives script_fault (λ parts. parts) result (script_of bytes) → IfErr result (λ e. IsErrorOf bytes e)
 error_given bytes (Ok parts) given = tt
 error_given bytes (Err errors.Memory) given = tt
-error_given bytes (Err (errors.Fault fault)) given = is_fault bytes fault given
+error_given bytes (Err (errors.Fault fault)) given = has_fault bytes fault given
 
-told_by : (bytes : List ℕ) (read : Result (List Part) Fault) → script_of bytes ≡ read → ((parts : List Part) × IsScript bytes parts) ⊎ ((fault : Fault) × IsFault bytes fault.line fault.why)
-told_by bytes (Ok parts) e = inl (parts, is_script bytes parts e)
-told_by bytes (Err fault) e = inr (fault, is_fault bytes fault e)
+read_as : (bytes : List ℕ) (read : Result (List Part) Fault) → script_of bytes ≡ read → ((parts : List Part) × IsScript bytes parts) ⊎ ((fault : Fault) × IsFault bytes fault.line fault.why)
+read_as bytes (Ok parts) e = inl (parts, is_script bytes parts e)
+read_as bytes (Err fault) e = inr (fault, has_fault bytes fault e)
 
 pub one_reading : (bytes : List ℕ) → HasOneReading bytes
 one_reading bytes = record {
   one_script = λ first second a b. ok_is {E = Fault} first second (sym (is_script_again bytes first a) ∙ is_script_again bytes second b);
   one_fault = λ first second a b. err_is {A = List Part} first second (sym (is_fault_again bytes first.line first.why a) ∙ is_fault_again bytes second.line second.why b);
   not_both = λ parts fault a b. ok_or_err parts fault (sym (is_script_again bytes parts a) ∙ is_fault_again bytes fault.line fault.why b);
-  either = told_by bytes (script_of bytes) refl;
+  either = read_as bytes (script_of bytes) refl;
 }

@@ -1,4 +1,3 @@
-pub mod Results
 pub mod StatementLaws
 pub mod LineLaws
 pub mod Placing

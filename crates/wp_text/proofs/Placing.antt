@@ -1,4 +1,4 @@
--- A statement that is placed stands behind the others, and one that is refused is misplaced.
+-- A statement that is placed comes after the others, and one that is refused is misplaced.
 use Rattle.std.proofs.Common.{◌≡◌, ◌≢◌, ℕ, suc, ◌+◌, ◌<◌, ◌≤◌, Bool, true, false, cond, ◌||◌, ltb, List, [], ◌∷◌, ◌++◌, length, map, get_or, set, Option, Some, None, Result, Ok, Err, refl, sym, ap, subst, ◌∙◌, inl, inr, append_assoc, arith}
 use Rattle.std.specs.List.{flat_map, filter_map, list_any, AllPairs, Contains}
 use Rattle.std.specs.Str.{bytes_eq}
@@ -18,11 +18,11 @@ use Rattle.wp_text.specs.declared.line.Statement.{Statement}
 use Rattle.wp_text.specs.declared.line.Statement.TheVariants as statement
 use Rattle.wp_text.specs.declared.script.Command.{Command}
 use Rattle.wp_text.specs.declared.script.Part.{Part}
-use Rattle.wp_text.specs.Limits.{most_clients}
+use Rattle.wp_text.specs.declared.read.TheConstants.{MOST_CLIENTS}
 use Rattle.wp_text.specs.Grammar.{statements_of, clients}
 use Rattle.wp_text.specs.Faults.{IsMisplaced}
 use Rattle.wp_text.specs.Reading.{has_client, with_client, with_command, with_statement}
-use Rattle.wp_text.proofs.Results.{bind_ok, bind_err, chosen, ok_is, err_is, ok_or_err, either}
+use Rattle.wp_fields.proofs.Results.{bind_ok, bind_err, chosen, ok_is, err_is, ok_or_err, either}
 
 -- the part with one more command
 abbrev pub with_one : Part → Command → Part
@@ -38,8 +38,8 @@ with_command_last (part ∷ []) command last n len is =
 with_command_last (part ∷ second ∷ others) command last n len is =
     let suc_is : n ≡ suc (length others) = omega arith in
     let there : last ≡ get_or (second ∷ others) (length others) last = rw suc_is at is in
-    let behind = with_command_last (second ∷ others) command last (length others) (omega arith) there in
-    rw (suc_is, behind) refl
+    let after = with_command_last (second ∷ others) command last (length others) (omega arith) there in
+    rw (suc_is, after) refl
 
 -- ---- clients
 
@@ -71,9 +71,9 @@ not_there parts name missing =
 -- no client twice, and few enough
 pub record Fits (parts : List Part) : Type 0 where
   pub distinct : AllPairs ◌≢◌ (clients parts)
-  pub few : length parts ≤ most_clients
+  pub few : length parts ≤ MOST_CLIENTS
 
--- the statement stands behind the others
+-- the statement comes after the others
 pub record Placed (old : List Part) (s : Statement) (new : List Part) : Type 0 where
   pub statements : flat_map statements_of new ≡ flat_map statements_of old ++ s ∷ []
   pub fits : Fits new
@@ -84,9 +84,9 @@ distinct_more names name distinct missing = all_pairs_push ◌≢◌ names name 
 client_placed : (parts new : List Part) (name : List ℕ) → Fits parts → with_client parts name ≡ Ok new → Placed parts (statement.Client name) new
 unfolding with_client
 client_placed parts new name fits e =
-    elim (chosen (has_client parts name) (Err ClientTwice) (cond (ltb (length parts) most_clients) (Ok (parts ++ record { client = name; commands = [] } ∷ [])) (Err ManyClients)) (Ok new) e) [
+    elim (chosen (has_client parts name) (Err ClientTwice) (cond (ltb (length parts) MOST_CLIENTS) (Ok (parts ++ record { client = name; commands = [] } ∷ [])) (Err ManyClients)) (Ok new) e) [
       | inl there ↦ absurd cc
-      | inr missing ↦ elim (chosen (ltb (length parts) most_clients) (Ok (parts ++ record { client = name; commands = [] } ∷ [])) (Err ManyClients) (Ok new) missing.1) [
+      | inr missing ↦ elim (chosen (ltb (length parts) MOST_CLIENTS) (Ok (parts ++ record { client = name; commands = [] } ∷ [])) (Err ManyClients) (Ok new) missing.1) [
         | inl room ↦
             let part : Part = record { client = name; commands = [] } in
             let is = ok_is (parts ++ part ∷ []) new room.1 in
@@ -112,30 +112,30 @@ command_placed (part ∷ []) new c e =
     append-nil (statements_of (with_one part c)) ∙ ap (λ (x : List Statement). statement.Client part.client ∷ x) (map_push (λ x. statement.Command x) part.commands c) ∙ sym (ap (λ (x : List Statement). x ++ statement.Command c ∷ []) (append-nil (statements_of part))) in
     subst (λ (x : List Part). Commanded (part ∷ []) c x) (ok_is (with_one part c ∷ []) new e) (record { statements = one_more; clients = refl })
 command_placed (part ∷ second ∷ others) new c e =
-    let b = bind_ok (with_command (second ∷ others) c) (λ (behind : List Part). Ok (part ∷ behind)) new e in
+    let b = bind_ok (with_command (second ∷ others) c) (λ (rest : List Part). Ok (part ∷ rest)) new e in
     let more = command_placed (second ∷ others) b.0 c b.1 in
     let grouped : flat_map statements_of (part ∷ b.0) ≡ flat_map statements_of (part ∷ second ∷ others) ++ statement.Command c ∷ [] =
     ap (λ (x : List Statement). statements_of part ++ x) more.statements ∙ sym (append_assoc (statements_of part) (flat_map statements_of (second ∷ others)) (statement.Command c ∷ [])) in
     subst (λ (x : List Part). Commanded (part ∷ second ∷ others) c x) (ok_is (part ∷ b.0) new b.2) (record { statements = grouped; clients = ap (λ (x : List (List ℕ)). part.client ∷ x) more.clients })
 
-pub placed : (parts new : List Part) (s : Statement) → Fits parts → with_statement parts s ≡ Ok new → Placed parts s new
+pub statement_placed : (parts new : List Part) (s : Statement) → Fits parts → with_statement parts s ≡ Ok new → Placed parts s new
 unfolding with_statement
-placed parts new (statement.Client name) fits e = client_placed parts new name fits e
-placed parts new (statement.Command c) fits e =
+statement_placed parts new (statement.Client name) fits e = client_placed parts new name fits e
+statement_placed parts new (statement.Command c) fits e =
     let more = command_placed parts new c e in
     record {
       statements = more.statements;
       fits = record { distinct = rw more.clients fits.distinct; few = omega (arith, fits.few, length-map new (λ (part : Part). part.client), length-map parts (λ (part : Part). part.client), ap length more.clients) };
     }
 
--- ---- a statement that is refused
+-- ---- a statement that is statement_refused
 
 command_refused : (parts : List Part) (c : Command) (why : Why) → with_command parts c ≡ Err why → (parts ≡ []) × (NoClient ≡ why)
 unfolding with_command
 command_refused [] c why e = (refl, err_is {A = List Part} NoClient why e)
 command_refused (part ∷ []) c why e = absurd cc
 command_refused (part ∷ second ∷ others) c why e =
-    elim (bind_err (with_command (second ∷ others) c) (λ (behind : List Part). Ok (part ∷ behind)) why e) [
+    elim (bind_err (with_command (second ∷ others) c) (λ (rest : List Part). Ok (part ∷ rest)) why e) [
       | inl fails ↦ let nothing = command_refused (second ∷ others) c why fails in absurd cc
       | inr takes ↦ absurd (ok_or_err (part ∷ takes.0) why takes.2)
     ]
@@ -143,9 +143,9 @@ command_refused (part ∷ second ∷ others) c why e =
 client_refused : (parts : List Part) (name : List ℕ) (why : Why) → Fits parts → with_client parts name ≡ Err why → IsMisplaced parts (statement.Client name) why
 unfolding with_client
 client_refused parts name why fits e =
-    elim (chosen (has_client parts name) (Err ClientTwice) (cond (ltb (length parts) most_clients) (Ok (parts ++ record { client = name; commands = [] } ∷ [])) (Err ManyClients)) (Err why) e) [
+    elim (chosen (has_client parts name) (Err ClientTwice) (cond (ltb (length parts) MOST_CLIENTS) (Ok (parts ++ record { client = name; commands = [] } ∷ [])) (Err ManyClients)) (Err why) e) [
       | inl there ↦ subst (λ (x : Why). IsMisplaced parts (statement.Client name) x) (err_is {A = List Part} ClientTwice why there.1) (client_there parts name there.0)
-      | inr missing ↦ elim (chosen (ltb (length parts) most_clients) (Ok (parts ++ record { client = name; commands = [] } ∷ [])) (Err ManyClients) (Err why) missing.1) [
+      | inr missing ↦ elim (chosen (ltb (length parts) MOST_CLIENTS) (Ok (parts ++ record { client = name; commands = [] } ∷ [])) (Err ManyClients) (Err why) missing.1) [
         | inl room ↦ absurd cc
         | inr full ↦
             let many = ltb-false _ _ full.0 in
@@ -153,10 +153,10 @@ client_refused parts name why fits e =
       ]
     ]
 
-pub refused : (parts : List Part) (s : Statement) (why : Why) → Fits parts → with_statement parts s ≡ Err why → IsMisplaced parts s why
+pub statement_refused : (parts : List Part) (s : Statement) (why : Why) → Fits parts → with_statement parts s ≡ Err why → IsMisplaced parts s why
 unfolding with_statement
-refused parts (statement.Client name) why fits e = client_refused parts name why fits e
-refused parts (statement.Command c) why fits e =
+statement_refused parts (statement.Client name) why fits e = client_refused parts name why fits e
+statement_refused parts (statement.Command c) why fits e =
     let nothing = command_refused parts c why e in
     subst (λ (x : Why). IsMisplaced parts (statement.Command c) x) nothing.1 nothing.0
 
@@ -166,7 +166,7 @@ refused_again parts (statement.Command c) NoClient misplaced = rw misplaced refl
 refused_again parts (statement.Client name) ClientTwice misplaced = let there = client_found parts name misplaced in rw there refl
 refused_again parts (statement.Client name) ManyClients misplaced =
     let missing = not_there parts name misplaced.0 in
-    let full : ltb (length parts) most_clients ≡ false = le-ltb _ _ (omega (arith, misplaced.1)) in
+    let full : ltb (length parts) MOST_CLIENTS ≡ false = le-ltb _ _ (omega (arith, misplaced.1)) in
     rw (missing, full) refl
 refused_again parts s why misplaced = absurd misplaced
 
@@ -212,13 +212,13 @@ never_goes_on parts target s why rest misplaced fits e = absurd misplaced
 
 placed_by : (parts target : List Part) (s : Statement) (rest : List Statement) (read : Result (List Part) Why) → Fits parts → Fits target → flat_map statements_of parts ++ s ∷ rest ≡ flat_map statements_of target → with_statement parts s ≡ read → (new : List Part) × (with_statement parts s ≡ Ok new)
 placed_by parts target s rest (Ok new) fits aim e is = (new, is)
-placed_by parts target s rest (Err why) fits aim e is = absurd (never_goes_on parts target s why rest (refused parts s why fits is) aim e)
+placed_by parts target s rest (Err why) fits aim e is = absurd (never_goes_on parts target s why rest (statement_refused parts s why fits is) aim e)
 
--- where parts go on with it, it is placed
+-- where parts go on with it, it is statement_placed
 pub placed_again : (parts target : List Part) (s : Statement) (rest : List Statement) → Fits parts → Fits target → flat_map statements_of parts ++ s ∷ rest ≡ flat_map statements_of target → (new : List Part) × (with_statement parts s ≡ Ok new)
 placed_again parts target s rest fits aim e = placed_by parts target s rest (with_statement parts s) fits aim e refl
 
--- ---- parts are told by their statements
+-- ---- statements spell one list of parts
 
 same_commands : (cs ds : List Command) (ps qs : List Part) → map (λ c. statement.Command c) cs ++ flat_map statements_of ps ≡ map (λ c. statement.Command c) ds ++ flat_map statements_of qs → (cs ≡ ds) × (flat_map statements_of ps ≡ flat_map statements_of qs)
 same_commands [] [] ps qs e = (refl, e)
@@ -229,12 +229,12 @@ same_commands (c ∷ cs) (d ∷ ds) ps qs e =
     let others = same_commands cs ds ps qs (cc) in
     (ap (λ (x : Command). x ∷ cs) first ∙ ap (λ (x : List Command). d ∷ x) others.0, others.1)
 
-pub same_parts : (ps qs : List Part) → flat_map statements_of ps ≡ flat_map statements_of qs → ps ≡ qs
-same_parts [] [] e = refl
-same_parts [] (q ∷ qs) e = absurd cc
-same_parts (p ∷ ps) [] e = absurd cc
-same_parts (p ∷ ps) (q ∷ qs) e =
+pub one_list_of_parts : (ps qs : List Part) → flat_map statements_of ps ≡ flat_map statements_of qs → ps ≡ qs
+one_list_of_parts [] [] e = refl
+one_list_of_parts [] (q ∷ qs) e = absurd cc
+one_list_of_parts (p ∷ ps) [] e = absurd cc
+one_list_of_parts (p ∷ ps) (q ∷ qs) e =
     let client : p.client ≡ q.client = cc in
     let commands = same_commands p.commands q.commands ps qs (cc) in
     let part : p ≡ q = ap (λ (x : List ℕ). record p { client = x }) client ∙ ap (λ (x : List Command). record q { commands = x }) commands.0 in
-    ap (λ (x : Part). x ∷ ps) part ∙ ap (λ (x : List Part). q ∷ x) (same_parts ps qs commands.1)
+    ap (λ (x : Part). x ∷ ps) part ∙ ap (λ (x : List Part). q ∷ x) (one_list_of_parts ps qs commands.1)

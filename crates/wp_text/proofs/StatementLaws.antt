@@ -15,8 +15,9 @@ use Rattle.wp_text.specs.declared.script.Command.{Command}
 use Rattle.wp_text.specs.declared.script.Command.TheVariants as command
 use Rattle.wp_text.specs.Grammar.{command_words, statement_words, is_command_in_range, is_in_range, is_passed_over, Say}
 use Rattle.wp_text.specs.Faults.{IsNoStatement, IsOutOfRange, AreWrong}
-use Rattle.wp_text.specs.Reading.{◌>>=◌, keyword_text, keyword_named, one_word, two_words, alone, get_with, statement_with, statement_named, statement_of}
-use Rattle.wp_text.proofs.Results.{bind_ok, bind_err, chosen, failed, ok_is, err_is, ok_or_err, either}
+use Rattle.wp_fields.specs.Reading.{◌>>=◌}
+use Rattle.wp_text.specs.Reading.{keyword_text, keyword_named, one_word, two_words, alone, get_with, statement_with, statement_named, statement_of}
+use Rattle.wp_fields.proofs.Results.{bind_ok, bind_err, chosen, failed, ok_is, err_is, ok_or_err, either}
 
 -- ---- a statement's words are read as it, or are out of range
 
@@ -52,7 +53,7 @@ out_of_range_again (statement.Command command.Rollback) range = absurd cc
 out_of_range_again (statement.Command command.Leave) range = absurd cc
 out_of_range_again (statement.Command (command.Take name)) range = rw range refl
 
--- ---- words behind a keyword
+-- ---- words after a keyword
 
 one_word_takes : (most : ℕ) (words : List (List ℕ)) (w : List ℕ) → one_word most words ≡ Ok w → (words ≡ w ∷ []) × (is_word most w ≡ true)
 unfolding one_word
@@ -101,13 +102,13 @@ abbrev Written : List (List ℕ) → Statement → Type 0
 Written words s = (words ≡ statement_words s) × (is_in_range s ≡ true)
 
 -- what reading the words gives: the statement that is written with them, or what is wrong with them
-record Reads (words : List (List ℕ)) (read : Result Statement Why) : Type 0 where
+record ReadsStatement (words : List (List ℕ)) (read : Result Statement Why) : Type 0 where
   takes : (s : Statement) → read ≡ Ok s → Written words s
   fails : (why : Why) → read ≡ Err why → (why ≡ BadCommand) ⊎ ((why ≡ BadWord) × IsOutOfRange words)
 
--- one word behind the keyword
+-- one word after the keyword
 one_word_read : (most : ℕ) (text : List ℕ) (make : List ℕ → Statement) (made : (w : List ℕ) → (statement_words (make w) ≡ text ∷ w ∷ []) × (is_in_range (make w) ≡ is_word most w))
-    → (words : List (List ℕ)) → Reads (text ∷ words) (one_word most words >>= λ w. Ok (make w))
+    → (words : List (List ℕ)) → ReadsStatement (text ∷ words) (one_word most words >>= λ w. Ok (make w))
 one_word_read most text make made words = record {
   takes = λ s e.
       let b = bind_ok (one_word most words) (λ w. Ok (make w)) s e in
@@ -125,7 +126,7 @@ one_word_read most text make made words = record {
 -- two words, which all words are made of
 two_words_read : (most_first most_second : ℕ) (all words : List (List ℕ)) (make : List ℕ → List ℕ → Statement)
     → (made : (a b : List ℕ) → words ≡ a ∷ b ∷ [] → (all ≡ statement_words (make a b)) × (is_in_range (make a b) ≡ (is_word most_first a && is_word most_second b)))
-    → Reads all (two_words most_first most_second words >>= λ both. Ok (make both.0 both.1))
+    → ReadsStatement all (two_words most_first most_second words >>= λ both. Ok (make both.0 both.1))
 two_words_read most_first most_second all words make made = record {
   takes = λ s e.
       let b = bind_ok (two_words most_first most_second words) (λ both. Ok (make both.0 both.1)) s e in
@@ -141,8 +142,8 @@ two_words_read most_first most_second all words make made = record {
   ];
 }
 
--- nothing behind the keyword
-alone_read : (text : List ℕ) (c : Command) → (command_words c ≡ text ∷ []) × (is_command_in_range c ≡ true) → (words : List (List ℕ)) → Reads (text ∷ words) (alone c words)
+-- nothing after the keyword
+alone_read : (text : List ℕ) (c : Command) → (command_words c ≡ text ∷ []) × (is_command_in_range c ≡ true) → (words : List (List ℕ)) → ReadsStatement (text ∷ words) (alone c words)
 unfolding alone
 alone_read text c made [] = record {
   takes = λ s e. subst (λ (x : Statement). Written (text ∷ []) x) (ok_is (statement.Command c) s e) (sym made.0, made.1);
@@ -154,7 +155,7 @@ alone_read text c made (word ∷ words) = record {
 }
 
 -- a key, the word `at` and a name
-get_at_read : (key at name : List ℕ) → Reads (codes "get" ∷ key ∷ at ∷ name ∷ []) (get_with (key ∷ at ∷ name ∷ []))
+get_at_read : (key at name : List ℕ) → ReadsStatement (codes "get" ∷ key ∷ at ∷ name ∷ []) (get_with (key ∷ at ∷ name ∷ []))
 unfolding get_with
 get_at_read key at name =
     elim (either (bytes_eq at (codes "at"))) [
@@ -164,25 +165,25 @@ get_at_read key at name =
       | inr other ↦ rw other (record { takes = λ s e. absurd cc; fails = λ why e. inl cc })
     ]
 
-get_read : (words : List (List ℕ)) → Reads (codes "get" ∷ words) (get_with words)
+get_read : (words : List (List ℕ)) → ReadsStatement (codes "get" ∷ words) (get_with words)
 unfolding get_with
 get_read (key ∷ at ∷ name ∷ []) = get_at_read key at name
 get_read words = one_word_read 64 (codes "get") (λ w. statement.Command (command.Get w)) (λ w. (refl, refl)) words
 
-behind_keyword : (k : Keyword) (words : List (List ℕ)) → Reads (keyword_text k ∷ words) (statement_with k words)
+after_keyword : (k : Keyword) (words : List (List ℕ)) → ReadsStatement (keyword_text k ∷ words) (statement_with k words)
 unfolding statement_with
-behind_keyword keyword.Client words = one_word_read 32 (keyword_text keyword.Client) (λ w. statement.Client w) (λ w. (refl, refl)) words
-behind_keyword keyword.Put words = two_words_read 64 256 (keyword_text keyword.Put ∷ words) words (λ a b. statement.Command (command.Put a b)) (λ a b e. (ap (λ (x : List (List ℕ)). keyword_text keyword.Put ∷ x) e, refl))
-behind_keyword keyword.Del words = one_word_read 64 (keyword_text keyword.Del) (λ w. statement.Command (command.Del w)) (λ w. (refl, refl)) words
-behind_keyword keyword.Get words = get_read words
-behind_keyword keyword.Snap words = one_word_read 32 (keyword_text keyword.Snap) (λ w. statement.Command (command.Snap w)) (λ w. (refl, refl)) words
-behind_keyword keyword.Free words = one_word_read 32 (keyword_text keyword.Free) (λ w. statement.Command (command.Free w)) (λ w. (refl, refl)) words
-behind_keyword keyword.Begin words = one_word_read 32 (keyword_text keyword.Begin) (λ w. statement.Command (command.Begin w)) (λ w. (refl, refl)) words
-behind_keyword keyword.Prepare words = alone_read (keyword_text keyword.Prepare) command.Prepare (refl, refl) words
-behind_keyword keyword.Commit words = alone_read (keyword_text keyword.Commit) command.Commit (refl, refl) words
-behind_keyword keyword.Rollback words = alone_read (keyword_text keyword.Rollback) command.Rollback (refl, refl) words
-behind_keyword keyword.Leave words = alone_read (keyword_text keyword.Leave) command.Leave (refl, refl) words
-behind_keyword keyword.Take words = one_word_read 32 (keyword_text keyword.Take) (λ w. statement.Command (command.Take w)) (λ w. (refl, refl)) words
+after_keyword keyword.Client words = one_word_read 32 (keyword_text keyword.Client) (λ w. statement.Client w) (λ w. (refl, refl)) words
+after_keyword keyword.Put words = two_words_read 64 256 (keyword_text keyword.Put ∷ words) words (λ a b. statement.Command (command.Put a b)) (λ a b e. (ap (λ (x : List (List ℕ)). keyword_text keyword.Put ∷ x) e, refl))
+after_keyword keyword.Del words = one_word_read 64 (keyword_text keyword.Del) (λ w. statement.Command (command.Del w)) (λ w. (refl, refl)) words
+after_keyword keyword.Get words = get_read words
+after_keyword keyword.Snap words = one_word_read 32 (keyword_text keyword.Snap) (λ w. statement.Command (command.Snap w)) (λ w. (refl, refl)) words
+after_keyword keyword.Free words = one_word_read 32 (keyword_text keyword.Free) (λ w. statement.Command (command.Free w)) (λ w. (refl, refl)) words
+after_keyword keyword.Begin words = one_word_read 32 (keyword_text keyword.Begin) (λ w. statement.Command (command.Begin w)) (λ w. (refl, refl)) words
+after_keyword keyword.Prepare words = alone_read (keyword_text keyword.Prepare) command.Prepare (refl, refl) words
+after_keyword keyword.Commit words = alone_read (keyword_text keyword.Commit) command.Commit (refl, refl) words
+after_keyword keyword.Rollback words = alone_read (keyword_text keyword.Rollback) command.Rollback (refl, refl) words
+after_keyword keyword.Leave words = alone_read (keyword_text keyword.Leave) command.Leave (refl, refl) words
+after_keyword keyword.Take words = one_word_read 32 (keyword_text keyword.Take) (λ w. statement.Command (command.Take w)) (λ w. (refl, refl)) words
 
 -- ---- all words of a line
 
@@ -203,7 +204,7 @@ unfolding statement_named
 named_says first others None meaning named e = absurd cc
 named_says first others (Some k) meaning named e =
     let b = bind_ok (statement_with k others) (λ s. Ok (Some s)) meaning e in
-    let t = (behind_keyword k others).takes b.0 b.1 in
+    let t = (after_keyword k others).takes b.0 b.1 in
     subst (λ (x : Option Statement). Say (first ∷ others) x) (ok_is (Some b.0) meaning b.2) (subst (λ (w : List ℕ). Written (w ∷ others) b.0) (keyword_is first k named) t)
 
 -- what is read is what the words say
@@ -231,18 +232,18 @@ named_refuses first others None why named e whole =
     subst (λ (x : Why). AreWrong (first ∷ others) x) is (unknown (first ∷ others) (rw is whole))
 named_refuses first others (Some k) why named e whole =
     elim (bind_err (statement_with k others) (λ s. Ok (Some s)) why e) [
-      | inl fails ↦ elim ((behind_keyword k others).fails why fails) [
+      | inl fails ↦ elim ((after_keyword k others).fails why fails) [
         | inl command ↦ subst (λ (x : Why). AreWrong (first ∷ others) x) (sym command) (unknown (first ∷ others) (rw command at whole))
         | inr word ↦ subst (λ (x : Why). AreWrong (first ∷ others) x) (sym word.0) (subst (λ (w : List ℕ). IsOutOfRange (w ∷ others)) (keyword_is first k named) word.1)
       ]
       | inr takes ↦ absurd (ok_or_err (Some takes.0) why takes.2)
     ]
 
--- what is refused is wrong
-pub refuses : (words : List (List ℕ)) (why : Why) → statement_of words ≡ Err why → (is_passed_over words ≡ false) × AreWrong words why
+-- what is statement_refused is wrong
+pub words_refused : (words : List (List ℕ)) (why : Why) → statement_of words ≡ Err why → (is_passed_over words ≡ false) × AreWrong words why
 unfolding statement_of
-refuses [] why e = absurd (ok_or_err None why e)
-refuses (first ∷ others) why e =
+words_refused [] why e = absurd (ok_or_err None why e)
+words_refused (first ∷ others) why e =
     elim (chosen (is_passed_over (first ∷ others)) (Ok None) (statement_named (keyword_named first) others) (Err why) e) [
       | inl so ↦ absurd (ok_or_err None why so.1)
       | inr other ↦ (other.0, named_refuses first others (keyword_named first) why refl other.1 e)
@@ -263,9 +264,9 @@ only_command words why none wrong = absurd wrong
 unknown_by : (words : List (List ℕ)) (read : Result (Option Statement) Why) → is_passed_over words ≡ false → IsNoStatement words → statement_of words ≡ read → read ≡ Err BadCommand
 unknown_by words (Ok None) counts none e = let said : is_passed_over words ≡ true = says words None e in absurd cc
 unknown_by words (Ok (Some s)) counts none e = absurd (none s (says words (Some s) e).0)
-unknown_by words (Err why) counts none e = ap (failed (Option Statement)) (only_command words why none (refuses words why e).1)
+unknown_by words (Err why) counts none e = ap (failed (Option Statement)) (only_command words why none (words_refused words why e).1)
 
--- what is wrong is refused
+-- what is wrong is statement_refused
 pub unknown_again : (words : List (List ℕ)) → is_passed_over words ≡ false → IsNoStatement words → statement_of words ≡ Err BadCommand
 unknown_again words counts none = unknown_by words (statement_of words) counts none refl
 

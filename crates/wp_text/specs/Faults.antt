@@ -1,5 +1,5 @@
 -- The first fault of a script.
-use Rattle.std.specs.Prelude.{◌≡◌, ℕ, zero, suc, ◌<◌, ◌≤◌, false, List, [], ◌∷◌, ◌++◌, length, Some, ◌⊎◌, Result, Ok, Err}
+use Rattle.std.specs.Prelude.{◌≡◌, ℕ, zero, suc, ◌<◌, ◌≤◌, false, List, [], ◌∷◌, ◌++◌, length, Some, ◌⊎◌}
 use Rattle.std.specs.List.{list_all, Contains}
 use Rattle.wp_text.specs.declared.fault.Fault.{Fault}
 use Rattle.wp_text.specs.declared.fault.ScriptError.{ScriptError}
@@ -9,7 +9,8 @@ use Rattle.wp_text.specs.declared.fault.Why.TheVariants.{TooLong, LineLong, BadB
 use Rattle.wp_text.specs.declared.line.Statement.{Statement}
 use Rattle.wp_text.specs.declared.line.Statement.TheVariants as statement
 use Rattle.wp_text.specs.declared.script.Part.{Part}
-use Rattle.wp_text.specs.Limits.{most_bytes, most_clients, most_line_bytes}
+use Rattle.wp_text.specs.declared.line.TheConstants.{MOST_LINE_BYTES}
+use Rattle.wp_text.specs.declared.read.TheConstants.{MOST_BYTES, MOST_CLIENTS}
 use Rattle.wp_text.specs.Grammar.{lines_of, is_line_byte, IsText, words_of, is_passed_over, statement_words, is_in_range, Means, clients, Spell, IsScript}
 
 -- ---- a line by itself
@@ -30,56 +31,44 @@ AreWrong words BadCommand = IsNoStatement words
 AreWrong words BadWord = IsOutOfRange words
 AreWrong words why = ⊥
 
--- What is wrong with a line, wherever it stands. The order in which the reasons are named is that of these cases.
+-- What is wrong with a line, wherever it is. The order in which the reasons are named is that of these cases.
 abbrev pub IsWrong : List ℕ → Why → Type 0
-IsWrong line LineLong = most_line_bytes < length line
-IsWrong line BadByte = (length line ≤ most_line_bytes) × (list_all is_line_byte line ≡ false)
+IsWrong line LineLong = MOST_LINE_BYTES < length line
+IsWrong line BadByte = (length line ≤ MOST_LINE_BYTES) × (list_all is_line_byte line ≡ false)
 IsWrong line why = IsText line × (is_passed_over (words_of line) ≡ false) × AreWrong (words_of line) why
 
--- ---- a line behind others
+-- ---- a line after others
 
--- What is wrong with a statement behind these parts. A client that stands there already is named before the number of
+-- What is wrong with a statement after these parts. A client that has a part already is named before the number of
 -- clients.
 abbrev pub IsMisplaced : List Part → Statement → Why → Type 0
 IsMisplaced parts (statement.Command command) NoClient = parts ≡ []
 IsMisplaced parts (statement.Client name) ClientTwice = Contains (clients parts) name
-IsMisplaced parts (statement.Client name) ManyClients = (Contains (clients parts) name → ⊥) × (length parts ≡ most_clients)
+IsMisplaced parts (statement.Client name) ManyClients = (Contains (clients parts) name → ⊥) × (length parts ≡ MOST_CLIENTS)
 IsMisplaced parts statement why = ⊥
 
 -- The line is wrong by itself, or it says a statement that is misplaced.
-abbrev pub IsWrongBehind : List Part → List ℕ → Why → Type 0
-IsWrongBehind parts line why = IsWrong line why ⊎ ((statement : Statement) × Means line (Some statement) × IsMisplaced parts statement why)
+abbrev pub IsWrongAfter : List Part → List ℕ → Why → Type 0
+IsWrongAfter parts line why = IsWrong line why ⊎ ((statement : Statement) × Means line (Some statement) × IsMisplaced parts statement why)
 
--- The lines before this one spell parts, and it is wrong behind them.
+-- The lines before this one spell parts, and it is wrong after them.
 pub record IsFirstWrong (lines : List (List ℕ)) (before : List (List ℕ)) (why : Why) : Type 0 where
   pub line : List ℕ
   pub after : List (List ℕ)
   pub place : lines ≡ before ++ line ∷ after
   pub parts : List Part
   pub spelled : Spell before parts
-  pub wrong : IsWrongBehind parts line why
+  pub wrong : IsWrongAfter parts line why
 
--- The first fault of the bytes: line 0 stands for them as a whole, the others are counted from 1.
+-- The first fault of the bytes: line 0 means them as a whole, the others are counted from 1.
 abbrev pub IsFault : List ℕ → ℕ → Why → Type 0
-IsFault bytes zero why = (most_bytes < length bytes) × (why ≡ TooLong)
-IsFault bytes (suc n) why = (length bytes ≤ most_bytes) × ((before : List (List ℕ)) × (length before ≡ n) × IsFirstWrong (lines_of bytes) before why)
+IsFault bytes zero why = (MOST_BYTES < length bytes) × (why ≡ TooLong)
+IsFault bytes (suc n) why = (length bytes ≤ MOST_BYTES) × ((before : List (List ℕ)) × (length before ≡ n) × IsFirstWrong (lines_of bytes) before why)
 
 -- what an error says of the bytes
 abbrev pub IsErrorOf : List ℕ → ScriptError → Type 0
 IsErrorOf bytes errors.Memory = Unit {0}
 IsErrorOf bytes (errors.Fault fault) = IsFault bytes fault.line fault.why
-
--- ---- what a call returned
-
--- it failed with this answer, or memory ran out
-abbrev pub FailsWith : ScriptError → Result (List Part) Fault → Type 0
-FailsWith errors.Memory answer = Unit {0}
-FailsWith (errors.Fault fault) answer = answer ≡ Err fault
-
--- It is this answer, unless memory ran out.
-abbrev pub GivesScript : Result (List Part) ScriptError → Result (List Part) Fault → Type 0
-GivesScript (Ok parts) answer = answer ≡ Ok parts
-GivesScript (Err error) answer = FailsWith error answer
 
 -- ---- what the definitions say of each other
 

@@ -7,9 +7,10 @@ use Rattle.wp_text.specs.declared.line.Statement.TheVariants as statement
 use Rattle.wp_text.specs.declared.script.Command.{Command}
 use Rattle.wp_text.specs.declared.script.Command.TheVariants as command
 use Rattle.wp_text.specs.declared.script.Part.{Part}
-use Rattle.wp_text.specs.Limits.{most_bytes, most_clients, most_line_bytes}
+use Rattle.wp_text.specs.declared.line.TheConstants.{MOST_LINE_BYTES}
+use Rattle.wp_text.specs.declared.read.TheConstants.{MOST_BYTES, MOST_CLIENTS}
 
--- The lines of a script, without their ends. What stands behind the last end is a line too: where it is empty, it
+-- The lines of a script, without their ends. What follows the last end is a line too: where it is empty, it
 -- says nothing.
 abbrev pub lines_of : List ℕ → List (List ℕ)
 lines_of bytes = slice_split (λ b. b == 0x0A) bytes
@@ -22,10 +23,10 @@ is_line_byte b = nat_le 0x20 b && nat_le b 0x7E
 
 -- the line has few enough bytes, all of them such
 pub record IsText (line : List ℕ) : Type 0 where
-  pub short : length line ≤ most_line_bytes
+  pub short : length line ≤ MOST_LINE_BYTES
   pub printable : list_all is_line_byte line ≡ true
 
--- the words of a line: what stands between its spaces
+-- the words of a line: what is between its spaces
 abbrev pub words_of : List ℕ → List (List ℕ)
 words_of line = filter (λ word. not (length word == 0)) (slice_split (λ b. b == 0x20) line)
 
@@ -99,11 +100,11 @@ pub record Spell (lines : List (List ℕ)) (parts : List Part) : Type 0 where
   pub each : AllZip Means lines meanings
   pub statements : filter_map (λ meaning. meaning) meanings ≡ flat_map statements_of parts
   pub distinct : AllPairs ◌≢◌ (clients parts)
-  pub few : length parts ≤ most_clients
+  pub few : length parts ≤ MOST_CLIENTS
 
 -- The bytes are a script with these parts.
 pub record IsScript (bytes : List ℕ) (parts : List Part) : Type 0 where
-  pub short : length bytes ≤ most_bytes
+  pub short : length bytes ≤ MOST_BYTES
   pub lines : Spell (lines_of bytes) parts
 
 -- the commands of all clients

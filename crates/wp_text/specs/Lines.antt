@@ -12,7 +12,7 @@ use Rattle.wp_text.specs.declared.reply.Reply.TheVariants as reply
 abbrev pub line_end : List ℕ
 line_end = 10 ∷ []
 
--- a number behind its mark
+-- a number after its mark
 abbrev pub numbered : ℕ → List ℕ
 numbered n = codes "@" ++ decimal n
 
@@ -54,7 +54,7 @@ reply_line reply = reply_words reply ++ line_end
 
 -- ---- the history
 
--- a change behind what stands before it in its line
+-- a change after what comes before it in its line
 abbrev pub change_words : Change → List ℕ
 change_words (change.Put key value) = codes " put " ++ key ++ codes " " ++ value
 change_words (change.Del key) = codes " del " ++ key
@@ -62,7 +62,7 @@ change_words (change.Del key) = codes " del " ++ key
 abbrev pub changes_words : List Change → List ℕ
 changes_words changes = flat_map change_words changes
 
--- an entry behind its number
+-- an entry after its number
 abbrev pub entry_words : Entry → List ℕ
 entry_words (entry.Write batch) = codes " write" ++ changes_words batch
 entry_words (entry.Prepare name batch) = codes " prepare " ++ name ++ changes_words batch

@@ -1,11 +1,12 @@
 -- How a script is read, line by line: each step gives a value, or the first fault. The reader's own functions say in
 -- these words what they return; what a script and its first fault are is said apart from them.
-use Rattle.std.specs.Prelude.{◌≡◌, ℕ, ◌+◌, Bool, ◌&&◌, List, [], ◌∷◌, ◌++◌, length, nat_lt, codes, Option, Some, None, Result, Ok, Err, if◌then◌else◌}
+use Rattle.std.specs.Prelude.{ℕ, ◌+◌, Bool, ◌&&◌, List, [], ◌∷◌, ◌++◌, length, nat_lt, codes, Option, Some, None, Result, Ok, Err, if◌then◌else◌}
 use Rattle.std.specs.List.{list_all, find, list_any}
 use Rattle.std.specs.Str.{bytes_eq}
 use Rattle.wp_model.specs.Word.{is_word}
 use Rattle.wp_model.specs.declared.word.WordError.{WordError}
 use Rattle.wp_model.specs.declared.word.WordError.TheVariants as word_errors
+use Rattle.wp_fields.specs.Reading.{◌>>=◌, map_err}
 use Rattle.wp_text.specs.declared.fault.LineError.{LineError}
 use Rattle.wp_text.specs.declared.fault.LineError.TheVariants as errors
 use Rattle.wp_text.specs.declared.fault.Why.{Why}
@@ -21,22 +22,9 @@ use Rattle.wp_text.specs.declared.line.Statement.TheVariants as statement
 use Rattle.wp_text.specs.declared.script.Command.{Command}
 use Rattle.wp_text.specs.declared.script.Command.TheVariants as command
 use Rattle.wp_text.specs.declared.script.Part.{Part}
-use Rattle.wp_text.specs.Limits.{most_bytes, most_clients, most_line_bytes}
+use Rattle.wp_text.specs.declared.line.TheConstants.{MOST_LINE_BYTES}
+use Rattle.wp_text.specs.declared.read.TheConstants.{MOST_BYTES, MOST_CLIENTS}
 use Rattle.wp_text.specs.Grammar.{lines_of, is_line_byte, words_of, is_passed_over}
-
-infixl 10 ◌>>=◌
-abbrev pub ◌>>=◌ : {A B E : Type 0} → Result A E → (A → Result B E) → Result B E
-(Ok x) >>= f = f x
-(Err e) >>= f = Err e
-
--- What a function returned, seen by view, is what reading gives, unless memory ran out.
-abbrev pub Fails : {Y : Type 0} → LineError → Result Y Why → Type 0
-Fails errors.Memory read = Unit {0}
-Fails (errors.Wrong why) read = read ≡ Err why
-
-abbrev pub Gives : {X Y : Type 0} → (X → Y) → Result X LineError → Result Y Why → Type 0
-Gives view (Ok x) read = read ≡ Ok (view x)
-Gives view (Err e) read = Fails e read
 
 -- ---- words
 
@@ -78,7 +66,7 @@ unfoldable pub get_with : List (List ℕ) → Result Statement Why
 get_with (key ∷ at ∷ name ∷ []) = if bytes_eq at (codes "at") then (two_words 64 32 (key ∷ name ∷ []) >>= λ both. Ok (statement.Command (command.GetAt both.0 both.1))) else Err BadCommand
 get_with words = one_word 64 words >>= λ key. Ok (statement.Command (command.Get key))
 
--- the statement with these words behind its keyword
+-- the statement with these words after its keyword
 unfoldable pub statement_with : Keyword → List (List ℕ) → Result Statement Why
 statement_with keyword.Client words = do
   name ← one_word 32 words
@@ -123,7 +111,7 @@ statement_of (first ∷ others) = if is_passed_over (first ∷ others) then Ok N
 
 -- what the line says
 unfoldable pub line_of : List ℕ → Result (Option Statement) Why
-line_of line = if nat_lt most_line_bytes (length line) then Err LineLong else (if list_all is_line_byte line then statement_of (words_of line) else Err BadByte)
+line_of line = if nat_lt MOST_LINE_BYTES (length line) then Err LineLong else (if list_all is_line_byte line then statement_of (words_of line) else Err BadByte)
 
 -- the client has a part already
 abbrev pub has_client : List Part → List ℕ → Bool
@@ -131,15 +119,15 @@ has_client parts name = list_any (λ part. bytes_eq name part.client) parts
 
 -- the parts with one more, of this client
 unfoldable pub with_client : List Part → List ℕ → Result (List Part) Why
-with_client parts name = if has_client parts name then Err ClientTwice else (if nat_lt (length parts) most_clients then Ok (parts ++ record { client = name; commands = [] } ∷ []) else Err ManyClients)
+with_client parts name = if has_client parts name then Err ClientTwice else (if nat_lt (length parts) MOST_CLIENTS then Ok (parts ++ record { client = name; commands = [] } ∷ []) else Err ManyClients)
 
 -- the parts with the command at the end of the last one
 unfoldable pub with_command : List Part → Command → Result (List Part) Why
 with_command [] command = Err NoClient
 with_command (part ∷ []) command = Ok (record part { commands = part.commands ++ command ∷ [] } ∷ [])
 with_command (part ∷ second ∷ others) command = do
-  behind ← with_command (second ∷ others) command
-  Ok (part ∷ behind)
+  rest ← with_command (second ∷ others) command
+  Ok (part ∷ rest)
 
 -- the parts with what a statement adds, or a line
 unfoldable pub with_statement : List Part → Statement → Result (List Part) Why
@@ -157,28 +145,36 @@ with_line parts line = do
 
 -- ---- a script
 
--- a fault is that of this line
-abbrev pub in_line : {A : Type 0} → ℕ → Result A Why → Result A Fault
-in_line line (Ok x) = Ok x
-in_line line (Err why) = Err (record { line = line; why = why })
+-- what is wrong, as a fault of this line
+abbrev pub fault_in : ℕ → Why → Fault
+fault_in line why = record { line = line; why = why }
 
--- the parts with what the lines add, where so many lines stand before them
+-- the parts with what the lines add, where so many lines come before them
 unfoldable pub with_lines : ℕ → List Part → List (List ℕ) → Result (List Part) Fault
 with_lines before parts [] = Ok parts
 with_lines before parts (line ∷ lines) = do
-  now ← in_line (before + 1) (with_line parts line)
+  now ← map_err (fault_in (before + 1)) (with_line parts line)
   with_lines (before + 1) now lines
 
 -- what the bytes are read as
 unfoldable pub script_of : List ℕ → Result (List Part) Fault
-script_of bytes = if nat_lt most_bytes (length bytes) then Err (record { line = 0; why = TooLong }) else with_lines 0 [] (lines_of bytes)
+script_of bytes = if nat_lt MOST_BYTES (length bytes) then Err (fault_in 0 TooLong) else with_lines 0 [] (lines_of bytes)
 
 -- ---- errors, from one type to the next
 
 abbrev pub script_error : ℕ → LineError → ScriptError
 script_error line errors.Memory = script.Memory
-script_error line (errors.Wrong why) = script.Fault (record { line = line; why = why })
+script_error line (errors.Wrong why) = script.Fault (fault_in line why)
 
 abbrev pub error_of_word : WordError → LineError
 error_of_word word_errors.Memory = errors.Memory
 error_of_word word_errors.BadWord = errors.Wrong BadWord
+
+-- what is wrong, where an error is more than want of memory
+abbrev pub line_fault : LineError → Option Why
+line_fault errors.Memory = None
+line_fault (errors.Wrong why) = Some why
+
+abbrev pub script_fault : ScriptError → Option Fault
+script_fault script.Memory = None
+script_fault (script.Fault fault) = Some fault

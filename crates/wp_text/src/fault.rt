@@ -25,7 +25,7 @@ pub enum Why {
     /// A key, a value or a name is too long.
     #[error("bad word")]
     BadWord,
-    /// A command stands before the first client.
+    /// A command comes before the first client.
     #[error("no client")]
     NoClient,
     /// The client has a part already.
@@ -40,7 +40,7 @@ pub enum Why {
 #[derive(Clone, Copy, Debug, PartialEq, Eq, Error)]
 #[error("script line {line}: {why}")]
 pub struct Fault {
-    /// The line, from 1 on; 0 stands for the script as a whole.
+    /// The line, from 1 on; 0 means the script as a whole.
     pub line: usize,
     pub why: Why,
 }

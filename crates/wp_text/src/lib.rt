@@ -3,7 +3,7 @@
 //! A script is lines of words. Each line is read by itself, as nothing, as the begin of a client's part or as a
 //! command, and is then added to the parts that the lines before it spell; the first line that is wrong by itself
 //! or has no place there is the script's fault. The grammar is a relation between bytes and parts, and a fault is
-//! told from the lines alone, so both stand apart from the reader. A transcript is written line by line, each line
+//! known from the lines alone, so both are apart from the reader. A transcript is written line by line, each line
 //! onto the end of a text.
 #![tactic(auto)]
 

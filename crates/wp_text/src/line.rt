@@ -1,7 +1,8 @@
 ghost use Rattle.std.specs.Prelude.{◌≡◌, map, IfOk};
 ghost use Rattle.std.specs.List.{list_all};
+ghost use Rattle.wp_fields.specs.Reading.{Gives};
 ghost use Rattle.wp_text.specs.Grammar.{is_line_byte, words_of};
-ghost use Rattle.wp_text.specs.Reading.{Gives, one_word, two_words, alone, get_with, statement_with, statement_of, line_of};
+ghost use Rattle.wp_text.specs.Reading.{line_fault, one_word, two_words, alone, get_with, statement_with, statement_of, line_of};
 
 use crate::fault::{LineError, Why};
 use crate::keyword::Keyword;
@@ -17,7 +18,7 @@ pub const MOST_LINE_BYTES: usize = 400;
 pub enum Statement {
     /// A client's part begins.
     Client(Name),
-    /// A command of the client whose part it stands in.
+    /// A command of the client whose part it is in.
     Command(Command),
 }
 
@@ -37,7 +38,7 @@ fn words<'a>(alloc: Global, line: &'a [u8]) -> Result<Vec<&'a [u8]>, AllocError>
 
 #[tactic(auto, unfolding(crate::specs::Reading::one_word))]
 fn one_word<const MOST: usize>(alloc: Global, words: &[&[u8]]) -> Result<Word<MOST>, LineError>
-    ensures { Gives (λ word. word) result (one_word MOST (map (λ word. word.now) words.now)) }
+    ensures { Gives line_fault (λ word. word) result (one_word MOST (map (λ word. word.now) words.now)) }
 {
     match words {
         [word] => Ok(Word::read(alloc, word)?),
@@ -50,7 +51,7 @@ fn two_words<const FIRST: usize, const SECOND: usize>(
     alloc: Global,
     words: &[&[u8]],
 ) -> Result<(Word<FIRST>, Word<SECOND>), LineError>
-    ensures { Gives (λ both. both) result (two_words FIRST SECOND (map (λ word. word.now) words.now)) }
+    ensures { Gives line_fault (λ both. both) result (two_words FIRST SECOND (map (λ word. word.now) words.now)) }
 {
     match words {
         [first, second] => Ok((Word::read(alloc, first)?, Word::read(alloc, second)?)),
@@ -60,7 +61,7 @@ fn two_words<const FIRST: usize, const SECOND: usize>(
 
 #[tactic(auto, unfolding(crate::specs::Reading::alone))]
 fn alone(words: &[&[u8]], command: Command) -> Result<Statement, LineError>
-    ensures { Gives (λ s. s) result (alone command (map (λ word. word.now) words.now)) }
+    ensures { Gives line_fault (λ s. s) result (alone command (map (λ word. word.now) words.now)) }
 {
     match words {
         [] => Ok(Statement::Command(command)),
@@ -70,7 +71,7 @@ fn alone(words: &[&[u8]], command: Command) -> Result<Statement, LineError>
 
 #[tactic(auto, unfolding(crate::specs::Reading::get_with))]
 fn get_with(alloc: Global, words: &[&[u8]]) -> Result<Statement, LineError>
-    ensures { Gives (λ s. s) result (get_with (map (λ word. word.now) words.now)) }
+    ensures { Gives line_fault (λ s. s) result (get_with (map (λ word. word.now) words.now)) }
 {
     let [key, at, name] = words else {
         return Ok(Statement::Command(Command::Get(one_word(alloc, words)?)));
@@ -84,7 +85,7 @@ fn get_with(alloc: Global, words: &[&[u8]]) -> Result<Statement, LineError>
 
 #[tactic(auto, unfolding(crate::specs::Reading::statement_with))]
 fn statement_with(alloc: Global, keyword: Keyword, words: &[&[u8]]) -> Result<Statement, LineError>
-    ensures { Gives (λ s. s) result (statement_with keyword (map (λ word. word.now) words.now)) }
+    ensures { Gives line_fault (λ s. s) result (statement_with keyword (map (λ word. word.now) words.now)) }
 {
     Ok(match keyword {
         Keyword::Client => Statement::Client(one_word(alloc, words)?),
@@ -107,7 +108,7 @@ fn statement_with(alloc: Global, keyword: Keyword, words: &[&[u8]]) -> Result<St
 
 #[tactic(auto, unfolding(crate::specs::Reading::statement_of, crate::specs::Reading::statement_named))]
 fn statement_of(alloc: Global, words: &[&[u8]]) -> Result<Option<Statement>, LineError>
-    ensures { Gives (λ s. s) result (statement_of (map (λ word. word.now) words.now)) }
+    ensures { Gives line_fault (λ s. s) result (statement_of (map (λ word. word.now) words.now)) }
 {
     let [first, others @ ..] = words else {
         return Ok(None);
@@ -124,7 +125,7 @@ fn statement_of(alloc: Global, words: &[&[u8]]) -> Result<Option<Statement>, Lin
 /// What the line says, or `None` where it is passed over.
 #[tactic(auto, unfolding(crate::specs::Reading::line_of))]
 pub fn read_line(alloc: Global, line: &[u8]) -> Result<Option<Statement>, LineError>
-    ensures { Gives (λ s. s) result (line_of line.now) }
+    ensures { Gives line_fault (λ s. s) result (line_of line.now) }
 {
     if line.len() > MOST_LINE_BYTES {
         return Err(LineError::Wrong(Why::LineLong));

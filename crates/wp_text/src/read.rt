@@ -1,7 +1,8 @@
 ghost use Rattle.std.specs.Prelude.{◌≡◌, ℕ, ◌≤◌, List, [], length, IfOk, IfErr};
-ghost use Rattle.wp_text.specs.Faults.{IsFault, IsErrorOf, GivesScript, HasOneReading};
+ghost use Rattle.wp_fields.specs.Reading.{Gives};
+ghost use Rattle.wp_text.specs.Faults.{IsFault, IsErrorOf, HasOneReading};
 ghost use Rattle.wp_text.specs.Grammar.{lines_of, IsScript, commands_of};
-ghost use Rattle.wp_text.specs.Reading.{Gives, has_client, with_client, with_command, with_statement, with_meaning, with_line, with_lines, script_of};
+ghost use Rattle.wp_text.specs.Reading.{line_fault, script_fault, has_client, with_client, with_command, with_statement, with_meaning, with_line, with_lines, script_of};
 
 use crate::fault::{Fault, LineError, ScriptError, Why};
 use crate::line::{Statement, read_line};
@@ -23,7 +24,7 @@ fn has_client(parts: &[Part], client: &Name) -> bool
 
 #[tactic(auto, unfolding(crate::specs::Reading::with_client))]
 fn add_client(alloc: Global, parts: &mut Vec<Part>, client: Name) -> Result<(), LineError>
-    ensures { Gives (λ _. parts.new.items) result (with_client parts.old.items client) }
+    ensures { Gives line_fault (λ _. parts.new.items) result (with_client parts.old.items client) }
 {
     if has_client(parts, &client) {
         return Err(LineError::Wrong(Why::ClientTwice));
@@ -40,7 +41,7 @@ fn add_client(alloc: Global, parts: &mut Vec<Part>, client: Name) -> Result<(), 
 
 #[tactic(auto, unfolding(crate::specs::Reading::with_command))]
 fn add_command(parts: &mut Vec<Part>, command: Command) -> Result<(), LineError>
-    ensures { Gives (λ _. parts.new.items) result (with_command parts.old.items command) }
+    ensures { Gives line_fault (λ _. parts.new.items) result (with_command parts.old.items command) }
 {
     match parts.last_mut() {
         Some(part) => Ok(part.commands.push(command)?),
@@ -50,7 +51,7 @@ fn add_command(parts: &mut Vec<Part>, command: Command) -> Result<(), LineError>
 
 #[tactic(auto, unfolding(crate::specs::Reading::with_line, crate::specs::Reading::with_meaning, crate::specs::Reading::with_statement))]
 fn add_line(alloc: Global, parts: &mut Vec<Part>, line: &[u8]) -> Result<(), LineError>
-    ensures { Gives (λ _. parts.new.items) result (with_line parts.old.items line.now) }
+    ensures { Gives line_fault (λ _. parts.new.items) result (with_line parts.old.items line.now) }
 {
     match read_line(alloc, line)? {
         None => Ok(()),
@@ -61,7 +62,7 @@ fn add_line(alloc: Global, parts: &mut Vec<Part>, line: &[u8]) -> Result<(), Lin
 
 fn read_lines(alloc: Global, bytes: &[u8]) -> Result<Script, ScriptError>
     requires { length bytes.now ≤ MOST_BYTES }
-    ensures { GivesScript result (with_lines 0 [] (lines_of bytes.now)) }
+    ensures { Gives script_fault (λ parts. parts) result (with_lines 0 [] (lines_of bytes.now)) }
 {
     let mut parts = Vec::new(alloc);
     for (i, line) in bytes.split(|b| *b == b'\n').enumerate() {
@@ -74,7 +75,7 @@ fn read_lines(alloc: Global, bytes: &[u8]) -> Result<Script, ScriptError>
 
 #[tactic(auto, unfolding(crate::specs::Reading::script_of))]
 fn read_all(alloc: Global, bytes: &[u8]) -> Result<Script, ScriptError>
-    ensures { GivesScript result (script_of bytes.now) }
+    ensures { Gives script_fault (λ parts. parts) result (script_of bytes.now) }
 {
     if bytes.len() > MOST_BYTES {
         return Err(ScriptError::Fault(Fault {
@@ -91,8 +92,8 @@ pub fn read_script(alloc: Global, bytes: &[u8]) -> Result<Script, ScriptError>
     ensures script { IfOk result (λ parts. IsScript bytes.now parts) }
     ensures error { IfErr result (λ e. IsErrorOf bytes.now e) }
     // What spells a script is read, and what has a fault is refused for it, unless memory runs out.
-    ensures each_script { (parts : List Part) → IsScript bytes.now parts → GivesScript result (Ok parts) }
-    ensures each_fault { (fault : Fault) → IsFault bytes.now fault.line fault.why → GivesScript result (Err fault) }
+    ensures each_script { (parts : List Part) → IsScript bytes.now parts → Gives script_fault (λ parts. parts) result (Ok parts) }
+    ensures each_fault { (fault : Fault) → IsFault bytes.now fault.line fault.why → Gives script_fault (λ parts. parts) result (Err fault) }
     ensures few_commands { IfOk result (λ parts. length (commands_of parts) ≤ length bytes.now) }
 {
     read_all(alloc, bytes)

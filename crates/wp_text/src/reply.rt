@@ -3,9 +3,9 @@ use wp_model::{Name, Seq, Value};
 /// What a client is answered for one command. Each number is that of an entry of the one history, 0 before the first.
 #[derive(Debug, Drop)]
 pub enum Reply {
-    /// The value stands in the history, as the entry with this number.
+    /// The value is in the history, as the entry with this number.
     Put(Seq),
-    /// The deletion stands in the history, as the entry with this number.
+    /// The deletion is in the history, as the entry with this number.
     Del(Seq),
     /// The change is in the batch of the client's transaction.
     Held,

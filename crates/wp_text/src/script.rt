@@ -56,7 +56,7 @@ impl Commands {
         Commands { items }
     }
 
-    /// Adds a command behind the others.
+    /// Adds a command after the others.
     pub fn push(&mut self, command: Command) -> Result<(), AllocError>
         ensures ok { OnOk result (self.new ≡ self.old ++ command ∷ []) }
         ensures err { OnErr result (self.new ≡ self.old) }

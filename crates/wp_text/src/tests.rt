@@ -196,7 +196,7 @@ const COMMANDS_READ: [(&str, &[u8], &[u8]); 12] = [
     ("take", b"t12", b""),
 ];
 
-fn told(command: &Command) -> (&str, &[u8], &[u8]) {
+fn parts_of(command: &Command) -> (&str, &[u8], &[u8]) {
     match command {
         Command::Put(key, value) => ("put", key.bytes(), value.bytes()),
         Command::Del(key) => ("del", key.bytes(), b""),
@@ -224,7 +224,7 @@ fn every_command_is_read(rt: HostRuntime) -> Result<(), Fail> {
     let commands = part.commands.as_slice();
     assert_eq!(rt; commands.len(), COMMANDS_READ.len());
     for (command, read) in commands.iter().zip(COMMANDS_READ) {
-        assert_eq!(rt; told(command), read);
+        assert_eq!(rt; parts_of(command), read);
     }
     Ok(())
 }

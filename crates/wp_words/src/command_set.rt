@@ -1,4 +1,4 @@
-//! The commands and options of the program, as `clap` is told of them.
+//! The commands and options of the program, as `clap` knows them.
 
 ghost use Rattle.std.specs.Prelude.{◌≡◌, IfOk, false};
 ghost use Rattle.clap.specs.Words.{app_of, rule_of};

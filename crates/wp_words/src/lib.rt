@@ -2,7 +2,7 @@
 //!
 //! The commands are `run` and `show`, and each takes `--bits`, `--limit` and `--id`. `clap` decides which
 //! words these commands take. The numbers are read here: decimal digits with no sign and no leading zero. The
-//! program has no help and no version. The crate stands apart from the program's run, because what rests on
+//! program has no help and no version. The crate is apart from the program's run, because what rests on
 //! `clap` takes long to check.
 #![tactic(auto)]
 

@@ -29,7 +29,7 @@ static TAKEN: [(&str, Action, u32, u64, u32); 15] = [
     ),
 ];
 
-// Two spaces in a row, or one at the end, stand for an empty word.
+// Two spaces in a row, or one at the end, mean an empty word.
 static REFUSED: [&str; 37] = [
     "wp",
     "wp ",

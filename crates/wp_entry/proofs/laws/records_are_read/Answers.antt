@@ -1,4 +1,6 @@
-use Rattle.wp_entry.proofs.Grammar.{record_takes, record_again}
+use Rattle.wp_entry.proofs.FaultLemmas.{record_fails, record_refused}
+use Rattle.wp_entry.proofs.Grammar.{record_takes}
+use Rattle.wp_entry.proofs.Spelled.{record_again}
 use Rattle.wp_entry.proofs.laws.records_are_read.Goals as goal
 
 pub returns-clause-spelled : goal.returns-clause-spelled
@@ -6,3 +8,6 @@ returns-clause-spelled c = record_again
 
 pub returns-clause-only : goal.returns-clause-only
 returns-clause-only c = record_takes
+
+pub returns-clause-refused : goal.returns-clause-refused
+returns-clause-refused c = λ first bytes fault h. (record_fails first bytes fault h, record_refused first bytes fault)

@@ -1,8 +1,9 @@
 use Rattle.std.proofs.Common.{sym, ap, ◌∙◌}
+use Rattle.wp_entry.specs.declared.error.RecordError.{RecordError}
 use Rattle.wp_entry.specs.Reading.{record_at}
-use Rattle.wp_entry.proofs.Fields.{same_read}
-use Rattle.wp_entry.proofs.Grammar.{record_again}
+use Rattle.wp_fields.proofs.Results.{ok_is}
+use Rattle.wp_entry.proofs.Spelled.{record_again}
 use Rattle.wp_entry.proofs.laws.spellings_differ.Goals as goal
 
 pub returns : goal.returns
-returns c = λ first one other is_one is_other same. same_read one other (sym (record_again first one is_one) ∙ ap (record_at first) same ∙ record_again first other is_other)
+returns c = λ first one other is_one is_other same. ok_is {E = RecordError} one other (sym (record_again first one is_one) ∙ ap (record_at first) same ∙ record_again first other is_other)

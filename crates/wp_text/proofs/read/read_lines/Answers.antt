@@ -7,7 +7,7 @@ use Rattle.std.proofs.lemmas.List.{length_push}
 use Rattle.std.proofs.lemmas.List.FromFn.{length-enumerate_from}
 use borrow.Author.Tests.{tests}
 use Rattle.wp_text.specs.Grammar.{lines_of}
-use Rattle.wp_text.proofs.Loop.{Turn, turn_from, goes_on, ends, is_done}
+use Rattle.wp_text.proofs.Loop.{Turn, turn_from, line_read, line_refused, all_lines_read}
 use Rattle.wp_text.proofs.read.read_lines.Goals as goal
 use Rattle.wp_text.proofs.read.read_lines.Goals.{After-next, In-Some}
 use Rattle.wp_text.proofs.read.read_lines.Given as given
@@ -23,13 +23,13 @@ turn c lines =
 
 pub loop-i-preserved : goal.loop-i-preserved
 loop-i-preserved c =
-    rw length_push (goes_on (lines_of c.args.bytes.now) (length c.loop-i.yielded) c.in-Some.i c.in-Some.line.now c.loop-i.parts.items c.add_line.new.parts.items _ (turn (goal.at.loop-i-preserved c).In-Some (road (goal.at.loop-i-preserved c).After-next)) c.in_default.ensures c.loop-i.invariant)
+    rw length_push (line_read (lines_of c.args.bytes.now) (length c.loop-i.yielded) c.in-Some.i c.in-Some.line.now c.loop-i.parts.items c.add_line.new.parts.items _ (turn (goal.at.loop-i-preserved c).In-Some (road (goal.at.loop-i-preserved c).After-next)) c.in_default.ensures c.loop-i.invariant)
 
 pub returns-in-Err : goal.returns-in-Err
 returns-in-Err c =
-    rw c.in_line.ensures (ends (lines_of c.args.bytes.now) (length c.loop-i.yielded) c.in-Some.i c.in-Some.line.now c.loop-i.parts.items c.in-Err.e _ (turn (goal.at.returns-in-Err c).In-Some (road (goal.at.returns-in-Err c).After-next)) c.in-Err.ensures c.loop-i.invariant)
+    rw c.in_line.ensures (line_refused (lines_of c.args.bytes.now) (length c.loop-i.yielded) c.in-Some.i c.in-Some.line.now c.loop-i.parts.items c.in-Err.e _ (turn (goal.at.returns-in-Err c).In-Some (road (goal.at.returns-in-Err c).After-next)) c.in-Err.ensures c.loop-i.invariant)
 
 pub returns : goal.returns
 returns c =
     let end = YieldsList-end (road (goal.at.returns c).After-next) c.loop-i.yielded _ c.loop-i.yielded_by _ _ c.in-None.is c.next.ensures.steps in
-    rw c.new.ensures (is_done (lines_of c.args.bytes.now) (length c.loop-i.yielded) c.loop-i.parts.items _ (omega (arith, end.1, length-enumerate_from 0 (lines_of c.args.bytes.now))) c.loop-i.invariant)
+    rw c.new.ensures (all_lines_read (lines_of c.args.bytes.now) (length c.loop-i.yielded) c.loop-i.parts.items _ (omega (arith, end.1, length-enumerate_from 0 (lines_of c.args.bytes.now))) c.loop-i.invariant)

@@ -1,0 +1,4 @@
+pub mod Order
+pub mod Loop
+pub mod WordLemmas
+pub mod ChangeLemmas

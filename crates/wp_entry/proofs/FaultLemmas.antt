@@ -1,0 +1,324 @@
+-- What is refused has the fault, and what has a fault is refused for it.
+use Rattle.std.proofs.Common.{◌≡◌, ℕ, zero, suc, ◌+◌, ◌^◌, ◌<◌, ◌≤◌, true, false, cond, leb, eqb, ◌||◌, List, [], ◌∷◌, ◌++◌, length, Result, Ok, Err, refl, sym, ap, subst, ◌∙◌, append_assoc, arith, inl, inr, ◌⊎◌}
+use Rattle.std.specs.Prelude.{IfErr, IfSome}
+use Rattle.std.specs.Global.{Vec}
+use Rattle.std.specs.Int.{w32, to_be_bytes}
+use Rattle.std.proofs.lemmas.Bool.{eqb-true, eqb-false, ne_eqb, eq-eqb, leb-true, leb-false, le-leb, lt-leb, or_left, or_right}
+use Rattle.wp_model.specs.declared.entry.Entry.{Entry}
+use Rattle.wp_model.specs.declared.entry.Entry.TheVariants.{Write, Prepare, Commit, Undo, Close}
+use Rattle.wp_fields.specs.Reading.{◌>>=◌, byte_at, number_at, Gives}
+use Rattle.wp_fields.proofs.Results.{bind_err, chosen, either, err_is, ok_or_err, map_failed}
+use Rattle.wp_fields.proofs.FieldLemmas.{AreBytes, byte_takes, byte_fails, number_takes, number_fails, number_again, number_short, fields_32}
+use Rattle.wp_encoding.specs.declared.error.EncodingError.{EncodingError}
+use Rattle.wp_encoding.specs.declared.error.EncodingError.TheVariants as encoding_error
+use Rattle.wp_encoding.specs.Faults.{IsBatchFault}
+use Rattle.wp_encoding.specs.Reading as encoding
+use Rattle.wp_encoding.proofs.WordLemmas.{word_again, word_fails, word_refused}
+use Rattle.wp_encoding.proofs.ChangeLemmas.{batch_fails, batch_refused, no_memory_in_word, no_memory_in_batch}
+use Rattle.wp_entry.specs.declared.layout.TheConstants.{LAST_NUMBER}
+use Rattle.wp_entry.specs.declared.error.RecordError.{RecordError}
+use Rattle.wp_entry.specs.declared.error.RecordError.TheVariants.{Memory, Short, BadNumber, BadKind, BadWord, Extra}
+use Rattle.wp_entry.specs.Errors.{record_error, record_fault}
+use Rattle.wp_entry.specs.Faults.{HasNumberField, IsEarlierFault, IsEntriesFault, write_batch, prepare_name, prepare_batch, commit_number, no_number_for_close, undo_number, undo_batch, IsFaultAfterKind, HasMore, IsRecordFault}
+use Rattle.wp_entry.specs.Record.{entries_bytes, record_bytes}
+use Rattle.wp_entry.specs.Reading.{name_in_record, batch_in_record, after_number, write_at, prepare_at, earlier_at, commit_at, rollback_at, entries_at, record_at}
+use Rattle.wp_entry.proofs.Grammar.{Entries, name_takes, earlier_takes, entries_take, number_takes_due, this_kind, another, kind_by_test, at_end, entries_to_end, kind_and_entries}
+use Rattle.wp_entry.proofs.Spelled.{record_after_number, earlier_again, entries_again}
+
+-- ---- what is refused has the fault
+
+-- It is the error of a record, of a field with this fault.
+record IsNamed (P : EncodingError → Type 0) (fault : RecordError) : Type 0 where
+  field_fault : EncodingError
+  named : record_error field_fault ≡ fault
+  wrong : P field_fault
+
+batch_at_fails : (bytes : List ℕ) (fault : RecordError) → AreBytes bytes → batch_in_record bytes ≡ Err fault → IsNamed (IsBatchFault bytes) fault
+batch_at_fails bytes fault h e =
+    let d = map_failed record_error (encoding.batch_field_at bytes) fault e in
+    record { field_fault = d.0; named = d.2; wrong = batch_fails bytes d.0 h d.1 }
+
+earlier_fails : (due : ℕ) (bytes : List ℕ) (fault : RecordError) → AreBytes bytes → earlier_at due bytes ≡ Err fault → IsNamed (IsEarlierFault due bytes) fault
+unfolding earlier_at
+earlier_fails due bytes fault h e =
+    elim (bind_err (number_at Short w32 bytes) (λ number. cond (eqb number.0 0 || leb due number.0) (Err BadWord) (Ok number)) fault e) [
+      | inl short ↦
+          let number = number_fails Short w32 bytes fault short in
+          record { field_fault = encoding_error.Short; named = number.1; wrong = number.0 }
+      | inr there ↦
+          let p = there.0.0 in
+          let number = number_takes Short w32 (2 ^ 32) fields_32 bytes there.0 h there.1 in
+          let has : HasNumberField bytes p there.0.1 = record { parts = number.0.parts; small = number.1 } in
+          elim (chosen (eqb p 0 || leb due p) (Err BadWord) (Ok there.0) (Err fault) there.2) [
+            | inl out ↦
+                let range : (p ≡ 0) ⊎ (due ≤ p) = elim (either (eqb p 0)) [
+                  | inl none ↦ inl (eqb-true p 0 none)
+                  | inr some ↦ inr (leb-true due p (rw some at out.0))
+                ] in
+                record { field_fault = encoding_error.Word; named = err_is {A = ℕ × List ℕ} BadWord fault out.1; wrong = (p, (there.0.1, has, range)) }
+            | inr within ↦ absurd (ok_or_err there.0 fault within.1)
+          ]
+    ]
+
+write_fails : (due kind : ℕ) (bytes : List ℕ) (fault : RecordError) → AreBytes bytes → kind ≡ 1 → write_at bytes ≡ Err fault → IsNamed (IsEntriesFault due kind bytes) fault
+unfolding write_at
+write_fails due kind bytes fault h is e =
+    elim (bind_err (batch_in_record bytes) (λ batch. Ok (Write batch.0 ∷ [], batch.1)) fault e) [
+      | inl wrong ↦
+          let batch = batch_at_fails bytes fault h wrong in
+          record { field_fault = batch.field_fault; named = batch.named; wrong = write_batch is batch.wrong }
+      | inr read ↦ absurd (ok_or_err (Write read.0.0 ∷ [], read.0.1) fault read.2)
+    ]
+
+abbrev prepared_with : List ℕ × List ℕ → Entries
+prepared_with name = batch_in_record name.1 >>= λ batch. Ok (Prepare name.0 batch.0 ∷ [], batch.1)
+
+prepare_fails : (due kind : ℕ) (bytes : List ℕ) (fault : RecordError) → AreBytes bytes → kind ≡ 2 → prepare_at bytes ≡ Err fault → IsNamed (IsEntriesFault due kind bytes) fault
+unfolding prepare_at
+prepare_fails due kind bytes fault h is e =
+    elim (bind_err (name_in_record bytes) prepared_with fault e) [
+      | inl wrong ↦
+          let d = map_failed record_error (encoding.word_field_at 32 bytes) fault wrong in
+          record { field_fault = d.0; named = d.2; wrong = prepare_name is (word_fails 32 bytes d.0 d.1) }
+      | inr there ↦
+          let name = name_takes bytes there.0 h there.1 in
+          elim (bind_err (batch_in_record there.0.1) (λ batch. Ok (Prepare there.0.0 batch.0 ∷ [], batch.1)) fault there.2) [
+            | inl wrong ↦
+                let batch = batch_at_fails there.0.1 fault name.0.rest_bytes wrong in
+                record { field_fault = batch.field_fault; named = batch.named; wrong = prepare_batch there.0.0 there.0.1 is (record { parts = name.0.parts; in_range = name.1 }) batch.wrong }
+            | inr read ↦ absurd (ok_or_err (Prepare there.0.0 read.0.0 ∷ [], read.0.1) fault read.2)
+          ]
+    ]
+
+commit_fails : (due kind : ℕ) (bytes : List ℕ) (fault : RecordError) → AreBytes bytes → kind ≡ 3 → commit_at due bytes ≡ Err fault → IsNamed (IsEntriesFault due kind bytes) fault
+unfolding commit_at
+commit_fails due kind bytes fault h is e =
+    elim (bind_err (earlier_at due bytes) (λ p. Ok (Commit p.0 ∷ [], p.1)) fault e) [
+      | inl wrong ↦
+          let p = earlier_fails due bytes fault h wrong in
+          record { field_fault = p.field_fault; named = p.named; wrong = commit_number is p.wrong }
+      | inr read ↦ absurd (ok_or_err (Commit read.0.0 ∷ [], read.0.1) fault read.2)
+    ]
+
+abbrev undone_with : ℕ × List ℕ → Entries
+undone_with p = batch_in_record p.1 >>= λ batch. Ok (Undo p.0 batch.0 ∷ Close p.0 ∷ [], batch.1)
+
+rollback_fails : (due kind : ℕ) (bytes : List ℕ) (fault : RecordError) → AreBytes bytes → kind ≡ 4 → rollback_at due bytes ≡ Err fault → IsNamed (IsEntriesFault due kind bytes) fault
+unfolding rollback_at
+rollback_fails due kind bytes fault h is e =
+    elim (chosen (leb LAST_NUMBER due) (Err BadWord) (earlier_at due bytes >>= undone_with) (Err fault) e) [
+      | inl last ↦
+          let none : 2 ^ 32 ≤ due + 1 = omega (arith, leb-true LAST_NUMBER due last.0) in
+          record { field_fault = encoding_error.Word; named = err_is {A = List Entry × List ℕ} BadWord fault last.1; wrong = no_number_for_close is none refl }
+      | inr first ↦
+          let room : due + 1 < 2 ^ 32 = omega (arith, leb-false LAST_NUMBER due first.0) in
+          elim (bind_err (earlier_at due bytes) undone_with fault first.1) [
+            | inl wrong ↦
+                let p = earlier_fails due bytes fault h wrong in
+                record { field_fault = p.field_fault; named = p.named; wrong = undo_number is room p.wrong }
+            | inr there ↦
+                let p = earlier_takes due bytes there.0 h there.1 in
+                let below = p.1.below in
+                elim (bind_err (batch_in_record there.0.1) (λ batch. Ok (Undo there.0.0 batch.0 ∷ Close there.0.0 ∷ [], batch.1)) fault there.2) [
+                  | inl wrong ↦
+                      let batch = batch_at_fails there.0.1 fault p.0.rest_bytes wrong in
+                      record { field_fault = batch.field_fault; named = batch.named; wrong = undo_batch there.0.0 there.0.1 is room (record { parts = p.0.parts; small = omega arith }) p.1 batch.wrong }
+                  | inr read ↦ absurd (ok_or_err (Undo there.0.0 read.0.0 ∷ Close there.0.0 ∷ [], read.0.1) fault read.2)
+                ]
+          ]
+    ]
+
+-- no kind, as the tests of it went
+unknown_kind : (kind : ℕ) → eqb kind 1 ≡ false → eqb kind 2 ≡ false → eqb kind 3 ≡ false → eqb kind 4 ≡ false → (kind ≡ 0) ⊎ (4 < kind)
+unknown_kind zero a b c d = inl refl
+unknown_kind (suc zero) a b c d = absurd cc
+unknown_kind (suc (suc zero)) a b c d = absurd cc
+unknown_kind (suc (suc (suc zero))) a b c d = absurd cc
+unknown_kind (suc (suc (suc (suc zero)))) a b c d = absurd cc
+unknown_kind (suc (suc (suc (suc (suc n))))) a b c d = inr (omega arith)
+
+-- The kind is none, or the fault is that of a field after it.
+data FailsAtKind (due kind : ℕ) (bytes : List ℕ) (fault : RecordError) : Type 0 where
+  no_kind : (kind ≡ 0) ⊎ (4 < kind) → fault ≡ BadKind kind → FailsAtKind due kind bytes fault
+  in_fields : IsNamed (IsEntriesFault due kind bytes) fault → FailsAtKind due kind bytes fault
+
+entries_fail : (due kind : ℕ) (bytes : List ℕ) (fault : RecordError) → AreBytes bytes → entries_at due kind bytes ≡ Err fault → FailsAtKind due kind bytes fault
+unfolding entries_at
+entries_fail due kind bytes fault h e =
+    let rollback : Entries = cond (eqb kind 4) (rollback_at due bytes) (Err (BadKind kind)) in
+    let commit : Entries = cond (eqb kind 3) (commit_at due bytes) rollback in
+    let prepare : Entries = cond (eqb kind 2) (prepare_at bytes) commit in
+    elim (kind_by_test (eqb kind 1) kind 1 (write_at bytes) prepare (Err fault) refl e) [
+      | this_kind is read ↦ in_fields (write_fails due kind bytes fault h is read)
+      | another not_write e ↦ elim (kind_by_test (eqb kind 2) kind 2 (prepare_at bytes) commit (Err fault) refl e) [
+        | this_kind is read ↦ in_fields (prepare_fails due kind bytes fault h is read)
+        | another not_prepare e ↦ elim (kind_by_test (eqb kind 3) kind 3 (commit_at due bytes) rollback (Err fault) refl e) [
+          | this_kind is read ↦ in_fields (commit_fails due kind bytes fault h is read)
+          | another not_commit e ↦ elim (kind_by_test (eqb kind 4) kind 4 (rollback_at due bytes) (Err (BadKind kind)) (Err fault) refl e) [
+            | this_kind is read ↦ in_fields (rollback_fails due kind bytes fault h is read)
+            | another not_rollback e ↦ no_kind (unknown_kind kind not_write not_prepare not_commit not_rollback) (sym (err_is {A = List Entry × List ℕ} (BadKind kind) fault e))
+          ]
+        ]
+      ]
+    ]
+
+no_memory_in_entries : (due kind : ℕ) (bytes : List ℕ) → IsEntriesFault due kind bytes encoding_error.Memory → ⊥
+no_memory_in_entries due kind bytes (write_batch is wrong) = no_memory_in_batch bytes wrong
+no_memory_in_entries due kind bytes (prepare_name is wrong) = no_memory_in_word 32 bytes wrong
+no_memory_in_entries due kind bytes (prepare_batch name rest is has wrong) = no_memory_in_batch rest wrong
+no_memory_in_entries due kind bytes (commit_number is wrong) = wrong
+no_memory_in_entries due kind bytes (no_number_for_close is none same) = cc
+no_memory_in_entries due kind bytes (undo_number is room wrong) = wrong
+no_memory_in_entries due kind bytes (undo_batch p rest is room has earlier wrong) = no_memory_in_batch rest wrong
+
+after_kind_fault : (due kind : ℕ) (bytes rest : List ℕ) (fault : EncodingError) → HasNumberField bytes due (kind ∷ rest) → IsEntriesFault due kind rest fault → IsRecordFault due bytes (record_error fault)
+after_kind_fault due kind bytes rest encoding_error.Memory front wrong = absurd (no_memory_in_entries due kind rest wrong)
+after_kind_fault due kind bytes rest encoding_error.Short front wrong = inr (inr (record { kind = kind; rest = rest; front = front; wrong = wrong }))
+after_kind_fault due kind bytes rest (encoding_error.Kind byte) front wrong = inr (record { kind = kind; rest = rest; front = front; wrong = wrong })
+after_kind_fault due kind bytes rest encoding_error.Word front wrong = record { kind = kind; rest = rest; front = front; wrong = wrong }
+
+renamed : (due : ℕ) (bytes : List ℕ) (one other : RecordError) → one ≡ other → IsRecordFault due bytes one → IsRecordFault due bytes other
+renamed due bytes one other same is = subst (λ (fault : RecordError). IsRecordFault due bytes fault) same is
+
+due_number_fails : (due : ℕ) (bytes : List ℕ) (fault : RecordError) → AreBytes bytes → after_number due bytes ≡ Err fault → IsRecordFault due bytes fault
+unfolding after_number
+due_number_fails due bytes fault h e =
+    elim (bind_err (number_at Short w32 bytes) (λ number. cond (eqb number.0 due) (Ok number.1) (Err (BadNumber number.0 due))) fault e) [
+      | inl short ↦
+          let number = number_fails Short w32 bytes fault short in
+          renamed due bytes Short fault number.1 (inl number.0)
+      | inr there ↦
+          let found = there.0.0 in
+          let number = number_takes Short w32 (2 ^ 32) fields_32 bytes there.0 h there.1 in
+          let has : HasNumberField bytes found there.0.1 = record { parts = number.0.parts; small = number.1 } in
+          elim (chosen (eqb found due) (Ok there.0.1) (Err (BadNumber found due)) (Err fault) there.2) [
+            | inl is ↦ absurd (ok_or_err there.0.1 fault is.1)
+            | inr another_number ↦ renamed due bytes (BadNumber found due) fault (err_is {A = List ℕ} (BadNumber found due) fault another_number.1) (refl, eqb-false found due another_number.0, (there.0.1, has))
+          ]
+    ]
+
+more_than_none : (bytes : List ℕ) → eqb (length bytes) 0 ≡ false → 1 ≤ length bytes
+more_than_none [] e = absurd cc
+more_than_none (byte ∷ bytes) e = omega arith
+
+pub record_fails : (due : ℕ) (bytes : List ℕ) (fault : RecordError) → AreBytes bytes → record_at due bytes ≡ Err fault → IsRecordFault due bytes fault
+unfolding record_at
+record_fails due bytes fault h e =
+    elim (bind_err (after_number due bytes) (kind_and_entries due) fault e) [
+      | inl wrong ↦ due_number_fails due bytes fault h wrong
+      | inr after ↦
+          let number = number_takes_due due bytes after.0 h after.1 in
+          elim (bind_err (byte_at Short after.0) (entries_to_end due) fault after.2) [
+            | inl short ↦
+                let kind = byte_fails Short after.0 fault short in
+                let ended : HasNumberField bytes due [] = rw (← kind.0) (record { parts = number.0.parts; small = number.1 }) in
+                renamed due bytes Short fault kind.1 (inr (inl ended))
+            | inr there ↦
+                let kind = byte_takes Short after.0 there.0 number.0.rest_bytes there.1 in
+                let front : HasNumberField bytes due (there.0.0 ∷ there.0.1) = record { parts = number.0.parts ∙ ap (λ (t : List ℕ). to_be_bytes w32 due ++ t) kind.parts; small = number.1 } in
+                elim (bind_err (entries_at due there.0.0 there.0.1) at_end fault there.2) [
+                  | inl wrong ↦ elim (entries_fail due there.0.0 there.0.1 fault kind.rest_bytes wrong) [
+                    | no_kind out is ↦ renamed due bytes (BadKind there.0.0) fault (sym is) (inl (there.0.1, front, out))
+                    | in_fields field ↦ renamed due bytes (record_error field.field_fault) fault field.named (after_kind_fault due there.0.0 bytes there.0.1 field.field_fault front field.wrong)
+                  ]
+                  | inr found ↦
+                      let is = entries_take due there.0.0 there.0.1 found.0 number.1 kind.rest_bytes found.1 in
+                      let more = length found.0.1 in
+                      elim (chosen (eqb more 0) (Ok found.0.0) (Err (Extra more)) (Err fault) found.2) [
+                        | inl whole ↦ absurd (ok_or_err found.0.0 fault whole.1)
+                        | inr extra ↦
+                            let parts : bytes ≡ record_bytes due found.0.0 ++ found.0.1 = front.parts ∙ ap (λ (t : List ℕ). to_be_bytes w32 due ++ t) is.parts.parts ∙ sym (append_assoc (to_be_bytes w32 due) (entries_bytes found.0.0) found.0.1) in
+                            renamed due bytes (Extra more) fault (err_is {A = List Entry} (Extra more) fault extra.1) (record { entries = found.0.0; rest = found.0.1; is = is.is; parts = parts; some = more_than_none found.0.1 extra.0; counted = refl })
+                      ]
+                ]
+          ]
+    ]
+
+-- ---- what has a fault is refused for it
+
+earlier_refused : (due : ℕ) (bytes : List ℕ) (fault : EncodingError) → IsEarlierFault due bytes fault → earlier_at due bytes ≡ Err (record_error fault)
+unfolding earlier_at
+earlier_refused due bytes encoding_error.Short short = rw (number_short Short w32 bytes short) refl
+earlier_refused due bytes encoding_error.Word (p, (rest, has, out)) =
+    let test : (eqb p 0 || leb due p) ≡ true = elim out [
+      | inl none ↦ or_left (eqb p 0) (leb due p) (eq-eqb p 0 none)
+      | inr later ↦ or_right (eqb p 0) (leb due p) (le-leb due p later)
+    ] in
+    ap (earlier_at due) has.parts ∙ rw (number_again Short w32 (2 ^ 32) fields_32 p rest has.small, test) refl
+earlier_refused due bytes encoding_error.Memory wrong = absurd wrong
+earlier_refused due bytes (encoding_error.Kind byte) wrong = absurd wrong
+
+entries_refused : (due kind : ℕ) (bytes : List ℕ) (fault : EncodingError) → IsEntriesFault due kind bytes fault → entries_at due kind bytes ≡ Err (record_error fault)
+unfolding entries_at write_at prepare_at commit_at rollback_at
+entries_refused due kind bytes fault (write_batch is wrong) = rw (is, batch_refused bytes fault wrong) refl
+entries_refused due kind bytes fault (prepare_name is wrong) = rw (is, word_refused 32 bytes fault wrong) refl
+entries_refused due kind bytes fault (prepare_batch name rest is has wrong) =
+    ap (entries_at due kind) has.parts ∙ rw (is, word_again 32 name rest has.in_range, batch_refused rest fault wrong) refl
+entries_refused due kind bytes fault (commit_number is wrong) = rw (is, earlier_refused due bytes fault wrong) refl
+entries_refused due kind bytes fault (no_number_for_close is none same) =
+    let last : leb LAST_NUMBER due ≡ true = le-leb _ _ (omega (arith, none)) in
+    rw (is, same, last) refl
+entries_refused due kind bytes fault (undo_number is room wrong) =
+    let few : leb LAST_NUMBER due ≡ false = lt-leb _ _ (omega (arith, room)) in
+    rw (is, few, earlier_refused due bytes fault wrong) refl
+entries_refused due kind bytes fault (undo_batch p rest is room has earlier wrong) =
+    let few : leb LAST_NUMBER due ≡ false = lt-leb _ _ (omega (arith, room)) in
+    ap (entries_at due kind) has.parts ∙ rw (is, few, earlier_again due p rest (omega (arith, room)) earlier, batch_refused rest fault wrong) refl
+
+kind_refused : (due kind : ℕ) (bytes : List ℕ) → (kind ≡ 0) ⊎ (4 < kind) → entries_at due kind bytes ≡ Err (BadKind kind)
+unfolding entries_at
+kind_refused due kind bytes (inl none) = rw none refl
+kind_refused due kind bytes (inr large) =
+    rw (ne_eqb kind 1 (λ is. omega (arith, large, is)), ne_eqb kind 2 (λ is. omega (arith, large, is)), ne_eqb kind 3 (λ is. omega (arith, large, is)), ne_eqb kind 4 (λ is. omega (arith, large, is))) refl
+
+after_kind_refused : (due : ℕ) (bytes : List ℕ) (fault : EncodingError) → IsFaultAfterKind due bytes fault → record_at due bytes ≡ Err (record_error fault)
+after_kind_refused due bytes fault is =
+    let read : kind_and_entries due (is.kind ∷ is.rest) ≡ Err (record_error fault) = rw (entries_refused due is.kind is.rest fault is.wrong) refl in
+    ap (record_at due) is.front.parts ∙ record_after_number due (is.kind ∷ is.rest) is.front.small ∙ read
+
+number_refused : (due : ℕ) (bytes : List ℕ) (fault : RecordError) → after_number due bytes ≡ Err fault → record_at due bytes ≡ Err fault
+unfolding record_at
+number_refused due bytes fault e = rw e refl
+
+short_number : (due : ℕ) (bytes : List ℕ) → length bytes < 4 → after_number due bytes ≡ Err Short
+unfolding after_number
+short_number due bytes short = rw (number_short Short w32 bytes short) refl
+
+other_number : (due found : ℕ) (bytes rest : List ℕ) → (found ≡ due → ⊥) → HasNumberField bytes found rest → after_number due bytes ≡ Err (BadNumber found due)
+unfolding after_number
+other_number due found bytes rest differ has =
+    ap (after_number due) has.parts ∙ rw (number_again Short w32 (2 ^ 32) fields_32 found rest has.small, ne_eqb found due differ) refl
+
+more_refused : (due : ℕ) (bytes : List ℕ) (extra : ℕ) → HasMore due bytes extra → record_at due bytes ≡ Err (Extra extra)
+more_refused due bytes extra has =
+    let found = entries_again due has.entries has.rest has.is in
+    let some = has.some in
+    let more : eqb (length has.rest) 0 ≡ false = ne_eqb (length has.rest) 0 (λ none. omega arith) in
+    let read : kind_and_entries due (found.kind ∷ (found.fields ++ has.rest)) ≡ Err (Extra extra) = rw (found.read, more, has.counted) refl in
+    let parts : bytes ≡ to_be_bytes w32 due ++ (found.kind ∷ (found.fields ++ has.rest)) = has.parts ∙ append_assoc (to_be_bytes w32 due) (entries_bytes has.entries) has.rest ∙ ap (λ (t : List ℕ). to_be_bytes w32 due ++ (t ++ has.rest)) found.spelled in
+    ap (record_at due) parts ∙ record_after_number due (found.kind ∷ (found.fields ++ has.rest)) found.small ∙ read
+
+pub record_refused : (due : ℕ) (bytes : List ℕ) (fault : RecordError) → IsRecordFault due bytes fault → record_at due bytes ≡ Err fault
+record_refused due bytes Memory is = absurd is
+record_refused due bytes Short (inl short) = number_refused due bytes Short (short_number due bytes short)
+record_refused due bytes Short (inr (inl has)) = ap (record_at due) has.parts ∙ record_after_number due [] has.small
+record_refused due bytes Short (inr (inr is)) = after_kind_refused due bytes encoding_error.Short is
+record_refused due bytes (BadNumber found wanted) (same, differ, (rest, has)) =
+    rw same (number_refused due bytes (BadNumber found due) (other_number due found bytes rest differ has))
+record_refused due bytes (BadKind byte) (inl (rest, has, out)) =
+    let read : kind_and_entries due (byte ∷ rest) ≡ Err (BadKind byte) = rw (kind_refused due byte rest out) refl in
+    ap (record_at due) has.parts ∙ record_after_number due (byte ∷ rest) has.small ∙ read
+record_refused due bytes (BadKind byte) (inr is) = after_kind_refused due bytes (encoding_error.Kind byte) is
+record_refused due bytes BadWord is = after_kind_refused due bytes encoding_error.Word is
+record_refused due bytes (Extra extra) is = more_refused due bytes extra is
+
+-- ---- what a call gave
+
+pub refused_has_fault : (first : ℕ) (bytes : List ℕ) (result : Result (Vec Entry) RecordError) → AreBytes bytes → Gives record_fault (λ entries. entries.items) result (record_at first bytes) → IfErr result (λ error. IfSome (record_fault error) (λ fault. IsRecordFault first bytes fault))
+refused_has_fault first bytes (Ok entries) h read = tt
+refused_has_fault first bytes (Err Memory) h read = tt
+refused_has_fault first bytes (Err Short) h read = record_fails first bytes Short h read
+refused_has_fault first bytes (Err (BadNumber found due)) h read = record_fails first bytes (BadNumber found due) h read
+refused_has_fault first bytes (Err (BadKind byte)) h read = record_fails first bytes (BadKind byte) h read
+refused_has_fault first bytes (Err BadWord) h read = record_fails first bytes BadWord h read
+refused_has_fault first bytes (Err (Extra extra)) h read = record_fails first bytes (Extra extra) h read
