@@ -12,7 +12,7 @@ use Rattle.wp_session.specs.After.{after_decision}
 use Rattle.wp_run.specs.Engine.{EngineState}
 use Rattle.wp_wal.specs.Wal.{LosesNothing}
 
--- the entries stand in the history
+-- the entries are in the log and in the history
 pub record HasLogged (old new : EngineState) (entries : List Entry) : Type 0 where
   pub running : old.stopped ≡ false
   pub fits : length old.entries + length entries ≤ old.limit

@@ -20,7 +20,7 @@ abbrev pub IsLogOrOneMore : ℕ → List Entry → List ℕ → Type 0
 IsLogOrOneMore id history bytes = (longer : List Entry) × IsOrOneMore history longer × IsLegal longer × IsLogOf id longer bytes
 
 -- What a crash leaves of the log: the history; or, once the log has failed, it or it and one record more, whole. The
--- records of the history stand there acknowledged.
+-- records of the history are acknowledged there.
 abbrev pub CrashLeaves : ℕ → ℕ → List Entry → Moment → Type 0
 CrashLeaves zero id history m = LeavesHistory id history m
 CrashLeaves (suc faults) id history m = Leaves (λ image. IsLogOrOneMore id history image × HasAcknowledgedEntries id history image) m

@@ -21,7 +21,7 @@ invariant_of-self-in-Err-DiskFault g c =
     let e = rw c.in-Err-DiskFault.field-0-is at c.in-Err-DiskFault.ensures in
     let next = subst (λ (xs : List Entry). AreNext inside.history.entries xs) (sym c.deref.ensures.value) (rw (← c.self.view_is) at c.requires.next) in
     let fits : length inside.history.entries + length c.deref.result.now ≤ inside.limit = search rules in
-    rw c.reserve-2.ensures.entries (failed_consistent c.legal_grows.ensures inside.wal c.append.new.self inside.history.entries c.deref.result.now inside.stopped inside.limit c.self.invariant c.if-self.false c.entries.ensures.legal next fits c.in_ok-reserve.ensures.record (e.kept inside.history.entries c.deref.result.now ready) (ap (λ (w : WalState). w.closed) e.err.2))
+    rw c.reserve-2.ensures.entries (failed_consistent c.legal_grows.ensures inside.wal c.append.new.self inside.history.entries c.deref.result.now inside.stopped inside.limit c.self.invariant c.if-self.false c.entries.ensures.legal next fits c.in_ok-reserve.ensures.record (e.refused inside.history.entries c.deref.result.now ready) (ap (λ (w : WalState). w.closed) e.err.2))
 
 pub returns-in-Ok : goal.returns-in-Ok
 returns-in-Ok g c =
@@ -32,7 +32,7 @@ returns-in-Ok g c =
       fits = search rules;
       changed = search rules;
       counted = search rules;
-      durable = rw (← c.self.view_is) (durable_from inside.wal c.reserve.new.self c.append.new.self.moments _ c.in_ok-reserve.ensures.ok (c.append.ensures.durable inside.history.entries [] ready.keeps));
+      durable = rw (← c.self.view_is) (durable_from inside.wal c.reserve.new.self c.append.new.self.moments _ c.in_ok-reserve.ensures.ok (c.append.ensures.durable inside.history.entries [] ready.stores));
     }
 
 pub returns-in-Err-DiskFault : goal.returns-in-Err-DiskFault
@@ -45,5 +45,5 @@ returns-in-Err-DiskFault g c =
       changed = search rules;
       rose = search rules;
       counted = search rules;
-      durable = rw (← c.self.view_is) (durable_from inside.wal c.reserve.new.self c.append.new.self.moments _ c.in_ok-reserve.ensures.ok (c.append.ensures.durable inside.history.entries [] ready.keeps));
+      durable = rw (← c.self.view_is) (durable_from inside.wal c.reserve.new.self c.append.new.self.moments _ c.in_ok-reserve.ensures.ok (c.append.ensures.durable inside.history.entries [] ready.stores));
     }
