@@ -10,7 +10,7 @@ use Rattle.wp_gatelog.specs.Spelling.{Gated, IsOpen, framed, identity, all_gated
 use Rattle.wp_gatelog.proofs.DurabilityLemmas.{preserves_passes}
 use Rattle.wp_gatelog.proofs.LawLemmas.{made}
 use Rattle.wp_gatelog.proofs.AppendLemmas.{log_longer}
-use Rattle.wp_gatelog.proofs.MomentLemmas.{image_of_settled, image_after, image_of_gate, known_map}
+use Rattle.wp_gatelog.proofs.MomentLemmas.{image_of_synced, image_after, image_of_gate, known_map}
 use Rattle.wp_gatelog.proofs.ParseLemmas.{same_parts, same_framed, first_split, length-identities}
 
 -- ---- the front of a log
@@ -156,7 +156,7 @@ rest_acknowledged magic id end records m rest image h = record {
   acknowledged = record { gates_open = rest.acknowledged.gates_open; last = rest.acknowledged.last; same = append-nil records ∙ rest.acknowledged.same };
   gate = 0;
   rest = [];
-  spelling = image_of_settled (log_of magic id 1 rest.gated ++ 0 ∷ []) image (subst (λ (n : Moment). IsImage n image) rest.on_disk h);
+  spelling = image_of_synced (log_of magic id 1 rest.gated ++ 0 ∷ []) image (subst (λ (n : Moment). IsImage n image) rest.on_disk h);
 }
 
 -- acknowledged records are the first of those that are spelled

@@ -4,7 +4,7 @@ use Rattle.std.proofs.lemmas.List.{append_assoc}
 use Rattle.wp_outside.specs.Disk.{Moment, IsImage, synced, after_sync, IfKnown, added, Tears, Each, Passes, ReadsItself}
 use Rattle.wp_gatelog.specs.Durability.{PassedOn, Preserves}
 use Rattle.wp_gatelog.specs.Moments.{Leaves}
-use Rattle.wp_gatelog.proofs.MomentLemmas.{matches_self, image_of_settled}
+use Rattle.wp_gatelog.proofs.MomentLemmas.{matches_self, image_of_synced}
 
 -- ---- moments, one after another
 
@@ -35,7 +35,7 @@ preserves_passes P old new before durable = (durable.0, durable.1, (each_passed_
 pub sync_preserves : (P : List ℕ → Type 0) (old new : List Moment) → ReadsItself old → new ≡ added after_sync old → Preserves (Leaves P) old new
 sync_preserves P [] new itself syncs = ([], syncs, tt)
 sync_preserves P (m ∷ past) new itself syncs =
-    (synced m.reads ∷ [], syncs, (λ has image h. subst P (sym (image_of_settled m.reads image h)) (has m.reads itself), tt))
+    (synced m.reads ∷ [], syncs, (λ has image h. subst P (sym (image_of_synced m.reads image h)) (has m.reads itself), tt))
 
 module _ (P : List ℕ → Type 0) (step : Moment → Moment) (before : List ℕ) (spares : P before → (image : List ℕ) → IsImage (step (synced before)) image → P image) where
   step_preserves : (m : Moment) → m ≡ synced before → Leaves P m → Leaves P (step m)

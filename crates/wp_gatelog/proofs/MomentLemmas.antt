@@ -63,11 +63,11 @@ matches_front (x ∷ xs) sure (b ∷ c) h =
     let rest = matches_front xs sure c h.1 in
     (rest.0, (λ i. h.0 i ∷ rest.1 i), rest.2)
 
-pub image_of_settled : (xs c : List ℕ) → IsImage (synced xs) c → c ≡ xs
-image_of_settled [] [] h = refl
-image_of_settled [] (b ∷ c) h = absurd (omega (arith, h.1))
-image_of_settled (x ∷ xs) [] h = absurd h.0
-image_of_settled (x ∷ xs) (b ∷ c) h = λ i. h.0.0 i ∷ image_of_settled xs c (h.0.1, omega (arith, h.1)) i
+pub image_of_synced : (xs c : List ℕ) → IsImage (synced xs) c → c ≡ xs
+image_of_synced [] [] h = refl
+image_of_synced [] (b ∷ c) h = absurd (omega (arith, h.1))
+image_of_synced (x ∷ xs) [] h = absurd h.0
+image_of_synced (x ∷ xs) (b ∷ c) h = λ i. h.0.0 i ∷ image_of_synced xs c (h.0.1, omega (arith, h.1)) i
 
 hide_front : (bytes old : List ℕ) → Matches (hide (length bytes) (map (λ b. Some b) old)) (bytes ++ drop (length bytes) old)
 hide_front [] old = matches_self old
@@ -120,7 +120,7 @@ module _ (step : Moment → Moment) (before : List ℕ) where
         synced (step m).reads ∷ step m ∷ [],
         last,
         (
-          λ image h. subst (λ (l : List ℕ). IsImage (step (synced before)) l) (sym is ∙ sym (image_of_settled (step m).reads image h)) reads,
+          λ image h. subst (λ (l : List ℕ). IsImage (step (synced before)) l) (sym is ∙ sym (image_of_synced (step m).reads image h)) reads,
           (within_step m known, tt),
         ),
       )
@@ -137,7 +137,7 @@ hide_past (suc at) n (x ∷ sure) le = ap (λ (s : List (Option ℕ)). x ∷ s) 
 
 -- bytes written after all others leave those as they are
 pub image_after : (front : List ℕ) (at : ℕ) (bytes image : List ℕ) → at ≡ length front → IsImage (after_write at bytes (synced front)) image → (d : List ℕ) × (image ≡ front ++ d)
-image_after front at [] image is h = ([], image_of_settled front image h ∙ sym (append-nil front))
+image_after front at [] image is h = ([], image_of_synced front image h ∙ sym (append-nil front))
 image_after front at (b ∷ bytes) image is h =
     let sure : List (Option ℕ) = map (λ b. Some b) front in
     let same : hide_at at (length (b ∷ bytes)) sure ≡ sure ++ [] = hide_past at (length (b ∷ bytes)) sure (omega (arith, length-map front (λ b. Some b))) ∙ sym (append-nil sure) in

@@ -19,7 +19,7 @@ use Rattle.wp_gatelog.specs.Scanning.{HasRead, IsReadFault}
 use Rattle.wp_gatelog.specs.Spelling.{Gated, identity, all_gated, log_of, IsUnmade}
 use Rattle.wp_gatelog.proofs.DurabilityLemmas.{preserves_on, sync_preserves}
 use Rattle.wp_gatelog.proofs.HeadLemmas.{length-identity}
-use Rattle.wp_gatelog.proofs.MomentLemmas.{goes_on, goes_map, image_of_settled}
+use Rattle.wp_gatelog.proofs.MomentLemmas.{goes_on, goes_map, image_of_synced}
 
 -- ---- a disk that is known
 
@@ -161,14 +161,14 @@ made_rests magic id records four none m on = record {
 -- after the first sync
 pub opens_synced : (magic : List ℕ) (asked : ℕ) (result : Result Found LogError) (old mid new past : List Moment) (m : Moment) → old ≡ m ∷ past → ReadsItself old → mid ≡ added after_sync old
     → IfKnown mid (λ n. n ≡ synced n.reads → Opens magic asked n.reads mid new result) → Opens magic asked m.reads old new result
-opens_synced magic asked result old mid new past m is itself synced opens =
+opens_synced magic asked result old mid new past m is itself by_sync opens =
     let P : List ℕ → Type 0 = Repairs magic asked m.reads in
-    let more : mid ≡ synced m.reads ∷ m ∷ past = synced ∙ ap (λ (ms : List Moment). added after_sync ms) is in
+    let more : mid ≡ synced m.reads ∷ m ∷ past = by_sync ∙ ap (λ (ms : List Moment). added after_sync ms) is in
     let rest : Opens magic asked m.reads mid new result = known_at (λ n. n ≡ synced n.reads → Opens magic asked n.reads mid new result) mid (m ∷ past) (synced m.reads) more opens refl in
-    let first : Goes (Leaves P) old mid = subst (λ (ms : List Moment). Goes (Leaves P) ms mid) (sym is) (synced m.reads ∷ [], more, (λ image h. inl (image_of_settled m.reads image h), tt)) in
+    let first : Goes (Leaves P) old mid = subst (λ (ms : List Moment). Goes (Leaves P) ms mid) (sym is) (synced m.reads ∷ [], more, (λ image h. inl (image_of_synced m.reads image h), tt)) in
     record {
       passed = goes_on (Leaves P) old mid new first rest.passed;
-      durable = λ id records. preserves_on (Leaves (HasAcknowledged magic id records)) old mid new (sync_preserves (HasAcknowledged magic id records) old mid itself synced) (rest.durable id records);
+      durable = λ id records. preserves_on (Leaves (HasAcknowledged magic id records)) old mid new (sync_preserves (HasAcknowledged magic id records) old mid itself by_sync) (rest.durable id records);
       answered = rest.answered;
     }
 

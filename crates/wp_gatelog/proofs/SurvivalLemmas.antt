@@ -10,7 +10,7 @@ use Rattle.wp_gatelog.specs.Opening.{HasMost, Survives, Repairs, SurvivesThrough
 use Rattle.wp_gatelog.specs.Spelling.{Gated, IsOpen, framed, identity, all_gated, log_of, records_of, IsUnmade, Spells}
 use Rattle.wp_gatelog.proofs.AppendLemmas.{records_more, log_more, log_longer}
 use Rattle.wp_gatelog.proofs.RepairLemmas.{each_but_last}
-use Rattle.wp_gatelog.proofs.MomentLemmas.{goes_map, left_now, image_of_settled}
+use Rattle.wp_gatelog.proofs.MomentLemmas.{goes_map, left_now, image_of_synced}
 
 -- ---- gates of any byte
 
@@ -72,7 +72,7 @@ survives_through magic asked (m ∷ past) new goes =
 pub rest_spells : (magic : List ℕ) (id end : ℕ) (records : List (List ℕ)) (ms : List Moment) → IfKnown ms (IsAtRest magic id end records) → (image : List ℕ) → images ms image → Spells image magic id records
 rest_spells magic id end records [] rest image h = absurd h
 rest_spells magic id end records (m ∷ past) rest image h =
-    let is : image ≡ log_of magic id 1 rest.gated ++ 0 ∷ [] = image_of_settled (log_of magic id 1 rest.gated ++ 0 ∷ []) image (subst (λ (n : Moment). IsImage n image) rest.on_disk h) in
+    let is : image ≡ log_of magic id 1 rest.gated ++ 0 ∷ [] = image_of_synced (log_of magic id 1 rest.gated ++ 0 ∷ []) image (subst (λ (n : Moment). IsImage n image) rest.on_disk h) in
     subst (λ (rs : List (List ℕ)). Spells image magic id rs) (sym rest.acknowledged.same)
     (spells_log magic id 1 rest.gated image one_open rest.acknowledged.gates_open ([], is))
 
