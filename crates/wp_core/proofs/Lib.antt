@@ -1,0 +1,10 @@
+pub mod Frames
+pub mod Participants
+pub mod Looks
+pub mod Gives
+pub mod KeepsGive
+pub mod Decisions
+pub mod Changed
+pub mod KeepsMax
+pub mod KeepsSeen
+pub mod Empty

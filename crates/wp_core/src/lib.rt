@@ -16,3 +16,5 @@
 //! is to be found, what is undecided, the snapshots, the flags, the versions, names and keys, the actors' pasts, the turns,
 //! and what each reader knows by its loads so far.
 #![tactic(auto)]
+
+pub mod laws;
