@@ -3,7 +3,7 @@ pub mod Participants
 pub mod Looks
 pub mod Gives
 pub mod KeepsGive
-pub mod Decisions
+pub mod HistoryLaws
 pub mod Changed
 pub mod KeepsMax
 pub mod KeepsSeen

@@ -1,0 +1,176 @@
+-- Laws of histories: when a version is decided, and that entries after it leave its decision as it was.
+use Rattle.std.proofs.Common.{◌≡◌, ◌⊎◌, inl, inr, ℕ, zero, suc, ◌+◌, ◌<◌, ◌≤◌, nat_lt, ◌==◌, ◌&&◌, ◌||◌, not, Bool, true, false, cond, true≢false, List, [], ◌∷◌, ◌++◌, length, take, refl, sym, subst, ap, ◌∙◌, Option, Some, None, option_map, slice_get, length-append, arith}
+use Rattle.std.proofs.lemmas.Bool.Decides.{nat_tests}
+use Rattle.std.proofs.lemmas.Option.{slice_get_within}
+use Rattle.std.specs.List.{list_any, position_or_len}
+use Rattle.std.proofs.lemmas.Bool.{cases_lt, cond-true, lt-ltb}
+use Rattle.wp_model.specs.declared.entry.Entry.{Entry}
+use Rattle.wp_model.specs.declared.entry.Entry.TheVariants.{Write, Prepare, Commit, Undo, Close}
+use Rattle.wp_model.specs.History.{entry_at, is_prepare, decides, is_undecided}
+use Rattle.wp_model.specs.Legal.{IsLegal, IsLegalNext}
+use Rattle.wp_model.specs.Decision.{decision_of, decision_in}
+use Rattle.wp_history.proofs.Growth.{entry_at_old, entry_at_past}
+use Rattle.wp_core.specs.Sound.Snapshots.{has_versions, has_versions_at}
+
+and_first : (a b : Bool) → (a && b) ≡ true → a ≡ true
+and_first true b e = refl
+and_first false b e = e
+
+is_equal : (q p : ℕ) → (q == p) ≡ true → q ≡ p
+is_equal q p e = grind (arith, nat_tests)
+
+prepare_there : (o : Option Entry) → is_prepare o ≡ true → (e : Entry) × (o ≡ Some e)
+prepare_there None is = absurd (true≢false (sym is))
+prepare_there (Some e) is = (e, refl)
+
+short : (xs : List Entry) (i : ℕ) → length (take i xs) ≤ i
+short [] zero = omega arith
+short [] (suc i) = omega arith
+short (x ∷ xs) zero = omega arith
+short (x ∷ xs) (suc i) = let k = short xs i in omega arith
+
+taken_within : (xs : List Entry) (i n : ℕ) (e : Entry) → slice_get (take i xs) n ≡ Some e → n < i
+taken_within xs i n e at = let k = slice_get_within (take i xs) n e at in omega (arith, short xs i)
+
+-- the first that passes
+pub record IsFirst (p : Entry → Bool) (xs : List Entry) : Type 0 where
+  pub entry : Entry
+  pub there : slice_get xs (position_or_len p xs) ≡ Some entry
+  pub passes : p entry ≡ true
+
+first_by : (p : Entry → Bool) (x : Entry) (xs : List Entry) (b : Bool) → p x ≡ b → (position_or_len p xs < length xs → IsFirst p xs) → cond (not b) (1 + position_or_len p xs) 0 < length (x ∷ xs)
+    → (e : Entry) × (slice_get (x ∷ xs) (cond (not b) (1 + position_or_len p xs) 0) ≡ Some e) × (p e ≡ true)
+first_by p x xs true is others lt = (x, refl, is)
+first_by p x xs false is others lt =
+    let k = others (omega arith) in
+    let n : ℕ = position_or_len p xs in
+    (k.entry, subst (λ (m : ℕ). slice_get (x ∷ xs) m ≡ Some k.entry) (let e : suc n ≡ 1 + n = omega arith in e) k.there, k.passes)
+
+first_of_them : (p : Entry → Bool) (xs : List Entry) → position_or_len p xs < length xs → IsFirst p xs
+first_of_them p [] lt = absurd (omega arith)
+first_of_them p (x ∷ xs) lt = let k = first_by p x xs (p x) refl (first_of_them p xs) lt in record { entry = k.0; there = k.1; passes = k.2 }
+
+names_before : (before : List Entry) (p : ℕ) (e : Entry) → decides p e ≡ true → IsLegalNext before e → is_undecided before p ≡ true
+names_before before p (Commit q) d legal = subst (λ (n : ℕ). is_undecided before n ≡ true) (is_equal q p d) legal.names_undecided
+names_before before p (Close q) d legal = subst (λ (n : ℕ). is_undecided before n ≡ true) (is_equal q p d) legal.names_undecided
+names_before before p (Write batch) d legal = absurd (true≢false (sym d))
+names_before before p (Prepare name batch) d legal = absurd (true≢false (sym d))
+names_before before p (Undo q batch) d legal = absurd (true≢false (sym d))
+
+stands_below : (history : List Entry) (i p : ℕ) → is_prepare (entry_at (take i history) p) ≡ true → p ≤ i
+stands_below history i zero is = omega arith
+stands_below history i (suc n) is = let k = prepare_there (slice_get (take i history) n) is in let l = taken_within history i n k.0 k.1 in omega arith
+
+position_is : (p : Entry → Bool) (xs : List Entry) (b : Bool) (c : ℕ) → nat_lt (position_or_len p xs) (length xs) ≡ b → option_map suc (cond b (Some (position_or_len p xs)) None) ≡ Some c → (position_or_len p xs < length xs) × (suc (position_or_len p xs) ≡ c)
+position_is p xs true c lt e = (grind (arith, nat_tests), some_is (suc (position_or_len p xs)) c e)
+  where
+    some_is : (n m : ℕ) → Some n ≡ Some m → n ≡ m
+    some_is n m q = cc
+position_is p xs false c lt e = let no : None ≡ Some c = e in absurd (cc)
+
+decided_in : (history : List Entry) (p c : ℕ) (o : Option Entry) → IsLegal history → decision_in history p o ≡ Some c → p ≤ c
+decided_in history p c (Some (Write batch)) legal e = let q : p ≡ c = cc in omega arith
+decided_in history p c (Some (Undo r batch)) legal e = let q : p ≡ c = cc in omega arith
+decided_in history p c (Some (Prepare name batch)) legal e =
+    let k = position_is (decides p) history (nat_lt (position_or_len (decides p) history) (length history)) c refl e in
+    let i : ℕ = position_or_len (decides p) history in
+    let f = first_of_them (decides p) history k.0 in
+    let open_before = names_before (take i history) p f.entry f.passes (legal.each i f.entry f.there) in
+    let le = stands_below history i p (and_first _ _ open_before) in let same : suc i ≡ c = k.1 in omega arith
+decided_in history p c (Some (Commit q)) legal e = let no : None ≡ Some c = e in absurd (cc)
+decided_in history p c (Some (Close q)) legal e = let no : None ≡ Some c = e in absurd (cc)
+decided_in history p c None legal e = let no : None ≡ Some c = e in absurd (cc)
+
+-- a version's decision is at its number or above
+pub decided_late : (history : List Entry) (p c : ℕ) → IsLegal history → decision_of history p ≡ Some c → p ≤ c
+decided_late history p c legal e = decided_in history p c (entry_at history p) legal e
+
+-- ---- entries after it
+
+same_first : (test : Entry → Bool) (xs ys : List Entry) → position_or_len test xs < length xs → position_or_len test (xs ++ ys) ≡ position_or_len test xs
+same_first test [] ys lt = absurd (omega arith)
+same_first test (x ∷ xs) ys lt =
+    let rest : position_or_len test xs < length xs → position_or_len test (xs ++ ys) ≡ position_or_len test xs = same_first test xs ys in
+    elim (test x) as (λ b. cond (not b) (1 + position_or_len test xs) 0 < suc (length xs) → cond (not b) (1 + position_or_len test (xs ++ ys)) 0 ≡ cond (not b) (1 + position_or_len test xs) 0) [
+      | true ↦ λ e. refl
+      | false ↦ λ e. ap (λ n. 1 + n) (rest (omega arith))
+    ] lt
+
+first_there : (test : Entry → Bool) (xs ys : List Entry) → position_or_len test (xs ++ ys) < length xs → position_or_len test xs ≡ position_or_len test (xs ++ ys)
+first_there test [] ys lt = absurd (omega arith)
+first_there test (x ∷ xs) ys lt =
+    let rest : position_or_len test (xs ++ ys) < length xs → position_or_len test xs ≡ position_or_len test (xs ++ ys) = first_there test xs ys in
+    elim (test x) as (λ b. cond (not b) (1 + position_or_len test (xs ++ ys)) 0 < suc (length xs) → cond (not b) (1 + position_or_len test xs) 0 ≡ cond (not b) (1 + position_or_len test (xs ++ ys)) 0) [
+      | true ↦ λ e. refl
+      | false ↦ λ e. ap (λ n. 1 + n) (rest (omega arith))
+    ] lt
+
+any_first : (test : Entry → Bool) (xs : List Entry) → list_any test xs ≡ true → position_or_len test xs < length xs
+any_first test [] h = absurd (true≢false (sym h))
+any_first test (x ∷ xs) h =
+    let rest : list_any test xs ≡ true → position_or_len test xs < length xs = any_first test xs in
+    elim (test x) as (λ b. (b || list_any test xs) ≡ true → cond (not b) (1 + position_or_len test xs) 0 < suc (length xs)) [
+      | true ↦ λ e. omega arith
+      | false ↦ λ e. let r = rest e in omega arith
+    ] h
+
+-- the number of the first entry that passes
+first_number : (test : Entry → Bool) (xs : List Entry) → position_or_len test xs < length xs → option_map suc (cond (nat_lt (position_or_len test xs) (length xs)) (Some (position_or_len test xs)) None) ≡ Some (suc (position_or_len test xs))
+first_number test xs lt = ap (option_map suc) (cond-true _ _ _ (lt-ltb (position_or_len test xs) (length xs) lt))
+
+stays_in : (history more : List Entry) (p c : ℕ) (o : Option Entry) → decision_in history p o ≡ Some c → decision_in (history ++ more) p o ≡ Some c
+stays_in history more p c (Some (Write batch)) e = e
+stays_in history more p c (Some (Undo r batch)) e = e
+stays_in history more p c (Some (Prepare name batch)) e =
+    let k = position_is (decides p) history (nat_lt (position_or_len (decides p) history) (length history)) c refl e in
+    let same = same_first (decides p) history more k.0 in
+    first_number (decides p) (history ++ more) (omega (arith, same, k.0, length-append history more)) ∙ (ap (λ n. Some (suc n)) same ∙ ap Some k.1)
+stays_in history more p c (Some (Commit q)) e = e
+stays_in history more p c (Some (Close q)) e = e
+stays_in history more p c None e = e
+
+was_in : (history more : List Entry) (p c : ℕ) (o : Option Entry) → c ≤ length history → decision_in (history ++ more) p o ≡ Some c → decision_in history p o ≡ Some c
+was_in history more p c (Some (Write batch)) within e = e
+was_in history more p c (Some (Undo r batch)) within e = e
+was_in history more p c (Some (Prepare name batch)) within e =
+    let k = position_is (decides p) (history ++ more) (nat_lt (position_or_len (decides p) (history ++ more)) (length (history ++ more))) c refl e in
+    let lt : position_or_len (decides p) (history ++ more) < length history = omega (arith, k.1) in
+    let same = first_there (decides p) history more lt in
+    first_number (decides p) history (omega (arith, same, lt)) ∙ (ap (λ n. Some (suc n)) same ∙ ap Some k.1)
+was_in history more p c (Some (Commit q)) within e = e
+was_in history more p c (Some (Close q)) within e = e
+was_in history more p c None within e = e
+
+none_decides : (history : List Entry) (p c : ℕ) → entry_at history p ≡ None → decision_of history p ≡ Some c → ⊥
+none_decides history p c none e = let q : None ≡ Some c = sym (ap (decision_in history p) none) ∙ e in absurd (cc)
+
+-- only what is in the history is decided
+pub decided_within : (history : List Entry) (p c : ℕ) → decision_of history p ≡ Some c → p ≤ length history
+decided_within history p c e =
+    elim (cases_lt (length history) p) [
+      | inl past ↦ absurd (none_decides history p c (entry_at_past history p past) e)
+      | inr within ↦ within
+    ]
+
+-- what is decided stays decided by the same entry
+pub decision_stays : (history more : List Entry) (p c : ℕ) → decision_of history p ≡ Some c → decision_of (history ++ more) p ≡ Some c
+decision_stays history more p c e = ap (decision_in (history ++ more) p) (entry_at_old history more p (decided_within history p c e)) ∙ stays_in history more p c (entry_at history p) e
+
+-- what a longer history decides by an old entry was decided
+pub decision_was : (history more : List Entry) (p c : ℕ) → p ≤ length history → c ≤ length history → decision_of (history ++ more) p ≡ Some c → decision_of history p ≡ Some c
+decision_was history more p c le within e = was_in history more p c (entry_at history p) within (sym (ap (decision_in (history ++ more) p) (entry_at_old history more p le)) ∙ e)
+
+-- ---- decided or undecided
+
+either_in : (history : List Entry) (p : ℕ) (o : Option Entry) (b : Bool) → list_any (decides p) history ≡ b → has_versions o ≡ true → ((c : ℕ) × (decision_in history p o ≡ Some c)) ⊎ ((is_prepare o && not b) ≡ true)
+either_in history p (Some (Write batch)) b any has = inl (p, refl)
+either_in history p (Some (Undo r batch)) b any has = inl (p, refl)
+either_in history p (Some (Prepare name batch)) true any has = inl (suc (position_or_len (decides p) history), first_number (decides p) history (any_first (decides p) history any))
+either_in history p (Some (Prepare name batch)) false any has = inr refl
+either_in history p (Some (Commit q)) b any has = absurd (true≢false (sym has))
+either_in history p (Some (Close q)) b any has = absurd (true≢false (sym has))
+either_in history p None b any has = absurd (true≢false (sym has))
+
+-- an entry that has versions is decided, or is an undecided prepare
+pub decided_or_undecided : (history : List Entry) (p : ℕ) → has_versions_at history p ≡ true → ((c : ℕ) × (decision_of history p ≡ Some c)) ⊎ (is_undecided history p ≡ true)
+decided_or_undecided history p has = either_in history p (entry_at history p) (list_any (decides p) history) refl has
