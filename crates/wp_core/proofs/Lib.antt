@@ -1,5 +1,6 @@
 pub mod Frames
 pub mod Participants
+pub mod ReaderOrder
 pub mod Looks
 pub mod Gives
 pub mod KeepsGive

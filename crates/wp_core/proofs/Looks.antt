@@ -31,7 +31,7 @@ pub record LeavesMost (a b : Actor) : Type 0 where
 -- what the actor reads is as it should be
 pub record ReadsRight (w : World) (b : Actor) : Type 0 where
   pub knows : (r : Observed) → b.reading ≡ Some r → IsReader w.writes.history w.max_evicted w.cache b.participant.registered r
-  pub right : (r : Observed) (visible : Bool) → b.reading ≡ Some r → judgement r ≡ Some visible → IsRight w.writes.history r visible
+  pub right : (r : Observed) (visible : Bool) → b.reading ≡ Some r → judgement r ≡ Some visible → IsRight w.writes.history r.version r.snapshot visible
   pub idle : b.live ≡ false → IsIdle b
 
 pub looks : (w : World) (by : ℕ) (a b : Actor) → get_elem? w.actors by ≡ some a → LeavesMost a b → ReadsRight w b → IsSound w → IsSound (put w by b)
@@ -67,7 +67,7 @@ looks w by a b at same reads s =
       held = subst (Each (AreHeld w.holders (content_of w))) (sym hs) s.held;
       have = subst (HoldersHave w.holders) (sym hs) s.have;
       readers = each_map_set reader_of (λ j x. (r : Observed) → x.1 ≡ Some r → IsReader w.writes.history w.max_evicted w.cache x.0 r) w.actors by b reads.knows (λ j x ne there. s.readers j x there);
-      judged = each_map_set reader_of (λ j x. (r : Observed) (visible : Bool) → x.1 ≡ Some r → judgement r ≡ Some visible → IsRight w.writes.history r visible) w.actors by b reads.right (λ j x ne there. s.judged j x there);
+      judged = each_map_set reader_of (λ j x. (r : Observed) (visible : Bool) → x.1 ≡ Some r → judgement r ≡ Some visible → IsRight w.writes.history r.version r.snapshot visible) w.actors by b reads.right (λ j x ne there. s.judged j x there);
       noted = each_map_set noter_of (λ j x. (fact : Fact) → IsIn fact x.1 → IsNoted w.holders (IsSo w.max_evicted w.cache w.writes w.prepared w.snapshots w.store w.locks w.installed) j x fact) w.actors by b
           (λ fact h. let m = mine fact (same.fewer fact h) in record { guarded = m.guarded; is_so = subst (λ (p : Participant). IsSo w.max_evicted w.cache w.writes w.prepared w.snapshots w.store w.locks w.installed p fact) (sym same.participant) m.is_so })
           (λ j x ne there. s.noted j x there);

@@ -23,4 +23,4 @@ abbrev pub JudgesRight : Type 0
 JudgesRight =
     (w : World) (j : ℕ) (a : Actor) (r : Observed) (visible : Bool)
     → Reaches w → get_elem? w.actors j ≡ some a → a.reading ≡ Some r → judgement r ≡ Some visible
-    → (later : World) → ReachesFrom w later → IsRight (history later) r visible
+    → (later : World) → ReachesFrom w later → IsRight (history later) r.version r.snapshot visible

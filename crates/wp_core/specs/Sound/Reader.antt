@@ -4,6 +4,7 @@ use Rattle.wp_model.specs.declared.entry.Entry.{Entry}
 use Rattle.wp_model.specs.Decision.{decision_of, IsCommittedAt}
 use Rattle.wp_core.specs.Lists.{Each, IsIn}
 use Rattle.wp_judge.specs.declared.observed.Observed.{Observed}
+use Rattle.wp_judge.specs.declared.observed.InPrepared.{InPrepared}
 use Rattle.wp_judge.specs.declared.observed.InPrepared.TheVariants.{Absent}
 use Rattle.wp_judge.specs.Words.{decision_in_word}
 use Rattle.wp_core.specs.Cache.{cached}
@@ -17,11 +18,11 @@ abbrev pub reader_of : Actor → List Registration × Option Observed
 reader_of a = (a.participant.registered, a.reading)
 
 -- the prepared tables were found without it, where the first bound was at least its number
-pub record NotInPrepared (r : Observed) : Type 0 where
+pub record NotInPrepared (p : ℕ) (first_max delayed_flag : Option ℕ) (in_prepared : Option InPrepared) : Type 0 where
   pub bound : ℕ
-  pub loaded : r.first_max ≡ Some bound
-  pub within : r.version ≤ bound
-  pub found : (r.in_prepared ≡ Some Absent) ⊎ (r.delayed_flag ≡ Some 0)
+  pub loaded : first_max ≡ Some bound
+  pub within : p ≤ bound
+  pub found : (in_prepared ≡ Some Absent) ⊎ (delayed_flag ≡ Some 0)
 
 -- it is decided, at the bound or before, and its word is another's
 pub record IsPassedBy (history : List Entry) (max : ℕ) (cache : List ℕ) (p : ℕ) : Type 0 where
@@ -40,7 +41,7 @@ pub record ReaderKnows (history : List Entry) (max : ℕ) (cache : List ℕ) (r 
   pub version : has_versions_at history r.version ≡ true
   pub first_word : (word : ℕ) → r.first_word ≡ Some word → decision_in_word r.version word ≡ None → IsCommittedAt history r.version r.snapshot → IsPassedBy history max cache r.version
   pub first_max : (m : ℕ) → r.first_max ≡ Some m → m ≤ max
-  pub not_in_prepared : NotInPrepared r → (c : ℕ) × (decision_of history r.version ≡ Some c)
+  pub not_in_prepared : NotInPrepared r.version r.first_max r.delayed_flag r.in_prepared → (c : ℕ) × (decision_of history r.version ≡ Some c)
   pub second_word : (word : ℕ) → r.second_word ≡ Some word → decision_in_word r.version word ≡ None → IsPassedBy history max cache r.version
   pub second_max : (m : ℕ) → r.second_max ≡ Some m → (c : ℕ) × (decision_of history r.version ≡ Some c) × (c ≤ m)
 
@@ -66,10 +67,10 @@ pub record IsReader (history : List Entry) (max : ℕ) (cache : List ℕ) (regis
 abbrev pub AreReaders : List Entry → ℕ → List ℕ → List (List Registration × Option Observed) → Type 0
 AreReaders history max cache readers = Each (λ j x. (r : Observed) → x.1 ≡ Some r → IsReader history max cache x.0 r) readers
 
--- the answer is whether the version is committed at the snapshot
-abbrev pub IsRight : List Entry → Observed → Bool → Type 0
-IsRight history r true = IsCommittedAt history r.version r.snapshot
-IsRight history r false = IsCommittedAt history r.version r.snapshot → ⊥
+-- the answer is whether the version p is committed at s
+abbrev pub IsRight : List Entry → ℕ → ℕ → Bool → Type 0
+IsRight history p s true = IsCommittedAt history p s
+IsRight history p s false = IsCommittedAt history p s → ⊥
 
 abbrev pub AreJudged : List Entry → List (List Registration × Option Observed) → Type 0
-AreJudged history readers = Each (λ j x. (r : Observed) (visible : Bool) → x.1 ≡ Some r → judgement r ≡ Some visible → IsRight history r visible) readers
+AreJudged history readers = Each (λ j x. (r : Observed) (visible : Bool) → x.1 ≡ Some r → judgement r ≡ Some visible → IsRight history r.version r.snapshot visible) readers
