@@ -1,7 +1,10 @@
 pub mod Frames
 pub mod Participants
 pub mod ReaderOrder
+pub mod Registered
+pub mod ReaderFacts
 pub mod Looks
+pub mod Loads
 pub mod Gives
 pub mod KeepsGive
 pub mod HistoryLaws

@@ -1,5 +1,5 @@
 -- What a reader has loaded when it asks for the next load, and what it asks for once it has that much.
-use Rattle.std.proofs.Common.{◌≡◌, ◌⊎◌, inl, inr, ℕ, nat_lt, ◌==◌, Bool, true, false, true≢false, cond, refl, sym, subst, ap, ◌∙◌, Option, Some, None}
+use Rattle.std.proofs.Common.{◌≡◌, ◌⊎◌, inl, inr, ℕ, nat_lt, ◌==◌, Bool, true, false, true≢false, cond, refl, subst, ap, ◌∙◌, Option, Some, None}
 use Rattle.wp_judge.specs.declared.observed.Observed.{Observed}
 use Rattle.wp_judge.specs.declared.observed.Load as loads
 use Rattle.wp_judge.specs.declared.observed.Load.TheVariants.{FirstWord, FirstMax, DelayedFlag, SecondWord, SecondMax, OldFlag, IsOldCommit}
