@@ -12,3 +12,8 @@ pub mod Changed
 pub mod KeepsMax
 pub mod KeepsSeen
 pub mod Empty
+mod AllParticipants
+mod PastsGrow
+mod OwnersStay
+mod Remembers
+mod KeepsRemembered

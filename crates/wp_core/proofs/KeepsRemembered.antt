@@ -1,0 +1,130 @@
+-- An actor that only remembers what it found keeps every part of a sound world.
+use Rattle.std.proofs.Common.{◌≡◌, ◌⊎◌, ⊎_elim, inl, inr, ℕ, ◌≤◌, Bool, true, false, not, List, [], ◌∷◌, ◌++◌, length, filter, map, set, refl, sym, subst, ap, ◌∙◌, arith, Some, is_some, take}
+use Rattle.std.proofs.Math.Seq.{take-length}
+use mathlib.Core.Option.{some, some-injective, some-ne-none}
+use lib.ListN.{get_elem?}
+use Rattle.std.specs.FinMap as finite
+use Rattle.wp_model.specs.declared.entry.Entry.{Entry}
+use Rattle.wp_model.specs.History.{named}
+use Rattle.wp_model.specs.declared.holder.Holder.{Holder}
+use Rattle.wp_model.specs.declared.holder.Holder.TheVariants.{Txn, Client}
+use Rattle.wp_core.specs.Lists.{Each, IsIn}
+use Rattle.wp_core.specs.Turns.{Turn, write_turn, locks_turn, tables_turn, Holds}
+use Rattle.wp_core.specs.Tables.{Content}
+use Rattle.wp_core.specs.Views.{Account, own, another, prepare_at, Event, claimed, took, locked, told, heard, stopped, found_flushed, found, Fact, passed, in_old_commits, apart, words_stay, versions_in_memory, versions_nowhere, number_in_heap, number_not_in_heap, undecided_at, prior_values, unprepared, direct_free, tables_stay, live_listed, nothing_flushed, frozen_stay}
+use Rattle.wp_core.specs.World.{Actor, Participant, World, content_of}
+use Rattle.wp_core.specs.World as world
+use Rattle.wp_core.specs.Steps.{Step, find_log_closed, find_flushed, find_holder, hear}
+use Rattle.wp_core.specs.Changes.{put, remembers}
+use Rattle.wp_core.specs.Effects.{done}
+use Rattle.wp_core.specs.Needs.{Needs}
+use Rattle.wp_core.specs.Conditions.{Accounts, IsOther, IsSelf}
+use Rattle.wp_core.specs.Notes.{forgets, ends}
+use Rattle.wp_core.specs.Sound.Actors.{seen_of, own_of, StartsWith, AreSeen, AreLearned, AreOwned, AreHeld, HoldersHave, AreLed, IsIdle, participants_of, learned_of, held_of, role_of, IsParticipantAt}
+use Rattle.wp_core.specs.Sound.Snapshots.{registered_of, AreRegistered}
+use Rattle.wp_core.specs.Sound.Locks.{Owner, owner_of, Began}
+use Rattle.wp_core.specs.Sound.Pasts.{past_of, Makes, HasDone, IsAccounted, AreHolders, IsBoard, AreFaults, AreEdits, WasInstalled}
+use Rattle.wp_core.specs.Sound.Reader.{AreReaders, AreJudged, reader_of}
+use Rattle.wp_core.specs.Sound.Views.{IsSo, IsNoted, noter_of}
+use Rattle.wp_core.specs.IsSound.{IsSound, participants}
+use Rattle.wp_core.proofs.Frames.{kept_map, each_map_set, each_set, at_map, in_filter}
+use Rattle.wp_core.proofs.AllParticipants.{mine}
+use Rattle.wp_core.proofs.PastsGrow.{in_front}
+use Rattle.wp_core.proofs.OwnersStay.{locked_still}
+use Rattle.wp_core.proofs.Remembers.{IsQuiet, holders_more, board_more, faults_more, edits_more}
+
+-- ---- who holds a turn is live
+
+pub holder_lives : (w : World) (by : ℕ) (a : Actor) (turn : Turn) → IsSound w → get_elem? w.actors by ≡ some a → Holds w.holders turn by → a.live ≡ false → ⊥
+holder_lives w by a turn s at holds dead =
+    let k = s.have turn by holds in
+    let same : k.0 ≡ a.held = some-injective k.0 a.held (sym k.1 ∙ at_map held_of w.actors by a at) in
+    subst (IsIn k.2) (same ∙ (s.idle by a at dead).held) k.3
+
+-- ---- what is noted
+
+-- no fact speaks of a past
+so_past : (w : World) (a : Participant) (past : List Event) (fact : Fact) → IsSo w.max_evicted w.cache w.writes w.prepared w.snapshots w.store w.locks w.installed a fact → IsSo w.max_evicted w.cache w.writes w.prepared w.snapshots w.store w.locks w.installed (record a { past = past }) fact
+so_past w a past (passed place pair) k = k
+so_past w a past (in_old_commits place pair) k = k
+so_past w a past (apart place pair) k = k
+so_past w a past (words_stay max cache) k = k
+so_past w a past versions_in_memory k = k
+so_past w a past versions_nowhere k = k
+so_past w a past number_in_heap k = k
+so_past w a past number_not_in_heap k = k
+so_past w a past (undecided_at name p) k = k
+so_past w a past (prior_values name p batch) k = k
+so_past w a past (unprepared name) k = k
+so_past w a past (direct_free key) k = k
+so_past w a past (tables_stay versions floor) k = k
+so_past w a past (live_listed floor listed) k = k
+so_past w a past nothing_flushed k = k
+so_past w a past (frozen_stay n versions) k = k
+
+-- ---- all parts
+
+-- what the event has to meet, by its kind
+pub record MayRemember (w : World) (by : ℕ) (e : Event) : Type 0 where
+  pub quiet : IsQuiet e
+  pub accounted : (holder : Holder) (seen : ℕ) (account : Account) → e ≡ found holder seen account → IsAccounted w.writes.history (participants past_of w) by 0 holder seen account
+  pub labelled : (label : List ℕ) (n : ℕ) → (e ≡ told label n) ⊎ (e ≡ heard label n) → is_some (finite.get w.locks.labels label) ≡ true
+  pub stopped_at : (n : ℕ) → e ≡ stopped n → (w.writes.closed ≡ true) × (n ≡ length w.writes.history)
+  pub was_installed : (n : ℕ) → e ≡ found_flushed n → WasInstalled w.first_edit (participants past_of w) n
+
+pub remembering : (w : World) (by : ℕ) (a : Actor) (e : Event) (step : Step) → get_elem? w.actors by ≡ some a → (a.live ≡ false → ⊥) → MayRemember w by e → IsSound w
+    → IsSound (put w by (remembers (forgets w.writes.history (length w.cache) step a) e))
+remembering w by a e step at live may s =
+    let b : Actor = remembers (forgets w.writes.history (length w.cache) step a) e in
+    let sn : map (participants_of seen_of) (set w.actors by b) ≡ participants seen_of w = kept_map (participants_of seen_of) w.actors by a b at refl in
+    let ow : map (participants_of own_of) (set w.actors by b) ≡ participants own_of w = kept_map (participants_of own_of) w.actors by a b at refl in
+    let rg : map (participants_of registered_of) (set w.actors by b) ≡ participants registered_of w = kept_map (participants_of registered_of) w.actors by a b at refl in
+    let ts : map learned_of (set w.actors by b) ≡ map learned_of w.actors = kept_map learned_of w.actors by a b at refl in
+    let hs : map held_of (set w.actors by b) ≡ map held_of w.actors = kept_map held_of w.actors by a b at refl in
+    let ss : map role_of (set w.actors by b) ≡ map role_of w.actors = kept_map role_of w.actors by a b at refl in
+    let rs : map reader_of (set w.actors by b) ≡ map reader_of w.actors = kept_map reader_of w.actors by a b at refl in
+    record {
+      history = s.history;
+      seen = subst (AreSeen w.writes.history) (sym sn) s.seen;
+      learned = subst (AreLearned w.writes.history) (sym ts) s.learned;
+      owned = subst (AreOwned w.opened w.writes.history) (sym ow) s.owned;
+      cache = s.cache;
+      decided = s.decided;
+      undecided = s.undecided;
+      delayed = s.delayed;
+      registrations = subst (AreRegistered w.writes.history w.snapshots) (sym rg) s.registrations;
+      flags = s.flags;
+      versions = s.versions;
+      flushed = s.flushed;
+      locks = locked_still w.actors by a b at refl (record { client = refl; transactions = refl; direct = refl; past = λ x k. in_front x a.participant.past (e ∷ []) k }) w.writes.history w.locks s.locks;
+      holders = holders_more w.actors by a b e at refl refl w.opened w.writes.history w.locks may.accounted s.holders;
+      board = board_more w.actors by a b e at refl refl (world.published w) w.locks may.labelled s.board;
+      faults = faults_more w.actors by a b e at refl refl w.writes w.installed.halted may.quiet may.stopped_at s.faults;
+      edits = edits_more w.actors by a b e at refl refl w.first_edit w.installed may.quiet may.was_installed s.edits;
+      pending = s.pending;
+      held = subst (Each (AreHeld w.holders (content_of w))) (sym hs) s.held;
+      have = subst (HoldersHave w.holders) (sym hs) s.have;
+      readers = subst (AreReaders w.writes.history w.max_evicted w.cache) (sym rs) s.readers;
+      judged = subst (AreJudged w.writes.history) (sym rs) s.judged;
+      noted = each_map_set noter_of (λ j x. (fact : Fact) → IsIn fact x.1 → IsNoted w.holders (IsSo w.max_evicted w.cache w.writes w.prepared w.snapshots w.store w.locks w.installed) j x fact) w.actors by b
+          (λ fact there. let k = in_filter (λ (f : Fact). not (ends w.writes.history (length w.cache) step f)) fact a.notes there in let o = s.noted by (noter_of a) (at_map noter_of w.actors by a at) fact k.0 in
+          record { guarded = o.guarded; is_so = so_past w a.participant (a.participant.past ++ e ∷ []) fact o.is_so })
+          (λ j x ne there. s.noted j x there);
+      led = subst AreLed (sym ss) s.led;
+      idle = each_set (λ j x. x.live ≡ false → IsIdle x) w.actors by b (λ dead. absurd (live dead)) (λ j x ne there. s.idle j x there);
+    }
+
+-- ---- the four steps
+
+no_quarrel : (w : World) (by : ℕ) (n : ℕ) → (w.writes.closed ≡ true) × (n ≡ length w.writes.history) → MayRemember w by (stopped n)
+no_quarrel w by n is = record {
+  quiet = record { log = refl; tables = refl; due = λ m. refl };
+  accounted = λ holder seen account q. absurd cc;
+  labelled = λ label m q. absurd (⊎_elim (λ (r : stopped n ≡ told label m). cc) (λ (r : stopped n ≡ heard label m). cc) q);
+  stopped_at = λ m q. let r : n ≡ m = cc in subst (λ (z : ℕ). (w.writes.closed ≡ true) × (z ≡ length w.writes.history)) r is;
+  was_installed = λ m q. absurd cc;
+}
+
+pub finds_log_closed : (w : World) (by : ℕ) (a : Actor) → get_elem? w.actors by ≡ some a → Needs w by a find_log_closed → IsSound w
+    → IsSound (done w by (forgets w.writes.history (length w.cache) find_log_closed a) find_log_closed)
+finds_log_closed w by a at n s = remembering w by a (stopped (world.published w)) find_log_closed at (holder_lives w by a write_turn s at n.0) (no_quarrel w by (world.published w) (n.1, refl)) s
