@@ -1,5 +1,5 @@
 -- An actor that only remembers what it found keeps every part of a sound world.
-use Rattle.std.proofs.Common.{◌≡◌, ◌⊎◌, ⊎_elim, inl, inr, ℕ, ◌≤◌, Bool, true, false, not, List, [], ◌∷◌, ◌++◌, length, filter, map, set, refl, sym, subst, ap, ◌∙◌, arith, Some, is_some, take}
+use Rattle.std.proofs.Common.{◌≡◌, ◌⊎◌, ⊎_elim, inl, inr, ℕ, ◌≤◌, Bool, true, false, not, List, [], ◌∷◌, ◌++◌, length, length-append, zero, suc, filter, map, set, refl, sym, subst, ap, ◌∙◌, arith, Some, is_some, take}
 use Rattle.std.proofs.Math.Seq.{take-length}
 use mathlib.Core.Option.{some, some-injective, some-ne-none}
 use lib.ListN.{get_elem?}
@@ -128,3 +128,110 @@ no_quarrel w by n is = record {
 pub finds_log_closed : (w : World) (by : ℕ) (a : Actor) → get_elem? w.actors by ≡ some a → Needs w by a find_log_closed → IsSound w
     → IsSound (done w by (forgets w.writes.history (length w.cache) find_log_closed a) find_log_closed)
 finds_log_closed w by a at n s = remembering w by a (stopped (world.published w)) find_log_closed at (holder_lives w by a write_turn s at n.0) (no_quarrel w by (world.published w) (n.1, refl)) s
+
+-- whether an event is that one, by its kind and what it has
+abbrev at_number : Event → ℕ
+at_number (stopped n) = n
+at_number (found_flushed n) = n
+at_number (heard label n) = n
+at_number other = 0
+
+abbrev at_label : Event → List ℕ
+at_label (heard label n) = label
+at_label other = []
+
+pub finds_flushed : (w : World) (by : ℕ) (a : Actor) → get_elem? w.actors by ≡ some a → Needs w by a find_flushed → IsSound w
+    → IsSound (done w by (forgets w.writes.history (length w.cache) find_flushed a) find_flushed)
+finds_flushed w by a at n s =
+    let e = found_flushed w.installed.last.flushed in
+    remembering w by a e find_flushed at (holder_lives w by a tables_turn s at n) (record {
+      quiet = record { log = refl; tables = refl; due = λ m. refl };
+      accounted = λ holder seen account q. absurd cc;
+      labelled = λ label m q. absurd (⊎_elim (λ (r : e ≡ told label m). cc) (λ (r : e ≡ heard label m). cc) q);
+      stopped_at = λ m q. absurd cc;
+      was_installed = λ m q. subst (WasInstalled w.first_edit (participants past_of w)) (ap at_number q) s.edits.last;
+    }) s
+
+pub hears : (w : World) (by : ℕ) (a : Actor) (label : List ℕ) (n : ℕ) → get_elem? w.actors by ≡ some a → Needs w by a (hear label n) → IsSound w
+    → IsSound (done w by (forgets w.writes.history (length w.cache) (hear label n) a) (hear label n))
+hears w by a label n at needs s =
+    remembering w by a (heard label n) (hear label n) at (holder_lives w by a locks_turn s at needs.0) (record {
+      quiet = record { log = refl; tables = refl; due = λ m. refl };
+      accounted = λ holder seen account q. absurd cc;
+      labelled = λ other m q. ⊎_elim
+          (λ (r : heard label n ≡ told other m). absurd cc)
+          (λ (r : heard label n ≡ heard other m). let there : is_some (finite.get w.locks.labels label) ≡ true = ap is_some needs.1 in subst (λ (l : List ℕ). is_some (finite.get w.locks.labels l) ≡ true) (ap at_label r) there) q;
+      stopped_at = λ m q. absurd cc;
+      was_installed = λ m q. absurd cc;
+    }) s
+
+-- ---- who is found
+
+from_map : {A B : Type 0} (f : A → B) (xs : List A) (i : ℕ) (y : B) → get_elem? (map f xs) i ≡ some y → (x : A) × (get_elem? xs i ≡ some x) × (f x ≡ y)
+from_map f [] i y e = absurd (some-ne-none y (sym e))
+from_map f (x ∷ xs) zero y e = (x, refl, some-injective (f x) y e)
+from_map f (x ∷ xs) (suc i) y e = from_map f xs i y e
+
+-- the past of an owner is one of the pasts
+past_there : (xs : List Actor) (j i : ℕ) (o : Owner) → IsParticipantAt (map (participants_of owner_of) xs) j i o → IsParticipantAt (map (participants_of past_of) xs) j i o.past
+past_there xs j i o k =
+    let x = from_map (participants_of owner_of) xs j k.0 k.1 in
+    let p = from_map owner_of (x.0.participant ∷ x.0.joined) i o (ap (λ (z : List Owner). get_elem? z i) x.2 ∙ k.2) in
+    (participants_of past_of x.0, at_map (participants_of past_of) xs j x.0 x.1, at_map past_of (x.0.participant ∷ x.0.joined) i p.0 p.1 ∙ ap (λ (z : Owner). some z.past) p.2)
+
+begun_by : (name : List ℕ) (past : List Event) → Began past name → (e : Event) × Makes e (Txn name) × IsIn e past
+begun_by name past (inl k) = (claimed name, refl, k)
+begun_by name past (inr k) = (took name, refl, k)
+
+-- another one that has the name claimed or took it, and one that has the key as a direct write locked it
+other_made : (w : World) (by : ℕ) (holder : Holder) → IsSound w → (o : IsOther w by holder) → (e : Event) × Makes e holder × HasDone (participants past_of w) o.at o.place e
+other_made w by (Txn name) s o =
+    let live = (s.locks.had o.at o.place o.participant o.there).names name o.is.0 o.is.1 in
+    let had = s.locks.names_had name o.participant.client live in
+    let same = s.locks.apart.names o.at o.place had.at had.place o.participant had.owner name o.is.0 had.transaction o.there had.there o.is.1 had.has in
+    let made = begun_by name had.owner.past had.began in
+    (made.0, made.1, subst (λ (n : ℕ). HasDone (participants past_of w) n o.place made.0) (sym same.0)
+        (subst (λ (n : ℕ). HasDone (participants past_of w) had.at n made.0) (sym same.1) (had.owner.past, past_there w.actors had.at had.place had.owner had.there, made.2)))
+other_made w by (Client client) s o =
+    let had = s.locks.keys_direct o.is.1.0 client o.is.1.2 in
+    let same = s.locks.apart.direct o.at o.place had.at had.place o.participant had.owner o.is.1.0 o.there had.there o.is.1.1 had.has in
+    (locked o.is.1.0 (Client client), refl, subst (λ (n : ℕ). HasDone (participants past_of w) n o.place (locked o.is.1.0 (Client client))) (sym same.0)
+        (subst (λ (n : ℕ). HasDone (participants past_of w) had.at n (locked o.is.1.0 (Client client))) (sym same.1) (had.owner.past, past_there w.actors had.at had.place had.owner had.there, had.began)))
+
+accounts : (w : World) (by : ℕ) (a : Actor) (holder : Holder) (account : Account) → get_elem? w.actors by ≡ some a → IsSound w → Accounts w by a holder account → IsAccounted w.writes.history (participants past_of w) by 0 holder (length a.participant.seen) account
+accounts w by a holder own at s k = tt
+accounts w by a holder another at s k =
+    let made = other_made w by holder s k in (k.at, k.place, made.0, k.apart, made.1, made.2)
+accounts w by a (Txn name) (prepare_at n) at s k =
+    let seen = s.seen by 0 a.participant.seen (mine seen_of w.actors by a a at refl) in
+    let few : length a.participant.seen ≤ length w.writes.history = rw seen.1 (rw (length-append a.participant.seen seen.0) (omega arith)) in
+    let whole : take n w.writes.history ≡ w.writes.history = ap (λ (m : ℕ). take m w.writes.history) k.0 ∙ take-length w.writes.history in
+    (subst (λ (m : ℕ). length a.participant.seen ≤ m) (sym k.0) few, subst (λ (m : ℕ). m ≤ length w.writes.history) (sym k.0) (omega arith), ap (λ (h : List Entry). is_some (named h name)) whole ∙ k.1)
+accounts w by a (Client client) (prepare_at n) at s k = absurd k
+
+abbrev holder_in : Event → Holder
+holder_in (found holder seen account) = holder
+holder_in other = Txn []
+
+abbrev account_in : Event → Account
+account_in (found holder seen account) = account
+account_in other = own
+
+abbrev seen_in : Event → ℕ
+seen_in (found holder seen account) = seen
+seen_in other = 0
+
+pub finds_holder : (w : World) (by : ℕ) (a : Actor) (holder : Holder) (account : Account) → get_elem? w.actors by ≡ some a → Needs w by a (find_holder holder account) → IsSound w
+    → IsSound (done w by (forgets w.writes.history (length w.cache) (find_holder holder account) a) (find_holder holder account))
+finds_holder w by a holder account at needs s =
+    let e = found holder (length a.participant.seen) account in
+    remembering w by a e (find_holder holder account) at (holder_lives w by a locks_turn s at needs.0) (record {
+      quiet = record { log = refl; tables = refl; due = λ m. refl };
+      accounted = λ h n c q.
+          subst (λ (z : Holder). IsAccounted w.writes.history (participants past_of w) by 0 z n c) (ap holder_in q)
+          (subst (λ (z : ℕ). IsAccounted w.writes.history (participants past_of w) by 0 holder z c) (ap seen_in q)
+          (subst (λ (z : Account). IsAccounted w.writes.history (participants past_of w) by 0 holder (length a.participant.seen) z) (ap account_in q) (accounts w by a holder account at s needs.2)));
+      labelled = λ label m q. absurd (⊎_elim (λ (r : e ≡ told label m). cc) (λ (r : e ≡ heard label m). cc) q);
+      stopped_at = λ m q. absurd cc;
+      was_installed = λ m q. absurd cc;
+    }) s
