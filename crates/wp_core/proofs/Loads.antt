@@ -244,8 +244,10 @@ module _ (w : World) (r : Observed) (s : IsSound w) (live : (r.snapshot ≤ leng
     where
       bound : (m : ℕ) → nat_lt m r.version ≡ false → r.version ≤ m
       bound m e = grind (arith, nat_tests)
+
       zero_is : (m : ℕ) → (m == 0) ≡ true → m ≡ 0
       zero_is m e = grind (arith, nat_tests)
+
       by_found : ((n.flag == 0) ≡ true) ⊎ (((n.flag == 0) ≡ false) × (r.in_prepared ≡ Some Absent)) → (r.in_prepared ≡ Some Absent) ⊎ (r.delayed_flag ≡ Some 0)
       by_found (inl is) = inr (n.loaded ∙ ap Some (zero_is n.flag is))
       by_found (inr is) = inl is.1
