@@ -10,6 +10,7 @@ pub mod Gives
 pub mod KeepsGive
 pub mod HistoryLaws
 pub mod Changed
+pub mod Quiet
 pub mod KeepsMax
 pub mod KeepsSeen
 pub mod Empty
