@@ -28,7 +28,7 @@ use Rattle.wp_core.proofs.Changed.{others_hold, holds_changed, have_changed}
 
 -- what is noted in a world
 abbrev pub SoIn : World → Participant → Fact → Type 0
-SoIn w = IsSo w.max_evicted w.cache w.writes w.prepared w.snapshots w.store w.locks w.installed
+SoIn w = IsSo w.delayed_flag w.old_flag w.max_evicted w.cache w.writes w.prepared w.snapshots w.store w.locks w.installed
 
 -- the parts that speak of participants, and of their roles and what they learned
 pub record PartsOf (w : World) (actors : List Actor) : Type 0 where
@@ -99,7 +99,7 @@ noted_after w by a b step so at same notes k s =
 
 pub prepared_changes : (w : World) (by : ℕ) (a : Actor) (step : Step) (t : PreparedTables) → get_elem? w.actors by ≡ some a → Holds w.holders prepared_turn by
     → AreUndecided w.writes.history w.writes.pending t w.max_evicted → AreDelayed w.writes.history t w.cache → AreFlags w.delayed_flag w.old_flag t w.snapshots w.holders.prepared w.holders.snapshots
-    → NotesStay w by step (IsSo w.max_evicted w.cache w.writes t w.snapshots w.store w.locks w.installed) → IsSound w
+    → NotesStay w by step (IsSo w.delayed_flag w.old_flag w.max_evicted w.cache w.writes t w.snapshots w.store w.locks w.installed) → IsSound w
     → IsSound (change w by (forgets w.writes.history (length w.cache) step a) (prepared t))
 prepared_changes w by a step t at holds undecided delayed flags notes s =
     let e : Content = prepared t in
@@ -130,7 +130,7 @@ prepared_changes w by a step t at holds undecided delayed flags notes s =
       have = have_changed w.holders e by w.actors a b at refl s.have;
       readers = kept_part w by a b at reader_of (AreReaders w.writes.history w.max_evicted w.cache) refl s.readers;
       judged = kept_part w by a b at reader_of (AreJudged w.writes.history) refl s.judged;
-      noted = noted_after w by a b step (IsSo w.max_evicted w.cache w.writes t w.snapshots w.store w.locks w.installed) at refl refl notes s;
+      noted = noted_after w by a b step (IsSo w.delayed_flag w.old_flag w.max_evicted w.cache w.writes t w.snapshots w.store w.locks w.installed) at refl refl notes s;
       led = p.led;
       idle = idle_after w by a b prepared_turn at holds s refl;
     }
@@ -140,7 +140,7 @@ prepared_changes w by a step t at holds undecided delayed flags notes s =
 pub snapshots_change : (w : World) (by : ℕ) (a : Actor) (step : Step) (m : Snapshots) → get_elem? w.actors by ≡ some a → Holds w.holders snapshots_turn by
     → AreDecided w.writes.history w.cache w.max_evicted m → AreRegistered w.writes.history m (participants registered_of w) → AreFlags w.delayed_flag w.old_flag w.prepared m w.holders.prepared w.holders.snapshots
     → IsStored w.writes.history w.writes.pending m w.store w.installed
-    → NotesStay w by step (IsSo w.max_evicted w.cache w.writes w.prepared m w.store w.locks w.installed) → IsSound w
+    → NotesStay w by step (IsSo w.delayed_flag w.old_flag w.max_evicted w.cache w.writes w.prepared m w.store w.locks w.installed) → IsSound w
     → IsSound (change w by (forgets w.writes.history (length w.cache) step a) (snapshots m))
 snapshots_change w by a step m at holds decided registered flags stored notes s =
     let e : Content = snapshots m in
@@ -171,7 +171,7 @@ snapshots_change w by a step m at holds decided registered flags stored notes s 
       have = have_changed w.holders e by w.actors a b at refl s.have;
       readers = kept_part w by a b at reader_of (AreReaders w.writes.history w.max_evicted w.cache) refl s.readers;
       judged = kept_part w by a b at reader_of (AreJudged w.writes.history) refl s.judged;
-      noted = noted_after w by a b step (IsSo w.max_evicted w.cache w.writes w.prepared m w.store w.locks w.installed) at refl refl notes s;
+      noted = noted_after w by a b step (IsSo w.delayed_flag w.old_flag w.max_evicted w.cache w.writes w.prepared m w.store w.locks w.installed) at refl refl notes s;
       led = p.led;
       idle = idle_after w by a b snapshots_turn at holds s refl;
     }
@@ -181,7 +181,7 @@ snapshots_change w by a step m at holds decided registered flags stored notes s 
 pub words_change : (w : World) (by : ℕ) (a : Actor) (step : Step) (turn : Turn) (cache : List ℕ) (delayed_flag old_flag : ℕ) → get_elem? w.actors by ≡ some a → Holds w.holders turn by
     → IsCache w.writes.history w.writes.pending cache → AreDecided w.writes.history cache w.max_evicted w.snapshots → AreDelayed w.writes.history w.prepared cache
     → AreFlags delayed_flag old_flag w.prepared w.snapshots w.holders.prepared w.holders.snapshots → AreReaders w.writes.history w.max_evicted cache (map reader_of w.actors)
-    → NotesStay w by step (IsSo w.max_evicted cache w.writes w.prepared w.snapshots w.store w.locks w.installed) → IsSound w
+    → NotesStay w by step (IsSo delayed_flag old_flag w.max_evicted cache w.writes w.prepared w.snapshots w.store w.locks w.installed) → IsSound w
     → IsSound (put (record w { cache = cache; delayed_flag = delayed_flag; old_flag = old_flag }) by (forgets w.writes.history (length w.cache) step a))
 words_change w by a step turn cache delayed_flag old_flag at holds cached decided delayed flags readers notes s =
     let b : Actor = forgets w.writes.history (length w.cache) step a in
@@ -209,7 +209,7 @@ words_change w by a step turn cache delayed_flag old_flag at holds cached decide
       have = kept_part w by a b at held_of (HoldersHave w.holders) refl s.have;
       readers = kept_part w by a b at reader_of (AreReaders w.writes.history w.max_evicted cache) refl readers;
       judged = kept_part w by a b at reader_of (AreJudged w.writes.history) refl s.judged;
-      noted = noted_after w by a b step (IsSo w.max_evicted cache w.writes w.prepared w.snapshots w.store w.locks w.installed) at refl refl notes s;
+      noted = noted_after w by a b step (IsSo delayed_flag old_flag w.max_evicted cache w.writes w.prepared w.snapshots w.store w.locks w.installed) at refl refl notes s;
       led = p.led;
       idle = idle_after w by a b turn at holds s refl;
     }
