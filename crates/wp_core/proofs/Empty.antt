@@ -203,7 +203,7 @@ empty_is_sound = record {
   holders = record {
     names = λ name e. absurd (not_live _ (no_name name) e);
     keys = λ key client e. absurd (none_some _ (Client client) (no_key key) e);
-    found = λ j i holder seen account k. absurd (no_past (found holder seen account) (j, i, k));
+    found = λ j i key holder seen account k. absurd (no_past (found key holder seen account) (j, i, k));
   };
   board = record { labels = λ label n e. ⊎_elim (λ k. absurd (no_past (told label n) k)) (λ k. absurd (no_past (heard label n) k)) e; numbers = λ label n e. absurd (none_some _ n (no_label label) e) };
   faults = record { log = refl; tables = refl; not_logged = λ e. inl refl; stopped = λ n k. absurd (no_past (stopped n) k) };

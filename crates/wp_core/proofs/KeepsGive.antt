@@ -122,7 +122,7 @@ gives w by a t at n s =
       have = have_after w.holders t by w.actors a b at refl s.have;
       readers = subst (AreReaders w.writes.history w.max_evicted w.cache) (sym rs) s.readers;
       judged = subst (AreJudged w.writes.history) (sym rs) s.judged;
-      noted = each_map_set noter_of (λ j x. (fact : Fact) → IsIn fact x.1 → IsNoted h (IsSo w.max_evicted w.cache w.writes w.prepared w.snapshots w.store w.locks w.installed) j x fact) w.actors by b
+      noted = each_map_set noter_of (λ j x. (fact : Fact) → IsIn fact x.1 → IsNoted h (IsSo w.delayed_flag w.old_flag w.max_evicted w.cache w.writes w.prepared w.snapshots w.store w.locks w.installed) j x fact) w.actors by b
           (λ fact there. let k = in_filter (λ (f : Fact). not (ends w.writes.history (length w.cache) (give_turn t) f)) fact a.notes there in let m = s.noted by (noter_of a) (at_map noter_of w.actors by a at) fact k.0 in
           record { guarded = λ u is. other_holder w.holders t u None (not_ended w.writes.history (length w.cache) t fact u k.1 is) ∙ m.guarded u is; is_so = m.is_so })
           (λ j x ne there fact k. let m = s.noted j x there fact k in record { guarded = λ u is. still w.holders t u by j n.0 ne (m.guarded u is); is_so = m.is_so });

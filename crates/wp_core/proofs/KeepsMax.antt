@@ -32,7 +32,7 @@ use Rattle.std.specs.FinMap as finite
 use Rattle.wp_core.specs.Cache.{cached}
 use Rattle.wp_core.specs.Reading.{Registration}
 use Rattle.wp_judge.specs.declared.observed.Observed.{Observed}
-use Rattle.wp_core.specs.Views.{passed, in_old_commits, apart, words_stay, versions_in_memory, versions_nowhere, number_in_heap, number_not_in_heap, undecided_at, prior_values, unprepared, direct_free, tables_stay, live_listed, nothing_flushed, frozen_stay}
+use Rattle.wp_core.specs.Views.{passed, in_old_commits, apart, words_stay, versions_in_memory, versions_nowhere, number_in_heap, number_not_in_heap, undecided_at, prior_values, unprepared, direct_free, tables_stay, live_listed, nothing_flushed, frozen_stay, delayed_flag_stays, old_flag_stays}
 use Rattle.wp_core.specs.Changes.{held_with}
 use Rattle.wp_core.specs.World.{with_content}
 use Rattle.wp_model.specs.PreparedTables.{PreparedTables, is_prepared}
@@ -152,8 +152,8 @@ IsLasting : Fact → Type 0
 IsLasting (words_stay max cache) = ⊥
 IsLasting other = Unit {0}
 
-so_after : (w : World) (m : ℕ) (a : Participant) (fact : Fact) → w.max_evicted ≤ m → m ≤ length w.writes.history → IsLasting fact → IsSo w.max_evicted w.cache w.writes w.prepared w.snapshots w.store w.locks w.installed a fact
-    → IsSo m w.cache w.writes (with_moved w.prepared m) w.snapshots w.store w.locks w.installed a fact
+so_after : (w : World) (m : ℕ) (a : Participant) (fact : Fact) → w.max_evicted ≤ m → m ≤ length w.writes.history → IsLasting fact → IsSo w.delayed_flag w.old_flag w.max_evicted w.cache w.writes w.prepared w.snapshots w.store w.locks w.installed a fact
+    → IsSo w.delayed_flag w.old_flag m w.cache w.writes (with_moved w.prepared m) w.snapshots w.store w.locks w.installed a fact
 unfolding IsLasting
 so_after w m a (passed place pair) le low lasts k = record { there = k.there; published_by = k.published_by; so = le_trans k.so le }
 so_after w m a (in_old_commits place pair) le low lasts k = k
@@ -171,6 +171,8 @@ so_after w m a (tables_stay versions floor) le low lasts k = k
 so_after w m a (live_listed floor listed) le low lasts k = k
 so_after w m a nothing_flushed le low lasts k = k
 so_after w m a (frozen_stay n versions) le low lasts k = k
+so_after w m a (delayed_flag_stays value) le low lasts k = k
+so_after w m a (old_flag_stays value) le low lasts k = k
 
 mine_last : (history : List Entry) (words m : ℕ) (fact : Fact) → not (ends history words (store_max_evicted m) fact) ≡ true → IsLasting fact
 unfolding IsLasting
@@ -222,7 +224,7 @@ stores_max w by a m at n s =
       have = have_changed w.holders e by w.actors a b at refl s.have;
       readers = subst (AreReaders w.writes.history m w.cache) (sym rs) (λ j x there r is. reader_after w m x.0 r n.2 (s.readers j x there r is));
       judged = subst (AreJudged w.writes.history) (sym rs) s.judged;
-      noted = each_map_set noter_of (λ j x. (fact : Fact) → IsIn fact x.1 → IsNoted w.holders (IsSo m w.cache w.writes (with_moved w.prepared m) w.snapshots w.store w.locks w.installed) j x fact) w.actors by b
+      noted = each_map_set noter_of (λ j x. (fact : Fact) → IsIn fact x.1 → IsNoted w.holders (IsSo w.delayed_flag w.old_flag m w.cache w.writes (with_moved w.prepared m) w.snapshots w.store w.locks w.installed) j x fact) w.actors by b
           (λ fact there. let k = in_filter (λ (f : Fact). not (ends w.writes.history (length w.cache) (store_max_evicted m) f)) fact a.notes there in let o = s.noted by (noter_of a) (at_map noter_of w.actors by a at) fact k.0 in
           record { guarded = o.guarded; is_so = so_after w m a.participant fact n.2 n.3 (mine_last w.writes.history (length w.cache) m fact k.1) o.is_so })
           (λ j x ne there fact k. let o = s.noted j x there fact k in record { guarded = o.guarded; is_so = so_after w m x.0 fact n.2 n.3 (theirs_last w.holders by j fact n.0 ne o.guarded) o.is_so });

@@ -16,7 +16,7 @@ use Rattle.wp_core.specs.IsSound.{IsSound, participants}
 use Rattle.wp_core.proofs.Frames.{kept_map, each_map_set, each_set, at_map}
 use Rattle.std.proofs.Common.{List, [], refl, ap, append-nil, filter, not, length}
 use Rattle.wp_model.specs.declared.entry.Entry.{Entry}
-use Rattle.wp_core.specs.Views.{passed, in_old_commits, apart, words_stay, versions_in_memory, versions_nowhere, number_in_heap, number_not_in_heap, undecided_at, prior_values, unprepared, direct_free, tables_stay, live_listed, nothing_flushed, frozen_stay}
+use Rattle.wp_core.specs.Views.{passed, in_old_commits, apart, words_stay, versions_in_memory, versions_nowhere, number_in_heap, number_not_in_heap, undecided_at, prior_values, unprepared, direct_free, tables_stay, live_listed, nothing_flushed, frozen_stay, delayed_flag_stays, old_flag_stays}
 use Rattle.wp_core.specs.Steps.{load_published}
 use Rattle.wp_core.specs.Changes.{sees}
 use Rattle.wp_core.specs.Effects.{done}
@@ -27,7 +27,7 @@ use Rattle.wp_core.proofs.Participants.{each_person_set}
 use Rattle.wp_core.proofs.Frames.{in_filter}
 
 -- no fact speaks of what was seen
-so_after : (w : World) (a : Participant) (fact : Fact) → IsSo w.max_evicted w.cache w.writes w.prepared w.snapshots w.store w.locks w.installed a fact → IsSo w.max_evicted w.cache w.writes w.prepared w.snapshots w.store w.locks w.installed (record a { seen = w.writes.history }) fact
+so_after : (w : World) (a : Participant) (fact : Fact) → IsSo w.delayed_flag w.old_flag w.max_evicted w.cache w.writes w.prepared w.snapshots w.store w.locks w.installed a fact → IsSo w.delayed_flag w.old_flag w.max_evicted w.cache w.writes w.prepared w.snapshots w.store w.locks w.installed (record a { seen = w.writes.history }) fact
 so_after w a (passed place pair) k = k
 so_after w a (in_old_commits place pair) k = k
 so_after w a (apart place pair) k = k
@@ -44,6 +44,8 @@ so_after w a (tables_stay versions floor) k = k
 so_after w a (live_listed floor listed) k = k
 so_after w a nothing_flushed k = k
 so_after w a (frozen_stay n versions) k = k
+so_after w a (delayed_flag_stays value) k = k
+so_after w a (old_flag_stays value) k = k
 
 whole : (history : List Entry) → StartsWith history history
 whole history = ([], sym (append-nil history))
@@ -81,7 +83,7 @@ loads_published w by a at s =
       have = subst (HoldersHave w.holders) (sym hs) s.have;
       readers = subst (AreReaders w.writes.history w.max_evicted w.cache) (sym rs) s.readers;
       judged = subst (AreJudged w.writes.history) (sym rs) s.judged;
-      noted = each_map_set noter_of (λ j x. (fact : Fact) → IsIn fact x.1 → IsNoted w.holders (IsSo w.max_evicted w.cache w.writes w.prepared w.snapshots w.store w.locks w.installed) j x fact) w.actors by b
+      noted = each_map_set noter_of (λ j x. (fact : Fact) → IsIn fact x.1 → IsNoted w.holders (IsSo w.delayed_flag w.old_flag w.max_evicted w.cache w.writes w.prepared w.snapshots w.store w.locks w.installed) j x fact) w.actors by b
           (λ fact there. let k = in_filter (λ (f : Fact). not (ends w.writes.history (length w.cache) load_published f)) fact a.notes there in let o = s.noted by (noter_of a) (at_map noter_of w.actors by a at) fact k.0 in
           record { guarded = o.guarded; is_so = so_after w a.participant fact o.is_so })
           (λ j x ne there. s.noted j x there);

@@ -5,10 +5,12 @@ pub mod Registered
 pub mod ReaderFacts
 pub mod Looks
 pub mod Loads
+pub mod Later
 pub mod Gives
 pub mod KeepsGive
 pub mod HistoryLaws
 pub mod Changed
+pub mod Quiet
 pub mod KeepsMax
 pub mod KeepsSeen
 pub mod Empty

@@ -1,10 +1,13 @@
 -- Each load of a reader keeps a world sound: what it knows then is so, and where it needs no more its answer is right.
-use Rattle.std.proofs.Common.{◌≡◌, ◌≢◌, ◌⊎◌, inl, inr, ⊎_elim, ℕ, ◌<◌, ◌≤◌, nat_le, nat_lt, ◌==◌, eq-eqb, Bool, true, false, cond, true≢false, length, refl, sym, subst, ap, ◌∙◌, Option, Some, None, le_trans, arith}
+use Rattle.std.proofs.Common.{◌≡◌, ◌≢◌, ◌⊎◌, inl, inr, ⊎_elim, ℕ, ◌<◌, ◌≤◌, nat_le, nat_lt, ◌==◌, eq-eqb, Bool, true, false, not, cond, true≢false, length, refl, sym, subst, ap, ◌∙◌, Option, Some, None, option_map, le_trans, arith}
 use Rattle.std.proofs.lemmas.Bool.Decides.{nat_tests}
+use mathlib.Core.Option.{some}
+use lib.ListN.{get_elem?}
 use Rattle.std.specs.FinSet as set
 use Rattle.std.specs.FinMap as finite
 use Rattle.std.specs.Ordering.{nat_cmp}
 use Rattle.wp_model.specs.Decision.{decision_of, IsCommittedAt}
+use Rattle.wp_model.specs.Snapshots.{IsLive, is_old_commit}
 use Rattle.wp_judge.specs.declared.observed.Observed.{Observed}
 use Rattle.wp_judge.specs.declared.observed.Load as loads
 use Rattle.wp_judge.specs.declared.observed.Load.TheVariants.{FirstWord, FirstMax, DelayedFlag, SecondWord, SecondMax, OldFlag, IsOldCommit}
@@ -14,15 +17,25 @@ use Rattle.wp_judge.specs.declared.observed.Asked.TheVariants.{Load, Answer}
 use Rattle.wp_judge.specs.declared.observed.InPrepared.{InPrepared}
 use Rattle.wp_judge.specs.declared.observed.InPrepared.TheVariants.{Absent, Delayed, Decided}
 use Rattle.wp_judge.specs.Words.{decision_in_word}
-use Rattle.wp_judge.specs.Order.{answered_by, ask_old_flag, ask_second_max, ask_second_word, ask_in_prepared, ask_delayed_flag, ask_first_max, answer_of, ask, judgement}
+use Rattle.wp_judge.specs.Order.{answered_by, ask_is_old_commit, ask_old_flag, ask_second_max, ask_second_word, ask_in_prepared, ask_delayed_flag, ask_first_max, answer_of, ask, judgement}
+use Rattle.wp_core.specs.Lists.{IsIn}
 use Rattle.wp_core.specs.Cache.{word_at, cached}
-use Rattle.wp_core.specs.World.{World}
+use Rattle.wp_core.specs.Reading.{Registration, snapshot_of}
+use Rattle.wp_core.specs.Views.{Fact}
+use Rattle.wp_core.specs.World.{Actor, World}
+use Rattle.wp_core.specs.Steps as step
 use Rattle.wp_core.specs.Changes.{found_in, loaded}
-use Rattle.wp_core.specs.Sound.Reader.{ReaderKnows, IsInOrder, IsRight}
+use Rattle.wp_core.specs.Effects.{done}
+use Rattle.wp_core.specs.Needs.{Needs}
+use Rattle.wp_core.specs.Notes.{forgets, ends}
+use Rattle.wp_core.specs.Sound.Reader.{ReaderKnows, IsInOrder, IsReader, IsRight, reader_of}
 use Rattle.wp_core.specs.IsSound.{IsSound}
+use Rattle.wp_core.proofs.Frames.{at_map, in_filter}
 use Rattle.wp_core.proofs.HistoryLaws.{decided_late}
-use Rattle.wp_core.proofs.ReaderOrder.{NotDelayed, At, from_begun, from_missed, from_flag, from_not_delayed, from_missed_again}
-use Rattle.wp_core.proofs.ReaderFacts.{same_some, none_some, decided_unless_delayed, gone_by, decided_right, word_right, delayed_right}
+use Rattle.wp_core.proofs.Registered.{registered_live}
+use Rattle.wp_core.proofs.ReaderOrder.{NotDelayed, MissedAgain, At, asked, from_begun, from_missed, from_flag, from_not_delayed, from_missed_again, from_bounded_again, from_old}
+use Rattle.wp_core.proofs.ReaderFacts.{same_some, none_some, decided_unless_delayed, gone_by, decided_right, word_right, old_right, delayed_right}
+use Rattle.wp_core.proofs.Looks.{looks}
 
 -- ---- answers
 
@@ -231,8 +244,10 @@ module _ (w : World) (r : Observed) (s : IsSound w) (live : (r.snapshot ≤ leng
     where
       bound : (m : ℕ) → nat_lt m r.version ≡ false → r.version ≤ m
       bound m e = grind (arith, nat_tests)
+
       zero_is : (m : ℕ) → (m == 0) ≡ true → m ≡ 0
       zero_is m e = grind (arith, nat_tests)
+
       by_found : ((n.flag == 0) ≡ true) ⊎ (((n.flag == 0) ≡ false) × (r.in_prepared ≡ Some Absent)) → (r.in_prepared ≡ Some Absent) ⊎ (r.delayed_flag ≡ Some 0)
       by_found (inl is) = inr (n.loaded ∙ ap Some (zero_is n.flag is))
       by_found (inr is) = inl is.1
@@ -305,3 +320,146 @@ module _ (w : World) (r : Observed) (s : IsSound w) (live : (r.snapshot ≤ leng
       let p = k.second_word at.0.word at.0.loaded at.0.another in let low = p.within in
       let lt : nat_lt w.max_evicted r.snapshot ≡ true = a.0 in let below : w.max_evicted < r.snapshot = grind (arith, nat_tests) in
       subst (IsRight w.writes.history r.version r.snapshot) a.1 (record { by = p.by; decided = p.decided; within = omega arith })
+
+  -- ---- the old commit map
+
+  knows_old_flag : ReaderKnows w.writes.history w.max_evicted w.cache r → ReaderKnows w.writes.history w.max_evicted w.cache (loaded w OldFlag r)
+  knows_old_flag k = record { version = k.version; first_word = k.first_word; first_max = k.first_max; not_in_prepared = k.not_in_prepared; second_word = k.second_word; second_max = k.second_max }
+
+  orders_old_flag : At r OldFlag → IsInOrder (loaded w OldFlag r)
+  orders_old_flag at = record {
+    first_max = order.first_max;
+    delayed_flag = order.delayed_flag;
+    in_prepared = order.in_prepared;
+    second_word = order.second_word;
+    looked = order.looked;
+    second_max = order.second_max;
+    old_flag = λ e. absurd (none_some r.second_max at.0.max e at.0.loaded);
+    is_old_commit = λ e. absurd (some_none _ e);
+  }
+
+  -- once its word is gone, the old commit map decides at a live snapshot
+  old_decides : (b : Bool) → IsLive w.snapshots r.snapshot → MissedAgain r.version r.snapshot r.smallest r.first_word r.first_max r.delayed_flag r.in_prepared r.second_word → is_old_commit w.snapshots r.snapshot r.version ≡ b → IsRight w.writes.history r.version r.snapshot (not b)
+  old_decides b is_live n there =
+      let le = within_snapshot _ refl n.not_delayed.bounded.missed.begun.within in
+      let p = (knows le).second_word n.word n.loaded n.another in old_right w.writes.history w.cache w.max_evicted w.snapshots r.version r.snapshot p.by b s.decided p.decided p.gone is_live le there
+
+  right_old_flag : (visible : Bool) → IsLive w.snapshots r.snapshot → At r OldFlag → judgement (loaded w OldFlag r) ≡ Some visible → IsRight w.writes.history r.version r.snapshot visible
+  right_old_flag visible is_live at e =
+      let next : Observed = loaded w OldFlag r in
+      let asks : ask next ≡ cond (w.old_flag == 0) (Answer true) (Load IsOldCommit) = from_bounded_again next at.0 ∙ (λ i. cond (w.old_flag == 0) (Answer true) (ask_is_old_commit (order.is_old_commit at.1 i))) in
+      let a = answered_if (w.old_flag == 0) true visible IsOldCommit (sym (ap answer_of asks) ∙ e) in
+      subst (IsRight w.writes.history r.version r.snapshot) a.1 (old_decides false is_live at.0.missed_again (s.flags.none_kept (zero_is w.old_flag a.0) r.snapshot r.version))
+    where
+      zero_is : (m : ℕ) → (m == 0) ≡ true → m ≡ 0
+      zero_is m e = grind (arith, nat_tests)
+
+  knows_old_commit : ReaderKnows w.writes.history w.max_evicted w.cache r → ReaderKnows w.writes.history w.max_evicted w.cache (loaded w IsOldCommit r)
+  knows_old_commit k = record { version = k.version; first_word = k.first_word; first_max = k.first_max; not_in_prepared = k.not_in_prepared; second_word = k.second_word; second_max = k.second_max }
+
+  orders_old_commit : At r IsOldCommit → IsInOrder (loaded w IsOldCommit r)
+  orders_old_commit at = record {
+    first_max = order.first_max;
+    delayed_flag = order.delayed_flag;
+    in_prepared = order.in_prepared;
+    second_word = order.second_word;
+    looked = order.looked;
+    second_max = order.second_max;
+    old_flag = order.old_flag;
+    is_old_commit = λ e. absurd (none_some r.old_flag at.0.flag e at.0.loaded);
+  }
+
+  right_old_commit : (visible : Bool) → IsLive w.snapshots r.snapshot → At r IsOldCommit → judgement (loaded w IsOldCommit r) ≡ Some visible → IsRight w.writes.history r.version r.snapshot visible
+  right_old_commit visible is_live at e =
+      let next : Observed = loaded w IsOldCommit r in
+      let b = is_old_commit w.snapshots r.snapshot r.version in
+      subst (IsRight w.writes.history r.version r.snapshot) (same_some (not b) visible (sym (ap answer_of (from_old next at.0)) ∙ e)) (old_decides b is_live at.0.bounded_again.missed_again refl)
+
+  -- ---- any load
+
+  knows_load : (which : loads.Load) → At r which → ReaderKnows w.writes.history w.max_evicted w.cache r → ReaderKnows w.writes.history w.max_evicted w.cache (loaded w which r)
+  knows_load FirstWord at k = knows_first_word k
+  knows_load FirstMax at k = knows_first_max at.1 k
+  knows_load DelayedFlag at k = knows_delayed_flag at.1 k
+  knows_load variant.InPrepared at k = knows_in_prepared at k
+  knows_load SecondWord at k = knows_second_word at k
+  knows_load SecondMax at k = knows_second_max at k
+  knows_load OldFlag at k = knows_old_flag k
+  knows_load IsOldCommit at k = knows_old_commit k
+
+  orders_load : (which : loads.Load) → At r which → IsInOrder (loaded w which r)
+  orders_load FirstWord at = orders_first_word at.1
+  orders_load FirstMax at = orders_first_max at
+  orders_load DelayedFlag at = orders_delayed_flag at
+  orders_load variant.InPrepared at = orders_in_prepared at
+  orders_load SecondWord at = orders_second_word at
+  orders_load SecondMax at = orders_second_max at
+  orders_load OldFlag at = orders_old_flag at
+  orders_load IsOldCommit at = orders_old_commit at
+
+  right_load : (which : loads.Load) (visible : Bool) → IsLive w.snapshots r.snapshot → At r which → judgement (loaded w which r) ≡ Some visible → IsRight w.writes.history r.version r.snapshot visible
+  right_load FirstWord visible is_live = right_first_word visible
+  right_load FirstMax visible is_live = right_first_max visible
+  right_load DelayedFlag visible is_live = right_delayed_flag visible
+  right_load variant.InPrepared visible is_live = right_in_prepared visible
+  right_load SecondWord visible is_live = right_second_word visible
+  right_load SecondMax visible is_live = right_second_max visible
+  right_load OldFlag visible is_live = right_old_flag visible is_live
+  right_load IsOldCommit visible is_live = right_old_commit visible is_live
+
+-- ---- the step
+
+same_version : (w : World) (r : Observed) (which : loads.Load) → (loaded w which r).version ≡ r.version
+same_version w r FirstWord = refl
+same_version w r FirstMax = refl
+same_version w r DelayedFlag = refl
+same_version w r variant.InPrepared = refl
+same_version w r SecondWord = refl
+same_version w r SecondMax = refl
+same_version w r OldFlag = refl
+same_version w r IsOldCommit = refl
+
+same_snapshot : (w : World) (r : Observed) (which : loads.Load) → snapshot_of (loaded w which r) ≡ snapshot_of r
+same_snapshot w r FirstWord = refl
+same_snapshot w r FirstMax = refl
+same_snapshot w r DelayedFlag = refl
+same_snapshot w r variant.InPrepared = refl
+same_snapshot w r SecondWord = refl
+same_snapshot w r SecondMax = refl
+same_snapshot w r OldFlag = refl
+same_snapshot w r IsOldCommit = refl
+
+reads_is : (w : World) (which : loads.Load) (o : Option Observed) (r x : Observed) → o ≡ Some r → option_map (loaded w which) o ≡ Some x → loaded w which r ≡ x
+reads_is w which o r x is e = same_some (loaded w which r) x (sym (ap (option_map (loaded w which)) is) ∙ e)
+
+pub load_keeps : (w : World) (by : ℕ) (a : Actor) (which : loads.Load) → get_elem? w.actors by ≡ some a → Needs w by a (step.load which) → IsSound w → IsSound (done w by (forgets w.writes.history (length w.cache) (step.load which) a) (step.load which))
+load_keeps w by a which at n s =
+    let b : Actor = record (forgets w.writes.history (length w.cache) (step.load which) a) { reading = option_map (loaded w which) a.reading } in
+    let r : Observed = n.0 in
+    let reader = s.readers by (reader_of a) (at_map reader_of w.actors by a at) r n.1 in
+    let so_far = asked r which n.2 in
+    let live = registered_live w.writes.history w.snapshots w.actors by a (snapshot_of r) at reader.registered_at s.registrations in
+    let number : (loaded w which r).snapshot ≡ r.snapshot = ap (λ (z : Registration). z.number) (same_snapshot w r which) in
+    looks w by a b at
+    record {
+      participant = refl;
+      learned = refl;
+      held = refl;
+      live = refl;
+      made = refl;
+      joined = refl;
+      fewer = λ fact there. (in_filter (λ (f : Fact). not (ends w.writes.history (length w.cache) (step.load which) f)) fact a.notes there).0;
+    }
+    record {
+      knows = λ x e. subst (IsReader w.writes.history w.max_evicted w.cache a.participant.registered) (reads_is w which a.reading r x n.1 e)
+          record {
+            registered_at = subst (λ z. IsIn z a.participant.registered) (sym (same_snapshot w r which)) reader.registered_at;
+            in_order = orders_load w r s live.1 reader.in_order reader.knows which so_far;
+            knows = λ le. knows_load w r s live.1 reader.in_order reader.knows which so_far (reader.knows (subst (λ (z : ℕ × ℕ). z.0 ≤ z.1) (λ i. (same_version w r which i, number i)) le));
+          };
+      right = λ x visible e judged. let is : loaded w which r ≡ x = reads_is w which a.reading r x n.1 e in
+          subst (λ (y : Observed). IsRight w.writes.history y.version y.snapshot visible) is
+          (subst (λ (z : ℕ × ℕ). IsRight w.writes.history z.0 z.1 visible) (λ i. (sym (same_version w r which) i, sym number i))
+          (right_load w r s live.1 reader.in_order reader.knows which visible live.0 so_far (ap judgement is ∙ judged)));
+      idle = λ dead. let i = s.idle by a at dead in absurd (none_some a.reading r i.reading n.1);
+    } s

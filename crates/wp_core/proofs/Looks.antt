@@ -68,8 +68,8 @@ looks w by a b at same reads s =
       have = subst (HoldersHave w.holders) (sym hs) s.have;
       readers = each_map_set reader_of (λ j x. (r : Observed) → x.1 ≡ Some r → IsReader w.writes.history w.max_evicted w.cache x.0 r) w.actors by b reads.knows (λ j x ne there. s.readers j x there);
       judged = each_map_set reader_of (λ j x. (r : Observed) (visible : Bool) → x.1 ≡ Some r → judgement r ≡ Some visible → IsRight w.writes.history r.version r.snapshot visible) w.actors by b reads.right (λ j x ne there. s.judged j x there);
-      noted = each_map_set noter_of (λ j x. (fact : Fact) → IsIn fact x.1 → IsNoted w.holders (IsSo w.max_evicted w.cache w.writes w.prepared w.snapshots w.store w.locks w.installed) j x fact) w.actors by b
-          (λ fact h. let m = mine fact (same.fewer fact h) in record { guarded = m.guarded; is_so = subst (λ (p : Participant). IsSo w.max_evicted w.cache w.writes w.prepared w.snapshots w.store w.locks w.installed p fact) (sym same.participant) m.is_so })
+      noted = each_map_set noter_of (λ j x. (fact : Fact) → IsIn fact x.1 → IsNoted w.holders (IsSo w.delayed_flag w.old_flag w.max_evicted w.cache w.writes w.prepared w.snapshots w.store w.locks w.installed) j x fact) w.actors by b
+          (λ fact h. let m = mine fact (same.fewer fact h) in record { guarded = m.guarded; is_so = subst (λ (p : Participant). IsSo w.delayed_flag w.old_flag w.max_evicted w.cache w.writes w.prepared w.snapshots w.store w.locks w.installed p fact) (sym same.participant) m.is_so })
           (λ j x ne there. s.noted j x there);
       led = subst AreLed (sym ss) s.led;
       idle = each_set (λ j x. x.live ≡ false → IsIdle x) w.actors by b reads.idle (λ j x ne there. s.idle j x there);

@@ -67,6 +67,7 @@ word_decides history pending cache p c k e =
         let same : pair.number ≡ p = (let n : ℕ = pair.number in let q : (n == p) ≡ true = is in grind (arith, nat_tests)) in
         subst (λ (q : ℕ). decision_of (extended history pending) q ≡ Some c) same (at.decided ∙ f)
     by_number pair false is there f = let q : None ≡ Some c = f in absurd (cc)
+
     by_pair : (o : Option CommitPair) → pair_at cache (cache_place (length cache) p) ≡ o → decision_if p o ≡ Some c → decision_of (extended history pending) p ≡ Some c
     by_pair None there f = let q : None ≡ Some c = f in absurd (cc)
     by_pair (Some pair) there f = by_number pair (pair.number == p) refl there f

@@ -1,5 +1,5 @@
 -- Conditions of steps, each by itself.
-use Rattle.std.specs.Prelude.{◌≡◌, ◌≢◌, ◌⊎◌, ℕ, suc, ◌≤◌, true, false, List, [], ◌∷◌, ◌++◌, Some, is_some, map}
+use Rattle.std.specs.Prelude.{◌≡◌, ◌≢◌, ◌⊎◌, ℕ, suc, ◌≤◌, true, false, List, [], ◌∷◌, ◌++◌, Some, is_some, map, Option, None}
 use Rattle.std.specs.FinSet as set
 use Rattle.std.specs.FinMap as finite
 use Rattle.wp_model.specs.declared.change.Change.{Change}
@@ -121,26 +121,28 @@ KeepsStore w store installed = IsStored w.writes.history w.writes.pending w.snap
 
 -- ---- the locks turn
 
--- the table has the holder: a key is held for it, or it is a live name
-abbrev pub IsHolder : World → Holder → Type 0
-IsHolder w holder = ((key : List ℕ) × (finite.get w.locks.keys key ≡ Some holder)) ⊎ ((name : List ℕ) × (holder ≡ Txn name) × (is_some (finite.get w.locks.names name) ≡ true))
+-- the table has the holder of the key; where no key is given, the holder is a live name
+abbrev pub IsHolder : World → Option (List ℕ) → Holder → Type 0
+IsHolder w (Some key) holder = finite.get w.locks.keys key ≡ Some holder
+IsHolder w None holder = (name : List ℕ) × (holder ≡ Txn name) × (is_some (finite.get w.locks.names name) ≡ true)
 
--- this one of the participants is that holder
-abbrev pub IsSelf : World → Owner → Holder → Type 0
-IsSelf w p (Txn name) = (t : Transaction) × (finite.get p.transactions name ≡ Some t)
-IsSelf w p (Client client) = (p.client ≡ client) × ((key : List ℕ) × (p.direct ≡ Some key) × (finite.get w.locks.keys key ≡ Some (Client client)))
+-- this one of the participants is that holder: it has the transaction, or the direct write of the key
+abbrev pub IsSelf : Owner → Option (List ℕ) → Holder → Type 0
+IsSelf p key (Txn name) = (t : Transaction) × (finite.get p.transactions name ≡ Some t)
+IsSelf p (Some key) (Client client) = (p.client ≡ client) × (p.direct ≡ Some key)
+IsSelf p None (Client client) = ⊥
 
 -- another one of the participants is that holder
-pub record IsOther (w : World) (by : ℕ) (holder : Holder) : Type 0 where
+pub record IsOther (w : World) (by : ℕ) (key : Option (List ℕ)) (holder : Holder) : Type 0 where
   pub at : ℕ
   pub place : ℕ
   pub participant : Owner
   pub there : IsParticipantAt (map (participants_of owner_of) w.actors) at place participant
   pub apart : (at ≢ by) ⊎ (place ≢ 0)
-  pub is : IsSelf w participant holder
+  pub is : IsSelf participant key holder
 
-abbrev pub Accounts : World → ℕ → Actor → Holder → Account → Type 0
-Accounts w by a holder own = IsSelf w (owner_of a.participant) holder
-Accounts w by a holder another = IsOther w by holder
-Accounts w by a (Txn name) (prepare_at n) = (n ≡ published w) × (is_some (named w.writes.history name) ≡ true)
-Accounts w by a (Client client) (prepare_at n) = ⊥
+abbrev pub Accounts : World → ℕ → Actor → Option (List ℕ) → Holder → Account → Type 0
+Accounts w by a key holder own = IsSelf (owner_of a.participant) key holder
+Accounts w by a key holder another = IsOther w by key holder
+Accounts w by a key (Txn name) (prepare_at n) = (n ≡ published w) × (is_some (named w.writes.history name) ≡ true)
+Accounts w by a key (Client client) (prepare_at n) = ⊥

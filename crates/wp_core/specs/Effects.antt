@@ -12,7 +12,7 @@ use Rattle.wp_core.specs.Reading.{reads}
 use Rattle.wp_core.specs.Views.{claimed, took, locked, told, heard, log_failed, tables_failed, stopped, found_flushed, found}
 use Rattle.wp_core.specs.Views as event
 use Rattle.wp_core.specs.World.{Actor, new_actor, World, published, content_of}
-use Rattle.wp_core.specs.Steps.{Step, load_published, register, begin_reading, load, end_reading, store_published, store_max_evicted, store_word, store_delayed_flag, store_old_flag, take_turn, give_turn, make_pending, log_pending, close_log, find_log_closed, drop_pending, add_prepared, take_pending_prepared, add_delayed_commit, take_out, register_again, release, add_old_commit, add_versions, take_versions, move_versions, replace_versions, install, halt, find_flushed, claim_name, take_name, leave_name, free_transaction, lock_key, free_key, lock_direct, free_direct, find_holder, tell, hear, set_batch, note, make_note, make_seat, learn, join_seat}
+use Rattle.wp_core.specs.Steps.{Step, load_published, register, begin_reading, load, end_reading, store_published, store_max_evicted, store_word, store_delayed_flag, store_old_flag, take_turn, give_turn, make_pending, log_pending, close_log, find_log_closed, drop_pending, add_prepared, take_pending_prepared, add_delayed_commit, take_out, register_again, release, add_old_commit, add_versions, take_versions, move_versions, replace_versions, install, halt, find_flushed, claim_name, take_name, leave_name, free_transaction, lock_key, free_key, lock_direct, free_direct, find_holder, tell, hear, set_batch, note, make_note, make_seat, set_client, learn, join_seat}
 use Rattle.wp_core.specs.Changes.{put, held_without, change, sees, remembers, registers, releases, has_transaction, has_no_transaction, has_direct, loaded, with_registered, with_released, with_old_commit, keys_of_holder, with_name, with_key, without_key, without_transaction, with_label, informed, joins, joined_actor, made_one}
 
 -- ---- tables
@@ -70,12 +70,13 @@ done w by a (lock_key name t key) = change w by (remembers (has_transaction a na
 done w by a (free_key name t key) = change w by (has_transaction a name (record t { locked = set.remove t.locked key })) (locks (without_key w.locks key))
 done w by a (lock_direct key) = change w by (remembers (has_direct a (Some key)) (locked key (Client a.participant.client))) (locks (with_key w.locks key (Client a.participant.client)))
 done w by a (free_direct key) = change w by (has_direct a None) (locks (without_key w.locks key))
-done w by a (find_holder holder account) = put w by (remembers a (found holder (length a.participant.seen) account))
+done w by a (find_holder key holder account) = put w by (remembers a (found key holder (length a.participant.seen) account))
 done w by a (tell label) = change w by (remembers (sees w.writes.history a) (told label (published w))) (locks (with_label w.locks label (published w)))
 done w by a (hear label n) = put w by (remembers a (heard label n))
 done w by a (set_batch name t batch) = put w by (has_transaction a name (record t { batch = batch }))
 done w by a (note fact) = put w by (record a { notes = fact ∷ a.notes })
 done w by a make_note = record w { actors = w.actors ++ new_actor false a.participant.client a.participant.seen ∷ [] }
-done w by a (make_seat client) = record w { actors = slice_set w.actors by (made_one a) ++ new_actor true client a.participant.seen ∷ [] }
+done w by a make_seat = record w { actors = slice_set w.actors by (made_one a) ++ new_actor true a.participant.client a.participant.seen ∷ [] }
+done w by a (set_client client) = put w by (record a { participant = record a.participant { client = client } })
 done w by a (learn other b) = put (put w by (informed a b)) other joined_actor
 done w by a (join_seat other b) = put (put w by (joins a b)) other joined_actor

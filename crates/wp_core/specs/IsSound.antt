@@ -46,7 +46,7 @@ pub record IsSound (w : World) : Type 0 where
   -- readers and views
   pub readers : AreReaders w.writes.history w.max_evicted w.cache (map reader_of w.actors)
   pub judged : AreJudged w.writes.history (map reader_of w.actors)
-  pub noted : AreNoted w.holders (IsSo w.max_evicted w.cache w.writes w.prepared w.snapshots w.store w.locks w.installed) (map noter_of w.actors)
+  pub noted : AreNoted w.holders (IsSo w.delayed_flag w.old_flag w.max_evicted w.cache w.writes w.prepared w.snapshots w.store w.locks w.installed) (map noter_of w.actors)
   -- who the actors are
   pub led : AreLed (map role_of w.actors)
   pub idle : AreIdle w.actors

@@ -16,10 +16,10 @@ use Rattle.wp_core.specs.Cache.{pair_at, cache_place}
 use Rattle.wp_core.specs.Tables.{NoneDelayed, NoOldCommits}
 use Rattle.wp_core.specs.World.{Transaction, Actor, World, published}
 use Rattle.wp_core.specs.Entries.{next_of, pending_pair, IsRecord, HasVersionsAt}
-use Rattle.wp_core.specs.Steps.{Step, load_published, register, begin_reading, load, end_reading, store_published, store_max_evicted, store_word, store_delayed_flag, store_old_flag, take_turn, give_turn, make_pending, log_pending, close_log, find_log_closed, drop_pending, add_prepared, take_pending_prepared, add_delayed_commit, take_out, register_again, release, add_old_commit, add_versions, take_versions, move_versions, replace_versions, install, halt, find_flushed, claim_name, take_name, leave_name, free_transaction, lock_key, free_key, lock_direct, free_direct, find_holder, tell, hear, set_batch, note, make_note, make_seat, learn, join_seat}
+use Rattle.wp_core.specs.Steps.{Step, load_published, register, begin_reading, load, end_reading, store_published, store_max_evicted, store_word, store_delayed_flag, store_old_flag, take_turn, give_turn, make_pending, log_pending, close_log, find_log_closed, drop_pending, add_prepared, take_pending_prepared, add_delayed_commit, take_out, register_again, release, add_old_commit, add_versions, take_versions, move_versions, replace_versions, install, halt, find_flushed, claim_name, take_name, leave_name, free_transaction, lock_key, free_key, lock_direct, free_direct, find_holder, tell, hear, set_batch, note, make_note, make_seat, set_client, learn, join_seat}
 use Rattle.wp_core.specs.Effects.{with_failed}
 use Rattle.wp_core.specs.Sound.Snapshots.{has_versions_at}
-use Rattle.wp_core.specs.Sound.Views.{shown_by, HoldsAll, IsSo}
+use Rattle.wp_core.specs.Sound.Views.{IsGuarded, IsSo}
 use Rattle.wp_core.specs.Conditions.{MayBeSmallest, IsNextLoad, HasTransaction, MayPublish, MayGo, MayGive, MayLog, MayDrop, IsPreparePending, SameVersions, KeepsStore, IsHolder, Accounts}
 
 abbrev pub Needs : World → ℕ → Actor → Step → Type 0
@@ -62,12 +62,13 @@ Needs w by a (lock_key name t key) = Holds w.holders locks_turn by × HasTransac
 Needs w by a (free_key name t key) = Holds w.holders locks_turn by × HasTransaction a name t × (set.contains t.locked key ≡ true) × (named w.writes.history name ≡ None)
 Needs w by a (lock_direct key) = Holds w.holders locks_turn by × (a.participant.direct ≡ None) × (finite.get w.locks.keys key ≡ None)
 Needs w by a (free_direct key) = Holds w.holders locks_turn by × (a.participant.direct ≡ Some key)
-Needs w by a (find_holder holder account) = Holds w.holders locks_turn by × IsHolder w holder × Accounts w by a holder account
+Needs w by a (find_holder key holder account) = Holds w.holders locks_turn by × IsHolder w key holder × Accounts w by a key holder account
 Needs w by a (tell label) = Holds w.holders locks_turn by
 Needs w by a (hear label n) = Holds w.holders locks_turn by × (finite.get w.locks.labels label ≡ Some n)
 Needs w by a (set_batch name t batch) = HasTransaction a name t × (is_batch batch ≡ true)
-Needs w by a (note fact) = HoldsAll w.holders (shown_by fact) by × IsSo w.max_evicted w.cache w.writes w.prepared w.snapshots w.store w.locks w.installed a.participant fact
+Needs w by a (note fact) = IsGuarded w.holders fact by × IsSo w.delayed_flag w.old_flag w.max_evicted w.cache w.writes w.prepared w.snapshots w.store w.locks w.installed a.participant fact
 Needs w by a make_note = Unit {0}
-Needs w by a (make_seat client) = by ≡ 0
+Needs w by a make_seat = by ≡ 0
+Needs w by a (set_client client) = (a.live ≡ true) × (a.participant.transactions ≡ finite.empty) × (a.participant.direct ≡ None)
 Needs w by a (learn other b) = (other ≢ by) × (get_elem? w.actors other ≡ some b) × (b.live ≡ false)
 Needs w by a (join_seat other b) = (by ≡ 0) × (other ≢ by) × (get_elem? w.actors other ≡ some b) × (b.live ≡ true) × (b.held ≡ [])

@@ -3,10 +3,10 @@ use Rattle.std.specs.Prelude.{ℕ, Bool, true, false, ◌||◌, ◌==◌, not, L
 use Rattle.wp_model.specs.declared.entry.Entry.{Entry}
 use Rattle.wp_core.specs.Turns.{Turn}
 use Rattle.wp_core.specs.Cache.{cache_place}
-use Rattle.wp_core.specs.Views.{Fact, passed, in_old_commits, apart, words_stay, versions_in_memory, versions_nowhere, number_in_heap, number_not_in_heap, undecided_at, prior_values, unprepared, direct_free, tables_stay, live_listed, nothing_flushed, frozen_stay}
+use Rattle.wp_core.specs.Views.{Fact, passed, in_old_commits, apart, words_stay, versions_in_memory, versions_nowhere, number_in_heap, number_not_in_heap, undecided_at, prior_values, unprepared, direct_free, tables_stay, live_listed, nothing_flushed, frozen_stay, delayed_flag_stays, old_flag_stays}
 use Rattle.wp_core.specs.Entries.{transaction_of}
 use Rattle.wp_core.specs.World.{Actor}
-use Rattle.wp_core.specs.Steps.{Step, store_published, store_max_evicted, store_word, give_turn, make_pending, drop_pending, add_prepared, take_pending_prepared, add_versions, take_versions, move_versions, replace_versions, install, free_transaction, leave_name, free_direct}
+use Rattle.wp_core.specs.Steps.{Step, store_published, store_max_evicted, store_word, store_delayed_flag, store_old_flag, give_turn, make_pending, drop_pending, add_prepared, take_pending_prepared, add_versions, take_versions, move_versions, replace_versions, install, free_transaction, leave_name, free_direct}
 use Rattle.wp_core.specs.Changes.{turn_index}
 use Rattle.wp_core.specs.Sound.Views.{guarded_by}
 
@@ -23,6 +23,14 @@ abbrev pub stores_words : Step → Bool
 stores_words (store_word pair) = true
 stores_words (store_max_evicted m) = true
 stores_words other = false
+
+abbrev pub stores_delayed_flag : Step → Bool
+stores_delayed_flag (store_delayed_flag value) = true
+stores_delayed_flag other = false
+
+abbrev pub stores_old_flag : Step → Bool
+stores_old_flag (store_old_flag value) = true
+stores_old_flag other = false
 
 -- another entry is pending, or none
 abbrev pub ends_pending : Step → Bool
@@ -90,7 +98,9 @@ ends_itself history words step (direct_free key) = frees_direct step
 ends_itself history words step (tables_stay versions floor) = moves_versions step || replaces_versions step
 ends_itself history words step (live_listed floor listed) = false
 ends_itself history words step nothing_flushed = moves_versions step || installs step
-ends_itself history words step (frozen_stay n versions) = moves_versions step || (replaces_versions step || installs step)
+ends_itself history words step (frozen_stay n versions) = moves_versions step
+ends_itself history words step (delayed_flag_stays value) = stores_delayed_flag step
+ends_itself history words step (old_flag_stays value) = stores_old_flag step
 
 abbrev pub ends : List Entry → ℕ → Step → Fact → Bool
 ends history words step fact = gives_guard (guarded_by fact) step || ends_itself history words step fact

@@ -82,16 +82,19 @@ pub data Step : Type 0 where
   free_key : List ℕ → Transaction → List ℕ → Step
   lock_direct : List ℕ → Step
   free_direct : List ℕ → Step
-  find_holder : Holder → Account → Step
+  -- of a key, or else of a live name
+  find_holder : Option (List ℕ) → Holder → Account → Step
   -- a label with the published number, and the number under a label
   tell : List ℕ → Step
   hear : List ℕ → ℕ → Step
   -- ---- the actor alone
   set_batch : List ℕ → Transaction → List Change → Step
-  -- a fact that the turns which it holds show it
+  -- a fact that is so, while the turn that guards it is held
   note : Fact → Step
   -- ---- notes and seats: a join has the other's number and state
   make_note : Step
-  make_seat : List ℕ → Step
+  make_seat : Step
+  -- a seat that has no transaction and no direct write is given to a client
+  set_client : List ℕ → Step
   learn : ℕ → Actor → Step
   join_seat : ℕ → Actor → Step

@@ -1,5 +1,5 @@
 -- What an actor did and found, and what it knows of tables that others may hold.
-use Rattle.std.specs.Prelude.{ℕ, Bool, List}
+use Rattle.std.specs.Prelude.{ℕ, Bool, List, Option}
 use Rattle.wp_model.specs.declared.change.Change.{Change}
 use Rattle.wp_model.specs.declared.version.Version.{Version}
 use Rattle.wp_model.specs.declared.holder.Holder.{Holder}
@@ -25,10 +25,11 @@ pub data Event : Type 0 where
   -- the log was found closed at this published number
   stopped : ℕ → Event
   found_flushed : ℕ → Event
-  -- this holder was found, by one who had seen so many entries
-  found : Holder → ℕ → Account → Event
+  -- this holder was found, of a key or else of a live name, by one who had seen so many entries
+  found : Option (List ℕ) → Holder → ℕ → Account → Event
 
--- A fact that the actor noted while it held the turns that show it. It stays so until the actor itself ends it.
+-- A fact that the actor noted. While it holds the turn that guards the fact, if one does, the fact stays so until the actor
+-- itself ends it.
 pub data Fact : Type 0 where
   -- The pair of the word at this place may be evicted: its decision is at most the bound; the old commit map has it under
   -- each live snapshot that it overlaps; and it is of no prepared transaction, or a delayed commit.
@@ -54,3 +55,6 @@ pub data Fact : Type 0 where
   live_listed : ℕ → List ℕ → Fact
   nothing_flushed : Fact
   frozen_stay : ℕ → List Version → Fact
+  -- nobody else stores the flag
+  delayed_flag_stays : ℕ → Fact
+  old_flag_stays : ℕ → Fact

@@ -1,10 +1,16 @@
 //! What is proved of the machine, over worlds and steps.
-ghost use Rattle.std.specs.Prelude.{ℕ};
+ghost use mathlib.Core.Option.{some};
+ghost use lib.ListN.{get_elem?};
+ghost use Rattle.std.specs.Prelude.{◌≡◌, ℕ, Bool, Some};
+ghost use Rattle.wp_judge.specs.declared.observed.Observed.{Observed};
+ghost use Rattle.wp_judge.specs.declared.observed.Load.{Load};
+ghost use Rattle.wp_judge.specs.Order.{judgement};
 ghost use Rattle.wp_core.specs.Turns.{Turn};
-ghost use Rattle.wp_core.specs.World.{World};
-ghost use Rattle.wp_core.specs.Steps.{give_turn, load_published, store_max_evicted};
-ghost use Rattle.wp_core.specs.Runs.{IsStep, IsOpening};
+ghost use Rattle.wp_core.specs.World.{World, Actor, history};
+ghost use Rattle.wp_core.specs.Steps.{load, give_turn, load_published, store_max_evicted};
+ghost use Rattle.wp_core.specs.Runs.{IsStep, IsOpening, ReachesFrom};
 ghost use Rattle.wp_core.specs.IsSound.{IsSound};
+ghost use Rattle.wp_core.specs.Sound.Reader.{IsRight};
 
 /// The parts of a sound world do not contradict each other, nor do those of an opening.
 pub fn there_is_a_sound_opening()
@@ -24,4 +30,18 @@ pub fn seeing_keeps_sound()
 /// Storing the evicted bound, while the write turn and the prepared turn are held, keeps a world sound.
 pub fn raising_the_bound_keeps_sound()
     ensures { (w : World) (by m : ℕ) (next : World) → IsStep w by (store_max_evicted m) next → IsSound w → IsSound next }
+{}
+
+/// Each load of a reader keeps a world sound: of a word, of the bound, of a flag, and the looks into the prepared tables
+/// and the old commit map.
+pub fn loading_keeps_sound()
+    ensures { (w : World) (by : ℕ) (which : Load) (next : World) → IsStep w by (load which) next → IsSound w → IsSound next }
+{}
+
+/// What a reader concludes is right: where it has loaded what it needs, its judgement is whether the version is committed
+/// at its snapshot, in a sound world and in each world that steps of any actors lead to.
+pub fn readers_judge_right()
+    ensures { (w : World) (j : ℕ) (a : Actor) (r : Observed) (visible : Bool)
+        → IsSound w → get_elem? w.actors j ≡ some a → a.reading ≡ Some r → judgement r ≡ Some visible
+        → (later : World) → ReachesFrom w later → IsRight (history later) r.version r.snapshot visible }
 {}

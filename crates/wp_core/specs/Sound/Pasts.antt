@@ -1,5 +1,5 @@
 -- What is so of the actors' pasts: whom they found, what they told, which faults they met, which edits they installed.
-use Rattle.std.specs.Prelude.{◌≡◌, ◌≢◌, ◌⊎◌, ℕ, ◌+◌, ◌≤◌, Bool, true, false, List, [], length, take, fold, Some, is_some}
+use Rattle.std.specs.Prelude.{◌≡◌, ◌≢◌, ◌⊎◌, ℕ, ◌+◌, ◌≤◌, Bool, true, false, List, [], length, take, fold, Option, Some, is_some}
 use Rattle.std.specs.FinMap as finite
 use Rattle.wp_model.specs.declared.entry.Entry.{Entry}
 use Rattle.wp_model.specs.History.{named}
@@ -29,25 +29,26 @@ times_past test pasts = total_participants (total (λ e. one_if (test e))) pasts
 
 -- ---- holders
 
--- the event made the holder one
-abbrev pub Makes : Event → Holder → Type 0
-Makes (claimed name) (Txn other) = name ≡ other
-Makes (took name) (Txn other) = name ≡ other
-Makes (locked key holder) other = holder ≡ other
-Makes e other = ⊥
+-- the event made the holder one: the name was claimed or taken, or the key locked for a direct write
+abbrev pub Makes : Event → Option (List ℕ) → Holder → Type 0
+Makes (claimed name) key (Txn other) = name ≡ other
+Makes (took name) key (Txn other) = name ≡ other
+Makes (locked key holder) (Some other) (Client client) = (key ≡ other) × (holder ≡ Client client)
+Makes e key holder = ⊥
 
--- how the answer of one of the participants, that this is a holder, is accounted for; it had seen so many entries
-abbrev pub IsAccounted : List Entry → List (List (List Event)) → ℕ → ℕ → Holder → ℕ → Account → Type 0
-IsAccounted history pasts j i holder seen own = Unit {0}
-IsAccounted history pasts j i holder seen another = (k l : ℕ) × (e : Event) × ((k ≢ j) ⊎ (l ≢ i)) × Makes e holder × HasDone pasts k l e
-IsAccounted history pasts j i (Txn name) seen (prepare_at n) = (seen ≤ n) × (n ≤ length history) × (is_some (named (take n history) name) ≡ true)
-IsAccounted history pasts j i (Client name) seen (prepare_at n) = ⊥
+-- How the answer of one of the participants, that this is the holder of a key or else a live name, is accounted for: by
+-- what it did itself, by what another did, or by a prepare that was undecided when it had seen so many entries, or later.
+abbrev pub IsAccounted : List Entry → List (List (List Event)) → ℕ → ℕ → Option (List ℕ) → Holder → ℕ → Account → Type 0
+IsAccounted history pasts j i key holder seen own = (e : Event) × Makes e key holder × HasDone pasts j i e
+IsAccounted history pasts j i key holder seen another = (k l : ℕ) × (e : Event) × ((k ≢ j) ⊎ (l ≢ i)) × Makes e key holder × HasDone pasts k l e
+IsAccounted history pasts j i key (Txn name) seen (prepare_at n) = (seen ≤ n) × (n ≤ length history) × (is_some (named (take n history) name) ≡ true)
+IsAccounted history pasts j i key (Client name) seen (prepare_at n) = ⊥
 
 -- a live name was claimed or taken, or comes from the opening; a key of a direct write was locked; what was found is accounted for
 pub record AreHolders (opened history : List Entry) (t : LockTables) (pasts : List (List (List Event))) : Type 0 where
   pub names : (name : List ℕ) → is_some (finite.get t.names name) ≡ true → (IsPast pasts (claimed name) ⊎ IsPast pasts (took name)) ⊎ (is_some (named opened name) ≡ true)
   pub keys : (key client : List ℕ) → finite.get t.keys key ≡ Some (Client client) → IsPast pasts (locked key (Client client))
-  pub found : (j i : ℕ) (holder : Holder) (seen : ℕ) (account : Account) → HasDone pasts j i (found holder seen account) → IsAccounted history pasts j i holder seen account
+  pub found : (j i : ℕ) (key : Option (List ℕ)) (holder : Holder) (seen : ℕ) (account : Account) → HasDone pasts j i (found key holder seen account) → IsAccounted history pasts j i key holder seen account
 
 -- ---- the board
 
