@@ -1,5 +1,5 @@
 -- What is so of all pasts, once one actor's past has an event more that installs nothing and is no fault.
-use Rattle.std.proofs.Common.{◌≡◌, ◌≢◌, ◌⊎◌, ⊎_elim, inl, inr, ℕ, ◌+◌, ◌≤◌, Bool, true, false, List, [], ◌∷◌, ◌++◌, length, map, set, refl, sym, subst, ap, ◌∙◌, arith, Some, is_some}
+use Rattle.std.proofs.Common.{◌≡◌, ◌≢◌, ◌⊎◌, ⊎_elim, inl, inr, ℕ, ◌+◌, ◌≤◌, Bool, true, false, List, [], ◌∷◌, ◌++◌, length, map, set, refl, sym, subst, ap, ◌∙◌, arith, Option, Some, is_some}
 use Rattle.std.proofs.lemmas.List.Sums.{fold-append}
 use mathlib.Core.Option.{some}
 use lib.ListN.{get_elem?}
@@ -29,25 +29,25 @@ module _ (xs : List Actor) (by : ℕ) (a b : Actor) (e : Event) (at : get_elem? 
   abbrev after : List (List (List Event))
   after = map (participants_of past_of) (set xs by b)
 
-  accounted_still : (history : List Entry) (j i : ℕ) (holder : Holder) (seen : ℕ) (account : Account) → IsAccounted history before j i holder seen account → IsAccounted history after j i holder seen account
-  accounted_still history j i holder seen own k = tt
-  accounted_still history j i holder seen another (l, m, x, apart, makes, k) = (l, m, x, apart, makes, done_still xs by a b e at same grown l m x k)
-  accounted_still history j i (Txn name) seen (prepare_at n) k = k
-  accounted_still history j i (Client name) seen (prepare_at n) k = k
+  accounted_still : (history : List Entry) (j i : ℕ) (key : Option (List ℕ)) (holder : Holder) (seen : ℕ) (account : Account) → IsAccounted history before j i key holder seen account → IsAccounted history after j i key holder seen account
+  accounted_still history j i key holder seen own (x, makes, k) = (x, makes, done_still xs by a b e at same grown j i x k)
+  accounted_still history j i key holder seen another (l, m, x, apart, makes, k) = (l, m, x, apart, makes, done_still xs by a b e at same grown l m x k)
+  accounted_still history j i key (Txn name) seen (prepare_at n) k = k
+  accounted_still history j i key (Client name) seen (prepare_at n) k = k
 
-  pub holders_more : (opened history : List Entry) (t : LockTables) → ((holder : Holder) (seen : ℕ) (account : Account) → e ≡ found holder seen account → IsAccounted history before by 0 holder seen account)
+  pub holders_more : (opened history : List Entry) (t : LockTables) → ((key : Option (List ℕ)) (holder : Holder) (seen : ℕ) (account : Account) → e ≡ found key holder seen account → IsAccounted history before by 0 key holder seen account)
       → AreHolders opened history t before → AreHolders opened history t after
   holders_more opened history t new k = record {
     names = λ name h. ⊎_elim
         (λ c. inl (⊎_elim (λ p. inl (past_still xs by a b e at same grown _ p)) (λ p. inr (past_still xs by a b e at same grown _ p)) c))
         (λ c. inr c) (k.names name h);
     keys = λ key client h. past_still xs by a b e at same grown _ (k.keys key client h);
-    found = λ j i holder seen account h. ⊎_elim
-        (λ c. accounted_still history j i holder seen account (k.found j i holder seen account c))
-        (λ (c : (j ≡ by) × (i ≡ 0) × (e ≡ found holder seen account)).
-            let is : IsAccounted history after by 0 holder seen account = accounted_still history by 0 holder seen account (new holder seen account c.2) in
-            subst (λ (n : ℕ). IsAccounted history after n i holder seen account) (sym c.0) (subst (λ (n : ℕ). IsAccounted history after by n holder seen account) (sym c.1) is))
-        (done_before xs by a b e at same grown j i (found holder seen account) h);
+    found = λ j i key holder seen account h. ⊎_elim
+        (λ c. accounted_still history j i key holder seen account (k.found j i key holder seen account c))
+        (λ (c : (j ≡ by) × (i ≡ 0) × (e ≡ found key holder seen account)).
+            let is : IsAccounted history after by 0 key holder seen account = accounted_still history by 0 key holder seen account (new key holder seen account c.2) in
+            subst (λ (n : ℕ). IsAccounted history after n i key holder seen account) (sym c.0) (subst (λ (n : ℕ). IsAccounted history after by n key holder seen account) (sym c.1) is))
+        (done_before xs by a b e at same grown j i (found key holder seen account) h);
   }
 
   pub board_more : (published : ℕ) (t : LockTables) → ((label : List ℕ) (n : ℕ) → (e ≡ told label n) ⊎ (e ≡ heard label n) → is_some (finite.get t.labels label) ≡ true)
