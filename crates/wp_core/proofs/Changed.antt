@@ -11,7 +11,7 @@ use Rattle.wp_core.specs.Turns.{Turn, write_turn, prepared_turn, snapshots_turn,
 use Rattle.wp_core.specs.Tables.{Content, writes, prepared, snapshots, store, locks, installed, turn_of}
 use Rattle.wp_core.specs.World.{Actor, World, content_of, with_content}
 use Rattle.wp_core.specs.Changes.{turn_index, held_with}
-use Rattle.wp_core.specs.Sound.Actors.{AreHeld, HoldersHave, NoneBehind, held_of}
+use Rattle.wp_core.specs.Sound.Actors.{AreHeld, HoldersHave, NoneAfter, held_of}
 use Rattle.wp_core.proofs.Frames.{map_set, here, at_map}
 use Rattle.wp_core.proofs.Gives.{same_turn, others_turn}
 
@@ -38,24 +38,24 @@ others_hold w c by j [] mine ne k = tt
 others_hold w c by j (d ∷ others) mine ne k = (k.0, changed_else w c (turn_of d) (others_turn w.holders (turn_of c) (turn_of d) by j mine ne k.0) ∙ k.1, k.2, others_hold w c by j others mine ne k.3)
 
 -- what stands behind another table of the same actor
-behind_hold : (w : World) (c : Content) (j : ℕ) (held : List Content) → NoneBehind (turn_of c) held → AreHeld w.holders (content_of w) j held → AreHeld w.holders (content_of (with_content w c)) j held
-behind_hold w c j [] none k = tt
-behind_hold w c j (d ∷ others) none k = (k.0, changed_else w c (turn_of d) (λ e. none.0 (same_turn (turn_of c) (turn_of d) e)) ∙ k.1, k.2, behind_hold w c j others none.1 k.3)
+after_hold : (w : World) (c : Content) (j : ℕ) (held : List Content) → NoneAfter (turn_of c) held → AreHeld w.holders (content_of w) j held → AreHeld w.holders (content_of (with_content w c)) j held
+after_hold w c j [] none k = tt
+after_hold w c j (d ∷ others) none k = (k.0, changed_else w c (turn_of d) (λ e. none.0 (same_turn (turn_of c) (turn_of d) e)) ∙ k.1, k.2, after_hold w c j others none.1 k.3)
 
-one_with : (u : Turn) (c d : Content) (others : List Content) (b : Bool) → (b ≡ true → turn_of d ≡ turn_of c) → (turn_of d ≢ u) × NoneBehind u others → NoneBehind u (held_with others c) → NoneBehind u (cond b (c ∷ others) (d ∷ held_with others c))
+one_with : (u : Turn) (c d : Content) (others : List Content) (b : Bool) → (b ≡ true → turn_of d ≡ turn_of c) → (turn_of d ≢ u) × NoneAfter u others → NoneAfter u (held_with others c) → NoneAfter u (cond b (c ∷ others) (d ∷ held_with others c))
 one_with u c d others true same k rest = ((λ e. k.0 (same refl ∙ e)), k.1)
 one_with u c d others false same k rest = (k.0, rest)
 
 equal : (d c : Content) → (turn_index (turn_of d) == turn_index (turn_of c)) ≡ true → turn_of d ≡ turn_of c
 equal d c e = same_turn (turn_of c) (turn_of d) (let n : ℕ = turn_index (turn_of d) in let m : ℕ = turn_index (turn_of c) in let q : (n == m) ≡ true = e in grind (arith, nat_tests))
 
-none_with : (u : Turn) (c : Content) (held : List Content) → NoneBehind u held → NoneBehind u (held_with held c)
+none_with : (u : Turn) (c : Content) (held : List Content) → NoneAfter u held → NoneAfter u (held_with held c)
 none_with u c [] k = tt
 none_with u c (d ∷ others) k = one_with u c d others (turn_index (turn_of d) == turn_index (turn_of c)) (equal d c) k (none_with u c others k.1)
 
 one_changed : (w : World) (c d : Content) (by : ℕ) (others : List Content) (b : Bool) → (turn_index (turn_of d) == turn_index (turn_of c)) ≡ b → AreHeld w.holders (content_of w) by (d ∷ others) → AreHeld w.holders (content_of (with_content w c)) by (held_with others c)
     → AreHeld w.holders (content_of (with_content w c)) by (cond b (c ∷ others) (d ∷ held_with others c))
-one_changed w c d by others true is k rest = let same = equal d c is in let none = subst (λ (u : Turn). NoneBehind u others) same k.2 in (subst (λ (u : Turn). Holds w.holders u by) same k.0, changed_there w c, none, behind_hold w c by others none k.3)
+one_changed w c d by others true is k rest = let same = equal d c is in let none = subst (λ (u : Turn). NoneAfter u others) same k.2 in (subst (λ (u : Turn). Holds w.holders u by) same k.0, changed_there w c, none, after_hold w c by others none k.3)
 one_changed w c d by others false is k rest =
     (k.0, changed_else w c (turn_of d) (λ e. true≢false (sym (eq-eqb (turn_index (turn_of d)) (turn_index (turn_of c)) e) ∙ is)) ∙ k.1, none_with (turn_of d) c others k.2, rest)
 

@@ -205,7 +205,7 @@ empty_is_sound = record {
     keys = λ key client e. absurd (none_some _ (Client client) (no_key key) e);
     found = λ j i key holder seen account k. absurd (no_past (found key holder seen account) (j, i, k));
   };
-  board = record { labels = λ label n e. ⊎_elim (λ k. absurd (no_past (told label n) k)) (λ k. absurd (no_past (heard label n) k)) e; numbers = λ label n e. absurd (none_some _ n (no_label label) e) };
+  board = record { labels = λ label n e. ⊎_elim (λ k. absurd (no_past (told label n) k)) (λ k. absurd (no_past (heard label n) k)) e; numbers = λ label n e. absurd (none_some _ n (no_label label) e); heard = λ label n k. absurd (no_past (heard label n) k) };
   faults = record { log = refl; tables = refl; not_logged = λ e. inl refl; stopped = λ n k. absurd (no_past (stopped n) k) };
   edits = record { last = inl refl; found = λ n k. absurd (no_past (found_flushed n) k); tables = λ j i past at. inl (subst (λ (z : List Event). tables_due first_edit z ≤ 0) (one_participant [] j i past at) (omega arith)) };
   pending = λ _. refl;

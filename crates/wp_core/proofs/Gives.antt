@@ -6,7 +6,7 @@ use Rattle.wp_core.specs.Lists.{IsIn}
 use Rattle.wp_core.specs.Turns.{Turn, write_turn, prepared_turn, snapshots_turn, store_turn, locks_turn, tables_turn, Holders, Holds, holder_of, with_holder}
 use Rattle.wp_core.specs.Tables.{Content, turn_of}
 use Rattle.wp_core.specs.Changes.{turn_index, held_without}
-use Rattle.wp_core.specs.Sound.Actors.{AreHeld, NoneBehind}
+use Rattle.wp_core.specs.Sound.Actors.{AreHeld, NoneAfter}
 use Rattle.wp_core.proofs.Frames.{filter_in}
 
 -- ---- holders
@@ -59,17 +59,17 @@ still_held h contents t by j (c ∷ others) mine ne k = (still h t (turn_of c) b
 is_other : Turn → Content → Bool
 is_other t c = not (turn_index (turn_of c) == turn_index t)
 
-one_behind : (t u : Turn) (c : Content) (others : List Content) (b : Bool) → (turn_of c ≢ u) → NoneBehind u (held_without others t) → NoneBehind u (cond b (c ∷ held_without others t) (held_without others t))
-one_behind t u c others true ne k = (ne, k)
-one_behind t u c others false ne k = k
+one_after : (t u : Turn) (c : Content) (others : List Content) (b : Bool) → (turn_of c ≢ u) → NoneAfter u (held_without others t) → NoneAfter u (cond b (c ∷ held_without others t) (held_without others t))
+one_after t u c others true ne k = (ne, k)
+one_after t u c others false ne k = k
 
-none_behind : (t u : Turn) (held : List Content) → NoneBehind u held → NoneBehind u (held_without held t)
-none_behind t u [] k = tt
-none_behind t u (c ∷ others) k = one_behind t u c others (not (turn_index (turn_of c) == turn_index t)) k.0 (none_behind t u others k.1)
+none_after : (t u : Turn) (held : List Content) → NoneAfter u held → NoneAfter u (held_without held t)
+none_after t u [] k = tt
+none_after t u (c ∷ others) k = one_after t u c others (not (turn_index (turn_of c) == turn_index t)) k.0 (none_after t u others k.1)
 
 one_left : (h : Holders) (contents : Turn → Content) (t : Turn) (by : ℕ) (c : Content) (others : List Content) (b : Bool) → (b ≡ true → turn_index (turn_of c) ≢ turn_index t) → AreHeld h contents by (c ∷ others) → AreHeld (with_holder h t None) contents by (held_without others t)
     → AreHeld (with_holder h t None) contents by (cond b (c ∷ held_without others t) (held_without others t))
-one_left h contents t by c others true ne k rest = (other_holder h t (turn_of c) None (ne refl) ∙ k.0, k.1, none_behind t (turn_of c) others k.2, rest)
+one_left h contents t by c others true ne k rest = (other_holder h t (turn_of c) None (ne refl) ∙ k.0, k.1, none_after t (turn_of c) others k.2, rest)
 one_left h contents t by c others false ne k rest = rest
 
 unequal : (n m : ℕ) → not (n == m) ≡ true → n ≢ m

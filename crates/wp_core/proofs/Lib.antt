@@ -11,6 +11,8 @@ pub mod KeepsGive
 pub mod HistoryLaws
 pub mod Changed
 pub mod Quiet
+pub mod StoresFlag
+pub mod PreparedSteps
 pub mod KeepsMax
 pub mod KeepsSeen
 pub mod Empty

@@ -51,7 +51,7 @@ Needs w by a (add_versions memory) = Holds w.holders write_turn by × Holds w.ho
 Needs w by a (take_versions memory) = Holds w.holders write_turn by × Holds w.holders store_turn by × HasVersionsAt None (suc (published w)) w.store.memory memory
 Needs w by a (move_versions memory tables) = Holds w.holders store_turn by × Holds w.holders tables_turn by × SameVersions w memory tables × KeepsStore w (record w.store { memory = memory; tables = tables }) w.installed
 Needs w by a (replace_versions tables floor) = Holds w.holders store_turn by × Holds w.holders tables_turn by × (w.store.floor ≤ floor) × KeepsStore w (record w.store { tables = tables; floor = floor }) w.installed
-Needs w by a (install edit compacts) = Holds w.holders tables_turn by × (w.installed.halted ≡ false) × KeepsStore w w.store (record w.installed { last = edit }) × (compacts ≡ false → edit.tables ≡ w.installed.last.tables + 1)
+Needs w by a (install edit compacts) = Holds w.holders tables_turn by × (w.installed.halted ≡ false) × KeepsStore w w.store (record w.installed { last = edit }) × (compacts ≡ false → edit.tables ≡ w.installed.last.tables + 1) × (compacts ≡ true → edit.flushed ≡ w.installed.last.flushed)
 Needs w by a (halt edit) = Holds w.holders tables_turn by × (w.installed.halted ≡ false) × KeepsStore w w.store (with_failed w.installed edit)
 Needs w by a find_flushed = Holds w.holders tables_turn by
 Needs w by a (claim_name name) = Holds w.holders locks_turn by × (finite.get w.locks.names name ≡ None) × (a.live ≡ true)

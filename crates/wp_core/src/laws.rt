@@ -7,7 +7,7 @@ ghost use Rattle.wp_judge.specs.declared.observed.Load.{Load};
 ghost use Rattle.wp_judge.specs.Order.{judgement};
 ghost use Rattle.wp_core.specs.Turns.{Turn};
 ghost use Rattle.wp_core.specs.World.{World, Actor, history};
-ghost use Rattle.wp_core.specs.Steps.{load, give_turn, load_published, store_max_evicted};
+ghost use Rattle.wp_core.specs.Steps.{load, give_turn, load_published, store_max_evicted, store_delayed_flag, store_old_flag};
 ghost use Rattle.wp_core.specs.Runs.{IsStep, IsOpening, ReachesFrom};
 ghost use Rattle.wp_core.specs.IsSound.{IsSound};
 ghost use Rattle.wp_core.specs.Sound.Reader.{IsRight};
@@ -44,4 +44,10 @@ pub fn readers_judge_right()
     ensures { (w : World) (j : ℕ) (a : Actor) (r : Observed) (visible : Bool)
         → IsSound w → get_elem? w.actors j ≡ some a → a.reading ≡ Some r → judgement r ≡ Some visible
         → (later : World) → ReachesFrom w later → IsRight (history later) r.version r.snapshot visible }
+{}
+
+/// Storing a flag keeps a world sound: it is 0 only where its tables are empty.
+pub fn storing_a_flag_keeps_sound()
+    ensures delayed { (w : World) (by value : ℕ) (next : World) → IsStep w by (store_delayed_flag value) next → IsSound w → IsSound next }
+    ensures old { (w : World) (by value : ℕ) (next : World) → IsStep w by (store_old_flag value) next → IsSound w → IsSound next }
 {}

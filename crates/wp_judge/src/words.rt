@@ -1,4 +1,4 @@
-ghost use Rattle.std.specs.Prelude.{◌≡◌, ◌<◌, ◌≤◌, ◌^◌, Some};
+ghost use Rattle.std.specs.Prelude.{◌≡◌, ◌<◌, ◌≤◌, ◌^◌, Some, IfSome};
 ghost use Rattle.std.specs.Option.{option_map};
 ghost use Rattle.wp_judge.specs.Words.{CommitPair, word_of, pair_of, numbers_of};
 
@@ -20,7 +20,8 @@ pub fn pack(p: Seq, c: Seq) -> u64
 
 /// The pair of a word, and None exactly where no pair packs to it.
 pub fn unpack(word: u64) -> Option<(Seq, Seq)>
-    ensures { result ≡ option_map numbers_of (pair_of word) }
+    ensures pair { result ≡ option_map numbers_of (pair_of word) }
+    ensures packs { IfSome result (λ r. word_of (record { number = r.0; decision = r.1 }) ≡ word) }
 {
     let p = word / DECISIONS;
     let c = word % DECISIONS;

@@ -63,14 +63,14 @@ AreOwned opened history owns = (n : ℕ) → total_participants (times n) owns �
 abbrev pub held_of : Actor → List Content
 held_of a = a.held
 
-abbrev pub NoneBehind : Turn → List Content → Type 0
-NoneBehind turn [] = Unit {0}
-NoneBehind turn (first ∷ others) = (turn_of first ≢ turn) × NoneBehind turn others
+abbrev pub NoneAfter : Turn → List Content → Type 0
+NoneAfter turn [] = Unit {0}
+NoneAfter turn (first ∷ others) = (turn_of first ≢ turn) × NoneAfter turn others
 
 -- each table that an actor holds is as the world has it, its turn is the actor's, and none is there twice
 abbrev pub AreHeld : Holders → (Turn → Content) → ℕ → List Content → Type 0
 AreHeld holders contents j [] = Unit {0}
-AreHeld holders contents j (c ∷ others) = Holds holders (turn_of c) j × (contents (turn_of c) ≡ c) × NoneBehind (turn_of c) others × AreHeld holders contents j others
+AreHeld holders contents j (c ∷ others) = Holds holders (turn_of c) j × (contents (turn_of c) ≡ c) × NoneAfter (turn_of c) others × AreHeld holders contents j others
 
 -- who holds a turn has the table that it guards
 abbrev pub HoldersHave : Holders → List (List Content) → Type 0

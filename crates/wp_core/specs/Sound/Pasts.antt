@@ -55,6 +55,7 @@ pub record AreHolders (opened history : List Entry) (t : LockTables) (pasts : Li
 pub record IsBoard (published : ℕ) (t : LockTables) (pasts : List (List (List Event))) : Type 0 where
   pub labels : (label : List ℕ) (n : ℕ) → IsPast pasts (told label n) ⊎ IsPast pasts (heard label n) → is_some (finite.get t.labels label) ≡ true
   pub numbers : (label : List ℕ) (n : ℕ) → finite.get t.labels label ≡ Some n → IsPast pasts (told label n) × (n ≤ published)
+  pub heard : (label : List ℕ) (n : ℕ) → IsPast pasts (heard label n) → IsPast pasts (told label n)
 
 -- ---- faults
 
@@ -74,9 +75,9 @@ pub record AreFaults (writes : WriteTable) (halted : Bool) (pasts : List (List (
 
 -- ---- edits
 
--- a flushed number is that of the opening, or one that was installed
+-- a flushed number is that of the opening, or one that a flush installed
 abbrev pub WasInstalled : InstalledEdit → List (List (List Event)) → ℕ → Type 0
-WasInstalled first pasts n = (n ≡ first.flushed) ⊎ ((tables : ℕ) × (compacts : Bool) × IsPast pasts (installed n tables compacts))
+WasInstalled first pasts n = (n ≡ first.flushed) ⊎ ((tables : ℕ) × IsPast pasts (installed n tables false))
 
 -- the tables that are there at least, for one who knows of so many and installed an edit
 abbrev pub due_after : ℕ → Event → ℕ

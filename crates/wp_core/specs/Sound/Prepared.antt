@@ -3,7 +3,7 @@ use Rattle.std.specs.Prelude.{◌≡◌, ℕ, ◌≤◌, ◌<◌, ◌⊎◌, tru
 use Rattle.std.specs.FinSet as set
 use Rattle.std.specs.FinMap as finite
 use Rattle.wp_model.specs.declared.entry.Entry.{Entry}
-use Rattle.wp_model.specs.History.{is_undecided}
+use Rattle.wp_model.specs.History.{entry_at, is_prepare, is_undecided}
 use Rattle.wp_model.specs.Decision.{decision_of}
 use Rattle.wp_model.specs.Snapshots.{IsLive, is_old_commit}
 use Rattle.wp_judge.specs.Words.{CommitPair}
@@ -47,7 +47,7 @@ pub record AreUndecided (history pending : List Entry) (t : PreparedTables) (max
   pub found : (p : ℕ) → is_undecided history p ≡ true → is_prepared t p ≡ true
   pub heap_above : (p : ℕ) → set.contains t.heap p ≡ true → max < p
   pub delayed_passed : (p : ℕ) → set.contains t.delayed p ≡ true → p ≤ max
-  pub known : (p : ℕ) → is_prepared t p ≡ true → (1 ≤ p) × (p ≤ length (extended history pending))
+  pub known : (p : ℕ) → is_prepared t p ≡ true → is_prepare (entry_at (extended history pending) p) ≡ true
 
 -- what the prepared tables have of decided versions
 pub record AreDelayed (history : List Entry) (t : PreparedTables) (cache : List ℕ) : Type 0 where

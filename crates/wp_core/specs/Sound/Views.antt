@@ -55,7 +55,7 @@ pub record IsClearing (published : ℕ) (cache : List ℕ) (place : ℕ) (pair :
 abbrev pub IsApart : PreparedTables → CommitPair → Type 0
 IsApart t pair = (is_prepared t pair.number ≡ false) ⊎ (finite.get t.delayed_commits pair.number ≡ Some pair.decision)
 
--- the versions of the pending entry stand in memory
+-- the versions of the pending entry are in memory
 abbrev pub IsInMemory : WriteTable → Store → Type 0
 IsInMemory d t = (key : List ℕ) (value : Option (List ℕ)) → version_in (next_of d.pending) key ≡ Some value → version_at t.memory key (suc (length d.history)) ≡ Some value
 

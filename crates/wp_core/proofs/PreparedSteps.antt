@@ -1,0 +1,1 @@
+-- Changes of the prepared tables keep a world sound.
