@@ -21,3 +21,4 @@ mod PastsGrow
 mod OwnersStay
 mod Remembers
 mod KeepsRemembered
+mod Keyed

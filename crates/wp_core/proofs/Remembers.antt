@@ -51,12 +51,13 @@ module _ (xs : List Actor) (by : ℕ) (a b : Actor) (e : Event) (at : get_elem? 
   }
 
   pub board_more : (published : ℕ) (t : LockTables) → ((label : List ℕ) (n : ℕ) → (e ≡ told label n) ⊎ (e ≡ heard label n) → is_some (finite.get t.labels label) ≡ true)
-      → IsBoard published t before → IsBoard published t after
-  board_more published t new k = record {
+      → ((label : List ℕ) (n : ℕ) → e ≡ heard label n → IsPast before (told label n)) → IsBoard published t before → IsBoard published t after
+  board_more published t new was_told k = record {
     labels = λ label n h. ⊎_elim
         (λ p. ⊎_elim (λ c. k.labels label n (inl c)) (λ c. new label n (inl c)) (past_before xs by a b e at same grown (told label n) p))
         (λ p. ⊎_elim (λ c. k.labels label n (inr c)) (λ c. new label n (inr c)) (past_before xs by a b e at same grown (heard label n) p)) h;
     numbers = λ label n h. let c = k.numbers label n h in (past_still xs by a b e at same grown (told label n) c.0, c.1);
+    heard = λ label n h. past_still xs by a b e at same grown (told label n) (⊎_elim (λ c. k.heard label n c) (λ c. was_told label n c) (past_before xs by a b e at same grown (heard label n) h));
   }
 
   pub faults_more : (writes : WriteTable) (halted : Bool) → IsQuiet e → ((n : ℕ) → e ≡ stopped n → (writes.closed ≡ true) × (n ≡ length writes.history))
@@ -70,7 +71,7 @@ module _ (xs : List Actor) (by : ℕ) (a b : Actor) (e : Event) (at : get_elem? 
 
   installed_still : (first : InstalledEdit) (n : ℕ) → WasInstalled first before n → WasInstalled first after n
   installed_still first n (inl k) = inl k
-  installed_still first n (inr (tables, compacts, k)) = inr (tables, compacts, past_still xs by a b e at same grown _ k)
+  installed_still first n (inr (tables, k)) = inr (tables, past_still xs by a b e at same grown _ k)
 
   compacts_still : (j i : ℕ) → OtherCompacts before j i → OtherCompacts after j i
   compacts_still j i (l, m, n, tables, apart, k) = (l, m, n, tables, apart, done_still xs by a b e at same grown l m _ k)
