@@ -166,7 +166,7 @@ hears w by a label n at needs s =
 
 -- ---- who is found
 
-from_map : {A B : Type 0} (f : A → B) (xs : List A) (i : ℕ) (y : B) → get_elem? (map f xs) i ≡ some y → (x : A) × (get_elem? xs i ≡ some x) × (f x ≡ y)
+pub from_map : {A B : Type 0} (f : A → B) (xs : List A) (i : ℕ) (y : B) → get_elem? (map f xs) i ≡ some y → (x : A) × (get_elem? xs i ≡ some x) × (f x ≡ y)
 from_map f [] i y e = absurd (some-ne-none y (sym e))
 from_map f (x ∷ xs) zero y e = (x, refl, some-injective (f x) y e)
 from_map f (x ∷ xs) (suc i) y e = from_map f xs i y e

@@ -22,3 +22,5 @@ mod OwnersStay
 mod Remembers
 mod KeepsRemembered
 mod Keyed
+mod LocksChange
+mod KeepsClaimed
