@@ -18,15 +18,18 @@ use Rattle.wp_core.specs.Changes.{with_name}
 use Rattle.wp_core.specs.Effects.{done}
 use Rattle.wp_core.specs.Needs.{Needs}
 use Rattle.wp_core.specs.Notes.{forgets}
-use Rattle.wp_core.specs.Sound.Actors.{participants_of, IsParticipantAt}
+use Rattle.wp_core.specs.Sound.Actors.{participants_of, seen_of, learned_of, IsParticipantAt}
 use Rattle.wp_core.specs.Sound.Locks.{Owner, owner_of, Has, Began, IsNameOf, IsDirectOf, IsOwner, AreLocked}
+use Rattle.wp_core.specs.Sound.Pasts.{past_of, IsPast, AreHolders, IsBoard}
+use Rattle.wp_core.specs.Sound.Views.{Owns}
 use Rattle.wp_core.specs.IsSound.{IsSound, participants}
 use Rattle.wp_core.proofs.Keyed.{is_word_same, at_inserted, else_inserted}
 use Rattle.wp_core.proofs.AllParticipants.{mine, mine_now, was, still}
 use Rattle.wp_core.proofs.PastsGrow.{in_front, in_last, past_still, past_last}
 use Rattle.wp_core.proofs.Quiet.{SoIn}
 use Rattle.wp_core.proofs.LocksChange.{SoWith, actor_after, actors_after, LocksParts, locks_change}
-use Rattle.wp_core.proofs.Remembers.{holders_more, board_more, faults_more, edits_more}
+use Rattle.wp_core.proofs.Frames.{at_map}
+use Rattle.wp_core.proofs.Remembers.{IsQuiet, holders_more, board_more, faults_more, edits_more}
 
 -- nothing is locked for it yet
 abbrev new_transaction : Transaction
@@ -196,3 +199,93 @@ module _ (w : World) (by : ℕ) (a : Actor) (name : List ℕ) (at : get_elem? w.
     keys_known = keys_known;
     keys_direct = λ key client h. direct_still key client (s.locks.keys_direct key client h);
   }
+
+  -- ---- what is noted
+
+  owns_still : (n : List ℕ) → Owns a.participant n → (n ≡ name → ⊥) × Owns p n
+  owns_still n (x, h) =
+      let ne : n ≡ name → ⊥ = λ e. none_had by 0 (owner_of a.participant) x own_before (subst (λ (z : List ℕ). finite.get a.participant.transactions z ≡ Some x) e h) in
+      (ne, (x, else_inserted a.participant.transactions name new_transaction n ne ∙ h))
+
+  mine_still : (fact : Fact) → SoIn w a.participant fact → SoWith w t p fact
+  mine_still (passed place pair) k = k
+  mine_still (in_old_commits place pair) k = k
+  mine_still (apart place pair) k = k
+  mine_still (words_stay max cache) k = k
+  mine_still versions_in_memory k = k
+  mine_still versions_nowhere k = k
+  mine_still number_in_heap k = k
+  mine_still number_not_in_heap k = k
+  mine_still (undecided_at n q) k = ((owns_still n k.0).1, k.1, live_still n (Some a.participant.client) k.2, k.3)
+  mine_still (prior_values n q batch) k = ((owns_still n k.0).1, k.1, k.2)
+  mine_still (unprepared n) k =
+      let o = owns_still n k.0 in
+      (o.1, k.1, λ x key h held. k.2 x key (sym (else_inserted a.participant.transactions name new_transaction n o.0) ∙ h) held)
+  mine_still (direct_free key) k = k
+  mine_still (tables_stay versions floor) k = k
+  mine_still (live_listed floor listed) k = k
+  mine_still nothing_flushed k = k
+  mine_still (frozen_stay n versions) k = k
+  mine_still (delayed_flag_stays value) k = k
+  mine_still (old_flag_stays value) k = k
+
+  others_still : (q : Participant) (fact : Fact) → SoIn w q fact → SoWith w t q fact
+  others_still q (passed place pair) k = k
+  others_still q (in_old_commits place pair) k = k
+  others_still q (apart place pair) k = k
+  others_still q (words_stay max cache) k = k
+  others_still q versions_in_memory k = k
+  others_still q versions_nowhere k = k
+  others_still q number_in_heap k = k
+  others_still q number_not_in_heap k = k
+  others_still q (undecided_at n m) k = (k.0, k.1, live_still n (Some q.client) k.2, k.3)
+  others_still q (prior_values n m batch) k = k
+  others_still q (unprepared n) k = k
+  others_still q (direct_free key) k = k
+  others_still q (tables_stay versions floor) k = k
+  others_still q (live_listed floor listed) k = k
+  others_still q nothing_flushed k = k
+  others_still q (frozen_stay n versions) k = k
+  others_still q (delayed_flag_stays value) k = k
+  others_still q (old_flag_stays value) k = k
+
+  -- ---- pasts
+
+  quiet : IsQuiet (claimed name)
+  quiet = record { log = refl; tables = refl; due = λ n. refl }
+
+  holders_part : AreHolders w.opened w.writes.history t (map (participants_of past_of) (actors_after w by a (claim_name name) p a.learned t))
+  holders_part =
+      let k = holders_more w.actors by a b (claimed name) at refl refl w.opened w.writes.history w.locks (λ key holder seen account q. absurd cc) s.holders in
+      record {
+        names = λ n live. ⊎_elim
+            (λ (e : n ≡ name). inl (inl (subst (λ (z : List ℕ). IsPast (map (participants_of past_of) (actors_after w by a (claim_name name) p a.learned t)) (claimed z)) (sym e) (past_last w.actors by a b (claimed name) at refl refl))))
+            (λ (ne : n ≡ name → ⊥). k.names n (ap is_some (sym (else_inserted w.locks.names name (Some a.participant.client) n ne)) ∙ live)) (is_word_same n name);
+        keys = k.keys;
+        found = k.found;
+      }
+
+  board_part : IsBoard (world.published w) t (map (participants_of past_of) (actors_after w by a (claim_name name) p a.learned t))
+  board_part =
+      let k = board_more w.actors by a b (claimed name) at refl refl (world.published w) w.locks
+          (λ label n q. absurd (⊎_elim (λ (r : claimed name ≡ told label n). cc) (λ (r : claimed name ≡ heard label n). cc) q)) (λ label n q. absurd cc) s.board in
+      record { labels = k.labels; numbers = k.numbers; heard = k.heard }
+
+  parts : LocksParts w by a (claim_name name) p a.learned t
+  parts = record {
+    seen = s.seen by 0 a.participant.seen (mine seen_of w.actors by a b at refl);
+    learned_part = s.learned by a.learned (at_map learned_of w.actors by a at);
+    own = refl;
+    registered = refl;
+    locks_part = locked_part;
+    holders = holders_part;
+    board = board_part;
+    faults = faults_more w.actors by a b (claimed name) at refl refl w.writes w.installed.halted quiet (λ n q. absurd cc) s.faults;
+    edits = edits_more w.actors by a b (claimed name) at refl refl w.first_edit w.installed quiet (λ n q. absurd cc) s.edits;
+    mine = λ fact left k. mine_still fact k;
+    others = λ j q fact ne there k. others_still q fact k;
+  }
+
+pub claims_name : (w : World) (by : ℕ) (a : Actor) (name : List ℕ) → get_elem? w.actors by ≡ some a → Needs w by a (claim_name name) → IsSound w
+    → IsSound (done w by (forgets w.writes.history (length w.cache) (claim_name name) a) (claim_name name))
+claims_name w by a name at needs s = locks_change w by a (claim_name name) (p w by a name at needs.1 s) a.learned (t w by a name at needs.1 s) at needs.0 (parts w by a name at needs.1 s) s

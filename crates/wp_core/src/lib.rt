@@ -18,3 +18,4 @@
 #![tactic(auto)]
 
 pub mod laws;
+pub mod lock_laws;
