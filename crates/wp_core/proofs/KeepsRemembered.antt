@@ -127,14 +127,15 @@ pub finds_log_closed : (w : World) (by : ℕ) (a : Actor) → get_elem? w.actors
 finds_log_closed w by a at n s = remembering w by a (stopped (world.published w)) find_log_closed at (holder_lives w by a write_turn at n.0 s) (no_quarrel w by (world.published w) (n.1, refl)) s
 
 -- whether an event is that one, by its kind and what it has
-abbrev at_number : Event → ℕ
+abbrev pub at_number : Event → ℕ
 at_number (stopped n) = n
 at_number (found_flushed n) = n
 at_number (heard label n) = n
 at_number other = 0
 
-abbrev at_label : Event → List ℕ
+abbrev pub at_label : Event → List ℕ
 at_label (heard label n) = label
+at_label (told label n) = label
 at_label other = []
 
 pub finds_flushed : (w : World) (by : ℕ) (a : Actor) → get_elem? w.actors by ≡ some a → Needs w by a find_flushed → IsSound w

@@ -24,3 +24,4 @@ mod KeepsRemembered
 mod Keyed
 mod LocksChange
 mod KeepsClaimed
+mod KeepsTold
