@@ -12,6 +12,7 @@ pub mod HistoryLaws
 pub mod Changed
 pub mod Quiet
 pub mod StoresFlag
+pub mod Numbers
 pub mod PreparedSteps
 pub mod KeepsMax
 pub mod KeepsSeen
