@@ -14,6 +14,7 @@ pub mod Quiet
 pub mod StoresFlag
 pub mod Numbers
 pub mod PreparedSteps
+pub mod PendingPrepared
 pub mod KeepsMax
 pub mod KeepsSeen
 pub mod Empty

@@ -30,22 +30,22 @@ use Rattle.wp_core.proofs.StoresFlag.{not_free}
 use Rattle.wp_core.proofs.ReaderFacts.{same_some, none_some, extended_was, pair_ordered}
 
 -- what is noted with these prepared tables in place of the world's
-SoWith : World → PreparedTables → Participant → Fact → Type 0
+abbrev pub SoWith : World → PreparedTables → Participant → Fact → Type 0
 SoWith w t = IsSo w.delayed_flag w.old_flag w.max_evicted w.cache w.writes t w.snapshots w.store w.locks w.installed
 
 -- a pair of the cache that is noted is decided by the history
-clearing_decided : (w : World) (place : ℕ) (pair : CommitPair) (why : Type 0) → IsSound w → IsClearing (length w.writes.history) w.cache place pair why → decision_of w.writes.history pair.number ≡ Some pair.decision
+pub clearing_decided : (w : World) (place : ℕ) (pair : CommitPair) (why : Type 0) → IsSound w → IsClearing (length w.writes.history) w.cache place pair why → decision_of w.writes.history pair.number ≡ Some pair.decision
 clearing_decided w place pair why s k =
     let at = s.cache.pairs place pair k.place_within k.there in
     let ordered = pair_ordered (slice_index w.cache place) pair k.there in
     let published = k.published_by in let low = ordered.1 in
     extended_was w.writes.history w.writes.pending pair.number pair.decision (omega arith) published at.decided
 
-either : (a b : Bool) → (a || b) ≡ true → (a ≡ true) ⊎ (b ≡ true)
+pub either : (a b : Bool) → (a || b) ≡ true → (a ≡ true) ⊎ (b ≡ true)
 either true b e = inl refl
 either false b e = inr e
 
-in_either : (a b : Bool) → (a ≡ true) ⊎ (b ≡ true) → (a || b) ≡ true
+pub in_either : (a b : Bool) → (a ≡ true) ⊎ (b ≡ true) → (a || b) ≡ true
 in_either true b k = refl
 in_either false b (inl e) = absurd (true≢false (sym e))
 in_either false b (inr e) = e
@@ -112,14 +112,12 @@ module _ (w : World) (p c : ℕ) (s : IsSound w) (decided : decision_of w.writes
   next_is_not e = let low = decided_within w.writes.history p c decided in absurd (omega arith)
 
   out_so : (a : Participant) (fact : Fact) → SoIn w a fact → SoWith w (without_prepared w.prepared p) a fact
-  unfolding SoWith
   out_so a (apart place pair) k = record { place_within = k.place_within; there = k.there; published_by = k.published_by; so = out_apart pair k.so }
   out_so a number_in_heap k = in_removed_else w.prepared.heap p (suc (length w.writes.history)) next_is_not ∙ k
   out_so a number_not_in_heap k = not_in_removed w.prepared.heap (suc (length w.writes.history)) k
   out_so a fact k = k
 
 pub takes_out : (w : World) (by : ℕ) (a : Actor) (p : ℕ) → get_elem? w.actors by ≡ some a → Needs w by a (take_out p) → IsSound w → IsSound (done w by (forgets w.writes.history (length w.cache) (take_out p) a) (take_out p))
-unfolding SoWith
 takes_out w by a p at n s =
     let c = n.1.0 in let decided = n.1.1 in
     prepared_changes w by a (take_out p) (without_prepared w.prepared p) at n.0 (out_undecided w p c s decided) (out_delayed w p c s decided) (out_flags w p c s decided by n.0)
@@ -157,7 +155,7 @@ module _ (w : World) (pair : CommitPair) (s : IsSound w) (decided : decision_of 
   commit_flags by mine raised = record { none_delayed = λ zero_flag. absurd (raised zero_flag); none_kept = s.flags.none_kept; delayed_free = λ free. absurd (not_free w.holders prepared_turn by mine free); old_free = s.flags.old_free }
 
   commit_so : (a : Participant) (fact : Fact) → SoIn w a fact → SoWith w with_commit a fact
-  unfolding SoWith with_commit
+  unfolding with_commit
   commit_so a (apart place other) k = record {
     place_within = k.place_within;
     there = k.there;
@@ -167,7 +165,7 @@ module _ (w : World) (pair : CommitPair) (s : IsSound w) (decided : decision_of 
   commit_so a fact k = k
 
 pub adds_delayed_commit : (w : World) (by : ℕ) (a : Actor) (pair : CommitPair) → get_elem? w.actors by ≡ some a → Needs w by a (add_delayed_commit pair) → IsSound w → IsSound (done w by (forgets w.writes.history (length w.cache) (add_delayed_commit pair) a) (add_delayed_commit pair))
-unfolding SoWith with_commit
+unfolding with_commit
 adds_delayed_commit w by a pair at n s =
     let decided = n.2 in
     prepared_changes w by a (add_delayed_commit pair) (with_commit w pair s decided) at n.0 (commit_undecided w pair s decided) (commit_delayed w pair s decided) (commit_flags w pair s decided by n.0 n.1)
