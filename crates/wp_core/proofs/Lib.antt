@@ -5,6 +5,7 @@ pub mod Registered
 pub mod ReaderFacts
 pub mod Looks
 pub mod Loads
+pub mod Readings
 pub mod Later
 pub mod Gives
 pub mod KeepsGive
