@@ -174,7 +174,7 @@ empty_is_sound = record {
     live = λ s x e. absurd (none_some _ x (no_snapshot s) e);
     smallest = λ j i rs at k r there. let q : get_elem? [] k ≡ some r = ap (λ (z : List Registration). get_elem? z k) (one_participant [] j i rs at) ∙ there in absurd (some-ne-none r (sym q));
   };
-  flags = record { none_delayed = λ _. (refl, refl); none_kept = λ _ s p. not_kept s p; delayed_free = λ _ _. refl; old_free = λ _ _. refl };
+  flags = record { none_delayed = λ _. ((λ p. finset.contains-empty nat_cmp p), (λ p. finite.get-empty nat_cmp p)); none_kept = λ _ s p. not_kept s p; delayed_free = λ _ _. refl; old_free = λ _ _. refl };
   versions = record {
     covered = covered (live_numbers finite.empty);
     floor = omega arith;

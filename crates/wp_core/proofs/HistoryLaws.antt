@@ -174,3 +174,26 @@ either_in history p None b any has = absurd (true≢false (sym has))
 -- an entry that has versions is decided, or is an undecided prepare
 pub decided_or_undecided : (history : List Entry) (p : ℕ) → has_versions_at history p ≡ true → ((c : ℕ) × (decision_of history p ≡ Some c)) ⊎ (is_undecided history p ≡ true)
 decided_or_undecided history p has = either_in history p (entry_at history p) (list_any (decides p) history) refl has
+
+position_any : (test : Entry → Bool) (xs : List Entry) → position_or_len test xs < length xs → list_any test xs ≡ true
+position_any test [] lt = absurd (omega arith)
+position_any test (x ∷ xs) lt =
+    let rest : position_or_len test xs < length xs → list_any test xs ≡ true = position_any test xs in
+    elim (test x) as (λ b. cond (not b) (1 + position_or_len test xs) 0 < suc (length xs) → (b || list_any test xs) ≡ true) [
+      | true ↦ λ e. refl
+      | false ↦ λ e. rest (omega arith)
+    ] lt
+
+exclusive_in : (history : List Entry) (p c : ℕ) (o : Option Entry) → decision_in history p o ≡ Some c → (is_prepare o && not (list_any (decides p) history)) ≡ true → ⊥
+exclusive_in history p c (Some (Write batch)) e u = true≢false (sym u)
+exclusive_in history p c (Some (Undo r batch)) e u = true≢false (sym u)
+exclusive_in history p c (Some (Prepare name batch)) e u =
+    let k = position_is (decides p) history (nat_lt (position_or_len (decides p) history) (length history)) c refl e in
+    true≢false (sym u ∙ ap not (position_any (decides p) history k.0))
+exclusive_in history p c (Some (Commit q)) e u = true≢false (sym u)
+exclusive_in history p c (Some (Close q)) e u = true≢false (sym u)
+exclusive_in history p c None e u = true≢false (sym u)
+
+-- no undecided prepare is decided
+pub undecided_not_decided : (history : List Entry) (p c : ℕ) → is_undecided history p ≡ true → decision_of history p ≡ Some c → ⊥
+undecided_not_decided history p c u e = exclusive_in history p c (entry_at history p) e u

@@ -111,11 +111,7 @@ none_moves false l e = refl
 
 -- where nothing moves, what was not delayed is not
 none_delayed_after : (w : World) (m : ℕ) → ((p : ℕ) → finset.contains w.prepared.heap p ≡ true → m < p) → NoneDelayed w.prepared → NoneDelayed (with_moved w.prepared m)
-none_delayed_after w m none k = (
-  finset.same_set nat_cmp_total nat_cmp-IsAntisymmetric (with_moved w.prepared m).delayed finset.empty
-      (λ q. in_delayed w.prepared m q ∙ ((λ i. (ap (λ s. finset.contains s q) k.0 ∙ finset.contains-empty nat_cmp q) i || none_moves (finset.contains w.prepared.heap q) (nat_le q m) (λ there. above_is q m (none q there)) i) ∙ sym (finset.contains-empty nat_cmp q))),
-  k.1,
-)
+none_delayed_after w m none k = ((λ q. in_delayed w.prepared m q ∙ (λ i. k.0 q i || none_moves (finset.contains w.prepared.heap q) (nat_le q m) (λ there. above_is q m (none q there)) i)), k.1)
 
 flags_after : (w : World) (m by : ℕ) → Holds w.holders prepared_turn by → ((w.delayed_flag ≢ 0) ⊎ ((p : ℕ) → finset.contains w.prepared.heap p ≡ true → m < p))
     → AreFlags w.delayed_flag w.old_flag w.prepared w.snapshots w.holders.prepared w.holders.snapshots → AreFlags w.delayed_flag w.old_flag (with_moved w.prepared m) w.snapshots w.holders.prepared w.holders.snapshots
@@ -155,9 +151,9 @@ IsLasting other = Unit {0}
 so_after : (w : World) (m : ℕ) (a : Participant) (fact : Fact) → w.max_evicted ≤ m → m ≤ length w.writes.history → IsLasting fact → IsSo w.delayed_flag w.old_flag w.max_evicted w.cache w.writes w.prepared w.snapshots w.store w.locks w.installed a fact
     → IsSo w.delayed_flag w.old_flag m w.cache w.writes (with_moved w.prepared m) w.snapshots w.store w.locks w.installed a fact
 unfolding IsLasting
-so_after w m a (passed place pair) le low lasts k = record { there = k.there; published_by = k.published_by; so = le_trans k.so le }
+so_after w m a (passed place pair) le low lasts k = record { place_within = k.place_within; there = k.there; published_by = k.published_by; so = le_trans k.so le }
 so_after w m a (in_old_commits place pair) le low lasts k = k
-so_after w m a (apart place pair) le low lasts k = record { there = k.there; published_by = k.published_by; so = ⊎_elim (λ (e : is_prepared w.prepared pair.number ≡ false). inl (same_prepared w.prepared m pair.number ∙ e)) (λ (e : finite.get w.prepared.delayed_commits pair.number ≡ Some pair.decision). inr e) k.so }
+so_after w m a (apart place pair) le low lasts k = record { place_within = k.place_within; there = k.there; published_by = k.published_by; so = ⊎_elim (λ (e : is_prepared w.prepared pair.number ≡ false). inl (same_prepared w.prepared m pair.number ∙ e)) (λ (e : finite.get w.prepared.delayed_commits pair.number ≡ Some pair.decision). inr e) k.so }
 so_after w m a (words_stay max cache) le low lasts k = absurd lasts
 so_after w m a versions_in_memory le low lasts k = k
 so_after w m a versions_nowhere le low lasts k = k

@@ -5,6 +5,7 @@ pub mod Registered
 pub mod ReaderFacts
 pub mod Looks
 pub mod Loads
+pub mod Readings
 pub mod Later
 pub mod Gives
 pub mod KeepsGive
@@ -12,7 +13,9 @@ pub mod HistoryLaws
 pub mod Changed
 pub mod Quiet
 pub mod StoresFlag
+pub mod Numbers
 pub mod PreparedSteps
+pub mod PendingPrepared
 pub mod KeepsMax
 pub mod KeepsSeen
 pub mod Empty

@@ -5,7 +5,6 @@ use mathlib.Core.Option.{some}
 use lib.ListN.{get_elem?}
 use Rattle.std.specs.FinSet as set
 use Rattle.std.specs.FinMap as finite
-use Rattle.std.specs.Ordering.{nat_cmp}
 use Rattle.wp_model.specs.Decision.{decision_of, IsCommittedAt}
 use Rattle.wp_model.specs.Snapshots.{IsLive, is_old_commit}
 use Rattle.wp_judge.specs.declared.observed.Observed.{Observed}
@@ -145,7 +144,7 @@ module _ (w : World) (r : Observed) (s : IsSound w) (live : (r.snapshot ≤ leng
         ⊎_elim (λ (t : r.in_prepared ≡ Some Absent). absurd (none_some r.in_prepared Absent (order.in_prepared none) t))
         (λ (t : Some w.delayed_flag ≡ Some 0).
         let nothing = s.flags.none_delayed (same_some w.delayed_flag 0 t) in
-        decided_unless_delayed w.writes.history w.writes.pending w.prepared w.max_evicted r.version s.undecided k.version (below_bound k n.bound n.loaded n.within) (ap (λ (z : set.FinSet nat_cmp). set.contains z r.version) nothing.0 ∙ set.contains-empty nat_cmp r.version))
+        decided_unless_delayed w.writes.history w.writes.pending w.prepared w.max_evicted r.version s.undecided k.version (below_bound k n.bound n.loaded n.within) (nothing.0 r.version))
         n.found;
     second_word = k.second_word;
     second_max = k.second_max;

@@ -1,5 +1,5 @@
 -- What the parts of a sound world say of one version, for a reader that loads now.
-use Rattle.std.proofs.Common.{◌≡◌, ⊎_elim, ℕ, ◌<◌, ◌≤◌, nat_le, ◌==◌, ◌||◌, Bool, true, false, not, cond, true≢false, List, [], ◌∷◌, length, refl, sym, subst, ◌∙◌, Option, Some, None, mod-lt, arith}
+use Rattle.std.proofs.Common.{◌/◌, ◌%◌, ◌^◌, ◌&&◌, ◌≡◌, ⊎_elim, ℕ, ◌<◌, ◌≤◌, nat_le, ◌==◌, ◌||◌, Bool, true, false, not, cond, true≢false, List, [], ◌∷◌, length, refl, sym, subst, ◌∙◌, Option, Some, None, mod-lt, arith}
 use Rattle.std.proofs.lemmas.Bool.Decides.{nat_tests}
 use Rattle.std.specs.FinSet as set
 use Rattle.std.specs.FinMap as finite
@@ -8,7 +8,7 @@ use Rattle.wp_model.specs.History.{is_undecided}
 use Rattle.wp_model.specs.Decision.{decision_of, IsCommittedAt}
 use Rattle.wp_model.specs.PreparedTables.{PreparedTables}
 use Rattle.wp_model.specs.Snapshots.{Snapshots, IsLive, is_old_commit}
-use Rattle.wp_judge.specs.Words.{CommitPair, decision_if}
+use Rattle.wp_judge.specs.Words.{CommitPair, pair_of, decision_if}
 use Rattle.wp_core.specs.Cache.{cache_place, pair_at, cached}
 use Rattle.wp_core.specs.Entries.{extended}
 use Rattle.wp_core.specs.Sound.Prepared.{IsCache, AreDecided, AreUndecided, AreDelayed, IsPassed}
@@ -21,6 +21,17 @@ same_some x y e = cc
 
 pub none_some : {A : Type 0} (o : Option A) (x : A) → o ≡ None → o ≡ Some x → ⊥
 none_some o x none there = let q : None ≡ Some x = sym none ∙ there in absurd (cc)
+
+ordered_if : (p c : ℕ) (pair : CommitPair) (a b : Bool) → nat_le 1 p ≡ a → nat_le p c ≡ b → cond (a && b) (Some (record { number = p; decision = c })) None ≡ Some pair → (1 ≤ pair.number) × (pair.number ≤ pair.decision)
+ordered_if p c pair true true low high e =
+    let q : record { number = p; decision = c } ≡ pair = same_some (record { number = p; decision = c }) pair e in
+    subst (λ (x : CommitPair). (1 ≤ x.number) × (x.number ≤ x.decision)) q (grind (arith, nat_tests), grind (arith, nat_tests))
+ordered_if p c pair true false low high e = let no : None ≡ Some pair = e in absurd (cc)
+ordered_if p c pair false b low high e = let no : None ≡ Some pair = e in absurd (cc)
+
+-- a pair in a word decides a version by itself or by a later entry
+pub pair_ordered : (word : ℕ) (pair : CommitPair) → pair_of word ≡ Some pair → (1 ≤ pair.number) × (pair.number ≤ pair.decision)
+pair_ordered word pair e = ordered_if (word / 2 ^ 32) (word % 2 ^ 32) pair _ _ refl refl e
 
 -- a version that is not delayed, at most the bound, is decided
 pub decided_unless_delayed : (history pending : List Entry) (t : PreparedTables) (max p : ℕ) → AreUndecided history pending t max → has_versions_at history p ≡ true → p ≤ max → set.contains t.delayed p ≡ false → (c : ℕ) × (decision_of history p ≡ Some c)
@@ -47,11 +58,11 @@ pub decided_right : (history : List Entry) (p s c : ℕ) (b : Bool) → nat_le c
 decided_right history p s c true le decided = record { by = c; decided = decided; within = grind (arith, nat_tests) }
 decided_right history p s c false le decided = λ (is : IsCommittedAt history p s). let within = is.within in let same : c ≡ is.by = same_some c is.by (sym decided ∙ is.decided) in let above : s < c = grind (arith, nat_tests) in absurd (omega arith)
 
-extended_stays : (history pending : List Entry) (p c : ℕ) → decision_of history p ≡ Some c → decision_of (extended history pending) p ≡ Some c
+pub extended_stays : (history pending : List Entry) (p c : ℕ) → decision_of history p ≡ Some c → decision_of (extended history pending) p ≡ Some c
 extended_stays history [] p c e = e
 extended_stays history (entry ∷ others) p c e = decision_stays history (entry ∷ []) p c e
 
-extended_was : (history pending : List Entry) (p c : ℕ) → p ≤ length history → c ≤ length history → decision_of (extended history pending) p ≡ Some c → decision_of history p ≡ Some c
+pub extended_was : (history pending : List Entry) (p c : ℕ) → p ≤ length history → c ≤ length history → decision_of (extended history pending) p ≡ Some c → decision_of history p ≡ Some c
 extended_was history [] p c le within e = e
 extended_was history (entry ∷ others) p c le within e = decision_was history (entry ∷ []) p c le within e
 

@@ -86,6 +86,7 @@ pub record MayGo (w : World) (pair : CommitPair) : Type 0 where
   pub kept : IsInOldCommits w.snapshots pair.number pair.decision
   pub apart : IsApart w.prepared pair
 
+-- a turn is given with nothing pending, with its flag down where its tables are empty, and with no flushed version in memory
 abbrev pub MayGive : World → Turn → Type 0
 MayGive w write_turn = w.writes.pending ≡ []
 MayGive w prepared_turn = NoneDelayed w.prepared → w.delayed_flag ≡ 0
@@ -99,12 +100,14 @@ MayGive w other = Unit {0}
 abbrev pub MayLog : World → ℕ → Type 0
 MayLog w by = Holds w.holders write_turn by × (w.writes.pending ≢ []) × (w.writes.logged ≡ false) × (w.writes.closed ≡ false)
 
+-- nothing of the pending entry is left: its pair is in no word, its versions are not in memory, its number is not in the heap
 abbrev pub MayDrop : World → ℕ → Type 0
 MayDrop w by =
     Holds w.holders write_turn by × (w.writes.logged ≡ false)
     × ((pair : CommitPair) → pending_pair w.writes.history w.writes.pending ≡ Some pair → cached w.cache pair.number ≢ Some pair.decision)
     × IsNowhere w.writes w.store × (set.contains w.prepared.heap (suc (published w)) ≡ false)
 
+-- a Prepare is pending, whose number may come into the heap or go out of it
 abbrev pub IsPreparePending : World → ℕ → Type 0
 IsPreparePending w by = Holds w.holders write_turn by × Holds w.holders prepared_turn by × ((name : List ℕ) × (batch : List Change) × (others : List Entry) × (w.writes.pending ≡ Prepare name batch ∷ others))
 
@@ -116,6 +119,7 @@ SameVersions w memory tables =
     ((key : List ℕ) (p : ℕ) → version_at (memory ++ tables) key p ≡ version_at (w.store.memory ++ w.store.tables) key p)
     × ((key : List ℕ) → version_at memory key (suc (published w)) ≡ version_at w.store.memory key (suc (published w)))
 
+-- the store and the edits would be as they should be
 abbrev pub KeepsStore : World → Store → Installed → Type 0
 KeepsStore w store installed = IsStored w.writes.history w.writes.pending w.snapshots store installed
 

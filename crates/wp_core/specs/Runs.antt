@@ -67,11 +67,11 @@ pub record IsOpening (w : World) : Type 0 where
   pub client : List ℕ
   pub actors : w.actors ≡ new_actor true client w.opened ∷ []
 
-pub data Reaches : World → Type 0 where
-  opens : {w : World} → IsOpening w → Reaches w
-  moves : {w next : World} (by : ℕ) (step : Step) → Reaches w → IsStep w by step next → Reaches next
-
 -- the second world is reached from the first
 pub data ReachesFrom (w : World) : World → Type 0 where
   stays : ReachesFrom w w
   goes_on : {last next : World} (by : ℕ) (step : Step) → ReachesFrom w last → IsStep last by step next → ReachesFrom w next
+
+-- the world is reached from an opening
+abbrev pub Reaches : World → Type 0
+Reaches w = (first : World) × IsOpening first × ReachesFrom first w

@@ -1,6 +1,6 @@
 -- The tables that the turns guard. Those of prepared transactions, of snapshots, and of names and keys are the same that
 -- the crates of these tables show; here are the others, and what the machine asks of all.
-use Rattle.std.specs.Prelude.{◌≡◌, ℕ, nat_le, not, Bool, false, List, ◌++◌, filter, Option}
+use Rattle.std.specs.Prelude.{◌≡◌, ℕ, nat_le, not, Bool, false, List, ◌++◌, filter, Option, None}
 use Rattle.std.specs.FinSet as set
 use Rattle.std.specs.FinMap as map
 use Rattle.wp_model.specs.declared.entry.Entry.{Entry}
@@ -35,7 +35,7 @@ with_moved t m = record t { heap = set.retain t.heap (λ p. not (nat_le p m)); d
 
 -- nothing is delayed
 abbrev pub NoneDelayed : PreparedTables → Type 0
-NoneDelayed t = (t.delayed ≡ set.empty) × (t.delayed_commits ≡ map.empty)
+NoneDelayed t = ((p : ℕ) → set.contains t.delayed p ≡ false) × ((p : ℕ) → map.get t.delayed_commits p ≡ None)
 
 -- ---- the snapshots turn
 

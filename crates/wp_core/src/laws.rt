@@ -4,10 +4,11 @@ ghost use lib.ListN.{get_elem?};
 ghost use Rattle.std.specs.Prelude.{◌≡◌, ℕ, Bool, Some};
 ghost use Rattle.wp_judge.specs.declared.observed.Observed.{Observed};
 ghost use Rattle.wp_judge.specs.declared.observed.Load.{Load};
+ghost use Rattle.wp_judge.specs.Words.{CommitPair};
 ghost use Rattle.wp_judge.specs.Order.{judgement};
 ghost use Rattle.wp_core.specs.Turns.{Turn};
 ghost use Rattle.wp_core.specs.World.{World, Actor, history};
-ghost use Rattle.wp_core.specs.Steps.{load, give_turn, load_published, store_max_evicted, store_delayed_flag, store_old_flag};
+ghost use Rattle.wp_core.specs.Steps.{load, give_turn, load_published, store_max_evicted, store_delayed_flag, store_old_flag, add_prepared, take_pending_prepared, add_delayed_commit, take_out};
 ghost use Rattle.wp_core.specs.Runs.{IsStep, IsOpening, ReachesFrom};
 ghost use Rattle.wp_core.specs.IsSound.{IsSound};
 ghost use Rattle.wp_core.specs.Sound.Reader.{IsRight};
@@ -50,4 +51,13 @@ pub fn readers_judge_right()
 pub fn storing_a_flag_keeps_sound()
     ensures delayed { (w : World) (by value : ℕ) (next : World) → IsStep w by (store_delayed_flag value) next → IsSound w → IsSound next }
     ensures old { (w : World) (by value : ℕ) (next : World) → IsStep w by (store_old_flag value) next → IsSound w → IsSound next }
+{}
+
+/// Each change of the prepared tables keeps a world sound: the number of a pending Prepare comes or goes, a delayed commit
+/// comes, and a decided number leaves.
+pub fn changing_prepared_keeps_sound()
+    ensures adds { (w : World) (by : ℕ) (next : World) → IsStep w by add_prepared next → IsSound w → IsSound next }
+    ensures takes { (w : World) (by : ℕ) (next : World) → IsStep w by take_pending_prepared next → IsSound w → IsSound next }
+    ensures delays { (w : World) (by : ℕ) (pair : CommitPair) (next : World) → IsStep w by (add_delayed_commit pair) next → IsSound w → IsSound next }
+    ensures leaves { (w : World) (by p : ℕ) (next : World) → IsStep w by (take_out p) next → IsSound w → IsSound next }
 {}

@@ -1,5 +1,5 @@
 -- What an actor noted, while others hold the tables, is so.
-use Rattle.std.specs.Prelude.{◌≡◌, ◌⊎◌, ℕ, suc, ◌≤◌, true, false, List, length, Option, Some, None}
+use Rattle.std.specs.Prelude.{◌≡◌, ◌⊎◌, ℕ, suc, ◌≤◌, ◌<◌, true, false, List, length, Option, Some, None}
 use Rattle.std.specs.FinSet as set
 use Rattle.std.specs.FinMap as finite
 use Rattle.wp_model.specs.History.{named, batch_at, is_changed, holder_of}
@@ -47,6 +47,7 @@ IsGuarded holders fact by = (turn : Turn) → guarded_by fact ≡ Some turn → 
 
 -- the word at this place has the pair, which is published
 pub record IsClearing (published : ℕ) (cache : List ℕ) (place : ℕ) (pair : CommitPair) (why : Type 0) : Type 0 where
+  pub place_within : place < length cache
   pub there : pair_at cache place ≡ Some pair
   pub published_by : pair.decision ≤ published
   pub so : why
