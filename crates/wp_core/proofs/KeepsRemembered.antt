@@ -30,7 +30,7 @@ use Rattle.wp_core.specs.IsSound.{IsSound, participants}
 use Rattle.wp_core.proofs.Frames.{kept_map, each_map_set, each_set, at_map, in_filter}
 use Rattle.wp_core.proofs.AllParticipants.{mine}
 use Rattle.wp_core.proofs.PastsGrow.{in_front}
-use Rattle.wp_core.proofs.OwnersStay.{locked_still}
+use Rattle.wp_core.proofs.OwnersStay.{same_transactions, locked_still}
 use Rattle.wp_core.proofs.Quiet.{SoIn, holder_lives}
 use Rattle.wp_core.proofs.Remembers.{IsQuiet, holders_more, board_more, faults_more, edits_more}
 
@@ -92,7 +92,7 @@ remembering w by a e step at live may s =
       flags = s.flags;
       versions = s.versions;
       flushed = s.flushed;
-      locks = locked_still w.actors by a b at refl (record { client = refl; transactions = refl; direct = refl; past = λ x k. in_front x a.participant.past (e ∷ []) k }) w.writes.history w.locks s.locks;
+      locks = locked_still w.actors by a b at refl (same_transactions (owner_of a.participant) (a.participant.past ++ e ∷ []) (λ x k. in_front x a.participant.past (e ∷ []) k)) w.writes.history w.locks s.locks;
       holders = holders_more w.actors by a b e at refl refl w.opened w.writes.history w.locks may.accounted s.holders;
       board = board_more w.actors by a b e at refl refl (world.published w) w.locks may.labelled may.was_told s.board;
       faults = faults_more w.actors by a b e at refl refl w.writes w.installed.halted may.quiet may.stopped_at s.faults;

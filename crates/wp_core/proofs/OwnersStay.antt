@@ -1,8 +1,10 @@
 -- Names and keys, where one actor's own participant changed but for what it has of them, and its past grew.
-use Rattle.std.proofs.Common.{◌≡◌, ◌⊎◌, ⊎_elim, inl, inr, ℕ, List, map, set, refl, sym, subst, ap, ◌∙◌, Some}
+use Rattle.std.proofs.Common.{◌≡◌, ◌⊎◌, ⊎_elim, inl, inr, ℕ, true, List, map, set, refl, sym, subst, ap, ◌∙◌, Some}
 use mathlib.Core.Option.{some}
 use lib.ListN.{get_elem?}
+use Rattle.std.specs.FinSet as set_of
 use Rattle.std.specs.FinMap as finite
+use Rattle.wp_model.specs.Batch.{key_cmp}
 use Rattle.wp_model.specs.declared.entry.Entry.{Entry}
 use Rattle.wp_model.specs.declared.holder.Holder.TheVariants.{Txn, Client}
 use Rattle.wp_model.specs.LockTables.{LockTables}
@@ -16,12 +18,17 @@ use Rattle.wp_core.proofs.AllParticipants.{mine, mine_now, was, still}
 -- the same of names and keys, and a past that grew
 pub record IsSameOwner (o p : Owner) : Type 0 where
   pub client : p.client ≡ o.client
-  pub transactions : p.transactions ≡ o.transactions
+  pub had : (name : List ℕ) (x : Transaction) → Has p name x → (y : Transaction) × Has o name y × (y.locked ≡ x.locked)
+  pub has : (name : List ℕ) (y : Transaction) → Has o name y → (x : Transaction) × Has p name x × (x.locked ≡ y.locked)
   pub direct : p.direct ≡ o.direct
   pub past : (x : Event) → IsIn x o.past → IsIn x p.past
 
 same_owner : (o : Owner) → IsSameOwner o o
-same_owner o = record { client = refl; transactions = refl; direct = refl; past = λ x k. k }
+same_owner o = record { client = refl; had = λ name x h. (x, h, refl); has = λ name y h. (y, h, refl); direct = refl; past = λ x k. k }
+
+-- the same transactions, to the batches
+pub same_transactions : (o : Owner) (past : List Event) → ((x : Event) → IsIn x o.past → IsIn x past) → IsSameOwner o (record o { past = past })
+same_transactions o past grew = record { client = refl; had = λ name x h. (x, h, refl); has = λ name y h. (y, h, refl); direct = refl; past = grew }
 
 began_still : (o p : Owner) (name : List ℕ) → IsSameOwner o p → Began o.past name → Began p.past name
 began_still o p name is (inl k) = inl (is.past (claimed name) k)
@@ -66,20 +73,18 @@ module _ (xs : List Actor) (by : ℕ) (a b : Actor) (at : get_elem? xs by ≡ so
       (λ (t : IsParticipantAt after j i o). record { owner = o; there = t; is_same = same_owner o })
       (still owner_of xs by a b at same j i o k)
 
-  has_before : (o p : Owner) (name : List ℕ) (x : Transaction) → IsSameOwner o p → Has p name x → Has o name x
-  has_before o p name x q h = subst (λ ts. finite.get ts name ≡ Some x) q.transactions h
-
   owner_still : (t : LockTables) (o p : Owner) → IsSameOwner o p → IsOwner t o → IsOwner t p
   owner_still t o p q k = record {
-    names = λ name x h. k.names name x (has_before o p name x q h) ∙ ap (λ (c : List ℕ). Some (Some c)) (sym q.client);
-    keys = λ name x key h locked. k.keys name x key (has_before o p name x q h) locked;
+    names = λ name x h. let u = q.had name x h in k.names name u.0 u.1 ∙ ap (λ (c : List ℕ). Some (Some c)) (sym q.client);
+    keys = λ name x key h held. let u = q.had name x h in k.keys name u.0 key u.1 (subst (λ (z : set_of.FinSet key_cmp). set_of.contains z key ≡ true) (sym u.2) held);
     direct = λ key h. k.direct key (sym q.direct ∙ h) ∙ ap (λ (c : List ℕ). Some (Client c)) (sym q.client);
   }
 
   name_still : (name client : List ℕ) → IsNameOf before name client → IsNameOf after name client
   name_still name client k =
       let t = is_there k.at k.place k.owner k.there in
-      record { at = k.at; place = k.place; owner = t.owner; transaction = k.transaction; there = t.there; client_is = t.is_same.client ∙ k.client_is; has = subst (λ ts. finite.get ts name ≡ Some k.transaction) (sym t.is_same.transactions) k.has; began = began_still k.owner t.owner name t.is_same k.began }
+      let h = t.is_same.has name k.transaction k.has in
+      record { at = k.at; place = k.place; owner = t.owner; transaction = h.0; there = t.there; client_is = t.is_same.client ∙ k.client_is; has = h.1; began = began_still k.owner t.owner name t.is_same k.began }
 
   direct_still : (key client : List ℕ) → IsDirectOf before key client → IsDirectOf after key client
   direct_still key client k =
@@ -94,7 +99,8 @@ module _ (xs : List Actor) (by : ℕ) (a b : Actor) (at : get_elem? xs by ≡ so
     apart = record {
       names = λ j i l m o p name x y here there first second.
           let u = was_there j i o here in let v = was_there l m p there in
-          k.apart.names j i l m u.owner v.owner name x y u.there v.there (has_before u.owner o name x u.is_same first) (has_before v.owner p name y v.is_same second);
+          let f = u.is_same.had name x first in let g = v.is_same.had name y second in
+          k.apart.names j i l m u.owner v.owner name f.0 g.0 u.there v.there f.1 g.1;
       direct = λ j i l m o p key here there first second.
           let u = was_there j i o here in let v = was_there l m p there in
           k.apart.direct j i l m u.owner v.owner key u.there v.there (sym u.is_same.direct ∙ first) (sym v.is_same.direct ∙ second);
@@ -102,6 +108,8 @@ module _ (xs : List Actor) (by : ℕ) (a b : Actor) (at : get_elem? xs by ≡ so
     names_had = λ name client h. name_still name client (k.names_had name client h);
     names_left = k.names_left;
     keys_live = k.keys_live;
-    keys_known = λ key name h j i p there x has. let o = was_there j i p there in k.keys_known key name h j i o.owner o.there x (has_before o.owner p name x o.is_same has);
+    keys_known = λ key name h j i p there x has.
+        let o = was_there j i p there in let u = o.is_same.had name x has in
+        subst (λ (z : set_of.FinSet key_cmp). set_of.contains z key ≡ true) u.2 (k.keys_known key name h j i o.owner o.there u.0 u.1);
     keys_direct = λ key client h. direct_still key client (k.keys_direct key client h);
   }
