@@ -28,3 +28,4 @@ mod Keyed
 mod LocksChange
 mod KeepsClaimed
 mod KeepsTold
+mod KeepsBatch
