@@ -29,3 +29,4 @@ mod LocksChange
 mod KeepsClaimed
 mod KeepsTold
 mod KeepsBatch
+mod KeepsNoted

@@ -1,9 +1,10 @@
 //! What is proved of names and keys, and of what actors remember.
 ghost use Rattle.std.specs.Prelude.{ℕ, List, Option};
+ghost use Rattle.wp_model.specs.declared.change.Change.{Change};
 ghost use Rattle.wp_model.specs.declared.holder.Holder.{Holder};
-ghost use Rattle.wp_core.specs.Views.{Account};
-ghost use Rattle.wp_core.specs.World.{World};
-ghost use Rattle.wp_core.specs.Steps.{find_log_closed, find_flushed, find_holder, hear, claim_name};
+ghost use Rattle.wp_core.specs.Views.{Account, Fact};
+ghost use Rattle.wp_core.specs.World.{Transaction, World};
+ghost use Rattle.wp_core.specs.Steps.{find_log_closed, find_flushed, find_holder, hear, tell, claim_name, set_batch, note};
 ghost use Rattle.wp_core.specs.Runs.{IsStep};
 ghost use Rattle.wp_core.specs.IsSound.{IsSound};
 
@@ -19,4 +20,15 @@ pub fn finding_keeps_sound()
 /// Claiming a name keeps a world sound.
 pub fn claiming_keeps_sound()
     ensures { (w : World) (by : ℕ) (name : List ℕ) (next : World) → IsStep w by (claim_name name) next → IsSound w → IsSound next }
+{}
+
+/// Putting the published number under a label keeps a world sound.
+pub fn telling_keeps_sound()
+    ensures { (w : World) (by : ℕ) (label : List ℕ) (next : World) → IsStep w by (tell label) next → IsSound w → IsSound next }
+{}
+
+/// An actor that sets the batch of its transaction, or notes a fact, keeps a world sound.
+pub fn acting_alone_keeps_sound()
+    ensures batch { (w : World) (by : ℕ) (name : List ℕ) (t : Transaction) (batch : List Change) (next : World) → IsStep w by (set_batch name t batch) next → IsSound w → IsSound next }
+    ensures noted { (w : World) (by : ℕ) (fact : Fact) (next : World) → IsStep w by (note fact) next → IsSound w → IsSound next }
 {}
