@@ -30,3 +30,4 @@ mod KeepsClaimed
 mod KeepsTold
 mod KeepsBatch
 mod KeepsNoted
+mod KeepsDirectLock
