@@ -1,5 +1,5 @@
 -- Which participants there are, once one actor's own participant changed.
-use Rattle.std.proofs.Common.{◌≡◌, ◌≢◌, ◌⊎◌, ⊎_elim, inl, inr, ℕ, zero, suc, List, map, set, refl, sym, ap, ◌∙◌}
+use Rattle.std.proofs.Common.{◌≡◌, ◌≢◌, ◌⊎◌, ⊎_elim, inl, inr, ℕ, zero, suc, List, map, set, refl, sym, ap, ◌∙◌, arith}
 use mathlib.Core.Option.{some, some-injective}
 use mathlib.Core.Logic.{dite}
 use native.Mathlib.Decide.{ℕ_discrete}
@@ -45,3 +45,19 @@ module _ {X : Type 0} (f : Participant → X) (xs : List Actor) (by : ℕ) (a b 
           (λ (u : get_elem? (participants_of f b) i ≡ some y). inr (participants_of f b, ap (get_elem? (map (participants_of f) (set xs by b))) e ∙ at_map (participants_of f) (set xs by b) by b (here xs by a b at), u))
           (first_or_still i y (ap (λ (z : List X). get_elem? z i) (sym is) ∙ k.2)))
       (λ (ne : j ≢ by). inr (k.0, ap (λ (z : List (List X)). get_elem? z j) (map_set (participants_of f) xs by b) ∙ (set_else (map (participants_of f) xs) by j (participants_of f b) ne ∙ k.1), k.2))
+
+  first_or_other : (i : ℕ) (y : X) → get_elem? (participants_of f b) i ≡ some y → ((i ≡ 0) × (y ≡ f b.participant)) ⊎ ((i ≢ 0) × (get_elem? (participants_of f a) i ≡ some y))
+  first_or_other zero y e = inl (refl, sym (some-injective (f b.participant) y e))
+  first_or_other (suc i) y e = inr ((λ z. omega arith), ap (λ (z : List Participant). get_elem? (map f z) i) (sym same) ∙ e)
+
+  -- one that is there is the changed one, or was there at another place
+  pub was_apart : (j i : ℕ) (y : X) → IsParticipantAt (map (participants_of f) (set xs by b)) j i y → ((j ≡ by) × (i ≡ 0) × (y ≡ f b.participant)) ⊎ (((j ≢ by) ⊎ (i ≢ 0)) × IsParticipantAt (map (participants_of f) xs) j i y)
+  was_apart j i y k =
+      let there : get_elem? (set (map (participants_of f) xs) by (participants_of f b)) j ≡ some k.0 = ap (λ (z : List (List X)). get_elem? z j) (sym (map_set (participants_of f) xs by b)) ∙ k.1 in
+      ⊎_elim
+      (λ (t : (j ≡ by) × (participants_of f b ≡ k.0)). ⊎_elim
+          (λ (u : (i ≡ 0) × (y ≡ f b.participant)). inl (t.0, u.0, u.1))
+          (λ (u : (i ≢ 0) × (get_elem? (participants_of f a) i ≡ some y)). inr (inr u.0, (participants_of f a, ap (get_elem? (map (participants_of f) xs)) t.0 ∙ at_map (participants_of f) xs by a at, u.1)))
+          (first_or_other i y (ap (λ (z : List X). get_elem? z i) t.1 ∙ k.2)))
+      (λ (t : (j ≢ by) × (get_elem? (map (participants_of f) xs) j ≡ some k.0)). inr (inl t.0, (k.0, t.1, k.2)))
+      (at_set (map (participants_of f) xs) by j (participants_of f b) k.0 there)

@@ -31,3 +31,4 @@ mod KeepsTold
 mod KeepsBatch
 mod KeepsNoted
 mod KeepsDirectLock
+mod KeepsDirectFree
