@@ -12,6 +12,7 @@ pub mod KeepsGive
 pub mod HistoryLaws
 pub mod Changed
 pub mod Quiet
+pub mod TakesTurn
 pub mod StoresFlag
 pub mod Numbers
 pub mod PreparedSteps
