@@ -1,5 +1,5 @@
 -- Laws of histories: when a version is decided, and that entries after it leave its decision as it was.
-use Rattle.std.proofs.Common.{◌≡◌, ◌⊎◌, inl, inr, ℕ, zero, suc, ◌+◌, ◌<◌, ◌≤◌, nat_lt, ◌==◌, ◌&&◌, ◌||◌, not, Bool, true, false, cond, true≢false, List, [], ◌∷◌, ◌++◌, length, take, refl, sym, subst, ap, ◌∙◌, Option, Some, None, option_map, slice_get, length-append, arith}
+use Rattle.std.proofs.Common.{◌≡◌, ◌⊎◌, inl, inr, ℕ, zero, suc, ◌+◌, ◌<◌, ◌≤◌, nat_lt, ◌==◌, ◌&&◌, ◌||◌, not, Bool, true, false, cond, true≢false, List, [], ◌∷◌, ◌++◌, length, take, refl, sym, subst, ap, ◌∙◌, Option, Some, None, option_map, slice_get, length-append, append_assoc, eq-eqb, arith}
 use Rattle.std.proofs.lemmas.Bool.Decides.{nat_tests}
 use Rattle.std.proofs.lemmas.Option.{slice_get_within}
 use Rattle.std.specs.List.{list_any, position_or_len}
@@ -9,7 +9,10 @@ use Rattle.wp_model.specs.declared.entry.Entry.TheVariants.{Write, Prepare, Comm
 use Rattle.wp_model.specs.History.{entry_at, is_prepare, decides, is_undecided}
 use Rattle.wp_model.specs.Legal.{IsLegal, IsLegalNext}
 use Rattle.wp_model.specs.Decision.{decision_of, decision_in}
-use Rattle.wp_history.proofs.Growth.{entry_at_old, entry_at_past}
+use Rattle.wp_history.proofs.Growth.{entry_at_old, entry_at_next, entry_at_past, behind_front, legal_before}
+use Rattle.wp_history.proofs.Undecided.{undecided_within}
+use Rattle.wp_judge.specs.Words.{CommitPair}
+use Rattle.wp_core.specs.Entries.{pair_by}
 use Rattle.wp_core.specs.Sound.Snapshots.{has_versions, has_versions_at}
 
 and_first : (a b : Bool) → (a && b) ≡ true → a ≡ true
@@ -197,3 +200,89 @@ exclusive_in history p c None e u = true≢false (sym u)
 -- no undecided prepare is decided
 pub undecided_not_decided : (history : List Entry) (p c : ℕ) → is_undecided history p ≡ true → decision_of history p ≡ Some c → ⊥
 undecided_not_decided history p c u e = exclusive_in history p c (entry_at history p) e u
+
+-- ---- what comes next
+
+within_in : (history : List Entry) (p c : ℕ) (o : Option Entry) → p ≤ length history → decision_in history p o ≡ Some c → c ≤ length history
+within_in history p c (Some (Write batch)) low e = let q : p ≡ c = cc in omega arith
+within_in history p c (Some (Undo r batch)) low e = let q : p ≡ c = cc in omega arith
+within_in history p c (Some (Prepare name batch)) low e =
+    let k = position_is (decides p) history (nat_lt (position_or_len (decides p) history) (length history)) c refl e in let lt = k.0 in let same = k.1 in omega arith
+within_in history p c (Some (Commit q)) low e = let no : None ≡ Some c = e in absurd (cc)
+within_in history p c (Some (Close q)) low e = let no : None ≡ Some c = e in absurd (cc)
+within_in history p c None low e = let no : None ≡ Some c = e in absurd (cc)
+
+-- what decides is in the history
+pub decision_within : (history : List Entry) (p c : ℕ) → decision_of history p ≡ Some c → c ≤ length history
+decision_within history p c e = within_in history p c (entry_at history p) (decided_within history p c e) e
+
+last_first : (test : Entry → Bool) (xs : List Entry) (y : Entry) → list_any test xs ≡ false → test y ≡ true → position_or_len test (xs ++ y ∷ []) ≡ length xs
+last_first test [] y none is = ap (λ b. cond (not b) 1 0) is
+last_first test (x ∷ xs) y none is =
+    let rest : list_any test xs ≡ false → position_or_len test (xs ++ y ∷ []) ≡ length xs = λ e. last_first test xs y e is in
+    elim (test x) as (λ b. (b || list_any test xs) ≡ false → cond (not b) (1 + position_or_len test (xs ++ y ∷ [])) 0 ≡ suc (length xs)) [
+      | true ↦ λ e. absurd (true≢false e)
+      | false ↦ λ e. let r = rest e in omega arith
+    ] none
+
+parts_true : (a b : Bool) → (a && not b) ≡ true → (a ≡ true) × (b ≡ false)
+parts_true true false e = (refl, refl)
+parts_true true true e = absurd (true≢false (sym e))
+parts_true false b e = absurd (true≢false (sym e))
+
+decided_now : (history : List Entry) (entry : Entry) (p : ℕ) (o : Option Entry) → is_prepare o ≡ true → list_any (decides p) history ≡ false → decides p entry ≡ true → decision_in (history ++ entry ∷ []) p o ≡ Some (suc (length history))
+decided_now history entry p (Some (Prepare name batch)) is none now =
+    let at = last_first (decides p) history entry none now in
+    first_number (decides p) (history ++ entry ∷ []) (omega (arith, at, length-append history (entry ∷ []))) ∙ ap (λ n. Some (suc n)) at
+decided_now history entry p (Some (Write batch)) is none now = absurd (true≢false (sym is))
+decided_now history entry p (Some (Undo r batch)) is none now = absurd (true≢false (sym is))
+decided_now history entry p (Some (Commit q)) is none now = absurd (true≢false (sym is))
+decided_now history entry p (Some (Close q)) is none now = absurd (true≢false (sym is))
+decided_now history entry p None is none now = absurd (true≢false (sym is))
+
+-- the entry that comes next decides an undecided prepare
+pub next_decides_prepare : (history : List Entry) (entry : Entry) (p : ℕ) → is_undecided history p ≡ true → decides p entry ≡ true → decision_of (history ++ entry ∷ []) p ≡ Some (suc (length history))
+next_decides_prepare history entry p u now =
+    let k = parts_true (is_prepare (entry_at history p)) (list_any (decides p) history) u in
+    let low = (undecided_within history p u).1 in
+    decided_now history entry p (entry_at (history ++ entry ∷ []) p) (ap is_prepare (entry_at_old history (entry ∷ []) p low) ∙ k.0) k.1 now
+
+-- what the next entry decides, by its number
+pub record IsDecidedNext (history : List Entry) (entry : Entry) (pair : CommitPair) : Type 0 where
+  pub decided : decision_of (history ++ entry ∷ []) pair.number ≡ Some pair.decision
+  pub positive : 1 ≤ pair.number
+  pub ordered : pair.number ≤ pair.decision
+  pub last : pair.decision ≡ suc (length history)
+
+is_pair : (history : List Entry) (entry : Entry) (p c : ℕ) (pair : CommitPair) → Some (record { number = p; decision = c }) ≡ Some pair → IsDecidedNext history entry (record { number = p; decision = c }) → IsDecidedNext history entry pair
+is_pair history entry p c pair e k = subst (IsDecidedNext history entry) (same (record { number = p; decision = c }) pair e) k
+  where
+    same : (x y : CommitPair) → Some x ≡ Some y → x ≡ y
+    same x y q = cc
+
+entry_next : (history : List Entry) (entry : Entry) → entry_at (history ++ entry ∷ []) (suc (length history)) ≡ Some entry
+entry_next history entry = subst (λ (n : ℕ). entry_at (history ++ entry ∷ []) n ≡ Some entry) (let q : length history + 1 ≡ suc (length history) = omega arith in q) (entry_at_next history entry)
+
+decides_itself : (p : ℕ) → (p == p) ≡ true
+decides_itself p = eq-eqb p p refl
+
+pub next_decides : (history : List Entry) (entry : Entry) (pair : CommitPair) → IsLegal (history ++ entry ∷ []) → pair_by (suc (length history)) entry ≡ Some pair → IsDecidedNext history entry pair
+next_decides history (Write batch) pair legal e =
+    is_pair history (Write batch) (suc (length history)) (suc (length history)) pair e
+    record { decided = ap (decision_in (history ++ Write batch ∷ []) (suc (length history))) (entry_next history (Write batch)); positive = omega arith; ordered = omega arith; last = refl }
+next_decides history (Undo p batch) pair legal e =
+    is_pair history (Undo p batch) (suc (length history)) (suc (length history)) pair e
+    record { decided = ap (decision_in (history ++ Undo p batch ∷ []) (suc (length history))) (entry_next history (Undo p batch)); positive = omega arith; ordered = omega arith; last = refl }
+next_decides history (Commit p) pair legal e =
+    let u : is_undecided history p ≡ true = (behind_front history (Commit p) [] legal).names_undecided in let low = undecided_within history p u in
+    is_pair history (Commit p) p (suc (length history)) pair e
+    record { decided = next_decides_prepare history (Commit p) p u (decides_itself p); positive = low.0; ordered = omega (arith, low.1); last = refl }
+next_decides history (Close p) pair legal e =
+    let u : is_undecided history p ≡ true = (behind_front history (Close p) [] legal).names_undecided in let low = undecided_within history p u in
+    is_pair history (Close p) p (suc (length history)) pair e
+    record { decided = next_decides_prepare history (Close p) p u (decides_itself p); positive = low.0; ordered = omega (arith, low.1); last = refl }
+next_decides history (Prepare name batch) pair legal e = let no : None ≡ Some pair = e in absurd (cc)
+
+-- the first of entries that may come next may come next
+pub first_legal : (history : List Entry) (entry : Entry) (others : List Entry) → IsLegal (history ++ entry ∷ others) → IsLegal (history ++ entry ∷ [])
+first_legal history entry others legal = legal_before (history ++ entry ∷ []) others (subst IsLegal (sym (append_assoc history (entry ∷ []) others)) legal)

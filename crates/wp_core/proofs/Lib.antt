@@ -12,8 +12,10 @@ pub mod KeepsGive
 pub mod HistoryLaws
 pub mod Changed
 pub mod Quiet
+pub mod TakesTurn
 pub mod StoresFlag
 pub mod Numbers
+pub mod StoresWord
 pub mod PreparedSteps
 pub mod PendingPrepared
 pub mod KeepsMax

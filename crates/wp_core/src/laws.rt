@@ -7,8 +7,9 @@ ghost use Rattle.wp_judge.specs.declared.observed.Load.{Load};
 ghost use Rattle.wp_judge.specs.Words.{CommitPair};
 ghost use Rattle.wp_judge.specs.Order.{judgement};
 ghost use Rattle.wp_core.specs.Turns.{Turn};
+ghost use Rattle.wp_core.specs.Reading.{Registration};
 ghost use Rattle.wp_core.specs.World.{World, Actor, history};
-ghost use Rattle.wp_core.specs.Steps.{load, give_turn, load_published, store_max_evicted, store_delayed_flag, store_old_flag, add_prepared, take_pending_prepared, add_delayed_commit, take_out};
+ghost use Rattle.wp_core.specs.Steps.{begin_reading, end_reading, take_turn, store_word, load, give_turn, load_published, store_max_evicted, store_delayed_flag, store_old_flag, add_prepared, take_pending_prepared, add_delayed_commit, take_out};
 ghost use Rattle.wp_core.specs.Runs.{IsStep, IsOpening, ReachesFrom};
 ghost use Rattle.wp_core.specs.IsSound.{IsSound};
 ghost use Rattle.wp_core.specs.Sound.Reader.{IsRight};
@@ -60,4 +61,21 @@ pub fn changing_prepared_keeps_sound()
     ensures takes { (w : World) (by : ℕ) (next : World) → IsStep w by take_pending_prepared next → IsSound w → IsSound next }
     ensures delays { (w : World) (by : ℕ) (pair : CommitPair) (next : World) → IsStep w by (add_delayed_commit pair) next → IsSound w → IsSound next }
     ensures leaves { (w : World) (by p : ℕ) (next : World) → IsStep w by (take_out p) next → IsSound w → IsSound next }
+{}
+
+/// Taking a turn keeps a world sound.
+pub fn taking_keeps_sound()
+    ensures { (w : World) (by : ℕ) (turn : Turn) (next : World) → IsStep w by (take_turn turn) next → IsSound w → IsSound next }
+{}
+
+/// Beginning a reading and ending it keep a world sound.
+pub fn reading_keeps_sound()
+    ensures begins { (w : World) (by p : ℕ) (snapshot : Registration) (next : World) → IsStep w by (begin_reading p snapshot) next → IsSound w → IsSound next }
+    ensures ends { (w : World) (by : ℕ) (next : World) → IsStep w by end_reading next → IsSound w → IsSound next }
+{}
+
+/// Storing a word of the commit cache keeps a world sound: the pair that it evicts is at most the bound, and is noted in
+/// the old commit map and among the delayed commits where a reader may need it.
+pub fn storing_a_word_keeps_sound()
+    ensures { (w : World) (by : ℕ) (pair : CommitPair) (next : World) → IsStep w by (store_word pair) next → IsSound w → IsSound next }
 {}
