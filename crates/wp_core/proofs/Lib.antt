@@ -15,6 +15,7 @@ pub mod Quiet
 pub mod TakesTurn
 pub mod StoresFlag
 pub mod Numbers
+pub mod SnapshotsStep
 pub mod StoresWord
 pub mod PreparedSteps
 pub mod PendingPrepared
