@@ -16,6 +16,7 @@ pub mod TakesTurn
 pub mod StoresFlag
 pub mod Numbers
 pub mod SnapshotsStep
+pub mod KeepsSnapshots
 pub mod StoresWord
 pub mod PreparedSteps
 pub mod PendingPrepared
