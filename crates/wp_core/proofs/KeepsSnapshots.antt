@@ -36,28 +36,27 @@ use Rattle.wp_core.proofs.SnapshotsStep.{SnapshotsGrow, ViewsGrow, with_view, sn
 
 -- ---- one number's snapshot
 
-placed_there : (m : Snapshots) (n : ℕ) (o : Option Snapshot) → finite.get (placed m n o) n ≡ o
+pub placed_there : (m : Snapshots) (n : ℕ) (o : Option Snapshot) → finite.get (placed m n o) n ≡ o
 placed_there m n None = get_removed m n
 placed_there m n (Some x) = get_inserted m n x
 
-placed_else : (m : Snapshots) (n : ℕ) (o : Option Snapshot) (t : ℕ) → t ≢ n → finite.get (placed m n o) t ≡ finite.get m t
+pub placed_else : (m : Snapshots) (n : ℕ) (o : Option Snapshot) (t : ℕ) → t ≢ n → finite.get (placed m n o) t ≡ finite.get m t
 placed_else m n None t ne = get_removed_else m n t ne
 placed_else m n (Some x) t ne = get_inserted_else m n x t ne
 
-has_old : ℕ → Option Snapshot → Bool
+abbrev pub has_old : ℕ → Option Snapshot → Bool
 has_old p o = option_map_or (λ x. finset.contains x.old_commits p) o false
 
-live_there : (o : Option Snapshot) → IsSome o → (x : Snapshot) × (o ≡ Some x)
+pub live_there : (o : Option Snapshot) → IsSome o → (x : Snapshot) × (o ≡ Some x)
 live_there None live = absurd (true≢false (sym live))
 live_there (Some x) live = (x, refl)
 
 -- ---- sums over registrations
 
-at_number : ℕ → List Registration → ℕ
+abbrev pub at_number : ℕ → List Registration → ℕ
 at_number t = total (λ r. one_if (r.number == t))
 
-sum_append : (t : ℕ) (front back : List Registration) → at_number t (front ++ back) ≡ at_number t front + at_number t back
-unfolding at_number
+pub sum_append : (t : ℕ) (front back : List Registration) → at_number t (front ++ back) ≡ at_number t front + at_number t back
 sum_append t [] back = omega arith
 sum_append t (r ∷ rs) back = let k = sum_append t rs back in omega arith
 
@@ -65,11 +64,11 @@ in_append : {X : Type 0} (x : X) (front back : List X) → IsIn x front → IsIn
 in_append x [] back there = absurd there
 in_append x (y ∷ ys) back there = ⊎_elim (λ (e : y ≡ x). inl e) (λ (k : IsIn x ys). inr (in_append x ys back k)) there
 
-in_with : {X : Type 0} (x y : X) (front back : List X) → IsIn x (front ++ back) → IsIn x (front ++ y ∷ back)
+pub in_with : {X : Type 0} (x y : X) (front back : List X) → IsIn x (front ++ back) → IsIn x (front ++ y ∷ back)
 in_with x y [] back there = inr there
 in_with x y (z ∷ zs) back there = ⊎_elim (λ (e : z ≡ x). inl e) (λ (k : IsIn x (zs ++ back)). inr (in_with x y zs back k)) there
 
-in_middle : {X : Type 0} (x : X) (front back : List X) → IsIn x (front ++ x ∷ back)
+pub in_middle : {X : Type 0} (x : X) (front back : List X) → IsIn x (front ++ x ∷ back)
 in_middle x [] back = inl refl
 in_middle x (z ∷ zs) back = inr (in_middle x zs back)
 
@@ -84,11 +83,11 @@ in_snoc x y (z ∷ zs) there = ⊎_elim (λ (e : z ≡ x). inl (inl e)) (λ (k :
 
 -- ---- what is below a smallest
 
-below_of : (w : World) (by : ℕ) (a : Actor) (r : Registration) → get_elem? w.actors by ≡ some a → IsIn r a.participant.registered → IsSound w → IsBelowCommitted w.writes.history r
+pub below_of : (w : World) (by : ℕ) (a : Actor) (r : Registration) → get_elem? w.actors by ≡ some a → IsIn r a.participant.registered → IsSound w → IsBelowCommitted w.writes.history r
 below_of w by a r at there s =
     let k = in_at r a.participant.registered there in s.registrations.smallest by 0 a.participant.registered (participants_of registered_of a, at_map (participants_of registered_of) w.actors by a at, refl) k.0 r k.1
 
-below_all : (history : List Entry) (rs : List Registration) → ((r : Registration) → IsIn r rs → IsBelowCommitted history r) → AreBelowCommitted history rs
+pub below_all : (history : List Entry) (rs : List Registration) → ((r : Registration) → IsIn r rs → IsBelowCommitted history r) → AreBelowCommitted history rs
 below_all history rs k i r at = k r (at_in rs i r at)
 
 -- ---- one registration more
@@ -101,12 +100,10 @@ module _ (w : World) (by : ℕ) (a : Actor) (n least : ℕ) (at : get_elem? w.ac
   else_now t ne = placed_else w.snapshots n (after_register (finite.get w.snapshots n)) t ne
 
   same_old : (p : ℕ) (o : Option Snapshot) → has_old p (after_register o) ≡ has_old p o
-  unfolding has_old
   same_old p None = finset.contains-empty nat_cmp p
   same_old p (Some x) = refl
 
   old_now : (t p : ℕ) → is_old_commit (with_registered w.snapshots n) t p ≡ is_old_commit w.snapshots t p
-  unfolding has_old
   old_now t p =
       dite (ℕ_discrete t n)
       (λ (e : t ≡ n). ap (λ (z : ℕ). is_old_commit (with_registered w.snapshots n) z p) e ∙ (ap (has_old p) there_now ∙ (same_old p (finite.get w.snapshots n) ∙ ap (λ (z : ℕ). is_old_commit w.snapshots z p) (sym e))))
@@ -134,7 +131,6 @@ module _ (w : World) (by : ℕ) (a : Actor) (n least : ℕ) (at : get_elem? w.ac
   found_more (Some y) x e = let q = same_some (record y { registrations = y.registrations + 1 }) x e in subst (λ (z : Snapshot). 1 ≤ z.registrations) q (omega arith)
 
   registered_now : (seen learned : List Entry) → AreRegistered w.writes.history (with_registered w.snapshots n) (map (participants_of registered_of) (set w.actors by (with_view a seen learned (a.participant.registered ++ record { number = n; smallest = least } ∷ []) a.reading)))
-  unfolding at_number
   registered_now seen learned =
       let r : Registration = record { number = n; smallest = least } in
       let b : Actor = with_view a seen learned (a.participant.registered ++ r ∷ []) a.reading in record {

@@ -17,6 +17,7 @@ pub mod StoresFlag
 pub mod Numbers
 pub mod SnapshotsStep
 pub mod KeepsSnapshots
+pub mod OldCommits
 pub mod StoresWord
 pub mod PreparedSteps
 pub mod PendingPrepared
