@@ -20,6 +20,7 @@ pub mod KeepsSnapshots
 pub mod OldCommits
 pub mod StoresWord
 pub mod PreparedSteps
+pub mod PendingSteps
 pub mod PendingPrepared
 pub mod KeepsMax
 pub mod KeepsSeen
