@@ -21,6 +21,7 @@ pub mod OldCommits
 pub mod StoresWord
 pub mod PreparedSteps
 pub mod PendingSteps
+pub mod DropsPending
 pub mod PendingPrepared
 pub mod KeepsMax
 pub mod KeepsSeen

@@ -145,7 +145,7 @@ mine_made : (w : World) (entries log : List Entry) (logged : Bool) (p : Particip
 mine_made w entries log logged p versions_in_memory left k = absurd (true≢false (sym left))
 mine_made w entries log logged p fact left k = k
 
-others_made : (w : World) (pending log : List Entry) (logged : Bool) (by j : ℕ) (p : Participant) (fact : Fact) → Holds w.holders write_turn by → j ≢ by → IsGuarded w.holders fact j → SoIn w p fact → SoPending w (with_pending w.writes pending logged log) p fact
+pub others_made : (w : World) (pending log : List Entry) (logged : Bool) (by j : ℕ) (p : Participant) (fact : Fact) → Holds w.holders write_turn by → j ≢ by → IsGuarded w.holders fact j → SoIn w p fact → SoPending w (with_pending w.writes pending logged log) p fact
 others_made w pending log logged by j p versions_in_memory mine ne guard k = absurd (not_theirs w.holders write_turn by j mine ne (guard write_turn refl))
 others_made w pending log logged by j p fact mine ne guard k = k
 

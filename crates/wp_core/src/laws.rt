@@ -2,6 +2,7 @@
 ghost use mathlib.Core.Option.{some};
 ghost use lib.ListN.{get_elem?};
 ghost use Rattle.std.specs.Prelude.{◌≡◌, ℕ, Bool, List, Some};
+ghost use Rattle.wp_model.specs.declared.entry.Entry.{Entry};
 ghost use Rattle.wp_judge.specs.declared.observed.Observed.{Observed};
 ghost use Rattle.wp_judge.specs.declared.observed.Load.{Load};
 ghost use Rattle.wp_judge.specs.Words.{CommitPair};
@@ -9,7 +10,7 @@ ghost use Rattle.wp_judge.specs.Order.{judgement};
 ghost use Rattle.wp_core.specs.Turns.{Turn};
 ghost use Rattle.wp_core.specs.Reading.{Registration};
 ghost use Rattle.wp_core.specs.World.{World, Actor, history};
-ghost use Rattle.wp_core.specs.Steps.{register, register_again, release, add_old_commit, begin_reading, end_reading, take_turn, store_word, load, give_turn, load_published, store_max_evicted, store_delayed_flag, store_old_flag, add_prepared, take_pending_prepared, add_delayed_commit, take_out};
+ghost use Rattle.wp_core.specs.Steps.{make_pending, log_pending, drop_pending, register, register_again, release, add_old_commit, begin_reading, end_reading, take_turn, store_word, load, give_turn, load_published, store_max_evicted, store_delayed_flag, store_old_flag, add_prepared, take_pending_prepared, add_delayed_commit, take_out};
 ghost use Rattle.wp_core.specs.Runs.{IsStep, IsOpening, ReachesFrom};
 ghost use Rattle.wp_core.specs.IsSound.{IsSound};
 ghost use Rattle.wp_core.specs.Sound.Reader.{IsRight};
@@ -87,4 +88,11 @@ pub fn changing_snapshots_keeps_sound()
     ensures again { (w : World) (by s : ℕ) (next : World) → IsStep w by (register_again s) next → IsSound w → IsSound next }
     ensures releases { (w : World) (by : ℕ) (front back : List Registration) (r : Registration) (next : World) → IsStep w by (release front r back) next → IsSound w → IsSound next }
     ensures notes { (w : World) (by s p : ℕ) (next : World) → IsStep w by (add_old_commit s p) next → IsSound w → IsSound next }
+{}
+
+/// Making a record pending, logging it, and dropping an entry of which nothing is left keep a world sound.
+pub fn preparing_a_record_keeps_sound()
+    ensures makes { (w : World) (by : ℕ) (entries : List Entry) (next : World) → IsStep w by (make_pending entries) next → IsSound w → IsSound next }
+    ensures logs { (w : World) (by : ℕ) (next : World) → IsStep w by log_pending next → IsSound w → IsSound next }
+    ensures drops { (w : World) (by : ℕ) (next : World) → IsStep w by drop_pending next → IsSound w → IsSound next }
 {}
