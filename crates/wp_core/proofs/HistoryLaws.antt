@@ -286,3 +286,57 @@ next_decides history (Prepare name batch) pair legal e = let no : None ≡ Some 
 -- the first of entries that may come next may come next
 pub first_legal : (history : List Entry) (entry : Entry) (others : List Entry) → IsLegal (history ++ entry ∷ others) → IsLegal (history ++ entry ∷ [])
 first_legal history entry others legal = legal_before (history ++ entry ∷ []) others (subst IsLegal (sym (append_assoc history (entry ∷ []) others)) legal)
+
+-- ---- what the last entry decided
+
+pair_of_decider : (n p : ℕ) (entry : Entry) → decides p entry ≡ true → pair_by n entry ≡ Some (record { number = p; decision = n })
+pair_of_decider n p (Commit q) d = ap (λ (x : ℕ). Some (record { number = x; decision = n })) (is_equal q p d)
+pair_of_decider n p (Close q) d = ap (λ (x : ℕ). Some (record { number = x; decision = n })) (is_equal q p d)
+pair_of_decider n p (Write batch) d = absurd (true≢false (sym d))
+pair_of_decider n p (Prepare name batch) d = absurd (true≢false (sym d))
+pair_of_decider n p (Undo q batch) d = absurd (true≢false (sym d))
+
+-- where the last entry is the first to decide p, it decides p
+last_decides : (history : List Entry) (entry : Entry) (p : ℕ) → position_or_len (decides p) (history ++ entry ∷ []) ≡ length history → decides p entry ≡ true
+last_decides history entry p at =
+    let f = first_of_them (decides p) (history ++ entry ∷ []) (omega (arith, at, length-append history (entry ∷ []))) in
+    let there : slice_get (history ++ entry ∷ []) (length history) ≡ Some f.entry = subst (λ (n : ℕ). slice_get (history ++ entry ∷ []) n ≡ Some f.entry) at f.there in
+    let q : Some f.entry ≡ Some entry = sym there ∙ entry_next history entry in
+    ap (decides p) (sym (same f.entry entry q)) ∙ f.passes
+  where
+    same : (x y : Entry) → Some x ≡ Some y → x ≡ y
+    same x y q = cc
+
+by_last : (history : List Entry) (entry : Entry) (p : ℕ) (o : Option Entry) → decision_in (history ++ entry ∷ []) p o ≡ Some (suc (length history)) → (p ≡ suc (length history) → o ≡ Some entry) → pair_by (suc (length history)) entry ≡ Some (record { number = p; decision = suc (length history) })
+by_last history entry p (Some (Prepare name batch)) e is =
+    let k = position_is (decides p) (history ++ entry ∷ []) (nat_lt (position_or_len (decides p) (history ++ entry ∷ [])) (length (history ++ entry ∷ []))) (suc (length history)) refl e in
+    let at = k.1 in pair_of_decider (suc (length history)) p entry (last_decides history entry p (omega arith))
+by_last history entry p (Some (Write batch)) e is =
+    let q : p ≡ suc (length history) = number_is p (suc (length history)) e in
+    let same : Some (Write batch) ≡ Some entry = is q in
+    ap (λ (x : Option Entry). pair_in (suc (length history)) x) (sym same) ∙ ap (λ (x : ℕ). Some (record { number = x; decision = suc (length history) })) (sym q)
+  where
+    pair_in : ℕ → Option Entry → Option CommitPair
+    pair_in n (Some x) = pair_by n x
+    pair_in n None = None
+
+    number_is : (x y : ℕ) → Some x ≡ Some y → x ≡ y
+    number_is x y f = cc
+by_last history entry p (Some (Undo r batch)) e is =
+    let q : p ≡ suc (length history) = number_is p (suc (length history)) e in
+    let same : Some (Undo r batch) ≡ Some entry = is q in
+    ap (λ (x : Option Entry). pair_in (suc (length history)) x) (sym same) ∙ ap (λ (x : ℕ). Some (record { number = x; decision = suc (length history) })) (sym q)
+  where
+    pair_in : ℕ → Option Entry → Option CommitPair
+    pair_in n (Some x) = pair_by n x
+    pair_in n None = None
+
+    number_is : (x y : ℕ) → Some x ≡ Some y → x ≡ y
+    number_is x y f = cc
+by_last history entry p (Some (Commit q)) e is = let no : None ≡ Some (suc (length history)) = e in absurd (cc)
+by_last history entry p (Some (Close q)) e is = let no : None ≡ Some (suc (length history)) = e in absurd (cc)
+by_last history entry p None e is = let no : None ≡ Some (suc (length history)) = e in absurd (cc)
+
+-- what is decided by the last entry is its pair
+pub decided_by_last : (history : List Entry) (entry : Entry) (p : ℕ) → decision_of (history ++ entry ∷ []) p ≡ Some (suc (length history)) → pair_by (suc (length history)) entry ≡ Some (record { number = p; decision = suc (length history) })
+decided_by_last history entry p e = by_last history entry p (entry_at (history ++ entry ∷ []) p) e (λ q. ap (entry_at (history ++ entry ∷ [])) q ∙ entry_next history entry)

@@ -15,8 +15,13 @@ pub mod Quiet
 pub mod TakesTurn
 pub mod StoresFlag
 pub mod Numbers
+pub mod SnapshotsStep
+pub mod KeepsSnapshots
+pub mod OldCommits
 pub mod StoresWord
 pub mod PreparedSteps
+pub mod PendingSteps
+pub mod DropsPending
 pub mod PendingPrepared
 pub mod KeepsMax
 pub mod KeepsSeen

@@ -26,7 +26,7 @@ use Rattle.wp_core.proofs.HistoryLaws.{decided_late}
 use Rattle.wp_core.proofs.ReaderFacts.{same_some}
 use Rattle.wp_core.proofs.Looks.{LeavesMost, looks}
 
-in_at : {X : Type 0} (x : X) (xs : List X) → IsIn x xs → (i : ℕ) × (get_elem? xs i ≡ some x)
+pub in_at : {X : Type 0} (x : X) (xs : List X) → IsIn x xs → (i : ℕ) × (get_elem? xs i ≡ some x)
 in_at x [] there = absurd there
 in_at x (y ∷ ys) there = ⊎_elim (λ (e : y ≡ x). (0, ap some e)) (λ (k : IsIn x ys). let t = in_at x ys k in (suc t.0, t.1)) there
 

@@ -1,7 +1,8 @@
 //! What is proved of the machine, over worlds and steps.
 ghost use mathlib.Core.Option.{some};
 ghost use lib.ListN.{get_elem?};
-ghost use Rattle.std.specs.Prelude.{◌≡◌, ℕ, Bool, Some};
+ghost use Rattle.std.specs.Prelude.{◌≡◌, ℕ, Bool, List, Some};
+ghost use Rattle.wp_model.specs.declared.entry.Entry.{Entry};
 ghost use Rattle.wp_judge.specs.declared.observed.Observed.{Observed};
 ghost use Rattle.wp_judge.specs.declared.observed.Load.{Load};
 ghost use Rattle.wp_judge.specs.Words.{CommitPair};
@@ -9,7 +10,7 @@ ghost use Rattle.wp_judge.specs.Order.{judgement};
 ghost use Rattle.wp_core.specs.Turns.{Turn};
 ghost use Rattle.wp_core.specs.Reading.{Registration};
 ghost use Rattle.wp_core.specs.World.{World, Actor, history};
-ghost use Rattle.wp_core.specs.Steps.{begin_reading, end_reading, take_turn, store_word, load, give_turn, load_published, store_max_evicted, store_delayed_flag, store_old_flag, add_prepared, take_pending_prepared, add_delayed_commit, take_out};
+ghost use Rattle.wp_core.specs.Steps.{make_pending, log_pending, drop_pending, register, register_again, release, add_old_commit, begin_reading, end_reading, take_turn, store_word, load, give_turn, load_published, store_max_evicted, store_delayed_flag, store_old_flag, add_prepared, take_pending_prepared, add_delayed_commit, take_out};
 ghost use Rattle.wp_core.specs.Runs.{IsStep, IsOpening, ReachesFrom};
 ghost use Rattle.wp_core.specs.IsSound.{IsSound};
 ghost use Rattle.wp_core.specs.Sound.Reader.{IsRight};
@@ -78,4 +79,20 @@ pub fn reading_keeps_sound()
 /// the old commit map and among the delayed commits where a reader may need it.
 pub fn storing_a_word_keeps_sound()
     ensures { (w : World) (by : ℕ) (pair : CommitPair) (next : World) → IsStep w by (store_word pair) next → IsSound w → IsSound next }
+{}
+
+/// Each change of the live snapshots keeps a world sound: a number is registered, once or again, a registration is released,
+/// and a version is noted in the old commit map.
+pub fn changing_snapshots_keeps_sound()
+    ensures registers { (w : World) (by smallest : ℕ) (next : World) → IsStep w by (register smallest) next → IsSound w → IsSound next }
+    ensures again { (w : World) (by s : ℕ) (next : World) → IsStep w by (register_again s) next → IsSound w → IsSound next }
+    ensures releases { (w : World) (by : ℕ) (front back : List Registration) (r : Registration) (next : World) → IsStep w by (release front r back) next → IsSound w → IsSound next }
+    ensures notes { (w : World) (by s p : ℕ) (next : World) → IsStep w by (add_old_commit s p) next → IsSound w → IsSound next }
+{}
+
+/// Making a record pending, logging it, and dropping an entry of which nothing is left keep a world sound.
+pub fn preparing_a_record_keeps_sound()
+    ensures makes { (w : World) (by : ℕ) (entries : List Entry) (next : World) → IsStep w by (make_pending entries) next → IsSound w → IsSound next }
+    ensures logs { (w : World) (by : ℕ) (next : World) → IsStep w by log_pending next → IsSound w → IsSound next }
+    ensures drops { (w : World) (by : ℕ) (next : World) → IsStep w by drop_pending next → IsSound w → IsSound next }
 {}
