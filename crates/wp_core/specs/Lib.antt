@@ -15,4 +15,3 @@ pub mod Conditions
 pub mod Needs
 pub mod IsSound
 pub mod Runs
-pub mod Codes
