@@ -37,7 +37,7 @@ pub others_hold : (w : World) (c : Content) (by j : ℕ) (held : List Content) �
 others_hold w c by j [] mine ne k = tt
 others_hold w c by j (d ∷ others) mine ne k = (k.0, changed_else w c (turn_of d) (others_turn w.holders (turn_of c) (turn_of d) by j mine ne k.0) ∙ k.1, k.2, others_hold w c by j others mine ne k.3)
 
--- what stands behind another table of the same actor
+-- what follows another table of the same actor
 after_hold : (w : World) (c : Content) (j : ℕ) (held : List Content) → NoneAfter (turn_of c) held → AreHeld w.holders (content_of w) j held → AreHeld w.holders (content_of (with_content w c)) j held
 after_hold w c j [] none k = tt
 after_hold w c j (d ∷ others) none k = (k.0, changed_else w c (turn_of d) (λ e. none.0 (same_turn (turn_of c) (turn_of d) e)) ∙ k.1, k.2, after_hold w c j others none.1 k.3)
@@ -81,7 +81,7 @@ new_in : (c e : Content) (held : List Content) → turn_of e ≡ turn_of c → I
 new_in c e [] same there = absurd there
 new_in c e (d ∷ others) same there = one_new c d e others (turn_index (turn_of d) == turn_index (turn_of c)) refl same (new_in c e others same) there
 
--- who holds a turn still has the table behind it
+-- who holds a turn still has the table that it guards
 pub have_changed : (h : Holders) (c : Content) (by : ℕ) (actors : List Actor) (a b : Actor) → get_elem? actors by ≡ some a → b.held ≡ held_with a.held c → HoldersHave h (map held_of actors) → HoldersHave h (map held_of (set actors by b))
 have_changed h c by actors a b at is have u j holds =
     let o = have u j holds in

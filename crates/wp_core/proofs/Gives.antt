@@ -44,7 +44,7 @@ others_turn h t u by j mine ne theirs e = let is : holder_of h u ≡ holder_of h
 pub still : (h : Holders) (t u : Turn) (by j : ℕ) → Holds h t by → j ≢ by → Holds h u j → Holds (with_holder h t None) u j
 still h t u by j mine ne theirs = other_holder h t u None (others_turn h t u by j mine ne theirs) ∙ theirs
 
--- who holds a turn behind which another was given holds another one
+-- who holds a turn after another was given holds another one
 pub was : (h : Holders) (t u : Turn) (j : ℕ) → Holds (with_holder h t None) u j → (turn_index u ≢ turn_index t) × Holds h u j
 was h t u j holds = dite (ℕ_discrete (turn_index u) (turn_index t))
     (λ (e : turn_index u ≡ turn_index t). let n : holder_of (with_holder h t None) u ≡ None = ap (holder_of (with_holder h t None)) (same_turn t u e) ∙ given h t in let q : Some j ≡ None = sym holds ∙ n in absurd (cc))

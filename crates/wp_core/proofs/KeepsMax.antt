@@ -143,42 +143,42 @@ reader_after w m rs r le k = record {
 
 -- ---- notes
 
--- a fact that outlives the store
-IsLasting : Fact → Type 0
-IsLasting (words_stay max cache) = ⊥
-IsLasting other = Unit {0}
+-- a fact that the store of the bound preserves
+IsPreserved : Fact → Type 0
+IsPreserved (words_stay max cache) = ⊥
+IsPreserved other = Unit {0}
 
-so_after : (w : World) (m : ℕ) (a : Participant) (fact : Fact) → w.max_evicted ≤ m → m ≤ length w.writes.history → IsLasting fact → IsSo w.delayed_flag w.old_flag w.max_evicted w.cache w.writes w.prepared w.snapshots w.store w.locks w.installed a fact
+so_after : (w : World) (m : ℕ) (a : Participant) (fact : Fact) → w.max_evicted ≤ m → m ≤ length w.writes.history → IsPreserved fact → IsSo w.delayed_flag w.old_flag w.max_evicted w.cache w.writes w.prepared w.snapshots w.store w.locks w.installed a fact
     → IsSo w.delayed_flag w.old_flag m w.cache w.writes (with_moved w.prepared m) w.snapshots w.store w.locks w.installed a fact
-unfolding IsLasting
-so_after w m a (passed place pair) le low lasts k = record { place_within = k.place_within; there = k.there; published_by = k.published_by; so = le_trans k.so le }
-so_after w m a (in_old_commits place pair) le low lasts k = k
-so_after w m a (apart place pair) le low lasts k = record { place_within = k.place_within; there = k.there; published_by = k.published_by; so = ⊎_elim (λ (e : is_prepared w.prepared pair.number ≡ false). inl (same_prepared w.prepared m pair.number ∙ e)) (λ (e : finite.get w.prepared.delayed_commits pair.number ≡ Some pair.decision). inr e) k.so }
-so_after w m a (words_stay max cache) le low lasts k = absurd lasts
-so_after w m a versions_in_memory le low lasts k = k
-so_after w m a versions_nowhere le low lasts k = k
-so_after w m a number_in_heap le low lasts k = let n : ℕ = suc (length w.writes.history) in in_heap w.prepared m n ∙ (λ i. k i && not (above_is n m (omega arith) i))
-so_after w m a number_not_in_heap le low lasts k = let n : ℕ = suc (length w.writes.history) in in_heap w.prepared m n ∙ (λ i. k i && not (nat_le n m))
-so_after w m a (undecided_at name p) le low lasts k = k
-so_after w m a (prior_values name p batch) le low lasts k = k
-so_after w m a (unprepared name) le low lasts k = k
-so_after w m a (direct_free key) le low lasts k = k
-so_after w m a (tables_stay versions floor) le low lasts k = k
-so_after w m a (live_listed floor listed) le low lasts k = k
-so_after w m a nothing_flushed le low lasts k = k
-so_after w m a (frozen_stay n versions) le low lasts k = k
-so_after w m a (delayed_flag_stays value) le low lasts k = k
-so_after w m a (old_flag_stays value) le low lasts k = k
+unfolding IsPreserved
+so_after w m a (passed place pair) le low stays k = record { place_within = k.place_within; there = k.there; published_by = k.published_by; so = le_trans k.so le }
+so_after w m a (in_old_commits place pair) le low stays k = k
+so_after w m a (apart place pair) le low stays k = record { place_within = k.place_within; there = k.there; published_by = k.published_by; so = ⊎_elim (λ (e : is_prepared w.prepared pair.number ≡ false). inl (same_prepared w.prepared m pair.number ∙ e)) (λ (e : finite.get w.prepared.delayed_commits pair.number ≡ Some pair.decision). inr e) k.so }
+so_after w m a (words_stay max cache) le low stays k = absurd stays
+so_after w m a versions_in_memory le low stays k = k
+so_after w m a versions_nowhere le low stays k = k
+so_after w m a number_in_heap le low stays k = let n : ℕ = suc (length w.writes.history) in in_heap w.prepared m n ∙ (λ i. k i && not (above_is n m (omega arith) i))
+so_after w m a number_not_in_heap le low stays k = let n : ℕ = suc (length w.writes.history) in in_heap w.prepared m n ∙ (λ i. k i && not (nat_le n m))
+so_after w m a (undecided_at name p) le low stays k = k
+so_after w m a (prior_values name p batch) le low stays k = k
+so_after w m a (unprepared name) le low stays k = k
+so_after w m a (direct_free key) le low stays k = k
+so_after w m a (tables_stay versions floor) le low stays k = k
+so_after w m a (live_listed floor listed) le low stays k = k
+so_after w m a nothing_flushed le low stays k = k
+so_after w m a (frozen_stay n versions) le low stays k = k
+so_after w m a (delayed_flag_stays value) le low stays k = k
+so_after w m a (old_flag_stays value) le low stays k = k
 
-mine_last : (history : List Entry) (words m : ℕ) (fact : Fact) → not (ends history words (store_max_evicted m) fact) ≡ true → IsLasting fact
-unfolding IsLasting
-mine_last history words m (words_stay max cache) kept_note = absurd (true≢false (sym kept_note))
-mine_last history words m fact kept_note = tt
+mine_preserved : (history : List Entry) (words m : ℕ) (fact : Fact) → not (ends history words (store_max_evicted m) fact) ≡ true → IsPreserved fact
+unfolding IsPreserved
+mine_preserved history words m (words_stay max cache) kept_note = absurd (true≢false (sym kept_note))
+mine_preserved history words m fact kept_note = tt
 
-theirs_last : (h : Holders) (by j : ℕ) (fact : Fact) → Holds h write_turn by → j ≢ by → ((turn : Turn) → guarded_by fact ≡ Some turn → Holds h turn j) → IsLasting fact
-unfolding IsLasting
-theirs_last h by j (words_stay max cache) mine ne guards = let theirs : Holds h write_turn j = guards write_turn refl in let q : Some j ≡ Some by = sym theirs ∙ mine in ne (cc)
-theirs_last h by j fact mine ne guards = tt
+theirs_preserved : (h : Holders) (by j : ℕ) (fact : Fact) → Holds h write_turn by → j ≢ by → ((turn : Turn) → guarded_by fact ≡ Some turn → Holds h turn j) → IsPreserved fact
+unfolding IsPreserved
+theirs_preserved h by j (words_stay max cache) mine ne guards = let theirs : Holds h write_turn j = guards write_turn refl in let q : Some j ≡ Some by = sym theirs ∙ mine in ne (cc)
+theirs_preserved h by j fact mine ne guards = tt
 
 -- ---- all parts
 
@@ -222,8 +222,8 @@ stores_max w by a m at n s =
       judged = subst (AreJudged w.writes.history) (sym rs) s.judged;
       noted = each_map_set noter_of (λ j x. (fact : Fact) → IsIn fact x.1 → IsNoted w.holders (IsSo w.delayed_flag w.old_flag m w.cache w.writes (with_moved w.prepared m) w.snapshots w.store w.locks w.installed) j x fact) w.actors by b
           (λ fact there. let k = in_filter (λ (f : Fact). not (ends w.writes.history (length w.cache) (store_max_evicted m) f)) fact a.notes there in let o = s.noted by (noter_of a) (at_map noter_of w.actors by a at) fact k.0 in
-          record { guarded = o.guarded; is_so = so_after w m a.participant fact n.2 n.3 (mine_last w.writes.history (length w.cache) m fact k.1) o.is_so })
-          (λ j x ne there fact k. let o = s.noted j x there fact k in record { guarded = o.guarded; is_so = so_after w m x.0 fact n.2 n.3 (theirs_last w.holders by j fact n.0 ne o.guarded) o.is_so });
+          record { guarded = o.guarded; is_so = so_after w m a.participant fact n.2 n.3 (mine_preserved w.writes.history (length w.cache) m fact k.1) o.is_so })
+          (λ j x ne there fact k. let o = s.noted j x there fact k in record { guarded = o.guarded; is_so = so_after w m x.0 fact n.2 n.3 (theirs_preserved w.holders by j fact n.0 ne o.guarded) o.is_so });
       led = subst AreLed (sym ss) s.led;
       idle = each_set (λ j x. x.live ≡ false → IsIdle x) w.actors by b
           (λ dead. let i = s.idle by a at dead in record { participant = i.participant; held = ap (λ (z : List Content). held_with z e) i.held; reading = i.reading; notes = ap (λ (z : List Fact). filter (λ f. not (ends w.writes.history (length w.cache) (store_max_evicted m) f)) z) i.notes })

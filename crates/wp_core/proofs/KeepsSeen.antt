@@ -63,7 +63,7 @@ loads_published w by a at s =
     record {
       history = s.history;
       seen = each_person_set seen_of (StartsWith w.writes.history) w.actors by a b at (whole w.writes.history) refl s.seen;
-      learned = each_map_set learned_of (λ j told. StartsWith w.writes.history told) w.actors by b (w.writes.history, refl) (λ j x ne there. s.learned j x there);
+      learned = each_map_set learned_of (λ j entries. StartsWith w.writes.history entries) w.actors by b (w.writes.history, refl) (λ j x ne there. s.learned j x there);
       owned = subst (AreOwned w.opened w.writes.history) (sym ow) s.owned;
       cache = s.cache;
       decided = s.decided;

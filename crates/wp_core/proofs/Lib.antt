@@ -22,6 +22,7 @@ pub mod StoresWord
 pub mod PreparedSteps
 pub mod PendingSteps
 pub mod DropsPending
+pub mod PendingVersions
 pub mod PendingPrepared
 pub mod KeepsMax
 pub mod KeepsSeen

@@ -15,5 +15,3 @@ pub mod Conditions
 pub mod Needs
 pub mod IsSound
 pub mod Runs
-pub mod Theorems
-pub mod Codes

@@ -3,6 +3,7 @@ ghost use mathlib.Core.Option.{some};
 ghost use lib.ListN.{get_elem?};
 ghost use Rattle.std.specs.Prelude.{◌≡◌, ℕ, Bool, List, Some};
 ghost use Rattle.wp_model.specs.declared.entry.Entry.{Entry};
+ghost use Rattle.wp_model.specs.declared.version.Version.{Version};
 ghost use Rattle.wp_judge.specs.declared.observed.Observed.{Observed};
 ghost use Rattle.wp_judge.specs.declared.observed.Load.{Load};
 ghost use Rattle.wp_judge.specs.Words.{CommitPair};
@@ -10,7 +11,7 @@ ghost use Rattle.wp_judge.specs.Order.{judgement};
 ghost use Rattle.wp_core.specs.Turns.{Turn};
 ghost use Rattle.wp_core.specs.Reading.{Registration};
 ghost use Rattle.wp_core.specs.World.{World, Actor, history};
-ghost use Rattle.wp_core.specs.Steps.{make_pending, log_pending, drop_pending, register, register_again, release, add_old_commit, begin_reading, end_reading, take_turn, store_word, load, give_turn, load_published, store_max_evicted, store_delayed_flag, store_old_flag, add_prepared, take_pending_prepared, add_delayed_commit, take_out};
+ghost use Rattle.wp_core.specs.Steps.{add_versions, take_versions, make_pending, log_pending, drop_pending, register, register_again, release, add_old_commit, begin_reading, end_reading, take_turn, store_word, load, give_turn, load_published, store_max_evicted, store_delayed_flag, store_old_flag, add_prepared, take_pending_prepared, add_delayed_commit, take_out};
 ghost use Rattle.wp_core.specs.Runs.{IsStep, IsOpening, ReachesFrom};
 ghost use Rattle.wp_core.specs.IsSound.{IsSound};
 ghost use Rattle.wp_core.specs.Sound.Reader.{IsRight};
@@ -41,8 +42,8 @@ pub fn loading_keeps_sound()
     ensures { (w : World) (by : ℕ) (which : Load) (next : World) → IsStep w by (load which) next → IsSound w → IsSound next }
 {}
 
-/// What a reader concludes is right: where it has loaded what it needs, its judgement is whether the version is committed
-/// at its snapshot, in a sound world and in each world that steps of any actors lead to.
+/// In a sound world, where a reader has loaded what it needs, its judgement is whether the version is committed at its
+/// snapshot, there and in each world that steps of any actors lead to.
 pub fn readers_judge_right()
     ensures { (w : World) (j : ℕ) (a : Actor) (r : Observed) (visible : Bool)
         → IsSound w → get_elem? w.actors j ≡ some a → a.reading ≡ Some r → judgement r ≡ Some visible
@@ -95,4 +96,10 @@ pub fn preparing_a_record_keeps_sound()
     ensures makes { (w : World) (by : ℕ) (entries : List Entry) (next : World) → IsStep w by (make_pending entries) next → IsSound w → IsSound next }
     ensures logs { (w : World) (by : ℕ) (next : World) → IsStep w by log_pending next → IsSound w → IsSound next }
     ensures drops { (w : World) (by : ℕ) (next : World) → IsStep w by drop_pending next → IsSound w → IsSound next }
+{}
+
+/// The versions of the pending entry come into memory and go out of it, and the world stays sound.
+pub fn pending_versions_keep_sound()
+    ensures adds { (w : World) (by : ℕ) (memory : List Version) (next : World) → IsStep w by (add_versions memory) next → IsSound w → IsSound next }
+    ensures takes { (w : World) (by : ℕ) (memory : List Version) (next : World) → IsStep w by (take_versions memory) next → IsSound w → IsSound next }
 {}
