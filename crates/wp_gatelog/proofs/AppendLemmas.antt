@@ -1,12 +1,12 @@
 -- One record more.
-use Rattle.std.proofs.Common.{◌≡◌, inl, inr, ℕ, ◌+◌, ◌<◌, ◌≤◌, ◌^◌, List, [], ◌∷◌, ◌++◌, length, replicate, refl, sym, ◌∙◌, ap, subst, arith, length-append}
+use Rattle.std.proofs.Common.{◌≡◌, inl, inr, ℕ, ◌+◌, ◌<◌, ◌≤◌, ◌^◌, List, [], ◌∷◌, ◌++◌, length, refl, sym, ◌∙◌, ap, arith, length-append}
 use Rattle.std.proofs.lemmas.Bool.{cases_eq}
-use Rattle.std.proofs.lemmas.List.{append-nil, append_assoc, map_push, length-replicate}
+use Rattle.std.proofs.lemmas.List.{append-nil, append_assoc, map_push}
 use Rattle.std.specs.Int.{w64, to_be_bytes}
-use Rattle.wp_outside.specs.Disk.{Moment, IsImage, synced, after_write, write_end, IfKnown, Each}
+use Rattle.wp_outside.specs.Disk.{Moment, IsImage, synced, after_write, write_end, Each}
 use Rattle.wp_gatelog.specs.Log.{Grows, IsAcknowledged, IsAtRest, last_gate}
 use Rattle.wp_gatelog.specs.Spelling.{Gated, IsOpen, framed, frame_of, identity, all_gated, log_of}
-use Rattle.wp_gatelog.proofs.MomentLemmas.{image_after, image_of_gate, reads_after, known_map}
+use Rattle.wp_gatelog.proofs.MomentLemmas.{image_after, image_of_gate, reads_after}
 
 pub length-framed : (bytes : List ℕ) → length (framed bytes) ≡ 8 + length bytes
 unfolding framed

@@ -1,9 +1,9 @@
 -- A frame is appended, call by call.
 use Rattle.std.proofs.Common.{◌≡◌, ℕ, ◌+◌, ◌<◌, ◌^◌, List, [], ◌∷◌, ◌++◌, length, Result, sym, ◌∙◌, ap, subst, arith}
-use Rattle.wp_outside.specs.Disk.{Moment, IsImage, synced, after_write, IfKnown}
+use Rattle.wp_outside.specs.Disk.{Moment, IsImage, synced, after_write}
 use Rattle.wp_gatelog.specs.Changes.{Steps, BringsTo}
 use Rattle.wp_gatelog.specs.Log.{BeforeOrAfter, IsAtRest}
-use Rattle.wp_gatelog.specs.Moments.{Goes, IsSynced}
+use Rattle.wp_gatelog.specs.Moments.{IsSynced}
 use Rattle.wp_gatelog.specs.Spelling.{frame_of, log_of}
 use Rattle.wp_gatelog.proofs.AcknowledgedLemmas.{spares_frame, spares_gate}
 use Rattle.wp_gatelog.proofs.AppendLemmas.{grows_staged, reads_staged, grows_opened, at_rest_more}

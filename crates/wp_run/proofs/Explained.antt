@@ -1,6 +1,6 @@
 -- What the clients are answered one after another on one thread is explained by the entries at the end.
-use Rattle.std.proofs.Common.{◌≡◌, ℕ, zero, suc, ◌+◌, ◌<◌, ◌≤◌, ◌==◌, Bool, true, false, cond, eqb, List, [], ◌∷◌, ◌++◌, length, take, Option, Some, None, refl, sym, ap, add-zero, zero-add, subst, ◌∙◌, append_assoc, arith, length-append, inl, inr, if◌then◌else◌}
-use Rattle.std.specs.Prelude.{count_by, unwrap_or, IfSome}
+use Rattle.std.proofs.Common.{◌≡◌, ℕ, zero, suc, ◌+◌, ◌<◌, ◌≤◌, ◌==◌, Bool, true, false, cond, eqb, List, [], ◌∷◌, ◌++◌, length, take, refl, sym, ap, add-zero, zero-add, subst, ◌∙◌, append_assoc, arith, length-append, inl, inr, if◌then◌else◌}
+use Rattle.std.specs.Prelude.{count_by}
 use Rattle.std.specs.List.{range_with_len, flat_map, list_any}
 use Rattle.std.proofs.lemmas.List.Concat.{flat_map-cons, flat_map-append}
 use Rattle.std.proofs.lemmas.List.Folds.{list_any-append}

@@ -1,8 +1,8 @@
 -- From a run of all clients to how a call ends.
-use Rattle.std.proofs.Common.{◌≡◌, ℕ, zero, suc, ◌≤◌, Bool, true, false, List, [], ◌∷◌, length, Option, Err, refl, sym, subst, inl, inr, arith}
+use Rattle.std.proofs.Common.{◌≡◌, ℕ, ◌≤◌, Bool, true, false, List, [], ◌∷◌, length, Err, refl, sym, subst, inl, inr, arith}
 use Rattle.wp_model.specs.declared.entry.Entry.{Entry}
 use Rattle.wp_model.specs.Legal.{IsLegal}
-use Rattle.wp_outside.specs.Disk.{Moment, IfKnown}
+use Rattle.wp_outside.specs.Disk.{IfKnown}
 use Rattle.wp_outside.specs.Faults.{Rose}
 use Rattle.wp_gatelog.specs.Spelling.{IsUnmade}
 use Rattle.wp_text.specs.declared.reply.Reply.{Reply}

@@ -1,12 +1,11 @@
 -- What the log of a store on one thread stores.
-use Rattle.std.specs.Prelude.{◌≡◌, ◌⊎◌, ℕ, zero, suc, ◌+◌, ◌^◌, ◌<◌, Bool, false, true, List, [], ◌∷◌, ◌++◌, length, None}
+use Rattle.std.specs.Prelude.{◌≡◌, ◌⊎◌, ℕ, zero, suc, ◌+◌, ◌^◌, ◌<◌, Bool, false, true, List, [], ◌++◌, length, None}
 use Rattle.wp_model.specs.declared.entry.Entry.{Entry}
-use Rattle.wp_model.specs.Legal.{IsLegal, IsLegalNext, undone_last}
+use Rattle.wp_model.specs.Legal.{IsLegal, undone_last}
 use Rattle.wp_outside.specs.Disk.{Moment}
-use Rattle.wp_entry.specs.Record.{FormRecord, IsRecord}
-use Rattle.wp_gatelog.specs.Durability.{HasAcknowledged, Preserves}
+use Rattle.wp_entry.specs.Record.{IsRecord}
 use Rattle.wp_gatelog.specs.Moments.{Leaves}
-use Rattle.wp_wal.specs.Spelling.{MAGIC, IsLogOf, HasAcknowledgedEntries}
+use Rattle.wp_wal.specs.Spelling.{IsLogOf, HasAcknowledgedEntries}
 use Rattle.wp_wal.specs.Wal.{WalState, LeavesHistory, StoresHistory}
 
 -- ---- the log of a history

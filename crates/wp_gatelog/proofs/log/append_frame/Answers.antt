@@ -1,6 +1,5 @@
 use Rattle.std.proofs.lemmas.Result.{err_from_is_err_and}
 use Rattle.std.proofs.Common.{◌+◌, ◌∷◌, [], ◌++◌, length}
-use Rattle.wp_outside.specs.Disk.{synced}
 use Rattle.wp_gatelog.specs.Log.{BeforeOrAfter, IsAtRest}
 use Rattle.wp_gatelog.specs.Spelling.{frame_of, log_of}
 use Rattle.wp_gatelog.proofs.AppendLemmas.{fits_disk}

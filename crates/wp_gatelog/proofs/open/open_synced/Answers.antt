@@ -1,6 +1,5 @@
-use Rattle.std.proofs.Common.{◌≡◌, ◌∙◌}
+use Rattle.std.proofs.Common.{◌∙◌}
 use Rattle.std.proofs.lemmas.Result.{err_from_is_err_and}
-use Rattle.wp_outside.specs.Disk.{Moment}
 use Rattle.wp_gatelog.specs.Spelling.{IsUnmade}
 use Rattle.wp_gatelog.proofs.OpenLemmas.{synced_cases, known_at, opens_brings, opens_read, repairs_unmade, found_none, made_rests, begins}
 use Rattle.wp_gatelog.proofs.MomentLemmas.{known_map}

@@ -1,4 +1,4 @@
-use Rattle.std.proofs.Common.{◌+◌, ◌∷◌, [], ◌++◌, length, arith, length-append}
+use Rattle.std.proofs.Common.{◌+◌, ◌∷◌, [], ◌++◌, arith}
 use Rattle.wp_outside.specs.Disk.{IsImage, synced, after_cut}
 use Rattle.wp_gatelog.specs.Repair.{HasFront}
 use Rattle.wp_gatelog.proofs.ChangeLemmas.{unchanged, changes_map}

@@ -1,0 +1,126 @@
+-- Dropping an entry of which nothing is left keeps a world sound.
+use Rattle.std.proofs.Common.{◌≡◌, ◌≢◌, ⊎_elim, inl, inr, ℕ, suc, ◌≤◌, ◌||◌, eq-eqb, Bool, true, false, true≢false, not, cond, List, [], ◌∷◌, ◌++◌, length, slice_index, refl, sym, subst, ap, ◌∙◌, Option, Some, None, append-nil, length-append, arith}
+use Rattle.std.proofs.lemmas.Bool.{cases_lt}
+use mathlib.Core.Option.{some}
+use lib.ListN.{get_elem?}
+use Rattle.std.specs.FinSet as finset
+use Rattle.wp_model.specs.declared.entry.Entry.{Entry}
+use Rattle.wp_model.specs.Decision.{decision_of}
+use Rattle.wp_model.specs.History.{entry_at, is_prepare}
+use Rattle.wp_model.specs.Legal.{IsLegal}
+use Rattle.wp_model.specs.Versions.{version_at}
+use Rattle.wp_judge.specs.Words.{CommitPair, decision_if}
+use Rattle.wp_core.specs.Cache.{cache_place, pair_at, cached}
+use Rattle.wp_core.specs.Entries.{extended, pending_pair}
+use Rattle.wp_core.specs.Views.{Fact, versions_in_memory}
+use Rattle.wp_core.specs.World.{Participant, Actor, World}
+use Rattle.wp_core.specs.Steps.{drop_pending}
+use Rattle.wp_core.specs.Effects.{done}
+use Rattle.wp_core.specs.Needs.{Needs}
+use Rattle.wp_core.specs.Notes.{forgets, ends}
+use Rattle.wp_core.specs.Sound.History.{IsHistory, logged_part}
+use Rattle.wp_core.specs.Sound.Prepared.{IsCache, AreUndecided}
+use Rattle.wp_core.specs.Sound.Store.{IsStored}
+use Rattle.wp_core.specs.Sound.Views.{IsNowhere}
+use Rattle.wp_core.specs.IsSound.{IsSound}
+use Rattle.wp_history.proofs.Growth.{entry_at_old, prepared_within}
+use Rattle.wp_core.proofs.HistoryLaws.{decision_was, decision_within, decided_by_last}
+use Rattle.wp_core.proofs.ReaderFacts.{pair_ordered}
+use Rattle.wp_core.proofs.PreparedSteps.{either}
+use Rattle.wp_core.proofs.Quiet.{SoIn}
+use Rattle.wp_core.proofs.PendingSteps.{SoPending, with_pending, pending_changes, others_made}
+
+-- ---- the cache has pairs of the history alone
+
+-- what the cache has is decided without the pending entry, whose pair it has not
+decided_without : (history pending : List Entry) (cache : List ℕ) (p c : ℕ) → ((pair : CommitPair) → pending_pair history pending ≡ Some pair → cached cache pair.number ≢ Some pair.decision) → cached cache p ≡ Some c → p ≤ c → decision_of (extended history pending) p ≡ Some c
+    → decision_of history p ≡ Some c
+decided_without history [] cache p c gone there low e = e
+decided_without history (entry ∷ others) cache p c gone there low e =
+    let most = decision_within (history ++ entry ∷ []) p c e in
+    elim (cases_lt (length history) c) [
+      | inl past ↦
+          let is : c ≡ suc (length history) = omega (arith, length-append history (entry ∷ [])) in
+          absurd (gone (record { number = p; decision = suc (length history) }) (decided_by_last history entry p (e ∙ ap Some is)) (there ∙ ap Some is))
+      | inr within ↦ decision_was history (entry ∷ []) p c (omega arith) within e
+    ]
+
+cached_at : (w : World) (i : ℕ) (q : CommitPair) → cache_place (length w.cache) q.number ≡ i → pair_at w.cache i ≡ Some q → cached w.cache q.number ≡ Some q.decision
+cached_at w i q placed there = ap (decision_if q.number) (ap (pair_at w.cache) placed ∙ there) ∙ ap (λ (b : Bool). cond b (Some q.decision) None) (eq-eqb q.number q.number refl)
+
+cache_dropped : (w : World) → ((pair : CommitPair) → pending_pair w.writes.history w.writes.pending ≡ Some pair → cached w.cache pair.number ≢ Some pair.decision) → IsSound w → IsCache w.writes.history [] w.cache
+cache_dropped w gone s = record {
+  some = s.cache.some;
+  empty = s.cache.empty;
+  pairs = λ i q lt there. let k = s.cache.pairs i q lt there in
+      record { placed = k.placed; decided = decided_without w.writes.history w.writes.pending w.cache q.number q.decision gone (cached_at w i q k.placed there) (pair_ordered (slice_index w.cache i) q there).1 k.decided };
+}
+
+-- ---- the prepared tables have numbers of the history alone
+
+prepare_without : (history pending : List Entry) (p : ℕ) → p ≢ suc (length history) → is_prepare (entry_at (extended history pending) p) ≡ true → is_prepare (entry_at history p) ≡ true
+prepare_without history [] p ne is = is
+prepare_without history (entry ∷ others) p ne is =
+    let most = (prepared_within (history ++ entry ∷ []) p is).1 in
+    elim (cases_lt (length history) p) [
+      | inl past ↦ absurd (ne (omega (arith, length-append history (entry ∷ []))))
+      | inr within ↦ ap is_prepare (sym (entry_at_old history (entry ∷ []) p within)) ∙ is
+    ]
+
+undecided_dropped : (w : World) → finset.contains w.prepared.heap (suc (length w.writes.history)) ≡ false → IsSound w → AreUndecided w.writes.history [] w.prepared w.max_evicted
+undecided_dropped w gone s = record {
+  found = s.undecided.found;
+  heap_above = s.undecided.heap_above;
+  delayed_passed = s.undecided.delayed_passed;
+  known = λ p there. prepare_without w.writes.history w.writes.pending p (not_next p there) (s.undecided.known p there);
+}
+  where
+    not_next : (p : ℕ) → (finset.contains w.prepared.heap p || finset.contains w.prepared.delayed p) ≡ true → p ≢ suc (length w.writes.history)
+    not_next p there e =
+        ⊎_elim (λ (h : finset.contains w.prepared.heap p ≡ true). true≢false (sym h ∙ (ap (finset.contains w.prepared.heap) e ∙ gone)))
+        (λ (d : finset.contains w.prepared.delayed p ≡ true). let low = s.undecided.delayed_passed p d in let most = s.history.bounded in absurd (omega arith))
+        (either (finset.contains w.prepared.heap p) (finset.contains w.prepared.delayed p) there)
+
+-- ---- the others
+
+none_logged : (logged : Bool) → logged_part logged [] ≡ []
+none_logged true = refl
+none_logged false = refl
+
+history_dropped : (w : World) → w.writes.logged ≡ false → IsSound w → IsHistory w.opened (with_pending w.writes [] w.writes.logged w.writes.log) w.max_evicted
+history_dropped w not_logged s = record {
+  legal = s.history.legal;
+  grown = s.history.grown;
+  bounded = s.history.bounded;
+  log = s.history.log ∙ (ap (λ (b : Bool). w.writes.history ++ logged_part b w.writes.pending) not_logged ∙ sym (ap (λ (z : List Entry). w.writes.history ++ z) (none_logged w.writes.logged)));
+  rest = inl refl;
+  legal_next = subst IsLegal (sym (append-nil w.writes.history)) s.history.legal;
+  legal_failed = s.history.legal_failed;
+  none_failed = s.history.none_failed;
+  undo_closes = λ p undone. let k = s.history.undo_closes p undone in absurd (true≢false (sym k.1 ∙ not_logged));
+}
+
+stored_dropped : (w : World) → IsNowhere w.writes w.store → IsSound w → IsStored w.writes.history [] w.snapshots w.store w.installed
+stored_dropped w nowhere s =
+    let o = s.versions in record {
+      covered = o.covered;
+      floor = o.floor;
+      next = λ key p value lt there. let k = o.next key p value lt there in absurd (none_there (version_at w.store.memory key p) value (ap (version_at w.store.memory key) k.0 ∙ nowhere key) there);
+      tables = o.tables;
+      last = o.last;
+      failed = o.failed;
+      in_memory = o.in_memory;
+    }
+  where
+    none_there : (x : Option (Option (List ℕ))) (value : Option (List ℕ)) → x ≡ None → x ≡ Some value → ⊥
+    none_there x value none e = let q : None ≡ Some value = sym none ∙ e in absurd (cc)
+
+mine_dropped : (w : World) (p : Participant) (fact : Fact) → not (ends w.writes.history (length w.cache) drop_pending fact) ≡ true → SoIn w p fact → SoPending w (with_pending w.writes [] w.writes.logged w.writes.log) p fact
+mine_dropped w p versions_in_memory left k = absurd (true≢false (sym left))
+mine_dropped w p fact left k = k
+
+pub drops_pending : (w : World) (by : ℕ) (a : Actor) → get_elem? w.actors by ≡ some a → Needs w by a drop_pending → IsSound w → IsSound (done w by (forgets w.writes.history (length w.cache) drop_pending a) drop_pending)
+drops_pending w by a at n s =
+    pending_changes w by a drop_pending [] w.writes.logged w.writes.log at n.0 (history_dropped w n.1 s) (cache_dropped w n.2 s) (undecided_dropped w n.4 s) (stored_dropped w n.3 s)
+    (record { log = s.faults.log; tables = s.faults.tables; not_logged = λ closed. inl refl; stopped = s.faults.stopped })
+    (record { mine = λ p fact left k. mine_dropped w p fact left k; others = λ j p fact ne guard k. others_made w [] w.writes.log w.writes.logged by j p fact n.0 ne guard k }) s

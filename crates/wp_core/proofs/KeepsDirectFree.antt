@@ -1,0 +1,199 @@
+-- Freeing the key of a direct write keeps every part of a sound world.
+use Rattle.std.proofs.Common.{◌≡◌, ◌≢◌, ◌⊎◌, ⊎_elim, inl, inr, ℕ, true, not, true≢false, List, [], ◌∷◌, ◌++◌, length, map, refl, sym, subst, ap, ◌∙◌, Some, None}
+use mathlib.Core.Option.{some}
+use lib.ListN.{get_elem?}
+use Rattle.std.specs.FinSet as words
+use Rattle.std.specs.FinMap as finite
+use Rattle.wp_model.specs.History.{is_undecided, is_changed, name_at, batch_at}
+use Rattle.wp_model.specs.declared.holder.Holder.{Holder}
+use Rattle.wp_model.specs.declared.holder.Holder.TheVariants.{Txn, Client}
+use Rattle.wp_model.specs.LockTables.{LockTables}
+use Rattle.wp_core.specs.Lists.{IsIn}
+use Rattle.wp_core.specs.Views.{Event, claimed, took, locked, told, heard, stopped, found_flushed, found, Fact, passed, in_old_commits, apart, words_stay, versions_in_memory, versions_nowhere, number_in_heap, number_not_in_heap, undecided_at, prior_values, unprepared, direct_free, tables_stay, live_listed, nothing_flushed, frozen_stay, delayed_flag_stays, old_flag_stays}
+use Rattle.wp_core.specs.World.{Transaction, Actor, Participant, World}
+use Rattle.wp_core.specs.World as world
+use Rattle.wp_core.specs.Steps.{free_direct}
+use Rattle.wp_core.specs.Changes.{without_key}
+use Rattle.wp_core.specs.Effects.{done}
+use Rattle.wp_core.specs.Needs.{Needs}
+use Rattle.wp_core.specs.Notes.{forgets, ends}
+use Rattle.wp_core.specs.Sound.Actors.{participants_of, seen_of, learned_of, IsParticipantAt}
+use Rattle.wp_core.specs.Sound.Locks.{Owner, owner_of, Has, Began, IsNameOf, IsDirectOf, IsOwner, AreLocked}
+use Rattle.wp_core.specs.Sound.Pasts.{past_of, AreHolders, IsBoard, AreFaults, AreEdits}
+use Rattle.wp_core.specs.IsSound.{IsSound, participants}
+use Rattle.wp_core.proofs.Frames.{at_map}
+use Rattle.wp_core.proofs.Keyed.{is_word_same, at_removed, else_removed}
+use Rattle.wp_core.proofs.AllParticipants.{mine, mine_now, was, was_apart, still}
+use Rattle.wp_core.proofs.Quiet.{SoIn, kept_part}
+use Rattle.wp_core.proofs.LocksChange.{SoWith, actor_after, actors_after, LocksParts, locks_change}
+
+module _ (w : World) (by : ℕ) (a : Actor) (key : List ℕ) (at : get_elem? w.actors by ≡ some a) (has : a.participant.direct ≡ Some key) (s : IsSound w) where
+  abbrev client : List ℕ
+  client = a.participant.client
+
+  abbrev t : LockTables
+  t = without_key w.locks key
+
+  abbrev p : Participant
+  p = record a.participant { direct = None }
+
+  abbrev b : Actor
+  b = actor_after w by a (free_direct key) p a.learned t
+
+  abbrev before : List (List Owner)
+  before = participants owner_of w
+
+  abbrev after : List (List Owner)
+  after = map (participants_of owner_of) (actors_after w by a (free_direct key) p a.learned t)
+
+  own_before : IsParticipantAt before by 0 (owner_of a.participant)
+  own_before = mine owner_of w.actors by a b at refl
+
+  -- the key was held for the actor's direct write
+  was_held : finite.get w.locks.keys key ≡ Some (Client client)
+  was_held = (s.locks.had by 0 (owner_of a.participant) own_before).direct key has
+
+  -- a key that is held for a transaction stays held
+  txn_still : (k n : List ℕ) → finite.get w.locks.keys k ≡ Some (Txn n) → finite.get t.keys k ≡ Some (Txn n)
+  txn_still k n h = ⊎_elim
+      (λ (q : k ≡ key). let f : Some (Client client) ≡ Some (Txn n) = sym was_held ∙ ap (finite.get w.locks.keys) (sym q) ∙ h in absurd cc)
+      (λ (ne : k ≡ key → ⊥). else_removed w.locks.keys key k ne ∙ h) (is_word_same k key)
+
+  -- what is held was held, and is another key
+  held_before : (k : List ℕ) (holder : Holder) → finite.get t.keys k ≡ Some holder → (k ≡ key → ⊥) × (finite.get w.locks.keys k ≡ Some holder)
+  held_before k holder h = ⊎_elim
+      (λ (q : k ≡ key). let f : None ≡ Some holder = sym (at_removed w.locks.keys key k q) ∙ h in absurd cc)
+      (λ (ne : k ≡ key → ⊥). (ne, sym (else_removed w.locks.keys key k ne) ∙ h)) (is_word_same k key)
+
+  -- another one's direct write is of another key
+  not_theirs : (j i : ℕ) (o : Owner) (k : List ℕ) → ((j ≢ by) ⊎ (i ≢ 0)) → IsParticipantAt before j i o → o.direct ≡ Some k → k ≡ key → ⊥
+  not_theirs j i o k elsewhere there h q =
+      let same = s.locks.apart.direct j i by 0 o (owner_of a.participant) key there own_before (h ∙ ap (λ (z : List ℕ). Some z) q) has in
+      ⊎_elim (λ (ne : j ≢ by). ne same.0) (λ (ne : i ≢ 0). ne same.1) elsewhere
+
+  other_owner : (j i : ℕ) (o : Owner) → ((j ≢ by) ⊎ (i ≢ 0)) → IsParticipantAt before j i o → IsOwner t o
+  other_owner j i o elsewhere there =
+      let k = s.locks.had j i o there in
+      record { names = k.names; keys = λ name x c h held. txn_still c name (k.keys name x c h held); direct = λ c h. else_removed w.locks.keys key c (not_theirs j i o c elsewhere there h) ∙ k.direct c h }
+
+  own_owner : IsOwner t (owner_of p)
+  own_owner =
+      let old = s.locks.had by 0 (owner_of a.participant) own_before in
+      record { names = old.names; keys = λ name x c h held. txn_still c name (old.keys name x c h held); direct = λ c h. absurd cc }
+
+  placed_before : (j i : ℕ) → j ≡ by → i ≡ 0 → IsParticipantAt before j i (owner_of a.participant)
+  placed_before j i q f = subst (λ (n : ℕ). IsParticipantAt before n i (owner_of a.participant)) (sym q) (subst (λ (n : ℕ). IsParticipantAt before by n (owner_of a.participant)) (sym f) own_before)
+
+  own_after : IsParticipantAt after by 0 (owner_of p)
+  own_after = mine_now owner_of w.actors by a b at refl
+
+  placed : (j i : ℕ) → j ≡ by → i ≡ 0 → IsParticipantAt after j i (owner_of p)
+  placed j i q f = subst (λ (n : ℕ). IsParticipantAt after n i (owner_of p)) (sym q) (subst (λ (n : ℕ). IsParticipantAt after by n (owner_of p)) (sym f) own_after)
+
+  had_names : (j i : ℕ) (o : Owner) → IsParticipantAt after j i o → (c : Owner) × IsParticipantAt before j i c × (o.transactions ≡ c.transactions)
+  had_names j i o k = ⊎_elim
+      (λ (g : (j ≡ by) × (i ≡ 0) × (o ≡ owner_of p)). (owner_of a.participant, placed_before j i g.0 g.1, ap (λ (z : Owner). z.transactions) g.2))
+      (λ (g : IsParticipantAt before j i o). (o, g, refl)) (was owner_of w.actors by a b at refl j i o k)
+
+  -- who has a direct write now had it
+  had_direct : (j i : ℕ) (o : Owner) (c : List ℕ) → IsParticipantAt after j i o → o.direct ≡ Some c → IsParticipantAt before j i o
+  had_direct j i o c k h = ⊎_elim
+      (λ (g : (j ≡ by) × (i ≡ 0) × (o ≡ owner_of p)). let f : None ≡ Some c = sym (ap (λ (z : Owner). z.direct) g.2) ∙ h in absurd cc)
+      (λ (g : IsParticipantAt before j i o). g) (was owner_of w.actors by a b at refl j i o k)
+
+  name_still : (n c : List ℕ) → IsNameOf before n c → IsNameOf after n c
+  name_still n c k = ⊎_elim
+      (λ (g : (k.at ≡ by) × (k.place ≡ 0) × (k.owner ≡ owner_of a.participant)). record {
+        at = k.at; place = k.place; owner = owner_of p; transaction = k.transaction;
+        there = placed k.at k.place g.0 g.1;
+        client_is = ap (λ (z : Owner). z.client) (sym g.2) ∙ k.client_is;
+        has = subst (λ (z : Owner). Has z n k.transaction) g.2 k.has;
+        began = subst (λ (z : Owner). Began z.past n) g.2 k.began;
+      })
+      (λ (g : IsParticipantAt after k.at k.place k.owner). record { at = k.at; place = k.place; owner = k.owner; transaction = k.transaction; there = g; client_is = k.client_is; has = k.has; began = k.began })
+      (still owner_of w.actors by a b at refl k.at k.place k.owner k.there)
+
+  direct_still : (k c : List ℕ) → (k ≡ key → ⊥) → IsDirectOf before k c → IsDirectOf after k c
+  direct_still k c ne d = ⊎_elim
+      (λ (g : (d.at ≡ by) × (d.place ≡ 0) × (d.owner ≡ owner_of a.participant)). let f : Some key ≡ Some k = sym has ∙ ap (λ (z : Owner). z.direct) (sym g.2) ∙ d.has in let same : key ≡ k = cc in absurd (ne (sym same)))
+      (λ (g : IsParticipantAt after d.at d.place d.owner). record { at = d.at; place = d.place; owner = d.owner; there = g; client_is = d.client_is; has = d.has; began = d.began })
+      (still owner_of w.actors by a b at refl d.at d.place d.owner d.there)
+
+  locked_part : AreLocked w.writes.history t after
+  locked_part = record {
+    prepared_names = s.locks.prepared_names;
+    prepared_keys = λ q k u h. txn_still k (name_at w.writes.history q) (s.locks.prepared_keys q k u h);
+    had = λ j i o there. ⊎_elim
+        (λ (g : (j ≡ by) × (i ≡ 0) × (o ≡ owner_of p)). subst (IsOwner t) (sym g.2) own_owner)
+        (λ (g : ((j ≢ by) ⊎ (i ≢ 0)) × IsParticipantAt before j i o). other_owner j i o g.0 g.1) (was_apart owner_of w.actors by a b at refl j i o there);
+    apart = record {
+      names = λ j i k l o q n x y here there first second.
+          let u = had_names j i o here in let v = had_names k l q there in
+          s.locks.apart.names j i k l u.0 v.0 n x y u.1 v.1 (ap (λ ts. finite.get ts n) (sym u.2) ∙ first) (ap (λ ts. finite.get ts n) (sym v.2) ∙ second);
+      direct = λ j i k l o q c here there first second. s.locks.apart.direct j i k l o q c (had_direct j i o c here first) (had_direct k l q c there second) first second;
+    };
+    names_had = λ n c h. name_still n c (s.locks.names_had n c h);
+    names_left = s.locks.names_left;
+    keys_live = λ k n h. s.locks.keys_live k n (held_before k (Txn n) h).1;
+    keys_known = λ k n h j i o there x has. let u = had_names j i o there in s.locks.keys_known k n (held_before k (Txn n) h).1 j i u.0 u.1 x (ap (λ ts. finite.get ts n) (sym u.2) ∙ has);
+    keys_direct = λ k c h. let u = held_before k (Client c) h in direct_still k c u.0 (s.locks.keys_direct k c u.1);
+  }
+
+  mine_still : (fact : Fact) → not (ends w.writes.history (length w.cache) (free_direct key) fact) ≡ true → SoIn w a.participant fact → SoWith w t p fact
+  mine_still (passed place pair) left k = k
+  mine_still (in_old_commits place pair) left k = k
+  mine_still (apart place pair) left k = k
+  mine_still (words_stay max cache) left k = k
+  mine_still versions_in_memory left k = k
+  mine_still versions_nowhere left k = k
+  mine_still number_in_heap left k = k
+  mine_still number_not_in_heap left k = k
+  mine_still (undecided_at n q) left k = (k.0, k.1, k.2, λ c h. txn_still c n (k.3 c h))
+  mine_still (prior_values n q batch) left k = k
+  mine_still (unprepared n) left k = k
+  mine_still (direct_free c) left k = absurd (true≢false (sym left))
+  mine_still (tables_stay versions floor) left k = k
+  mine_still (live_listed floor listed) left k = k
+  mine_still nothing_flushed left k = k
+  mine_still (frozen_stay n versions) left k = k
+  mine_still (delayed_flag_stays value) left k = k
+  mine_still (old_flag_stays value) left k = k
+
+  others_still : (j : ℕ) (q : Participant) (fact : Fact) → j ≢ by → IsParticipantAt before j 0 (owner_of q) → SoIn w q fact → SoWith w t q fact
+  others_still j q (passed place pair) ne there k = k
+  others_still j q (in_old_commits place pair) ne there k = k
+  others_still j q (apart place pair) ne there k = k
+  others_still j q (words_stay max cache) ne there k = k
+  others_still j q versions_in_memory ne there k = k
+  others_still j q versions_nowhere ne there k = k
+  others_still j q number_in_heap ne there k = k
+  others_still j q number_not_in_heap ne there k = k
+  others_still j q (undecided_at n m) ne there k = (k.0, k.1, k.2, λ c h. txn_still c n (k.3 c h))
+  others_still j q (prior_values n m batch) ne there k = k
+  others_still j q (unprepared n) ne there k = k
+  others_still j q (direct_free c) ne there k = (k.0, else_removed w.locks.keys key c (not_theirs j 0 (owner_of q) c (inl ne) there k.0) ∙ k.1, k.2)
+  others_still j q (tables_stay versions floor) ne there k = k
+  others_still j q (live_listed floor listed) ne there k = k
+  others_still j q nothing_flushed ne there k = k
+  others_still j q (frozen_stay n versions) ne there k = k
+  others_still j q (delayed_flag_stays value) ne there k = k
+  others_still j q (old_flag_stays value) ne there k = k
+
+  parts : LocksParts w by a (free_direct key) p a.learned t
+  parts = record {
+    seen = s.seen by 0 a.participant.seen (mine seen_of w.actors by a b at refl);
+    learned_part = s.learned by a.learned (at_map learned_of w.actors by a at);
+    own = refl;
+    registered = refl;
+    locks_part = locked_part;
+    holders = let k = kept_part w by a b at (participants_of past_of) (AreHolders w.opened w.writes.history w.locks) refl s.holders in record { names = k.names; keys = λ c name h. k.keys c name (held_before c (Client name) h).1; found = k.found };
+    board = let k = kept_part w by a b at (participants_of past_of) (IsBoard (world.published w) w.locks) refl s.board in record { labels = k.labels; numbers = k.numbers; heard = k.heard };
+    faults = kept_part w by a b at (participants_of past_of) (AreFaults w.writes w.installed.halted) refl s.faults;
+    edits = kept_part w by a b at (participants_of past_of) (AreEdits w.first_edit w.installed) refl s.edits;
+    mine = mine_still;
+    others = others_still;
+  }
+
+pub frees_direct : (w : World) (by : ℕ) (a : Actor) (key : List ℕ) → get_elem? w.actors by ≡ some a → Needs w by a (free_direct key) → IsSound w
+    → IsSound (done w by (forgets w.writes.history (length w.cache) (free_direct key) a) (free_direct key))
+frees_direct w by a key at needs s = locks_change w by a (free_direct key) (p w by a key at needs.1 s) a.learned (t w by a key at needs.1 s) at needs.0 (parts w by a key at needs.1 s) s

@@ -1,0 +1,231 @@
+-- Storing the bound keeps every part of a sound world.
+use Rattle.std.proofs.Common.{◌≡◌, ◌≢◌, ◌⊎◌, ⊎_elim, inl, inr, ℕ, suc, ◌<◌, ◌≤◌, nat_le, le_trans, arith, Bool, true, false, not, ◌||◌, ◌&&◌, true≢false, List, length, map, set, filter, refl, sym, subst, ap, ◌∙◌, Some, None}
+use mathlib.Core.Option.{some}
+use lib.ListN.{get_elem?}
+use Rattle.wp_model.specs.declared.entry.Entry.{Entry}
+use Rattle.wp_core.specs.Lists.{IsIn}
+use Rattle.wp_core.specs.Turns.{Turn, Holds, write_turn, prepared_turn, Holders}
+use Rattle.wp_core.specs.Tables.{Content}
+use Rattle.wp_core.specs.Views.{Fact}
+use Rattle.wp_core.specs.World.{Actor, Participant, World, content_of}
+use Rattle.wp_core.specs.World as world
+use Rattle.wp_core.specs.Steps.{store_max_evicted}
+use Rattle.wp_core.specs.Effects.{done}
+use Rattle.wp_core.specs.Needs.{Needs}
+use Rattle.wp_core.specs.Notes.{forgets, ends}
+use Rattle.wp_core.specs.Sound.Actors.{seen_of, own_of, AreSeen, AreLearned, AreOwned, AreHeld, AreLed, IsIdle, participants_of, learned_of, held_of, role_of}
+use Rattle.wp_core.specs.Sound.Prepared.{AreFlags}
+use Rattle.wp_core.specs.Sound.Snapshots.{registered_of, AreRegistered}
+use Rattle.wp_core.specs.Sound.Locks.{owner_of, AreLocked}
+use Rattle.wp_core.specs.Sound.Pasts.{past_of, AreHolders, IsBoard, AreFaults, AreEdits}
+use Rattle.wp_core.specs.Sound.Reader.{AreReaders, AreJudged, reader_of}
+use Rattle.wp_core.specs.Sound.Views.{IsSo, IsNoted, noter_of, guarded_by}
+use Rattle.wp_core.specs.IsSound.{IsSound, participants}
+use Rattle.wp_core.proofs.Frames.{kept_map, each_map_set, each_set, at_map, in_filter}
+use Rattle.std.proofs.lemmas.Bool.Decides.{nat_tests}
+use Rattle.std.specs.Ordering.{nat_cmp}
+use Rattle.std.specs.declared.cmp.Ordering.TheVariants.{Equal}
+use Rattle.std.specs.Cmp.{nat_cmp_total}
+use Rattle.std.specs.FinSet as finset
+use Rattle.std.specs.FinSet.{nat_cmp-IsAntisymmetric}
+use Rattle.std.specs.FinMap as finite
+use Rattle.wp_core.specs.Cache.{cached}
+use Rattle.wp_core.specs.Reading.{Registration}
+use Rattle.wp_judge.specs.declared.observed.Observed.{Observed}
+use Rattle.wp_core.specs.Views.{passed, in_old_commits, apart, words_stay, versions_in_memory, versions_nowhere, number_in_heap, number_not_in_heap, undecided_at, prior_values, unprepared, direct_free, tables_stay, live_listed, nothing_flushed, frozen_stay, delayed_flag_stays, old_flag_stays}
+use Rattle.wp_core.specs.Changes.{held_with}
+use Rattle.wp_core.specs.World.{with_content}
+use Rattle.wp_model.specs.PreparedTables.{PreparedTables, is_prepared}
+use Rattle.wp_core.specs.Tables.{NoneDelayed, prepared, with_moved}
+use Rattle.wp_core.specs.Sound.History.{IsHistory}
+use Rattle.wp_core.specs.Sound.Prepared.{AreDecided, AreUndecided, AreDelayed, IsPassed}
+use Rattle.wp_core.specs.Sound.Reader.{IsPassedBy, IsReader}
+use Rattle.wp_core.proofs.Changed.{others_hold, holds_changed, have_changed}
+
+-- ---- the moved numbers
+
+same_test : (p : ℕ → Bool) (q x : ℕ) → nat_cmp q x ≡ Equal → p x ≡ p q
+same_test p q x e = ap p (sym (nat_cmp-IsAntisymmetric q x e))
+
+in_heap : (t : PreparedTables) (m p : ℕ) → finset.contains (with_moved t m).heap p ≡ (finset.contains t.heap p && not (nat_le p m))
+in_heap t m p = finset.contains-retain t.heap (λ q. not (nat_le q m)) p (same_test (λ q. not (nat_le q m)) p)
+
+in_delayed : (t : PreparedTables) (m p : ℕ) → finset.contains (with_moved t m).delayed p ≡ (finset.contains t.delayed p || (finset.contains t.heap p && nat_le p m))
+in_delayed t m p = finset.contains-union nat_cmp_total t.delayed (finset.retain t.heap (λ q. nat_le q m)) p ∙ ap (λ (b : Bool). finset.contains t.delayed p || b) (finset.contains-retain t.heap (λ q. nat_le q m) p (same_test (λ q. nat_le q m) p))
+
+split_or : (h d l : Bool) → ((h && not l) || (d || (h && l))) ≡ (h || d)
+split_or true true true = refl
+split_or true true false = refl
+split_or true false true = refl
+split_or true false false = refl
+split_or false true l = refl
+split_or false false l = refl
+
+-- no number comes or goes
+same_prepared : (t : PreparedTables) (m p : ℕ) → is_prepared (with_moved t m) p ≡ is_prepared t p
+same_prepared t m p = (λ i. in_heap t m p i || in_delayed t m p i) ∙ split_or (finset.contains t.heap p) (finset.contains t.delayed p) (nat_le p m)
+
+both : (a b : Bool) → (a && b) ≡ true → (a ≡ true) × (b ≡ true)
+both true b e = (refl, e)
+both false b e = absurd (true≢false (sym e))
+
+either : (a b : Bool) → (a || b) ≡ true → (a ≡ true) ⊎ (b ≡ true)
+either true b e = inl refl
+either false b e = inr e
+
+not_below : (p m : ℕ) → not (nat_le p m) ≡ true → m < p
+not_below p m e = grind (arith, nat_tests)
+
+below : (p m : ℕ) → nat_le p m ≡ true → p ≤ m
+below p m e = grind (arith, nat_tests)
+
+above_is : (p m : ℕ) → m < p → nat_le p m ≡ false
+above_is p m lt = grind (arith, nat_tests)
+
+-- ---- parts
+
+undecided_after : (w : World) (m : ℕ) → w.max_evicted ≤ m → AreUndecided w.writes.history w.writes.pending w.prepared w.max_evicted → AreUndecided w.writes.history w.writes.pending (with_moved w.prepared m) m
+undecided_after w m le u = record {
+  found = λ p open_at. same_prepared w.prepared m p ∙ u.found p open_at;
+  heap_above = λ p there. not_below p m (both (finset.contains w.prepared.heap p) (not (nat_le p m)) (sym (in_heap w.prepared m p) ∙ there)).1;
+  delayed_passed = λ p there. ⊎_elim (λ (d : finset.contains w.prepared.delayed p ≡ true). le_trans (u.delayed_passed p d) le) (λ (d : (finset.contains w.prepared.heap p && nat_le p m) ≡ true). below p m (both (finset.contains w.prepared.heap p) (nat_le p m) d).1)
+      (either (finset.contains w.prepared.delayed p) (finset.contains w.prepared.heap p && nat_le p m) (sym (in_delayed w.prepared m p) ∙ there));
+  known = λ p there. u.known p (sym (same_prepared w.prepared m p) ∙ there);
+}
+
+delayed_after : (w : World) (m : ℕ) → AreDelayed w.writes.history w.prepared w.cache → AreDelayed w.writes.history (with_moved w.prepared m) w.cache
+delayed_after w m d = record { found = λ p c there decided. d.found p c (sym (same_prepared w.prepared m p) ∙ there) decided; commits = d.commits }
+
+decided_after : (w : World) (m : ℕ) → w.max_evicted ≤ m → AreDecided w.writes.history w.cache w.max_evicted w.snapshots → AreDecided w.writes.history w.cache m w.snapshots
+decided_after w m le d = record {
+  found = λ p c decided. ⊎_elim (λ (e : cached w.cache p ≡ Some c). inl e) (λ (e : IsPassed w.max_evicted w.snapshots p c). inr (le_trans e.0 le, e.1)) (d.found p c decided);
+  kept = d.kept;
+}
+
+history_after : (w : World) (m : ℕ) → m ≤ length w.writes.history → IsHistory w.opened w.writes w.max_evicted → IsHistory w.opened w.writes m
+history_after w m le h = record { legal = h.legal; grown = h.grown; bounded = le; log = h.log; rest = h.rest; legal_next = h.legal_next; legal_failed = h.legal_failed; none_failed = h.none_failed; undo_closes = h.undo_closes }
+
+none_moves : (h l : Bool) → (h ≡ true → l ≡ false) → (h && l) ≡ false
+none_moves true l e = e refl
+none_moves false l e = refl
+
+-- where nothing moves, what was not delayed is not
+none_delayed_after : (w : World) (m : ℕ) → ((p : ℕ) → finset.contains w.prepared.heap p ≡ true → m < p) → NoneDelayed w.prepared → NoneDelayed (with_moved w.prepared m)
+none_delayed_after w m none k = ((λ q. in_delayed w.prepared m q ∙ (λ i. k.0 q i || none_moves (finset.contains w.prepared.heap q) (nat_le q m) (λ there. above_is q m (none q there)) i)), k.1)
+
+flags_after : (w : World) (m by : ℕ) → Holds w.holders prepared_turn by → ((w.delayed_flag ≢ 0) ⊎ ((p : ℕ) → finset.contains w.prepared.heap p ≡ true → m < p))
+    → AreFlags w.delayed_flag w.old_flag w.prepared w.snapshots w.holders.prepared w.holders.snapshots → AreFlags w.delayed_flag w.old_flag (with_moved w.prepared m) w.snapshots w.holders.prepared w.holders.snapshots
+flags_after w m by mine may f = record {
+  none_delayed = λ zero_flag. ⊎_elim (λ (ne : w.delayed_flag ≢ 0). absurd (ne zero_flag)) (λ (none : (p : ℕ) → finset.contains w.prepared.heap p ≡ true → m < p). none_delayed_after w m none (f.none_delayed zero_flag)) may;
+  none_kept = f.none_kept;
+  delayed_free = λ free. let q : Some by ≡ None = sym mine ∙ free in absurd (cc);
+  old_free = f.old_free;
+}
+
+-- ---- readers
+
+passed_after : (w : World) (m : ℕ) (p : ℕ) → w.max_evicted ≤ m → IsPassedBy w.writes.history w.max_evicted w.cache p → IsPassedBy w.writes.history m w.cache p
+passed_after w m p le k = record { by = k.by; decided = k.decided; within = le_trans k.within le; gone = k.gone }
+
+reader_after : (w : World) (m : ℕ) (rs : List Registration) (r : Observed) → w.max_evicted ≤ m → IsReader w.writes.history w.max_evicted w.cache rs r → IsReader w.writes.history m w.cache rs r
+reader_after w m rs r le k = record {
+  registered_at = k.registered_at;
+  in_order = k.in_order;
+  knows = λ low. let o = k.knows low in record {
+    version = o.version;
+    first_word = λ word e another is. passed_after w m r.version le (o.first_word word e another is);
+    first_max = λ n e. le_trans (o.first_max n e) le;
+    not_in_prepared = o.not_in_prepared;
+    second_word = λ word e another. passed_after w m r.version le (o.second_word word e another);
+    second_max = o.second_max;
+  };
+}
+
+-- ---- notes
+
+-- a fact that the store of the bound preserves
+IsPreserved : Fact → Type 0
+IsPreserved (words_stay max cache) = ⊥
+IsPreserved other = Unit {0}
+
+so_after : (w : World) (m : ℕ) (a : Participant) (fact : Fact) → w.max_evicted ≤ m → m ≤ length w.writes.history → IsPreserved fact → IsSo w.delayed_flag w.old_flag w.max_evicted w.cache w.writes w.prepared w.snapshots w.store w.locks w.installed a fact
+    → IsSo w.delayed_flag w.old_flag m w.cache w.writes (with_moved w.prepared m) w.snapshots w.store w.locks w.installed a fact
+unfolding IsPreserved
+so_after w m a (passed place pair) le low stays k = record { place_within = k.place_within; there = k.there; published_by = k.published_by; so = le_trans k.so le }
+so_after w m a (in_old_commits place pair) le low stays k = k
+so_after w m a (apart place pair) le low stays k = record { place_within = k.place_within; there = k.there; published_by = k.published_by; so = ⊎_elim (λ (e : is_prepared w.prepared pair.number ≡ false). inl (same_prepared w.prepared m pair.number ∙ e)) (λ (e : finite.get w.prepared.delayed_commits pair.number ≡ Some pair.decision). inr e) k.so }
+so_after w m a (words_stay max cache) le low stays k = absurd stays
+so_after w m a versions_in_memory le low stays k = k
+so_after w m a versions_nowhere le low stays k = k
+so_after w m a number_in_heap le low stays k = let n : ℕ = suc (length w.writes.history) in in_heap w.prepared m n ∙ (λ i. k i && not (above_is n m (omega arith) i))
+so_after w m a number_not_in_heap le low stays k = let n : ℕ = suc (length w.writes.history) in in_heap w.prepared m n ∙ (λ i. k i && not (nat_le n m))
+so_after w m a (undecided_at name p) le low stays k = k
+so_after w m a (prior_values name p batch) le low stays k = k
+so_after w m a (unprepared name) le low stays k = k
+so_after w m a (direct_free key) le low stays k = k
+so_after w m a (tables_stay versions floor) le low stays k = k
+so_after w m a (live_listed floor listed) le low stays k = k
+so_after w m a nothing_flushed le low stays k = k
+so_after w m a (frozen_stay n versions) le low stays k = k
+so_after w m a (delayed_flag_stays value) le low stays k = k
+so_after w m a (old_flag_stays value) le low stays k = k
+
+mine_preserved : (history : List Entry) (words m : ℕ) (fact : Fact) → not (ends history words (store_max_evicted m) fact) ≡ true → IsPreserved fact
+unfolding IsPreserved
+mine_preserved history words m (words_stay max cache) kept_note = absurd (true≢false (sym kept_note))
+mine_preserved history words m fact kept_note = tt
+
+theirs_preserved : (h : Holders) (by j : ℕ) (fact : Fact) → Holds h write_turn by → j ≢ by → ((turn : Turn) → guarded_by fact ≡ Some turn → Holds h turn j) → IsPreserved fact
+unfolding IsPreserved
+theirs_preserved h by j (words_stay max cache) mine ne guards = let theirs : Holds h write_turn j = guards write_turn refl in let q : Some j ≡ Some by = sym theirs ∙ mine in ne (cc)
+theirs_preserved h by j fact mine ne guards = tt
+
+-- ---- all parts
+
+pub stores_max : (w : World) (by : ℕ) (a : Actor) (m : ℕ) → get_elem? w.actors by ≡ some a → Needs w by a (store_max_evicted m) → IsSound w → IsSound (done w by (forgets w.writes.history (length w.cache) (store_max_evicted m) a) (store_max_evicted m))
+stores_max w by a m at n s =
+    let e : Content = prepared (with_moved w.prepared m) in
+    let c : Actor = forgets w.writes.history (length w.cache) (store_max_evicted m) a in
+    let b : Actor = record c { held = held_with c.held e } in
+    let sn : map (participants_of seen_of) (set w.actors by b) ≡ participants seen_of w = kept_map (participants_of seen_of) w.actors by a b at refl in
+    let ow : map (participants_of own_of) (set w.actors by b) ≡ participants own_of w = kept_map (participants_of own_of) w.actors by a b at refl in
+    let rg : map (participants_of registered_of) (set w.actors by b) ≡ participants registered_of w = kept_map (participants_of registered_of) w.actors by a b at refl in
+    let os : map (participants_of owner_of) (set w.actors by b) ≡ participants owner_of w = kept_map (participants_of owner_of) w.actors by a b at refl in
+    let ps : map (participants_of past_of) (set w.actors by b) ≡ participants past_of w = kept_map (participants_of past_of) w.actors by a b at refl in
+    let ts : map learned_of (set w.actors by b) ≡ map learned_of w.actors = kept_map learned_of w.actors by a b at refl in
+    let ss : map role_of (set w.actors by b) ≡ map role_of w.actors = kept_map role_of w.actors by a b at refl in
+    let rs : map reader_of (set w.actors by b) ≡ map reader_of w.actors = kept_map reader_of w.actors by a b at refl in
+    record {
+      history = history_after w m n.3 s.history;
+      seen = subst (AreSeen w.writes.history) (sym sn) s.seen;
+      learned = subst (AreLearned w.writes.history) (sym ts) s.learned;
+      owned = subst (AreOwned w.opened w.writes.history) (sym ow) s.owned;
+      cache = s.cache;
+      decided = decided_after w m n.2 s.decided;
+      undecided = undecided_after w m n.2 s.undecided;
+      delayed = delayed_after w m s.delayed;
+      registrations = subst (AreRegistered w.writes.history w.snapshots) (sym rg) s.registrations;
+      flags = flags_after w m by n.1 n.4 s.flags;
+      versions = s.versions;
+      flushed = s.flushed;
+      locks = subst (AreLocked w.writes.history w.locks) (sym os) s.locks;
+      holders = subst (AreHolders w.opened w.writes.history w.locks) (sym ps) s.holders;
+      board = subst (IsBoard (world.published w) w.locks) (sym ps) s.board;
+      faults = subst (AreFaults w.writes w.installed.halted) (sym ps) s.faults;
+      edits = subst (AreEdits w.first_edit w.installed) (sym ps) s.edits;
+      pending = s.pending;
+      held = each_map_set held_of (AreHeld w.holders (content_of (with_content w e))) w.actors by b
+          (holds_changed w e by a.held (s.held by a.held (at_map held_of w.actors by a at)))
+          (λ j x ne there. others_hold w e by j x n.1 ne (s.held j x there));
+      have = have_changed w.holders e by w.actors a b at refl s.have;
+      readers = subst (AreReaders w.writes.history m w.cache) (sym rs) (λ j x there r is. reader_after w m x.0 r n.2 (s.readers j x there r is));
+      judged = subst (AreJudged w.writes.history) (sym rs) s.judged;
+      noted = each_map_set noter_of (λ j x. (fact : Fact) → IsIn fact x.1 → IsNoted w.holders (IsSo w.delayed_flag w.old_flag m w.cache w.writes (with_moved w.prepared m) w.snapshots w.store w.locks w.installed) j x fact) w.actors by b
+          (λ fact there. let k = in_filter (λ (f : Fact). not (ends w.writes.history (length w.cache) (store_max_evicted m) f)) fact a.notes there in let o = s.noted by (noter_of a) (at_map noter_of w.actors by a at) fact k.0 in
+          record { guarded = o.guarded; is_so = so_after w m a.participant fact n.2 n.3 (mine_preserved w.writes.history (length w.cache) m fact k.1) o.is_so })
+          (λ j x ne there fact k. let o = s.noted j x there fact k in record { guarded = o.guarded; is_so = so_after w m x.0 fact n.2 n.3 (theirs_preserved w.holders by j fact n.0 ne o.guarded) o.is_so });
+      led = subst AreLed (sym ss) s.led;
+      idle = each_set (λ j x. x.live ≡ false → IsIdle x) w.actors by b
+          (λ dead. let i = s.idle by a at dead in record { participant = i.participant; held = ap (λ (z : List Content). held_with z e) i.held; reading = i.reading; notes = ap (λ (z : List Fact). filter (λ f. not (ends w.writes.history (length w.cache) (store_max_evicted m) f)) z) i.notes })
+          (λ j x ne there. s.idle j x there);
+    }

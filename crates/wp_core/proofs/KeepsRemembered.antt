@@ -1,0 +1,247 @@
+-- An actor that only remembers what it found keeps every part of a sound world.
+use Rattle.std.proofs.Common.{◌≡◌, ◌⊎◌, ⊎_elim, inl, inr, ℕ, ◌≤◌, Bool, true, false, not, List, [], ◌∷◌, ◌++◌, length, length-append, zero, suc, filter, map, set, refl, sym, subst, ap, ◌∙◌, arith, Option, Some, None, is_some, take}
+use Rattle.std.proofs.Math.Seq.{take-length}
+use mathlib.Core.Option.{some, some-injective, some-ne-none}
+use lib.ListN.{get_elem?}
+use Rattle.std.specs.FinMap as finite
+use Rattle.wp_model.specs.declared.entry.Entry.{Entry}
+use Rattle.wp_model.specs.History.{named}
+use Rattle.wp_model.specs.declared.holder.Holder.{Holder}
+use Rattle.wp_model.specs.declared.holder.Holder.TheVariants.{Txn, Client}
+use Rattle.wp_core.specs.Lists.{Each, IsIn}
+use Rattle.wp_core.specs.Turns.{Turn, write_turn, locks_turn, tables_turn, Holds}
+use Rattle.wp_core.specs.Tables.{Content}
+use Rattle.wp_core.specs.Views.{Account, own, another, prepare_at, Event, claimed, took, locked, told, heard, stopped, found_flushed, found, Fact, passed, in_old_commits, apart, words_stay, versions_in_memory, versions_nowhere, number_in_heap, number_not_in_heap, undecided_at, prior_values, unprepared, direct_free, tables_stay, live_listed, nothing_flushed, frozen_stay, delayed_flag_stays, old_flag_stays}
+use Rattle.wp_core.specs.World.{Actor, Participant, World, content_of}
+use Rattle.wp_core.specs.World as world
+use Rattle.wp_core.specs.Steps.{Step, find_log_closed, find_flushed, find_holder, hear}
+use Rattle.wp_core.specs.Changes.{put, remembers}
+use Rattle.wp_core.specs.Effects.{done}
+use Rattle.wp_core.specs.Needs.{Needs}
+use Rattle.wp_core.specs.Conditions.{Accounts, IsSelf}
+use Rattle.wp_core.specs.Notes.{forgets, ends}
+use Rattle.wp_core.specs.Sound.Actors.{seen_of, own_of, StartsWith, AreSeen, AreLearned, AreOwned, AreHeld, HoldersHave, AreLed, IsIdle, participants_of, learned_of, held_of, role_of, IsParticipantAt}
+use Rattle.wp_core.specs.Sound.Snapshots.{registered_of, AreRegistered}
+use Rattle.wp_core.specs.Sound.Locks.{Owner, owner_of, Began}
+use Rattle.wp_core.specs.Sound.Pasts.{past_of, IsPast, Makes, HasDone, IsAccounted, AreHolders, IsBoard, AreFaults, AreEdits, WasInstalled}
+use Rattle.wp_core.specs.Sound.Reader.{AreReaders, AreJudged, reader_of}
+use Rattle.wp_core.specs.Sound.Views.{IsSo, IsNoted, noter_of}
+use Rattle.wp_core.specs.IsSound.{IsSound, participants}
+use Rattle.wp_core.proofs.Frames.{kept_map, each_map_set, each_set, at_map, in_filter}
+use Rattle.wp_core.proofs.AllParticipants.{mine}
+use Rattle.wp_core.proofs.PastsGrow.{in_front}
+use Rattle.wp_core.proofs.OwnersStay.{same_transactions, locked_still}
+use Rattle.wp_core.proofs.Quiet.{SoIn, holder_lives}
+use Rattle.wp_core.proofs.Remembers.{IsQuiet, holders_more, board_more, faults_more, edits_more}
+
+-- ---- what is noted
+
+-- no fact speaks of a past
+so_past : (w : World) (a : Participant) (past : List Event) (fact : Fact) → SoIn w a fact → SoIn w (record a { past = past }) fact
+so_past w a past (passed place pair) k = k
+so_past w a past (in_old_commits place pair) k = k
+so_past w a past (apart place pair) k = k
+so_past w a past (words_stay max cache) k = k
+so_past w a past versions_in_memory k = k
+so_past w a past versions_nowhere k = k
+so_past w a past number_in_heap k = k
+so_past w a past number_not_in_heap k = k
+so_past w a past (undecided_at name p) k = k
+so_past w a past (prior_values name p batch) k = k
+so_past w a past (unprepared name) k = k
+so_past w a past (direct_free key) k = k
+so_past w a past (tables_stay versions floor) k = k
+so_past w a past (live_listed floor listed) k = k
+so_past w a past nothing_flushed k = k
+so_past w a past (frozen_stay n versions) k = k
+so_past w a past (delayed_flag_stays value) k = k
+so_past w a past (old_flag_stays value) k = k
+
+-- ---- all parts
+
+-- what the event has to meet, by its kind
+pub record MayRemember (w : World) (by : ℕ) (e : Event) : Type 0 where
+  pub quiet : IsQuiet e
+  pub accounted : (key : Option (List ℕ)) (holder : Holder) (seen : ℕ) (account : Account) → e ≡ found key holder seen account → IsAccounted w.writes.history (participants past_of w) by 0 key holder seen account
+  pub labelled : (label : List ℕ) (n : ℕ) → (e ≡ told label n) ⊎ (e ≡ heard label n) → is_some (finite.get w.locks.labels label) ≡ true
+  pub was_told : (label : List ℕ) (n : ℕ) → e ≡ heard label n → IsPast (participants past_of w) (told label n)
+  pub stopped_at : (n : ℕ) → e ≡ stopped n → (w.writes.closed ≡ true) × (n ≡ length w.writes.history)
+  pub was_installed : (n : ℕ) → e ≡ found_flushed n → WasInstalled w.first_edit (participants past_of w) n
+
+pub remembering : (w : World) (by : ℕ) (a : Actor) (e : Event) (step : Step) → get_elem? w.actors by ≡ some a → (a.live ≡ false → ⊥) → MayRemember w by e → IsSound w
+    → IsSound (put w by (remembers (forgets w.writes.history (length w.cache) step a) e))
+remembering w by a e step at live may s =
+    let b : Actor = remembers (forgets w.writes.history (length w.cache) step a) e in
+    let sn : map (participants_of seen_of) (set w.actors by b) ≡ participants seen_of w = kept_map (participants_of seen_of) w.actors by a b at refl in
+    let ow : map (participants_of own_of) (set w.actors by b) ≡ participants own_of w = kept_map (participants_of own_of) w.actors by a b at refl in
+    let rg : map (participants_of registered_of) (set w.actors by b) ≡ participants registered_of w = kept_map (participants_of registered_of) w.actors by a b at refl in
+    let ts : map learned_of (set w.actors by b) ≡ map learned_of w.actors = kept_map learned_of w.actors by a b at refl in
+    let hs : map held_of (set w.actors by b) ≡ map held_of w.actors = kept_map held_of w.actors by a b at refl in
+    let ss : map role_of (set w.actors by b) ≡ map role_of w.actors = kept_map role_of w.actors by a b at refl in
+    let rs : map reader_of (set w.actors by b) ≡ map reader_of w.actors = kept_map reader_of w.actors by a b at refl in
+    record {
+      history = s.history;
+      seen = subst (AreSeen w.writes.history) (sym sn) s.seen;
+      learned = subst (AreLearned w.writes.history) (sym ts) s.learned;
+      owned = subst (AreOwned w.opened w.writes.history) (sym ow) s.owned;
+      cache = s.cache;
+      decided = s.decided;
+      undecided = s.undecided;
+      delayed = s.delayed;
+      registrations = subst (AreRegistered w.writes.history w.snapshots) (sym rg) s.registrations;
+      flags = s.flags;
+      versions = s.versions;
+      flushed = s.flushed;
+      locks = locked_still w.actors by a b at refl (same_transactions (owner_of a.participant) (a.participant.past ++ e ∷ []) (λ x k. in_front x a.participant.past (e ∷ []) k)) w.writes.history w.locks s.locks;
+      holders = holders_more w.actors by a b e at refl refl w.opened w.writes.history w.locks may.accounted s.holders;
+      board = board_more w.actors by a b e at refl refl (world.published w) w.locks may.labelled may.was_told s.board;
+      faults = faults_more w.actors by a b e at refl refl w.writes w.installed.halted may.quiet may.stopped_at s.faults;
+      edits = edits_more w.actors by a b e at refl refl w.first_edit w.installed may.quiet may.was_installed s.edits;
+      pending = s.pending;
+      held = subst (Each (AreHeld w.holders (content_of w))) (sym hs) s.held;
+      have = subst (HoldersHave w.holders) (sym hs) s.have;
+      readers = subst (AreReaders w.writes.history w.max_evicted w.cache) (sym rs) s.readers;
+      judged = subst (AreJudged w.writes.history) (sym rs) s.judged;
+      noted = each_map_set noter_of (λ j x. (fact : Fact) → IsIn fact x.1 → IsNoted w.holders (SoIn w) j x fact) w.actors by b
+          (λ fact there. let k = in_filter (λ (f : Fact). not (ends w.writes.history (length w.cache) step f)) fact a.notes there in let o = s.noted by (noter_of a) (at_map noter_of w.actors by a at) fact k.0 in
+          record { guarded = o.guarded; is_so = so_past w a.participant (a.participant.past ++ e ∷ []) fact o.is_so })
+          (λ j x ne there. s.noted j x there);
+      led = subst AreLed (sym ss) s.led;
+      idle = each_set (λ j x. x.live ≡ false → IsIdle x) w.actors by b (λ dead. absurd (live dead)) (λ j x ne there. s.idle j x there);
+    }
+
+-- ---- the four steps
+
+no_quarrel : (w : World) (by : ℕ) (n : ℕ) → (w.writes.closed ≡ true) × (n ≡ length w.writes.history) → MayRemember w by (stopped n)
+no_quarrel w by n is = record {
+  quiet = record { log = refl; tables = refl; due = λ m. refl };
+  accounted = λ key holder seen account q. absurd cc;
+  labelled = λ label m q. absurd (⊎_elim (λ (r : stopped n ≡ told label m). cc) (λ (r : stopped n ≡ heard label m). cc) q);
+  was_told = λ label m q. absurd cc;
+  stopped_at = λ m q. let r : n ≡ m = cc in subst (λ (z : ℕ). (w.writes.closed ≡ true) × (z ≡ length w.writes.history)) r is;
+  was_installed = λ m q. absurd cc;
+}
+
+pub finds_log_closed : (w : World) (by : ℕ) (a : Actor) → get_elem? w.actors by ≡ some a → Needs w by a find_log_closed → IsSound w
+    → IsSound (done w by (forgets w.writes.history (length w.cache) find_log_closed a) find_log_closed)
+finds_log_closed w by a at n s = remembering w by a (stopped (world.published w)) find_log_closed at (holder_lives w by a write_turn at n.0 s) (no_quarrel w by (world.published w) (n.1, refl)) s
+
+-- whether an event is that one, by its kind and what it has
+abbrev pub at_number : Event → ℕ
+at_number (stopped n) = n
+at_number (found_flushed n) = n
+at_number (heard label n) = n
+at_number other = 0
+
+abbrev pub at_label : Event → List ℕ
+at_label (heard label n) = label
+at_label (told label n) = label
+at_label other = []
+
+pub finds_flushed : (w : World) (by : ℕ) (a : Actor) → get_elem? w.actors by ≡ some a → Needs w by a find_flushed → IsSound w
+    → IsSound (done w by (forgets w.writes.history (length w.cache) find_flushed a) find_flushed)
+finds_flushed w by a at n s =
+    let e = found_flushed w.installed.last.flushed in
+    remembering w by a e find_flushed at (holder_lives w by a tables_turn at n s) (record {
+      quiet = record { log = refl; tables = refl; due = λ m. refl };
+      accounted = λ key holder seen account q. absurd cc;
+      labelled = λ label m q. absurd (⊎_elim (λ (r : e ≡ told label m). cc) (λ (r : e ≡ heard label m). cc) q);
+      was_told = λ label m q. absurd cc;
+      stopped_at = λ m q. absurd cc;
+      was_installed = λ m q. subst (WasInstalled w.first_edit (participants past_of w)) (ap at_number q) s.edits.last;
+    }) s
+
+pub hears : (w : World) (by : ℕ) (a : Actor) (label : List ℕ) (n : ℕ) → get_elem? w.actors by ≡ some a → Needs w by a (hear label n) → IsSound w
+    → IsSound (done w by (forgets w.writes.history (length w.cache) (hear label n) a) (hear label n))
+hears w by a label n at needs s =
+    remembering w by a (heard label n) (hear label n) at (holder_lives w by a locks_turn at needs.0 s) (record {
+      quiet = record { log = refl; tables = refl; due = λ m. refl };
+      accounted = λ key holder seen account q. absurd cc;
+      labelled = λ other m q. ⊎_elim
+          (λ (r : heard label n ≡ told other m). absurd cc)
+          (λ (r : heard label n ≡ heard other m). let there : is_some (finite.get w.locks.labels label) ≡ true = ap is_some needs.1 in subst (λ (l : List ℕ). is_some (finite.get w.locks.labels l) ≡ true) (ap at_label r) there) q;
+      was_told = λ other m r. subst (λ (l : List ℕ). IsPast (participants past_of w) (told l m)) (ap at_label r) (subst (λ (z : ℕ). IsPast (participants past_of w) (told label z)) (ap at_number r) (s.board.numbers label n needs.1).0);
+      stopped_at = λ m q. absurd cc;
+      was_installed = λ m q. absurd cc;
+    }) s
+
+-- ---- who is found
+
+pub from_map : {A B : Type 0} (f : A → B) (xs : List A) (i : ℕ) (y : B) → get_elem? (map f xs) i ≡ some y → (x : A) × (get_elem? xs i ≡ some x) × (f x ≡ y)
+from_map f [] i y e = absurd (some-ne-none y (sym e))
+from_map f (x ∷ xs) zero y e = (x, refl, some-injective (f x) y e)
+from_map f (x ∷ xs) (suc i) y e = from_map f xs i y e
+
+-- the past of an owner is one of the pasts
+past_there : (xs : List Actor) (j i : ℕ) (o : Owner) → IsParticipantAt (map (participants_of owner_of) xs) j i o → IsParticipantAt (map (participants_of past_of) xs) j i o.past
+past_there xs j i o k =
+    let x = from_map (participants_of owner_of) xs j k.0 k.1 in
+    let p = from_map owner_of (x.0.participant ∷ x.0.joined) i o (ap (λ (z : List Owner). get_elem? z i) x.2 ∙ k.2) in
+    (participants_of past_of x.0, at_map (participants_of past_of) xs j x.0 x.1, at_map past_of (x.0.participant ∷ x.0.joined) i p.0 p.1 ∙ ap (λ (z : Owner). some z.past) p.2)
+
+begun_by : (key : Option (List ℕ)) (name : List ℕ) (past : List Event) → Began past name → (e : Event) × Makes e key (Txn name) × IsIn e past
+begun_by key name past (inl k) = (claimed name, refl, k)
+begun_by key name past (inr k) = (took name, refl, k)
+
+-- one that has the name claimed or took it, and one that has a direct write of the key locked it
+self_made : (w : World) (j i : ℕ) (o : Owner) (key : Option (List ℕ)) (holder : Holder) → IsSound w → IsParticipantAt (participants owner_of w) j i o → IsSelf o key holder → (e : Event) × Makes e key holder × HasDone (participants past_of w) j i e
+self_made w j i o key (Txn name) s there is =
+    let live = (s.locks.had j i o there).names name is.0 is.1 in
+    let had = s.locks.names_had name o.client live in
+    let same = s.locks.apart.names j i had.at had.place o had.owner name is.0 had.transaction there had.there is.1 had.has in
+    let made = begun_by key name had.owner.past had.began in
+    (made.0, made.1, subst (λ (n : ℕ). HasDone (participants past_of w) n i made.0) (sym same.0)
+        (subst (λ (n : ℕ). HasDone (participants past_of w) had.at n made.0) (sym same.1) (had.owner.past, past_there w.actors had.at had.place had.owner had.there, made.2)))
+self_made w j i o (Some key) (Client client) s there is =
+    let held = (s.locks.had j i o there).direct key is.1 in
+    let had = s.locks.keys_direct key o.client held in
+    let same = s.locks.apart.direct j i had.at had.place o had.owner key there had.there is.1 had.has in
+    let e = locked key (Client client) in
+    let there_too = subst (λ (c : List ℕ). IsIn (locked key (Client c)) had.owner.past) is.0 had.began in
+    (e, (refl, refl), subst (λ (n : ℕ). HasDone (participants past_of w) n i e) (sym same.0)
+        (subst (λ (n : ℕ). HasDone (participants past_of w) had.at n e) (sym same.1) (had.owner.past, past_there w.actors had.at had.place had.owner had.there, there_too)))
+self_made w j i o None (Client client) s there is = absurd is
+
+accounts : (w : World) (by : ℕ) (a : Actor) (key : Option (List ℕ)) (holder : Holder) (account : Account) → get_elem? w.actors by ≡ some a → IsSound w → Accounts w by a key holder account → IsAccounted w.writes.history (participants past_of w) by 0 key holder (length a.participant.seen) account
+accounts w by a key holder own at s k = self_made w by 0 (owner_of a.participant) key holder s (mine owner_of w.actors by a a at refl) k
+accounts w by a key holder another at s k =
+    let made = self_made w k.at k.place k.participant key holder s k.there k.is in (k.at, k.place, made.0, k.apart, made.1, made.2)
+accounts w by a key (Txn name) (prepare_at n) at s k =
+    let seen = s.seen by 0 a.participant.seen (mine seen_of w.actors by a a at refl) in
+    let few : length a.participant.seen ≤ length w.writes.history = rw seen.1 (rw (length-append a.participant.seen seen.0) (omega arith)) in
+    let whole : take n w.writes.history ≡ w.writes.history = ap (λ (m : ℕ). take m w.writes.history) k.0 ∙ take-length w.writes.history in
+    (subst (λ (m : ℕ). length a.participant.seen ≤ m) (sym k.0) few, subst (λ (m : ℕ). m ≤ length w.writes.history) (sym k.0) (omega arith), ap (λ (h : List Entry). is_some (named h name)) whole ∙ k.1)
+accounts w by a key (Client client) (prepare_at n) at s k = absurd k
+
+abbrev key_in : Event → Option (List ℕ)
+key_in (found key holder seen account) = key
+key_in other = None
+
+abbrev holder_in : Event → Holder
+holder_in (found key holder seen account) = holder
+holder_in other = Txn []
+
+abbrev account_in : Event → Account
+account_in (found key holder seen account) = account
+account_in other = own
+
+abbrev seen_in : Event → ℕ
+seen_in (found key holder seen account) = seen
+seen_in other = 0
+
+pub finds_holder : (w : World) (by : ℕ) (a : Actor) (key : Option (List ℕ)) (holder : Holder) (account : Account) → get_elem? w.actors by ≡ some a → Needs w by a (find_holder key holder account) → IsSound w
+    → IsSound (done w by (forgets w.writes.history (length w.cache) (find_holder key holder account) a) (find_holder key holder account))
+finds_holder w by a key holder account at needs s =
+    let seen = length a.participant.seen in
+    let e = found key holder seen account in
+    let Is : Option (List ℕ) → Holder → ℕ → Account → Type 0 = IsAccounted w.writes.history (participants past_of w) by 0 in
+    remembering w by a e (find_holder key holder account) at (holder_lives w by a locks_turn at needs.0 s) (record {
+      quiet = record { log = refl; tables = refl; due = λ m. refl };
+      accounted = λ k h n c q.
+          subst (λ (z : Option (List ℕ)). Is z h n c) (ap key_in q) (subst (λ (z : Holder). Is key z n c) (ap holder_in q)
+          (subst (λ (z : ℕ). Is key holder z c) (ap seen_in q) (subst (λ (z : Account). Is key holder seen z) (ap account_in q) (accounts w by a key holder account at s needs.2))));
+      labelled = λ label m q. absurd (⊎_elim (λ (r : e ≡ told label m). cc) (λ (r : e ≡ heard label m). cc) q);
+      was_told = λ label m q. absurd cc;
+      stopped_at = λ m q. absurd cc;
+      was_installed = λ m q. absurd cc;
+    }) s

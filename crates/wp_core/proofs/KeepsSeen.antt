@@ -1,0 +1,93 @@
+-- A load of the published number keeps every part of a sound world.
+use Rattle.std.proofs.Common.{◌≡◌, ℕ, false, map, set, sym, subst}
+use mathlib.Core.Option.{some}
+use lib.ListN.{get_elem?}
+use Rattle.wp_core.specs.Lists.{Each, IsIn}
+use Rattle.wp_core.specs.Views.{Fact}
+use Rattle.wp_core.specs.World.{Actor, Participant, World, content_of}
+use Rattle.wp_core.specs.Sound.Actors.{seen_of, own_of, AreOwned, AreHeld, HoldersHave, AreLed, IsIdle, participants_of, learned_of, held_of, role_of}
+use Rattle.wp_core.specs.Sound.Snapshots.{registered_of, AreRegistered}
+use Rattle.wp_core.specs.Sound.Locks.{owner_of, AreLocked}
+use Rattle.wp_core.specs.Sound.Pasts.{past_of, AreHolders, IsBoard, AreFaults, AreEdits}
+use Rattle.wp_core.specs.Sound.Reader.{reader_of}
+use Rattle.wp_core.specs.Sound.Views.{IsSo, IsNoted, noter_of}
+use Rattle.wp_core.specs.World as world
+use Rattle.wp_core.specs.IsSound.{IsSound, participants}
+use Rattle.wp_core.proofs.Frames.{kept_map, each_map_set, each_set, at_map}
+use Rattle.std.proofs.Common.{List, [], refl, ap, append-nil, filter, not, length}
+use Rattle.wp_model.specs.declared.entry.Entry.{Entry}
+use Rattle.wp_core.specs.Views.{passed, in_old_commits, apart, words_stay, versions_in_memory, versions_nowhere, number_in_heap, number_not_in_heap, undecided_at, prior_values, unprepared, direct_free, tables_stay, live_listed, nothing_flushed, frozen_stay, delayed_flag_stays, old_flag_stays}
+use Rattle.wp_core.specs.Steps.{load_published}
+use Rattle.wp_core.specs.Changes.{sees}
+use Rattle.wp_core.specs.Effects.{done}
+use Rattle.wp_core.specs.Notes.{forgets, ends}
+use Rattle.wp_core.specs.Sound.Actors.{StartsWith}
+use Rattle.wp_core.specs.Sound.Reader.{AreReaders, AreJudged}
+use Rattle.wp_core.proofs.Participants.{each_person_set}
+use Rattle.wp_core.proofs.Frames.{in_filter}
+
+-- no fact speaks of what was seen
+so_after : (w : World) (a : Participant) (fact : Fact) → IsSo w.delayed_flag w.old_flag w.max_evicted w.cache w.writes w.prepared w.snapshots w.store w.locks w.installed a fact → IsSo w.delayed_flag w.old_flag w.max_evicted w.cache w.writes w.prepared w.snapshots w.store w.locks w.installed (record a { seen = w.writes.history }) fact
+so_after w a (passed place pair) k = k
+so_after w a (in_old_commits place pair) k = k
+so_after w a (apart place pair) k = k
+so_after w a (words_stay max cache) k = k
+so_after w a versions_in_memory k = k
+so_after w a versions_nowhere k = k
+so_after w a number_in_heap k = k
+so_after w a number_not_in_heap k = k
+so_after w a (undecided_at name p) k = k
+so_after w a (prior_values name p batch) k = k
+so_after w a (unprepared name) k = k
+so_after w a (direct_free key) k = k
+so_after w a (tables_stay versions floor) k = k
+so_after w a (live_listed floor listed) k = k
+so_after w a nothing_flushed k = k
+so_after w a (frozen_stay n versions) k = k
+so_after w a (delayed_flag_stays value) k = k
+so_after w a (old_flag_stays value) k = k
+
+whole : (history : List Entry) → StartsWith history history
+whole history = ([], sym (append-nil history))
+
+pub loads_published : (w : World) (by : ℕ) (a : Actor) → get_elem? w.actors by ≡ some a → IsSound w → IsSound (done w by (forgets w.writes.history (length w.cache) load_published a) load_published)
+loads_published w by a at s =
+    let b : Actor = sees w.writes.history (forgets w.writes.history (length w.cache) load_published a) in
+    let ow : map (participants_of own_of) (set w.actors by b) ≡ participants own_of w = kept_map (participants_of own_of) w.actors by a b at refl in
+    let rg : map (participants_of registered_of) (set w.actors by b) ≡ participants registered_of w = kept_map (participants_of registered_of) w.actors by a b at refl in
+    let os : map (participants_of owner_of) (set w.actors by b) ≡ participants owner_of w = kept_map (participants_of owner_of) w.actors by a b at refl in
+    let ps : map (participants_of past_of) (set w.actors by b) ≡ participants past_of w = kept_map (participants_of past_of) w.actors by a b at refl in
+    let hs : map held_of (set w.actors by b) ≡ map held_of w.actors = kept_map held_of w.actors by a b at refl in
+    let ss : map role_of (set w.actors by b) ≡ map role_of w.actors = kept_map role_of w.actors by a b at refl in
+    let rs : map reader_of (set w.actors by b) ≡ map reader_of w.actors = kept_map reader_of w.actors by a b at refl in
+    record {
+      history = s.history;
+      seen = each_person_set seen_of (StartsWith w.writes.history) w.actors by a b at (whole w.writes.history) refl s.seen;
+      learned = each_map_set learned_of (λ j entries. StartsWith w.writes.history entries) w.actors by b (w.writes.history, refl) (λ j x ne there. s.learned j x there);
+      owned = subst (AreOwned w.opened w.writes.history) (sym ow) s.owned;
+      cache = s.cache;
+      decided = s.decided;
+      undecided = s.undecided;
+      delayed = s.delayed;
+      registrations = subst (AreRegistered w.writes.history w.snapshots) (sym rg) s.registrations;
+      flags = s.flags;
+      versions = s.versions;
+      flushed = s.flushed;
+      locks = subst (AreLocked w.writes.history w.locks) (sym os) s.locks;
+      holders = subst (AreHolders w.opened w.writes.history w.locks) (sym ps) s.holders;
+      board = subst (IsBoard (world.published w) w.locks) (sym ps) s.board;
+      faults = subst (AreFaults w.writes w.installed.halted) (sym ps) s.faults;
+      edits = subst (AreEdits w.first_edit w.installed) (sym ps) s.edits;
+      pending = s.pending;
+      held = subst (Each (AreHeld w.holders (content_of w))) (sym hs) s.held;
+      have = subst (HoldersHave w.holders) (sym hs) s.have;
+      readers = subst (AreReaders w.writes.history w.max_evicted w.cache) (sym rs) s.readers;
+      judged = subst (AreJudged w.writes.history) (sym rs) s.judged;
+      noted = each_map_set noter_of (λ j x. (fact : Fact) → IsIn fact x.1 → IsNoted w.holders (IsSo w.delayed_flag w.old_flag w.max_evicted w.cache w.writes w.prepared w.snapshots w.store w.locks w.installed) j x fact) w.actors by b
+          (λ fact there. let k = in_filter (λ (f : Fact). not (ends w.writes.history (length w.cache) load_published f)) fact a.notes there in let o = s.noted by (noter_of a) (at_map noter_of w.actors by a at) fact k.0 in
+          record { guarded = o.guarded; is_so = so_after w a.participant fact o.is_so })
+          (λ j x ne there. s.noted j x there);
+      led = subst AreLed (sym ss) s.led;
+      idle = each_set (λ j x. x.live ≡ false → IsIdle x) w.actors by b
+          (λ dead. let i = s.idle by a at dead in record { participant = ap (λ (z : Participant). record z { seen = w.writes.history }) i.participant; held = i.held; reading = i.reading; notes = ap (λ (z : List Fact). filter (λ f. not (ends w.writes.history (length w.cache) load_published f)) z) i.notes }) (λ j x ne there. s.idle j x there);
+    }

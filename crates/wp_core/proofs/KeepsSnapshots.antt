@@ -1,0 +1,194 @@
+-- Registering, releasing and noting in the old commit map keep a world sound.
+use Rattle.std.proofs.Common.{◌≡◌, ◌≢◌, ◌⊎◌, inl, inr, ⊎_elim, ℕ, zero, suc, ◌+◌, ◌≤◌, ◌==◌, eq-eqb, ne_eqb, Bool, true, false, true≢false, List, [], ◌∷◌, ◌++◌, length, map, set, refl, sym, subst, ap, ◌∙◌, Option, Some, None, IsSome, append-nil, arith}
+use mathlib.Core.Option.{some, some-injective, some-ne-none}
+use mathlib.Core.Logic.{dite}
+use native.Mathlib.Decide.{ℕ_discrete}
+use lib.ListN.{get_elem?}
+use Rattle.std.specs.Option.{option_map_or}
+use Rattle.std.specs.Ordering.{nat_cmp}
+use Rattle.std.specs.FinSet as finset
+use Rattle.std.specs.FinMap as finite
+use Rattle.wp_model.specs.declared.entry.Entry.{Entry}
+use Rattle.wp_model.specs.Decision.{decision_of}
+use Rattle.wp_model.specs.History.{is_undecided}
+use Rattle.wp_model.specs.Snapshots.{Snapshot, Snapshots, IsLive, is_old_commit, after_register}
+use Rattle.wp_core.specs.Lists.{IsIn, one_if, total}
+use Rattle.wp_core.specs.Reading.{Registration, snapshot_of}
+use Rattle.wp_core.specs.Tables.{NoOldCommits}
+use Rattle.wp_core.specs.World.{Actor, World}
+use Rattle.wp_core.specs.Steps.{register, register_again}
+use Rattle.wp_core.specs.Changes.{placed, with_registered}
+use Rattle.wp_core.specs.Conditions.{MayBeSmallest}
+use Rattle.wp_core.specs.Effects.{done}
+use Rattle.wp_core.specs.Needs.{Needs}
+use Rattle.wp_core.specs.Notes.{forgets}
+use Rattle.wp_core.specs.Sound.Actors.{StartsWith, seen_of, participants_of, learned_of}
+use Rattle.wp_core.specs.Sound.Snapshots.{registered_of, AreRegistered, AreBelowCommitted, IsBelowCommitted, count_of, has_versions_at}
+use Rattle.wp_core.specs.Sound.Reader.{reader_of}
+use Rattle.wp_core.specs.IsSound.{IsSound}
+use Rattle.wp_core.proofs.Frames.{at_map}
+use Rattle.wp_core.proofs.Participants.{each_person_set, total_person_set}
+use Rattle.wp_core.proofs.HistoryLaws.{decided_or_undecided, decision_within}
+use Rattle.wp_core.proofs.Numbers.{get_inserted, get_inserted_else, get_removed, get_removed_else}
+use Rattle.wp_core.proofs.ReaderFacts.{same_some}
+use Rattle.wp_core.proofs.Readings.{in_at}
+use Rattle.wp_core.proofs.SnapshotsStep.{SnapshotsGrow, ViewsGrow, with_view, snapshots_step}
+
+-- ---- one number's snapshot
+
+pub placed_there : (m : Snapshots) (n : ℕ) (o : Option Snapshot) → finite.get (placed m n o) n ≡ o
+placed_there m n None = get_removed m n
+placed_there m n (Some x) = get_inserted m n x
+
+pub placed_else : (m : Snapshots) (n : ℕ) (o : Option Snapshot) (t : ℕ) → t ≢ n → finite.get (placed m n o) t ≡ finite.get m t
+placed_else m n None t ne = get_removed_else m n t ne
+placed_else m n (Some x) t ne = get_inserted_else m n x t ne
+
+abbrev pub has_old : ℕ → Option Snapshot → Bool
+has_old p o = option_map_or (λ x. finset.contains x.old_commits p) o false
+
+pub live_there : (o : Option Snapshot) → IsSome o → (x : Snapshot) × (o ≡ Some x)
+live_there None live = absurd (true≢false (sym live))
+live_there (Some x) live = (x, refl)
+
+-- ---- sums over registrations
+
+abbrev pub at_number : ℕ → List Registration → ℕ
+at_number t = total (λ r. one_if (r.number == t))
+
+pub sum_append : (t : ℕ) (front back : List Registration) → at_number t (front ++ back) ≡ at_number t front + at_number t back
+sum_append t [] back = omega arith
+sum_append t (r ∷ rs) back = let k = sum_append t rs back in omega arith
+
+in_append : {X : Type 0} (x : X) (front back : List X) → IsIn x front → IsIn x (front ++ back)
+in_append x [] back there = absurd there
+in_append x (y ∷ ys) back there = ⊎_elim (λ (e : y ≡ x). inl e) (λ (k : IsIn x ys). inr (in_append x ys back k)) there
+
+pub in_with : {X : Type 0} (x y : X) (front back : List X) → IsIn x (front ++ back) → IsIn x (front ++ y ∷ back)
+in_with x y [] back there = inr there
+in_with x y (z ∷ zs) back there = ⊎_elim (λ (e : z ≡ x). inl e) (λ (k : IsIn x (zs ++ back)). inr (in_with x y zs back k)) there
+
+pub in_middle : {X : Type 0} (x : X) (front back : List X) → IsIn x (front ++ x ∷ back)
+in_middle x [] back = inl refl
+in_middle x (z ∷ zs) back = inr (in_middle x zs back)
+
+at_in : {X : Type 0} (xs : List X) (i : ℕ) (x : X) → get_elem? xs i ≡ some x → IsIn x xs
+at_in [] i x e = absurd (some-ne-none x (sym e))
+at_in (y ∷ ys) zero x e = inl (some-injective y x e)
+at_in (y ∷ ys) (suc i) x e = inr (at_in ys i x e)
+
+in_snoc : {X : Type 0} (x y : X) (xs : List X) → IsIn x (xs ++ y ∷ []) → IsIn x xs ⊎ (y ≡ x)
+in_snoc x y [] there = ⊎_elim (λ (e : y ≡ x). inr e) (λ (k : ⊥). absurd k) there
+in_snoc x y (z ∷ zs) there = ⊎_elim (λ (e : z ≡ x). inl (inl e)) (λ (k : IsIn x (zs ++ y ∷ [])). ⊎_elim (λ (l : IsIn x zs). inl (inr l)) (λ (e : y ≡ x). inr e) (in_snoc x y zs k)) there
+
+-- ---- what is below a smallest
+
+pub below_of : (w : World) (by : ℕ) (a : Actor) (r : Registration) → get_elem? w.actors by ≡ some a → IsIn r a.participant.registered → IsSound w → IsBelowCommitted w.writes.history r
+below_of w by a r at there s =
+    let k = in_at r a.participant.registered there in s.registrations.smallest by 0 a.participant.registered (participants_of registered_of a, at_map (participants_of registered_of) w.actors by a at, refl) k.0 r k.1
+
+pub below_all : (history : List Entry) (rs : List Registration) → ((r : Registration) → IsIn r rs → IsBelowCommitted history r) → AreBelowCommitted history rs
+below_all history rs k i r at = k r (at_in rs i r at)
+
+-- ---- one registration more
+
+module _ (w : World) (by : ℕ) (a : Actor) (n least : ℕ) (at : get_elem? w.actors by ≡ some a) (s : IsSound w) (known : IsLive w.snapshots n ⊎ (n ≡ length w.writes.history)) (low : n ≤ length w.writes.history) (below : IsBelowCommitted w.writes.history (record { number = n; smallest = least })) where
+  there_now : finite.get (with_registered w.snapshots n) n ≡ after_register (finite.get w.snapshots n)
+  there_now = placed_there w.snapshots n (after_register (finite.get w.snapshots n))
+
+  else_now : (t : ℕ) → t ≢ n → finite.get (with_registered w.snapshots n) t ≡ finite.get w.snapshots t
+  else_now t ne = placed_else w.snapshots n (after_register (finite.get w.snapshots n)) t ne
+
+  same_old : (p : ℕ) (o : Option Snapshot) → has_old p (after_register o) ≡ has_old p o
+  same_old p None = finset.contains-empty nat_cmp p
+  same_old p (Some x) = refl
+
+  old_now : (t p : ℕ) → is_old_commit (with_registered w.snapshots n) t p ≡ is_old_commit w.snapshots t p
+  old_now t p =
+      dite (ℕ_discrete t n)
+      (λ (e : t ≡ n). ap (λ (z : ℕ). is_old_commit (with_registered w.snapshots n) z p) e ∙ (ap (has_old p) there_now ∙ (same_old p (finite.get w.snapshots n) ∙ ap (λ (z : ℕ). is_old_commit w.snapshots z p) (sym e))))
+      (λ (ne : t ≢ n). ap (has_old p) (else_now t ne))
+
+  grows_now : SnapshotsGrow w.writes.history w.snapshots (with_registered w.snapshots n)
+  grows_now = record {
+    live = λ t live.
+        dite (ℕ_discrete t n)
+        (λ (e : t ≡ n). ⊎_elim (λ (k : IsLive w.snapshots n). inl (subst (IsLive w.snapshots) (sym e) k)) (λ (k : n ≡ length w.writes.history). inr (e ∙ k)) known)
+        (λ (ne : t ≢ n). inl (subst IsSome (else_now t ne) live));
+    stays = λ t p live there. old_now t p ∙ there;
+    came = λ t p there. inl (sym (old_now t p) ∙ there);
+  }
+
+  none_now : NoOldCommits w.snapshots → NoOldCommits (with_registered w.snapshots n)
+  none_now none t p = old_now t p ∙ none t p
+
+  one_more : (o : Option Snapshot) → count_of (after_register o) ≡ count_of o + 1
+  one_more None = refl
+  one_more (Some x) = refl
+
+  found_more : (o : Option Snapshot) (x : Snapshot) → after_register o ≡ Some x → 1 ≤ x.registrations
+  found_more None x e = let q = same_some (record { registrations = 1; old_commits = finset.empty }) x e in subst (λ (z : Snapshot). 1 ≤ z.registrations) q (omega arith)
+  found_more (Some y) x e = let q = same_some (record y { registrations = y.registrations + 1 }) x e in subst (λ (z : Snapshot). 1 ≤ z.registrations) q (omega arith)
+
+  registered_now : (seen learned : List Entry) → AreRegistered w.writes.history (with_registered w.snapshots n) (map (participants_of registered_of) (set w.actors by (with_view a seen learned (a.participant.registered ++ record { number = n; smallest = least } ∷ []) a.reading)))
+  registered_now seen learned =
+      let r : Registration = record { number = n; smallest = least } in
+      let b : Actor = with_view a seen learned (a.participant.registered ++ r ∷ []) a.reading in record {
+        counted = λ t.
+            let sum = total_person_set registered_of (at_number t) w.actors by a b at refl in
+            let more : at_number t (a.participant.registered ++ r ∷ []) ≡ at_number t a.participant.registered + (one_if (n == t) + 0) = sum_append t a.participant.registered (r ∷ []) in
+            let old = s.registrations.counted t in
+            dite (ℕ_discrete t n)
+            (λ (e : t ≡ n).
+            let count : count_of (finite.get (with_registered w.snapshots n) t) ≡ count_of (finite.get w.snapshots t) + 1 = ap (λ (z : ℕ). count_of (finite.get (with_registered w.snapshots n) z)) e ∙ (ap count_of there_now ∙ (one_more (finite.get w.snapshots n) ∙ ap (λ (z : ℕ). count_of (finite.get w.snapshots z) + 1) (sym e))) in
+            let one : one_if (n == t) ≡ 1 = ap one_if (eq-eqb n t (sym e)) in omega arith)
+            (λ (ne : t ≢ n).
+            let count : count_of (finite.get (with_registered w.snapshots n) t) ≡ count_of (finite.get w.snapshots t) = ap count_of (else_now t ne) in
+            let none : one_if (n == t) ≡ 0 = ap one_if (ne_eqb n t (λ (e : n ≡ t). ne (sym e))) in omega arith);
+        live = λ t x there.
+            dite (ℕ_discrete t n)
+            (λ (e : t ≡ n). (found_more (finite.get w.snapshots n) x (sym there_now ∙ (ap (finite.get (with_registered w.snapshots n)) (sym e) ∙ there)), subst (λ (z : ℕ). z ≤ length w.writes.history) (sym e) low))
+            (λ (ne : t ≢ n). s.registrations.live t x (sym (else_now t ne) ∙ there));
+        smallest = each_person_set registered_of (AreBelowCommitted w.writes.history) w.actors by a b at
+            (below_all w.writes.history (a.participant.registered ++ r ∷ []) (λ q there. ⊎_elim (λ (k : IsIn q a.participant.registered). below_of w by a q at k s) (λ (e : r ≡ q). subst (IsBelowCommitted w.writes.history) e below) (in_snoc q r a.participant.registered there))) refl
+            s.registrations.smallest;
+      }
+
+  reads_now : (seen learned : List Entry) → StartsWith w.writes.history seen → StartsWith w.writes.history learned → ViewsGrow w a (with_registered w.snapshots n) seen learned (a.participant.registered ++ record { number = n; smallest = least } ∷ []) a.reading
+  reads_now seen learned x y = record {
+    seen_part = x;
+    learned_part = y;
+    reads = λ r is. (is, in_append (snapshot_of r) a.participant.registered (record { number = n; smallest = least } ∷ []) (s.readers by (reader_of a) (at_map reader_of w.actors by a at) r is).registered_at);
+    none_kept = λ zero_flag. none_now (s.flags.none_kept zero_flag);
+  }
+
+none_at_zero : (history : List Entry) → has_versions_at history 0 ≡ true → ⊥
+none_at_zero history e = true≢false (sym e)
+
+-- a smallest of 1 says nothing
+below_one : (history : List Entry) (n : ℕ) → IsBelowCommitted history (record { number = n; smallest = 1 })
+below_one history n p lt le has = let q : p ≡ 0 = omega arith in absurd (none_at_zero history (subst (λ (z : ℕ). has_versions_at history z ≡ true) q has))
+
+below_least : (w : World) (by least : ℕ) → MayBeSmallest w by least → IsSound w → IsBelowCommitted w.writes.history (record { number = length w.writes.history; smallest = least })
+below_least w by least (inl one) s p lt le has = below_one w.writes.history (length w.writes.history) p (omega (arith, one)) le has
+below_least w by least (inr k) s p lt le has =
+    ⊎_elim (λ (d : (c : ℕ) × (decision_of w.writes.history p ≡ Some c)). record { by = d.0; decided = d.1; within = decision_within w.writes.history p d.0 d.1 })
+    (λ (u : is_undecided w.writes.history p ≡ true). let low = k.2 p (s.undecided.found p u) in absurd (omega arith))
+    (decided_or_undecided w.writes.history p has)
+
+pub registers_now : (w : World) (by : ℕ) (a : Actor) (least : ℕ) → get_elem? w.actors by ≡ some a → Needs w by a (register least) → IsSound w → IsSound (done w by (forgets w.writes.history (length w.cache) (register least) a) (register least))
+registers_now w by a least at n s =
+    let p : ℕ = length w.writes.history in
+    let low : length w.writes.history ≤ length w.writes.history = omega arith in
+    let below = below_least w by least n.1 s in
+    snapshots_step w by a (register least) (with_registered w.snapshots p) w.writes.history [] (a.participant.registered ++ record { number = p; smallest = least } ∷ []) a.reading at n.0 (grows_now w by a p least at s (inr refl) low below)
+    (reads_now w by a p least at s (inr refl) low below w.writes.history [] ([], sym (append-nil w.writes.history)) (w.writes.history, refl)) (registered_now w by a p least at s (inr refl) low below w.writes.history []) s
+
+pub registers_again : (w : World) (by : ℕ) (a : Actor) (n : ℕ) → get_elem? w.actors by ≡ some a → Needs w by a (register_again n) → IsSound w → IsSound (done w by (forgets w.writes.history (length w.cache) (register_again n) a) (register_again n))
+registers_again w by a n at k s =
+    let x = live_there (finite.get w.snapshots n) k.1 in
+    let low = (s.registrations.live n x.0 x.1).1 in
+    let below = below_one w.writes.history n in
+    snapshots_step w by a (register_again n) (with_registered w.snapshots n) a.participant.seen a.learned (a.participant.registered ++ record { number = n; smallest = 1 } ∷ []) a.reading at k.0 (grows_now w by a n 1 at s (inl k.1) low below)
+    (reads_now w by a n 1 at s (inl k.1) low below a.participant.seen a.learned (s.seen by 0 a.participant.seen (participants_of seen_of a, at_map (participants_of seen_of) w.actors by a at, refl)) (s.learned by a.learned (at_map learned_of w.actors by a at)))
+    (registered_now w by a n 1 at s (inl k.1) low below a.participant.seen a.learned) s

@@ -1,0 +1,139 @@
+-- Telling a label the published number keeps every part of a sound world.
+use Rattle.std.proofs.Common.{◌≡◌, ◌⊎◌, ⊎_elim, inl, inr, ℕ, ◌≤◌, true, false, true≢false, List, [], ◌∷◌, ◌++◌, length, append-nil, map, refl, sym, subst, ap, ◌∙◌, arith, Option, Some, None, is_some}
+use mathlib.Core.Option.{some}
+use lib.ListN.{get_elem?}
+use Rattle.std.specs.FinMap as finite
+use Rattle.wp_model.specs.LockTables.{LockTables}
+use Rattle.wp_core.specs.Views.{Event, told, heard, stopped, found_flushed, found, Fact, passed, in_old_commits, apart, words_stay, versions_in_memory, versions_nowhere, number_in_heap, number_not_in_heap, undecided_at, prior_values, unprepared, direct_free, tables_stay, live_listed, nothing_flushed, frozen_stay, delayed_flag_stays, old_flag_stays}
+use Rattle.wp_core.specs.World.{Actor, Participant, World}
+use Rattle.wp_core.specs.World as world
+use Rattle.wp_core.specs.Steps.{tell}
+use Rattle.wp_core.specs.Changes.{with_label}
+use Rattle.wp_core.specs.Effects.{done}
+use Rattle.wp_core.specs.Needs.{Needs}
+use Rattle.wp_core.specs.Notes.{forgets}
+use Rattle.wp_core.specs.Sound.Actors.{participants_of}
+use Rattle.wp_core.specs.Sound.Locks.{owner_of, AreLocked}
+use Rattle.wp_core.specs.Sound.Pasts.{past_of, IsPast, AreHolders, IsBoard}
+use Rattle.wp_core.specs.IsSound.{IsSound, participants}
+use Rattle.wp_core.proofs.Keyed.{is_word_same, at_inserted, else_inserted}
+use Rattle.wp_core.proofs.OwnersStay.{same_transactions, locked_still}
+use Rattle.wp_core.proofs.PastsGrow.{in_front, past_still, past_last, past_before}
+use Rattle.wp_core.proofs.Quiet.{SoIn}
+use Rattle.wp_core.proofs.LocksChange.{SoWith, actor_after, actors_after, LocksParts, locks_change}
+use Rattle.wp_core.proofs.Remembers.{IsQuiet, holders_more, faults_more, edits_more}
+use Rattle.wp_core.proofs.KeepsRemembered.{at_number, at_label}
+
+module _ (w : World) (by : ℕ) (a : Actor) (label : List ℕ) (at : get_elem? w.actors by ≡ some a) (s : IsSound w) where
+  abbrev n : ℕ
+  n = world.published w
+
+  abbrev e : Event
+  e = told label n
+
+  abbrev t : LockTables
+  t = with_label w.locks label n
+
+  abbrev p : Participant
+  p = record a.participant { seen = w.writes.history; past = a.participant.past ++ e ∷ [] }
+
+  abbrev b : Actor
+  b = actor_after w by a (tell label) p [] t
+
+  abbrev after : List (List (List Event))
+  after = map (participants_of past_of) (actors_after w by a (tell label) p [] t)
+
+  told_label : (l : List ℕ) → is_some (finite.get w.locks.labels l) ≡ true → is_some (finite.get t.labels l) ≡ true
+  told_label l k = ⊎_elim
+      (λ (q : l ≡ label). ap is_some (at_inserted w.locks.labels label n l q))
+      (λ (ne : l ≡ label → ⊥). ap is_some (else_inserted w.locks.labels label n l ne) ∙ k) (is_word_same l label)
+
+  told_new : (l : List ℕ) (m : ℕ) → e ≡ told l m → is_some (finite.get t.labels l) ≡ true
+  told_new l m q = ap is_some (at_inserted w.locks.labels label n l (sym (ap at_label q)))
+
+  board_part : IsBoard n t after
+  board_part = record {
+    labels = λ l m h. ⊎_elim
+        (λ (k : IsPast after (told l m)). ⊎_elim (λ (c : IsPast (participants past_of w) (told l m)). told_label l (s.board.labels l m (inl c))) (λ (q : e ≡ told l m). told_new l m q) (past_before w.actors by a b e at refl refl (told l m) k))
+        (λ (k : IsPast after (heard l m)). ⊎_elim (λ (c : IsPast (participants past_of w) (heard l m)). told_label l (s.board.labels l m (inr c))) (λ (q : e ≡ heard l m). absurd cc) (past_before w.actors by a b e at refl refl (heard l m) k)) h;
+    numbers = λ l m h. ⊎_elim
+        (λ (q : l ≡ label).
+            let f : Some n ≡ Some m = sym (at_inserted w.locks.labels label n l q) ∙ h in
+            let same : n ≡ m = cc in
+            (subst (λ (z : ℕ). IsPast after (told l z)) same (subst (λ (z : List ℕ). IsPast after (told z n)) (sym q) (past_last w.actors by a b e at refl refl)), subst (λ (z : ℕ). z ≤ n) same (omega arith)))
+        (λ (ne : l ≡ label → ⊥). let c = s.board.numbers l m (sym (else_inserted w.locks.labels label n l ne) ∙ h) in (past_still w.actors by a b e at refl refl (told l m) c.0, c.1)) (is_word_same l label);
+    heard = λ l m h. ⊎_elim
+        (λ (c : IsPast (participants past_of w) (heard l m)). past_still w.actors by a b e at refl refl (told l m) (s.board.heard l m c))
+        (λ (q : e ≡ heard l m). absurd cc) (past_before w.actors by a b e at refl refl (heard l m) h);
+  }
+
+  -- no fact speaks of labels, of what was seen or of a past
+  mine_still : (fact : Fact) → SoIn w a.participant fact → SoWith w t p fact
+  mine_still (passed place pair) k = k
+  mine_still (in_old_commits place pair) k = k
+  mine_still (apart place pair) k = k
+  mine_still (words_stay max cache) k = k
+  mine_still versions_in_memory k = k
+  mine_still versions_nowhere k = k
+  mine_still number_in_heap k = k
+  mine_still number_not_in_heap k = k
+  mine_still (undecided_at name q) k = k
+  mine_still (prior_values name q batch) k = k
+  mine_still (unprepared name) k = k
+  mine_still (direct_free key) k = k
+  mine_still (tables_stay versions floor) k = k
+  mine_still (live_listed floor listed) k = k
+  mine_still nothing_flushed k = k
+  mine_still (frozen_stay m versions) k = k
+  mine_still (delayed_flag_stays value) k = k
+  mine_still (old_flag_stays value) k = k
+
+  others_still : (x : Participant) (fact : Fact) → SoIn w x fact → SoWith w t x fact
+  others_still x (passed place pair) k = k
+  others_still x (in_old_commits place pair) k = k
+  others_still x (apart place pair) k = k
+  others_still x (words_stay max cache) k = k
+  others_still x versions_in_memory k = k
+  others_still x versions_nowhere k = k
+  others_still x number_in_heap k = k
+  others_still x number_not_in_heap k = k
+  others_still x (undecided_at name q) k = k
+  others_still x (prior_values name q batch) k = k
+  others_still x (unprepared name) k = k
+  others_still x (direct_free key) k = k
+  others_still x (tables_stay versions floor) k = k
+  others_still x (live_listed floor listed) k = k
+  others_still x nothing_flushed k = k
+  others_still x (frozen_stay m versions) k = k
+  others_still x (delayed_flag_stays value) k = k
+  others_still x (old_flag_stays value) k = k
+
+  quiet : IsQuiet e
+  quiet = record { log = refl; tables = refl; due = λ m. refl }
+
+  locked_part : AreLocked w.writes.history t (map (participants_of owner_of) (actors_after w by a (tell label) p [] t))
+  locked_part =
+      let k = locked_still w.actors by a b at refl (same_transactions (owner_of a.participant) (a.participant.past ++ e ∷ []) (λ x c. in_front x a.participant.past (e ∷ []) c)) w.writes.history w.locks s.locks in
+      record { prepared_names = k.prepared_names; prepared_keys = k.prepared_keys; had = λ j i o there. let c = k.had j i o there in record { names = c.names; keys = c.keys; direct = c.direct }; apart = k.apart; names_had = k.names_had; names_left = k.names_left; keys_live = k.keys_live; keys_known = k.keys_known; keys_direct = k.keys_direct }
+
+  holders_part : AreHolders w.opened w.writes.history t after
+  holders_part = let k = holders_more w.actors by a b e at refl refl w.opened w.writes.history w.locks (λ key holder seen account q. absurd cc) s.holders in record { names = k.names; keys = k.keys; found = k.found }
+
+  parts : LocksParts w by a (tell label) p [] t
+  parts = record {
+    seen = ([], sym (append-nil w.writes.history));
+    learned_part = (w.writes.history, refl);
+    own = refl;
+    registered = refl;
+    locks_part = locked_part;
+    holders = holders_part;
+    board = board_part;
+    faults = faults_more w.actors by a b e at refl refl w.writes w.installed.halted quiet (λ m q. absurd cc) s.faults;
+    edits = edits_more w.actors by a b e at refl refl w.first_edit w.installed quiet (λ m q. absurd cc) s.edits;
+    mine = λ fact left k. mine_still fact k;
+    others = λ j x fact ne there k. others_still x fact k;
+  }
+
+pub tells : (w : World) (by : ℕ) (a : Actor) (label : List ℕ) → get_elem? w.actors by ≡ some a → Needs w by a (tell label) → IsSound w
+    → IsSound (done w by (forgets w.writes.history (length w.cache) (tell label) a) (tell label))
+tells w by a label at needs s = locks_change w by a (tell label) (p w by a label at s) [] (t w by a label at s) at needs (parts w by a label at s) s

@@ -1,0 +1,45 @@
+-- Finite maps whose keys are words.
+use Rattle.std.proofs.Common.{◌≡◌, ◌⊎◌, inl, inr, ℕ, Bool, true, false, cond, true≢false, Less, Equal, Greater, List, Option, Some, None, refl, sym, ap, ◌∙◌}
+use Rattle.std.specs.Cmp.{eq_by_cmp_equiv}
+use Rattle.std.specs.declared.cmp.Ordering.{Ordering}
+use Rattle.std.specs.Ordering.{eq_by_cmp, is_eq}
+use Rattle.std.specs.FinMap.{FinMap, get, insert, remove, get-insert, get-remove}
+use Rattle.std.proofs.lemmas.Cmp.{nat_list_cmp_total}
+use Rattle.std.proofs.lemmas.Map.Lookups.{exact_bytes}
+use Rattle.wp_model.specs.Batch.{key_cmp}
+
+equal_from_test : (o : Ordering) → is_eq o ≡ true → o ≡ Equal
+equal_from_test Less h = absurd cc
+equal_from_test Equal h = refl
+equal_from_test Greater h = absurd cc
+
+same_word : (a b : List ℕ) → eq_by_cmp key_cmp a b ≡ true → a ≡ b
+same_word a b h = exact_bytes a b (equal_from_test (key_cmp a b) h)
+
+same_test : (a b : List ℕ) → a ≡ b → eq_by_cmp key_cmp a b ≡ true
+same_test a b e = ap (eq_by_cmp key_cmp a) (sym e) ∙ (eq_by_cmp_equiv nat_list_cmp_total).refl a
+
+by_test : (a b : List ℕ) (t : Bool) → eq_by_cmp key_cmp a b ≡ t → (a ≡ b) ⊎ (a ≡ b → ⊥)
+by_test a b true e = inl (same_word a b e)
+by_test a b false e = inr (λ same. true≢false (sym (same_test a b same) ∙ e))
+
+-- two words are the same or not
+pub is_word_same : (a b : List ℕ) → (a ≡ b) ⊎ (a ≡ b → ⊥)
+is_word_same a b = by_test a b (eq_by_cmp key_cmp a b) refl
+
+not_same : (a b : List ℕ) → (a ≡ b → ⊥) → (t : Bool) → eq_by_cmp key_cmp a b ≡ t → t ≡ false
+not_same a b ne true e = absurd (ne (same_word a b e))
+not_same a b ne false e = refl
+
+module _ {X : Type 0} (m : FinMap key_cmp X) (k : List ℕ) where
+  pub at_inserted : (v : X) (q : List ℕ) → q ≡ k → get (insert m k v) q ≡ Some v
+  at_inserted v q same = get-insert nat_list_cmp_total m k v q ∙ ap (λ (b : Bool). cond b (Some v) (get m q)) (same_test q k same)
+
+  pub else_inserted : (v : X) (q : List ℕ) → (q ≡ k → ⊥) → get (insert m k v) q ≡ get m q
+  else_inserted v q ne = get-insert nat_list_cmp_total m k v q ∙ ap (λ (b : Bool). cond b (Some v) (get m q)) (not_same q k ne (eq_by_cmp key_cmp q k) refl)
+
+  pub at_removed : (q : List ℕ) → q ≡ k → get (remove m k) q ≡ None
+  at_removed q same = get-remove nat_list_cmp_total m k q ∙ ap (λ (b : Bool). cond b None (get m q)) (same_test q k same)
+
+  pub else_removed : (q : List ℕ) → (q ≡ k → ⊥) → get (remove m k) q ≡ get m q
+  else_removed q ne = get-remove nat_list_cmp_total m k q ∙ ap (λ (b : Bool). cond b None (get m q)) (not_same q k ne (eq_by_cmp key_cmp q k) refl)

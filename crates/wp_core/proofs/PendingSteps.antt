@@ -1,0 +1,180 @@
+-- Making an entry pending, logging it and dropping it keep a world sound.
+use Rattle.std.proofs.Common.{◌≡◌, ◌≢◌, inl, inr, ℕ, suc, Bool, true, false, true≢false, not, List, [], ◌∷◌, ◌++◌, length, refl, sym, ap, ◌∙◌, Option, Some, None, append-nil, arith}
+use mathlib.Core.Option.{some}
+use lib.ListN.{get_elem?}
+use Rattle.wp_model.specs.declared.entry.Entry.{Entry}
+use Rattle.wp_model.specs.declared.entry.Entry.TheVariants.{Close}
+use Rattle.wp_model.specs.Decision.{version_in, decision_of}
+use Rattle.wp_model.specs.History.{entry_at, is_prepare}
+use Rattle.wp_model.specs.Legal.{IsLegal}
+use Rattle.wp_core.specs.Entries.{next_of, extended, IsRecord}
+use Rattle.wp_core.specs.Tables.{Content, WriteTable, writes}
+use Rattle.wp_core.specs.Turns.{Holds, write_turn}
+use Rattle.wp_core.specs.Views.{Fact, versions_in_memory}
+use Rattle.wp_core.specs.World.{Participant, Actor, World, content_of, with_content}
+use Rattle.wp_core.specs.Steps.{Step, make_pending, log_pending}
+use Rattle.wp_core.specs.Changes.{held_with, change}
+use Rattle.wp_core.specs.Effects.{done}
+use Rattle.wp_core.specs.Needs.{Needs}
+use Rattle.wp_core.specs.Notes.{forgets, ends}
+use Rattle.wp_core.specs.Sound.Actors.{AreHeld, participants_of, held_of}
+use Rattle.wp_core.specs.Sound.History.{IsHistory, logged_part}
+use Rattle.wp_core.specs.Sound.Pasts.{past_of, AreFaults}
+use Rattle.wp_core.specs.Sound.Prepared.{IsCache, AreUndecided}
+use Rattle.wp_core.specs.Sound.Reader.{AreReaders, AreJudged, reader_of}
+use Rattle.wp_core.specs.Sound.Store.{IsStored}
+use Rattle.wp_core.specs.Sound.Views.{IsSo, IsGuarded}
+use Rattle.wp_core.specs.IsSound.{IsSound, participants}
+use Rattle.wp_history.proofs.Growth.{entry_at_old, prepared_within}
+use Rattle.wp_core.proofs.Frames.{each_map_set, at_map}
+use Rattle.wp_core.proofs.Changed.{others_hold, holds_changed, have_changed}
+use Rattle.wp_core.proofs.Quiet.{SoIn, NotesStay, parts_of, kept_part, idle_after, noted_after}
+use Rattle.wp_core.proofs.ReaderFacts.{extended_stays}
+use Rattle.wp_core.proofs.StoresFlag.{not_theirs, not_free}
+
+-- the write table with what is pending, whether that is logged, and the log
+abbrev pub with_pending : WriteTable → List Entry → Bool → List Entry → WriteTable
+with_pending t pending logged log = record t { pending = pending; logged = logged; log = log }
+
+abbrev pub SoPending : World → WriteTable → Participant → Fact → Type 0
+SoPending w d = IsSo w.delayed_flag w.old_flag w.max_evicted w.cache d w.prepared w.snapshots w.store w.locks w.installed
+
+pub pending_changes : (w : World) (by : ℕ) (a : Actor) (step : Step) (pending : List Entry) (logged : Bool) (log : List Entry) → get_elem? w.actors by ≡ some a → Holds w.holders write_turn by
+    → IsHistory w.opened (with_pending w.writes pending logged log) w.max_evicted → IsCache w.writes.history pending w.cache → AreUndecided w.writes.history pending w.prepared w.max_evicted
+    → IsStored w.writes.history pending w.snapshots w.store w.installed → AreFaults (with_pending w.writes pending logged log) w.installed.halted (participants past_of w)
+    → NotesStay w by step (SoPending w (with_pending w.writes pending logged log)) → IsSound w
+    → IsSound (change w by (forgets w.writes.history (length w.cache) step a) (writes (with_pending w.writes pending logged log)))
+pending_changes w by a step pending logged log at holds history cache undecided stored faults notes s =
+    let d : WriteTable = with_pending w.writes pending logged log in
+    let e : Content = writes d in
+    let c : Actor = forgets w.writes.history (length w.cache) step a in
+    let b : Actor = record c { held = held_with c.held e } in
+    let p = parts_of w by a b at (record { participant = refl; learned = refl; live = refl; made = refl; joined = refl }) s in
+    record {
+      history = history;
+      seen = p.seen;
+      learned = p.learned;
+      owned = p.owned;
+      cache = cache;
+      decided = s.decided;
+      undecided = undecided;
+      delayed = s.delayed;
+      registrations = p.registrations;
+      flags = s.flags;
+      versions = stored;
+      flushed = s.flushed;
+      locks = p.locks;
+      holders = p.holders;
+      board = p.board;
+      faults = kept_part w by a b at (participants_of past_of) (AreFaults d w.installed.halted) refl faults;
+      edits = p.edits;
+      pending = λ free. absurd (not_free w.holders write_turn by holds free);
+      held = each_map_set held_of (AreHeld w.holders (content_of (with_content w e))) w.actors by b (holds_changed w e by a.held (s.held by a.held (at_map held_of w.actors by a at)))
+          (λ j x ne there. others_hold w e by j x holds ne (s.held j x there));
+      have = have_changed w.holders e by w.actors a b at refl s.have;
+      readers = kept_part w by a b at reader_of (AreReaders w.writes.history w.max_evicted w.cache) refl s.readers;
+      judged = kept_part w by a b at reader_of (AreJudged w.writes.history) refl s.judged;
+      noted = noted_after w by a b step (SoPending w d) at refl refl notes s;
+      led = p.led;
+      idle = idle_after w by a b write_turn at holds s refl;
+    }
+
+-- ---- a record is made pending
+
+none_logged : (logged : Bool) → logged_part logged [] ≡ []
+none_logged true = refl
+none_logged false = refl
+
+-- with nothing pending the log is the history
+log_is : (w : World) → w.writes.pending ≡ [] → IsSound w → w.writes.log ≡ w.writes.history ++ []
+log_is w none s = s.history.log ∙ ap (λ (z : List Entry). w.writes.history ++ z) (ap (logged_part w.writes.logged) none ∙ none_logged w.writes.logged)
+
+not_empty : (entry : Entry) (others : List Entry) → [] ≡ entry ∷ others → ⊥
+not_empty entry others e = let k : ◌≡◌ {A = ℕ} 0 (suc (length others)) = ap length e in absurd (omega arith)
+
+history_made : (w : World) (entries : List Entry) → w.writes.pending ≡ [] → IsRecord entries → IsLegal (w.writes.history ++ entries) → IsSound w → IsHistory w.opened (with_pending w.writes entries false w.writes.log) w.max_evicted
+history_made w entries none is legal s = record {
+  legal = s.history.legal;
+  grown = s.history.grown;
+  bounded = s.history.bounded;
+  log = log_is w none s;
+  rest = inr (inl is);
+  legal_next = legal;
+  legal_failed = s.history.legal_failed;
+  none_failed = s.history.none_failed;
+  undo_closes = λ p undone. let k = s.history.undo_closes p undone in absurd (not_empty (Close p) [] (sym none ∙ k.0));
+}
+
+cache_made : (w : World) (entries : List Entry) → w.writes.pending ≡ [] → IsSound w → IsCache w.writes.history entries w.cache
+cache_made w entries none s = record {
+  some = s.cache.some;
+  empty = s.cache.empty;
+  pairs = λ i pair lt there. let k = s.cache.pairs i pair lt there in
+      record { placed = k.placed; decided = extended_stays w.writes.history entries pair.number pair.decision (ap (λ (z : List Entry). decision_of (extended w.writes.history z) pair.number) (sym none) ∙ k.decided) };
+}
+
+prepare_stays : (history entries : List Entry) (p : ℕ) → is_prepare (entry_at history p) ≡ true → is_prepare (entry_at (extended history entries) p) ≡ true
+prepare_stays history [] p is = is
+prepare_stays history (entry ∷ others) p is = ap is_prepare (entry_at_old history (entry ∷ []) p (prepared_within history p is).1) ∙ is
+
+undecided_made : (w : World) (entries : List Entry) → w.writes.pending ≡ [] → IsSound w → AreUndecided w.writes.history entries w.prepared w.max_evicted
+undecided_made w entries none s = record {
+  found = s.undecided.found;
+  heap_above = s.undecided.heap_above;
+  delayed_passed = s.undecided.delayed_passed;
+  known = λ p there. prepare_stays w.writes.history entries p (ap (λ (z : List Entry). is_prepare (entry_at (extended w.writes.history z) p)) (sym none) ∙ s.undecided.known p there);
+}
+
+none_next : (o : Option (Option (List ℕ))) (value : Option (List ℕ)) → o ≡ None → o ≡ Some value → ⊥
+none_next o value none e = let q : None ≡ Some value = sym none ∙ e in absurd (cc)
+
+stored_made : (w : World) (entries : List Entry) → w.writes.pending ≡ [] → IsSound w → IsStored w.writes.history entries w.snapshots w.store w.installed
+stored_made w entries none s =
+    let o = s.versions in record {
+      covered = o.covered;
+      floor = o.floor;
+      next = λ key p value lt there. let k = o.next key p value lt there in
+          absurd (none_next (version_in (next_of w.writes.pending) key) value (ap (λ (z : List Entry). version_in (next_of z) key) none) k.1);
+      tables = o.tables;
+      last = o.last;
+      failed = o.failed;
+      in_memory = o.in_memory;
+    }
+
+mine_made : (w : World) (entries log : List Entry) (logged : Bool) (p : Participant) (fact : Fact) → not (ends w.writes.history (length w.cache) (make_pending entries) fact) ≡ true → SoIn w p fact → SoPending w (with_pending w.writes entries logged log) p fact
+mine_made w entries log logged p versions_in_memory left k = absurd (true≢false (sym left))
+mine_made w entries log logged p fact left k = k
+
+pub others_made : (w : World) (pending log : List Entry) (logged : Bool) (by j : ℕ) (p : Participant) (fact : Fact) → Holds w.holders write_turn by → j ≢ by → IsGuarded w.holders fact j → SoIn w p fact → SoPending w (with_pending w.writes pending logged log) p fact
+others_made w pending log logged by j p versions_in_memory mine ne guard k = absurd (not_theirs w.holders write_turn by j mine ne (guard write_turn refl))
+others_made w pending log logged by j p fact mine ne guard k = k
+
+pub makes_pending : (w : World) (by : ℕ) (a : Actor) (entries : List Entry) → get_elem? w.actors by ≡ some a → Needs w by a (make_pending entries) → IsSound w → IsSound (done w by (forgets w.writes.history (length w.cache) (make_pending entries) a) (make_pending entries))
+makes_pending w by a entries at n s =
+    pending_changes w by a (make_pending entries) entries false w.writes.log at n.0 (history_made w entries n.1 n.2 n.3 s) (cache_made w entries n.1 s) (undecided_made w entries n.1 s) (stored_made w entries n.1 s)
+    (record { log = s.faults.log; tables = s.faults.tables; not_logged = λ closed. inr refl; stopped = s.faults.stopped })
+    (record { mine = λ p fact left k. mine_made w entries w.writes.log false p fact left k; others = λ j p fact ne guard k. others_made w entries w.writes.log false by j p fact n.0 ne guard k }) s
+
+-- ---- it is logged
+
+history_logged : (w : World) → w.writes.logged ≡ false → IsSound w → IsHistory w.opened (with_pending w.writes w.writes.pending true (w.writes.log ++ w.writes.pending)) w.max_evicted
+history_logged w not_yet s = record {
+  legal = s.history.legal;
+  grown = s.history.grown;
+  bounded = s.history.bounded;
+  log = ap (λ (z : List Entry). z ++ w.writes.pending) (s.history.log ∙ (ap (λ (b : Bool). w.writes.history ++ logged_part b w.writes.pending) not_yet ∙ append-nil w.writes.history));
+  rest = s.history.rest;
+  legal_next = s.history.legal_next;
+  legal_failed = s.history.legal_failed;
+  none_failed = s.history.none_failed;
+  undo_closes = λ p undone. let k = s.history.undo_closes p undone in absurd (true≢false (sym k.1 ∙ not_yet));
+}
+
+so_logged : (w : World) (p : Participant) (fact : Fact) → SoIn w p fact → SoPending w (with_pending w.writes w.writes.pending true (w.writes.log ++ w.writes.pending)) p fact
+so_logged w p fact k = k
+
+pub logs_pending : (w : World) (by : ℕ) (a : Actor) → get_elem? w.actors by ≡ some a → Needs w by a log_pending → IsSound w → IsSound (done w by (forgets w.writes.history (length w.cache) log_pending a) log_pending)
+logs_pending w by a at n s =
+    pending_changes w by a log_pending w.writes.pending true (w.writes.log ++ w.writes.pending) at n.0 (history_logged w n.2 s) s.cache s.undecided s.versions
+    (record { log = s.faults.log; tables = s.faults.tables; not_logged = λ closed. absurd (true≢false (sym closed ∙ n.3)); stopped = s.faults.stopped })
+    (record { mine = λ p fact left k. so_logged w p fact k; others = λ j p fact ne guard k. so_logged w p fact k }) s

@@ -1,0 +1,172 @@
+-- Changes of the prepared tables keep a world sound.
+use Rattle.std.proofs.Common.{◌≡◌, ◌≢◌, ◌⊎◌, inl, inr, ⊎_elim, ℕ, suc, ◌||◌, Bool, true, false, true≢false, length, slice_index, refl, sym, subst, ap, ◌∙◌, Some, None, arith}
+use mathlib.Core.Option.{some}
+use mathlib.Core.Logic.{dite}
+use native.Mathlib.Decide.{ℕ_discrete}
+use lib.ListN.{get_elem?}
+use Rattle.std.specs.Ordering.{nat_cmp}
+use Rattle.std.specs.FinSet as finset
+use Rattle.std.specs.FinMap as finite
+use Rattle.wp_model.specs.Decision.{decision_of}
+use Rattle.wp_model.specs.History.{is_undecided}
+use Rattle.wp_model.specs.PreparedTables.{PreparedTables, is_prepared}
+use Rattle.wp_judge.specs.Words.{CommitPair}
+use Rattle.wp_core.specs.Cache.{cached}
+use Rattle.wp_core.specs.Tables.{without_prepared}
+use Rattle.wp_core.specs.Turns.{Holds, prepared_turn}
+use Rattle.wp_core.specs.Views.{Fact, apart, number_in_heap, number_not_in_heap}
+use Rattle.wp_core.specs.World.{Participant, Actor, World}
+use Rattle.wp_core.specs.Steps.{add_delayed_commit, take_out}
+use Rattle.wp_core.specs.Effects.{done}
+use Rattle.wp_core.specs.Needs.{Needs}
+use Rattle.wp_core.specs.Notes.{forgets}
+use Rattle.wp_core.specs.Sound.Prepared.{AreFlags, AreUndecided, AreDelayed}
+use Rattle.wp_core.specs.Sound.Views.{IsSo, IsApart, IsClearing}
+use Rattle.wp_core.specs.IsSound.{IsSound}
+use Rattle.wp_core.proofs.HistoryLaws.{decided_within, undecided_not_decided}
+use Rattle.wp_core.proofs.Numbers.{in_removed, in_removed_else, get_inserted, get_inserted_else, get_removed, get_removed_else}
+use Rattle.wp_core.proofs.Quiet.{SoIn, prepared_changes}
+use Rattle.wp_core.proofs.StoresFlag.{not_free}
+use Rattle.wp_core.proofs.ReaderFacts.{same_some, none_some, extended_was, pair_ordered}
+
+-- what is noted with these prepared tables in place of the world's
+abbrev pub SoWith : World → PreparedTables → Participant → Fact → Type 0
+SoWith w t = IsSo w.delayed_flag w.old_flag w.max_evicted w.cache w.writes t w.snapshots w.store w.locks w.installed
+
+-- a pair of the cache that is noted is decided by the history
+pub clearing_decided : (w : World) (place : ℕ) (pair : CommitPair) (why : Type 0) → IsSound w → IsClearing (length w.writes.history) w.cache place pair why → decision_of w.writes.history pair.number ≡ Some pair.decision
+clearing_decided w place pair why s k =
+    let at = s.cache.pairs place pair k.place_within k.there in
+    let ordered = pair_ordered (slice_index w.cache place) pair k.there in
+    let published = k.published_by in let low = ordered.1 in
+    extended_was w.writes.history w.writes.pending pair.number pair.decision (omega arith) published at.decided
+
+pub either : (a b : Bool) → (a || b) ≡ true → (a ≡ true) ⊎ (b ≡ true)
+either true b e = inl refl
+either false b e = inr e
+
+pub in_either : (a b : Bool) → (a ≡ true) ⊎ (b ≡ true) → (a || b) ≡ true
+in_either true b k = refl
+in_either false b (inl e) = absurd (true≢false (sym e))
+in_either false b (inr e) = e
+
+-- ---- a decided number leaves
+
+module _ (w : World) (p c : ℕ) (s : IsSound w) (decided : decision_of w.writes.history p ≡ Some c) where
+  out_there : (q : ℕ) → q ≢ p → is_prepared (without_prepared w.prepared p) q ≡ is_prepared w.prepared q
+  out_there q ne = λ i. in_removed_else w.prepared.heap p q ne i || in_removed_else w.prepared.delayed p q ne i
+
+  out_gone : is_prepared (without_prepared w.prepared p) p ≡ false
+  out_gone = λ i. in_removed w.prepared.heap p i || in_removed w.prepared.delayed p i
+
+  removed_from : (x : finset.FinSet nat_cmp) (q : ℕ) → finset.contains (finset.remove x p) q ≡ true → finset.contains x q ≡ true
+  removed_from x q there =
+      dite (ℕ_discrete q p)
+      (λ (e : q ≡ p). absurd (true≢false (sym there ∙ (ap (finset.contains (finset.remove x p)) e ∙ in_removed x p))))
+      (λ (ne : q ≢ p). sym (in_removed_else x p q ne) ∙ there)
+
+  was_prepared : (q : ℕ) → is_prepared (without_prepared w.prepared p) q ≡ true → (q ≢ p) × (is_prepared w.prepared q ≡ true)
+  was_prepared q there =
+      let ne : q ≢ p = λ (e : q ≡ p). true≢false (sym there ∙ (ap (is_prepared (without_prepared w.prepared p)) e ∙ out_gone)) in
+      (ne, sym (out_there q ne) ∙ there)
+
+  out_undecided : AreUndecided w.writes.history w.writes.pending (without_prepared w.prepared p) w.max_evicted
+  out_undecided = record {
+    found = λ q u. out_there q (λ (e : q ≡ p). undecided_not_decided w.writes.history p c (subst (λ (n : ℕ). is_undecided w.writes.history n ≡ true) e u) decided) ∙ s.undecided.found q u;
+    heap_above = λ q there. s.undecided.heap_above q (removed_from w.prepared.heap q there);
+    delayed_passed = λ q there. s.undecided.delayed_passed q (removed_from w.prepared.delayed q there);
+    known = λ q there. s.undecided.known q (was_prepared q there).1;
+  }
+
+  out_delayed : AreDelayed w.writes.history (without_prepared w.prepared p) w.cache
+  out_delayed = record {
+    found = λ q d there is. let was = was_prepared q there in
+        ⊎_elim (λ (e : cached w.cache q ≡ Some d). inl e) (λ (e : finite.get w.prepared.delayed_commits q ≡ Some d). inr (get_removed_else w.prepared.delayed_commits p q was.0 ∙ e)) (s.delayed.found q d was.1 is);
+    commits = λ q d there.
+        dite (ℕ_discrete q p)
+        (λ (e : q ≡ p). absurd (none_some (finite.get (without_prepared w.prepared p).delayed_commits p) d (get_removed w.prepared.delayed_commits p) (ap (finite.get (without_prepared w.prepared p).delayed_commits) (sym e) ∙ there)))
+        (λ (ne : q ≢ p). s.delayed.commits q d (sym (get_removed_else w.prepared.delayed_commits p q ne) ∙ there));
+  }
+
+  not_in_removed : (x : finset.FinSet nat_cmp) (q : ℕ) → finset.contains x q ≡ false → finset.contains (finset.remove x p) q ≡ false
+  not_in_removed x q none = dite (ℕ_discrete q p) (λ (e : q ≡ p). ap (finset.contains (finset.remove x p)) e ∙ in_removed x p) (λ (ne : q ≢ p). in_removed_else x p q ne ∙ none)
+
+  none_in_removed : (q : ℕ) → finite.get w.prepared.delayed_commits q ≡ None → finite.get (finite.remove w.prepared.delayed_commits p) q ≡ None
+  none_in_removed q none = dite (ℕ_discrete q p) (λ (e : q ≡ p). ap (finite.get (finite.remove w.prepared.delayed_commits p)) e ∙ get_removed w.prepared.delayed_commits p) (λ (ne : q ≢ p). get_removed_else w.prepared.delayed_commits p q ne ∙ none)
+
+  out_flags : (by : ℕ) → Holds w.holders prepared_turn by → AreFlags w.delayed_flag w.old_flag (without_prepared w.prepared p) w.snapshots w.holders.prepared w.holders.snapshots
+  out_flags by mine = record {
+    none_delayed = λ zero_flag. let k = s.flags.none_delayed zero_flag in ((λ q. not_in_removed w.prepared.delayed q (k.0 q)), (λ q. none_in_removed q (k.1 q)));
+    none_kept = s.flags.none_kept;
+    delayed_free = λ free. absurd (not_free w.holders prepared_turn by mine free);
+    old_free = s.flags.old_free;
+  }
+
+  out_apart : (pair : CommitPair) → IsApart w.prepared pair → IsApart (without_prepared w.prepared p) pair
+  out_apart pair k =
+      dite (ℕ_discrete pair.number p)
+      (λ (e : pair.number ≡ p). inl (ap (is_prepared (without_prepared w.prepared p)) e ∙ out_gone))
+      (λ (ne : pair.number ≢ p). ⊎_elim (λ (e : is_prepared w.prepared pair.number ≡ false). inl (out_there pair.number ne ∙ e)) (λ (e : finite.get w.prepared.delayed_commits pair.number ≡ Some pair.decision). inr (get_removed_else w.prepared.delayed_commits p pair.number ne ∙ e)) k)
+
+  next_is_not : suc (length w.writes.history) ≢ p
+  next_is_not e = let low = decided_within w.writes.history p c decided in absurd (omega arith)
+
+  out_so : (a : Participant) (fact : Fact) → SoIn w a fact → SoWith w (without_prepared w.prepared p) a fact
+  out_so a (apart place pair) k = record { place_within = k.place_within; there = k.there; published_by = k.published_by; so = out_apart pair k.so }
+  out_so a number_in_heap k = in_removed_else w.prepared.heap p (suc (length w.writes.history)) next_is_not ∙ k
+  out_so a number_not_in_heap k = not_in_removed w.prepared.heap (suc (length w.writes.history)) k
+  out_so a fact k = k
+
+pub takes_out : (w : World) (by : ℕ) (a : Actor) (p : ℕ) → get_elem? w.actors by ≡ some a → Needs w by a (take_out p) → IsSound w → IsSound (done w by (forgets w.writes.history (length w.cache) (take_out p) a) (take_out p))
+takes_out w by a p at n s =
+    let c = n.1.0 in let decided = n.1.1 in
+    prepared_changes w by a (take_out p) (without_prepared w.prepared p) at n.0 (out_undecided w p c s decided) (out_delayed w p c s decided) (out_flags w p c s decided by n.0)
+    (record { mine = λ q fact left k. out_so w p c s decided q fact k; others = λ j q fact ne guard k. out_so w p c s decided q fact k }) s
+
+-- ---- a delayed commit comes
+
+module _ (w : World) (pair : CommitPair) (s : IsSound w) (decided : decision_of w.writes.history pair.number ≡ Some pair.decision) where
+  with_commit : PreparedTables
+  with_commit = record w.prepared { delayed_commits = finite.insert w.prepared.delayed_commits pair.number pair.decision }
+
+  commit_there : (q d : ℕ) → decision_of w.writes.history q ≡ Some d → (q ≡ pair.number) → finite.get (finite.insert w.prepared.delayed_commits pair.number pair.decision) q ≡ Some d
+  commit_there q d is e =
+      let same : pair.decision ≡ d = same_some pair.decision d (sym decided ∙ (ap (decision_of w.writes.history) (sym e) ∙ is)) in
+      ap (finite.get (finite.insert w.prepared.delayed_commits pair.number pair.decision)) e ∙ (get_inserted w.prepared.delayed_commits pair.number pair.decision ∙ ap Some same)
+
+  commit_stays : (q d : ℕ) → decision_of w.writes.history q ≡ Some d → finite.get w.prepared.delayed_commits q ≡ Some d → finite.get (finite.insert w.prepared.delayed_commits pair.number pair.decision) q ≡ Some d
+  commit_stays q d is there = dite (ℕ_discrete q pair.number) (commit_there q d is) (λ (ne : q ≢ pair.number). get_inserted_else w.prepared.delayed_commits pair.number pair.decision q ne ∙ there)
+
+  commit_undecided : AreUndecided w.writes.history w.writes.pending with_commit w.max_evicted
+  unfolding with_commit
+  commit_undecided = record { found = s.undecided.found; heap_above = s.undecided.heap_above; delayed_passed = s.undecided.delayed_passed; known = s.undecided.known }
+
+  commit_delayed : AreDelayed w.writes.history with_commit w.cache
+  unfolding with_commit
+  commit_delayed = record {
+    found = λ q d there is. ⊎_elim (λ (e : cached w.cache q ≡ Some d). inl e) (λ (e : finite.get w.prepared.delayed_commits q ≡ Some d). inr (commit_stays q d is e)) (s.delayed.found q d there is);
+    commits = λ q d there.
+        dite (ℕ_discrete q pair.number)
+        (λ (e : q ≡ pair.number). let same : pair.decision ≡ d = same_some pair.decision d (sym (get_inserted w.prepared.delayed_commits pair.number pair.decision) ∙ (ap (finite.get (finite.insert w.prepared.delayed_commits pair.number pair.decision)) (sym e) ∙ there)) in ap (decision_of w.writes.history) e ∙ (decided ∙ ap Some same))
+        (λ (ne : q ≢ pair.number). s.delayed.commits q d (sym (get_inserted_else w.prepared.delayed_commits pair.number pair.decision q ne) ∙ there));
+  }
+
+  commit_flags : (by : ℕ) → Holds w.holders prepared_turn by → w.delayed_flag ≢ 0 → AreFlags w.delayed_flag w.old_flag with_commit w.snapshots w.holders.prepared w.holders.snapshots
+  commit_flags by mine raised = record { none_delayed = λ zero_flag. absurd (raised zero_flag); none_kept = s.flags.none_kept; delayed_free = λ free. absurd (not_free w.holders prepared_turn by mine free); old_free = s.flags.old_free }
+
+  commit_so : (a : Participant) (fact : Fact) → SoIn w a fact → SoWith w with_commit a fact
+  unfolding with_commit
+  commit_so a (apart place other) k = record {
+    place_within = k.place_within;
+    there = k.there;
+    published_by = k.published_by;
+    so = ⊎_elim (λ (e : is_prepared w.prepared other.number ≡ false). inl e) (λ (e : finite.get w.prepared.delayed_commits other.number ≡ Some other.decision). inr (commit_stays other.number other.decision (clearing_decided w place other _ s k) e)) k.so;
+  }
+  commit_so a fact k = k
+
+pub adds_delayed_commit : (w : World) (by : ℕ) (a : Actor) (pair : CommitPair) → get_elem? w.actors by ≡ some a → Needs w by a (add_delayed_commit pair) → IsSound w → IsSound (done w by (forgets w.writes.history (length w.cache) (add_delayed_commit pair) a) (add_delayed_commit pair))
+unfolding with_commit
+adds_delayed_commit w by a pair at n s =
+    let decided = n.2 in
+    prepared_changes w by a (add_delayed_commit pair) (with_commit w pair s decided) at n.0 (commit_undecided w pair s decided) (commit_delayed w pair s decided) (commit_flags w pair s decided by n.0 n.1)
+    (record { mine = λ q fact left k. commit_so w pair s decided q fact k; others = λ j q fact ne guard k. commit_so w pair s decided q fact k }) s

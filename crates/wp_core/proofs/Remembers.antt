@@ -1,0 +1,100 @@
+-- What is so of all pasts, once one actor's past has an event more that installs nothing and is no fault.
+use Rattle.std.proofs.Common.{◌≡◌, ◌≢◌, ◌⊎◌, ⊎_elim, inl, inr, ℕ, ◌+◌, ◌≤◌, Bool, true, false, List, [], ◌∷◌, ◌++◌, length, map, set, refl, sym, subst, ap, ◌∙◌, arith, Option, Some, is_some}
+use Rattle.std.proofs.lemmas.List.Sums.{fold-append}
+use mathlib.Core.Option.{some}
+use lib.ListN.{get_elem?}
+use Rattle.std.specs.FinMap as finite
+use Rattle.wp_model.specs.declared.entry.Entry.{Entry}
+use Rattle.wp_model.specs.declared.holder.Holder.{Holder}
+use Rattle.wp_model.specs.declared.holder.Holder.TheVariants.{Txn, Client}
+use Rattle.wp_model.specs.LockTables.{LockTables}
+use Rattle.wp_core.specs.Tables.{WriteTable, InstalledEdit, Installed}
+use Rattle.wp_core.specs.Views.{Account, own, another, prepare_at, Event, told, heard, stopped, found_flushed, found}
+use Rattle.wp_core.specs.World.{Actor}
+use Rattle.wp_core.specs.Sound.Actors.{participants_of, IsParticipantAt}
+use Rattle.wp_core.specs.Sound.Pasts.{past_of, IsPast, IsAccounted, AreHolders, IsBoard, is_log_fault, is_tables_fault, AreFaults, WasInstalled, due_after, tables_due, OtherCompacts, AreEdits}
+use Rattle.wp_core.proofs.AllParticipants.{mine, was}
+use Rattle.wp_core.proofs.PastsGrow.{done_still, done_before, past_still, past_before, times_more}
+
+-- it installs nothing, and is no fault
+pub record IsQuiet (e : Event) : Type 0 where
+  pub log : is_log_fault e ≡ false
+  pub tables : is_tables_fault e ≡ false
+  pub due : (n : ℕ) → due_after n e ≡ n
+
+module _ (xs : List Actor) (by : ℕ) (a b : Actor) (e : Event) (at : get_elem? xs by ≡ some a) (same : b.joined ≡ a.joined) (grown : b.participant.past ≡ a.participant.past ++ e ∷ []) where
+  abbrev before : List (List (List Event))
+  before = map (participants_of past_of) xs
+
+  abbrev after : List (List (List Event))
+  after = map (participants_of past_of) (set xs by b)
+
+  accounted_still : (history : List Entry) (j i : ℕ) (key : Option (List ℕ)) (holder : Holder) (seen : ℕ) (account : Account) → IsAccounted history before j i key holder seen account → IsAccounted history after j i key holder seen account
+  accounted_still history j i key holder seen own (x, makes, k) = (x, makes, done_still xs by a b e at same grown j i x k)
+  accounted_still history j i key holder seen another (l, m, x, apart, makes, k) = (l, m, x, apart, makes, done_still xs by a b e at same grown l m x k)
+  accounted_still history j i key (Txn name) seen (prepare_at n) k = k
+  accounted_still history j i key (Client name) seen (prepare_at n) k = k
+
+  pub holders_more : (opened history : List Entry) (t : LockTables) → ((key : Option (List ℕ)) (holder : Holder) (seen : ℕ) (account : Account) → e ≡ found key holder seen account → IsAccounted history before by 0 key holder seen account)
+      → AreHolders opened history t before → AreHolders opened history t after
+  holders_more opened history t new k = record {
+    names = λ name h. ⊎_elim
+        (λ c. inl (⊎_elim (λ p. inl (past_still xs by a b e at same grown _ p)) (λ p. inr (past_still xs by a b e at same grown _ p)) c))
+        (λ c. inr c) (k.names name h);
+    keys = λ key client h. past_still xs by a b e at same grown _ (k.keys key client h);
+    found = λ j i key holder seen account h. ⊎_elim
+        (λ c. accounted_still history j i key holder seen account (k.found j i key holder seen account c))
+        (λ (c : (j ≡ by) × (i ≡ 0) × (e ≡ found key holder seen account)).
+            let is : IsAccounted history after by 0 key holder seen account = accounted_still history by 0 key holder seen account (new key holder seen account c.2) in
+            subst (λ (n : ℕ). IsAccounted history after n i key holder seen account) (sym c.0) (subst (λ (n : ℕ). IsAccounted history after by n key holder seen account) (sym c.1) is))
+        (done_before xs by a b e at same grown j i (found key holder seen account) h);
+  }
+
+  pub board_more : (published : ℕ) (t : LockTables) → ((label : List ℕ) (n : ℕ) → (e ≡ told label n) ⊎ (e ≡ heard label n) → is_some (finite.get t.labels label) ≡ true)
+      → ((label : List ℕ) (n : ℕ) → e ≡ heard label n → IsPast before (told label n)) → IsBoard published t before → IsBoard published t after
+  board_more published t new was_told k = record {
+    labels = λ label n h. ⊎_elim
+        (λ p. ⊎_elim (λ c. k.labels label n (inl c)) (λ c. new label n (inl c)) (past_before xs by a b e at same grown (told label n) p))
+        (λ p. ⊎_elim (λ c. k.labels label n (inr c)) (λ c. new label n (inr c)) (past_before xs by a b e at same grown (heard label n) p)) h;
+    numbers = λ label n h. let c = k.numbers label n h in (past_still xs by a b e at same grown (told label n) c.0, c.1);
+    heard = λ label n h. past_still xs by a b e at same grown (told label n) (⊎_elim (λ c. k.heard label n c) (λ c. was_told label n c) (past_before xs by a b e at same grown (heard label n) h));
+  }
+
+  pub faults_more : (writes : WriteTable) (halted : Bool) → IsQuiet e → ((n : ℕ) → e ≡ stopped n → (writes.closed ≡ true) × (n ≡ length writes.history))
+      → AreFaults writes halted before → AreFaults writes halted after
+  faults_more writes halted quiet new k = record {
+    log = times_more xs by a b e at same grown is_log_fault ∙ rw quiet.log (let z = k.log in omega (arith, z));
+    tables = times_more xs by a b e at same grown is_tables_fault ∙ rw quiet.tables (let z = k.tables in omega (arith, z));
+    not_logged = k.not_logged;
+    stopped = λ n h. ⊎_elim (λ c. k.stopped n c) (λ c. new n c) (past_before xs by a b e at same grown (stopped n) h);
+  }
+
+  installed_still : (first : InstalledEdit) (n : ℕ) → WasInstalled first before n → WasInstalled first after n
+  installed_still first n (inl k) = inl k
+  installed_still first n (inr (tables, k)) = inr (tables, past_still xs by a b e at same grown _ k)
+
+  compacts_still : (j i : ℕ) → OtherCompacts before j i → OtherCompacts after j i
+  compacts_still j i (l, m, n, tables, apart, k) = (l, m, n, tables, apart, done_still xs by a b e at same grown l m _ k)
+
+  due_same : (first : InstalledEdit) → IsQuiet e → tables_due first b.participant.past ≡ tables_due first a.participant.past
+  due_same first quiet = ap (tables_due first) grown ∙ fold-append due_after first.tables a.participant.past (e ∷ []) ∙ quiet.due (tables_due first a.participant.past)
+
+  pub edits_more : (first : InstalledEdit) (t : Installed) → IsQuiet e → ((n : ℕ) → e ≡ found_flushed n → WasInstalled first before n)
+      → AreEdits first t before → AreEdits first t after
+  edits_more first t quiet new k = record {
+    last = installed_still first t.last.flushed k.last;
+    found = λ n h. installed_still first n (⊎_elim (λ c. k.found n c) (λ c. new n c) (past_before xs by a b e at same grown (found_flushed n) h));
+    tables = λ j i past there. ⊎_elim
+        (λ (c : (j ≡ by) × (i ≡ 0) × (past ≡ b.participant.past)).
+            let mine = k.tables by 0 a.participant.past (own_there) in
+            let same_due : tables_due first past ≡ tables_due first a.participant.past = ap (tables_due first) c.2 ∙ due_same first quiet in
+            ⊎_elim
+            (λ (d : tables_due first a.participant.past ≤ t.last.tables). inl (subst (λ (n : ℕ). n ≤ t.last.tables) (sym same_due) d))
+            (λ (d : OtherCompacts before by 0). inr (subst (λ (n : ℕ). OtherCompacts after n i) (sym c.0) (subst (λ (n : ℕ). OtherCompacts after by n) (sym c.1) (compacts_still by 0 d))))
+            mine)
+        (λ c. ⊎_elim (λ d. inl d) (λ d. inr (compacts_still j i d)) (k.tables j i past c))
+        (was past_of xs by a b at same j i past there);
+  }
+    where
+      own_there : IsParticipantAt before by 0 a.participant.past
+      own_there = mine past_of xs by a b at same

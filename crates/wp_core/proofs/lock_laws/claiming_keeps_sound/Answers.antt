@@ -1,0 +1,7 @@
+use Rattle.std.proofs.Common.{sym, subst}
+use Rattle.wp_core.specs.IsSound.{IsSound}
+use Rattle.wp_core.proofs.KeepsClaimed.{claims_name}
+use Rattle.wp_core.proofs.lock_laws.claiming_keeps_sound.Goals as goal
+
+pub returns : goal.returns
+returns c w by name next g s = subst IsSound (sym g.3) (claims_name w by g.0 name g.1 g.2 s)

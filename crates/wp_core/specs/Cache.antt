@@ -1,0 +1,23 @@
+-- The commit cache: N words, of which a version has the one at its number modulo N.
+use Rattle.std.specs.Prelude.{ℕ, ◌%◌, List, length, slice_index, slice_set, Option}
+use Rattle.wp_judge.specs.Words.{CommitPair, word_of, pair_of, decision_if}
+
+-- the place of a version's word in a cache of so many words
+abbrev pub cache_place : ℕ → ℕ → ℕ
+cache_place words p = p % words
+
+-- the word at the place of a version
+abbrev pub word_at : List ℕ → ℕ → ℕ
+word_at cache p = slice_index cache (cache_place (length cache) p)
+
+-- the pair at a place of the cache, if the word there is one
+abbrev pub pair_at : List ℕ → ℕ → Option CommitPair
+pair_at cache place = pair_of (slice_index cache place)
+
+-- the decision that the cache has for a version
+abbrev pub cached : List ℕ → ℕ → Option ℕ
+cached cache p = decision_if p (pair_at cache (cache_place (length cache) p))
+
+-- the cache once the pair is at its place
+abbrev pub with_pair : List ℕ → CommitPair → List ℕ
+with_pair cache pair = slice_set cache (cache_place (length cache) pair.number) (word_of pair)

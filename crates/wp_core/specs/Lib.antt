@@ -1,0 +1,17 @@
+pub mod Lists
+pub mod Turns
+pub mod Cache
+pub mod Reading
+pub mod Tables
+pub mod Views
+pub mod World
+pub mod Entries
+pub mod Steps
+pub mod Changes
+pub mod Effects
+pub mod Sound
+pub mod Notes
+pub mod Conditions
+pub mod Needs
+pub mod IsSound
+pub mod Runs

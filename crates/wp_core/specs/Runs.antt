@@ -1,0 +1,77 @@
+-- The worlds that steps of any actors reach.
+use Rattle.std.specs.Prelude.{◌≡◌, ℕ, ◌≤◌, true, false, List, [], ◌∷◌, length, Option, Some, None, All}
+use mathlib.Core.Option.{some}
+use lib.ListN.{get_elem?}
+use Rattle.std.specs.FinSet as set
+use Rattle.std.specs.FinMap as finite
+use Rattle.wp_model.specs.declared.entry.Entry.{Entry}
+use Rattle.wp_model.specs.History.{named, undecided, name_at, holder_of}
+use Rattle.wp_model.specs.Legal.{IsLegal, undone_last}
+use Rattle.wp_model.specs.declared.holder.Holder.{Holder}
+use Rattle.wp_model.specs.declared.holder.Holder.TheVariants.{Txn}
+use Rattle.wp_core.specs.Turns.{all_free}
+use Rattle.wp_model.specs.LockTables.{LockTables}
+use Rattle.wp_core.specs.World.{Actor, World, new_actor}
+use Rattle.wp_core.specs.Steps.{Step}
+use Rattle.wp_core.specs.Effects.{done}
+use Rattle.wp_core.specs.Needs.{Needs}
+use Rattle.wp_core.specs.Notes.{forgets}
+use Rattle.wp_core.specs.Sound.Store.{IsStored, NoneFlushed}
+
+-- one step of an actor
+abbrev pub IsStep : World → ℕ → Step → World → Type 0
+IsStep w by step next = (a : Actor) × (get_elem? w.actors by ≡ some a) × Needs w by a step × (next ≡ done w by (forgets w.writes.history (length w.cache) step a) step)
+
+-- under the name of an undecided prepare, no client
+abbrev pub named_by : Option ℕ → Option (Option (List ℕ))
+named_by None = None
+named_by (Some p) = Some None
+
+-- the transaction that holds the key by an undecided prepare
+abbrev pub prepare_holding : List Entry → Option ℕ → Option Holder
+prepare_holding history None = None
+prepare_holding history (Some p) = Some (Txn (name_at history p))
+
+-- just the names of undecided prepares are live, had by nobody, and just their keys are held
+pub record AreOpened (history : List Entry) (t : LockTables) : Type 0 where
+  pub names : (name : List ℕ) → finite.get t.names name ≡ named_by (named history name)
+  pub keys : (key : List ℕ) → finite.get t.keys key ≡ prepare_holding history (holder_of history key)
+  pub labels : t.labels ≡ finite.empty
+
+-- a world as it is opened: on a legal history that ends in no undo
+pub record IsOpening (w : World) : Type 0 where
+  pub legal : IsLegal w.opened
+  pub closed_undo : undone_last w.opened ≡ None
+  pub history : w.writes.history ≡ w.opened
+  pub pending : w.writes.pending ≡ []
+  pub log : w.writes.log ≡ w.opened
+  pub running_log : w.writes.closed ≡ false
+  pub none_failed : w.writes.failed ≡ []
+  pub max_evicted : w.max_evicted ≡ length w.opened
+  pub words : 1 ≤ length w.cache
+  pub cache : All (λ word. word ≡ 0) w.cache
+  pub holders : w.holders ≡ all_free
+  pub heap : w.prepared.heap ≡ set.empty
+  pub delayed : w.prepared.delayed ≡ set.from_list (undecided w.opened)
+  pub delayed_commits : w.prepared.delayed_commits ≡ finite.empty
+  pub delayed_flag : w.delayed_flag ≡ 0 → undecided w.opened ≡ []
+  pub delayed_free : undecided w.opened ≡ [] → w.delayed_flag ≡ 0
+  pub old_flag : w.old_flag ≡ 0
+  pub snapshots : w.snapshots ≡ finite.empty
+  pub versions : IsStored w.opened [] w.snapshots w.store w.installed
+  pub flushed : NoneFlushed w.store.memory w.installed.last.flushed
+  pub first_edit : w.installed.last ≡ w.first_edit
+  pub not_failed : w.installed.failed ≡ None
+  pub running : w.installed.halted ≡ false
+  pub locks : AreOpened w.opened w.locks
+  pub client : List ℕ
+  pub actors : w.actors ≡ new_actor true client w.opened ∷ []
+
+-- the second world is reached from the first
+pub data ReachesFrom (w : World) : World → Type 0 where
+  stays : ReachesFrom w w
+  goes_on : {last next : World} (by : ℕ) (step : Step) → ReachesFrom w last → IsStep last by step next → ReachesFrom w next
+
+-- the world is reached from an opening
+abbrev pub Reaches : World → Type 0
+Reaches w = (first : World) × IsOpening first × ReachesFrom first w

@@ -1,0 +1,33 @@
+-- What is so of the history and its log.
+use Rattle.std.specs.Prelude.{◌≡◌, ℕ, ◌≤◌, ◌⊎◌, Bool, true, false, List, [], ◌∷◌, ◌++◌, length, Option, Some, None}
+use Rattle.wp_model.specs.declared.entry.Entry.{Entry}
+use Rattle.wp_model.specs.declared.entry.Entry.TheVariants.{Close}
+use Rattle.wp_model.specs.Legal.{IsLegal, undone_last}
+use Rattle.wp_core.specs.Tables.{WriteTable}
+use Rattle.wp_core.specs.Entries.{IsRecord}
+use Rattle.wp_core.specs.Sound.Actors.{StartsWith}
+
+abbrev pub logged_part : Bool → List Entry → List Entry
+logged_part true pending = pending
+logged_part false pending = []
+
+-- a record, what is left of it after an Undo, or nothing
+abbrev pub IsRest : List Entry → Type 0
+IsRest entries = (entries ≡ []) ⊎ (IsRecord entries ⊎ ((p : ℕ) × (entries ≡ Close p ∷ [])))
+
+pub record IsHistory (opened : List Entry) (t : WriteTable) (max : ℕ) : Type 0 where
+  pub legal : IsLegal t.history
+  pub grown : StartsWith t.history opened
+  pub bounded : max ≤ length t.history
+  -- the log spells the history, and then the pending record once it is logged
+  pub log : t.log ≡ t.history ++ logged_part t.logged t.pending
+  pub rest : IsRest t.pending
+  pub legal_next : IsLegal (t.history ++ t.pending)
+  -- the log may have the record whose append failed
+  pub legal_failed : IsLegal (t.history ++ t.failed)
+  pub none_failed : t.closed ≡ false → t.failed ≡ []
+  pub undo_closes : (p : ℕ) → undone_last t.history ≡ Some p → (t.pending ≡ Close p ∷ []) × (t.logged ≡ true)
+
+-- an entry is pending only while somebody holds the write turn
+abbrev pub IsPendingHeld : Option ℕ → List Entry → Type 0
+IsPendingHeld holder pending = holder ≡ None → pending ≡ []

@@ -1,0 +1,98 @@
+-- What is so of the actors' pasts: whom they found, what they told, which faults they met, which edits they installed.
+use Rattle.std.specs.Prelude.{◌≡◌, ◌≢◌, ◌⊎◌, ℕ, ◌+◌, ◌≤◌, Bool, true, false, List, [], length, take, fold, Option, Some, is_some}
+use Rattle.std.specs.FinMap as finite
+use Rattle.wp_model.specs.declared.entry.Entry.{Entry}
+use Rattle.wp_model.specs.History.{named}
+use Rattle.wp_model.specs.declared.holder.Holder.{Holder}
+use Rattle.wp_model.specs.declared.holder.Holder.TheVariants.{Txn, Client}
+use Rattle.wp_core.specs.Lists.{IsIn, one_if, total}
+use Rattle.wp_model.specs.LockTables.{LockTables}
+use Rattle.wp_core.specs.Tables.{WriteTable, InstalledEdit, Installed}
+use Rattle.wp_core.specs.Views.{Account, own, another, prepare_at, Event, claimed, took, locked, told, heard, installed, log_failed, tables_failed, stopped, found_flushed, found}
+use Rattle.wp_core.specs.World.{Participant}
+use Rattle.wp_core.specs.Sound.Actors.{IsParticipantAt, total_participants}
+
+abbrev pub past_of : Participant → List Event
+past_of p = p.past
+
+-- it is in the past of this one of the participants
+abbrev pub HasDone : List (List (List Event)) → ℕ → ℕ → Event → Type 0
+HasDone pasts j i e = (past : List Event) × IsParticipantAt pasts j i past × IsIn e past
+
+-- it is in somebody's past
+abbrev pub IsPast : List (List (List Event)) → Event → Type 0
+IsPast pasts e = (j i : ℕ) × HasDone pasts j i e
+
+-- how often all pasts together have such an event
+abbrev pub times_past : (Event → Bool) → List (List (List Event)) → ℕ
+times_past test pasts = total_participants (total (λ e. one_if (test e))) pasts
+
+-- ---- holders
+
+-- the event made the holder one: the name was claimed or taken, or the key locked for a direct write
+abbrev pub Makes : Event → Option (List ℕ) → Holder → Type 0
+Makes (claimed name) key (Txn other) = name ≡ other
+Makes (took name) key (Txn other) = name ≡ other
+Makes (locked key holder) (Some other) (Client client) = (key ≡ other) × (holder ≡ Client client)
+Makes e key holder = ⊥
+
+-- How the answer of one of the participants, that this is the holder of a key or else a live name, is accounted for: by
+-- what it did itself, by what another did, or by a prepare that was undecided when it had seen so many entries, or later.
+abbrev pub IsAccounted : List Entry → List (List (List Event)) → ℕ → ℕ → Option (List ℕ) → Holder → ℕ → Account → Type 0
+IsAccounted history pasts j i key holder seen own = (e : Event) × Makes e key holder × HasDone pasts j i e
+IsAccounted history pasts j i key holder seen another = (k l : ℕ) × (e : Event) × ((k ≢ j) ⊎ (l ≢ i)) × Makes e key holder × HasDone pasts k l e
+IsAccounted history pasts j i key (Txn name) seen (prepare_at n) = (seen ≤ n) × (n ≤ length history) × (is_some (named (take n history) name) ≡ true)
+IsAccounted history pasts j i key (Client name) seen (prepare_at n) = ⊥
+
+-- a live name was claimed or taken, or comes from the opening; a key of a direct write was locked; what was found is accounted for
+pub record AreHolders (opened history : List Entry) (t : LockTables) (pasts : List (List (List Event))) : Type 0 where
+  pub names : (name : List ℕ) → is_some (finite.get t.names name) ≡ true → (IsPast pasts (claimed name) ⊎ IsPast pasts (took name)) ⊎ (is_some (named opened name) ≡ true)
+  pub keys : (key client : List ℕ) → finite.get t.keys key ≡ Some (Client client) → IsPast pasts (locked key (Client client))
+  pub found : (j i : ℕ) (key : Option (List ℕ)) (holder : Holder) (seen : ℕ) (account : Account) → HasDone pasts j i (found key holder seen account) → IsAccounted history pasts j i key holder seen account
+
+-- ---- the board
+
+pub record IsBoard (published : ℕ) (t : LockTables) (pasts : List (List (List Event))) : Type 0 where
+  pub labels : (label : List ℕ) (n : ℕ) → IsPast pasts (told label n) ⊎ IsPast pasts (heard label n) → is_some (finite.get t.labels label) ≡ true
+  pub numbers : (label : List ℕ) (n : ℕ) → finite.get t.labels label ≡ Some n → IsPast pasts (told label n) × (n ≤ published)
+  pub heard : (label : List ℕ) (n : ℕ) → IsPast pasts (heard label n) → IsPast pasts (told label n)
+
+-- ---- faults
+
+abbrev pub is_log_fault : Event → Bool
+is_log_fault log_failed = true
+is_log_fault other = false
+
+abbrev pub is_tables_fault : Event → Bool
+is_tables_fault tables_failed = true
+is_tables_fault other = false
+
+pub record AreFaults (writes : WriteTable) (halted : Bool) (pasts : List (List (List Event))) : Type 0 where
+  pub log : times_past is_log_fault pasts ≡ one_if writes.closed
+  pub tables : times_past is_tables_fault pasts ≡ one_if halted
+  pub not_logged : writes.closed ≡ true → (writes.pending ≡ []) ⊎ (writes.logged ≡ false)
+  pub stopped : (n : ℕ) → IsPast pasts (stopped n) → (writes.closed ≡ true) × (n ≡ length writes.history)
+
+-- ---- edits
+
+-- a flushed number is that of the opening, or one that a flush installed
+abbrev pub WasInstalled : InstalledEdit → List (List (List Event)) → ℕ → Type 0
+WasInstalled first pasts n = (n ≡ first.flushed) ⊎ ((tables : ℕ) × IsPast pasts (installed n tables false))
+
+-- the tables that are there at least, for one who knows of so many and installed an edit
+abbrev pub due_after : ℕ → Event → ℕ
+due_after due (installed n tables true) = tables
+due_after due (installed n tables false) = due + 1
+due_after due other = due
+
+abbrev pub tables_due : InstalledEdit → List Event → ℕ
+tables_due first past = fold due_after first.tables past
+
+-- another one has a compaction in its past
+abbrev pub OtherCompacts : List (List (List Event)) → ℕ → ℕ → Type 0
+OtherCompacts pasts j i = (k l n tables : ℕ) × ((k ≢ j) ⊎ (l ≢ i)) × HasDone pasts k l (installed n tables true)
+
+pub record AreEdits (first : InstalledEdit) (t : Installed) (pasts : List (List (List Event))) : Type 0 where
+  pub last : WasInstalled first pasts t.last.flushed
+  pub found : (n : ℕ) → IsPast pasts (found_flushed n) → WasInstalled first pasts n
+  pub tables : (j i : ℕ) (past : List Event) → IsParticipantAt pasts j i past → (tables_due first past ≤ t.last.tables) ⊎ OtherCompacts pasts j i

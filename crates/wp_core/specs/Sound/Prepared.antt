@@ -1,0 +1,64 @@
+-- What is so of the cache, the prepared tables, and the old commit map.
+use Rattle.std.specs.Prelude.{◌≡◌, ℕ, ◌≤◌, ◌<◌, ◌⊎◌, true, List, length, slice_index, Option, Some, None}
+use Rattle.std.specs.FinSet as set
+use Rattle.std.specs.FinMap as finite
+use Rattle.wp_model.specs.declared.entry.Entry.{Entry}
+use Rattle.wp_model.specs.History.{entry_at, is_prepare, is_undecided}
+use Rattle.wp_model.specs.Decision.{decision_of}
+use Rattle.wp_model.specs.Snapshots.{IsLive, is_old_commit}
+use Rattle.wp_judge.specs.Words.{CommitPair}
+use Rattle.wp_core.specs.Cache.{cache_place, cached, pair_at}
+use Rattle.wp_model.specs.PreparedTables.{PreparedTables, is_prepared}
+use Rattle.wp_model.specs.Snapshots.{Snapshots}
+use Rattle.wp_core.specs.Tables.{NoneDelayed, NoOldCommits}
+use Rattle.wp_core.specs.Entries.{extended}
+
+-- ---- the cache
+
+pub record IsPairAt (history : List Entry) (words place : ℕ) (pair : CommitPair) : Type 0 where
+  pub placed : cache_place words pair.number ≡ place
+  pub decided : decision_of history pair.number ≡ Some pair.decision
+
+-- each word is empty, or has a pair at its place that the history decides, with the pending entry
+pub record IsCache (history pending : List Entry) (cache : List ℕ) : Type 0 where
+  pub some : 1 ≤ length cache
+  pub empty : (i : ℕ) → i < length cache → pair_at cache i ≡ None → slice_index cache i ≡ 0
+  pub pairs : (i : ℕ) (pair : CommitPair) → i < length cache → pair_at cache i ≡ Some pair → IsPairAt (extended history pending) (length cache) i pair
+
+-- ---- what the history decides
+
+-- the old commit map has p under each live snapshot from p on and below c, the snapshots that do not see it
+abbrev pub IsInOldCommits : Snapshots → ℕ → ℕ → Type 0
+IsInOldCommits snapshots p c = (s : ℕ) → IsLive snapshots s → p ≤ s → s < c → is_old_commit snapshots s p ≡ true
+
+-- its decision is at most the bound, and the old commit map has it where it must
+abbrev pub IsPassed : ℕ → Snapshots → ℕ → ℕ → Type 0
+IsPassed max snapshots p c = (c ≤ max) × IsInOldCommits snapshots p c
+
+-- Each decided version is in its word, or is passed. The old commit map has only decided versions, and only under
+-- snapshots that they overlap.
+pub record AreDecided (history : List Entry) (cache : List ℕ) (max : ℕ) (snapshots : Snapshots) : Type 0 where
+  pub found : (p c : ℕ) → decision_of history p ≡ Some c → (cached cache p ≡ Some c) ⊎ IsPassed max snapshots p c
+  pub kept : (s p : ℕ) → is_old_commit snapshots s p ≡ true → (c : ℕ) × (decision_of history p ≡ Some c) × (p ≤ s) × (s < c)
+
+-- ---- what it leaves undecided
+
+pub record AreUndecided (history pending : List Entry) (t : PreparedTables) (max : ℕ) : Type 0 where
+  pub found : (p : ℕ) → is_undecided history p ≡ true → is_prepared t p ≡ true
+  pub heap_above : (p : ℕ) → set.contains t.heap p ≡ true → max < p
+  pub delayed_passed : (p : ℕ) → set.contains t.delayed p ≡ true → p ≤ max
+  pub known : (p : ℕ) → is_prepared t p ≡ true → is_prepare (entry_at (extended history pending) p) ≡ true
+
+-- what the prepared tables have of decided versions
+pub record AreDelayed (history : List Entry) (t : PreparedTables) (cache : List ℕ) : Type 0 where
+  pub found : (p c : ℕ) → is_prepared t p ≡ true → decision_of history p ≡ Some c → (cached cache p ≡ Some c) ⊎ (finite.get t.delayed_commits p ≡ Some c)
+  pub commits : (p c : ℕ) → finite.get t.delayed_commits p ≡ Some c → decision_of history p ≡ Some c
+
+-- ---- flags
+
+-- a flag of 0 says that there is nothing, and where the turn is free it is 0 where there is nothing
+pub record AreFlags (delayed_flag old_flag : ℕ) (t : PreparedTables) (snapshots : Snapshots) (prepared_holder snapshots_holder : Option ℕ) : Type 0 where
+  pub none_delayed : delayed_flag ≡ 0 → NoneDelayed t
+  pub none_kept : old_flag ≡ 0 → NoOldCommits snapshots
+  pub delayed_free : prepared_holder ≡ None → NoneDelayed t → delayed_flag ≡ 0
+  pub old_free : snapshots_holder ≡ None → NoOldCommits snapshots → old_flag ≡ 0

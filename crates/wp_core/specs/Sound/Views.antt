@@ -1,0 +1,100 @@
+-- What an actor noted, while others hold the tables, is so.
+use Rattle.std.specs.Prelude.{◌≡◌, ◌⊎◌, ℕ, suc, ◌≤◌, ◌<◌, true, false, List, length, Option, Some, None}
+use Rattle.std.specs.FinSet as set
+use Rattle.std.specs.FinMap as finite
+use Rattle.wp_model.specs.History.{named, batch_at, is_changed, holder_of}
+use Rattle.wp_model.specs.Legal.{prior}
+use Rattle.wp_model.specs.Decision.{version_in}
+use Rattle.wp_model.specs.Versions.{version_at}
+use Rattle.wp_model.specs.Covered.{is_among}
+use Rattle.wp_model.specs.Snapshots.{IsLive}
+use Rattle.wp_model.specs.declared.holder.Holder.TheVariants.{Txn, Client}
+use Rattle.wp_core.specs.Lists.{Each, IsIn}
+use Rattle.wp_core.specs.Turns.{Turn, write_turn, prepared_turn, snapshots_turn, tables_turn, Holders, Holds}
+use Rattle.wp_judge.specs.Words.{CommitPair}
+use Rattle.wp_core.specs.Cache.{pair_at}
+use Rattle.wp_model.specs.PreparedTables.{PreparedTables, is_prepared}
+use Rattle.wp_model.specs.Snapshots.{Snapshots}
+use Rattle.wp_model.specs.LockTables.{LockTables}
+use Rattle.wp_core.specs.Tables.{WriteTable, Store, Installed}
+use Rattle.wp_core.specs.Views.{Fact, passed, in_old_commits, apart, words_stay, versions_in_memory, versions_nowhere, number_in_heap, number_not_in_heap, undecided_at, prior_values, unprepared, direct_free, tables_stay, live_listed, nothing_flushed, frozen_stay, delayed_flag_stays, old_flag_stays}
+use Rattle.wp_core.specs.Entries.{next_of}
+use Rattle.wp_core.specs.World.{Transaction, Participant, Actor}
+use Rattle.wp_core.specs.Sound.Prepared.{IsInOldCommits}
+use Rattle.wp_core.specs.Sound.Store.{NoneFlushed}
+
+-- ---- which turn guards a fact
+
+-- while this turn is held the fact stays; none: without a turn
+abbrev pub guarded_by : Fact → Option Turn
+guarded_by (undecided_at name p) = None
+guarded_by (prior_values name p batch) = None
+guarded_by (unprepared name) = None
+guarded_by (direct_free key) = None
+guarded_by (live_listed floor listed) = None
+guarded_by (tables_stay versions floor) = Some tables_turn
+guarded_by nothing_flushed = Some tables_turn
+guarded_by (frozen_stay n versions) = Some tables_turn
+guarded_by (delayed_flag_stays value) = Some prepared_turn
+guarded_by (old_flag_stays value) = Some snapshots_turn
+guarded_by other = Some write_turn
+
+-- the actor holds the turn that guards the fact, if one does
+abbrev pub IsGuarded : Holders → Fact → ℕ → Type 0
+IsGuarded holders fact by = (turn : Turn) → guarded_by fact ≡ Some turn → Holds holders turn by
+
+-- ---- what it says
+
+-- the word at this place has the pair, which is published
+pub record IsClearing (published : ℕ) (cache : List ℕ) (place : ℕ) (pair : CommitPair) (why : Type 0) : Type 0 where
+  pub place_within : place < length cache
+  pub there : pair_at cache place ≡ Some pair
+  pub published_by : pair.decision ≤ published
+  pub so : why
+
+-- no prepared table has it, or the delayed commits do
+abbrev pub IsApart : PreparedTables → CommitPair → Type 0
+IsApart t pair = (is_prepared t pair.number ≡ false) ⊎ (finite.get t.delayed_commits pair.number ≡ Some pair.decision)
+
+-- the versions of the pending entry are in memory
+abbrev pub IsInMemory : WriteTable → Store → Type 0
+IsInMemory d t = (key : List ℕ) (value : Option (List ℕ)) → version_in (next_of d.pending) key ≡ Some value → version_at t.memory key (suc (length d.history)) ≡ Some value
+
+abbrev pub IsNowhere : WriteTable → Store → Type 0
+IsNowhere d t = (key : List ℕ) → version_at t.memory key (suc (length d.history)) ≡ None
+
+-- the transaction is the actor's
+abbrev pub Owns : Participant → List ℕ → Type 0
+Owns a name = (t : Transaction) × (finite.get a.transactions name ≡ Some t)
+
+abbrev pub IsSo : ℕ → ℕ → ℕ → List ℕ → WriteTable → PreparedTables → Snapshots → Store → LockTables → Installed → Participant → Fact → Type 0
+IsSo delayed_flag old_flag max cache d t m s l e a (passed place pair) = IsClearing (length d.history) cache place pair (pair.decision ≤ max)
+IsSo delayed_flag old_flag max cache d t m s l e a (in_old_commits place pair) = IsClearing (length d.history) cache place pair (IsInOldCommits m pair.number pair.decision)
+IsSo delayed_flag old_flag max cache d t m s l e a (apart place pair) = IsClearing (length d.history) cache place pair (IsApart t pair)
+IsSo delayed_flag old_flag max cache d t m s l e a (words_stay bound words) = (max ≡ bound) × (cache ≡ words)
+IsSo delayed_flag old_flag max cache d t m s l e a versions_in_memory = IsInMemory d s
+IsSo delayed_flag old_flag max cache d t m s l e a versions_nowhere = IsNowhere d s
+IsSo delayed_flag old_flag max cache d t m s l e a number_in_heap = set.contains t.heap (suc (length d.history)) ≡ true
+IsSo delayed_flag old_flag max cache d t m s l e a number_not_in_heap = set.contains t.heap (suc (length d.history)) ≡ false
+IsSo delayed_flag old_flag max cache d t m s l e a (undecided_at name p) = Owns a name × (named d.history name ≡ Some p) × (finite.get l.names name ≡ Some (Some a.client)) × ((key : List ℕ) → is_changed (batch_at d.history p) key ≡ true → finite.get l.keys key ≡ Some (Txn name))
+IsSo delayed_flag old_flag max cache d t m s l e a (prior_values name p batch) = Owns a name × (named d.history name ≡ Some p) × (prior d.history (batch_at d.history p) ≡ batch)
+IsSo delayed_flag old_flag max cache d t m s l e a (unprepared name) = Owns a name × (named d.history name ≡ None) × ((x : Transaction) (key : List ℕ) → finite.get a.transactions name ≡ Some x → set.contains x.locked key ≡ true → holder_of d.history key ≡ None)
+IsSo delayed_flag old_flag max cache d t m s l e a (direct_free key) = (a.direct ≡ Some key) × (finite.get l.keys key ≡ Some (Client a.client)) × (holder_of d.history key ≡ None)
+IsSo delayed_flag old_flag max cache d t m s l e a (tables_stay versions floor) = (s.tables ≡ versions) × (s.floor ≡ floor)
+IsSo delayed_flag old_flag max cache d t m s l e a (live_listed floor listed) = (floor ≤ length d.history) × ((n : ℕ) → IsLive m n → (is_among listed n ≡ true) ⊎ (floor ≤ n))
+IsSo delayed_flag old_flag max cache d t m s l e a nothing_flushed = NoneFlushed s.memory e.last.flushed
+IsSo delayed_flag old_flag max cache d t m s l e a (frozen_stay n versions) = (n ≤ length d.history) × ((key : List ℕ) (p : ℕ) → p ≤ n → version_at s.memory key p ≡ version_at versions key p)
+IsSo delayed_flag old_flag max cache d t m s l e a (delayed_flag_stays value) = delayed_flag ≡ value
+IsSo delayed_flag old_flag max cache d t m s l e a (old_flag_stays value) = old_flag ≡ value
+
+-- ---- the notes of all actors
+
+abbrev pub noter_of : Actor → Participant × List Fact
+noter_of a = (a.participant, a.notes)
+
+pub record IsNoted (holders : Holders) (so : Participant → Fact → Type 0) (j : ℕ) (x : Participant × List Fact) (fact : Fact) : Type 0 where
+  pub guarded : IsGuarded holders fact j
+  pub is_so : so x.0 fact
+
+abbrev pub AreNoted : Holders → (Participant → Fact → Type 0) → List (Participant × List Fact) → Type 0
+AreNoted holders so noters = Each (λ j x. (fact : Fact) → IsIn fact x.1 → IsNoted holders so j x fact) noters

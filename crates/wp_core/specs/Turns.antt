@@ -1,0 +1,51 @@
+-- The six turns, and who holds them. A turn guards a table: who holds it reads and changes the table, and nobody else.
+use Rattle.std.specs.Prelude.{◌≡◌, ℕ, Option, Some, None}
+
+-- The write turn guards the history and its log, the prepared turn the tables of prepared transactions, the snapshots turn
+-- the live snapshots with the old commit map, the store turn the versions, the locks turn names and keys and labels, the
+-- tables turn the manifest and the table files.
+pub data Turn : Type 0 where
+  write_turn : Turn
+  prepared_turn : Turn
+  snapshots_turn : Turn
+  store_turn : Turn
+  locks_turn : Turn
+  tables_turn : Turn
+
+-- of each turn the actor that holds it, if one does
+pub record Holders : Type 0 where
+  pub write : Option ℕ
+  pub prepared : Option ℕ
+  pub snapshots : Option ℕ
+  pub store : Option ℕ
+  pub locks : Option ℕ
+  pub tables : Option ℕ
+
+abbrev pub holder_of : Holders → Turn → Option ℕ
+holder_of holders write_turn = holders.write
+holder_of holders prepared_turn = holders.prepared
+holder_of holders snapshots_turn = holders.snapshots
+holder_of holders store_turn = holders.store
+holder_of holders locks_turn = holders.locks
+holder_of holders tables_turn = holders.tables
+
+-- the holders once the turn has this one, or none
+abbrev pub with_holder : Holders → Turn → Option ℕ → Holders
+with_holder holders write_turn holder = record holders { write = holder }
+with_holder holders prepared_turn holder = record holders { prepared = holder }
+with_holder holders snapshots_turn holder = record holders { snapshots = holder }
+with_holder holders store_turn holder = record holders { store = holder }
+with_holder holders locks_turn holder = record holders { locks = holder }
+with_holder holders tables_turn holder = record holders { tables = holder }
+
+abbrev pub all_free : Holders
+all_free = record { write = None; prepared = None; snapshots = None; store = None; locks = None; tables = None }
+
+-- the actor holds the turn
+abbrev pub Holds : Holders → Turn → ℕ → Type 0
+Holds holders turn by = holder_of holders turn ≡ Some by
+
+-- the turn's word, where a turn is taken by an exchange of 0 for 1
+abbrev pub turn_word : Option ℕ → ℕ
+turn_word None = 0
+turn_word (Some holder) = 1

@@ -1,0 +1,60 @@
+-- What an actor did and found, and what it knows of tables that others may hold.
+use Rattle.std.specs.Prelude.{ℕ, Bool, List, Option}
+use Rattle.wp_model.specs.declared.change.Change.{Change}
+use Rattle.wp_model.specs.declared.version.Version.{Version}
+use Rattle.wp_model.specs.declared.holder.Holder.{Holder}
+use Rattle.wp_judge.specs.Words.{CommitPair}
+
+-- how a holder that was found is accounted for: the finder's own, another actor's, or a prepare undecided after so many entries
+pub data Account : Type 0 where
+  own : Account
+  another : Account
+  prepare_at : ℕ → Account
+
+-- what stays in an actor's past
+pub data Event : Type 0 where
+  claimed : List ℕ → Event
+  took : List ℕ → Event
+  locked : List ℕ → Holder → Event
+  told : List ℕ → ℕ → Event
+  heard : List ℕ → ℕ → Event
+  -- an edit with this flushed number and so many tables; true where a compaction made it
+  installed : ℕ → ℕ → Bool → Event
+  log_failed : Event
+  tables_failed : Event
+  -- the log was found closed at this published number
+  stopped : ℕ → Event
+  found_flushed : ℕ → Event
+  -- this holder was found, of a key or else of a live name, by one who had seen so many entries
+  found : Option (List ℕ) → Holder → ℕ → Account → Event
+
+-- A fact that the actor noted. While it holds the turn that guards the fact, if one does, the fact stays so until the actor
+-- itself ends it.
+pub data Fact : Type 0 where
+  -- The pair of the word at this place may be evicted: its decision is at most the bound; the old commit map has it under
+  -- each live snapshot that it overlaps; and it is of no prepared transaction, or a delayed commit.
+  passed : ℕ → CommitPair → Fact
+  in_old_commits : ℕ → CommitPair → Fact
+  apart : ℕ → CommitPair → Fact
+  -- nobody else changes the bound or a word
+  words_stay : ℕ → List ℕ → Fact
+  -- of the pending entry
+  versions_in_memory : Fact
+  versions_nowhere : Fact
+  number_in_heap : Fact
+  number_not_in_heap : Fact
+  -- of a transaction: undecided under this number; what a rollback of it writes; named by no undecided prepare
+  undecided_at : List ℕ → ℕ → Fact
+  prior_values : List ℕ → ℕ → List Change → Fact
+  unprepared : List ℕ → Fact
+  -- the key of a direct write is in no undecided batch
+  direct_free : List ℕ → Fact
+  -- for maintenance: the versions in tables and the floor; each live number is listed or from the floor on; no flushed version
+  -- in memory; the versions in memory up to a number
+  tables_stay : List Version → ℕ → Fact
+  live_listed : ℕ → List ℕ → Fact
+  nothing_flushed : Fact
+  frozen_stay : ℕ → List Version → Fact
+  -- nobody else stores the flag
+  delayed_flag_stays : ℕ → Fact
+  old_flag_stays : ℕ → Fact
