@@ -25,9 +25,9 @@ module _ {X : Type 0} (f : Participant → X) (xs : List Actor) (by : ℕ) (a b 
       let there : get_elem? (set (map (participants_of f) xs) by (participants_of f b)) j ≡ some k.0 = ap (λ (z : List (List X)). get_elem? z j) (sym (map_set (participants_of f) xs by b)) ∙ k.1 in
       ⊎_elim
       (λ (t : (j ≡ by) × (participants_of f b ≡ k.0)). ⊎_elim
-          (λ (u : (i ≡ 0) × (y ≡ f b.participant)). inl (t.0, u.0, u.1))
-          (λ (u : get_elem? (participants_of f a) i ≡ some y). inr (participants_of f a, ap (get_elem? (map (participants_of f) xs)) t.0 ∙ at_map (participants_of f) xs by a at, u))
-          (first_or_joined i y (ap (λ (z : List X). get_elem? z i) t.1 ∙ k.2)))
+      (λ (u : (i ≡ 0) × (y ≡ f b.participant)). inl (t.0, u.0, u.1))
+      (λ (u : get_elem? (participants_of f a) i ≡ some y). inr (participants_of f a, ap (get_elem? (map (participants_of f) xs)) t.0 ∙ at_map (participants_of f) xs by a at, u))
+      (first_or_joined i y (ap (λ (z : List X). get_elem? z i) t.1 ∙ k.2)))
       (λ (t : (j ≢ by) × (get_elem? (map (participants_of f) xs) j ≡ some k.0)). inr (k.0, t.1, k.2))
       (at_set (map (participants_of f) xs) by j (participants_of f b) k.0 there)
 
@@ -39,11 +39,11 @@ module _ {X : Type 0} (f : Participant → X) (xs : List Actor) (by : ℕ) (a b 
   pub still : (j i : ℕ) (y : X) → IsParticipantAt (map (participants_of f) xs) j i y → ((j ≡ by) × (i ≡ 0) × (y ≡ f a.participant)) ⊎ IsParticipantAt (map (participants_of f) (set xs by b)) j i y
   still j i y k = dite (ℕ_discrete j by)
       (λ (e : j ≡ by).
-          let is : k.0 ≡ participants_of f a = some-injective k.0 (participants_of f a) (sym k.1 ∙ (ap (get_elem? (map (participants_of f) xs)) e ∙ at_map (participants_of f) xs by a at)) in
-          ⊎_elim
-          (λ (u : (i ≡ 0) × (y ≡ f a.participant)). inl (e, u.0, u.1))
-          (λ (u : get_elem? (participants_of f b) i ≡ some y). inr (participants_of f b, ap (get_elem? (map (participants_of f) (set xs by b))) e ∙ at_map (participants_of f) (set xs by b) by b (here xs by a b at), u))
-          (first_or_still i y (ap (λ (z : List X). get_elem? z i) (sym is) ∙ k.2)))
+      let is : k.0 ≡ participants_of f a = some-injective k.0 (participants_of f a) (sym k.1 ∙ (ap (get_elem? (map (participants_of f) xs)) e ∙ at_map (participants_of f) xs by a at)) in
+      ⊎_elim
+      (λ (u : (i ≡ 0) × (y ≡ f a.participant)). inl (e, u.0, u.1))
+      (λ (u : get_elem? (participants_of f b) i ≡ some y). inr (participants_of f b, ap (get_elem? (map (participants_of f) (set xs by b))) e ∙ at_map (participants_of f) (set xs by b) by b (here xs by a b at), u))
+      (first_or_still i y (ap (λ (z : List X). get_elem? z i) (sym is) ∙ k.2)))
       (λ (ne : j ≢ by). inr (k.0, ap (λ (z : List (List X)). get_elem? z j) (map_set (participants_of f) xs by b) ∙ (set_else (map (participants_of f) xs) by j (participants_of f b) ne ∙ k.1), k.2))
 
   first_or_other : (i : ℕ) (y : X) → get_elem? (participants_of f b) i ≡ some y → ((i ≡ 0) × (y ≡ f b.participant)) ⊎ ((i ≢ 0) × (get_elem? (participants_of f a) i ≡ some y))
@@ -56,8 +56,8 @@ module _ {X : Type 0} (f : Participant → X) (xs : List Actor) (by : ℕ) (a b 
       let there : get_elem? (set (map (participants_of f) xs) by (participants_of f b)) j ≡ some k.0 = ap (λ (z : List (List X)). get_elem? z j) (sym (map_set (participants_of f) xs by b)) ∙ k.1 in
       ⊎_elim
       (λ (t : (j ≡ by) × (participants_of f b ≡ k.0)). ⊎_elim
-          (λ (u : (i ≡ 0) × (y ≡ f b.participant)). inl (t.0, u.0, u.1))
-          (λ (u : (i ≢ 0) × (get_elem? (participants_of f a) i ≡ some y)). inr (inr u.0, (participants_of f a, ap (get_elem? (map (participants_of f) xs)) t.0 ∙ at_map (participants_of f) xs by a at, u.1)))
-          (first_or_other i y (ap (λ (z : List X). get_elem? z i) t.1 ∙ k.2)))
+      (λ (u : (i ≡ 0) × (y ≡ f b.participant)). inl (t.0, u.0, u.1))
+      (λ (u : (i ≢ 0) × (get_elem? (participants_of f a) i ≡ some y)). inr (inr u.0, (participants_of f a, ap (get_elem? (map (participants_of f) xs)) t.0 ∙ at_map (participants_of f) xs by a at, u.1)))
+      (first_or_other i y (ap (λ (z : List X). get_elem? z i) t.1 ∙ k.2)))
       (λ (t : (j ≢ by) × (get_elem? (map (participants_of f) xs) j ≡ some k.0)). inr (inl t.0, (k.0, t.1, k.2)))
       (at_set (map (participants_of f) xs) by j (participants_of f b) k.0 there)

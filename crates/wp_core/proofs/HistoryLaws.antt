@@ -9,7 +9,7 @@ use Rattle.wp_model.specs.declared.entry.Entry.TheVariants.{Write, Prepare, Comm
 use Rattle.wp_model.specs.History.{entry_at, is_prepare, decides, is_undecided}
 use Rattle.wp_model.specs.Legal.{IsLegal, IsLegalNext}
 use Rattle.wp_model.specs.Decision.{decision_of, decision_in}
-use Rattle.wp_history.proofs.Growth.{entry_at_old, entry_at_next, entry_at_past, behind_front, legal_before}
+use Rattle.wp_history.proofs.Growth.{entry_at_old, entry_at_next, entry_at_past, after_front, legal_before}
 use Rattle.wp_history.proofs.Undecided.{undecided_within}
 use Rattle.wp_judge.specs.Words.{CommitPair}
 use Rattle.wp_core.specs.Entries.{pair_by}
@@ -274,11 +274,11 @@ next_decides history (Undo p batch) pair legal e =
     is_pair history (Undo p batch) (suc (length history)) (suc (length history)) pair e
     record { decided = ap (decision_in (history ++ Undo p batch ∷ []) (suc (length history))) (entry_next history (Undo p batch)); positive = omega arith; ordered = omega arith; last = refl }
 next_decides history (Commit p) pair legal e =
-    let u : is_undecided history p ≡ true = (behind_front history (Commit p) [] legal).names_undecided in let low = undecided_within history p u in
+    let u : is_undecided history p ≡ true = (after_front history (Commit p) [] legal).names_undecided in let low = undecided_within history p u in
     is_pair history (Commit p) p (suc (length history)) pair e
     record { decided = next_decides_prepare history (Commit p) p u (decides_itself p); positive = low.0; ordered = omega (arith, low.1); last = refl }
 next_decides history (Close p) pair legal e =
-    let u : is_undecided history p ≡ true = (behind_front history (Close p) [] legal).names_undecided in let low = undecided_within history p u in
+    let u : is_undecided history p ≡ true = (after_front history (Close p) [] legal).names_undecided in let low = undecided_within history p u in
     is_pair history (Close p) p (suc (length history)) pair e
     record { decided = next_decides_prepare history (Close p) p u (decides_itself p); positive = low.0; ordered = omega (arith, low.1); last = refl }
 next_decides history (Prepare name batch) pair legal e = let no : None ≡ Some pair = e in absurd (cc)

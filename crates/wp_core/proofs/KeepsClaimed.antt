@@ -108,7 +108,7 @@ module _ (w : World) (by : ℕ) (a : Actor) (name : List ℕ) (at : get_elem? w.
       one u v m r c d z z' new old has has' = ⊎_elim
           (λ (g : (n ≡ name) × (new_transaction ≡ z)). absurd (none_had m r d z' old (subst (λ (h : List ℕ). Has d h z') g.0 has')))
           (λ (g : (n ≡ name → ⊥) × (finite.get a.participant.transactions n ≡ Some z)).
-              let same = s.locks.apart.names by 0 m r (owner_of a.participant) d n z z' own_before old g.1 has' in (new.0 ∙ same.0, new.1 ∙ same.1))
+          let same = s.locks.apart.names by 0 m r (owner_of a.participant) d n z z' own_before old g.1 has' in (new.0 ∙ same.0, new.1 ∙ same.1))
           (has_now n z (subst (λ (h : Owner). Has h n z) new.2 has))
 
       both : Changed j i o ⊎ IsParticipantAt before j i o → Changed k l q ⊎ IsParticipantAt before k l q → (j ≡ k) × (i ≡ l)
@@ -140,7 +140,10 @@ module _ (w : World) (by : ℕ) (a : Actor) (name : List ℕ) (at : get_elem? w.
   name_still : (n client : List ℕ) → (n ≡ name → ⊥) → IsNameOf before n client → IsNameOf after n client
   name_still n client ne k = ⊎_elim
       (λ (g : (k.at ≡ by) × (k.place ≡ 0) × (k.owner ≡ owner_of a.participant)). record {
-        at = k.at; place = k.place; owner = owner_of p; transaction = k.transaction;
+        at = k.at;
+        place = k.place;
+        owner = owner_of p;
+        transaction = k.transaction;
         there = placed k.at k.place g.0 g.1;
         client_is = ap (λ (z : Owner). z.client) (sym g.2) ∙ k.client_is;
         has = else_inserted a.participant.transactions name new_transaction n ne ∙ subst (λ (z : Owner). Has z n k.transaction) g.2 k.has;
@@ -152,7 +155,9 @@ module _ (w : World) (by : ℕ) (a : Actor) (name : List ℕ) (at : get_elem? w.
   direct_still : (key client : List ℕ) → IsDirectOf before key client → IsDirectOf after key client
   direct_still key client k = ⊎_elim
       (λ (g : (k.at ≡ by) × (k.place ≡ 0) × (k.owner ≡ owner_of a.participant)). record {
-        at = k.at; place = k.place; owner = owner_of p;
+        at = k.at;
+        place = k.place;
+        owner = owner_of p;
         there = placed k.at k.place g.0 g.1;
         client_is = ap (λ (z : Owner). z.client) (sym g.2) ∙ k.client_is;
         has = ap (λ (z : Owner). z.direct) (sym g.2) ∙ k.has;
@@ -164,9 +169,9 @@ module _ (w : World) (by : ℕ) (a : Actor) (name : List ℕ) (at : get_elem? w.
   names_had : (n client : List ℕ) → finite.get t.names n ≡ Some (Some client) → IsNameOf after n client
   names_had n client h = ⊎_elim
       (λ (e : n ≡ name).
-          let q : Some (Some a.participant.client) ≡ Some (Some client) = sym (at_inserted w.locks.names name (Some a.participant.client) n e) ∙ h in
-          let same : a.participant.client ≡ client = cc in
-          record { at = by; place = 0; owner = owner_of p; transaction = new_transaction; there = own_after; client_is = same; has = at_inserted a.participant.transactions name new_transaction n e; began = inl (subst (λ (z : List ℕ). IsIn (claimed z) p.past) (sym e) (in_last (claimed name) a.participant.past)) })
+      let q : Some (Some a.participant.client) ≡ Some (Some client) = sym (at_inserted w.locks.names name (Some a.participant.client) n e) ∙ h in
+      let same : a.participant.client ≡ client = cc in
+      record { at = by; place = 0; owner = owner_of p; transaction = new_transaction; there = own_after; client_is = same; has = at_inserted a.participant.transactions name new_transaction n e; began = inl (subst (λ (z : List ℕ). IsIn (claimed z) p.past) (sym e) (in_last (claimed name) a.participant.past)) })
       (λ (ne : n ≡ name → ⊥). name_still n client ne (s.locks.names_had n client (sym (else_inserted w.locks.names name (Some a.participant.client) n ne) ∙ h))) (is_word_same n name)
 
   names_left : (n : List ℕ) → finite.get t.names n ≡ Some None → is_some (named w.writes.history n) ≡ true
@@ -180,9 +185,9 @@ module _ (w : World) (by : ℕ) (a : Actor) (name : List ℕ) (at : get_elem? w.
   keys_known : (key n : List ℕ) → finite.get w.locks.keys key ≡ Some (Txn n) → (j i : ℕ) (o : Owner) → IsParticipantAt after j i o → (x : Transaction) → Has o n x → words.contains x.locked key ≡ true
   keys_known key n h j i o there x has = ⊎_elim
       (λ (g : (j ≡ by) × (i ≡ 0) × (o ≡ owner_of p)). ⊎_elim
-          (λ (u : (n ≡ name) × (new_transaction ≡ x)). absurd (not_live (subst (λ (z : List ℕ). is_some (finite.get w.locks.names z) ≡ true) u.0 (s.locks.keys_live key n h))))
-          (λ (u : (n ≡ name → ⊥) × (finite.get a.participant.transactions n ≡ Some x)). s.locks.keys_known key n h by 0 (owner_of a.participant) own_before x u.1)
-          (has_now n x (subst (λ (z : Owner). Has z n x) g.2 has)))
+      (λ (u : (n ≡ name) × (new_transaction ≡ x)). absurd (not_live (subst (λ (z : List ℕ). is_some (finite.get w.locks.names z) ≡ true) u.0 (s.locks.keys_live key n h))))
+      (λ (u : (n ≡ name → ⊥) × (finite.get a.participant.transactions n ≡ Some x)). s.locks.keys_known key n h by 0 (owner_of a.participant) own_before x u.1)
+      (has_now n x (subst (λ (z : Owner). Has z n x) g.2 has)))
       (λ (g : IsParticipantAt before j i o). s.locks.keys_known key n h j i o g x has) (was owner_of w.actors by a b at refl j i o there)
 
   locked_part : AreLocked w.writes.history t after
@@ -268,7 +273,7 @@ module _ (w : World) (by : ℕ) (a : Actor) (name : List ℕ) (at : get_elem? w.
   board_part : IsBoard (world.published w) t (map (participants_of past_of) (actors_after w by a (claim_name name) p a.learned t))
   board_part =
       let k = board_more w.actors by a b (claimed name) at refl refl (world.published w) w.locks
-          (λ label n q. absurd (⊎_elim (λ (r : claimed name ≡ told label n). cc) (λ (r : claimed name ≡ heard label n). cc) q)) (λ label n q. absurd cc) s.board in
+      (λ label n q. absurd (⊎_elim (λ (r : claimed name ≡ told label n). cc) (λ (r : claimed name ≡ heard label n). cc) q)) (λ label n q. absurd cc) s.board in
       record { labels = k.labels; numbers = k.numbers; heard = k.heard }
 
   parts : LocksParts w by a (claim_name name) p a.learned t

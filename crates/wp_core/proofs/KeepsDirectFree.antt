@@ -104,7 +104,10 @@ module _ (w : World) (by : ℕ) (a : Actor) (key : List ℕ) (at : get_elem? w.a
   name_still : (n c : List ℕ) → IsNameOf before n c → IsNameOf after n c
   name_still n c k = ⊎_elim
       (λ (g : (k.at ≡ by) × (k.place ≡ 0) × (k.owner ≡ owner_of a.participant)). record {
-        at = k.at; place = k.place; owner = owner_of p; transaction = k.transaction;
+        at = k.at;
+        place = k.place;
+        owner = owner_of p;
+        transaction = k.transaction;
         there = placed k.at k.place g.0 g.1;
         client_is = ap (λ (z : Owner). z.client) (sym g.2) ∙ k.client_is;
         has = subst (λ (z : Owner). Has z n k.transaction) g.2 k.has;

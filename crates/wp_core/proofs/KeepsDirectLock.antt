@@ -123,7 +123,10 @@ module _ (w : World) (by : ℕ) (a : Actor) (key : List ℕ) (at : get_elem? w.a
   name_still : (n c : List ℕ) → IsNameOf before n c → IsNameOf after n c
   name_still n c k = ⊎_elim
       (λ (g : (k.at ≡ by) × (k.place ≡ 0) × (k.owner ≡ owner_of a.participant)). record {
-        at = k.at; place = k.place; owner = owner_of p; transaction = k.transaction;
+        at = k.at;
+        place = k.place;
+        owner = owner_of p;
+        transaction = k.transaction;
         there = placed k.at k.place g.0 g.1;
         client_is = ap (λ (z : Owner). z.client) (sym g.2) ∙ k.client_is;
         has = subst (λ (z : Owner). Has z n k.transaction) g.2 k.has;
@@ -141,8 +144,8 @@ module _ (w : World) (by : ℕ) (a : Actor) (key : List ℕ) (at : get_elem? w.a
   direct_held : (k c : List ℕ) → finite.get t.keys k ≡ Some (Client c) → IsDirectOf after k c
   direct_held k c h = ⊎_elim
       (λ (g : (k ≡ key) × (Client client ≡ Client c)).
-          let same : client ≡ c = let f = g.1 in cc in
-          record { at = by; place = 0; owner = owner_of p; there = own_after; client_is = same; has = ap (λ (z : List ℕ). Some z) (sym g.0); began = subst (λ (z : List ℕ). IsIn (locked k (Client z)) p.past) same (subst (λ (z : List ℕ). IsIn (locked z (Client client)) p.past) (sym g.0) (in_last e a.participant.past)) })
+      let same : client ≡ c = let f = g.1 in cc in
+      record { at = by; place = 0; owner = owner_of p; there = own_after; client_is = same; has = ap (λ (z : List ℕ). Some z) (sym g.0); began = subst (λ (z : List ℕ). IsIn (locked k (Client z)) p.past) same (subst (λ (z : List ℕ). IsIn (locked z (Client client)) p.past) (sym g.0) (in_last e a.participant.past)) })
       (λ (g : finite.get w.locks.keys k ≡ Some (Client c)). direct_still k c (s.locks.keys_direct k c g)) (held_now k (Client c) h)
 
   txn_held : (k n : List ℕ) → finite.get t.keys k ≡ Some (Txn n) → finite.get w.locks.keys k ≡ Some (Txn n)
@@ -213,8 +216,8 @@ module _ (w : World) (by : ℕ) (a : Actor) (key : List ℕ) (at : get_elem? w.a
         names = k.names;
         keys = λ c name h. ⊎_elim
             (λ (g : (c ≡ key) × (Client client ≡ Client name)).
-                let same : client ≡ name = let f = g.1 in cc in
-                subst (λ (z : List ℕ). IsPast pasts (locked c (Client z))) same (subst (λ (z : List ℕ). IsPast pasts (locked z (Client client))) (sym g.0) (past_last w.actors by a b e at refl refl)))
+            let same : client ≡ name = let f = g.1 in cc in
+            subst (λ (z : List ℕ). IsPast pasts (locked c (Client z))) same (subst (λ (z : List ℕ). IsPast pasts (locked z (Client client))) (sym g.0) (past_last w.actors by a b e at refl refl)))
             (λ (g : finite.get w.locks.keys c ≡ Some (Client name)). k.keys c name g) (held_now c (Client name) h);
         found = k.found;
       }
@@ -222,7 +225,7 @@ module _ (w : World) (by : ℕ) (a : Actor) (key : List ℕ) (at : get_elem? w.a
   board_part : IsBoard (world.published w) t pasts
   board_part =
       let k = board_more w.actors by a b e at refl refl (world.published w) w.locks
-          (λ label n q. absurd (⊎_elim (λ (r : e ≡ told label n). cc) (λ (r : e ≡ heard label n). cc) q)) (λ label n q. absurd cc) s.board in
+      (λ label n q. absurd (⊎_elim (λ (r : e ≡ told label n). cc) (λ (r : e ≡ heard label n). cc) q)) (λ label n q. absurd cc) s.board in
       record { labels = k.labels; numbers = k.numbers; heard = k.heard }
 
   parts : LocksParts w by a (lock_direct key) p a.learned t

@@ -49,8 +49,8 @@ notes w by a fact at needs s =
           (λ other there. ⊎_elim
           (λ (e : fact ≡ other). subst (λ (f : Fact). IsNoted w.holders (SoIn w) by (noter_of b) f) e (record { guarded = needs.1; is_so = needs.2 }))
           (λ (h : IsIn other c.notes).
-              let k = in_filter (λ (f : Fact). not (ends w.writes.history (length w.cache) (note fact) f)) other a.notes h in let o = s.noted by (noter_of a) (at_map noter_of w.actors by a at) other k.0 in
-              record { guarded = o.guarded; is_so = o.is_so }) there)
+          let k = in_filter (λ (f : Fact). not (ends w.writes.history (length w.cache) (note fact) f)) other a.notes h in let o = s.noted by (noter_of a) (at_map noter_of w.actors by a at) other k.0 in
+          record { guarded = o.guarded; is_so = o.is_so }) there)
           (λ j x ne there. s.noted j x there);
       led = p.led;
       idle = each_set (λ j x. x.live ≡ false → IsIdle x) w.actors by b (λ dead. absurd (true≢false (sym needs.0 ∙ dead))) (λ j x ne there. s.idle j x there);

@@ -189,17 +189,23 @@ self_made w j i o key (Txn name) s there is =
     let live = (s.locks.had j i o there).names name is.0 is.1 in
     let had = s.locks.names_had name o.client live in
     let same = s.locks.apart.names j i had.at had.place o had.owner name is.0 had.transaction there had.there is.1 had.has in
-    let made = begun_by key name had.owner.past had.began in
-    (made.0, made.1, subst (λ (n : ℕ). HasDone (participants past_of w) n i made.0) (sym same.0)
-        (subst (λ (n : ℕ). HasDone (participants past_of w) had.at n made.0) (sym same.1) (had.owner.past, past_there w.actors had.at had.place had.owner had.there, made.2)))
+    let made = begun_by key name had.owner.past had.began in (
+      made.0,
+      made.1,
+      subst (λ (n : ℕ). HasDone (participants past_of w) n i made.0) (sym same.0)
+          (subst (λ (n : ℕ). HasDone (participants past_of w) had.at n made.0) (sym same.1) (had.owner.past, past_there w.actors had.at had.place had.owner had.there, made.2)),
+    )
 self_made w j i o (Some key) (Client client) s there is =
     let held = (s.locks.had j i o there).direct key is.1 in
     let had = s.locks.keys_direct key o.client held in
     let same = s.locks.apart.direct j i had.at had.place o had.owner key there had.there is.1 had.has in
     let e = locked key (Client client) in
-    let there_too = subst (λ (c : List ℕ). IsIn (locked key (Client c)) had.owner.past) is.0 had.began in
-    (e, (refl, refl), subst (λ (n : ℕ). HasDone (participants past_of w) n i e) (sym same.0)
-        (subst (λ (n : ℕ). HasDone (participants past_of w) had.at n e) (sym same.1) (had.owner.past, past_there w.actors had.at had.place had.owner had.there, there_too)))
+    let there_too = subst (λ (c : List ℕ). IsIn (locked key (Client c)) had.owner.past) is.0 had.began in (
+      e,
+      (refl, refl),
+      subst (λ (n : ℕ). HasDone (participants past_of w) n i e) (sym same.0)
+          (subst (λ (n : ℕ). HasDone (participants past_of w) had.at n e) (sym same.1) (had.owner.past, past_there w.actors had.at had.place had.owner had.there, there_too)),
+    )
 self_made w j i o None (Client client) s there is = absurd is
 
 accounts : (w : World) (by : ℕ) (a : Actor) (key : Option (List ℕ)) (holder : Holder) (account : Account) → get_elem? w.actors by ≡ some a → IsSound w → Accounts w by a key holder account → IsAccounted w.writes.history (participants past_of w) by 0 key holder (length a.participant.seen) account

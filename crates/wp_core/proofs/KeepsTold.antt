@@ -58,9 +58,9 @@ module _ (w : World) (by : ℕ) (a : Actor) (label : List ℕ) (at : get_elem? w
         (λ (k : IsPast after (heard l m)). ⊎_elim (λ (c : IsPast (participants past_of w) (heard l m)). told_label l (s.board.labels l m (inr c))) (λ (q : e ≡ heard l m). absurd cc) (past_before w.actors by a b e at refl refl (heard l m) k)) h;
     numbers = λ l m h. ⊎_elim
         (λ (q : l ≡ label).
-            let f : Some n ≡ Some m = sym (at_inserted w.locks.labels label n l q) ∙ h in
-            let same : n ≡ m = cc in
-            (subst (λ (z : ℕ). IsPast after (told l z)) same (subst (λ (z : List ℕ). IsPast after (told z n)) (sym q) (past_last w.actors by a b e at refl refl)), subst (λ (z : ℕ). z ≤ n) same (omega arith)))
+        let f : Some n ≡ Some m = sym (at_inserted w.locks.labels label n l q) ∙ h in
+        let same : n ≡ m = cc in
+        (subst (λ (z : ℕ). IsPast after (told l z)) same (subst (λ (z : List ℕ). IsPast after (told z n)) (sym q) (past_last w.actors by a b e at refl refl)), subst (λ (z : ℕ). z ≤ n) same (omega arith)))
         (λ (ne : l ≡ label → ⊥). let c = s.board.numbers l m (sym (else_inserted w.locks.labels label n l ne) ∙ h) in (past_still w.actors by a b e at refl refl (told l m) c.0, c.1)) (is_word_same l label);
     heard = λ l m h. ⊎_elim
         (λ (c : IsPast (participants past_of w) (heard l m)). past_still w.actors by a b e at refl refl (told l m) (s.board.heard l m c))

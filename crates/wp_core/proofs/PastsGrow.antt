@@ -42,17 +42,17 @@ module _ (xs : List Actor) (by : ℕ) (a b : Actor) (e : Event) (at : get_elem? 
   pub done_still : (j i : ℕ) (x : Event) → HasDone before j i x → HasDone after j i x
   done_still j i x (past, there, k) = ⊎_elim
       (λ (t : (j ≡ by) × (i ≡ 0) × (past ≡ a.participant.past)).
-          let more : IsIn x b.participant.past = subst (IsIn x) (sym grown) (in_front x a.participant.past (e ∷ []) (subst (IsIn x) t.2 k)) in
-          (b.participant.past, subst (λ (n : ℕ). IsParticipantAt after n i b.participant.past) (sym t.0) (subst (λ (n : ℕ). IsParticipantAt after by n b.participant.past) (sym t.1) (mine_now past_of xs by a b at same)), more))
+      let more : IsIn x b.participant.past = subst (IsIn x) (sym grown) (in_front x a.participant.past (e ∷ []) (subst (IsIn x) t.2 k)) in
+      (b.participant.past, subst (λ (n : ℕ). IsParticipantAt after n i b.participant.past) (sym t.0) (subst (λ (n : ℕ). IsParticipantAt after by n b.participant.past) (sym t.1) (mine_now past_of xs by a b at same)), more))
       (λ (t : IsParticipantAt after j i past). (past, t, k))
       (still past_of xs by a b at same j i past there)
 
   pub done_before : (j i : ℕ) (x : Event) → HasDone after j i x → HasDone before j i x ⊎ ((j ≡ by) × (i ≡ 0) × (e ≡ x))
   done_before j i x (past, there, k) = ⊎_elim
       (λ (t : (j ≡ by) × (i ≡ 0) × (past ≡ b.participant.past)). ⊎_elim
-          (λ (u : IsIn x a.participant.past). inl (a.participant.past, subst (λ (n : ℕ). IsParticipantAt before n i a.participant.past) (sym t.0) (subst (λ (n : ℕ). IsParticipantAt before by n a.participant.past) (sym t.1) (mine past_of xs by a b at same)), u))
-          (λ (u : e ≡ x). inr (t.0, t.1, u))
-          (in_either x e a.participant.past (subst (IsIn x) (t.2 ∙ grown) k)))
+      (λ (u : IsIn x a.participant.past). inl (a.participant.past, subst (λ (n : ℕ). IsParticipantAt before n i a.participant.past) (sym t.0) (subst (λ (n : ℕ). IsParticipantAt before by n a.participant.past) (sym t.1) (mine past_of xs by a b at same)), u))
+      (λ (u : e ≡ x). inr (t.0, t.1, u))
+      (in_either x e a.participant.past (subst (IsIn x) (t.2 ∙ grown) k)))
       (λ (t : IsParticipantAt before j i past). inl (past, t, k))
       (was past_of xs by a b at same j i past there)
 

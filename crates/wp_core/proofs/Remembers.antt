@@ -45,8 +45,8 @@ module _ (xs : List Actor) (by : ℕ) (a b : Actor) (e : Event) (at : get_elem? 
     found = λ j i key holder seen account h. ⊎_elim
         (λ c. accounted_still history j i key holder seen account (k.found j i key holder seen account c))
         (λ (c : (j ≡ by) × (i ≡ 0) × (e ≡ found key holder seen account)).
-            let is : IsAccounted history after by 0 key holder seen account = accounted_still history by 0 key holder seen account (new key holder seen account c.2) in
-            subst (λ (n : ℕ). IsAccounted history after n i key holder seen account) (sym c.0) (subst (λ (n : ℕ). IsAccounted history after by n key holder seen account) (sym c.1) is))
+        let is : IsAccounted history after by 0 key holder seen account = accounted_still history by 0 key holder seen account (new key holder seen account c.2) in
+        subst (λ (n : ℕ). IsAccounted history after n i key holder seen account) (sym c.0) (subst (λ (n : ℕ). IsAccounted history after by n key holder seen account) (sym c.1) is))
         (done_before xs by a b e at same grown j i (found key holder seen account) h);
   }
 
@@ -86,12 +86,12 @@ module _ (xs : List Actor) (by : ℕ) (a b : Actor) (e : Event) (at : get_elem? 
     found = λ n h. installed_still first n (⊎_elim (λ c. k.found n c) (λ c. new n c) (past_before xs by a b e at same grown (found_flushed n) h));
     tables = λ j i past there. ⊎_elim
         (λ (c : (j ≡ by) × (i ≡ 0) × (past ≡ b.participant.past)).
-            let mine = k.tables by 0 a.participant.past (own_there) in
-            let same_due : tables_due first past ≡ tables_due first a.participant.past = ap (tables_due first) c.2 ∙ due_same first quiet in
-            ⊎_elim
-            (λ (d : tables_due first a.participant.past ≤ t.last.tables). inl (subst (λ (n : ℕ). n ≤ t.last.tables) (sym same_due) d))
-            (λ (d : OtherCompacts before by 0). inr (subst (λ (n : ℕ). OtherCompacts after n i) (sym c.0) (subst (λ (n : ℕ). OtherCompacts after by n) (sym c.1) (compacts_still by 0 d))))
-            mine)
+        let mine = k.tables by 0 a.participant.past (own_there) in
+        let same_due : tables_due first past ≡ tables_due first a.participant.past = ap (tables_due first) c.2 ∙ due_same first quiet in
+        ⊎_elim
+        (λ (d : tables_due first a.participant.past ≤ t.last.tables). inl (subst (λ (n : ℕ). n ≤ t.last.tables) (sym same_due) d))
+        (λ (d : OtherCompacts before by 0). inr (subst (λ (n : ℕ). OtherCompacts after n i) (sym c.0) (subst (λ (n : ℕ). OtherCompacts after by n) (sym c.1) (compacts_still by 0 d))))
+        mine)
         (λ c. ⊎_elim (λ d. inl d) (λ d. inr (compacts_still j i d)) (k.tables j i past c))
         (was past_of xs by a b at same j i past there);
   }

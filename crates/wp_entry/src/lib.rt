@@ -2,7 +2,7 @@
 //!
 //! A record is the number of its first entry, its kind, and what the entries of that kind hold. Each list of
 //! entries that is a record has one spelling. `write_record` gives it, and `read_record` takes nothing else: it
-//! names the first fault from the left. Whether an entry may stand in a history at all is asked elsewhere.
+//! names the first fault from the left. Whether an entry may be in a history at all is asked elsewhere.
 #![tactic(auto)]
 
 mod error;

@@ -10,8 +10,8 @@ mod history;
 pub mod laws;
 mod legality;
 mod prepares;
-mod values;
 #[cfg(test)]
 mod tests;
+mod values;
 
 pub use history::History;

@@ -20,7 +20,7 @@ pub enum Load {
     FirstMax,
     /// The flag that is 0 only where nothing is delayed.
     DelayedFlag,
-    /// The delayed set and the delayed commits, behind their turn.
+    /// The delayed set and the delayed commits, which the prepared turn guards.
     InPrepared,
     /// The word once more.
     SecondWord,
@@ -28,7 +28,7 @@ pub enum Load {
     SecondMax,
     /// The flag that is 0 only where the old commit map is empty.
     OldFlag,
-    /// The old commit map under the reader's snapshot, behind its turn.
+    /// The old commit map under the reader's snapshot, which the snapshots turn guards.
     IsOldCommit,
 }
 

@@ -2,8 +2,8 @@ ghost use Rattle.std.specs.Prelude.{◌≡◌, IfOk};
 ghost use Rattle.wp_keep.specs.Keep.{is_committed, kept_of};
 
 use crate::commits::Commits;
-use crate::remaining::remaining;
 use crate::pair::Pair;
+use crate::remaining::remaining;
 use crate::staying::staying;
 use std::alloc::{AllocError, Global};
 use wp_model::{Seq, Versions};

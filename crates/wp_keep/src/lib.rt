@@ -12,10 +12,10 @@ pub use pair::Pair;
 
 mod commits;
 mod kept;
-mod remaining;
 pub mod laws;
 mod newer;
 mod pair;
+mod remaining;
 mod staying;
 #[cfg(test)]
 mod tests;

@@ -20,7 +20,10 @@ fn words_in_range_are_read(rt: HostRuntime) -> Result<(), Fail> {
     assert_eq!(rt; Name::read(alloc, b"!~")?.bytes(), &b"!~"[..]);
     assert_eq!(rt; Value::read(alloc, b"v")?.copy(alloc)?.bytes(), &b"v"[..]);
     for bytes in [&[b'k'; 65][..], b"", b"a b", b"\x7F"] {
-        assert!(rt; Key::read(alloc, bytes).err() == Some(WordError::BadWord), "{bytes:?}");
+        assert!(rt;
+            Key::read(alloc, bytes).err() == Some(WordError::BadWord),
+            "{bytes:?}"
+        );
     }
     Ok(())
 }

@@ -4,8 +4,8 @@ ghost use Rattle.wp_run.specs.Engine.{Later};
 ghost use Rattle.wp_run.specs.Status.{IsStatusOf, IsBeforeSink, stage_of};
 ghost use Rattle.wp_run.specs.Serving.{IsTextOf, HasRun, IsWritten, Finishes, Serves};
 
-use crate::engine::Engine;
 use crate::clients::{are_whole, run_all};
+use crate::engine::Engine;
 use crate::status::Status;
 use crate::transcript::transcript;
 use std::alloc::{AllocError, Global};

@@ -26,11 +26,7 @@ fn push_client(out: &mut Vec<u8>, part: &Part, replies: &[Reply]) -> Result<(), 
     push_replies(out, replies)
 }
 
-fn push_clients(
-    out: &mut Vec<u8>,
-    parts: &[Part],
-    sessions: &[Answers],
-) -> Result<(), AllocError>
+fn push_clients(out: &mut Vec<u8>, parts: &[Part], sessions: &[Answers]) -> Result<(), AllocError>
     requires { length parts.now ≡ length sessions.now }
     ensures { OnOk result (out.new.items ≡ out.old.items ++ client_lines parts.now (replies_of sessions.now)) }
 {

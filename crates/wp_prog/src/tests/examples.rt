@@ -1,5 +1,5 @@
 //! The examples that are run one after the other on one store, with their transcripts. Each text is that of the file in
-//! `examples/` with the name that stands before it.
+//! `examples/` with the name that is before it.
 
 use super::{script, seen};
 use std::test::Fail;
