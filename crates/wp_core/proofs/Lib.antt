@@ -40,3 +40,4 @@ pub mod KeepsBatch
 pub mod KeepsNoted
 pub mod KeepsDirectLock
 pub mod KeepsDirectFree
+pub mod HistoryHolders
