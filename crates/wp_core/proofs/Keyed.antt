@@ -16,7 +16,7 @@ equal_from_test Greater h = absurd cc
 same_word : (a b : List ℕ) → eq_by_cmp key_cmp a b ≡ true → a ≡ b
 same_word a b h = exact_bytes a b (equal_from_test (key_cmp a b) h)
 
-same_test : (a b : List ℕ) → a ≡ b → eq_by_cmp key_cmp a b ≡ true
+pub same_test : (a b : List ℕ) → a ≡ b → eq_by_cmp key_cmp a b ≡ true
 same_test a b e = ap (eq_by_cmp key_cmp a) (sym e) ∙ (eq_by_cmp_equiv nat_list_cmp_total).refl a
 
 by_test : (a b : List ℕ) (t : Bool) → eq_by_cmp key_cmp a b ≡ t → (a ≡ b) ⊎ (a ≡ b → ⊥)
@@ -27,7 +27,7 @@ by_test a b false e = inr (λ same. true≢false (sym (same_test a b same) ∙ e
 pub is_word_same : (a b : List ℕ) → (a ≡ b) ⊎ (a ≡ b → ⊥)
 is_word_same a b = by_test a b (eq_by_cmp key_cmp a b) refl
 
-not_same : (a b : List ℕ) → (a ≡ b → ⊥) → (t : Bool) → eq_by_cmp key_cmp a b ≡ t → t ≡ false
+pub not_same : (a b : List ℕ) → (a ≡ b → ⊥) → (t : Bool) → eq_by_cmp key_cmp a b ≡ t → t ≡ false
 not_same a b ne true e = absurd (ne (same_word a b e))
 not_same a b ne false e = refl
 

@@ -41,3 +41,4 @@ pub mod KeepsNoted
 pub mod KeepsDirectLock
 pub mod KeepsDirectFree
 pub mod HistoryHolders
+pub mod KeepsKeyLock

@@ -1,0 +1,237 @@
+-- Locking a key for a transaction keeps every part of a sound world.
+use Rattle.std.proofs.Common.{◌≡◌, ◌≢◌, ◌⊎◌, ◌||◌, Bool, ⊎_elim, inl, inr, ℕ, true, false, true≢false, List, [], ◌∷◌, ◌++◌, length, map, refl, sym, subst, ap, ◌∙◌, Option, Some, None, is_some}
+use mathlib.Core.Option.{some}
+use lib.ListN.{get_elem?}
+use Rattle.std.specs.FinSet as words
+use Rattle.std.specs.FinSet.{contains-insert}
+use Rattle.std.specs.FinMap as finite
+use Rattle.std.specs.Ordering.{eq_by_cmp}
+use Rattle.std.proofs.lemmas.Cmp.{nat_list_cmp_total}
+use Rattle.wp_model.specs.Batch.{key_cmp}
+use Rattle.wp_model.specs.declared.entry.Entry.{Entry}
+use Rattle.wp_model.specs.History.{holder_of, name_at}
+use Rattle.wp_model.specs.declared.holder.Holder.{Holder}
+use Rattle.wp_model.specs.declared.holder.Holder.TheVariants.{Txn, Client}
+use Rattle.wp_model.specs.LockTables.{LockTables}
+use Rattle.wp_core.specs.Lists.{IsIn}
+use Rattle.wp_core.specs.Views.{Event, claimed, took, locked, told, heard, stopped, found_flushed, found, Fact, passed, in_old_commits, apart, words_stay, versions_in_memory, versions_nowhere, number_in_heap, number_not_in_heap, undecided_at, prior_values, unprepared, direct_free, tables_stay, live_listed, nothing_flushed, frozen_stay, delayed_flag_stays, old_flag_stays}
+use Rattle.wp_core.specs.World.{Transaction, Actor, Participant, World}
+use Rattle.wp_core.specs.World as world
+use Rattle.wp_core.specs.Steps.{lock_key}
+use Rattle.wp_core.specs.Changes.{with_key}
+use Rattle.wp_core.specs.Effects.{done}
+use Rattle.wp_core.specs.Needs.{Needs}
+use Rattle.wp_core.specs.Notes.{forgets}
+use Rattle.wp_core.specs.Sound.Actors.{participants_of, seen_of, learned_of, IsParticipantAt}
+use Rattle.wp_core.specs.Sound.Locks.{Owner, owner_of, Has, Began, IsNameOf, IsDirectOf, IsOwner, AreLocked}
+use Rattle.wp_core.specs.Sound.Pasts.{past_of, IsPast, AreHolders, IsBoard}
+use Rattle.wp_core.specs.IsSound.{IsSound, participants}
+use Rattle.wp_core.proofs.Frames.{at_map}
+use Rattle.wp_core.proofs.Keyed.{is_word_same, same_test, not_same, at_inserted, else_inserted}
+use Rattle.wp_core.proofs.AllParticipants.{mine, mine_now, was, was_apart, still}
+use Rattle.wp_core.proofs.HistoryHolders.{holder_holds}
+use Rattle.wp_core.proofs.PastsGrow.{in_front, in_last, past_last}
+use Rattle.wp_core.proofs.Quiet.{SoIn}
+use Rattle.wp_core.proofs.LocksChange.{SoWith, actor_after, actors_after, LocksParts, locks_change}
+use Rattle.wp_core.proofs.Remembers.{IsQuiet, holders_more, board_more, faults_more, edits_more}
+
+-- ---- sets of keys
+
+in_inserted : (s : words.FinSet key_cmp) (key k : List ℕ) → k ≡ key → words.contains (words.insert s key) k ≡ true
+in_inserted s key k same = contains-insert nat_list_cmp_total s key k ∙ ap (λ (b : Bool). b || words.contains s k) (same_test k key same)
+
+or_true : (b : Bool) → (b || true) ≡ true
+or_true true = refl
+or_true false = refl
+
+still_in : (s : words.FinSet key_cmp) (key k : List ℕ) → words.contains s k ≡ true → words.contains (words.insert s key) k ≡ true
+still_in s key k h = contains-insert nat_list_cmp_total s key k ∙ ap (λ (b : Bool). eq_by_cmp key_cmp k key || b) h ∙ or_true (eq_by_cmp key_cmp k key)
+
+was_in : (s : words.FinSet key_cmp) (key k : List ℕ) → (k ≡ key → ⊥) → words.contains (words.insert s key) k ≡ true → words.contains s k ≡ true
+was_in s key k ne h = sym (ap (λ (b : Bool). b || words.contains s k) (not_same k key ne (eq_by_cmp key_cmp k key) refl)) ∙ (sym (contains-insert nat_list_cmp_total s key k) ∙ h)
+
+-- ---- the step
+
+module _ (w : World) (by : ℕ) (a : Actor) (name : List ℕ) (x0 : Transaction) (key : List ℕ) (at : get_elem? w.actors by ≡ some a) (has : finite.get a.participant.transactions name ≡ Some x0) (free : finite.get w.locks.keys key ≡ None) (s : IsSound w) where
+  abbrev client : List ℕ
+  client = a.participant.client
+
+  abbrev e : Event
+  e = locked key (Txn name)
+
+  abbrev x1 : Transaction
+  x1 = record x0 { locked = words.insert x0.locked key }
+
+  abbrev t : LockTables
+  t = with_key w.locks key (Txn name)
+
+  abbrev p : Participant
+  p = record a.participant { transactions = finite.insert a.participant.transactions name x1; past = a.participant.past ++ e ∷ [] }
+
+  abbrev b : Actor
+  b = actor_after w by a (lock_key name x0 key) p a.learned t
+
+  abbrev before : List (List Owner)
+  before = participants owner_of w
+
+  abbrev after : List (List Owner)
+  after = map (participants_of owner_of) (actors_after w by a (lock_key name x0 key) p a.learned t)
+
+  abbrev pasts : List (List (List Event))
+  pasts = map (participants_of past_of) (actors_after w by a (lock_key name x0 key) p a.learned t)
+
+  not_it : {C : Type 0} (k : List ℕ) (holder : Holder) → finite.get w.locks.keys k ≡ Some holder → k ≡ key → C
+  not_it k holder h q = let f : None ≡ Some holder = sym free ∙ ap (finite.get w.locks.keys) (sym q) ∙ h in absurd cc
+
+  -- what is held stays held
+  held_still : (k : List ℕ) (holder : Holder) → finite.get w.locks.keys k ≡ Some holder → finite.get t.keys k ≡ Some holder
+  held_still k holder h = ⊎_elim (λ (q : k ≡ key). not_it k holder h q) (λ (ne : k ≡ key → ⊥). else_inserted w.locks.keys key (Txn name) k ne ∙ h) (is_word_same k key)
+
+  -- what is held now: the key, or what was
+  held_now : (k : List ℕ) (holder : Holder) → finite.get t.keys k ≡ Some holder → ((k ≡ key) × (Txn name ≡ holder)) ⊎ ((k ≡ key → ⊥) × (finite.get w.locks.keys k ≡ Some holder))
+  held_now k holder h = ⊎_elim
+      (λ (q : k ≡ key). let f : Some (Txn name) ≡ Some holder = sym (at_inserted w.locks.keys key (Txn name) k q) ∙ h in inl (q, cc))
+      (λ (ne : k ≡ key → ⊥). inr (ne, sym (else_inserted w.locks.keys key (Txn name) k ne) ∙ h)) (is_word_same k key)
+
+  -- what the actor has now: the transaction with the key, or what it had
+  has_now : (n : List ℕ) (x : Transaction) → finite.get p.transactions n ≡ Some x → ((n ≡ name) × (x1 ≡ x)) ⊎ ((n ≡ name → ⊥) × (finite.get a.participant.transactions n ≡ Some x))
+  has_now n x h = ⊎_elim
+      (λ (q : n ≡ name). let f : Some x1 ≡ Some x = sym (at_inserted a.participant.transactions name x1 n q) ∙ h in inl (q, cc))
+      (λ (ne : n ≡ name → ⊥). inr (ne, sym (else_inserted a.participant.transactions name x1 n ne) ∙ h)) (is_word_same n name)
+
+  -- it has the same names
+  had_name : (n : List ℕ) (x : Transaction) → finite.get p.transactions n ≡ Some x → (y : Transaction) × (finite.get a.participant.transactions n ≡ Some y)
+  had_name n x h = ⊎_elim
+      (λ (u : (n ≡ name) × (x1 ≡ x)). (x0, ap (finite.get a.participant.transactions) u.0 ∙ has))
+      (λ (u : (n ≡ name → ⊥) × (finite.get a.participant.transactions n ≡ Some x)). (x, u.1)) (has_now n x h)
+
+  has_still : (n : List ℕ) (y : Transaction) → finite.get a.participant.transactions n ≡ Some y → (x : Transaction) × (finite.get p.transactions n ≡ Some x)
+  has_still n y h = ⊎_elim
+      (λ (q : n ≡ name). (x1, at_inserted a.participant.transactions name x1 n q))
+      (λ (ne : n ≡ name → ⊥). (y, else_inserted a.participant.transactions name x1 n ne ∙ h)) (is_word_same n name)
+
+  own_before : IsParticipantAt before by 0 (owner_of a.participant)
+  own_before = mine owner_of w.actors by a b at refl
+
+  own_after : IsParticipantAt after by 0 (owner_of p)
+  own_after = mine_now owner_of w.actors by a b at refl
+
+  placed_before : (j i : ℕ) → j ≡ by → i ≡ 0 → IsParticipantAt before j i (owner_of a.participant)
+  placed_before j i q f = subst (λ (n : ℕ). IsParticipantAt before n i (owner_of a.participant)) (sym q) (subst (λ (n : ℕ). IsParticipantAt before by n (owner_of a.participant)) (sym f) own_before)
+
+  placed : (j i : ℕ) → j ≡ by → i ≡ 0 → IsParticipantAt after j i (owner_of p)
+  placed j i q f = subst (λ (n : ℕ). IsParticipantAt after n i (owner_of p)) (sym q) (subst (λ (n : ℕ). IsParticipantAt after by n (owner_of p)) (sym f) own_after)
+
+  other_owner : (o : Owner) → IsOwner w.locks o → IsOwner t o
+  other_owner o k = record { names = k.names; keys = λ n x c h held. held_still c (Txn n) (k.keys n x c h held); direct = λ c h. held_still c (Client o.client) (k.direct c h) }
+
+  own_owner : IsOwner t (owner_of p)
+  own_owner =
+      let old = s.locks.had by 0 (owner_of a.participant) own_before in
+      record {
+        names = λ n x h. let y = had_name n x h in old.names n y.0 y.1;
+        keys = λ n x c h held. ⊎_elim
+            (λ (u : (n ≡ name) × (x1 ≡ x)).
+                let in_it : words.contains x1.locked c ≡ true = subst (λ (z : Transaction). words.contains z.locked c ≡ true) (sym u.1) held in
+                ⊎_elim
+                (λ (q : c ≡ key). at_inserted w.locks.keys key (Txn name) c q ∙ ap (λ (z : List ℕ). Some (Txn z)) (sym u.0))
+                (λ (ne : c ≡ key → ⊥). held_still c (Txn n) (old.keys n x0 c (ap (finite.get a.participant.transactions) u.0 ∙ has) (was_in x0.locked key c ne in_it))) (is_word_same c key))
+            (λ (u : (n ≡ name → ⊥) × (finite.get a.participant.transactions n ≡ Some x)). held_still c (Txn n) (old.keys n x c u.1 held)) (has_now n x h);
+        direct = λ c h. held_still c (Client client) (old.direct c h);
+      }
+
+  -- who is there was there, with the same names and the same direct write
+  had : (j i : ℕ) (o : Owner) → IsParticipantAt after j i o → (c : Owner) × IsParticipantAt before j i c × (o.direct ≡ c.direct) × ((n : List ℕ) (x : Transaction) → Has o n x → (y : Transaction) × Has c n y)
+  had j i o k = ⊎_elim
+      (λ (g : (j ≡ by) × (i ≡ 0) × (o ≡ owner_of p)). (owner_of a.participant, placed_before j i g.0 g.1, ap (λ (z : Owner). z.direct) g.2, λ n x h. had_name n x (subst (λ (z : Owner). Has z n x) g.2 h)))
+      (λ (g : IsParticipantAt before j i o). (o, g, refl, λ n x h. (x, h))) (was owner_of w.actors by a b at refl j i o k)
+
+  began_still : (n : List ℕ) → Began a.participant.past n → Began p.past n
+  began_still n (inl k) = inl (in_front (claimed n) a.participant.past (e ∷ []) k)
+  began_still n (inr k) = inr (in_front (took n) a.participant.past (e ∷ []) k)
+
+  name_still : (n c : List ℕ) → IsNameOf before n c → IsNameOf after n c
+  name_still n c k = ⊎_elim
+      (λ (g : (k.at ≡ by) × (k.place ≡ 0) × (k.owner ≡ owner_of a.participant)).
+          let h = has_still n k.transaction (subst (λ (z : Owner). Has z n k.transaction) g.2 k.has) in
+          record {
+            at = k.at; place = k.place; owner = owner_of p; transaction = h.0;
+            there = placed k.at k.place g.0 g.1;
+            client_is = ap (λ (z : Owner). z.client) (sym g.2) ∙ k.client_is;
+            has = h.1;
+            began = began_still n (subst (λ (z : Owner). Began z.past n) g.2 k.began);
+          })
+      (λ (g : IsParticipantAt after k.at k.place k.owner). record { at = k.at; place = k.place; owner = k.owner; transaction = k.transaction; there = g; client_is = k.client_is; has = k.has; began = k.began })
+      (still owner_of w.actors by a b at refl k.at k.place k.owner k.there)
+
+  direct_still : (k c : List ℕ) → IsDirectOf before k c → IsDirectOf after k c
+  direct_still k c d = ⊎_elim
+      (λ (g : (d.at ≡ by) × (d.place ≡ 0) × (d.owner ≡ owner_of a.participant)). record {
+        at = d.at; place = d.place; owner = owner_of p;
+        there = placed d.at d.place g.0 g.1;
+        client_is = ap (λ (z : Owner). z.client) (sym g.2) ∙ d.client_is;
+        has = ap (λ (z : Owner). z.direct) (sym g.2) ∙ d.has;
+        began = in_front (locked k (Client c)) a.participant.past (e ∷ []) (subst (λ (z : Owner). IsIn (locked k (Client c)) z.past) g.2 d.began);
+      })
+      (λ (g : IsParticipantAt after d.at d.place d.owner). record { at = d.at; place = d.place; owner = d.owner; there = g; client_is = d.client_is; has = d.has; began = d.began })
+      (still owner_of w.actors by a b at refl d.at d.place d.owner d.there)
+
+  name_lives : is_some (finite.get w.locks.names name) ≡ true
+  name_lives = ap is_some ((s.locks.had by 0 (owner_of a.participant) own_before).names name x0 has)
+
+  keys_live : (k n : List ℕ) → finite.get t.keys k ≡ Some (Txn n) → is_some (finite.get w.locks.names n) ≡ true
+  keys_live k n h = ⊎_elim
+      (λ (g : (k ≡ key) × (Txn name ≡ Txn n)). let same : name ≡ n = let f = g.1 in cc in subst (λ (z : List ℕ). is_some (finite.get w.locks.names z) ≡ true) same name_lives)
+      (λ (g : (k ≡ key → ⊥) × (finite.get w.locks.keys k ≡ Some (Txn n))). s.locks.keys_live k n g.1) (held_now k (Txn n) h)
+
+  -- nobody else has the transaction
+  not_theirs : (j i : ℕ) (o : Owner) (x : Transaction) → ((j ≢ by) ⊎ (i ≢ 0)) → IsParticipantAt before j i o → Has o name x → ⊥
+  not_theirs j i o x elsewhere there h =
+      let same = s.locks.apart.names j i by 0 o (owner_of a.participant) name x x0 there own_before h has in
+      ⊎_elim (λ (ne : j ≢ by). ne same.0) (λ (ne : i ≢ 0). ne same.1) elsewhere
+
+  keys_known : (k n : List ℕ) → finite.get t.keys k ≡ Some (Txn n) → (j i : ℕ) (o : Owner) → IsParticipantAt after j i o → (x : Transaction) → Has o n x → words.contains x.locked k ≡ true
+  keys_known k n h j i o there x there_has = both (held_now k (Txn n) h) (was_apart owner_of w.actors by a b at refl j i o there)
+    where
+      own_case : ((k ≡ key) × (Txn name ≡ Txn n)) ⊎ ((k ≡ key → ⊥) × (finite.get w.locks.keys k ≡ Some (Txn n))) → Has (owner_of p) n x → words.contains x.locked k ≡ true
+      own_case held h2 = ⊎_elim
+          (λ (u : (n ≡ name) × (x1 ≡ x)). subst (λ (z : Transaction). words.contains z.locked k ≡ true) u.1 (⊎_elim
+              (λ (g : (k ≡ key) × (Txn name ≡ Txn n)). in_inserted x0.locked key k g.0)
+              (λ (g : (k ≡ key → ⊥) × (finite.get w.locks.keys k ≡ Some (Txn n))). still_in x0.locked key k (s.locks.keys_known k n g.1 by 0 (owner_of a.participant) own_before x0 (ap (finite.get a.participant.transactions) u.0 ∙ has))) held))
+          (λ (u : (n ≡ name → ⊥) × (finite.get a.participant.transactions n ≡ Some x)). ⊎_elim
+              (λ (g : (k ≡ key) × (Txn name ≡ Txn n)). let same : name ≡ n = let f = g.1 in cc in absurd (u.0 (sym same)))
+              (λ (g : (k ≡ key → ⊥) × (finite.get w.locks.keys k ≡ Some (Txn n))). s.locks.keys_known k n g.1 by 0 (owner_of a.participant) own_before x u.1) held)
+          (has_now n x h2)
+
+      both : ((k ≡ key) × (Txn name ≡ Txn n)) ⊎ ((k ≡ key → ⊥) × (finite.get w.locks.keys k ≡ Some (Txn n))) → ((j ≡ by) × (i ≡ 0) × (o ≡ owner_of p)) ⊎ (((j ≢ by) ⊎ (i ≢ 0)) × IsParticipantAt before j i o) → words.contains x.locked k ≡ true
+      both held (inl g) = own_case held (subst (λ (z : Owner). Has z n x) g.2 there_has)
+      both (inl g) (inr v) = let same : name ≡ n = let f = g.1 in cc in absurd (not_theirs j i o x v.0 v.1 (subst (λ (z : List ℕ). Has o z x) (sym same) there_has))
+      both (inr g) (inr v) = s.locks.keys_known k n g.1 j i o v.1 x there_has
+
+  keys_direct : (k c : List ℕ) → finite.get t.keys k ≡ Some (Client c) → IsDirectOf after k c
+  keys_direct k c h = ⊎_elim
+      (λ (g : (k ≡ key) × (Txn name ≡ Client c)). let f = g.1 in absurd cc)
+      (λ (g : (k ≡ key → ⊥) × (finite.get w.locks.keys k ≡ Some (Client c))). direct_still k c (s.locks.keys_direct k c g.1)) (held_now k (Client c) h)
+
+  locked_part : AreLocked w.writes.history t after
+  locked_part = record {
+    prepared_names = s.locks.prepared_names;
+    prepared_keys = λ q k u h. held_still k (Txn (name_at w.writes.history q)) (s.locks.prepared_keys q k u h);
+    had = λ j i o there. ⊎_elim
+        (λ (g : (j ≡ by) × (i ≡ 0) × (o ≡ owner_of p)). subst (IsOwner t) (sym g.2) own_owner)
+        (λ (g : IsParticipantAt before j i o). other_owner o (s.locks.had j i o g)) (was owner_of w.actors by a b at refl j i o there);
+    apart = record {
+      names = λ j i k l o q n x y here there first second.
+          let u = had j i o here in let v = had k l q there in
+          let f = u.3 n x first in let g = v.3 n y second in
+          s.locks.apart.names j i k l u.0 v.0 n f.0 g.0 u.1 v.1 f.1 g.1;
+      direct = λ j i k l o q c here there first second.
+          let u = had j i o here in let v = had k l q there in
+          s.locks.apart.direct j i k l u.0 v.0 c u.1 v.1 (sym u.2 ∙ first) (sym v.2 ∙ second);
+    };
+    names_had = λ n c h. name_still n c (s.locks.names_had n c h);
+    names_left = s.locks.names_left;
+    keys_live = keys_live;
+    keys_known = keys_known;
+    keys_direct = keys_direct;
+  }
