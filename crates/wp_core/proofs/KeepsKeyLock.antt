@@ -25,6 +25,7 @@ use Rattle.wp_core.specs.Notes.{forgets}
 use Rattle.wp_core.specs.Sound.Actors.{participants_of, seen_of, learned_of, IsParticipantAt}
 use Rattle.wp_core.specs.Sound.Locks.{Owner, owner_of, Has, Began, IsNameOf, IsDirectOf, IsOwner, AreLocked}
 use Rattle.wp_core.specs.Sound.Pasts.{past_of, IsPast, AreHolders, IsBoard}
+use Rattle.wp_core.specs.Sound.Views.{Owns}
 use Rattle.wp_core.specs.IsSound.{IsSound, participants}
 use Rattle.wp_core.proofs.Frames.{at_map}
 use Rattle.wp_core.proofs.Keyed.{is_word_same, same_test, not_same, at_inserted, else_inserted}
@@ -235,3 +236,100 @@ module _ (w : World) (by : ℕ) (a : Actor) (name : List ℕ) (x0 : Transaction)
     keys_known = keys_known;
     keys_direct = keys_direct;
   }
+
+  -- no undecided prepare changes the key
+  holder_free : (o : Option ℕ) → holder_of w.writes.history key ≡ o → o ≡ None
+  holder_free None h = refl
+  holder_free (Some q) h = let k = holder_holds w.writes.history key q h in let f : None ≡ Some (Txn (name_at w.writes.history q)) = sym free ∙ s.locks.prepared_keys q key k.0 k.1 in absurd cc
+
+  owns_still : (n : List ℕ) → Owns a.participant n → Owns p n
+  owns_still n k = has_still n k.0 k.1
+
+  unprepared_still : (n : List ℕ) → ((x : Transaction) (c : List ℕ) → finite.get a.participant.transactions n ≡ Some x → words.contains x.locked c ≡ true → holder_of w.writes.history c ≡ None)
+      → (x : Transaction) (c : List ℕ) → finite.get p.transactions n ≡ Some x → words.contains x.locked c ≡ true → holder_of w.writes.history c ≡ None
+  unprepared_still n old x c h held = ⊎_elim
+      (λ (u : (n ≡ name) × (x1 ≡ x)).
+          let in_it : words.contains x1.locked c ≡ true = subst (λ (z : Transaction). words.contains z.locked c ≡ true) (sym u.1) held in
+          ⊎_elim
+          (λ (q : c ≡ key). ap (holder_of w.writes.history) q ∙ holder_free (holder_of w.writes.history key) refl)
+          (λ (ne : c ≡ key → ⊥). old x0 c (ap (finite.get a.participant.transactions) u.0 ∙ has) (was_in x0.locked key c ne in_it)) (is_word_same c key))
+      (λ (u : (n ≡ name → ⊥) × (finite.get a.participant.transactions n ≡ Some x)). old x c u.1 held) (has_now n x h)
+
+  mine_still : (fact : Fact) → SoIn w a.participant fact → SoWith w t p fact
+  mine_still (passed place pair) k = k
+  mine_still (in_old_commits place pair) k = k
+  mine_still (apart place pair) k = k
+  mine_still (words_stay max cache) k = k
+  mine_still versions_in_memory k = k
+  mine_still versions_nowhere k = k
+  mine_still number_in_heap k = k
+  mine_still number_not_in_heap k = k
+  mine_still (undecided_at n q) k = (owns_still n k.0, k.1, k.2, λ c h. held_still c (Txn n) (k.3 c h))
+  mine_still (prior_values n q batch) k = (owns_still n k.0, k.1, k.2)
+  mine_still (unprepared n) k = (owns_still n k.0, k.1, unprepared_still n k.2)
+  mine_still (direct_free c) k = (k.0, held_still c (Client client) k.1, k.2)
+  mine_still (tables_stay versions floor) k = k
+  mine_still (live_listed floor listed) k = k
+  mine_still nothing_flushed k = k
+  mine_still (frozen_stay n versions) k = k
+  mine_still (delayed_flag_stays value) k = k
+  mine_still (old_flag_stays value) k = k
+
+  others_still : (q : Participant) (fact : Fact) → SoIn w q fact → SoWith w t q fact
+  others_still q (passed place pair) k = k
+  others_still q (in_old_commits place pair) k = k
+  others_still q (apart place pair) k = k
+  others_still q (words_stay max cache) k = k
+  others_still q versions_in_memory k = k
+  others_still q versions_nowhere k = k
+  others_still q number_in_heap k = k
+  others_still q number_not_in_heap k = k
+  others_still q (undecided_at n m) k = (k.0, k.1, k.2, λ c h. held_still c (Txn n) (k.3 c h))
+  others_still q (prior_values n m batch) k = k
+  others_still q (unprepared n) k = k
+  others_still q (direct_free c) k = (k.0, held_still c (Client q.client) k.1, k.2)
+  others_still q (tables_stay versions floor) k = k
+  others_still q (live_listed floor listed) k = k
+  others_still q nothing_flushed k = k
+  others_still q (frozen_stay n versions) k = k
+  others_still q (delayed_flag_stays value) k = k
+  others_still q (old_flag_stays value) k = k
+
+  quiet : IsQuiet e
+  quiet = record { log = refl; tables = refl; due = λ n. refl }
+
+  holders_part : AreHolders w.opened w.writes.history t pasts
+  holders_part =
+      let k = holders_more w.actors by a b e at refl refl w.opened w.writes.history w.locks (λ c holder seen account q. absurd cc) s.holders in
+      record {
+        names = k.names;
+        keys = λ c n h. ⊎_elim
+            (λ (g : (c ≡ key) × (Txn name ≡ Client n)). let f = g.1 in absurd cc)
+            (λ (g : (c ≡ key → ⊥) × (finite.get w.locks.keys c ≡ Some (Client n))). k.keys c n g.1) (held_now c (Client n) h);
+        found = k.found;
+      }
+
+  board_part : IsBoard (world.published w) t pasts
+  board_part =
+      let k = board_more w.actors by a b e at refl refl (world.published w) w.locks
+          (λ label n q. absurd (⊎_elim (λ (r : e ≡ told label n). cc) (λ (r : e ≡ heard label n). cc) q)) (λ label n q. absurd cc) s.board in
+      record { labels = k.labels; numbers = k.numbers; heard = k.heard }
+
+  parts : LocksParts w by a (lock_key name x0 key) p a.learned t
+  parts = record {
+    seen = s.seen by 0 a.participant.seen (mine seen_of w.actors by a b at refl);
+    learned_part = s.learned by a.learned (at_map learned_of w.actors by a at);
+    own = refl;
+    registered = refl;
+    locks_part = locked_part;
+    holders = holders_part;
+    board = board_part;
+    faults = faults_more w.actors by a b e at refl refl w.writes w.installed.halted quiet (λ n q. absurd cc) s.faults;
+    edits = edits_more w.actors by a b e at refl refl w.first_edit w.installed quiet (λ n q. absurd cc) s.edits;
+    mine = λ fact left k. mine_still fact k;
+    others = λ j q fact ne there k. others_still q fact k;
+  }
+
+pub locks_key : (w : World) (by : ℕ) (a : Actor) (name : List ℕ) (x0 : Transaction) (key : List ℕ) → get_elem? w.actors by ≡ some a → Needs w by a (lock_key name x0 key) → IsSound w
+    → IsSound (done w by (forgets w.writes.history (length w.cache) (lock_key name x0 key) a) (lock_key name x0 key))
+locks_key w by a name x0 key at needs s = locks_change w by a (lock_key name x0 key) (p w by a name x0 key at needs.1 needs.2 s) a.learned (t w by a name x0 key at needs.1 needs.2 s) at needs.0 (parts w by a name x0 key at needs.1 needs.2 s) s
