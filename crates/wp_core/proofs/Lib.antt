@@ -42,3 +42,4 @@ pub mod KeepsDirectLock
 pub mod KeepsDirectFree
 pub mod HistoryHolders
 pub mod KeepsKeyLock
+pub mod KeepsKeyFree
