@@ -43,3 +43,5 @@ pub mod KeepsDirectFree
 pub mod HistoryHolders
 pub mod KeepsKeyLock
 pub mod KeepsKeyFree
+pub mod DropsTransaction
+pub mod KeepsNameLeft
