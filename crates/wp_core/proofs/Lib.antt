@@ -45,3 +45,4 @@ pub mod KeepsKeyLock
 pub mod KeepsKeyFree
 pub mod DropsTransaction
 pub mod KeepsNameLeft
+pub mod KeepsNameFreed

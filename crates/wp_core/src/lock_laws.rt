@@ -4,7 +4,7 @@ ghost use Rattle.wp_model.specs.declared.change.Change.{Change};
 ghost use Rattle.wp_model.specs.declared.holder.Holder.{Holder};
 ghost use Rattle.wp_core.specs.Views.{Account, Fact};
 ghost use Rattle.wp_core.specs.World.{Transaction, World};
-ghost use Rattle.wp_core.specs.Steps.{find_log_closed, find_flushed, find_holder, hear, tell, claim_name, lock_key, free_key, lock_direct, free_direct, set_batch, note};
+ghost use Rattle.wp_core.specs.Steps.{find_log_closed, find_flushed, find_holder, hear, tell, claim_name, leave_name, free_transaction, lock_key, free_key, lock_direct, free_direct, set_batch, note};
 ghost use Rattle.wp_core.specs.Runs.{IsStep};
 ghost use Rattle.wp_core.specs.IsSound.{IsSound};
 
@@ -20,6 +20,12 @@ pub fn finding_keeps_sound()
 /// Claiming a name keeps a world sound.
 pub fn claiming_keeps_sound()
     ensures { (w : World) (by : ℕ) (name : List ℕ) (next : World) → IsStep w by (claim_name name) next → IsSound w → IsSound next }
+{}
+
+/// Leaving a name to the next client, and freeing a transaction with its keys, keep a world sound.
+pub fn names_keep_sound()
+    ensures left { (w : World) (by : ℕ) (name : List ℕ) (next : World) → IsStep w by (leave_name name) next → IsSound w → IsSound next }
+    ensures freed { (w : World) (by : ℕ) (name : List ℕ) (next : World) → IsStep w by (free_transaction name) next → IsSound w → IsSound next }
 {}
 
 /// Locking and freeing a key of a transaction keep a world sound.
