@@ -13,7 +13,7 @@ equal_from_test Less h = absurd cc
 equal_from_test Equal h = refl
 equal_from_test Greater h = absurd cc
 
-same_word : (a b : List ℕ) → eq_by_cmp key_cmp a b ≡ true → a ≡ b
+pub same_word : (a b : List ℕ) → eq_by_cmp key_cmp a b ≡ true → a ≡ b
 same_word a b h = exact_bytes a b (equal_from_test (key_cmp a b) h)
 
 pub same_test : (a b : List ℕ) → a ≡ b → eq_by_cmp key_cmp a b ≡ true

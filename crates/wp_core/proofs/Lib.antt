@@ -34,6 +34,7 @@ pub mod Remembers
 pub mod KeepsRemembered
 pub mod Keyed
 pub mod LocksChange
+pub mod GainsTransaction
 pub mod KeepsClaimed
 pub mod KeepsTold
 pub mod KeepsBatch
@@ -46,3 +47,4 @@ pub mod KeepsKeyFree
 pub mod DropsTransaction
 pub mod KeepsNameLeft
 pub mod KeepsNameFreed
+pub mod KeepsNameTaken

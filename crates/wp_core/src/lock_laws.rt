@@ -4,7 +4,7 @@ ghost use Rattle.wp_model.specs.declared.change.Change.{Change};
 ghost use Rattle.wp_model.specs.declared.holder.Holder.{Holder};
 ghost use Rattle.wp_core.specs.Views.{Account, Fact};
 ghost use Rattle.wp_core.specs.World.{Transaction, World};
-ghost use Rattle.wp_core.specs.Steps.{find_log_closed, find_flushed, find_holder, hear, tell, claim_name, leave_name, free_transaction, lock_key, free_key, lock_direct, free_direct, set_batch, note};
+ghost use Rattle.wp_core.specs.Steps.{find_log_closed, find_flushed, find_holder, hear, tell, claim_name, take_name, leave_name, free_transaction, lock_key, free_key, lock_direct, free_direct, set_batch, note};
 ghost use Rattle.wp_core.specs.Runs.{IsStep};
 ghost use Rattle.wp_core.specs.IsSound.{IsSound};
 
@@ -17,9 +17,10 @@ pub fn finding_keeps_sound()
     ensures label { (w : World) (by : ℕ) (label : List ℕ) (n : ℕ) (next : World) → IsStep w by (hear label n) next → IsSound w → IsSound next }
 {}
 
-/// Claiming a name keeps a world sound.
+/// Claiming a name that is not live, and taking the name of an undecided prepare that no actor has, keep a world sound.
 pub fn claiming_keeps_sound()
-    ensures { (w : World) (by : ℕ) (name : List ℕ) (next : World) → IsStep w by (claim_name name) next → IsSound w → IsSound next }
+    ensures claimed { (w : World) (by : ℕ) (name : List ℕ) (next : World) → IsStep w by (claim_name name) next → IsSound w → IsSound next }
+    ensures taken { (w : World) (by : ℕ) (name : List ℕ) (p : ℕ) (next : World) → IsStep w by (take_name name p) next → IsSound w → IsSound next }
 {}
 
 /// Leaving a name to the next client, and freeing a transaction with its keys, keep a world sound.
