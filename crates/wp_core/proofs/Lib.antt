@@ -48,3 +48,4 @@ pub mod DropsTransaction
 pub mod KeepsNameLeft
 pub mod KeepsNameFreed
 pub mod KeepsNameTaken
+pub mod OneHolder
