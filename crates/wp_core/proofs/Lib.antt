@@ -49,3 +49,4 @@ pub mod KeepsNameLeft
 pub mod KeepsNameFreed
 pub mod KeepsNameTaken
 pub mod OneHolder
+pub mod Opened
