@@ -41,4 +41,5 @@ pub mod KeepsNoted
 pub mod KeepsDirectLock
 pub mod KeepsDirectFree
 pub mod ClosesLog
+pub mod HistoryGrows
 pub mod PublishesHistory
