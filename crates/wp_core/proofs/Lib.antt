@@ -43,3 +43,5 @@ pub mod KeepsDirectFree
 pub mod ClosesLog
 pub mod HistoryGrows
 pub mod PublishesHistory
+pub mod PublishesDecisions
+pub mod PublishesReaders
