@@ -45,3 +45,4 @@ pub mod HistoryGrows
 pub mod PublishesHistory
 pub mod PublishesDecisions
 pub mod PublishesReaders
+pub mod CoveredGrows
