@@ -46,3 +46,4 @@ pub mod PublishesHistory
 pub mod PublishesDecisions
 pub mod PublishesReaders
 pub mod CoveredGrows
+pub mod PublishesVersions
