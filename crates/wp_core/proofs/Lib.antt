@@ -47,3 +47,5 @@ pub mod PublishesDecisions
 pub mod PublishesReaders
 pub mod CoveredGrows
 pub mod PublishesVersions
+pub mod PublishesLocks
+pub mod PublishesNotes
