@@ -49,3 +49,4 @@ pub mod CoveredGrows
 pub mod PublishesVersions
 pub mod PublishesLocks
 pub mod PublishesNotes
+pub mod KeepsPublished

@@ -42,7 +42,7 @@ decider_of history p (Write batch) d = absurd (true≢false (sym d))
 decider_of history p (Prepare name batch) d = absurd (true≢false (sym d))
 decider_of history p (Undo q batch) d = absurd (true≢false (sym d))
 
-some_there : {A : Type 0} (o : Option A) → is_some o ≡ true → (x : A) × (o ≡ Some x)
+pub some_there : {A : Type 0} (o : Option A) → is_some o ≡ true → (x : A) × (o ≡ Some x)
 some_there None e = absurd (true≢false (sym e))
 some_there (Some x) e = (x, refl)
 
