@@ -1,12 +1,11 @@
 -- Closing the log, after an append failed, keeps a world sound.
-use Rattle.std.proofs.Common.{◌≡◌, ◌≢◌, ⊎_elim, inl, inr, ℕ, ◌+◌, true, false, true≢false, not, List, [], ◌∷◌, ◌++◌, length, map, set, refl, sym, subst, ap, ◌∙◌, arith}
+use Rattle.std.proofs.Common.{◌≡◌, ◌≢◌, ⊎_elim, inr, ℕ, ◌+◌, true, true≢false, not, [], ◌∷◌, ◌++◌, length, map, set, refl, sym, ap, ◌∙◌, arith}
 use mathlib.Core.Option.{some}
 use lib.ListN.{get_elem?}
-use Rattle.wp_model.specs.declared.entry.Entry.{Entry}
 use Rattle.wp_core.specs.Lists.{IsIn, one_if}
 use Rattle.wp_core.specs.Tables.{Content, WriteTable, writes}
 use Rattle.wp_core.specs.Turns.{write_turn}
-use Rattle.wp_core.specs.Views.{Event, log_failed, told, heard, stopped, Fact, passed, in_old_commits, apart, words_stay, versions_in_memory, versions_nowhere, number_in_heap, number_not_in_heap, undecided_at, prior_values, unprepared, direct_free, tables_stay, live_listed, nothing_flushed, frozen_stay, delayed_flag_stays, old_flag_stays}
+use Rattle.wp_core.specs.Views.{log_failed, told, heard, stopped, Fact, passed, in_old_commits, apart, words_stay, versions_in_memory, versions_nowhere, number_in_heap, number_not_in_heap, undecided_at, prior_values, unprepared, direct_free, tables_stay, live_listed, nothing_flushed, frozen_stay, delayed_flag_stays, old_flag_stays}
 use Rattle.wp_core.specs.World.{Participant, Actor, World, content_of, with_content}
 use Rattle.wp_core.specs.World as world
 use Rattle.wp_core.specs.Steps.{close_log}
@@ -20,7 +19,7 @@ use Rattle.wp_core.specs.Sound.History.{IsHistory}
 use Rattle.wp_core.specs.Sound.Locks.{owner_of}
 use Rattle.wp_core.specs.Sound.Pasts.{past_of, AreFaults, is_log_fault, is_tables_fault}
 use Rattle.wp_core.specs.Sound.Reader.{AreReaders, AreJudged, reader_of}
-use Rattle.wp_core.specs.Sound.Views.{IsSo, IsNoted, noter_of}
+use Rattle.wp_core.specs.Sound.Views.{IsNoted, noter_of}
 use Rattle.wp_core.specs.IsSound.{IsSound}
 use Rattle.wp_core.proofs.Frames.{each_map_set, at_map, in_filter}
 use Rattle.wp_core.proofs.Changed.{others_hold, holds_changed, have_changed}

@@ -1,5 +1,5 @@
 -- The versions that show a history show it with one entry more, once the entry's versions are among them.
-use Rattle.std.proofs.Common.{◌≡◌, ◌≢◌, ◌⊎◌, ⊎_elim, inl, inr, ℕ, suc, ◌+◌, ◌<◌, ◌≤◌, Bool, true, false, List, [], ◌∷◌, ◌++◌, length, refl, sym, subst, ap, ◌∙◌, Option, Some, None, arith}
+use Rattle.std.proofs.Common.{◌≡◌, ◌⊎◌, ⊎_elim, inl, inr, ℕ, suc, ◌+◌, ◌<◌, ◌≤◌, true, List, [], ◌∷◌, ◌++◌, length, refl, sym, subst, ap, ◌∙◌, Option, Some, None, arith}
 use Rattle.std.specs.Prelude.{option_map, unwrap_or}
 use Rattle.std.proofs.lemmas.Bool.{cases_lt}
 use Rattle.wp_model.specs.declared.change.Change.{Change}
@@ -7,9 +7,9 @@ use Rattle.wp_model.specs.declared.entry.Entry.{Entry}
 use Rattle.wp_model.specs.declared.entry.Entry.TheVariants.{Write, Prepare, Commit, Undo, Close}
 use Rattle.wp_model.specs.declared.version.Version.{Version}
 use Rattle.wp_model.specs.Batch.{change_to}
-use Rattle.wp_model.specs.Covered.{GivesNewest, GivesNone, GivesStore, IsCovered, is_among}
+use Rattle.wp_model.specs.Covered.{GivesStore, IsCovered, is_among}
 use Rattle.wp_model.specs.History.{entry_at, batch_at, is_undecided, newest, value_at, changes_of}
-use Rattle.wp_model.specs.Legal.{IsLegal, IsLegalNext, undone_last, changes_in, prior}
+use Rattle.wp_model.specs.Legal.{IsLegal, IsLegalNext, undone_last}
 use Rattle.wp_model.specs.Decision.{decision_in, decision_of, IsCommittedAt, version_in, entry_version}
 use Rattle.wp_model.specs.Versions.{version_at}
 use Rattle.wp_judge.specs.Words.{CommitPair}
@@ -21,30 +21,21 @@ use Rattle.wp_history.proofs.Newest.{batch_at_old}
 use Rattle.wp_history.proofs.Undecided.{undecided_within}
 use Rattle.wp_history.proofs.Undone.{last_undo}
 use Rattle.wp_core.specs.Entries.{pair_by}
-use Rattle.wp_core.proofs.HistoryGrows.{before, after, at_next, grown_length, committed_old, committed_stays, committed_before_or_now, undecided_before_or_now, version_new, value_old, value_new, value_whole}
+use Rattle.wp_core.proofs.HistoryGrows.{none_is, before, after, grown_length, committed_old, committed_stays, committed_before_or_now, undecided_before_or_now, version_new, value_old, value_new, value_whole}
 use Rattle.wp_core.proofs.HistoryLaws.{decided_within, next_decides}
-
-none_is : {A : Type 0} (o : Option A) → ((x : A) → o ≡ Some x → ⊥) → o ≡ None
-none_is None never = refl
-none_is (Some x) never = absurd (never x refl)
-
-some_is : {A : Type 0} (x y : A) → Some x ≡ Some y → x ≡ y
-some_is x y e = cc
-
-none_some : {A : Type 0} (o : Option A) (x : A) → o ≡ None → o ≡ Some x → ⊥
-none_some o x none there = let q : None ≡ Some x = sym none ∙ there in absurd cc
+use Rattle.wp_core.proofs.ReaderFacts.{none_some, same_some}
 
 -- what an undo has under a key is the store's value
 restored : {A : Type 0} {x : A} (o : Option A) (v : A) → option_map (λ _. x) o ≡ Some v → x ≡ v
 restored None v e = absurd cc
-restored {A} {x} (Some y) v e = some_is x v e
+restored {A} {x} (Some y) v e = same_some x v e
 
 -- only the entries of a history have versions
 pub version_within : (history : List Entry) (p : ℕ) (key : List ℕ) (value : Option (List ℕ)) → entry_version history p key ≡ Some value → p ≤ length history
 version_within history p key value e = elim (cases_lt (length history) p) [
-    | inl past ↦ absurd (none_some (entry_version history p key) value (ap (λ (o : Option Entry). version_in o key) (entry_at_past history p past)) e)
-    | inr le ↦ le
-  ]
+  | inl past ↦ absurd (none_some (entry_version history p key) value (ap (λ (o : Option Entry). version_in o key) (entry_at_past history p past)) e)
+  | inr le ↦ le
+]
 
 -- ---- a history that ends in an undo
 
@@ -85,12 +76,12 @@ module _ (history : List Entry) (entry : Entry) (legal : IsLegal (history ++ ent
 
   part_now : (key : List ℕ) (p : ℕ) (value : Option (List ℕ)) → version_at ys key p ≡ Some value → entry_version grown p key ≡ Some value
   part_now key p value e = elim (cases_lt (length history) p) [
-      | inr le ↦ entry_version_old history (entry ∷ []) p key le ∙ k.part key p value (sym (old key p le) ∙ e)
-      | inl gt ↦ elim (cases_lt next p) [
-        | inl beyond ↦ absurd (none_some (version_at ys key p) value (past key p beyond) e)
-        | inr le ↦ let same : p ≡ next = omega arith in ap (λ (q : ℕ). entry_version grown q key) same ∙ (version_new history entry legal key ∙ (sym (new key) ∙ (ap (version_at ys key) (sym same) ∙ e)))
-      ]
+    | inr le ↦ entry_version_old history (entry ∷ []) p key le ∙ k.part key p value (sym (old key p le) ∙ e)
+    | inl gt ↦ elim (cases_lt next p) [
+      | inl beyond ↦ absurd (none_some (version_at ys key p) value (past key p beyond) e)
+      | inr le ↦ let same : p ≡ next = omega arith in ap (λ (q : ℕ). entry_version grown q key) same ∙ (version_new history entry legal key ∙ (sym (new key) ∙ (ap (version_at ys key) (sym same) ∙ e)))
     ]
+  ]
 
   -- a version of the new number
   at_new : (key : List ℕ) (p : ℕ) (value : Option (List ℕ)) → p ≡ next → entry_version grown p key ≡ Some value → version_at ys key p ≡ Some value
@@ -156,7 +147,7 @@ module _ (history : List Entry) (entry : Entry) (legal : IsLegal (history ++ ent
     decided_now p e = let d = next_decides history entry (record { number = p; decision = next }) legal e in record { by = next; decided = d.decided; within = omega arith }
 
     number_of : (p q : ℕ) → ◌≡◌ {A = Option CommitPair} (Some (record { number = p; decision = next })) (Some (record { number = q; decision = next })) → p ≡ q
-    number_of p q e = ap (λ (x : CommitPair). x.number) (some_is (record { number = p; decision = next }) (record { number = q; decision = next }) e)
+    number_of p q e = ap (λ (x : CommitPair). x.number) (same_some (record { number = p; decision = next }) (record { number = q; decision = next }) e)
 
     none_at_next : (change : Option (Option (List ℕ))) → version_in (Some entry) key ≡ change → change ≡ None → version_at ys key next ≡ None
     none_at_next change is none = new key ∙ (is ∙ none)

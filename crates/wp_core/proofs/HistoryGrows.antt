@@ -1,5 +1,5 @@
 -- Laws of a history with one entry more: what it decides, leaves undecided, and has under names and keys.
-use Rattle.std.proofs.Common.{◌≡◌, ◌≢◌, ◌⊎◌, ⊎_elim, inl, inr, ℕ, zero, suc, ◌+◌, ◌<◌, ◌≤◌, ◌==◌, ◌&&◌, eq-eqb, ne_eqb, Bool, true, false, not, cond, true≢false, List, [], ◌∷◌, ◌++◌, length, append-nil, take, refl, sym, subst, ap, ◌∙◌, Option, Some, None, filter, arith}
+use Rattle.std.proofs.Common.{◌≡◌, ◌≢◌, ◌⊎◌, ⊎_elim, inl, inr, ℕ, suc, ◌+◌, ◌≤◌, ◌==◌, ◌&&◌, eq-eqb, ne_eqb, Bool, true, false, not, cond, true≢false, List, [], ◌∷◌, ◌++◌, length, refl, sym, subst, ap, ◌∙◌, Option, Some, None, filter, arith}
 use Rattle.std.specs.Prelude.{unwrap_or, is_some}
 use Rattle.std.specs.List.{find, range_with_len}
 use Rattle.std.specs.Str.{bytes_eq}
@@ -14,9 +14,8 @@ use Rattle.wp_model.specs.declared.entry.Entry.{Entry}
 use Rattle.wp_model.specs.declared.entry.Entry.TheVariants.{Write, Prepare, Commit, Undo, Close}
 use Rattle.wp_model.specs.Batch.{key_of, value_of, change_to}
 use Rattle.wp_model.specs.History.{entry_at, is_prepare, prepared_name, name_at, batch_at, decides, is_undecided, undecided, named, is_changed, holder_of, changes_of, newest, value_at}
-use Rattle.wp_model.specs.Legal.{IsLegal, IsLegalNext, NamesUndecided, change_that_leaves, prior}
+use Rattle.wp_model.specs.Legal.{IsLegal, IsLegalNext, change_that_leaves, prior}
 use Rattle.wp_model.specs.Decision.{decision_of, IsCommittedAt, version_in, entry_version}
-use Rattle.wp_judge.specs.Words.{CommitPair}
 use Rattle.wp_history.specs.Growth.{undecided_after}
 use Rattle.wp_history.proofs.Growth.{entry_at_old, entry_at_next, length_next, after_front, legal_before, decides_undecided}
 use Rattle.wp_history.proofs.Undecided.{undecided_within, undecided_old, undecided_at_next, undecided_next}
@@ -25,6 +24,10 @@ use Rattle.wp_core.specs.Lists.{IsIn}
 use Rattle.wp_core.specs.Entries.{pair_by}
 use Rattle.wp_core.proofs.Frames.{in_filter}
 use Rattle.wp_core.proofs.HistoryLaws.{decided_late, decision_stays, decision_was, decision_within, decided_by_last}
+
+pub none_is : {A : Type 0} (o : Option A) → ((x : A) → o ≡ Some x → ⊥) → o ≡ None
+none_is None never = refl
+none_is (Some x) never = absurd (never x refl)
 
 -- ---- finding numbers
 
@@ -121,13 +124,13 @@ module _ (history : List Entry) (entry : Entry) (legal : IsLegal (history ++ ent
   -- what the longer history decides was decided, or the entry decides it
   pub decided_before_or_now : (p c : ℕ) → decision_of grown p ≡ Some c → (decision_of history p ≡ Some c) ⊎ ((c ≡ next) × (pair_by next entry ≡ Some (record { number = p; decision = c })))
   decided_before_or_now p c e = elim (cases_lt (length history) c) [
-      | inl past ↦
-          let within = decision_within grown p c e in let l = grown_length in
-          let same : c ≡ next = omega (arith, within, l, past) in
-          let at : decision_of grown p ≡ Some next = e ∙ ap (λ (x : ℕ). Some x) same in
-          inr (same, decided_by_last history entry p at ∙ ap (λ (x : ℕ). Some (record { number = p; decision = x })) (sym same))
-      | inr le ↦ inl (decision_old p c le e)
-    ]
+    | inl past ↦
+        let within = decision_within grown p c e in let l = grown_length in
+        let same : c ≡ next = omega (arith, within, l, past) in
+        let at : decision_of grown p ≡ Some next = e ∙ ap (λ (x : ℕ). Some x) same in
+        inr (same, decided_by_last history entry p at ∙ ap (λ (x : ℕ). Some (record { number = p; decision = x })) (sym same))
+    | inr le ↦ inl (decision_old p c le e)
+  ]
 
   pub committed_old : (p s : ℕ) → s ≤ length history → IsCommittedAt grown p s → IsCommittedAt history p s
   committed_old p s le k = let w = k.within in record { by = k.by; decided = decision_old p k.by (omega (arith, w, le)) k.decided; within = w }
@@ -156,13 +159,13 @@ module _ (history : List Entry) (entry : Entry) (legal : IsLegal (history ++ ent
 
   pub undecided_before_or_now : (p : ℕ) → is_undecided grown p ≡ true → ((p ≤ length history) × (is_undecided history p ≡ true) × (decides p entry ≡ false)) ⊎ ((p ≡ next) × (is_prepare (Some entry) ≡ true))
   undecided_before_or_now p u = elim (cases_lt (length history) p) [
-      | inl past ↦
-          let within = (undecided_within grown p u).1 in let l = grown_length in
-          let same : p ≡ length history + 1 = omega (arith, within, l, past) in
-          let other : decides (length history + 1) entry ≡ false = ap (λ (x : ℕ). decides x entry) (let q : length history + 1 ≡ suc (length history) = omega arith in q) ∙ not_by_itself in
-          inr (omega (arith, same), sym (undecided_at_next history entry before other) ∙ (ap (is_undecided grown) (sym same) ∙ u))
-      | inr le ↦ let k = both (is_undecided history p) (decides p entry) (sym (undecided_old history entry p le) ∙ u) in inl (le, k.0, k.1)
-    ]
+    | inl past ↦
+        let within = (undecided_within grown p u).1 in let l = grown_length in
+        let same : p ≡ length history + 1 = omega (arith, within, l, past) in
+        let other : decides (length history + 1) entry ≡ false = ap (λ (x : ℕ). decides x entry) (let q : length history + 1 ≡ suc (length history) = omega arith in q) ∙ not_by_itself in
+        inr (omega (arith, same), sym (undecided_at_next history entry before other) ∙ (ap (is_undecided grown) (sym same) ∙ u))
+    | inr le ↦ let k = both (is_undecided history p) (decides p entry) (sym (undecided_old history entry p le) ∙ u) in inl (le, k.0, k.1)
+  ]
 
   -- ---- names and keys of undecided prepares
 

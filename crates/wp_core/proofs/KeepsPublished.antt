@@ -1,5 +1,5 @@
 -- Storing the published number keeps every part of a sound world: the pending entry joins the history.
-use Rattle.std.proofs.Common.{◌≡◌, ◌≢◌, ⊎_elim, inl, inr, ℕ, suc, ◌≤◌, Bool, true, false, true≢false, not, List, [], ◌∷◌, ◌++◌, length, length-append, map, set, refl, sym, subst, ap, ◌∙◌, Option, Some, None, arith}
+use Rattle.std.proofs.Common.{◌≡◌, ◌≢◌, ⊎_elim, ℕ, suc, ◌≤◌, Bool, true, false, true≢false, not, List, [], ◌∷◌, ◌++◌, length, length-append, map, refl, sym, ap, ◌∙◌, Option, Some, arith}
 use mathlib.Core.Option.{some}
 use lib.ListN.{get_elem?}
 use Rattle.wp_model.specs.declared.entry.Entry.{Entry}
@@ -27,7 +27,6 @@ use Rattle.wp_core.specs.Sound.Views.{IsNoted, noter_of}
 use Rattle.wp_core.specs.IsSound.{IsSound, participants}
 use Rattle.wp_core.proofs.Frames.{each_map_set, at_map, in_filter}
 use Rattle.wp_core.proofs.Changed.{others_hold, holds_changed, have_changed}
-use Rattle.wp_core.proofs.HistoryGrows.{grown_length}
 use Rattle.wp_core.proofs.KeepsRemembered.{from_map}
 use Rattle.wp_core.proofs.Participants.{each_person_set}
 use Rattle.wp_core.proofs.PendingSteps.{SoPending}
@@ -37,7 +36,7 @@ use Rattle.wp_core.proofs.PublishesLocks.{some_there, locks_part, holders_part, 
 use Rattle.wp_core.proofs.PublishesNotes.{prepares_held, transaction_live, mine_grows, others_grow}
 use Rattle.wp_core.proofs.PublishesReaders.{registered_part, readers_part, judged_part}
 use Rattle.wp_core.proofs.PublishesVersions.{stored_part}
-use Rattle.wp_core.proofs.Quiet.{SoIn, kept_part, idle_after}
+use Rattle.wp_core.proofs.Quiet.{kept_part, idle_after}
 use Rattle.wp_core.proofs.SnapshotsStep.{among_live}
 use Rattle.wp_core.proofs.StoresFlag.{not_free}
 

@@ -1,10 +1,9 @@
 -- The pending entry joins the history: the cache, what is decided and undecided, and the prepared tables.
-use Rattle.std.proofs.Common.{◌≡◌, ◌⊎◌, ⊎_elim, inl, inr, ℕ, suc, ◌||◌, Bool, true, false, true≢false, List, [], ◌∷◌, ◌++◌, length, refl, sym, ap, ◌∙◌, Option, Some, None}
+use Rattle.std.proofs.Common.{◌≡◌, ◌⊎◌, ⊎_elim, inl, ℕ, suc, ◌||◌, Bool, true, true≢false, List, [], ◌∷◌, ◌++◌, length, sym, ap, ◌∙◌, Some}
 use Rattle.std.specs.FinSet as set
-use Rattle.std.specs.FinMap as finite
 use Rattle.wp_model.specs.declared.entry.Entry.{Entry}
 use Rattle.wp_model.specs.declared.entry.Entry.TheVariants.{Write, Prepare, Commit, Undo, Close}
-use Rattle.wp_model.specs.History.{entry_at, is_prepare, is_undecided}
+use Rattle.wp_model.specs.History.{entry_at, is_prepare}
 use Rattle.wp_model.specs.Legal.{IsLegal}
 use Rattle.wp_model.specs.Decision.{decision_of}
 use Rattle.wp_model.specs.PreparedTables.{PreparedTables, is_prepared}

@@ -1,30 +1,26 @@
 -- The pending entry joins the history: the history with its log, who saw it, and who published what.
-use Rattle.std.proofs.Common.{◌≡◌, ◌≢◌, ◌⊎◌, ⊎_elim, inl, inr, ℕ, suc, ◌+◌, ◌<◌, ◌≤◌, nat_lt, nat_le, ◌==◌, ◌&&◌, eq-eqb, ne_eqb, Bool, true, false, cond, true≢false, List, [], ◌∷◌, ◌++◌, length, append-nil, append_assoc, length-append, map, set, refl, sym, subst, ap, ◌∙◌, Option, Some, None, arith}
+use Rattle.std.proofs.Common.{◌≡◌, ◌⊎◌, inl, inr, ℕ, suc, ◌+◌, ◌≤◌, nat_lt, nat_le, ◌==◌, ◌&&◌, Bool, true, false, cond, List, [], ◌∷◌, ◌++◌, length, append-nil, append_assoc, map, set, refl, sym, subst, ap, ◌∙◌, Some, None, arith}
 use Rattle.std.proofs.lemmas.Bool.Decides.{nat_tests}
 use mathlib.Core.Option.{some}
-use mathlib.Core.Logic.{dite}
-use native.Mathlib.Decide.{ℕ_discrete}
 use lib.ListN.{get_elem?}
 use Rattle.wp_model.specs.declared.entry.Entry.{Entry}
 use Rattle.wp_model.specs.declared.entry.Entry.TheVariants.{Write, Prepare, Commit, Undo, Close}
-use Rattle.wp_model.specs.Legal.{IsLegal, undone_last}
+use Rattle.wp_model.specs.Legal.{IsLegal}
 use Rattle.wp_history.specs.Growth.{undone_by}
 use Rattle.wp_history.proofs.Growth.{length_next}
 use Rattle.wp_history.proofs.Undone.{undone_next}
-use Rattle.wp_core.specs.Lists.{one_if, total}
+use Rattle.wp_core.specs.Lists.{one_if}
 use Rattle.wp_core.specs.Entries.{IsRecord}
 use Rattle.wp_core.specs.Tables.{WriteTable}
-use Rattle.wp_core.specs.World.{Actor, World, Participant}
+use Rattle.wp_core.specs.World.{Actor}
 use Rattle.wp_core.specs.Effects.{with_entry}
-use Rattle.wp_core.specs.Sound.Actors.{StartsWith, own_of, times, once, AreOwned, participants_of, total_participants}
+use Rattle.wp_core.specs.Sound.Actors.{StartsWith, own_of, times, once, AreOwned, participants_of}
 use Rattle.wp_core.specs.Sound.History.{IsHistory, IsRest, logged_part}
 use Rattle.wp_core.proofs.Participants.{total_person_set}
 use Rattle.wp_core.proofs.PastsGrow.{total_more}
+use Rattle.wp_core.proofs.ReaderFacts.{same_some}
 
 -- ---- what is left of the record
-
-some_is : {A : Type 0} (x y : A) → Some x ≡ Some y → x ≡ y
-some_is x y e = cc
 
 cons_is : (x y : Entry) (xs ys : List Entry) → x ∷ xs ≡ y ∷ ys → (x ≡ y) × (xs ≡ ys)
 cons_is x y xs ys e = (cc, cc)
@@ -61,7 +57,7 @@ rest_of entry others (inr (p, u, e)) = inr (inr (p, e))
 
 closes : (entry : Entry) (others : List Entry) (p : ℕ) → Follows entry others → undone_by entry ≡ Some p → others ≡ Close p ∷ []
 closes entry others p (inl k) u = let no : None ≡ Some p = sym k.1 ∙ u in absurd cc
-closes entry others p (inr (q, v, e)) u = let same : q ≡ p = some_is q p (sym v ∙ u) in e ∙ ap (λ (n : ℕ). Close n ∷ []) same
+closes entry others p (inr (q, v, e)) u = let same : q ≡ p = same_some q p (sym v ∙ u) in e ∙ ap (λ (n : ℕ). Close n ∷ []) same
 
 -- ---- the history and its log
 

@@ -1,47 +1,40 @@
 -- The pending entry joins the history: what actors noted.
-use Rattle.std.proofs.Common.{◌≡◌, ◌≢◌, ◌⊎◌, ⊎_elim, inl, inr, ℕ, suc, ◌≤◌, Bool, true, false, not, true≢false, List, [], ◌∷◌, ◌++◌, length, map, refl, sym, subst, ap, ◌∙◌, Option, Some, None, le_trans, arith}
+use Rattle.std.proofs.Common.{◌≡◌, ◌≢◌, ℕ, suc, ◌≤◌, Bool, true, false, not, true≢false, List, [], ◌∷◌, ◌++◌, length, refl, sym, ap, ◌∙◌, Option, Some, None, le_trans, arith}
 use mathlib.Core.Option.{some}
 use lib.ListN.{get_elem?}
 use Rattle.std.specs.Str.{bytes_eq}
 use Rattle.std.proofs.lemmas.Slice.Eq.{bytes_eq-Decides}
-use Rattle.std.specs.FinSet as set_of
 use Rattle.std.specs.FinMap as finite
 use Rattle.wp_model.specs.declared.change.Change.{Change}
 use Rattle.wp_model.specs.declared.entry.Entry.{Entry}
 use Rattle.wp_model.specs.declared.entry.Entry.TheVariants.{Write, Prepare, Commit, Undo, Close}
-use Rattle.wp_model.specs.declared.holder.Holder.{Holder}
 use Rattle.wp_model.specs.declared.holder.Holder.TheVariants.{Txn, Client}
 use Rattle.wp_model.specs.Batch.{change_to}
-use Rattle.wp_model.specs.History.{is_prepare, prepared_name, name_at, batch_at, is_undecided, is_changed, named, holder_of, changes_of}
-use Rattle.wp_model.specs.Legal.{IsLegal, IsLegalNext, prior}
+use Rattle.wp_model.specs.History.{prepared_name, name_at, batch_at, is_undecided, is_changed, changes_of}
+use Rattle.wp_model.specs.Legal.{IsLegalNext, prior}
 use Rattle.wp_judge.specs.Words.{CommitPair}
 use Rattle.wp_history.proofs.Above.{is_changed_from}
 use Rattle.wp_history.proofs.Held.{not_free, free_key}
 use Rattle.wp_history.proofs.Undecided.{undecided_within}
-use Rattle.wp_core.specs.Lists.{IsIn}
 use Rattle.wp_core.specs.Conditions.{MayPublish}
 use Rattle.wp_core.specs.Entries.{transaction_of, changes_under}
-use Rattle.wp_core.specs.Turns.{write_turn, Holds}
+use Rattle.wp_core.specs.Turns.{write_turn}
 use Rattle.wp_core.specs.Tables.{WriteTable}
 use Rattle.wp_core.specs.Views.{Fact, passed, in_old_commits, apart, words_stay, versions_in_memory, versions_nowhere, number_in_heap, number_not_in_heap, undecided_at, prior_values, unprepared, direct_free, tables_stay, live_listed, nothing_flushed, frozen_stay, delayed_flag_stays, old_flag_stays}
-use Rattle.wp_core.specs.World.{Participant, Actor, World, Transaction}
+use Rattle.wp_core.specs.World.{Participant, Actor, World}
 use Rattle.wp_core.specs.Steps.{store_published}
 use Rattle.wp_core.specs.Effects.{with_entry}
 use Rattle.wp_core.specs.Notes.{ends, is_name}
-use Rattle.wp_core.specs.Sound.Actors.{participants_of, IsParticipantAt}
-use Rattle.wp_core.specs.Sound.Locks.{Owner, owner_of, IsOwner}
-use Rattle.wp_core.specs.Sound.Views.{IsClearing, Owns, IsGuarded, noter_of}
+use Rattle.wp_core.specs.Sound.Actors.{IsParticipantAt}
+use Rattle.wp_core.specs.Sound.Locks.{owner_of, IsOwner}
+use Rattle.wp_core.specs.Sound.Views.{IsClearing, Owns, IsGuarded}
 use Rattle.wp_core.specs.IsSound.{IsSound, participants}
 use Rattle.wp_core.proofs.AllParticipants.{mine}
-use Rattle.wp_core.proofs.HistoryGrows.{grown_length, after, named_is, named_stays, unnamed_stays, free_stays, batch_at_grown, newest_kept, prior_same}
+use Rattle.wp_core.proofs.HistoryGrows.{none_is, grown_length, after, named_is, named_stays, unnamed_stays, free_stays, batch_at_grown, newest_kept, prior_same}
 use Rattle.wp_core.proofs.PendingSteps.{SoPending}
 use Rattle.wp_core.proofs.PublishesLocks.{prepare_of, not_decided, batch_new}
 use Rattle.wp_core.proofs.Quiet.{SoIn}
 use Rattle.wp_core.proofs.StoresFlag.{not_theirs}
-
-none_is : {A : Type 0} (o : Option A) → ((x : A) → o ≡ Some x → ⊥) → o ≡ None
-none_is None never = refl
-none_is (Some x) never = absurd (never x refl)
 
 never_true : (b : Bool) → (b ≡ true → ⊥) → b ≡ false
 never_true true never = absurd (never refl)
@@ -101,26 +94,33 @@ module _ (w : World) (by : ℕ) (a : Actor) (entry : Entry) (others : List Entry
     prior_grows name p batch other k =
         let is = named_is history name p k.1 in
         let low = (undecided_within history p is.0).1 in
-        let same : name_at history p ≡ name = (bytes_eq-Decides (name_at history p) name).0 is.1 in
-        (k.0, named_stays history entry n.legal name p k.1 (not_decided history entry name p k.1 other),
-        ap (prior grown) (batch_at_grown history entry n.legal p low)
-        ∙ (prior_same history grown (batch_at history p) (λ key changed. newest_kept history entry n.legal key (commits_apart entry refl (after history entry n.legal) p key is.0 changed (λ e. other (e ∙ ap (λ (z : List ℕ). Some z) same)))) ∙ k.2))
+        let same : name_at history p ≡ name = (bytes_eq-Decides (name_at history p) name).0 is.1 in (
+          k.0,
+          named_stays history entry n.legal name p k.1 (not_decided history entry name p k.1 other),
+          ap (prior grown) (batch_at_grown history entry n.legal p low)
+              ∙ (prior_same history grown (batch_at history p) (λ key changed. newest_kept history entry n.legal key (commits_apart entry refl (after history entry n.legal) p key is.0 changed (λ e. other (e ∙ ap (λ (z : List ℕ). Some z) same)))) ∙ k.2),
+        )
 
     unprepared_grows : (name : List ℕ) → (transaction_of history entry ≡ Some name → ⊥) → SoIn w q (unprepared name) → SoPending w d q (unprepared name)
-    unprepared_grows name other k =
-        (k.0, unnamed_stays history entry n.legal name k.1 (λ prepares. let x = prepare_of entry prepares in never_true (bytes_eq (prepared_name (Some entry)) name) (λ e.
-        let same : prepared_name (Some entry) ≡ name = (bytes_eq-Decides (prepared_name (Some entry)) name).0 e in
-        other (ap (transaction_of history) x.is ∙ ap (λ (z : List ℕ). Some z) (ap (λ (y : Entry). prepared_name (Some y)) (sym x.is) ∙ same)))),
-        λ x key has held. free_stays history entry n.legal key (k.2 x key has held) (λ prepares. let y = prepare_of entry prepares in never_true (is_changed (batch_at grown (suc (length history))) key) (λ e.
-        let its = prepares_held y.name y.batch key y.is (ap (λ (z : List Change). is_changed z key) (sym (batch_new history entry n.legal y.name y.batch y.is)) ∙ e) in
-        let mine_held = owner.keys name x key has held in
-        other (ap (transaction_of history) y.is ∙ ap (λ (z : List ℕ). Some z) (txn_is y.name name (sym its ∙ mine_held))))))
+    unprepared_grows name other k = (
+      k.0,
+      unnamed_stays history entry n.legal name k.1 (λ prepares. let x = prepare_of entry prepares in never_true (bytes_eq (prepared_name (Some entry)) name) (λ e.
+          let same : prepared_name (Some entry) ≡ name = (bytes_eq-Decides (prepared_name (Some entry)) name).0 e in
+          other (ap (transaction_of history) x.is ∙ ap (λ (z : List ℕ). Some z) (ap (λ (y : Entry). prepared_name (Some y)) (sym x.is) ∙ same)))),
+      λ x key has held. free_stays history entry n.legal key (k.2 x key has held) (λ prepares. let y = prepare_of entry prepares in never_true (is_changed (batch_at grown (suc (length history))) key) (λ e.
+          let its = prepares_held y.name y.batch key y.is (ap (λ (z : List Change). is_changed z key) (sym (batch_new history entry n.legal y.name y.batch y.is)) ∙ e) in
+          let mine_held = owner.keys name x key has held in
+          other (ap (transaction_of history) y.is ∙ ap (λ (z : List ℕ). Some z) (txn_is y.name name (sym its ∙ mine_held))))),
+    )
 
     direct_grows : (key : List ℕ) → SoIn w q (direct_free key) → SoPending w d q (direct_free key)
-    direct_grows key k =
-        (k.0, k.1, free_stays history entry n.legal key k.2 (λ prepares. let y = prepare_of entry prepares in never_true (is_changed (batch_at grown (suc (length history))) key) (λ e.
-        let its = prepares_held y.name y.batch key y.is (ap (λ (z : List Change). is_changed z key) (sym (batch_new history entry n.legal y.name y.batch y.is)) ∙ e) in
-        txn_not_client y.name q.client (sym its ∙ k.1))))
+    direct_grows key k = (
+      k.0,
+      k.1,
+      free_stays history entry n.legal key k.2 (λ prepares. let y = prepare_of entry prepares in never_true (is_changed (batch_at grown (suc (length history))) key) (λ e.
+          let its = prepares_held y.name y.batch key y.is (ap (λ (z : List Change). is_changed z key) (sym (batch_new history entry n.legal y.name y.batch y.is)) ∙ e) in
+          txn_not_client y.name q.client (sym its ∙ k.1))),
+    )
 
   -- ---- the actor's own notes
 

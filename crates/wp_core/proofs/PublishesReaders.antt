@@ -1,19 +1,18 @@
 -- The pending entry joins the history: registrations, what readers know, and what they concluded.
-use Rattle.std.proofs.Common.{◌≡◌, ℕ, suc, ◌<◌, ◌≤◌, ◌==◌, eq-eqb, Bool, true, false, List, [], ◌∷◌, ◌++◌, length, map, refl, sym, subst, ap, ◌∙◌, Option, Some, None, arith}
-use mathlib.Core.Option.{some, some-injective}
+use Rattle.std.proofs.Common.{◌≡◌, ℕ, ◌≤◌, ◌==◌, eq-eqb, Bool, true, false, List, [], ◌∷◌, ◌++◌, length, map, refl, sym, subst, ap, ◌∙◌, Option, Some, arith}
+use mathlib.Core.Option.{some}
 use lib.ListN.{get_elem?}
 use Rattle.wp_model.specs.declared.entry.Entry.{Entry}
 use Rattle.wp_model.specs.Legal.{IsLegal}
-use Rattle.wp_model.specs.Decision.{decision_of, IsCommittedAt}
 use Rattle.wp_model.specs.Snapshots.{Snapshots}
 use Rattle.wp_judge.specs.declared.observed.Observed.{Observed}
 use Rattle.wp_history.proofs.Growth.{entry_at_old}
-use Rattle.wp_core.specs.Lists.{IsIn, Each, one_if, total}
+use Rattle.wp_core.specs.Lists.{IsIn, one_if, total}
 use Rattle.wp_core.specs.Reading.{Registration, snapshot_of}
 use Rattle.wp_core.specs.World.{Actor}
 use Rattle.wp_core.specs.Sound.Actors.{IsParticipantAt, participants_of}
 use Rattle.wp_core.specs.Sound.Snapshots.{has_versions, has_versions_at, registered_of, IsBelowCommitted, AreRegistered}
-use Rattle.wp_core.specs.Sound.Reader.{ReaderKnows, IsReader, AreReaders, IsPassedBy, IsRight, AreJudged, reader_of}
+use Rattle.wp_core.specs.Sound.Reader.{ReaderKnows, AreReaders, IsPassedBy, IsRight, AreJudged, reader_of}
 use Rattle.wp_core.proofs.HistoryGrows.{committed_old, committed_stays, grown_length}
 use Rattle.wp_core.proofs.HistoryLaws.{decision_stays}
 use Rattle.wp_core.proofs.KeepsRemembered.{from_map}

@@ -1,5 +1,5 @@
 -- The pending entry joins the history: the versions of the store and of the edits.
-use Rattle.std.proofs.Common.{◌≡◌, ◌≢◌, ◌⊎◌, ⊎_elim, inl, inr, ℕ, zero, suc, ◌+◌, ◌<◌, ◌≤◌, nat_le, ◌==◌, ◌&&◌, eq-eqb, ne_eqb, Bool, true, false, cond, List, [], ◌∷◌, ◌++◌, length, drop, append-nil, append_assoc, refl, sym, subst, ap, ◌∙◌, Option, Some, None, le_trans, arith}
+use Rattle.std.proofs.Common.{◌≡◌, ◌≢◌, inl, inr, ℕ, zero, suc, ◌+◌, ◌<◌, ◌≤◌, nat_le, ◌==◌, ◌&&◌, eq-eqb, ne_eqb, Bool, true, false, cond, List, [], ◌∷◌, ◌++◌, length, drop, append-nil, append_assoc, refl, sym, subst, ap, ◌∙◌, Option, Some, None, arith}
 use Rattle.std.proofs.lemmas.Bool.{cases_lt}
 use Rattle.std.proofs.lemmas.Bool.Decides.{nat_tests}
 use Rattle.std.specs.Str.{bytes_eq}
@@ -13,20 +13,14 @@ use Rattle.wp_model.specs.Decision.{version_in, entry_version}
 use Rattle.wp_model.specs.Snapshots.{Snapshots}
 use Rattle.wp_model.specs.Versions.{version_at}
 use Rattle.wp_history.proofs.Counting.{entry_version_old}
-use Rattle.wp_history.proofs.Growth.{entry_at_past, length_next}
+use Rattle.wp_history.proofs.Growth.{entry_at_past}
 use Rattle.wp_core.specs.Entries.{next_of}
 use Rattle.wp_core.specs.Tables.{Store, InstalledEdit, Installed, live_numbers, up_to, all_in}
 use Rattle.wp_core.specs.Sound.Store.{versions_under, versions_after, later_versions, IsEditCovered, IsStored}
 use Rattle.wp_core.proofs.CoveredGrows.{version_within, covered_grows}
-use Rattle.wp_core.proofs.HistoryGrows.{grown_length, version_new}
+use Rattle.wp_core.proofs.HistoryGrows.{none_is, grown_length, version_new}
 use Rattle.wp_core.proofs.PendingVersions.{at_up_to}
-
-none_is : {A : Type 0} (o : Option A) → ((x : A) → o ≡ Some x → ⊥) → o ≡ None
-none_is None never = refl
-none_is (Some x) never = absurd (never x refl)
-
-none_some : {A : Type 0} (o : Option A) (x : A) → o ≡ None → o ≡ Some x → ⊥
-none_some o x none there = let q : None ≡ Some x = sym none ∙ there in absurd cc
+use Rattle.wp_core.proofs.ReaderFacts.{none_some}
 
 -- ---- look-ups in two lists
 
