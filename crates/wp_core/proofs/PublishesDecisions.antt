@@ -1,5 +1,5 @@
 -- The pending entry joins the history: the cache, what is decided and undecided, and the prepared tables.
-use Rattle.std.proofs.Common.{◌≡◌, ◌⊎◌, ⊎_elim, inl, ℕ, suc, ◌||◌, Bool, true, true≢false, List, [], ◌∷◌, ◌++◌, length, sym, ap, ◌∙◌, Some}
+use Rattle.std.proofs.Common.{◌≡◌, ⊎_elim, inl, ℕ, suc, ◌||◌, Bool, true, true≢false, List, [], ◌∷◌, ◌++◌, length, sym, ap, ◌∙◌, Some}
 use Rattle.std.specs.FinSet as set
 use Rattle.wp_model.specs.declared.entry.Entry.{Entry}
 use Rattle.wp_model.specs.declared.entry.Entry.TheVariants.{Write, Prepare, Commit, Undo, Close}

@@ -14,7 +14,7 @@ use Rattle.wp_core.specs.Entries.{IsRecord}
 use Rattle.wp_core.specs.Tables.{WriteTable}
 use Rattle.wp_core.specs.World.{Actor}
 use Rattle.wp_core.specs.Effects.{with_entry}
-use Rattle.wp_core.specs.Sound.Actors.{StartsWith, own_of, times, once, AreOwned, participants_of}
+use Rattle.wp_core.specs.Sound.Actors.{StartsWith, own_of, times, AreOwned, participants_of}
 use Rattle.wp_core.specs.Sound.History.{IsHistory, IsRest, logged_part}
 use Rattle.wp_core.proofs.Participants.{total_person_set}
 use Rattle.wp_core.proofs.PastsGrow.{total_more}
