@@ -19,7 +19,7 @@ and_first : (a b : Bool) → (a && b) ≡ true → a ≡ true
 and_first true b e = refl
 and_first false b e = e
 
-is_equal : (q p : ℕ) → (q == p) ≡ true → q ≡ p
+pub is_equal : (q p : ℕ) → (q == p) ≡ true → q ≡ p
 is_equal q p e = grind (arith, nat_tests)
 
 prepare_there : (o : Option Entry) → is_prepare o ≡ true → (e : Entry) × (o ≡ Some e)

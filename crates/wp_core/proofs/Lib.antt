@@ -50,3 +50,13 @@ pub mod KeepsNameFreed
 pub mod KeepsNameTaken
 pub mod OneHolder
 pub mod Opened
+pub mod ClosesLog
+pub mod HistoryGrows
+pub mod PublishesHistory
+pub mod PublishesDecisions
+pub mod PublishesReaders
+pub mod CoveredGrows
+pub mod PublishesVersions
+pub mod PublishesLocks
+pub mod PublishesNotes
+pub mod KeepsPublished

@@ -113,7 +113,7 @@ cache_made w entries none s = record {
       record { placed = k.placed; decided = extended_stays w.writes.history entries pair.number pair.decision (ap (λ (z : List Entry). decision_of (extended w.writes.history z) pair.number) (sym none) ∙ k.decided) };
 }
 
-prepare_stays : (history entries : List Entry) (p : ℕ) → is_prepare (entry_at history p) ≡ true → is_prepare (entry_at (extended history entries) p) ≡ true
+pub prepare_stays : (history entries : List Entry) (p : ℕ) → is_prepare (entry_at history p) ≡ true → is_prepare (entry_at (extended history entries) p) ≡ true
 prepare_stays history [] p is = is
 prepare_stays history (entry ∷ others) p is = ap is_prepare (entry_at_old history (entry ∷ []) p (prepared_within history p is).1) ∙ is
 

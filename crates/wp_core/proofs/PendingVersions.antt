@@ -64,7 +64,7 @@ none_either : (c : Bool) → ◌≡◌ {A = Option (Option (List ℕ))} None (co
 none_either true = refl
 none_either false = refl
 
-at_up_to : (n : ℕ) (vs : List Version) (key : List ℕ) (p : ℕ) → version_at (up_to n vs) key p ≡ cond (nat_le p n) (version_at vs key p) None
+pub at_up_to : (n : ℕ) (vs : List Version) (key : List ℕ) (p : ℕ) → version_at (up_to n vs) key p ≡ cond (nat_le p n) (version_at vs key p) None
 at_up_to n [] key p = none_either (nat_le p n)
 at_up_to n (v ∷ vs) key p =
     one_up_to v (up_to n vs) key p (nat_le v.number n) (bytes_eq v.key key && (v.number == p)) (nat_le p n) (version_at vs key p) refl

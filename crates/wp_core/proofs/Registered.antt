@@ -13,7 +13,7 @@ use Rattle.wp_core.specs.Sound.Snapshots.{AreRegistered, count_of, registered_of
 use Rattle.std.proofs.Common.{map}
 use Rattle.wp_core.proofs.Frames.{at_map}
 
-total_at : {X : Type 0} (f : X → ℕ) (xs : List X) (j : ℕ) (x : X) → get_elem? xs j ≡ some x → f x ≤ total f xs
+pub total_at : {X : Type 0} (f : X → ℕ) (xs : List X) (j : ℕ) (x : X) → get_elem? xs j ≡ some x → f x ≤ total f xs
 total_at f [] j x e = absurd (some-ne-none x (sym e))
 total_at f (y ∷ ys) zero x e = let q : f y ≡ f x = ap f (some-injective y x e) in omega arith
 total_at f (y ∷ ys) (suc j) x e = let k = total_at f ys j x e in omega arith
@@ -25,7 +25,7 @@ in_total s r (x ∷ xs) is there =
     (λ (q : x ≡ r). let t : (x.number == s) ≡ true = eq-eqb x.number s (ap (λ (z : Registration). z.number) q ∙ is) in let u : one_if (x.number == s) ≡ 1 = ap one_if t in omega arith)
     (λ (k : IsIn r xs). let t = in_total s r xs is k in omega arith) there
 
-some_counted : (o : Option Snapshot) → 1 ≤ count_of o → (x : Snapshot) × (o ≡ Some x)
+pub some_counted : (o : Option Snapshot) → 1 ≤ count_of o → (x : Snapshot) × (o ≡ Some x)
 some_counted None k = absurd (omega arith)
 some_counted (Some x) k = (x, refl)
 

@@ -76,18 +76,19 @@ module _ (xs : List Actor) (by : ℕ) (a b : Actor) (e : Event) (at : get_elem? 
   compacts_still : (j i : ℕ) → OtherCompacts before j i → OtherCompacts after j i
   compacts_still j i (l, m, n, tables, apart, k) = (l, m, n, tables, apart, done_still xs by a b e at same grown l m _ k)
 
-  due_same : (first : InstalledEdit) → IsQuiet e → tables_due first b.participant.past ≡ tables_due first a.participant.past
-  due_same first quiet = ap (tables_due first) grown ∙ fold-append due_after first.tables a.participant.past (e ∷ []) ∙ quiet.due (tables_due first a.participant.past)
+  due_same : (first : InstalledEdit) → ((n : ℕ) → due_after n e ≡ n) → tables_due first b.participant.past ≡ tables_due first a.participant.past
+  due_same first due = ap (tables_due first) grown ∙ fold-append due_after first.tables a.participant.past (e ∷ []) ∙ due (tables_due first a.participant.past)
 
-  pub edits_more : (first : InstalledEdit) (t : Installed) → IsQuiet e → ((n : ℕ) → e ≡ found_flushed n → WasInstalled first before n)
+  -- the same where the event installs nothing, a fault or not
+  pub edits_still : (first : InstalledEdit) (t : Installed) → ((n : ℕ) → due_after n e ≡ n) → ((n : ℕ) → e ≡ found_flushed n → WasInstalled first before n)
       → AreEdits first t before → AreEdits first t after
-  edits_more first t quiet new k = record {
+  edits_still first t due new k = record {
     last = installed_still first t.last.flushed k.last;
     found = λ n h. installed_still first n (⊎_elim (λ c. k.found n c) (λ c. new n c) (past_before xs by a b e at same grown (found_flushed n) h));
     tables = λ j i past there. ⊎_elim
         (λ (c : (j ≡ by) × (i ≡ 0) × (past ≡ b.participant.past)).
         let mine = k.tables by 0 a.participant.past (own_there) in
-        let same_due : tables_due first past ≡ tables_due first a.participant.past = ap (tables_due first) c.2 ∙ due_same first quiet in
+        let same_due : tables_due first past ≡ tables_due first a.participant.past = ap (tables_due first) c.2 ∙ due_same first due in
         ⊎_elim
         (λ (d : tables_due first a.participant.past ≤ t.last.tables). inl (subst (λ (n : ℕ). n ≤ t.last.tables) (sym same_due) d))
         (λ (d : OtherCompacts before by 0). inr (subst (λ (n : ℕ). OtherCompacts after n i) (sym c.0) (subst (λ (n : ℕ). OtherCompacts after by n) (sym c.1) (compacts_still by 0 d))))
@@ -98,3 +99,7 @@ module _ (xs : List Actor) (by : ℕ) (a b : Actor) (e : Event) (at : get_elem? 
     where
       own_there : IsParticipantAt before by 0 a.participant.past
       own_there = mine past_of xs by a b at same
+
+  pub edits_more : (first : InstalledEdit) (t : Installed) → IsQuiet e → ((n : ℕ) → e ≡ found_flushed n → WasInstalled first before n)
+      → AreEdits first t before → AreEdits first t after
+  edits_more first t quiet new k = edits_still first t quiet.due new k

@@ -1,0 +1,118 @@
+-- The pending entry joins the history: names and keys, holders, the board, and faults.
+use Rattle.std.proofs.Common.{◌≡◌, ⊎_elim, ℕ, suc, Bool, true, false, true≢false, List, [], ◌∷◌, ◌++◌, length, refl, sym, ap, ◌∙◌, Option, Some, None, arith}
+use Rattle.std.specs.Prelude.{is_some}
+use Rattle.std.proofs.lemmas.List.{take-append-le}
+use Rattle.std.proofs.lemmas.Slice.Eq.{bytes_eq-Decides}
+use Rattle.std.specs.FinMap as finite
+use Rattle.wp_model.specs.declared.change.Change.{Change}
+use Rattle.wp_model.specs.declared.entry.Entry.{Entry}
+use Rattle.wp_model.specs.declared.entry.Entry.TheVariants.{Write, Prepare, Commit, Undo, Close}
+use Rattle.wp_model.specs.declared.holder.Holder.{Holder}
+use Rattle.wp_model.specs.declared.holder.Holder.TheVariants.{Txn, Client}
+use Rattle.wp_model.specs.History.{is_prepare, prepared_name, prepared_batch, name_at, batch_at, decides, is_changed, named}
+use Rattle.wp_model.specs.Legal.{IsLegal}
+use Rattle.wp_model.specs.LockTables.{LockTables}
+use Rattle.wp_core.specs.Entries.{transaction_of}
+use Rattle.wp_core.specs.Tables.{WriteTable}
+use Rattle.wp_core.specs.Views.{Account, own, another, prepare_at, Event}
+use Rattle.wp_core.specs.Effects.{with_entry}
+use Rattle.wp_core.specs.Sound.Locks.{Owner, AreLocked}
+use Rattle.wp_core.specs.Sound.Pasts.{IsAccounted, AreHolders, IsBoard, AreFaults}
+use Rattle.wp_core.proofs.HistoryLaws.{is_equal}
+use Rattle.wp_core.proofs.HistoryGrows.{at_next, grown_length, named_is, named_stays, name_at_old, batch_at_grown, undecided_before_or_now}
+
+-- the Prepare that an entry is
+pub record IsPrepareOf (entry : Entry) : Type 0 where
+  pub name : List ℕ
+  pub batch : List Change
+  pub is : entry ≡ Prepare name batch
+
+pub prepare_of : (entry : Entry) → is_prepare (Some entry) ≡ true → IsPrepareOf entry
+prepare_of (Prepare name batch) is = record { name = name; batch = batch; is = refl }
+prepare_of (Write batch) is = absurd (true≢false (sym is))
+prepare_of (Commit p) is = absurd (true≢false (sym is))
+prepare_of (Undo p batch) is = absurd (true≢false (sym is))
+prepare_of (Close p) is = absurd (true≢false (sym is))
+
+-- what decides a prepare is of its transaction
+pub decider_of : (history : List Entry) (p : ℕ) (entry : Entry) → decides p entry ≡ true → transaction_of history entry ≡ Some (name_at history p)
+decider_of history p (Commit q) d = ap (λ (x : ℕ). Some (name_at history x)) (is_equal q p d)
+decider_of history p (Close q) d = ap (λ (x : ℕ). Some (name_at history x)) (is_equal q p d)
+decider_of history p (Write batch) d = absurd (true≢false (sym d))
+decider_of history p (Prepare name batch) d = absurd (true≢false (sym d))
+decider_of history p (Undo q batch) d = absurd (true≢false (sym d))
+
+pub some_there : {A : Type 0} (o : Option A) → is_some o ≡ true → (x : A) × (o ≡ Some x)
+some_there None e = absurd (true≢false (sym e))
+some_there (Some x) e = (x, refl)
+
+-- what is named is of the transaction of an entry only where the entry decides it
+pub not_decided : (history : List Entry) (entry : Entry) (name : List ℕ) (p : ℕ) → named history name ≡ Some p → (transaction_of history entry ≡ Some name → ⊥) → decides p entry ≡ false
+not_decided history entry name p is other = by (decides p entry) refl
+  where
+    by : (b : Bool) → decides p entry ≡ b → b ≡ false
+    by false e = refl
+    by true e = absurd (other (decider_of history p entry e ∙ ap (λ (x : List ℕ). Some x) ((bytes_eq-Decides (name_at history p) name).0 (named_is history name p is).1)))
+
+module _ (history : List Entry) (entry : Entry) (legal : IsLegal (history ++ entry ∷ [])) where
+  abbrev grown : List Entry
+  grown = history ++ entry ∷ []
+
+  abbrev next : ℕ
+  next = suc (length history)
+
+  pub name_new : (name : List ℕ) (batch : List Change) → entry ≡ Prepare name batch → name_at grown next ≡ name
+  name_new name batch is = ap prepared_name (at_next history entry legal) ∙ ap (λ (x : Entry). prepared_name (Some x)) is
+
+  pub batch_new : (name : List ℕ) (batch : List Change) → entry ≡ Prepare name batch → batch_at grown next ≡ batch
+  batch_new name batch is = ap prepared_batch (at_next history entry legal) ∙ ap (λ (x : Entry). prepared_batch (Some x)) is
+
+  pub locks_part : (t : LockTables) (owners : List (List Owner)) → ((name : List ℕ) → transaction_of history entry ≡ Some name → (client : List ℕ) × (finite.get t.names name ≡ Some (Some client)))
+      → ((name : List ℕ) (batch : List Change) (key : List ℕ) → entry ≡ Prepare name batch → is_changed batch key ≡ true → finite.get t.keys key ≡ Some (Txn name))
+      → AreLocked history t owners → AreLocked grown t owners
+  locks_part t owners live held k = record {
+    prepared_names = λ p u. ⊎_elim
+        (λ o. ap (λ (x : List ℕ). is_some (finite.get t.names x)) (name_at_old history entry legal p o.0) ∙ k.prepared_names p o.1)
+        (λ (o : (p ≡ next) × (is_prepare (Some entry) ≡ true)).
+        let x = prepare_of entry o.1 in
+        let l = live x.name (ap (transaction_of history) x.is) in
+        ap (λ (z : List ℕ). is_some (finite.get t.names z)) (ap (name_at grown) o.0 ∙ name_new x.name x.batch x.is) ∙ ap is_some l.1)
+        (undecided_before_or_now history entry legal p u);
+    prepared_keys = λ p key u changed. ⊎_elim
+        (λ o. k.prepared_keys p key o.1 (ap (λ (x : List Change). is_changed x key) (sym (batch_at_grown history entry legal p o.0)) ∙ changed) ∙ ap (λ (x : List ℕ). Some (Txn x)) (sym (name_at_old history entry legal p o.0)))
+        (λ (o : (p ≡ next) × (is_prepare (Some entry) ≡ true)).
+        let x = prepare_of entry o.1 in
+        held x.name x.batch key x.is (ap (λ (z : List Change). is_changed z key) (sym (ap (batch_at grown) o.0 ∙ batch_new x.name x.batch x.is)) ∙ changed) ∙ ap (λ (z : List ℕ). Some (Txn z)) (sym (ap (name_at grown) o.0 ∙ name_new x.name x.batch x.is)))
+        (undecided_before_or_now history entry legal p u);
+    had = k.had;
+    apart = k.apart;
+    names_had = k.names_had;
+    names_left = λ name e.
+        let x = some_there (named history name) (k.names_left name e) in
+        ap is_some (named_stays history entry legal name x.0 x.1 (not_decided history entry name x.0 x.1 (λ of. let l = live name of in let q : Some None ≡ Some (Some l.0) = sym e ∙ l.1 in absurd cc)));
+    keys_live = k.keys_live;
+    keys_known = k.keys_known;
+    keys_direct = k.keys_direct;
+  }
+
+  -- ---- the pasts
+
+  accounted_grows : (pasts : List (List (List Event))) (j i : ℕ) (key : Option (List ℕ)) (holder : Holder) (seen : ℕ) (account : Account) → IsAccounted history pasts j i key holder seen account → IsAccounted grown pasts j i key holder seen account
+  accounted_grows pasts j i key holder seen own k = k
+  accounted_grows pasts j i key holder seen another k = k
+  accounted_grows pasts j i key (Txn name) seen (prepare_at n) k = let low = k.1 in let l = grown_length history entry legal in (k.0, omega (arith, low, l), ap (λ (h : List Entry). is_some (named h name)) (take-append-le n history (entry ∷ []) low) ∙ k.2)
+  accounted_grows pasts j i key (Client name) seen (prepare_at n) k = k
+
+  pub holders_part : (opened : List Entry) (t : LockTables) (pasts : List (List (List Event))) → AreHolders opened history t pasts → AreHolders opened grown t pasts
+  holders_part opened t pasts k = record { names = k.names; keys = k.keys; found = λ j i key holder seen account h. accounted_grows pasts j i key holder seen account (k.found j i key holder seen account h) }
+
+  pub board_part : (t : LockTables) (pasts : List (List (List Event))) → IsBoard (length history) t pasts → IsBoard (length grown) t pasts
+  board_part t pasts k = record { labels = k.labels; numbers = λ label n e. let o = k.numbers label n e in let low = o.1 in let l = grown_length history entry legal in (o.0, omega (arith, low, l)); heard = k.heard }
+
+pub faults_part : (t : WriteTable) (entry : Entry) (others : List Entry) (halted : Bool) (pasts : List (List (List Event))) → t.closed ≡ false → AreFaults t halted pasts → AreFaults (with_entry t entry others) halted pasts
+faults_part t entry others halted pasts open_log k = record {
+  log = k.log;
+  tables = k.tables;
+  not_logged = λ closed. absurd (true≢false (sym closed ∙ open_log));
+  stopped = λ n h. absurd (true≢false (sym (k.stopped n h).0 ∙ open_log));
+}

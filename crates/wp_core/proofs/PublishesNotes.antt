@@ -1,0 +1,183 @@
+-- The pending entry joins the history: what actors noted.
+use Rattle.std.proofs.Common.{◌≡◌, ◌≢◌, ℕ, suc, ◌≤◌, Bool, true, false, not, true≢false, List, [], ◌∷◌, ◌++◌, length, refl, sym, ap, ◌∙◌, Option, Some, None, le_trans, arith}
+use mathlib.Core.Option.{some}
+use lib.ListN.{get_elem?}
+use Rattle.std.specs.Str.{bytes_eq}
+use Rattle.std.proofs.lemmas.Slice.Eq.{bytes_eq-Decides}
+use Rattle.std.specs.FinMap as finite
+use Rattle.wp_model.specs.declared.change.Change.{Change}
+use Rattle.wp_model.specs.declared.entry.Entry.{Entry}
+use Rattle.wp_model.specs.declared.entry.Entry.TheVariants.{Write, Prepare, Commit, Undo, Close}
+use Rattle.wp_model.specs.declared.holder.Holder.TheVariants.{Txn, Client}
+use Rattle.wp_model.specs.Batch.{change_to}
+use Rattle.wp_model.specs.History.{prepared_name, name_at, batch_at, is_undecided, is_changed, changes_of}
+use Rattle.wp_model.specs.Legal.{IsLegalNext, prior}
+use Rattle.wp_judge.specs.Words.{CommitPair}
+use Rattle.wp_history.proofs.Above.{is_changed_from}
+use Rattle.wp_history.proofs.Held.{not_free, free_key}
+use Rattle.wp_history.proofs.Undecided.{undecided_within}
+use Rattle.wp_core.specs.Conditions.{MayPublish}
+use Rattle.wp_core.specs.Entries.{transaction_of, changes_under}
+use Rattle.wp_core.specs.Turns.{write_turn}
+use Rattle.wp_core.specs.Tables.{WriteTable}
+use Rattle.wp_core.specs.Views.{Fact, passed, in_old_commits, apart, words_stay, versions_in_memory, versions_nowhere, number_in_heap, number_not_in_heap, undecided_at, prior_values, unprepared, direct_free, tables_stay, live_listed, nothing_flushed, frozen_stay, delayed_flag_stays, old_flag_stays}
+use Rattle.wp_core.specs.World.{Participant, Actor, World}
+use Rattle.wp_core.specs.Steps.{store_published}
+use Rattle.wp_core.specs.Effects.{with_entry}
+use Rattle.wp_core.specs.Notes.{ends, is_name}
+use Rattle.wp_core.specs.Sound.Actors.{IsParticipantAt}
+use Rattle.wp_core.specs.Sound.Locks.{owner_of, IsOwner}
+use Rattle.wp_core.specs.Sound.Views.{IsClearing, Owns, IsGuarded}
+use Rattle.wp_core.specs.IsSound.{IsSound, participants}
+use Rattle.wp_core.proofs.AllParticipants.{mine}
+use Rattle.wp_core.proofs.HistoryGrows.{none_is, grown_length, after, named_is, named_stays, unnamed_stays, free_stays, batch_at_grown, newest_kept, prior_same}
+use Rattle.wp_core.proofs.PendingSteps.{SoPending}
+use Rattle.wp_core.proofs.PublishesLocks.{prepare_of, not_decided, batch_new}
+use Rattle.wp_core.proofs.Quiet.{SoIn}
+use Rattle.wp_core.proofs.StoresFlag.{not_theirs}
+
+never_true : (b : Bool) → (b ≡ true → ⊥) → b ≡ false
+never_true true never = absurd (never refl)
+never_true false never = refl
+
+txn_is : (x y : List ℕ) → Some (Txn x) ≡ Some (Txn y) → x ≡ y
+txn_is x y e = cc
+
+txn_not_client : (x y : List ℕ) → Some (Txn x) ≡ Some (Client y) → ⊥
+txn_not_client x y e = absurd cc
+
+clearing_grows : (n m : ℕ) (cache : List ℕ) (place : ℕ) (pair : CommitPair) (why : Type 0) → n ≤ m → IsClearing n cache place pair why → IsClearing m cache place pair why
+clearing_grows n m cache place pair why le k = record { place_within = k.place_within; there = k.there; published_by = (let p = k.published_by in omega (arith, p, le)); so = k.so }
+
+module _ (w : World) (by : ℕ) (a : Actor) (entry : Entry) (others : List Entry) (at : get_elem? w.actors by ≡ some a) (n : MayPublish w by a entry others) (s : IsSound w) where
+  abbrev history : List Entry
+  history = w.writes.history
+
+  abbrev grown : List Entry
+  grown = history ++ entry ∷ []
+
+  abbrev d : WriteTable
+  d = with_entry w.writes entry others
+
+  longer : length history ≤ length grown
+  longer = let l = grown_length history entry n.legal in omega (arith, l)
+
+  pub own_there : IsParticipantAt (participants owner_of w) by 0 (owner_of a.participant)
+  own_there = mine owner_of w.actors by a a at refl
+
+  -- a key that the entry prepares is held for its transaction
+  pub prepares_held : (name : List ℕ) (batch : List Change) (key : List ℕ) → entry ≡ Prepare name batch → is_changed batch key ≡ true → finite.get w.locks.keys key ≡ Some (Txn name)
+  prepares_held name batch key is changed = ((n.transaction name (ap (transaction_of history) is)).2 key (ap (λ (x : Entry). is_changed (changes_under history x) key) is ∙ changed)).1
+
+  -- the entry's transaction is live
+  pub transaction_live : (name : List ℕ) → transaction_of history entry ≡ Some name → (client : List ℕ) × (finite.get w.locks.names name ≡ Some (Some client))
+  transaction_live name e = let t = n.transaction name e in (a.participant.client, (s.locks.had by 0 (owner_of a.participant) own_there).names name t.0 t.1)
+
+  -- what the entry commits has no key of another undecided prepare
+  commits_apart : (x : Entry) → entry ≡ x → IsLegalNext history x → (p : ℕ) (key : List ℕ) → is_undecided history p ≡ true → is_changed (batch_at history p) key ≡ true → (transaction_of history x ≡ Some (name_at history p) → ⊥) → change_to (changes_of history x) key ≡ None
+  commits_apart (Write batch) is k p key u changed other = none_is (change_to batch key) (λ v e. not_free history key p u changed (free_key history batch key k.keys_are_free (is_changed_from batch key v e)))
+  commits_apart (Prepare name batch) is k p key u changed other = refl
+  commits_apart (Commit q) is k p key u changed other = none_is (change_to (batch_at history q) key) (λ v e.
+      let mine_held = s.locks.prepared_keys p key u changed in
+      let its = s.locks.prepared_keys q key k.names_undecided (is_changed_from (batch_at history q) key v e) in
+      other (ap (λ (z : List ℕ). Some z) (txn_is (name_at history q) (name_at history p) (sym its ∙ mine_held))))
+  commits_apart (Undo q batch) is k p key u changed other = refl
+  commits_apart (Close q) is k p key u changed other = refl
+
+  module _ (q : Participant) (owner : IsOwner w.locks (owner_of q)) where
+    undecided_grows : (name : List ℕ) (p : ℕ) → (transaction_of history entry ≡ Some name → ⊥) → SoIn w q (undecided_at name p) → SoPending w d q (undecided_at name p)
+    undecided_grows name p other k =
+        let low = (undecided_within history p (named_is history name p k.1).0).1 in
+        (k.0, named_stays history entry n.legal name p k.1 (not_decided history entry name p k.1 other), k.2, λ key changed. k.3 key (ap (λ (x : List Change). is_changed x key) (sym (batch_at_grown history entry n.legal p low)) ∙ changed))
+
+    prior_grows : (name : List ℕ) (p : ℕ) (batch : List Change) → (transaction_of history entry ≡ Some name → ⊥) → SoIn w q (prior_values name p batch) → SoPending w d q (prior_values name p batch)
+    prior_grows name p batch other k =
+        let is = named_is history name p k.1 in
+        let low = (undecided_within history p is.0).1 in
+        let same : name_at history p ≡ name = (bytes_eq-Decides (name_at history p) name).0 is.1 in (
+          k.0,
+          named_stays history entry n.legal name p k.1 (not_decided history entry name p k.1 other),
+          ap (prior grown) (batch_at_grown history entry n.legal p low)
+              ∙ (prior_same history grown (batch_at history p) (λ key changed. newest_kept history entry n.legal key (commits_apart entry refl (after history entry n.legal) p key is.0 changed (λ e. other (e ∙ ap (λ (z : List ℕ). Some z) same)))) ∙ k.2),
+        )
+
+    unprepared_grows : (name : List ℕ) → (transaction_of history entry ≡ Some name → ⊥) → SoIn w q (unprepared name) → SoPending w d q (unprepared name)
+    unprepared_grows name other k = (
+      k.0,
+      unnamed_stays history entry n.legal name k.1 (λ prepares. let x = prepare_of entry prepares in never_true (bytes_eq (prepared_name (Some entry)) name) (λ e.
+          let same : prepared_name (Some entry) ≡ name = (bytes_eq-Decides (prepared_name (Some entry)) name).0 e in
+          other (ap (transaction_of history) x.is ∙ ap (λ (z : List ℕ). Some z) (ap (λ (y : Entry). prepared_name (Some y)) (sym x.is) ∙ same)))),
+      λ x key has held. free_stays history entry n.legal key (k.2 x key has held) (λ prepares. let y = prepare_of entry prepares in never_true (is_changed (batch_at grown (suc (length history))) key) (λ e.
+          let its = prepares_held y.name y.batch key y.is (ap (λ (z : List Change). is_changed z key) (sym (batch_new history entry n.legal y.name y.batch y.is)) ∙ e) in
+          let mine_held = owner.keys name x key has held in
+          other (ap (transaction_of history) y.is ∙ ap (λ (z : List ℕ). Some z) (txn_is y.name name (sym its ∙ mine_held))))),
+    )
+
+    direct_grows : (key : List ℕ) → SoIn w q (direct_free key) → SoPending w d q (direct_free key)
+    direct_grows key k = (
+      k.0,
+      k.1,
+      free_stays history entry n.legal key k.2 (λ prepares. let y = prepare_of entry prepares in never_true (is_changed (batch_at grown (suc (length history))) key) (λ e.
+          let its = prepares_held y.name y.batch key y.is (ap (λ (z : List Change). is_changed z key) (sym (batch_new history entry n.legal y.name y.batch y.is)) ∙ e) in
+          txn_not_client y.name q.client (sym its ∙ k.1))),
+    )
+
+  -- ---- the actor's own notes
+
+  abbrev pub publisher : Participant
+  publisher = record a.participant { seen = grown; own = a.participant.own ++ suc (length history) ∷ [] }
+
+  own_owner : IsOwner w.locks (owner_of a.participant)
+  own_owner = s.locks.had by 0 (owner_of a.participant) own_there
+
+  not_its : (name : List ℕ) → not (is_name (transaction_of history entry) name) ≡ true → transaction_of history entry ≡ Some name → ⊥
+  not_its name left e = true≢false (sym left ∙ ap (λ (o : Option (List ℕ)). not (is_name o name)) e ∙ ap not ((bytes_eq-Decides name name).1 refl))
+
+  pub mine_grows : (fact : Fact) → not (ends history (length w.cache) (store_published entry others) fact) ≡ true → SoIn w a.participant fact → SoPending w d publisher fact
+  mine_grows (passed place pair) left k = clearing_grows (length history) (length grown) w.cache place pair _ longer k
+  mine_grows (in_old_commits place pair) left k = clearing_grows (length history) (length grown) w.cache place pair _ longer k
+  mine_grows (apart place pair) left k = clearing_grows (length history) (length grown) w.cache place pair _ longer k
+  mine_grows (words_stay max cache) left k = k
+  mine_grows versions_in_memory left k = absurd (true≢false (sym left))
+  mine_grows versions_nowhere left k = absurd (true≢false (sym left))
+  mine_grows number_in_heap left k = absurd (true≢false (sym left))
+  mine_grows number_not_in_heap left k = absurd (true≢false (sym left))
+  mine_grows (undecided_at name p) left k = undecided_grows a.participant own_owner name p (not_its name left) k
+  mine_grows (prior_values name p batch) left k = prior_grows a.participant own_owner name p batch (not_its name left) k
+  mine_grows (unprepared name) left k = unprepared_grows a.participant own_owner name (not_its name left) k
+  mine_grows (direct_free key) left k = direct_grows a.participant own_owner key k
+  mine_grows (tables_stay versions floor) left k = k
+  mine_grows (live_listed floor listed) left k = (le_trans k.0 longer, k.1)
+  mine_grows nothing_flushed left k = k
+  mine_grows (frozen_stay m versions) left k = (le_trans k.0 longer, k.1)
+  mine_grows (delayed_flag_stays value) left k = k
+  mine_grows (old_flag_stays value) left k = k
+
+  -- ---- the others' notes
+
+  module _ (j : ℕ) (q : Participant) (ne : j ≢ by) (there : IsParticipantAt (participants owner_of w) j 0 (owner_of q)) where
+    theirs : IsOwner w.locks (owner_of q)
+    theirs = s.locks.had j 0 (owner_of q) there
+
+    not_theirs_now : (name : List ℕ) → Owns q name → transaction_of history entry ≡ Some name → ⊥
+    not_theirs_now name has e = let t = n.transaction name e in ne (s.locks.apart.names j 0 by 0 (owner_of q) (owner_of a.participant) name has.0 t.0 there own_there has.1 t.1).0
+
+    pub others_grow : (fact : Fact) → IsGuarded w.holders fact j → SoIn w q fact → SoPending w d q fact
+    others_grow (passed place pair) guard k = clearing_grows (length history) (length grown) w.cache place pair _ longer k
+    others_grow (in_old_commits place pair) guard k = clearing_grows (length history) (length grown) w.cache place pair _ longer k
+    others_grow (apart place pair) guard k = clearing_grows (length history) (length grown) w.cache place pair _ longer k
+    others_grow (words_stay max cache) guard k = k
+    others_grow versions_in_memory guard k = absurd (not_theirs w.holders write_turn by j n.turn ne (guard write_turn refl))
+    others_grow versions_nowhere guard k = absurd (not_theirs w.holders write_turn by j n.turn ne (guard write_turn refl))
+    others_grow number_in_heap guard k = absurd (not_theirs w.holders write_turn by j n.turn ne (guard write_turn refl))
+    others_grow number_not_in_heap guard k = absurd (not_theirs w.holders write_turn by j n.turn ne (guard write_turn refl))
+    others_grow (undecided_at name p) guard k = undecided_grows q theirs name p (not_theirs_now name k.0) k
+    others_grow (prior_values name p batch) guard k = prior_grows q theirs name p batch (not_theirs_now name k.0) k
+    others_grow (unprepared name) guard k = unprepared_grows q theirs name (not_theirs_now name k.0) k
+    others_grow (direct_free key) guard k = direct_grows q theirs key k
+    others_grow (tables_stay versions floor) guard k = k
+    others_grow (live_listed floor listed) guard k = (le_trans k.0 longer, k.1)
+    others_grow nothing_flushed guard k = k
+    others_grow (frozen_stay m versions) guard k = (le_trans k.0 longer, k.1)
+    others_grow (delayed_flag_stays value) guard k = k
+    others_grow (old_flag_stays value) guard k = k
