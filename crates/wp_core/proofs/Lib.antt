@@ -40,3 +40,5 @@ pub mod KeepsBatch
 pub mod KeepsNoted
 pub mod KeepsDirectLock
 pub mod KeepsDirectFree
+pub mod TablesChange
+pub mod MovesVersions
