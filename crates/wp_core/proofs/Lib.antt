@@ -42,3 +42,4 @@ pub mod KeepsDirectLock
 pub mod KeepsDirectFree
 pub mod TablesChange
 pub mod MovesVersions
+pub mod InstallsEdit

@@ -19,3 +19,4 @@
 
 pub mod laws;
 pub mod lock_laws;
+pub mod table_laws;
