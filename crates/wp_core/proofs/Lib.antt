@@ -43,3 +43,5 @@ pub mod KeepsDirectFree
 pub mod TablesChange
 pub mod MovesVersions
 pub mod InstallsEdit
+pub mod Persons
+pub mod PersonsKeep
