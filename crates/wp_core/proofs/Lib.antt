@@ -45,3 +45,5 @@ pub mod MovesVersions
 pub mod InstallsEdit
 pub mod Persons
 pub mod PersonsKeep
+pub mod ActorsMove
+pub mod MakesActors

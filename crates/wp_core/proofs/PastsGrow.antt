@@ -25,7 +25,7 @@ in_either x y [] (inr k) = absurd k
 in_either x y (z ∷ xs) (inl e) = inl (inl e)
 in_either x y (z ∷ xs) (inr k) = ⊎_elim (λ (t : IsIn x xs). inl (inr t)) (λ (t : y ≡ x). inr t) (in_either x y xs k)
 
-total_more : {X : Type 0} (f : X → ℕ) (xs : List X) (x : X) → total f (xs ++ x ∷ []) ≡ total f xs + f x
+pub total_more : {X : Type 0} (f : X → ℕ) (xs : List X) (x : X) → total f (xs ++ x ∷ []) ≡ total f xs + f x
 total_more f [] x = omega arith
 total_more f (y ∷ xs) x = let k = total_more f xs x in omega arith
 

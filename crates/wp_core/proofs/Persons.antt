@@ -42,6 +42,10 @@ pub record Moves (row place : ℕ → ℕ → ℕ) (history : List Entry) (befor
 
 -- ---- of what the participants have
 
+pub total_map : {A X : Type 0} (f : A → X) (F : X → ℕ) (xs : List A) → total F (map f xs) ≡ total (λ (x : A). F (f x)) xs
+total_map f F [] = refl
+total_map f F (x ∷ xs) = let k = total_map f F xs in omega arith
+
 module _ {X : Type 0} (f : Participant → X) where
   pub at_person : (xs : List Actor) (j i : ℕ) (x : X) → IsParticipantAt (map (participants_of f) xs) j i x → (p : Participant) × IsPersonAt xs j i p × (f p ≡ x)
   at_person xs j i x k =
@@ -52,13 +56,9 @@ module _ {X : Type 0} (f : Participant → X) where
   pub person_at : (xs : List Actor) (j i : ℕ) (p : Participant) → IsPersonAt xs j i p → IsParticipantAt (map (participants_of f) xs) j i (f p)
   person_at xs j i p k = (participants_of f k.actor, at_map (participants_of f) xs j k.actor k.there, at_map f (k.actor.participant ∷ k.actor.joined) i p k.person)
 
-  total_map : (F : X → ℕ) (ps : List Participant) → total F (map f ps) ≡ total (λ (p : Participant). F (f p)) ps
-  total_map F [] = refl
-  total_map F (p ∷ ps) = let k = total_map F ps in omega arith
-
   total_persons : (F : X → ℕ) (xs : List Actor) → total_participants F (map (participants_of f) xs) ≡ total (sum_of (λ (p : Participant). F (f p))) xs
   total_persons F [] = refl
-  total_persons F (x ∷ xs) = let k = total_persons F xs in let l = total_map F x.joined in omega arith
+  total_persons F (x ∷ xs) = let k = total_persons F xs in let l = total_map f F x.joined in omega arith
 
 -- one place, one participant
 pub same_there : {X : Type 0} (ps : List (List X)) (j i : ℕ) (x y : X) → IsParticipantAt ps j i x → IsParticipantAt ps j i y → x ≡ y
