@@ -47,3 +47,6 @@ pub mod Persons
 pub mod PersonsKeep
 pub mod ActorsMove
 pub mod MakesActors
+pub mod JoinedPlaces
+pub mod TakesOver
+pub mod Learns

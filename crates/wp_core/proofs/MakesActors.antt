@@ -21,11 +21,9 @@ use Rattle.wp_core.proofs.Quiet.{SoIn, kept_part}
 use Rattle.wp_core.proofs.Persons.{IsPersonAt, IsNone, sum_of, Came, Moves, total_map}
 use Rattle.wp_core.proofs.ActorsMove.{ActorParts, actors_move, at_front, front_or_last, each_more, each_map_more, at_map_more, have_more, total_set, set_same, people, person_still, person_was}
 
--- it stays as it was, but for how many it made, and may have fewer notes
+-- it stays as it was, but for whom it made and joined and what it learned, and may have fewer notes
 pub record StaysAs (a b : Actor) : Type 0 where
   pub participant : b.participant ≡ a.participant
-  pub joined : b.joined ≡ a.joined
-  pub learned : b.learned ≡ a.learned
   pub held : b.held ≡ a.held
   pub reading : b.reading ≡ a.reading
   pub live : b.live ≡ a.live
@@ -43,7 +41,7 @@ idle_still a b same k = record {
     new_participant_of : Participant → Participant
     new_participant_of p = (new_actor true p.client p.seen).participant
 
-module _ (w : World) (by : ℕ) (a b : Actor) (live : Bool) (at : get_elem? w.actors by ≡ some a) (same : StaysAs a b) (s : IsSound w) where
+module _ (w : World) (by : ℕ) (a b : Actor) (live : Bool) (at : get_elem? w.actors by ≡ some a) (same : StaysAs a b) (same_joined : b.joined ≡ a.joined) (same_learned : b.learned ≡ a.learned) (s : IsSound w) where
   abbrev c : Actor
   c = new_actor live a.participant.client a.participant.seen
 
@@ -54,7 +52,7 @@ module _ (w : World) (by : ℕ) (a b : Actor) (live : Bool) (at : get_elem? w.ac
   actors = first_actors ++ c ∷ []
 
   same_people : people b ≡ people a
-  same_people = λ i. same.participant i ∷ same.joined i
+  same_people = λ i. same.participant i ∷ same_joined i
 
   seen_by : StartsWith w.writes.history a.participant.seen
   seen_by = s.seen by 0 a.participant.seen (mine seen_of w.actors by a a at refl)
@@ -73,7 +71,7 @@ module _ (w : World) (by : ℕ) (a b : Actor) (live : Bool) (at : get_elem? w.ac
         (λ (t : c ≡ k.actor). inr (new_is i p (ap (λ (z : Actor). get_elem? (people z) i) t ∙ k.person)))
         (front_or_last first_actors c j k.actor k.there);
     sums = λ F none.
-        let one : sum_of F b ≡ sum_of F a = λ i. F (same.participant i) + total F (same.joined i) in
+        let one : sum_of F b ≡ sum_of F a = λ i. F (same.participant i) + total F (same_joined i) in
         let k = total_set (sum_of F) w.actors by a b at in
         let l = total_more (sum_of F) first_actors c in
         let z : F c.participant ≡ 0 = none c.participant refl in
@@ -82,7 +80,7 @@ module _ (w : World) (by : ℕ) (a b : Actor) (live : Bool) (at : get_elem? w.ac
 
   parts : AreLed (map role_of actors) → ActorParts w actors
   parts led = record {
-    learned = each_map_more learned_of (λ j x. StartsWith w.writes.history x) first_actors c (λ j. (w.writes.history, refl)) (kept_part w by a b at learned_of (AreLearned w.writes.history) same.learned s.learned);
+    learned = each_map_more learned_of (λ j x. StartsWith w.writes.history x) first_actors c (λ j. (w.writes.history, refl)) (kept_part w by a b at learned_of (AreLearned w.writes.history) same_learned s.learned);
     held = each_map_more held_of (AreHeld w.holders (content_of w)) first_actors c (λ j. tt) (kept_part w by a b at held_of (Each (AreHeld w.holders (content_of w))) same.held s.held);
     have = have_more w.holders first_actors c (kept_part w by a b at held_of (HoldersHave w.holders) same.held s.have);
     readers = each_map_more reader_of _ first_actors c (λ j r e. absurd cc) (kept_part w by a b at reader_of (AreReaders w.writes.history w.max_evicted w.cache) same_reader s.readers);
@@ -125,9 +123,9 @@ makes_note w by a at needs s =
     let c : Actor = new_actor false a.participant.client a.participant.seen in
     let still : set w.actors by a ≡ w.actors = set_same w.actors by a at in
     let led = led_note w.actors c refl refl refl s.led in
-    let same : StaysAs a a = record { participant = refl; joined = refl; learned = refl; held = refl; reading = refl; live = refl; notes = λ fact h. h; no_notes = λ e. e } in
+    let same : StaysAs a a = record { participant = refl; held = refl; reading = refl; live = refl; notes = λ fact h. h; no_notes = λ e. e } in
     subst (λ (z : List Actor). IsSound (record w { actors = z ++ c ∷ [] })) still
-    (makes_actor w by a a false at same s (subst (λ (z : List Actor). AreLed (map role_of (z ++ c ∷ []))) (sym still) led))
+    (makes_actor w by a a false at same refl refl s (subst (λ (z : List Actor). AreLed (map role_of (z ++ c ∷ []))) (sym still) led))
 
 -- ---- a seat
 
@@ -159,7 +157,7 @@ makes_seat w by a at needs s =
     let b : Actor = made_one (forgets w.writes.history (length w.cache) make_seat a) in
     let c : Actor = new_actor true a.participant.client a.participant.seen in
     let test : Fact → Bool = λ (f : Fact). not (ends w.writes.history (length w.cache) make_seat f) in
-    let same : StaysAs a b = record { participant = refl; joined = refl; learned = refl; held = refl; reading = refl; live = refl; notes = λ fact h. (in_filter test fact a.notes h).0; no_notes = λ e. ap (filter test) e } in
+    let same : StaysAs a b = record { participant = refl; held = refl; reading = refl; live = refl; notes = λ fact h. (in_filter test fact a.notes h).0; no_notes = λ e. ap (filter test) e } in
     let at_first : get_elem? w.actors 0 ≡ some a = subst (λ (n : ℕ). get_elem? w.actors n ≡ some a) needs at in
-    makes_actor w by a b true at same s
+    makes_actor w by a b true at same refl refl s
     (subst (λ (n : ℕ). AreLed (map role_of (set w.actors n b ++ c ∷ []))) (sym needs) (led_seat w.actors a b c at_first refl refl refl refl refl refl s.led))
