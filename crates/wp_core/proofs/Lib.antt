@@ -50,3 +50,4 @@ pub mod MakesActors
 pub mod JoinedPlaces
 pub mod TakesOver
 pub mod Learns
+pub mod JoinsSeat
