@@ -51,3 +51,4 @@ pub mod JoinedPlaces
 pub mod TakesOver
 pub mod Learns
 pub mod JoinsSeat
+pub mod SetsClient

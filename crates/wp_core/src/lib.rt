@@ -20,3 +20,4 @@
 pub mod laws;
 pub mod lock_laws;
 pub mod table_laws;
+pub mod actor_laws;
