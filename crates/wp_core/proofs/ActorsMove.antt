@@ -1,9 +1,9 @@
 -- Where actors come and go, a world stays sound by what is so of the actors themselves.
-use Rattle.std.proofs.Common.{◌≡◌, ◌≢◌, ◌⊎◌, ⊎_elim, inl, inr, ℕ, zero, suc, ◌+◌, List, [], ◌∷◌, ◌++◌, length, map, set, refl, sym, subst, ap, ◌∙◌, arith}
+use Rattle.std.proofs.Common.{◌≡◌, ◌⊎◌, ⊎_elim, inl, inr, ℕ, zero, suc, ◌+◌, List, [], ◌∷◌, ◌++◌, map, set, refl, sym, subst, ap, ◌∙◌, arith}
 use mathlib.Core.Option.{some, some-injective, some-ne-none}
 use lib.ListN.{get_elem?}
 use Rattle.wp_core.specs.Lists.{Each, total}
-use Rattle.wp_core.specs.Turns.{Turn, Holders, Holds}
+use Rattle.wp_core.specs.Turns.{Holders}
 use Rattle.wp_core.specs.World.{Actor, Participant, World, content_of}
 use Rattle.wp_core.specs.World as world
 use Rattle.wp_core.specs.Sound.Actors.{AreLearned, AreHeld, HoldersHave, AreLed, AreIdle, learned_of, held_of, role_of, IsParticipantAt}

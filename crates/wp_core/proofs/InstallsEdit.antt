@@ -1,5 +1,5 @@
 -- Installing an edit, and the failure of the tables' devices, keep a world sound.
-use Rattle.std.proofs.Common.{◌≡◌, ◌≢◌, ◌⊎◌, ⊎_elim, inl, inr, ℕ, ◌+◌, ◌≤◌, Bool, true, false, true≢false, not, List, [], ◌∷◌, ◌++◌, length, map, set, refl, sym, subst, ap, ◌∙◌, arith, Option, Some, None}
+use Rattle.std.proofs.Common.{◌≡◌, ◌≢◌, ⊎_elim, inl, inr, ℕ, ◌+◌, Bool, true, false, true≢false, not, List, [], ◌∷◌, ◌++◌, length, refl, sym, subst, ap, ◌∙◌, arith, Option, Some, None}
 use Rattle.std.proofs.lemmas.List.Sums.{fold-append}
 use mathlib.Core.Option.{some}
 use lib.ListN.{get_elem?}
@@ -9,19 +9,18 @@ use Rattle.wp_core.specs.Tables.{InstalledEdit, Installed}
 use Rattle.wp_core.specs.Views.{Event, told, heard, stopped, tables_failed, Fact, nothing_flushed}
 use Rattle.wp_core.specs.Views as event
 use Rattle.wp_core.specs.World.{Actor, Participant, World}
-use Rattle.wp_core.specs.Steps.{Step, install, halt}
+use Rattle.wp_core.specs.Steps.{install, halt}
 use Rattle.wp_core.specs.Effects.{done, with_failed}
 use Rattle.wp_core.specs.Needs.{Needs}
 use Rattle.wp_core.specs.Notes.{forgets, ends}
-use Rattle.wp_core.specs.Sound.Actors.{participants_of}
-use Rattle.wp_core.specs.Sound.Pasts.{past_of, is_log_fault, is_tables_fault, AreFaults, WasInstalled, due_after, tables_due, OtherCompacts, AreEdits}
+use Rattle.wp_core.specs.Sound.Pasts.{is_log_fault, is_tables_fault, AreFaults, WasInstalled, due_after, tables_due, AreEdits}
 use Rattle.wp_core.specs.Sound.Views.{IsGuarded}
-use Rattle.wp_core.specs.IsSound.{IsSound, participants}
+use Rattle.wp_core.specs.IsSound.{IsSound}
 use Rattle.wp_core.proofs.PastsGrow.{past_before, past_last, done_last, times_more}
 use Rattle.wp_core.proofs.Quiet.{SoIn}
 use Rattle.wp_core.proofs.Remembers.{installed_still}
 use Rattle.wp_core.proofs.StoresFlag.{not_theirs}
-use Rattle.wp_core.proofs.TablesChange.{SoInstalled, IsOfTables, edits_grown, actor_after, pasts_after, TablesParts, tables_change}
+use Rattle.wp_core.proofs.TablesChange.{SoInstalled, IsOfTables, edits_grown, actor_after, pasts_after, tables_change}
 
 -- the tables that are due once one more event is in a past
 due_more : (first : InstalledEdit) (past : List Event) (e : Event) → tables_due first (past ++ e ∷ []) ≡ due_after (tables_due first past) e

@@ -1,9 +1,7 @@
 -- Where participants go at a join: that of the actor that is joined comes after the first one of the actor that joins it, and
 -- those that this one joined before come one place later.
-use Rattle.std.proofs.Common.{◌≡◌, ◌≢◌, ℕ, zero, suc, ◌≤◌, ◌==◌, Bool, true, false, eq-eqb, ne_eqb, refl, sym, ap, ◌∙◌, arith}
+use Rattle.std.proofs.Common.{◌≡◌, ◌≢◌, ℕ, zero, suc, ◌≤◌, ◌==◌, Bool, true, false, eq-eqb, refl, sym, ◌∙◌, arith}
 use Rattle.std.proofs.lemmas.Bool.Decides.{nat_tests}
-use mathlib.Core.Logic.{dite}
-use native.Mathlib.Decide.{ℕ_discrete}
 
 -- the actor by joins the other one
 module _ (by other : ℕ) where

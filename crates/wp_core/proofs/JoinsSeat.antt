@@ -1,5 +1,5 @@
 -- Joining a seat keeps a world sound.
-use Rattle.std.proofs.Common.{◌≡◌, ◌≢◌, ◌⊎◌, ⊎_elim, inl, inr, ℕ, zero, suc, ◌+◌, ◌≤◌, Bool, true, false, not, List, [], ◌∷◌, length, map, set, filter, refl, sym, subst, ap, ◌∙◌, arith}
+use Rattle.std.proofs.Common.{◌≡◌, ◌≢◌, ◌⊎◌, ⊎_elim, inl, inr, ℕ, zero, suc, ◌+◌, ◌≤◌, Bool, true, not, List, [], ◌∷◌, length, map, set, filter, refl, sym, subst, ap, ◌∙◌, arith}
 use mathlib.Core.Option.{some, some-injective, some-ne-none}
 use lib.ListN.{get_elem?}
 use Rattle.wp_core.specs.Lists.{one_if, total}
@@ -13,7 +13,7 @@ use Rattle.wp_core.specs.Notes.{forgets, ends}
 use Rattle.wp_core.specs.Sound.Actors.{Role, AreLed, learned_of, role_of}
 use Rattle.wp_core.specs.IsSound.{IsSound}
 use Rattle.wp_core.proofs.Frames.{each_map_set, at_map, in_filter}
-use Rattle.wp_core.proofs.Persons.{IsPersonAt, IsNone, sum_of, Came, Moves, total_map}
+use Rattle.wp_core.proofs.Persons.{IsPersonAt, sum_of, Came, Moves, total_map}
 use Rattle.wp_core.proofs.ActorsMove.{actors_move, total_set, people}
 use Rattle.wp_core.proofs.MakesActors.{StaysAs}
 use Rattle.wp_core.proofs.TakesOver.{left, other_there, first_there, else_there, who, idle_person, sums_left, parts_left}

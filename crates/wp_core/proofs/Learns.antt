@@ -1,5 +1,5 @@
 -- Learning from a note keeps a world sound.
-use Rattle.std.proofs.Common.{◌≡◌, ◌≢◌, ◌⊎◌, ⊎_elim, inl, inr, ℕ, zero, suc, ◌+◌, Bool, true, false, true≢false, not, List, [], ◌∷◌, length, map, set, filter, refl, sym, subst, ap, ◌∙◌, arith}
+use Rattle.std.proofs.Common.{◌≡◌, ◌≢◌, ◌⊎◌, ⊎_elim, inl, inr, ℕ, zero, suc, ◌+◌, Bool, false, true≢false, not, List, [], ◌∷◌, length, map, set, filter, refl, sym, subst, ap, ◌∙◌, arith}
 use mathlib.Core.Option.{some, some-injective, some-ne-none}
 use mathlib.Core.Logic.{dite}
 use native.Mathlib.Decide.{ℕ_discrete}
@@ -16,7 +16,7 @@ use Rattle.wp_core.specs.Sound.Actors.{StartsWith, seen_of, AreLed, Role, role_o
 use Rattle.wp_core.specs.IsSound.{IsSound}
 use Rattle.wp_core.proofs.Frames.{kept_map, at_map, in_filter}
 use Rattle.wp_core.proofs.AllParticipants.{mine}
-use Rattle.wp_core.proofs.Persons.{IsPersonAt, IsNone, sum_of, Came, Moves}
+use Rattle.wp_core.proofs.Persons.{IsNone, sum_of, Moves}
 use Rattle.wp_core.proofs.ActorsMove.{actors_move, people}
 use Rattle.wp_core.proofs.MakesActors.{StaysAs}
 use Rattle.wp_core.proofs.TakesOver.{left, other_there, first_there, else_there, who, idle_person, sums_left, parts_left}

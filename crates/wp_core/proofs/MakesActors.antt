@@ -1,24 +1,24 @@
 -- Making a note and making a seat keep a world sound.
-use Rattle.std.proofs.Common.{◌≡◌, ◌≢◌, ◌⊎◌, ⊎_elim, inl, inr, ℕ, zero, suc, ◌+◌, Bool, true, false, not, List, [], ◌∷◌, ◌++◌, length, map, set, filter, refl, sym, subst, ap, ◌∙◌, arith, Some, None}
+use Rattle.std.proofs.Common.{◌≡◌, ◌≢◌, ⊎_elim, inl, inr, ℕ, zero, suc, ◌+◌, Bool, true, false, not, List, [], ◌∷◌, ◌++◌, length, map, set, filter, refl, sym, subst, ap, ◌∙◌, arith}
 use mathlib.Core.Option.{some, some-injective, some-ne-none}
 use lib.ListN.{get_elem?}
 use Rattle.wp_core.specs.Lists.{Each, IsIn, one_if, total}
 use Rattle.wp_core.specs.Views.{Fact}
 use Rattle.wp_core.specs.World.{Actor, Participant, World, new_actor, content_of}
-use Rattle.wp_core.specs.Steps.{Step, make_note, make_seat}
+use Rattle.wp_core.specs.Steps.{make_note, make_seat}
 use Rattle.wp_core.specs.Changes.{made_one}
 use Rattle.wp_core.specs.Effects.{done}
 use Rattle.wp_core.specs.Needs.{Needs}
 use Rattle.wp_core.specs.Notes.{forgets, ends}
-use Rattle.wp_core.specs.Sound.Actors.{StartsWith, seen_of, AreLearned, AreHeld, HoldersHave, Role, AreLed, IsIdle, AreIdle, learned_of, held_of, role_of}
-use Rattle.wp_core.specs.Sound.Reader.{AreReaders, AreJudged, IsReader, IsRight, reader_of}
-use Rattle.wp_core.specs.Sound.Views.{AreNoted, IsNoted, noter_of}
+use Rattle.wp_core.specs.Sound.Actors.{StartsWith, seen_of, AreLearned, AreHeld, HoldersHave, Role, AreLed, IsIdle, learned_of, held_of, role_of}
+use Rattle.wp_core.specs.Sound.Reader.{AreReaders, AreJudged, reader_of}
+use Rattle.wp_core.specs.Sound.Views.{IsNoted, noter_of}
 use Rattle.wp_core.specs.IsSound.{IsSound}
 use Rattle.wp_core.proofs.Frames.{each_map_set, each_set, at_map, in_filter, here}
 use Rattle.wp_core.proofs.AllParticipants.{mine}
 use Rattle.wp_core.proofs.PastsGrow.{total_more}
 use Rattle.wp_core.proofs.Quiet.{SoIn, kept_part}
-use Rattle.wp_core.proofs.Persons.{IsPersonAt, IsNone, sum_of, Came, Moves, total_map}
+use Rattle.wp_core.proofs.Persons.{IsNone, sum_of, Moves, total_map}
 use Rattle.wp_core.proofs.ActorsMove.{ActorParts, actors_move, at_front, front_or_last, each_more, each_map_more, at_map_more, have_more, total_set, set_same, people, person_still, person_was}
 
 -- it stays as it was, but for whom it made and joined and what it learned, and may have fewer notes

@@ -1,5 +1,5 @@
 -- Giving a seat that has no transaction and no direct write to a client keeps a world sound.
-use Rattle.std.proofs.Common.{◌≡◌, ◌≢◌, ◌⊎◌, ⊎_elim, inl, inr, ℕ, Bool, true, false, true≢false, not, List, ◌∷◌, length, map, set, refl, sym, subst, ap, ◌∙◌, Option, Some, None}
+use Rattle.std.proofs.Common.{◌≡◌, ⊎_elim, ℕ, false, true≢false, not, List, length, map, set, refl, sym, subst, ap, ◌∙◌, Option, Some, None}
 use mathlib.Core.Option.{some}
 use lib.ListN.{get_elem?}
 use Rattle.std.specs.FinMap as finite

@@ -1,9 +1,9 @@
 -- A step of who holds the tables turn: it changes what is installed, and the actor remembers it.
-use Rattle.std.proofs.Common.{◌≡◌, ◌≢◌, ◌⊎◌, ⊎_elim, inl, inr, ℕ, ◌≤◌, not, true, List, [], ◌∷◌, ◌++◌, length, map, set, refl, sym, subst, ap, ◌∙◌, Option}
+use Rattle.std.proofs.Common.{◌≡◌, ◌≢◌, ◌⊎◌, ⊎_elim, inl, inr, ℕ, ◌≤◌, not, true, List, [], ◌∷◌, ◌++◌, length, map, set, refl, sym, subst, Option}
 use mathlib.Core.Option.{some}
 use lib.ListN.{get_elem?}
 use Rattle.wp_model.specs.declared.holder.Holder.{Holder}
-use Rattle.wp_core.specs.Lists.{Each, IsIn}
+use Rattle.wp_core.specs.Lists.{IsIn}
 use Rattle.wp_core.specs.Turns.{Holds, tables_turn}
 use Rattle.wp_core.specs.Tables.{Content, InstalledEdit, Installed, installed}
 use Rattle.wp_core.specs.Views.{Account, Event, told, heard, stopped, found_flushed, found, Fact}

@@ -1,22 +1,21 @@
 -- Where one actor learns from another or joins it, and the other is left idle: the parts that speak of actors.
-use Rattle.std.proofs.Common.{◌≡◌, ◌≢◌, ◌⊎◌, ⊎_elim, inl, inr, ℕ, zero, suc, ◌+◌, Bool, true, false, List, [], ◌∷◌, map, set, refl, sym, subst, ap, ◌∙◌, arith}
+use Rattle.std.proofs.Common.{◌≡◌, ◌≢◌, ◌⊎◌, ⊎_elim, inl, inr, ℕ, zero, suc, ◌+◌, false, List, [], map, set, refl, sym, subst, ap, ◌∙◌, arith}
 use mathlib.Core.Option.{some, some-injective, some-ne-none}
 use mathlib.Core.Logic.{dite}
 use native.Mathlib.Decide.{ℕ_discrete}
 use lib.ListN.{get_elem?}
-use Rattle.wp_model.specs.declared.entry.Entry.{Entry}
 use Rattle.wp_core.specs.Lists.{Each, IsIn, total}
 use Rattle.wp_core.specs.Tables.{Content}
 use Rattle.wp_core.specs.Views.{Fact}
 use Rattle.wp_core.specs.World.{Actor, Participant, World, content_of}
 use Rattle.wp_core.specs.Changes.{joined_actor}
 use Rattle.wp_core.specs.Sound.Actors.{StartsWith, AreHeld, HoldersHave, AreLed, IsIdle, learned_of, held_of, role_of}
-use Rattle.wp_core.specs.Sound.Reader.{IsReader, IsRight, reader_of}
+use Rattle.wp_core.specs.Sound.Reader.{IsReader, reader_of}
 use Rattle.wp_core.specs.Sound.Views.{IsNoted, noter_of}
 use Rattle.wp_core.specs.IsSound.{IsSound}
 use Rattle.wp_core.proofs.Frames.{kept_map, map_set, each_map_set, each_set, at_map, at_set, set_else, here}
 use Rattle.wp_core.proofs.Quiet.{SoIn}
-use Rattle.wp_core.proofs.Persons.{IsPersonAt, IsNone, sum_of}
+use Rattle.wp_core.proofs.Persons.{IsNone}
 use Rattle.wp_core.proofs.ActorsMove.{ActorParts, total_set, people}
 use Rattle.wp_core.proofs.MakesActors.{StaysAs, idle_still}
 
