@@ -1,6 +1,6 @@
 -- Where participants go at a join: that of the actor that is joined comes after the first one of the actor that joins it, and
 -- those that this one joined before come one place later.
-use Rattle.std.proofs.Common.{◌≡◌, ◌≢◌, ℕ, zero, suc, ◌≤◌, ◌==◌, Bool, true, false, eq-eqb, refl, sym, ◌∙◌, arith}
+use Rattle.std.proofs.Common.{◌≡◌, ◌≢◌, ◌⊎◌, inl, inr, ℕ, zero, suc, ◌≤◌, ◌==◌, Bool, true, false, eq-eqb, refl, sym, ◌∙◌, arith}
 use Rattle.std.proofs.lemmas.Bool.Decides.{nat_tests}
 
 -- the actor by joins the other one
@@ -45,58 +45,22 @@ module _ (by other : ℕ) where
   pub goes : (j i : ℕ) → Goes j i (row j i) (place j i)
   goes j i = by_tests (j == other) (j == by) j i (tested j other) (not_tested j other) (tested j by) (not_tested j by)
 
+  -- the same, as a choice of equations
+  abbrev Says : ℕ → ℕ → ℕ → ℕ → Type 0
+  Says j i k l =
+      ((j ≡ other) × (i ≡ 0) × (k ≡ by) × (l ≡ 1)) ⊎ (((j ≡ other) × (1 ≤ i) × (k ≡ j) × (l ≡ i)) ⊎ (((j ≡ by) × (i ≡ 0) × (k ≡ j) × (l ≡ i)) ⊎ (((j ≡ by) × (1 ≤ i) × (k ≡ j) × (l ≡ suc i)) ⊎ ((j ≢ other) × (j ≢ by) × (k ≡ j) × (l ≡ i)))))
+
+  says : (j i k l : ℕ) → Goes j i k l → Says j i k l
+  says j i k l (joins e f g h) = inl (e, f, g, h)
+  says j i k l (strays e f g h) = inr (inl (e, f, g, h))
+  says j i k l (first e f g h) = inr (inr (inl (e, f, g, h)))
+  says j i k l (later e f g h) = inr (inr (inr (inl (e, f, g, h))))
+  says j i k l (elsewhere e f g h) = inr (inr (inr (inr (e, f, g, h))))
+
   -- no two go to one place
   pub goes_apart : (j i m n k l : ℕ) → other ≢ by → Goes j i k l → Goes m n k l → (j ≡ m) × (i ≡ n)
-  goes_apart j i m n k l ne (joins e f g h) (joins e' f' g' h') = (omega arith, omega arith)
-  goes_apart j i m n k l ne (joins e f g h) (strays e' f' g' h') = (omega arith, omega arith)
-  goes_apart j i m n k l ne (joins e f g h) (first e' f' g' h') = (omega arith, omega arith)
-  goes_apart j i m n k l ne (joins e f g h) (later e' f' g' h') = (omega arith, omega arith)
-  goes_apart j i m n k l ne (joins e f g h) (elsewhere e' f' g' h') = (omega arith, omega arith)
-  goes_apart j i m n k l ne (strays e f g h) (joins e' f' g' h') = (omega arith, omega arith)
-  goes_apart j i m n k l ne (strays e f g h) (strays e' f' g' h') = (omega arith, omega arith)
-  goes_apart j i m n k l ne (strays e f g h) (first e' f' g' h') = (omega arith, omega arith)
-  goes_apart j i m n k l ne (strays e f g h) (later e' f' g' h') = (omega arith, omega arith)
-  goes_apart j i m n k l ne (strays e f g h) (elsewhere e' f' g' h') = (omega arith, omega arith)
-  goes_apart j i m n k l ne (first e f g h) (joins e' f' g' h') = (omega arith, omega arith)
-  goes_apart j i m n k l ne (first e f g h) (strays e' f' g' h') = (omega arith, omega arith)
-  goes_apart j i m n k l ne (first e f g h) (first e' f' g' h') = (omega arith, omega arith)
-  goes_apart j i m n k l ne (first e f g h) (later e' f' g' h') = (omega arith, omega arith)
-  goes_apart j i m n k l ne (first e f g h) (elsewhere e' f' g' h') = (omega arith, omega arith)
-  goes_apart j i m n k l ne (later e f g h) (joins e' f' g' h') = (omega arith, omega arith)
-  goes_apart j i m n k l ne (later e f g h) (strays e' f' g' h') = (omega arith, omega arith)
-  goes_apart j i m n k l ne (later e f g h) (first e' f' g' h') = (omega arith, omega arith)
-  goes_apart j i m n k l ne (later e f g h) (later e' f' g' h') = (omega arith, omega arith)
-  goes_apart j i m n k l ne (later e f g h) (elsewhere e' f' g' h') = (omega arith, omega arith)
-  goes_apart j i m n k l ne (elsewhere e f g h) (joins e' f' g' h') = (omega arith, omega arith)
-  goes_apart j i m n k l ne (elsewhere e f g h) (strays e' f' g' h') = (omega arith, omega arith)
-  goes_apart j i m n k l ne (elsewhere e f g h) (first e' f' g' h') = (omega arith, omega arith)
-  goes_apart j i m n k l ne (elsewhere e f g h) (later e' f' g' h') = (omega arith, omega arith)
-  goes_apart j i m n k l ne (elsewhere e f g h) (elsewhere e' f' g' h') = (omega arith, omega arith)
+  goes_apart j i m n k l ne g h = let u = says j i k l g in let v = says m n k l h in (omega arith, omega arith)
 
   -- one goes to one place
   pub goes_same : (j i m n k l : ℕ) → other ≢ by → Goes j i k l → Goes j i m n → (k ≡ m) × (l ≡ n)
-  goes_same j i m n k l ne (joins e f g h) (joins e' f' g' h') = (omega arith, omega arith)
-  goes_same j i m n k l ne (joins e f g h) (strays e' f' g' h') = (omega arith, omega arith)
-  goes_same j i m n k l ne (joins e f g h) (first e' f' g' h') = (omega arith, omega arith)
-  goes_same j i m n k l ne (joins e f g h) (later e' f' g' h') = (omega arith, omega arith)
-  goes_same j i m n k l ne (joins e f g h) (elsewhere e' f' g' h') = (omega arith, omega arith)
-  goes_same j i m n k l ne (strays e f g h) (joins e' f' g' h') = (omega arith, omega arith)
-  goes_same j i m n k l ne (strays e f g h) (strays e' f' g' h') = (omega arith, omega arith)
-  goes_same j i m n k l ne (strays e f g h) (first e' f' g' h') = (omega arith, omega arith)
-  goes_same j i m n k l ne (strays e f g h) (later e' f' g' h') = (omega arith, omega arith)
-  goes_same j i m n k l ne (strays e f g h) (elsewhere e' f' g' h') = (omega arith, omega arith)
-  goes_same j i m n k l ne (first e f g h) (joins e' f' g' h') = (omega arith, omega arith)
-  goes_same j i m n k l ne (first e f g h) (strays e' f' g' h') = (omega arith, omega arith)
-  goes_same j i m n k l ne (first e f g h) (first e' f' g' h') = (omega arith, omega arith)
-  goes_same j i m n k l ne (first e f g h) (later e' f' g' h') = (omega arith, omega arith)
-  goes_same j i m n k l ne (first e f g h) (elsewhere e' f' g' h') = (omega arith, omega arith)
-  goes_same j i m n k l ne (later e f g h) (joins e' f' g' h') = (omega arith, omega arith)
-  goes_same j i m n k l ne (later e f g h) (strays e' f' g' h') = (omega arith, omega arith)
-  goes_same j i m n k l ne (later e f g h) (first e' f' g' h') = (omega arith, omega arith)
-  goes_same j i m n k l ne (later e f g h) (later e' f' g' h') = (omega arith, omega arith)
-  goes_same j i m n k l ne (later e f g h) (elsewhere e' f' g' h') = (omega arith, omega arith)
-  goes_same j i m n k l ne (elsewhere e f g h) (joins e' f' g' h') = (omega arith, omega arith)
-  goes_same j i m n k l ne (elsewhere e f g h) (strays e' f' g' h') = (omega arith, omega arith)
-  goes_same j i m n k l ne (elsewhere e f g h) (first e' f' g' h') = (omega arith, omega arith)
-  goes_same j i m n k l ne (elsewhere e f g h) (later e' f' g' h') = (omega arith, omega arith)
-  goes_same j i m n k l ne (elsewhere e f g h) (elsewhere e' f' g' h') = (omega arith, omega arith)
+  goes_same j i m n k l ne g h = let u = says j i k l g in let v = says j i m n h in (omega arith, omega arith)

@@ -21,7 +21,7 @@ use Rattle.wp_core.proofs.ActorsMove.{actors_move, people}
 use Rattle.wp_core.proofs.MakesActors.{StaysAs}
 use Rattle.wp_core.proofs.TakesOver.{left, other_there, first_there, else_there, who, idle_person, sums_left, parts_left}
 
--- an actor that is not live, or is not the first, joined none and made none
+-- an actor that is not live is not the first
 pub not_first : (w : World) (other : ℕ) (o : Actor) → IsSound w → get_elem? w.actors other ≡ some o → o.live ≡ false → other ≢ 0
 not_first w other o s there dead e =
     let is : s.led.first ≡ role_of o = some-injective s.led.first (role_of o) (sym s.led.there ∙ (ap (get_elem? (map role_of w.actors)) (sym e) ∙ at_map role_of w.actors other o there)) in
