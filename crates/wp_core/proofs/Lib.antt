@@ -60,3 +60,15 @@ pub mod PublishesVersions
 pub mod PublishesLocks
 pub mod PublishesNotes
 pub mod KeepsPublished
+pub mod TablesChange
+pub mod MovesVersions
+pub mod InstallsEdit
+pub mod Persons
+pub mod PersonsKeep
+pub mod ActorsMove
+pub mod MakesActors
+pub mod JoinedPlaces
+pub mod TakesOver
+pub mod Learns
+pub mod JoinsSeat
+pub mod SetsClient

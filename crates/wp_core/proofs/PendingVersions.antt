@@ -132,11 +132,12 @@ module _ (w : World) (memory : List Version) (s : IsSound w) (next : Option Entr
 abbrev pub SoStored : World → Store → Participant → Fact → Type 0
 SoStored w t = IsSo w.delayed_flag w.old_flag w.max_evicted w.cache w.writes w.prepared w.snapshots t w.locks w.installed
 
-pub memory_changes : (w : World) (by : ℕ) (a : Actor) (step : Step) (memory : List Version) → get_elem? w.actors by ≡ some a → Holds w.holders store_turn by → IsStored w.writes.history w.writes.pending w.snapshots (record w.store { memory = memory }) w.installed
-    → IsFlushedGone w.holders.tables memory w.installed.last.flushed → NotesStay w by step (SoStored w (record w.store { memory = memory })) → IsSound w
-    → IsSound (change w by (forgets w.writes.history (length w.cache) step a) (store (record w.store { memory = memory })))
-memory_changes w by a step memory at holds stored flushed notes s =
-    let e : Content = store (record w.store { memory = memory }) in
+-- a step of who holds the store turn
+pub store_changes : (w : World) (by : ℕ) (a : Actor) (step : Step) (t : Store) → get_elem? w.actors by ≡ some a → Holds w.holders store_turn by → IsStored w.writes.history w.writes.pending w.snapshots t w.installed
+    → IsFlushedGone w.holders.tables t.memory w.installed.last.flushed → NotesStay w by step (SoStored w t) → IsSound w
+    → IsSound (change w by (forgets w.writes.history (length w.cache) step a) (store t))
+store_changes w by a step t at holds stored flushed notes s =
+    let e : Content = store t in
     let c : Actor = forgets w.writes.history (length w.cache) step a in
     let b : Actor = record c { held = held_with c.held e } in
     let p = parts_of w by a b at (record { participant = refl; learned = refl; live = refl; made = refl; joined = refl }) s in
@@ -164,7 +165,7 @@ memory_changes w by a step memory at holds stored flushed notes s =
       have = have_changed w.holders e by w.actors a b at refl s.have;
       readers = kept_part w by a b at reader_of (AreReaders w.writes.history w.max_evicted w.cache) refl s.readers;
       judged = kept_part w by a b at reader_of (AreJudged w.writes.history) refl s.judged;
-      noted = noted_after w by a b step (SoStored w (record w.store { memory = memory })) at refl refl notes s;
+      noted = noted_after w by a b step (SoStored w t) at refl refl notes s;
       led = p.led;
       idle = idle_after w by a b store_turn at holds s refl;
     }
@@ -188,7 +189,7 @@ module _ (w : World) (memory : List Version) (s : IsSound w) (has : HasVersionsA
 
 pub adds_versions : (w : World) (by : ℕ) (a : Actor) (memory : List Version) → get_elem? w.actors by ≡ some a → Needs w by a (add_versions memory) → IsSound w → IsSound (done w by (forgets w.writes.history (length w.cache) (add_versions memory) a) (add_versions memory))
 adds_versions w by a memory at n s =
-    memory_changes w by a (add_versions memory) memory at n.1 (stored_now w memory s (next_of w.writes.pending) n.2 (λ _ _ f. f)) (flushed_now w memory s (next_of w.writes.pending) n.2 (λ _ _ f. f) s.flushed)
+    store_changes w by a (add_versions memory) (record w.store { memory = memory }) at n.1 (stored_now w memory s (next_of w.writes.pending) n.2 (λ _ _ f. f)) (flushed_now w memory s (next_of w.writes.pending) n.2 (λ _ _ f. f) s.flushed)
     (record { mine = λ p fact left k. mine_added w memory s n.2 p fact left k; others = λ j p fact ne guard k. others_added w memory s n.2 by j p fact n.0 ne guard k }) s
 
 -- ---- they go
@@ -213,5 +214,5 @@ module _ (w : World) (memory : List Version) (s : IsSound w) (has : HasVersionsA
 
 pub takes_versions : (w : World) (by : ℕ) (a : Actor) (memory : List Version) → get_elem? w.actors by ≡ some a → Needs w by a (take_versions memory) → IsSound w → IsSound (done w by (forgets w.writes.history (length w.cache) (take_versions memory) a) (take_versions memory))
 takes_versions w by a memory at n s =
-    memory_changes w by a (take_versions memory) memory at n.1 (stored_now w memory s None n.2 (λ y v f. not_in_none y v _ f)) (flushed_now w memory s None n.2 (λ y v f. not_in_none y v _ f) s.flushed)
+    store_changes w by a (take_versions memory) (record w.store { memory = memory }) at n.1 (stored_now w memory s None n.2 (λ y v f. not_in_none y v _ f)) (flushed_now w memory s None n.2 (λ y v f. not_in_none y v _ f) s.flushed)
     (record { mine = λ p fact left k. mine_taken w memory s n.2 p fact left k; others = λ j p fact ne guard k. others_taken w memory s n.2 by j p fact n.0 ne guard k }) s

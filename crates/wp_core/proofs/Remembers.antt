@@ -69,11 +69,11 @@ module _ (xs : List Actor) (by : ℕ) (a b : Actor) (e : Event) (at : get_elem? 
     stopped = λ n h. ⊎_elim (λ c. k.stopped n c) (λ c. new n c) (past_before xs by a b e at same grown (stopped n) h);
   }
 
-  installed_still : (first : InstalledEdit) (n : ℕ) → WasInstalled first before n → WasInstalled first after n
+  pub installed_still : (first : InstalledEdit) (n : ℕ) → WasInstalled first before n → WasInstalled first after n
   installed_still first n (inl k) = inl k
   installed_still first n (inr (tables, k)) = inr (tables, past_still xs by a b e at same grown _ k)
 
-  compacts_still : (j i : ℕ) → OtherCompacts before j i → OtherCompacts after j i
+  pub compacts_still : (j i : ℕ) → OtherCompacts before j i → OtherCompacts after j i
   compacts_still j i (l, m, n, tables, apart, k) = (l, m, n, tables, apart, done_still xs by a b e at same grown l m _ k)
 
   due_same : (first : InstalledEdit) → ((n : ℕ) → due_after n e ≡ n) → tables_due first b.participant.past ≡ tables_due first a.participant.past
