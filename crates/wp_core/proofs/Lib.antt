@@ -72,3 +72,4 @@ pub mod TakesOver
 pub mod Learns
 pub mod JoinsSeat
 pub mod SetsClient
+pub mod EachStep
