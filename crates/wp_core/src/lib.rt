@@ -17,8 +17,4 @@
 //! and what each reader knows by its loads so far.
 #![tactic(auto)]
 
-pub mod actor_laws;
 pub mod laws;
-pub mod lock_laws;
-pub mod publish_laws;
-pub mod table_laws;
