@@ -1,8 +1,7 @@
 -- A step that takes a transaction from the actor that has it, with its name left or gone, keeps a world sound.
-use Rattle.std.proofs.Common.{◌≡◌, ◌≢◌, ◌⊎◌, ◌||◌, not, ⊎_elim, inl, inr, ℕ, true, false, true≢false, List, length, map, refl, sym, subst, ap, ◌∙◌, Option, Some, None, is_some}
+use Rattle.std.proofs.Common.{◌≡◌, ◌≢◌, ◌⊎◌, not, ⊎_elim, inl, ℕ, true, List, length, map, refl, sym, subst, ap, ◌∙◌, Some, None, is_some}
 use mathlib.Core.Option.{some}
 use lib.ListN.{get_elem?}
-use Rattle.std.specs.FinSet as words
 use Rattle.std.specs.FinMap as finite
 use Rattle.wp_model.specs.Batch.{key_cmp}
 use Rattle.wp_model.specs.History.{is_undecided, is_changed, name_at, batch_at, named}

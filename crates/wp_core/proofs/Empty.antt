@@ -1,38 +1,19 @@
 -- There is an opening: on the empty history.
-use Rattle.std.proofs.Common.{◌≡◌, inl, inr, ℕ, zero, suc, ◌<◌, ◌≤◌, ◌||◌, true, false, true≢false, List, [], ◌∷◌, take, refl, sym, subst, ap, ◌∙◌, Option, Some, None, is_some, slice_index, slice_index_or, ⊎_elim, arith}
-use Rattle.std.proofs.lemmas.Bool.Decides.{nat_tests}
-use mathlib.Core.Option.{some, some-injective, some-ne-none}
-use lib.ListN.{get_elem?}
-use Rattle.std.specs.Ordering.{nat_cmp}
+use Rattle.std.proofs.Common.{◌≡◌, inr, ℕ, zero, suc, ◌<◌, true, false, true≢false, List, [], ◌∷◌, take, refl, sym, Option, Some, None, slice_index_or, arith}
 use Rattle.std.specs.FinSet as finset
 use Rattle.std.specs.FinMap as finite
 use Rattle.wp_model.specs.History.{is_undecided, newest, named, holder_of}
 use Rattle.wp_core.specs.Runs.{IsOpening, prepare_holding, named_by}
 use Rattle.wp_model.specs.Legal.{IsLegal}
-use Rattle.wp_model.specs.Decision.{decision_of, entry_version}
-use Rattle.std.specs.Option.{option_map_or}
+use Rattle.wp_model.specs.Decision.{entry_version}
 use Rattle.wp_model.specs.Batch.{key_cmp}
 use Rattle.wp_model.specs.Covered.{IsCovered, GivesStore}
-use Rattle.wp_model.specs.Snapshots as snaps
 use Rattle.wp_model.specs.LockTables as locking
-use Rattle.wp_core.specs.Lists.{IsIn}
-use Rattle.wp_core.specs.Turns.{Turn, write_turn, prepared_turn, snapshots_turn, store_turn, locks_turn, tables_turn, Holds, all_free}
-use Rattle.wp_model.specs.PreparedTables.{is_prepared}
+use Rattle.wp_core.specs.Turns.{all_free}
 use Rattle.wp_core.specs.Tables.{InstalledEdit}
-use Rattle.wp_model.specs.declared.holder.Holder.TheVariants.{Txn, Client}
-use Rattle.wp_judge.specs.Words.{CommitPair, pair_of}
-use Rattle.wp_core.specs.Reading.{Registration}
-use Rattle.wp_judge.specs.declared.observed.Observed.{Observed}
 use Rattle.wp_core.specs.Tables.{live_numbers}
-use Rattle.wp_core.specs.Views.{Event, Fact, told, heard, stopped, found_flushed, found}
-use Rattle.wp_core.specs.World.{World, Actor, Participant, Transaction, new_actor, new_participant, content_of}
-use Rattle.wp_core.specs.Sound.Actors.{StartsWith, once, AreHeld, Role}
-use Rattle.wp_core.specs.Sound.Snapshots.{count_of}
-use Rattle.wp_core.specs.Sound.Locks.{Owner, owner_of, IsOwner}
-use Rattle.wp_core.specs.Sound.Pasts.{IsPast, tables_due}
-use Rattle.wp_core.specs.Sound.Actors.{IsParticipantAt}
+use Rattle.wp_core.specs.World.{World, new_actor}
 use Rattle.wp_core.specs.Sound.Store.{IsEditCovered, IsStored}
-use Rattle.wp_core.specs.IsSound.{IsSound}
 
 first_edit : InstalledEdit
 first_edit = record { flushed = 0; versions = []; tables = 0 }

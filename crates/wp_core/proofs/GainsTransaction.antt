@@ -1,11 +1,9 @@
 -- A step that gives an actor a transaction, under a name that nobody has, keeps a world sound.
-use Rattle.std.proofs.Common.{◌≡◌, ◌≢◌, ◌⊎◌, ⊎_elim, inl, inr, ℕ, true, false, true≢false, List, [], ◌∷◌, ◌++◌, length, map, set, refl, sym, subst, ap, ◌∙◌, Option, Some, None, is_some}
+use Rattle.std.proofs.Common.{◌≡◌, ◌⊎◌, ⊎_elim, inl, inr, ℕ, true, List, [], ◌∷◌, ◌++◌, map, refl, sym, subst, ap, ◌∙◌, Some, None, is_some}
 use mathlib.Core.Option.{some}
 use lib.ListN.{get_elem?}
 use Rattle.std.specs.FinSet as words
-use Rattle.std.specs.FinSet.{contains-empty}
 use Rattle.std.specs.FinMap as finite
-use Rattle.wp_model.specs.Batch.{key_cmp}
 use Rattle.wp_model.specs.History.{named}
 use Rattle.wp_model.specs.declared.holder.Holder.TheVariants.{Txn, Client}
 use Rattle.wp_model.specs.LockTables.{LockTables}
@@ -15,9 +13,6 @@ use Rattle.wp_core.specs.World.{Transaction, Actor, Participant, World}
 use Rattle.wp_core.specs.World as world
 use Rattle.wp_core.specs.Steps.{Step}
 use Rattle.wp_core.specs.Changes.{with_name}
-use Rattle.wp_core.specs.Effects.{done}
-use Rattle.wp_core.specs.Needs.{Needs}
-use Rattle.wp_core.specs.Notes.{forgets}
 use Rattle.wp_core.specs.Sound.Actors.{participants_of, seen_of, learned_of, IsParticipantAt}
 use Rattle.wp_core.specs.Sound.Locks.{Owner, owner_of, Has, Began, IsNameOf, IsDirectOf, IsOwner, AreLocked}
 use Rattle.wp_core.specs.Sound.Pasts.{past_of, IsPast, AreHolders, IsBoard}
@@ -25,9 +20,9 @@ use Rattle.wp_core.specs.Sound.Views.{Owns}
 use Rattle.wp_core.specs.IsSound.{IsSound, participants}
 use Rattle.wp_core.proofs.Keyed.{is_word_same, at_inserted, else_inserted}
 use Rattle.wp_core.proofs.AllParticipants.{mine, mine_now, was, still}
-use Rattle.wp_core.proofs.PastsGrow.{in_front, in_last, past_still, past_last}
+use Rattle.wp_core.proofs.PastsGrow.{in_front, in_last, past_last}
 use Rattle.wp_core.proofs.Quiet.{SoIn}
-use Rattle.wp_core.proofs.LocksChange.{SoWith, actor_after, actors_after, LocksParts, locks_change}
+use Rattle.wp_core.proofs.LocksChange.{SoWith, actor_after, actors_after, LocksParts}
 use Rattle.wp_core.proofs.Frames.{at_map}
 use Rattle.wp_core.proofs.Remembers.{IsQuiet, holders_more, board_more, faults_more, edits_more}
 

@@ -1,5 +1,5 @@
 -- Claiming a name keeps every part of a sound world.
-use Rattle.std.proofs.Common.{◌≡◌, ℕ, true, true≢false, List, [], length, inl, refl, sym, subst, ap, ◌∙◌, Some, None, is_some}
+use Rattle.std.proofs.Common.{◌≡◌, ℕ, true≢false, List, [], length, inl, refl, sym, ap, ◌∙◌, Some, None, is_some}
 use mathlib.Core.Option.{some}
 use lib.ListN.{get_elem?}
 use Rattle.std.specs.FinSet as words

@@ -1,5 +1,5 @@
 -- Freeing a key of a transaction keeps every part of a sound world.
-use Rattle.std.proofs.Common.{◌≡◌, ◌≢◌, ◌⊎◌, ◌&&◌, Bool, not, ⊎_elim, inl, inr, ℕ, true, false, true≢false, List, [], ◌∷◌, ◌++◌, length, map, refl, sym, subst, ap, ◌∙◌, Option, Some, None, is_some}
+use Rattle.std.proofs.Common.{◌≡◌, ◌≢◌, ◌⊎◌, ◌&&◌, Bool, not, ⊎_elim, inl, inr, ℕ, true, false, true≢false, List, length, map, refl, sym, subst, ap, ◌∙◌, Some, None}
 use mathlib.Core.Option.{some}
 use lib.ListN.{get_elem?}
 use Rattle.std.specs.FinSet as words
@@ -8,20 +8,19 @@ use Rattle.std.specs.FinMap as finite
 use Rattle.std.specs.Ordering.{eq_by_cmp}
 use Rattle.std.proofs.lemmas.Cmp.{nat_list_cmp_total}
 use Rattle.wp_model.specs.Batch.{key_cmp}
-use Rattle.wp_model.specs.declared.entry.Entry.{Entry}
 use Rattle.wp_model.specs.History.{is_undecided, is_changed, name_at, batch_at, holder_of, named}
 use Rattle.wp_model.specs.declared.holder.Holder.{Holder}
 use Rattle.wp_model.specs.declared.holder.Holder.TheVariants.{Txn, Client}
 use Rattle.wp_model.specs.LockTables.{LockTables}
 use Rattle.wp_core.specs.Lists.{IsIn}
-use Rattle.wp_core.specs.Views.{Event, claimed, took, locked, told, heard, stopped, found_flushed, found, Fact, passed, in_old_commits, apart, words_stay, versions_in_memory, versions_nowhere, number_in_heap, number_not_in_heap, undecided_at, prior_values, unprepared, direct_free, tables_stay, live_listed, nothing_flushed, frozen_stay, delayed_flag_stays, old_flag_stays}
+use Rattle.wp_core.specs.Views.{locked, Fact, passed, in_old_commits, apart, words_stay, versions_in_memory, versions_nowhere, number_in_heap, number_not_in_heap, undecided_at, prior_values, unprepared, direct_free, tables_stay, live_listed, nothing_flushed, frozen_stay, delayed_flag_stays, old_flag_stays}
 use Rattle.wp_core.specs.World.{Transaction, Actor, Participant, World}
 use Rattle.wp_core.specs.World as world
 use Rattle.wp_core.specs.Steps.{free_key}
 use Rattle.wp_core.specs.Changes.{without_key}
 use Rattle.wp_core.specs.Effects.{done}
 use Rattle.wp_core.specs.Needs.{Needs}
-use Rattle.wp_core.specs.Notes.{forgets, ends}
+use Rattle.wp_core.specs.Notes.{forgets}
 use Rattle.wp_core.specs.Sound.Actors.{participants_of, seen_of, learned_of, IsParticipantAt}
 use Rattle.wp_core.specs.Sound.Locks.{Owner, owner_of, Has, Began, IsNameOf, IsDirectOf, IsOwner, AreLocked}
 use Rattle.wp_core.specs.Sound.Pasts.{past_of, AreHolders, IsBoard, AreFaults, AreEdits}

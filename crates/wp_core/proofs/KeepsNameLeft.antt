@@ -1,5 +1,5 @@
 -- Leaving a name keeps every part of a sound world.
-use Rattle.std.proofs.Common.{◌≡◌, ◌⊎◌, not, ⊎_elim, ℕ, true, true≢false, List, length, refl, sym, ap, ◌∙◌, Option, Some, None, is_some}
+use Rattle.std.proofs.Common.{◌≡◌, not, ⊎_elim, ℕ, true, true≢false, List, length, refl, sym, ap, ◌∙◌, Some, None, is_some}
 use mathlib.Core.Option.{some}
 use lib.ListN.{get_elem?}
 use Rattle.std.specs.Str.{bytes_eq}

@@ -1,5 +1,5 @@
 -- Noting a fact keeps every part of a sound world.
-use Rattle.std.proofs.Common.{◌≡◌, ⊎_elim, true, false, not, true≢false, List, ◌∷◌, ℕ, length, map, set, refl, sym, subst, ◌∙◌}
+use Rattle.std.proofs.Common.{◌≡◌, ⊎_elim, false, not, true≢false, ◌∷◌, ℕ, length, refl, sym, subst, ◌∙◌}
 use mathlib.Core.Option.{some}
 use lib.ListN.{get_elem?}
 use Rattle.wp_core.specs.Lists.{Each, IsIn}

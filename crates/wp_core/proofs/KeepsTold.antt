@@ -1,10 +1,10 @@
 -- Telling a label the published number keeps every part of a sound world.
-use Rattle.std.proofs.Common.{◌≡◌, ◌⊎◌, ⊎_elim, inl, inr, ℕ, ◌≤◌, true, false, true≢false, List, [], ◌∷◌, ◌++◌, length, append-nil, map, refl, sym, subst, ap, ◌∙◌, arith, Option, Some, None, is_some}
+use Rattle.std.proofs.Common.{◌≡◌, ⊎_elim, inl, inr, ℕ, ◌≤◌, true, List, [], ◌∷◌, ◌++◌, length, append-nil, map, refl, sym, subst, ap, ◌∙◌, arith, Some, is_some}
 use mathlib.Core.Option.{some}
 use lib.ListN.{get_elem?}
 use Rattle.std.specs.FinMap as finite
 use Rattle.wp_model.specs.LockTables.{LockTables}
-use Rattle.wp_core.specs.Views.{Event, told, heard, stopped, found_flushed, found, Fact, passed, in_old_commits, apart, words_stay, versions_in_memory, versions_nowhere, number_in_heap, number_not_in_heap, undecided_at, prior_values, unprepared, direct_free, tables_stay, live_listed, nothing_flushed, frozen_stay, delayed_flag_stays, old_flag_stays}
+use Rattle.wp_core.specs.Views.{Event, told, heard, Fact, passed, in_old_commits, apart, words_stay, versions_in_memory, versions_nowhere, number_in_heap, number_not_in_heap, undecided_at, prior_values, unprepared, direct_free, tables_stay, live_listed, nothing_flushed, frozen_stay, delayed_flag_stays, old_flag_stays}
 use Rattle.wp_core.specs.World.{Actor, Participant, World}
 use Rattle.wp_core.specs.World as world
 use Rattle.wp_core.specs.Steps.{tell}
@@ -22,7 +22,7 @@ use Rattle.wp_core.proofs.PastsGrow.{in_front, past_still, past_last, past_befor
 use Rattle.wp_core.proofs.Quiet.{SoIn}
 use Rattle.wp_core.proofs.LocksChange.{SoWith, actor_after, actors_after, LocksParts, locks_change}
 use Rattle.wp_core.proofs.Remembers.{IsQuiet, holders_more, faults_more, edits_more}
-use Rattle.wp_core.proofs.KeepsRemembered.{at_number, at_label}
+use Rattle.wp_core.proofs.KeepsRemembered.{at_label}
 
 module _ (w : World) (by : ℕ) (a : Actor) (label : List ℕ) (at : get_elem? w.actors by ≡ some a) (s : IsSound w) where
   abbrev n : ℕ

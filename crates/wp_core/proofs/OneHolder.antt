@@ -1,11 +1,10 @@
 -- In a legal history no two undecided prepares have the same key, so who is found to hold one is the only one.
-use Rattle.std.proofs.Common.{◌≡◌, ◌⊎◌, inl, inr, ⊎_elim, ℕ, suc, ◌+◌, ◌<◌, ◌≤◌, ◌&&◌, not, Bool, true, false, true≢false, List, [], ◌∷◌, ◌++◌, length, refl, sym, subst, ap, ◌∙◌, Option, Some, None, is_some, length-append, arith}
+use Rattle.std.proofs.Common.{◌≡◌, ◌⊎◌, inl, inr, ⊎_elim, ℕ, ◌+◌, ◌<◌, ◌≤◌, ◌&&◌, Bool, true, false, true≢false, List, [], ◌∷◌, ◌++◌, length, refl, sym, subst, ap, ◌∙◌, Option, Some, None, is_some, length-append, arith}
 use Rattle.std.proofs.lemmas.Bool.{cases_lt}
 use Rattle.wp_model.specs.declared.entry.Entry.{Entry}
 use Rattle.wp_model.specs.declared.entry.Entry.TheVariants.{Write, Prepare, Commit, Undo, Close}
-use Rattle.wp_model.specs.History.{entry_at, is_prepare, prepared_batch, batch_at, name_at, is_undecided, is_changed, holder_of, named}
+use Rattle.wp_model.specs.History.{is_prepare, prepared_batch, batch_at, name_at, is_undecided, is_changed, holder_of, named}
 use Rattle.wp_model.specs.Legal.{IsLegal, IsLegalNext}
-use Rattle.wp_model.specs.Decision.{decision_of}
 use Rattle.wp_history.proofs.Growth.{entry_at_next, by_growth, undecided_prepared}
 use Rattle.wp_history.proofs.Undecided.{undecided_old, undecided_within}
 use Rattle.wp_history.proofs.Newest.{batch_at_old}

@@ -11,11 +11,9 @@ use Rattle.std.specs.FinSet as finset
 use Rattle.std.specs.FinMap as finite
 use Rattle.wp_model.specs.Batch.{key_cmp}
 use Rattle.wp_model.specs.declared.entry.Entry.{Entry}
-use Rattle.wp_model.specs.declared.holder.Holder.{Holder}
 use Rattle.wp_model.specs.declared.holder.Holder.TheVariants.{Txn, Client}
-use Rattle.wp_model.specs.History.{is_undecided, is_changed, name_at, batch_at, undecided, named, holder_of}
+use Rattle.wp_model.specs.History.{is_undecided, name_at, undecided, named, holder_of}
 use Rattle.wp_model.specs.Legal.{IsLegal, undone_last}
-use Rattle.wp_model.specs.Decision.{decision_of}
 use Rattle.wp_model.specs.Snapshots as snaps
 use Rattle.wp_model.specs.LockTables.{LockTables}
 use Rattle.wp_model.specs.PreparedTables.{PreparedTables, is_prepared}

@@ -4,7 +4,7 @@ use mathlib.Core.Option.{some}
 use lib.ListN.{get_elem?}
 use Rattle.wp_core.specs.Lists.{IsIn, one_if, total}
 use Rattle.wp_core.specs.Views.{Event}
-use Rattle.wp_core.specs.World.{Actor, Participant}
+use Rattle.wp_core.specs.World.{Actor}
 use Rattle.wp_core.specs.Sound.Actors.{participants_of, IsParticipantAt}
 use Rattle.wp_core.specs.Sound.Pasts.{past_of, HasDone, IsPast, times_past}
 use Rattle.wp_core.proofs.AllParticipants.{mine, mine_now, was, still}
