@@ -217,6 +217,7 @@ module _ (w : World) (by : ℕ) (a : Actor) (name : List ℕ) (x0 : Transaction)
           labels = λ label n h. ap (λ (z : finite.FinMap key_cmp ℕ). is_some (finite.get z label)) d.labels ∙ k.labels label n h;
           numbers = λ label n h. k.numbers label n (ap (λ (z : finite.FinMap key_cmp ℕ). finite.get z label) (sym d.labels) ∙ h);
           heard = k.heard;
+          told = k.told;
         };
     faults = kept_part w by a b at (participants_of past_of) (AreFaults w.writes w.installed.halted) refl s.faults;
     edits = kept_part w by a b at (participants_of past_of) (AreEdits w.first_edit w.installed) refl s.edits;

@@ -224,8 +224,8 @@ module _ (w : World) (by : ℕ) (a : Actor) (key : List ℕ) (at : get_elem? w.a
   board_part : IsBoard (world.published w) t pasts
   board_part =
       let k = board_more w.actors by a b e at refl refl (world.published w) w.locks
-      (λ label n q. absurd (⊎_elim (λ (r : e ≡ told label n). cc) (λ (r : e ≡ heard label n). cc) q)) (λ label n q. absurd cc) s.board in
-      record { labels = k.labels; numbers = k.numbers; heard = k.heard }
+      (λ label n q. absurd (⊎_elim (λ (r : e ≡ told label n). cc) (λ (r : e ≡ heard label n). cc) q)) (λ label n q. absurd cc) (λ label n q. absurd cc) s.board in
+      record { labels = k.labels; numbers = k.numbers; heard = k.heard; told = k.told }
 
   parts : LocksParts w by a (lock_direct key) p a.learned t
   parts = record {

@@ -64,6 +64,7 @@ pub record MayRemember (w : World) (by : ℕ) (e : Event) : Type 0 where
   pub accounted : (key : Option (List ℕ)) (holder : Holder) (seen : ℕ) (account : Account) → e ≡ found key holder seen account → IsAccounted w.writes.history (participants past_of w) by 0 key holder seen account
   pub labelled : (label : List ℕ) (n : ℕ) → (e ≡ told label n) ⊎ (e ≡ heard label n) → is_some (finite.get w.locks.labels label) ≡ true
   pub was_told : (label : List ℕ) (n : ℕ) → e ≡ heard label n → IsPast (participants past_of w) (told label n)
+  pub not_told : (label : List ℕ) (n : ℕ) → e ≡ told label n → ⊥
   pub stopped_at : (n : ℕ) → e ≡ stopped n → (w.writes.closed ≡ true) × (n ≡ length w.writes.history)
   pub was_installed : (n : ℕ) → e ≡ found_flushed n → WasInstalled w.first_edit (participants past_of w) n
 
@@ -93,7 +94,7 @@ remembering w by a e step at live may s =
       flushed = s.flushed;
       locks = locked_still w.actors by a b at refl (same_transactions (owner_of a.participant) (a.participant.past ++ e ∷ []) (λ x k. in_front x a.participant.past (e ∷ []) k)) w.writes.history w.locks s.locks;
       holders = holders_more w.actors by a b e at refl refl w.opened w.writes.history w.locks may.accounted s.holders;
-      board = board_more w.actors by a b e at refl refl (world.published w) w.locks may.labelled may.was_told s.board;
+      board = board_more w.actors by a b e at refl refl (world.published w) w.locks may.labelled may.was_told may.not_told s.board;
       faults = faults_more w.actors by a b e at refl refl w.writes w.installed.halted may.quiet may.stopped_at s.faults;
       edits = edits_more w.actors by a b e at refl refl w.first_edit w.installed may.quiet may.was_installed s.edits;
       pending = s.pending;
@@ -117,6 +118,7 @@ no_quarrel w by n is = record {
   accounted = λ key holder seen account q. absurd cc;
   labelled = λ label m q. absurd (⊎_elim (λ (r : stopped n ≡ told label m). cc) (λ (r : stopped n ≡ heard label m). cc) q);
   was_told = λ label m q. absurd cc;
+  not_told = λ label m q. absurd cc;
   stopped_at = λ m q. let r : n ≡ m = cc in subst (λ (z : ℕ). (w.writes.closed ≡ true) × (z ≡ length w.writes.history)) r is;
   was_installed = λ m q. absurd cc;
 }
@@ -146,6 +148,7 @@ finds_flushed w by a at n s =
       accounted = λ key holder seen account q. absurd cc;
       labelled = λ label m q. absurd (⊎_elim (λ (r : e ≡ told label m). cc) (λ (r : e ≡ heard label m). cc) q);
       was_told = λ label m q. absurd cc;
+      not_told = λ label m q. absurd cc;
       stopped_at = λ m q. absurd cc;
       was_installed = λ m q. subst (WasInstalled w.first_edit (participants past_of w)) (ap at_number q) s.edits.last;
     }) s
@@ -159,7 +162,8 @@ hears w by a label n at needs s =
       labelled = λ other m q. ⊎_elim
           (λ (r : heard label n ≡ told other m). absurd cc)
           (λ (r : heard label n ≡ heard other m). let there : is_some (finite.get w.locks.labels label) ≡ true = ap is_some needs.1 in subst (λ (l : List ℕ). is_some (finite.get w.locks.labels l) ≡ true) (ap at_label r) there) q;
-      was_told = λ other m r. subst (λ (l : List ℕ). IsPast (participants past_of w) (told l m)) (ap at_label r) (subst (λ (z : ℕ). IsPast (participants past_of w) (told label z)) (ap at_number r) (s.board.numbers label n needs.1).0);
+      was_told = λ other m r. subst (λ (l : List ℕ). IsPast (participants past_of w) (told l m)) (ap at_label r) (subst (λ (z : ℕ). IsPast (participants past_of w) (told label z)) (ap at_number r) (s.board.numbers label n needs.1));
+      not_told = λ label m q. absurd cc;
       stopped_at = λ m q. absurd cc;
       was_installed = λ m q. absurd cc;
     }) s
@@ -247,6 +251,7 @@ finds_holder w by a key holder account at needs s =
           (subst (λ (z : ℕ). Is key holder z c) (ap seen_in q) (subst (λ (z : Account). Is key holder seen z) (ap account_in q) (accounts w by a key holder account at s needs.2))));
       labelled = λ label m q. absurd (⊎_elim (λ (r : e ≡ told label m). cc) (λ (r : e ≡ heard label m). cc) q);
       was_told = λ label m q. absurd cc;
+      not_told = λ label m q. absurd cc;
       stopped_at = λ m q. absurd cc;
       was_installed = λ m q. absurd cc;
     }) s

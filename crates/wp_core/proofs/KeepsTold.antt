@@ -51,6 +51,9 @@ module _ (w : World) (by : ℕ) (a : Actor) (label : List ℕ) (at : get_elem? w
   told_new : (l : List ℕ) (m : ℕ) → e ≡ told l m → is_some (finite.get t.labels l) ≡ true
   told_new l m q = ap is_some (at_inserted w.locks.labels label n l (sym (ap at_label q)))
 
+  told_same : (l : List ℕ) (m : ℕ) → e ≡ told l m → n ≡ m
+  told_same l m q = cc
+
   board_part : IsBoard n t after
   board_part = record {
     labels = λ l m h. ⊎_elim
@@ -60,11 +63,13 @@ module _ (w : World) (by : ℕ) (a : Actor) (label : List ℕ) (at : get_elem? w
         (λ (q : l ≡ label).
         let f : Some n ≡ Some m = sym (at_inserted w.locks.labels label n l q) ∙ h in
         let same : n ≡ m = cc in
-        (subst (λ (z : ℕ). IsPast after (told l z)) same (subst (λ (z : List ℕ). IsPast after (told z n)) (sym q) (past_last w.actors by a b e at refl refl)), subst (λ (z : ℕ). z ≤ n) same (omega arith)))
-        (λ (ne : l ≡ label → ⊥). let c = s.board.numbers l m (sym (else_inserted w.locks.labels label n l ne) ∙ h) in (past_still w.actors by a b e at refl refl (told l m) c.0, c.1)) (is_word_same l label);
+        subst (λ (z : ℕ). IsPast after (told l z)) same (subst (λ (z : List ℕ). IsPast after (told z n)) (sym q) (past_last w.actors by a b e at refl refl)))
+        (λ (ne : l ≡ label → ⊥). past_still w.actors by a b e at refl refl (told l m) (s.board.numbers l m (sym (else_inserted w.locks.labels label n l ne) ∙ h))) (is_word_same l label);
     heard = λ l m h. ⊎_elim
         (λ (c : IsPast (participants past_of w) (heard l m)). past_still w.actors by a b e at refl refl (told l m) (s.board.heard l m c))
-        (λ (q : e ≡ heard l m). absurd cc) (past_before w.actors by a b e at refl refl (heard l m) h);
+        (λ (q : e ≡ heard l m). absurd cc) (past_before w.actors by a b e at refl refl (heard l m) h);    told = λ l m h. ⊎_elim
+        (λ (c : IsPast (participants past_of w) (told l m)). s.board.told l m c)
+        (λ (q : e ≡ told l m). let same : n ≡ m = told_same l m q in omega (arith, same)) (past_before w.actors by a b e at refl refl (told l m) h);
   }
 
   -- no fact speaks of labels, of what was seen or of a past

@@ -228,7 +228,7 @@ module _ (opened : List Entry) (cache : List ℕ) (flag : ℕ) (logged : Bool) (
       keys = λ key c e. absurd (no_client_holds opened (holder_of opened key) c (sym (locks.keys key) ∙ e));
       found = λ j i key holder seen account k. absurd (no_past (found key holder seen account) (j, i, k));
     };
-    board = record { labels = λ label n e. ⊎_elim (λ k. absurd (no_past (told label n) k)) (λ k. absurd (no_past (heard label n) k)) e; numbers = λ label n e. absurd (none_some _ n (no_label label) e); heard = λ label n k. absurd (no_past (heard label n) k) };
+    board = record { labels = λ label n e. ⊎_elim (λ k. absurd (no_past (told label n) k)) (λ k. absurd (no_past (heard label n) k)) e; numbers = λ label n e. absurd (none_some _ n (no_label label) e); heard = λ label n k. absurd (no_past (heard label n) k); told = λ label n k. absurd (no_past (told label n) k) };
     faults = record { log = refl; tables = refl; not_logged = λ e. inl refl; stopped = λ n k. absurd (no_past (stopped n) k) };
     edits = record { last = inl refl; found = λ n k. absurd (no_past (found_flushed n) k); tables = λ j i past at. inl (subst (λ (z : List Event). tables_due edit z ≤ edit.tables) (one_participant [] j i past at) (omega arith)) };
     pending = λ _. refl;

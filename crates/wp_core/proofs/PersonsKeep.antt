@@ -198,8 +198,9 @@ module _ (row place : ℕ → ℕ → ℕ) (history : List Entry) (xs ys : List 
   pub board_moved : (published : ℕ) (t : LockTables) → IsBoard published t (pasts xs) → IsBoard published t (pasts ys)
   board_moved published t k = record {
     labels = λ label n h. k.labels label n (⊎_elim (λ p. inl (past_was _ p)) (λ p. inr (past_was _ p)) h);
-    numbers = λ label n h. let c = k.numbers label n h in (past_moved _ c.0, c.1);
+    numbers = λ label n h. past_moved _ (k.numbers label n h);
     heard = λ label n h. past_moved _ (k.heard label n (past_was _ h));
+    told = λ label n h. k.told label n (past_was _ h);
   }
 
   pub faults_moved : (writes : WriteTable) (halted : Bool) → AreFaults writes halted (pasts xs) → AreFaults writes halted (pasts ys)

@@ -107,7 +107,7 @@ module _ (history : List Entry) (entry : Entry) (legal : IsLegal (history ++ ent
   holders_part opened t pasts k = record { names = k.names; keys = k.keys; found = λ j i key holder seen account h. accounted_grows pasts j i key holder seen account (k.found j i key holder seen account h) }
 
   pub board_part : (t : LockTables) (pasts : List (List (List Event))) → IsBoard (length history) t pasts → IsBoard (length grown) t pasts
-  board_part t pasts k = record { labels = k.labels; numbers = λ label n e. let o = k.numbers label n e in let low = o.1 in let l = grown_length history entry legal in (o.0, omega (arith, low, l)); heard = k.heard }
+  board_part t pasts k = record { labels = k.labels; numbers = k.numbers; heard = k.heard; told = λ label n p. let low = k.told label n p in let l = grown_length history entry legal in omega (arith, low, l) }
 
 pub faults_part : (t : WriteTable) (entry : Entry) (others : List Entry) (halted : Bool) (pasts : List (List (List Event))) → t.closed ≡ false → AreFaults t halted pasts → AreFaults (with_entry t entry others) halted pasts
 faults_part t entry others halted pasts open_log k = record {

@@ -51,13 +51,14 @@ module _ (xs : List Actor) (by : ℕ) (a b : Actor) (e : Event) (at : get_elem? 
   }
 
   pub board_more : (published : ℕ) (t : LockTables) → ((label : List ℕ) (n : ℕ) → (e ≡ told label n) ⊎ (e ≡ heard label n) → is_some (finite.get t.labels label) ≡ true)
-      → ((label : List ℕ) (n : ℕ) → e ≡ heard label n → IsPast before (told label n)) → IsBoard published t before → IsBoard published t after
-  board_more published t new was_told k = record {
+      → ((label : List ℕ) (n : ℕ) → e ≡ heard label n → IsPast before (told label n)) → ((label : List ℕ) (n : ℕ) → e ≡ told label n → ⊥) → IsBoard published t before → IsBoard published t after
+  board_more published t new was_told not_told k = record {
     labels = λ label n h. ⊎_elim
         (λ p. ⊎_elim (λ c. k.labels label n (inl c)) (λ c. new label n (inl c)) (past_before xs by a b e at same grown (told label n) p))
         (λ p. ⊎_elim (λ c. k.labels label n (inr c)) (λ c. new label n (inr c)) (past_before xs by a b e at same grown (heard label n) p)) h;
-    numbers = λ label n h. let c = k.numbers label n h in (past_still xs by a b e at same grown (told label n) c.0, c.1);
+    numbers = λ label n h. past_still xs by a b e at same grown (told label n) (k.numbers label n h);
     heard = λ label n h. past_still xs by a b e at same grown (told label n) (⊎_elim (λ c. k.heard label n c) (λ c. was_told label n c) (past_before xs by a b e at same grown (heard label n) h));
+    told = λ label n h. ⊎_elim (λ c. k.told label n c) (λ c. absurd (not_told label n c)) (past_before xs by a b e at same grown (told label n) h);
   }
 
   pub faults_more : (writes : WriteTable) (halted : Bool) → IsQuiet e → ((n : ℕ) → e ≡ stopped n → (writes.closed ≡ true) × (n ≡ length writes.history))

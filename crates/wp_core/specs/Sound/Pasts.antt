@@ -52,10 +52,12 @@ pub record AreHolders (opened history : List Entry) (t : LockTables) (pasts : Li
 
 -- ---- the board
 
+-- Under a label is a number that was told under it; what was heard was told, and what was told is published.
 pub record IsBoard (published : ℕ) (t : LockTables) (pasts : List (List (List Event))) : Type 0 where
   pub labels : (label : List ℕ) (n : ℕ) → IsPast pasts (told label n) ⊎ IsPast pasts (heard label n) → is_some (finite.get t.labels label) ≡ true
-  pub numbers : (label : List ℕ) (n : ℕ) → finite.get t.labels label ≡ Some n → IsPast pasts (told label n) × (n ≤ published)
+  pub numbers : (label : List ℕ) (n : ℕ) → finite.get t.labels label ≡ Some n → IsPast pasts (told label n)
   pub heard : (label : List ℕ) (n : ℕ) → IsPast pasts (heard label n) → IsPast pasts (told label n)
+  pub told : (label : List ℕ) (n : ℕ) → IsPast pasts (told label n) → n ≤ published
 
 -- ---- faults
 
