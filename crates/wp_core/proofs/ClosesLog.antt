@@ -123,7 +123,7 @@ module _ (w : World) (by : ℕ) (a : Actor) (at : get_elem? w.actors by ≡ some
     versions = s.versions;
     flushed = s.flushed;
     locks = locked_still w.actors by a b at refl (same_transactions (owner_of a.participant) (a.participant.past ++ log_failed ∷ []) (λ x k. in_front x a.participant.past (log_failed ∷ []) k)) w.writes.history w.locks s.locks;
-    holders = holders_more w.actors by a b log_failed at refl refl w.opened w.writes.history w.locks (λ key holder seen account q. absurd cc) s.holders;
+    holders = holders_more w.actors by a b log_failed at refl refl w.opened w.writes.history w.locks (λ key holder seen account q. absurd cc) (λ key holder seen account q. absurd cc) s.holders;
     board = board_more w.actors by a b log_failed at refl refl (world.published w) w.locks (λ label m k. ⊎_elim (λ (q : log_failed ≡ told label m). absurd cc) (λ (q : log_failed ≡ heard label m). absurd cc) k) (λ label m q. absurd cc) (λ label m q. absurd cc) s.board;
     faults = faults_closed;
     edits = edits_still w.actors by a b log_failed at refl refl w.first_edit w.installed (λ m. refl) (λ m q. absurd cc) s.edits;

@@ -5,6 +5,7 @@ use lib.ListN.{get_elem?}
 use Rattle.std.specs.FinMap as finite
 use Rattle.wp_model.specs.Batch.{key_cmp}
 use Rattle.wp_model.specs.History.{is_undecided, is_changed, name_at, batch_at, named}
+use Rattle.wp_model.specs.declared.holder.Holder.{Holder}
 use Rattle.wp_model.specs.declared.holder.Holder.TheVariants.{Txn, Client}
 use Rattle.wp_model.specs.LockTables.{LockTables}
 use Rattle.wp_core.specs.Lists.{IsIn}
@@ -203,6 +204,10 @@ module _ (w : World) (by : ℕ) (a : Actor) (name : List ℕ) (x0 : Transaction)
   others_still j q (delayed_flag_stays value) away there k = k
   others_still j q (old_flag_stays value) away there k = k
 
+  were : (k : List ℕ) (holder : Holder) → finite.get t.keys k ≡ Some holder → finite.get w.locks.keys k ≡ Some holder
+  were k (Txn n) h = d.transactions_were k n h
+  were k (Client c) h = d.directs_were k c h
+
   pub dropped_parts : LocksParts w by a step p a.learned t
   dropped_parts = record {
     seen = s.seen by 0 a.participant.seen (mine seen_of w.actors by a b at refl);
@@ -210,7 +215,7 @@ module _ (w : World) (by : ℕ) (a : Actor) (name : List ℕ) (x0 : Transaction)
     own = refl;
     registered = refl;
     locks_part = locked_part;
-    holders = let k = kept_part w by a b at (participants_of past_of) (AreHolders w.opened w.writes.history w.locks) refl s.holders in record { names = λ n h. k.names n (d.live_were n h); keys = λ c n h. k.keys c n (d.directs_were c n h); found = k.found };
+    holders = let k = kept_part w by a b at (participants_of past_of) (AreHolders w.opened w.writes.history w.locks) refl s.holders in record { names = λ n h. k.names n (d.live_were n h); keys = λ c holder h. k.keys c holder (were c holder h); found_keys = k.found_keys; found = k.found };
     board =
         let k = kept_part w by a b at (participants_of past_of) (IsBoard (world.published w) w.locks) refl s.board in
         record {

@@ -3,7 +3,7 @@ use Rattle.std.proofs.Common.{◌≡◌, inr, ℕ, zero, suc, ◌<◌, true, fal
 use Rattle.std.specs.FinSet as finset
 use Rattle.std.specs.FinMap as finite
 use Rattle.wp_model.specs.History.{is_undecided, newest, named, holder_of}
-use Rattle.wp_core.specs.Runs.{IsOpening, prepare_holding, named_by}
+use Rattle.wp_core.specs.Runs.{IsOpening, named_by}
 use Rattle.wp_model.specs.Legal.{IsLegal}
 use Rattle.wp_model.specs.Decision.{entry_version}
 use Rattle.wp_model.specs.Batch.{key_cmp}
@@ -13,6 +13,7 @@ use Rattle.wp_core.specs.Turns.{all_free}
 use Rattle.wp_core.specs.Tables.{InstalledEdit}
 use Rattle.wp_core.specs.Tables.{live_numbers}
 use Rattle.wp_core.specs.World.{World, new_actor}
+use Rattle.wp_core.specs.Sound.Locks.{prepare_holding}
 use Rattle.wp_core.specs.Sound.Store.{IsEditCovered, IsStored}
 
 first_edit : InstalledEdit

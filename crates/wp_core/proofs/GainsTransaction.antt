@@ -269,12 +269,13 @@ module _ (w : World) (by : ℕ) (a : Actor) (name : List ℕ) (x1 : Transaction)
 
   holders_part : AreHolders w.opened w.writes.history t pasts
   holders_part =
-      let k = holders_more w.actors by a b start at refl refl w.opened w.writes.history w.locks (λ key holder seen account q. absurd (is_no_other (found key holder seen account) (λ r. absurd cc) (λ r. absurd cc) q)) s.holders in
+      let k = holders_more w.actors by a b start at refl refl w.opened w.writes.history w.locks (λ key holder seen account q. absurd (is_no_other (found key holder seen account) (λ r. absurd cc) (λ r. absurd cc) q)) (λ key holder seen account q. absurd (is_no_other (found (Some key) holder seen account) (λ r. absurd cc) (λ r. absurd cc) q)) s.holders in
       record {
         names = λ n live. ⊎_elim
             (λ (q : n ≡ name). inl (begun n q))
             (λ (ne : n ≡ name → ⊥). k.names n (ap is_some (sym (else_inserted w.locks.names name (Some a.participant.client) n ne)) ∙ live)) (is_word_same n name);
         keys = k.keys;
+        found_keys = k.found_keys;
         found = k.found;
       }
 

@@ -187,7 +187,7 @@ module _ (w : World) (by : ℕ) (a : Actor) (key : List ℕ) (at : get_elem? w.a
     own = refl;
     registered = refl;
     locks_part = locked_part;
-    holders = let k = kept_part w by a b at (participants_of past_of) (AreHolders w.opened w.writes.history w.locks) refl s.holders in record { names = k.names; keys = λ c name h. k.keys c name (held_before c (Client name) h).1; found = k.found };
+    holders = let k = kept_part w by a b at (participants_of past_of) (AreHolders w.opened w.writes.history w.locks) refl s.holders in record { names = k.names; keys = λ c holder h. k.keys c holder (held_before c holder h).1; found_keys = k.found_keys; found = k.found };
     board = let k = kept_part w by a b at (participants_of past_of) (IsBoard (world.published w) w.locks) refl s.board in record { labels = k.labels; numbers = k.numbers; heard = k.heard; told = k.told };
     faults = kept_part w by a b at (participants_of past_of) (AreFaults w.writes w.installed.halted) refl s.faults;
     edits = kept_part w by a b at (participants_of past_of) (AreEdits w.first_edit w.installed) refl s.edits;

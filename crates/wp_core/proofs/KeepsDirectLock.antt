@@ -210,14 +210,13 @@ module _ (w : World) (by : ℕ) (a : Actor) (key : List ℕ) (at : get_elem? w.a
 
   holders_part : AreHolders w.opened w.writes.history t pasts
   holders_part =
-      let k = holders_more w.actors by a b e at refl refl w.opened w.writes.history w.locks (λ c holder seen account q. absurd cc) s.holders in
+      let k = holders_more w.actors by a b e at refl refl w.opened w.writes.history w.locks (λ c holder seen account q. absurd cc) (λ c holder seen account q. absurd cc) s.holders in
       record {
         names = k.names;
-        keys = λ c name h. ⊎_elim
-            (λ (g : (c ≡ key) × (Client client ≡ Client name)).
-            let same : client ≡ name = let f = g.1 in cc in
-            subst (λ (z : List ℕ). IsPast pasts (locked c (Client z))) same (subst (λ (z : List ℕ). IsPast pasts (locked z (Client client))) (sym g.0) (past_last w.actors by a b e at refl refl)))
-            (λ (g : finite.get w.locks.keys c ≡ Some (Client name)). k.keys c name g) (held_now c (Client name) h);
+        keys = λ c holder h. ⊎_elim
+            (λ (g : (c ≡ key) × (Client client ≡ holder)). inl (subst (λ (z : Holder). IsPast pasts (locked c z)) g.1 (subst (λ (z : List ℕ). IsPast pasts (locked z (Client client))) (sym g.0) (past_last w.actors by a b e at refl refl))))
+            (λ (g : finite.get w.locks.keys c ≡ Some holder). k.keys c holder g) (held_now c holder h);
+        found_keys = k.found_keys;
         found = k.found;
       }
 

@@ -278,7 +278,7 @@ module _ (w : World) (by : ℕ) (a : Actor) (name : List ℕ) (x0 : Transaction)
     own = refl;
     registered = refl;
     locks_part = locked_part;
-    holders = let k = kept_part w by a b at (participants_of past_of) (AreHolders w.opened w.writes.history w.locks) refl s.holders in record { names = k.names; keys = λ c n h. k.keys c n (held_before c (Client n) h).1; found = k.found };
+    holders = let k = kept_part w by a b at (participants_of past_of) (AreHolders w.opened w.writes.history w.locks) refl s.holders in record { names = k.names; keys = λ c holder h. k.keys c holder (held_before c holder h).1; found_keys = k.found_keys; found = k.found };
     board = let k = kept_part w by a b at (participants_of past_of) (IsBoard (world.published w) w.locks) refl s.board in record { labels = k.labels; numbers = k.numbers; heard = k.heard; told = k.told };
     faults = kept_part w by a b at (participants_of past_of) (AreFaults w.writes w.installed.halted) refl s.faults;
     edits = kept_part w by a b at (participants_of past_of) (AreEdits w.first_edit w.installed) refl s.edits;

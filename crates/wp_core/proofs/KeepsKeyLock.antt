@@ -23,14 +23,14 @@ use Rattle.wp_core.specs.Needs.{Needs}
 use Rattle.wp_core.specs.Notes.{forgets}
 use Rattle.wp_core.specs.Sound.Actors.{participants_of, seen_of, learned_of, IsParticipantAt}
 use Rattle.wp_core.specs.Sound.Locks.{Owner, owner_of, Has, Began, IsNameOf, IsDirectOf, IsOwner, AreLocked}
-use Rattle.wp_core.specs.Sound.Pasts.{past_of, AreHolders, IsBoard}
+use Rattle.wp_core.specs.Sound.Pasts.{past_of, AreHolders, IsBoard, IsPast}
 use Rattle.wp_core.specs.Sound.Views.{Owns}
 use Rattle.wp_core.specs.IsSound.{IsSound, participants}
 use Rattle.wp_core.proofs.Frames.{at_map}
 use Rattle.wp_core.proofs.Keyed.{is_word_same, same_test, not_same, at_inserted, else_inserted}
 use Rattle.wp_core.proofs.AllParticipants.{mine, mine_now, was, was_apart, still}
 use Rattle.wp_core.proofs.HistoryHolders.{holder_holds}
-use Rattle.wp_core.proofs.PastsGrow.{in_front}
+use Rattle.wp_core.proofs.PastsGrow.{in_front, past_last}
 use Rattle.wp_core.proofs.Quiet.{SoIn}
 use Rattle.wp_core.proofs.LocksChange.{SoWith, actor_after, actors_after, LocksParts, locks_change}
 use Rattle.wp_core.proofs.Remembers.{IsQuiet, holders_more, board_more, faults_more, edits_more}
@@ -299,12 +299,13 @@ module _ (w : World) (by : ℕ) (a : Actor) (name : List ℕ) (x0 : Transaction)
 
   holders_part : AreHolders w.opened w.writes.history t pasts
   holders_part =
-      let k = holders_more w.actors by a b e at refl refl w.opened w.writes.history w.locks (λ c holder seen account q. absurd cc) s.holders in
+      let k = holders_more w.actors by a b e at refl refl w.opened w.writes.history w.locks (λ c holder seen account q. absurd cc) (λ c holder seen account q. absurd cc) s.holders in
       record {
         names = k.names;
-        keys = λ c n h. ⊎_elim
-            (λ (g : (c ≡ key) × (Txn name ≡ Client n)). let f = g.1 in absurd cc)
-            (λ (g : (c ≡ key → ⊥) × (finite.get w.locks.keys c ≡ Some (Client n))). k.keys c n g.1) (held_now c (Client n) h);
+        keys = λ c holder h. ⊎_elim
+            (λ (g : (c ≡ key) × (Txn name ≡ holder)). inl (subst (λ (z : Holder). IsPast pasts (locked c z)) g.1 (subst (λ (z : List ℕ). IsPast pasts (locked z (Txn name))) (sym g.0) (past_last w.actors by a b e at refl refl))))
+            (λ (g : (c ≡ key → ⊥) × (finite.get w.locks.keys c ≡ Some holder)). k.keys c holder g.1) (held_now c holder h);
+        found_keys = k.found_keys;
         found = k.found;
       }
 

@@ -17,12 +17,12 @@ use Rattle.wp_core.specs.Steps.{Step, find_log_closed, find_flushed, find_holder
 use Rattle.wp_core.specs.Changes.{put, remembers}
 use Rattle.wp_core.specs.Effects.{done}
 use Rattle.wp_core.specs.Needs.{Needs}
-use Rattle.wp_core.specs.Conditions.{Accounts, IsSelf}
+use Rattle.wp_core.specs.Conditions.{Accounts, IsHolder, IsSelf}
 use Rattle.wp_core.specs.Notes.{forgets, ends}
 use Rattle.wp_core.specs.Sound.Actors.{seen_of, own_of, AreSeen, AreLearned, AreOwned, AreHeld, HoldersHave, AreLed, IsIdle, participants_of, learned_of, held_of, role_of, IsParticipantAt}
 use Rattle.wp_core.specs.Sound.Snapshots.{registered_of, AreRegistered}
 use Rattle.wp_core.specs.Sound.Locks.{Owner, owner_of, Began}
-use Rattle.wp_core.specs.Sound.Pasts.{past_of, IsPast, Makes, HasDone, IsAccounted, WasInstalled}
+use Rattle.wp_core.specs.Sound.Pasts.{past_of, IsPast, Makes, HasDone, IsAccounted, WasLocked, WasInstalled}
 use Rattle.wp_core.specs.Sound.Reader.{AreReaders, AreJudged, reader_of}
 use Rattle.wp_core.specs.Sound.Views.{IsNoted, noter_of}
 use Rattle.wp_core.specs.IsSound.{IsSound, participants}
@@ -62,6 +62,7 @@ so_past w a past (old_flag_stays value) k = k
 pub record MayRemember (w : World) (by : ℕ) (e : Event) : Type 0 where
   pub quiet : IsQuiet e
   pub accounted : (key : Option (List ℕ)) (holder : Holder) (seen : ℕ) (account : Account) → e ≡ found key holder seen account → IsAccounted w.writes.history (participants past_of w) by 0 key holder seen account
+  pub locked_for : (key : List ℕ) (holder : Holder) (seen : ℕ) (account : Account) → e ≡ found (Some key) holder seen account → WasLocked w.opened (participants past_of w) key holder
   pub labelled : (label : List ℕ) (n : ℕ) → (e ≡ told label n) ⊎ (e ≡ heard label n) → is_some (finite.get w.locks.labels label) ≡ true
   pub was_told : (label : List ℕ) (n : ℕ) → e ≡ heard label n → IsPast (participants past_of w) (told label n)
   pub not_told : (label : List ℕ) (n : ℕ) → e ≡ told label n → ⊥
@@ -93,7 +94,7 @@ remembering w by a e step at live may s =
       versions = s.versions;
       flushed = s.flushed;
       locks = locked_still w.actors by a b at refl (same_transactions (owner_of a.participant) (a.participant.past ++ e ∷ []) (λ x k. in_front x a.participant.past (e ∷ []) k)) w.writes.history w.locks s.locks;
-      holders = holders_more w.actors by a b e at refl refl w.opened w.writes.history w.locks may.accounted s.holders;
+      holders = holders_more w.actors by a b e at refl refl w.opened w.writes.history w.locks may.accounted may.locked_for s.holders;
       board = board_more w.actors by a b e at refl refl (world.published w) w.locks may.labelled may.was_told may.not_told s.board;
       faults = faults_more w.actors by a b e at refl refl w.writes w.installed.halted may.quiet may.stopped_at s.faults;
       edits = edits_more w.actors by a b e at refl refl w.first_edit w.installed may.quiet may.was_installed s.edits;
@@ -116,6 +117,7 @@ no_quarrel : (w : World) (by : ℕ) (n : ℕ) → (w.writes.closed ≡ true) × 
 no_quarrel w by n is = record {
   quiet = record { log = refl; tables = refl; due = λ m. refl };
   accounted = λ key holder seen account q. absurd cc;
+  locked_for = λ key holder seen account q. absurd cc;
   labelled = λ label m q. absurd (⊎_elim (λ (r : stopped n ≡ told label m). cc) (λ (r : stopped n ≡ heard label m). cc) q);
   was_told = λ label m q. absurd cc;
   not_told = λ label m q. absurd cc;
@@ -146,6 +148,7 @@ finds_flushed w by a at n s =
     remembering w by a e find_flushed at (holder_lives w by a tables_turn at n s) (record {
       quiet = record { log = refl; tables = refl; due = λ m. refl };
       accounted = λ key holder seen account q. absurd cc;
+      locked_for = λ key holder seen account q. absurd cc;
       labelled = λ label m q. absurd (⊎_elim (λ (r : e ≡ told label m). cc) (λ (r : e ≡ heard label m). cc) q);
       was_told = λ label m q. absurd cc;
       not_told = λ label m q. absurd cc;
@@ -159,6 +162,7 @@ hears w by a label n at needs s =
     remembering w by a (heard label n) (hear label n) at (holder_lives w by a locks_turn at needs.0 s) (record {
       quiet = record { log = refl; tables = refl; due = λ m. refl };
       accounted = λ key holder seen account q. absurd cc;
+      locked_for = λ key holder seen account q. absurd cc;
       labelled = λ other m q. ⊎_elim
           (λ (r : heard label n ≡ told other m). absurd cc)
           (λ (r : heard label n ≡ heard other m). let there : is_some (finite.get w.locks.labels label) ≡ true = ap is_some needs.1 in subst (λ (l : List ℕ). is_some (finite.get w.locks.labels l) ≡ true) (ap at_label r) there) q;
@@ -238,6 +242,9 @@ abbrev seen_in : Event → ℕ
 seen_in (found key holder seen account) = seen
 seen_in other = 0
 
+held_key : (w : World) (key : List ℕ) (holder : Holder) → IsSound w → IsHolder w (Some key) holder → WasLocked w.opened (participants past_of w) key holder
+held_key w key holder s h = s.holders.keys key holder h
+
 pub finds_holder : (w : World) (by : ℕ) (a : Actor) (key : Option (List ℕ)) (holder : Holder) (account : Account) → get_elem? w.actors by ≡ some a → Needs w by a (find_holder key holder account) → IsSound w
     → IsSound (done w by (forgets w.writes.history (length w.cache) (find_holder key holder account) a) (find_holder key holder account))
 finds_holder w by a key holder account at needs s =
@@ -249,6 +256,7 @@ finds_holder w by a key holder account at needs s =
       accounted = λ k h n c q.
           subst (λ (z : Option (List ℕ)). Is z h n c) (ap key_in q) (subst (λ (z : Holder). Is key z n c) (ap holder_in q)
           (subst (λ (z : ℕ). Is key holder z c) (ap seen_in q) (subst (λ (z : Account). Is key holder seen z) (ap account_in q) (accounts w by a key holder account at s needs.2))));
+      locked_for = λ k h n c q. held_key w k h s (subst (λ (z : Option (List ℕ)). IsHolder w z h) (ap key_in q) (subst (λ (z : Holder). IsHolder w key z) (ap holder_in q) needs.1));
       labelled = λ label m q. absurd (⊎_elim (λ (r : e ≡ told label m). cc) (λ (r : e ≡ heard label m). cc) q);
       was_told = λ label m q. absurd cc;
       not_told = λ label m q. absurd cc;

@@ -122,7 +122,7 @@ module _ (w : World) (by : ℕ) (a : Actor) (label : List ℕ) (at : get_elem? w
       record { prepared_names = k.prepared_names; prepared_keys = k.prepared_keys; had = λ j i o there. let c = k.had j i o there in record { names = c.names; keys = c.keys; direct = c.direct }; apart = k.apart; names_had = k.names_had; names_left = k.names_left; keys_live = k.keys_live; keys_known = k.keys_known; keys_direct = k.keys_direct }
 
   holders_part : AreHolders w.opened w.writes.history t after
-  holders_part = let k = holders_more w.actors by a b e at refl refl w.opened w.writes.history w.locks (λ key holder seen account q. absurd cc) s.holders in record { names = k.names; keys = k.keys; found = k.found }
+  holders_part = let k = holders_more w.actors by a b e at refl refl w.opened w.writes.history w.locks (λ key holder seen account q. absurd cc) (λ key holder seen account q. absurd cc) s.holders in record { names = k.names; keys = k.keys; found_keys = k.found_keys; found = k.found }
 
   parts : LocksParts w by a (tell label) p [] t
   parts = record {

@@ -27,12 +27,12 @@ use Rattle.wp_core.specs.Tables.{Store, InstalledEdit, Installed, NoneDelayed}
 use Rattle.wp_core.specs.Reading.{Registration}
 use Rattle.wp_core.specs.Views.{Event, Fact, told, heard, stopped, found_flushed, found}
 use Rattle.wp_core.specs.World.{World, Actor, Participant, Transaction, new_actor, new_participant, content_of}
-use Rattle.wp_core.specs.Runs.{IsOpening, AreOpened, prepare_holding, named_by}
+use Rattle.wp_core.specs.Runs.{IsOpening, AreOpened, named_by}
 use Rattle.wp_core.specs.Sound.Actors.{StartsWith, once, AreHeld, Role, IsParticipantAt}
 use Rattle.wp_core.specs.Sound.History.{logged_part}
 use Rattle.wp_core.specs.Sound.Snapshots.{count_of}
 use Rattle.wp_core.specs.Sound.Store.{IsStored, NoneFlushed}
-use Rattle.wp_core.specs.Sound.Locks.{Owner, owner_of, IsOwner}
+use Rattle.wp_core.specs.Sound.Locks.{prepare_holding, Owner, owner_of, IsOwner}
 use Rattle.wp_core.specs.Sound.Pasts.{IsPast, tables_due}
 use Rattle.wp_core.specs.IsSound.{IsSound}
 use Rattle.wp_core.proofs.HistoryLaws.{decision_within, undecided_not_decided}
@@ -225,7 +225,8 @@ module _ (opened : List Entry) (cache : List ℕ) (flag : ℕ) (logged : Bool) (
     };
     holders = record {
       names = λ name live. inr (was_named name live);
-      keys = λ key c e. absurd (no_client_holds opened (holder_of opened key) c (sym (locks.keys key) ∙ e));
+      keys = λ key holder e. inr (sym (locks.keys key) ∙ e);
+      found_keys = λ key holder seen account k. absurd (no_past (found (Some key) holder seen account) k);
       found = λ j i key holder seen account k. absurd (no_past (found key holder seen account) (j, i, k));
     };
     board = record { labels = λ label n e. ⊎_elim (λ k. absurd (no_past (told label n) k)) (λ k. absurd (no_past (heard label n) k)) e; numbers = λ label n e. absurd (none_some _ n (no_label label) e); heard = λ label n k. absurd (no_past (heard label n) k); told = λ label n k. absurd (no_past (told label n) k) };

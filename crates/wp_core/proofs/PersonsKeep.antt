@@ -19,7 +19,7 @@ use Rattle.wp_core.specs.World.{Actor, Participant, Transaction}
 use Rattle.wp_core.specs.Sound.Actors.{participants_of, IsParticipantAt, StartsWith, seen_of, own_of, times, AreSeen, AreOwned}
 use Rattle.wp_core.specs.Sound.Snapshots.{registered_of, AreBelowCommitted, AreRegistered}
 use Rattle.wp_core.specs.Sound.Locks.{Owner, owner_of, Has, IsOwner, AreLocked}
-use Rattle.wp_core.specs.Sound.Pasts.{past_of, HasDone, IsPast, IsAccounted, AreHolders, IsBoard, is_log_fault, is_tables_fault, AreFaults, WasInstalled, due_after, tables_due, OtherCompacts, AreEdits}
+use Rattle.wp_core.specs.Sound.Pasts.{past_of, HasDone, IsPast, IsAccounted, WasLocked, AreHolders, IsBoard, is_log_fault, is_tables_fault, AreFaults, WasInstalled, due_after, tables_due, OtherCompacts, AreEdits}
 use Rattle.wp_core.proofs.Persons.{IsNone, Moves, same_there, apart_still, CameWith, IsOfNone, came_from, goes_to, total_same}
 
 -- ---- what one has that has nothing
@@ -183,12 +183,17 @@ module _ (row place : ℕ → ℕ → ℕ) (history : List Entry) (xs ys : List 
   accounted_moved j i key (Txn name) seen (prepare_at n) k = k
   accounted_moved j i key (Client name) seen (prepare_at n) k = k
 
+  key_moved : (opened : List Entry) (key : List ℕ) (holder : Holder) → WasLocked opened (pasts xs) key holder → WasLocked opened (pasts ys) key holder
+  key_moved opened key holder (inl k) = inl (past_moved _ k)
+  key_moved opened key holder (inr k) = inr k
+
   pub holders_moved : (opened : List Entry) (t : LockTables) → AreHolders opened history t (pasts xs) → AreHolders opened history t (pasts ys)
   holders_moved opened t k = record {
     names = λ name h. ⊎_elim
         (λ c. inl (⊎_elim (λ p. inl (past_moved _ p)) (λ p. inr (past_moved _ p)) c))
         (λ c. inr c) (k.names name h);
-    keys = λ key client h. past_moved _ (k.keys key client h);
+    keys = λ key holder h. key_moved opened key holder (k.keys key holder h);
+    found_keys = λ key holder seen account h. key_moved opened key holder (k.found_keys key holder seen account (past_was _ h));
     found = λ j i key holder seen account h.
         let o = done_was j i (found key holder seen account) h in
         let is = accounted_moved o.at o.at_place key holder seen account (k.found o.at o.at_place key holder seen account o.done) in

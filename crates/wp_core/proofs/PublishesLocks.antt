@@ -104,7 +104,7 @@ module _ (history : List Entry) (entry : Entry) (legal : IsLegal (history ++ ent
   accounted_grows pasts j i key (Client name) seen (prepare_at n) k = k
 
   pub holders_part : (opened : List Entry) (t : LockTables) (pasts : List (List (List Event))) → AreHolders opened history t pasts → AreHolders opened grown t pasts
-  holders_part opened t pasts k = record { names = k.names; keys = k.keys; found = λ j i key holder seen account h. accounted_grows pasts j i key holder seen account (k.found j i key holder seen account h) }
+  holders_part opened t pasts k = record { names = k.names; keys = k.keys; found_keys = k.found_keys; found = λ j i key holder seen account h. accounted_grows pasts j i key holder seen account (k.found j i key holder seen account h) }
 
   pub board_part : (t : LockTables) (pasts : List (List (List Event))) → IsBoard (length history) t pasts → IsBoard (length grown) t pasts
   board_part t pasts k = record { labels = k.labels; numbers = k.numbers; heard = k.heard; told = λ label n p. let low = k.told label n p in let l = grown_length history entry legal in omega (arith, low, l) }

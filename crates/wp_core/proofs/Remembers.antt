@@ -1,5 +1,5 @@
 -- What is so of all pasts, once one actor's past has an event more that installs nothing and is no fault.
-use Rattle.std.proofs.Common.{◌≡◌, ◌⊎◌, ⊎_elim, inl, inr, ℕ, ◌≤◌, Bool, true, false, List, [], ◌∷◌, ◌++◌, length, map, set, sym, subst, ap, ◌∙◌, arith, Option, is_some}
+use Rattle.std.proofs.Common.{◌≡◌, ◌⊎◌, ⊎_elim, inl, inr, ℕ, ◌≤◌, Bool, true, false, List, [], ◌∷◌, ◌++◌, length, map, set, sym, subst, ap, ◌∙◌, arith, Option, is_some, Some}
 use Rattle.std.proofs.lemmas.List.Sums.{fold-append}
 use mathlib.Core.Option.{some}
 use lib.ListN.{get_elem?}
@@ -9,10 +9,10 @@ use Rattle.wp_model.specs.declared.holder.Holder.{Holder}
 use Rattle.wp_model.specs.declared.holder.Holder.TheVariants.{Txn, Client}
 use Rattle.wp_model.specs.LockTables.{LockTables}
 use Rattle.wp_core.specs.Tables.{WriteTable, InstalledEdit, Installed}
-use Rattle.wp_core.specs.Views.{Account, own, another, prepare_at, Event, told, heard, stopped, found_flushed, found}
+use Rattle.wp_core.specs.Views.{Account, own, another, prepare_at, Event, locked, told, heard, stopped, found_flushed, found}
 use Rattle.wp_core.specs.World.{Actor}
 use Rattle.wp_core.specs.Sound.Actors.{participants_of, IsParticipantAt}
-use Rattle.wp_core.specs.Sound.Pasts.{past_of, IsPast, IsAccounted, AreHolders, IsBoard, is_log_fault, is_tables_fault, AreFaults, WasInstalled, due_after, tables_due, OtherCompacts, AreEdits}
+use Rattle.wp_core.specs.Sound.Pasts.{past_of, IsPast, IsAccounted, WasLocked, AreHolders, IsBoard, is_log_fault, is_tables_fault, AreFaults, WasInstalled, due_after, tables_due, OtherCompacts, AreEdits}
 use Rattle.wp_core.proofs.AllParticipants.{mine, was}
 use Rattle.wp_core.proofs.PastsGrow.{done_still, done_before, past_still, past_before, times_more}
 
@@ -35,13 +35,19 @@ module _ (xs : List Actor) (by : ℕ) (a b : Actor) (e : Event) (at : get_elem? 
   accounted_still history j i key (Txn name) seen (prepare_at n) k = k
   accounted_still history j i key (Client name) seen (prepare_at n) k = k
 
+  key_still : (opened : List Entry) (key : List ℕ) (holder : Holder) → WasLocked opened before key holder → WasLocked opened after key holder
+  key_still opened key holder (inl k) = inl (past_still xs by a b e at same grown (locked key holder) k)
+  key_still opened key holder (inr k) = inr k
+
   pub holders_more : (opened history : List Entry) (t : LockTables) → ((key : Option (List ℕ)) (holder : Holder) (seen : ℕ) (account : Account) → e ≡ found key holder seen account → IsAccounted history before by 0 key holder seen account)
+      → ((key : List ℕ) (holder : Holder) (seen : ℕ) (account : Account) → e ≡ found (Some key) holder seen account → WasLocked opened before key holder)
       → AreHolders opened history t before → AreHolders opened history t after
-  holders_more opened history t new k = record {
+  holders_more opened history t new new_key k = record {
     names = λ name h. ⊎_elim
         (λ c. inl (⊎_elim (λ p. inl (past_still xs by a b e at same grown _ p)) (λ p. inr (past_still xs by a b e at same grown _ p)) c))
         (λ c. inr c) (k.names name h);
-    keys = λ key client h. past_still xs by a b e at same grown _ (k.keys key client h);
+    keys = λ key holder h. key_still opened key holder (k.keys key holder h);
+    found_keys = λ key holder seen account h. ⊎_elim (λ c. key_still opened key holder (k.found_keys key holder seen account c)) (λ c. key_still opened key holder (new_key key holder seen account c)) (past_before xs by a b e at same grown (found (Some key) holder seen account) h);
     found = λ j i key holder seen account h. ⊎_elim
         (λ c. accounted_still history j i key holder seen account (k.found j i key holder seen account c))
         (λ (c : (j ≡ by) × (i ≡ 0) × (e ≡ found key holder seen account)).

@@ -1,5 +1,5 @@
 -- A step of who holds the tables turn: it changes what is installed, and the actor remembers it.
-use Rattle.std.proofs.Common.{◌≡◌, ◌≢◌, ◌⊎◌, ⊎_elim, inl, inr, ℕ, ◌≤◌, not, true, List, [], ◌∷◌, ◌++◌, length, map, set, refl, sym, subst, Option}
+use Rattle.std.proofs.Common.{◌≡◌, ◌≢◌, ◌⊎◌, ⊎_elim, inl, inr, ℕ, ◌≤◌, not, true, List, [], ◌∷◌, ◌++◌, length, map, set, refl, sym, subst, Option, Some}
 use mathlib.Core.Option.{some}
 use lib.ListN.{get_elem?}
 use Rattle.wp_model.specs.declared.holder.Holder.{Holder}
@@ -110,7 +110,7 @@ module _ (w : World) (by : ℕ) (a : Actor) (step : Step) (e : Event) (t : Insta
         versions = k.stored;
         flushed = λ free. absurd (not_free w.holders tables_turn by holds free);
         locks = locked_still w.actors by a b at refl (same_transactions (owner_of a.participant) (a.participant.past ++ e ∷ []) (λ x there. in_front x a.participant.past (e ∷ []) there)) w.writes.history w.locks s.locks;
-        holders = holders_more w.actors by a b e at refl refl w.opened w.writes.history w.locks (λ key holder seen account q. absurd (k.event.finds_none key holder seen account q)) s.holders;
+        holders = holders_more w.actors by a b e at refl refl w.opened w.writes.history w.locks (λ key holder seen account q. absurd (k.event.finds_none key holder seen account q)) (λ key holder seen account q. absurd (k.event.finds_none (Some key) holder seen account q)) s.holders;
         board = board_more w.actors by a b e at refl refl (world.published w) w.locks (λ label n q. absurd (k.event.no_label label n q)) (λ label n q. absurd (k.event.no_label label n (inr q))) (λ label n q. k.event.no_label label n (inl q)) s.board;
         faults = k.faults;
         edits = k.edits;

@@ -5,10 +5,8 @@ use lib.ListN.{get_elem?}
 use Rattle.std.specs.FinSet as set
 use Rattle.std.specs.FinMap as finite
 use Rattle.wp_model.specs.declared.entry.Entry.{Entry}
-use Rattle.wp_model.specs.History.{named, undecided, name_at, holder_of}
+use Rattle.wp_model.specs.History.{named, undecided, holder_of}
 use Rattle.wp_model.specs.Legal.{IsLegal, undone_last}
-use Rattle.wp_model.specs.declared.holder.Holder.{Holder}
-use Rattle.wp_model.specs.declared.holder.Holder.TheVariants.{Txn}
 use Rattle.wp_core.specs.Turns.{all_free}
 use Rattle.wp_model.specs.LockTables.{LockTables}
 use Rattle.wp_core.specs.World.{Actor, World, new_actor}
@@ -16,6 +14,7 @@ use Rattle.wp_core.specs.Steps.{Step}
 use Rattle.wp_core.specs.Effects.{done}
 use Rattle.wp_core.specs.Needs.{Needs}
 use Rattle.wp_core.specs.Notes.{forgets}
+use Rattle.wp_core.specs.Sound.Locks.{prepare_holding}
 use Rattle.wp_core.specs.Sound.Store.{IsStored, NoneFlushed}
 
 -- one step of an actor
@@ -26,11 +25,6 @@ IsStep w by step next = (a : Actor) × (get_elem? w.actors by ≡ some a) × Nee
 abbrev pub named_by : Option ℕ → Option (Option (List ℕ))
 named_by None = None
 named_by (Some p) = Some None
-
--- the transaction that holds the key by an undecided prepare
-abbrev pub prepare_holding : List Entry → Option ℕ → Option Holder
-prepare_holding history None = None
-prepare_holding history (Some p) = Some (Txn (name_at history p))
 
 -- just the names of undecided prepares are live, had by nobody, and just their keys are held
 pub record AreOpened (history : List Entry) (t : LockTables) : Type 0 where

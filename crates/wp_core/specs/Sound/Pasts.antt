@@ -2,7 +2,7 @@
 use Rattle.std.specs.Prelude.{◌≡◌, ◌≢◌, ◌⊎◌, ℕ, ◌+◌, ◌≤◌, Bool, true, false, List, [], length, take, fold, Option, Some, is_some}
 use Rattle.std.specs.FinMap as finite
 use Rattle.wp_model.specs.declared.entry.Entry.{Entry}
-use Rattle.wp_model.specs.History.{named}
+use Rattle.wp_model.specs.History.{named, holder_of}
 use Rattle.wp_model.specs.declared.holder.Holder.{Holder}
 use Rattle.wp_model.specs.declared.holder.Holder.TheVariants.{Txn, Client}
 use Rattle.wp_core.specs.Lists.{IsIn, one_if, total}
@@ -11,6 +11,7 @@ use Rattle.wp_core.specs.Tables.{WriteTable, InstalledEdit, Installed}
 use Rattle.wp_core.specs.Views.{Account, own, another, prepare_at, Event, claimed, took, locked, told, heard, installed, log_failed, tables_failed, stopped, found_flushed, found}
 use Rattle.wp_core.specs.World.{Participant}
 use Rattle.wp_core.specs.Sound.Actors.{IsParticipantAt, total_participants}
+use Rattle.wp_core.specs.Sound.Locks.{prepare_holding}
 
 abbrev pub past_of : Participant → List Event
 past_of p = p.past
@@ -44,10 +45,16 @@ IsAccounted history pasts j i key holder seen another = (k l : ℕ) × (e : Even
 IsAccounted history pasts j i key (Txn name) seen (prepare_at n) = (seen ≤ n) × (n ≤ length history) × (is_some (named (take n history) name) ≡ true)
 IsAccounted history pasts j i key (Client name) seen (prepare_at n) = ⊥
 
--- a live name was claimed or taken, or comes from the opening; a key of a direct write was locked; what was found is accounted for
+-- the key was locked for the holder, or is one of a prepare that was undecided at the opening
+abbrev pub WasLocked : List Entry → List (List (List Event)) → List ℕ → Holder → Type 0
+WasLocked opened pasts key holder = IsPast pasts (locked key holder) ⊎ (prepare_holding opened (holder_of opened key) ≡ Some holder)
+
+-- A live name was claimed or taken, or comes from the opening, and so does each key that is held. Who was found is accounted
+-- for, and so is its key.
 pub record AreHolders (opened history : List Entry) (t : LockTables) (pasts : List (List (List Event))) : Type 0 where
   pub names : (name : List ℕ) → is_some (finite.get t.names name) ≡ true → (IsPast pasts (claimed name) ⊎ IsPast pasts (took name)) ⊎ (is_some (named opened name) ≡ true)
-  pub keys : (key client : List ℕ) → finite.get t.keys key ≡ Some (Client client) → IsPast pasts (locked key (Client client))
+  pub keys : (key : List ℕ) (holder : Holder) → finite.get t.keys key ≡ Some holder → WasLocked opened pasts key holder
+  pub found_keys : (key : List ℕ) (holder : Holder) (seen : ℕ) (account : Account) → IsPast pasts (found (Some key) holder seen account) → WasLocked opened pasts key holder
   pub found : (j i : ℕ) (key : Option (List ℕ)) (holder : Holder) (seen : ℕ) (account : Account) → HasDone pasts j i (found key holder seen account) → IsAccounted history pasts j i key holder seen account
 
 -- ---- the board
