@@ -16,7 +16,7 @@ use Rattle.wp_core.proofs.AllParticipants.{mine}
 use Rattle.wp_core.proofs.Quiet.{SoIn}
 use Rattle.wp_core.proofs.KeepsRemembered.{from_map}
 use Rattle.wp_core.proofs.Persons.{IsPersonAt, Moves}
-use Rattle.wp_core.proofs.PersonsKeep.{seen_moved, owned_moved, registered_moved, locked_moved, holders_moved, board_moved, faults_moved, edits_moved}
+use Rattle.wp_core.proofs.PersonsKeep.{seen_moved, owned_moved, registered_moved, viewed_moved, locked_moved, holders_moved, board_moved, faults_moved, edits_moved}
 
 -- ---- the parts that speak of actors
 
@@ -53,6 +53,7 @@ actors_move row place w actors by a at m k s = record {
   held = k.held;
   have = k.have;
   readers = k.readers;
+  viewed = viewed_moved row place w.writes.history w.actors actors m s.viewed;
   judged = k.judged;
   noted = k.noted;
   led = k.led;

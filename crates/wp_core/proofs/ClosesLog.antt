@@ -13,8 +13,8 @@ use Rattle.wp_core.specs.Changes.{held_with, remembers}
 use Rattle.wp_core.specs.Effects.{done}
 use Rattle.wp_core.specs.Needs.{Needs}
 use Rattle.wp_core.specs.Notes.{forgets, ends}
-use Rattle.wp_core.specs.Sound.Actors.{seen_of, own_of, AreSeen, AreLearned, AreOwned, AreHeld, AreLed, participants_of, learned_of, held_of, role_of}
-use Rattle.wp_core.specs.Sound.Snapshots.{registered_of, AreRegistered}
+use Rattle.wp_core.specs.Sound.Actors.{seen_of, own_of, AreSeen, AreLearned, AreOwned, AreHeld, AreLed, participants_of, learned_of, held_of, role_of, EachParticipant}
+use Rattle.wp_core.specs.Sound.Snapshots.{registered_of, AreRegistered, view_of, HasSeen}
 use Rattle.wp_core.specs.Sound.History.{IsHistory}
 use Rattle.wp_core.specs.Sound.Locks.{owner_of}
 use Rattle.wp_core.specs.Sound.Pasts.{past_of, AreFaults, is_log_fault, is_tables_fault}
@@ -132,6 +132,7 @@ module _ (w : World) (by : ℕ) (a : Actor) (at : get_elem? w.actors by ≡ some
         (λ j x ne there. others_hold w e by j x n.0 ne (s.held j x there));
     have = have_changed w.holders e by w.actors a b at refl s.have;
     readers = kept_part w by a b at reader_of (AreReaders w.writes.history w.max_evicted w.cache) refl s.readers;
+    viewed = kept_part w by a b at (participants_of view_of) (EachParticipant HasSeen) refl s.viewed;
     judged = kept_part w by a b at reader_of (AreJudged w.writes.history) refl s.judged;
     noted = each_map_set noter_of (λ j x. (fact : Fact) → IsIn fact x.1 → IsNoted w.holders (SoPending w d) j x fact) w.actors by b
         (λ fact there. let left = in_filter (λ (f : Fact). not (ends w.writes.history (length w.cache) close_log f)) fact a.notes there in let m = s.noted by (noter_of a) (at_map noter_of w.actors by a at) fact left.0 in record { guarded = m.guarded; is_so = so_closed fact m.is_so })

@@ -1,5 +1,5 @@
 -- A step that takes a transaction from the actor that has it, with its name left or gone, keeps a world sound.
-use Rattle.std.proofs.Common.{◌≡◌, ◌≢◌, ◌⊎◌, not, ⊎_elim, inl, ℕ, true, List, length, map, refl, sym, subst, ap, ◌∙◌, Some, None, is_some}
+use Rattle.std.proofs.Common.{◌≡◌, ◌≢◌, ◌⊎◌, not, ⊎_elim, inl, ℕ, true, List, length, map, refl, sym, subst, ap, ◌∙◌, Some, None, is_some, arith}
 use mathlib.Core.Option.{some}
 use lib.ListN.{get_elem?}
 use Rattle.std.specs.FinMap as finite
@@ -212,6 +212,7 @@ module _ (w : World) (by : ℕ) (a : Actor) (name : List ℕ) (x0 : Transaction)
   dropped_parts = record {
     seen = s.seen by 0 a.participant.seen (mine seen_of w.actors by a b at refl);
     learned_part = s.learned by a.learned (at_map learned_of w.actors by a at);
+    grown = omega arith;
     own = refl;
     registered = refl;
     locks_part = locked_part;

@@ -1,5 +1,5 @@
 -- Freeing the key of a direct write keeps every part of a sound world.
-use Rattle.std.proofs.Common.{◌≡◌, ◌≢◌, ◌⊎◌, ⊎_elim, inl, ℕ, true, not, true≢false, List, length, map, refl, sym, subst, ap, ◌∙◌, Some, None}
+use Rattle.std.proofs.Common.{◌≡◌, ◌≢◌, ◌⊎◌, ⊎_elim, inl, ℕ, true, not, true≢false, List, length, map, refl, sym, subst, ap, ◌∙◌, Some, None, arith}
 use mathlib.Core.Option.{some}
 use lib.ListN.{get_elem?}
 use Rattle.std.specs.FinMap as finite
@@ -184,6 +184,7 @@ module _ (w : World) (by : ℕ) (a : Actor) (key : List ℕ) (at : get_elem? w.a
   parts = record {
     seen = s.seen by 0 a.participant.seen (mine seen_of w.actors by a b at refl);
     learned_part = s.learned by a.learned (at_map learned_of w.actors by a at);
+    grown = omega arith;
     own = refl;
     registered = refl;
     locks_part = locked_part;

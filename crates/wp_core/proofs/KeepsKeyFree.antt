@@ -1,5 +1,5 @@
 -- Freeing a key of a transaction keeps every part of a sound world.
-use Rattle.std.proofs.Common.{◌≡◌, ◌≢◌, ◌⊎◌, ◌&&◌, Bool, not, ⊎_elim, inl, inr, ℕ, true, false, true≢false, List, length, map, refl, sym, subst, ap, ◌∙◌, Some, None}
+use Rattle.std.proofs.Common.{◌≡◌, ◌≢◌, ◌⊎◌, ◌&&◌, Bool, not, ⊎_elim, inl, inr, ℕ, true, false, true≢false, List, length, map, refl, sym, subst, ap, ◌∙◌, Some, None, arith}
 use mathlib.Core.Option.{some}
 use lib.ListN.{get_elem?}
 use Rattle.std.specs.FinSet as words
@@ -275,6 +275,7 @@ module _ (w : World) (by : ℕ) (a : Actor) (name : List ℕ) (x0 : Transaction)
   parts = record {
     seen = s.seen by 0 a.participant.seen (mine seen_of w.actors by a b at refl);
     learned_part = s.learned by a.learned (at_map learned_of w.actors by a at);
+    grown = omega arith;
     own = refl;
     registered = refl;
     locks_part = locked_part;

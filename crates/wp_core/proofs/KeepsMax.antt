@@ -13,9 +13,9 @@ use Rattle.wp_core.specs.Steps.{store_max_evicted}
 use Rattle.wp_core.specs.Effects.{done}
 use Rattle.wp_core.specs.Needs.{Needs}
 use Rattle.wp_core.specs.Notes.{forgets, ends}
-use Rattle.wp_core.specs.Sound.Actors.{seen_of, own_of, AreSeen, AreLearned, AreOwned, AreHeld, AreLed, IsIdle, participants_of, learned_of, held_of, role_of}
+use Rattle.wp_core.specs.Sound.Actors.{seen_of, own_of, AreSeen, AreLearned, AreOwned, AreHeld, AreLed, IsIdle, participants_of, learned_of, held_of, role_of, EachParticipant}
 use Rattle.wp_core.specs.Sound.Prepared.{AreFlags}
-use Rattle.wp_core.specs.Sound.Snapshots.{registered_of, AreRegistered}
+use Rattle.wp_core.specs.Sound.Snapshots.{registered_of, AreRegistered, view_of, HasSeen}
 use Rattle.wp_core.specs.Sound.Locks.{owner_of, AreLocked}
 use Rattle.wp_core.specs.Sound.Pasts.{past_of, AreHolders, IsBoard, AreFaults, AreEdits}
 use Rattle.wp_core.specs.Sound.Reader.{AreReaders, AreJudged, reader_of}
@@ -189,6 +189,7 @@ stores_max w by a m at n s =
     let b : Actor = record c { held = held_with c.held e } in
     let sn : map (participants_of seen_of) (set w.actors by b) ≡ participants seen_of w = kept_map (participants_of seen_of) w.actors by a b at refl in
     let ow : map (participants_of own_of) (set w.actors by b) ≡ participants own_of w = kept_map (participants_of own_of) w.actors by a b at refl in
+    let vs : map (participants_of view_of) (set w.actors by b) ≡ participants view_of w = kept_map (participants_of view_of) w.actors by a b at refl in
     let rg : map (participants_of registered_of) (set w.actors by b) ≡ participants registered_of w = kept_map (participants_of registered_of) w.actors by a b at refl in
     let os : map (participants_of owner_of) (set w.actors by b) ≡ participants owner_of w = kept_map (participants_of owner_of) w.actors by a b at refl in
     let ps : map (participants_of past_of) (set w.actors by b) ≡ participants past_of w = kept_map (participants_of past_of) w.actors by a b at refl in
@@ -219,6 +220,7 @@ stores_max w by a m at n s =
           (λ j x ne there. others_hold w e by j x n.1 ne (s.held j x there));
       have = have_changed w.holders e by w.actors a b at refl s.have;
       readers = subst (AreReaders w.writes.history m w.cache) (sym rs) (λ j x there r is. reader_after w m x.0 r n.2 (s.readers j x there r is));
+      viewed = subst (EachParticipant HasSeen) (sym vs) s.viewed;
       judged = subst (AreJudged w.writes.history) (sym rs) s.judged;
       noted = each_map_set noter_of (λ j x. (fact : Fact) → IsIn fact x.1 → IsNoted w.holders (IsSo w.delayed_flag w.old_flag m w.cache w.writes (with_moved w.prepared m) w.snapshots w.store w.locks w.installed) j x fact) w.actors by b
           (λ fact there. let k = in_filter (λ (f : Fact). not (ends w.writes.history (length w.cache) (store_max_evicted m) f)) fact a.notes there in let o = s.noted by (noter_of a) (at_map noter_of w.actors by a at) fact k.0 in

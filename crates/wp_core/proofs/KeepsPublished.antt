@@ -6,6 +6,8 @@ use Rattle.wp_model.specs.declared.entry.Entry.{Entry}
 use Rattle.wp_model.specs.Covered.{is_among}
 use Rattle.wp_model.specs.Decision.{version_in}
 use Rattle.wp_model.specs.Versions.{version_at}
+use Rattle.wp_core.proofs.AllParticipants.{mine}
+use Rattle.wp_core.proofs.KeepsSeen.{shorter}
 use Rattle.wp_core.specs.Lists.{IsIn}
 use Rattle.wp_core.specs.Conditions.{MayPublish}
 use Rattle.wp_core.specs.Entries.{next_of}
@@ -19,7 +21,7 @@ use Rattle.wp_core.specs.Effects.{done, publishes, with_entry}
 use Rattle.wp_core.specs.Needs.{Needs}
 use Rattle.wp_core.specs.Notes.{forgets, ends}
 use Rattle.wp_core.specs.Sound.Actors.{seen_of, StartsWith, AreHeld, AreLed, participants_of, learned_of, held_of, role_of, IsParticipantAt}
-use Rattle.wp_core.specs.Sound.Snapshots.{registered_of, AreRegistered}
+use Rattle.wp_core.specs.Sound.Snapshots.{registered_of, AreRegistered, view_of, HasSeen}
 use Rattle.wp_core.specs.Sound.Locks.{owner_of, AreLocked}
 use Rattle.wp_core.specs.Sound.Pasts.{past_of, AreHolders, IsBoard, AreFaults, AreEdits}
 use Rattle.wp_core.specs.Sound.Reader.{AreReaders, AreJudged, reader_of}
@@ -107,6 +109,7 @@ module _ (w : World) (by : ℕ) (a : Actor) (entry : Entry) (others : List Entry
         (λ j x ne there. others_hold w e by j x n.turn ne (s.held j x there));
     have = have_changed w.holders e by w.actors a b at refl s.have;
     readers = kept_part w by a b at reader_of (AreReaders grown w.max_evicted w.cache) refl (readers_part history entry n.legal w.snapshots w.max_evicted w.cache w.actors s.registrations s.readers);
+    viewed = each_person_set view_of HasSeen w.actors by a b at (λ r h. let low = s.viewed by 0 (view_of a.participant) (mine view_of w.actors by a a at refl) r h in let more = shorter history a.participant.seen (s.seen by 0 a.participant.seen (mine seen_of w.actors by a a at refl)) in let l = length-append history (entry ∷ []) in omega (arith, low, more, l)) refl s.viewed;
     judged = kept_part w by a b at reader_of (AreJudged grown) refl (judged_part history entry n.legal w.snapshots w.max_evicted w.cache w.actors s.registrations s.readers s.judged);
     noted = each_map_set noter_of (λ j x. (fact : Fact) → IsIn fact x.1 → IsNoted w.holders (SoPending w d) j x fact) w.actors by b
         (λ fact there. let left = in_filter (λ (f : Fact). not (ends history (length w.cache) (store_published entry others) f)) fact a.notes there in let m = s.noted by (noter_of a) (at_map noter_of w.actors by a at) fact left.0 in record { guarded = m.guarded; is_so = mine_grows w by a entry others at n s fact left.1 m.is_so })

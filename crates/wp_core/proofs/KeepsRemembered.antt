@@ -19,8 +19,8 @@ use Rattle.wp_core.specs.Effects.{done}
 use Rattle.wp_core.specs.Needs.{Needs}
 use Rattle.wp_core.specs.Conditions.{Accounts, IsHolder, IsSelf}
 use Rattle.wp_core.specs.Notes.{forgets, ends}
-use Rattle.wp_core.specs.Sound.Actors.{seen_of, own_of, AreSeen, AreLearned, AreOwned, AreHeld, HoldersHave, AreLed, IsIdle, participants_of, learned_of, held_of, role_of, IsParticipantAt}
-use Rattle.wp_core.specs.Sound.Snapshots.{registered_of, AreRegistered}
+use Rattle.wp_core.specs.Sound.Actors.{seen_of, own_of, AreSeen, AreLearned, AreOwned, AreHeld, HoldersHave, AreLed, IsIdle, participants_of, learned_of, held_of, role_of, IsParticipantAt, EachParticipant}
+use Rattle.wp_core.specs.Sound.Snapshots.{registered_of, AreRegistered, view_of, HasSeen}
 use Rattle.wp_core.specs.Sound.Locks.{Owner, owner_of, Began}
 use Rattle.wp_core.specs.Sound.Pasts.{past_of, IsPast, Makes, HasDone, IsAccounted, WasLocked, WasInstalled}
 use Rattle.wp_core.specs.Sound.Reader.{AreReaders, AreJudged, reader_of}
@@ -75,6 +75,7 @@ remembering w by a e step at live may s =
     let b : Actor = remembers (forgets w.writes.history (length w.cache) step a) e in
     let sn : map (participants_of seen_of) (set w.actors by b) ≡ participants seen_of w = kept_map (participants_of seen_of) w.actors by a b at refl in
     let ow : map (participants_of own_of) (set w.actors by b) ≡ participants own_of w = kept_map (participants_of own_of) w.actors by a b at refl in
+    let vs : map (participants_of view_of) (set w.actors by b) ≡ participants view_of w = kept_map (participants_of view_of) w.actors by a b at refl in
     let rg : map (participants_of registered_of) (set w.actors by b) ≡ participants registered_of w = kept_map (participants_of registered_of) w.actors by a b at refl in
     let ts : map learned_of (set w.actors by b) ≡ map learned_of w.actors = kept_map learned_of w.actors by a b at refl in
     let hs : map held_of (set w.actors by b) ≡ map held_of w.actors = kept_map held_of w.actors by a b at refl in
@@ -102,6 +103,7 @@ remembering w by a e step at live may s =
       held = subst (Each (AreHeld w.holders (content_of w))) (sym hs) s.held;
       have = subst (HoldersHave w.holders) (sym hs) s.have;
       readers = subst (AreReaders w.writes.history w.max_evicted w.cache) (sym rs) s.readers;
+      viewed = subst (EachParticipant HasSeen) (sym vs) s.viewed;
       judged = subst (AreJudged w.writes.history) (sym rs) s.judged;
       noted = each_map_set noter_of (λ j x. (fact : Fact) → IsIn fact x.1 → IsNoted w.holders (SoIn w) j x fact) w.actors by b
           (λ fact there. let k = in_filter (λ (f : Fact). not (ends w.writes.history (length w.cache) step f)) fact a.notes there in let o = s.noted by (noter_of a) (at_map noter_of w.actors by a at) fact k.0 in

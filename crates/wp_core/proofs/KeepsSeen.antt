@@ -1,12 +1,13 @@
 -- A load of the published number keeps every part of a sound world.
-use Rattle.std.proofs.Common.{◌≡◌, ℕ, false, map, set, sym, subst}
+use Rattle.std.proofs.Common.{◌≡◌, ℕ, false, map, set, sym, subst, ◌≤◌, ◌++◌, length-append, arith, length}
 use mathlib.Core.Option.{some}
 use lib.ListN.{get_elem?}
+use Rattle.wp_core.proofs.AllParticipants.{mine}
 use Rattle.wp_core.specs.Lists.{Each, IsIn}
 use Rattle.wp_core.specs.Views.{Fact}
 use Rattle.wp_core.specs.World.{Actor, Participant, World, content_of}
 use Rattle.wp_core.specs.Sound.Actors.{seen_of, own_of, AreOwned, AreHeld, HoldersHave, AreLed, IsIdle, participants_of, learned_of, held_of, role_of}
-use Rattle.wp_core.specs.Sound.Snapshots.{registered_of, AreRegistered}
+use Rattle.wp_core.specs.Sound.Snapshots.{registered_of, AreRegistered, view_of, HasSeen}
 use Rattle.wp_core.specs.Sound.Locks.{owner_of, AreLocked}
 use Rattle.wp_core.specs.Sound.Pasts.{past_of, AreHolders, IsBoard, AreFaults, AreEdits}
 use Rattle.wp_core.specs.Sound.Reader.{reader_of}
@@ -50,6 +51,9 @@ so_after w a (old_flag_stays value) k = k
 whole : (history : List Entry) → StartsWith history history
 whole history = ([], sym (append-nil history))
 
+pub shorter : (history seen : List Entry) → StartsWith history seen → length seen ≤ length history
+shorter history seen k = let l = length-append seen k.0 in let q : length history ≡ length (seen ++ k.0) = ap length k.1 in omega (arith, l, q)
+
 pub loads_published : (w : World) (by : ℕ) (a : Actor) → get_elem? w.actors by ≡ some a → IsSound w → IsSound (done w by (forgets w.writes.history (length w.cache) load_published a) load_published)
 loads_published w by a at s =
     let b : Actor = sees w.writes.history (forgets w.writes.history (length w.cache) load_published a) in
@@ -82,6 +86,7 @@ loads_published w by a at s =
       held = subst (Each (AreHeld w.holders (content_of w))) (sym hs) s.held;
       have = subst (HoldersHave w.holders) (sym hs) s.have;
       readers = subst (AreReaders w.writes.history w.max_evicted w.cache) (sym rs) s.readers;
+      viewed = each_person_set view_of HasSeen w.actors by a b at (λ r h. let low = s.viewed by 0 (view_of a.participant) (mine view_of w.actors by a a at refl) r h in let more = shorter w.writes.history a.participant.seen (s.seen by 0 a.participant.seen (mine seen_of w.actors by a a at refl)) in omega (arith, low, more)) refl s.viewed;
       judged = subst (AreJudged w.writes.history) (sym rs) s.judged;
       noted = each_map_set noter_of (λ j x. (fact : Fact) → IsIn fact x.1 → IsNoted w.holders (IsSo w.delayed_flag w.old_flag w.max_evicted w.cache w.writes w.prepared w.snapshots w.store w.locks w.installed) j x fact) w.actors by b
           (λ fact there. let k = in_filter (λ (f : Fact). not (ends w.writes.history (length w.cache) load_published f)) fact a.notes there in let o = s.noted by (noter_of a) (at_map noter_of w.actors by a at) fact k.0 in

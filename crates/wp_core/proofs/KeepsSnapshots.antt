@@ -12,6 +12,9 @@ use Rattle.wp_model.specs.declared.entry.Entry.{Entry}
 use Rattle.wp_model.specs.Decision.{decision_of}
 use Rattle.wp_model.specs.History.{is_undecided}
 use Rattle.wp_model.specs.Snapshots.{Snapshot, Snapshots, IsLive, is_old_commit, after_register}
+use Rattle.wp_core.proofs.PastsGrow.{in_either}
+use Rattle.wp_core.proofs.AllParticipants.{mine}
+use Rattle.wp_core.proofs.KeepsSeen.{shorter}
 use Rattle.wp_core.specs.Lists.{IsIn, one_if, total}
 use Rattle.wp_core.specs.Reading.{Registration, snapshot_of}
 use Rattle.wp_core.specs.Tables.{NoOldCommits}
@@ -23,7 +26,7 @@ use Rattle.wp_core.specs.Effects.{done}
 use Rattle.wp_core.specs.Needs.{Needs}
 use Rattle.wp_core.specs.Notes.{forgets}
 use Rattle.wp_core.specs.Sound.Actors.{StartsWith, seen_of, participants_of, learned_of}
-use Rattle.wp_core.specs.Sound.Snapshots.{registered_of, AreRegistered, AreBelowCommitted, IsBelowCommitted, count_of, has_versions_at}
+use Rattle.wp_core.specs.Sound.Snapshots.{registered_of, AreRegistered, AreBelowCommitted, IsBelowCommitted, count_of, has_versions_at, view_of, HasSeen}
 use Rattle.wp_core.specs.Sound.Reader.{reader_of}
 use Rattle.wp_core.specs.IsSound.{IsSound}
 use Rattle.wp_core.proofs.Frames.{at_map}
@@ -154,10 +157,13 @@ module _ (w : World) (by : ℕ) (a : Actor) (n least : ℕ) (at : get_elem? w.ac
             s.registrations.smallest;
       }
 
-  reads_now : (seen learned : List Entry) → StartsWith w.writes.history seen → StartsWith w.writes.history learned → ViewsGrow w a (with_registered w.snapshots n) seen learned (a.participant.registered ++ record { number = n; smallest = least } ∷ []) a.reading
-  reads_now seen learned x y = record {
+  reads_now : (seen learned : List Entry) → StartsWith w.writes.history seen → StartsWith w.writes.history learned → length a.participant.seen ≤ length seen → n ≤ length seen → ViewsGrow w a (with_registered w.snapshots n) seen learned (a.participant.registered ++ record { number = n; smallest = least } ∷ []) a.reading
+  reads_now seen learned x y more now = record {
     seen_part = x;
     learned_part = y;
+    view_part = λ r there. ⊎_elim
+        (λ (k : IsIn r a.participant.registered). let l = s.viewed by 0 (view_of a.participant) (mine view_of w.actors by a a at refl) r k in omega (arith, l, more))
+        (λ (k : record { number = n; smallest = least } ≡ r). subst (λ (z : Registration). z.number ≤ length seen) k now) (in_either r (record { number = n; smallest = least }) a.participant.registered there);
     reads = λ r is. (is, in_append (snapshot_of r) a.participant.registered (record { number = n; smallest = least } ∷ []) (s.readers by (reader_of a) (at_map reader_of w.actors by a at) r is).registered_at);
     none_kept = λ zero_flag. none_now (s.flags.none_kept zero_flag);
   }
@@ -182,7 +188,7 @@ registers_now w by a least at n s =
     let low : length w.writes.history ≤ length w.writes.history = omega arith in
     let below = below_least w by least n.1 s in
     snapshots_step w by a (register least) (with_registered w.snapshots p) w.writes.history [] (a.participant.registered ++ record { number = p; smallest = least } ∷ []) a.reading at n.0 (grows_now w by a p least at s (inr refl) low below)
-    (reads_now w by a p least at s (inr refl) low below w.writes.history [] ([], sym (append-nil w.writes.history)) (w.writes.history, refl)) (registered_now w by a p least at s (inr refl) low below w.writes.history []) s
+    (reads_now w by a p least at s (inr refl) low below w.writes.history [] ([], sym (append-nil w.writes.history)) (w.writes.history, refl) (shorter w.writes.history a.participant.seen (s.seen by 0 a.participant.seen (mine seen_of w.actors by a a at refl))) low) (registered_now w by a p least at s (inr refl) low below w.writes.history []) s
 
 pub registers_again : (w : World) (by : ℕ) (a : Actor) (n : ℕ) → get_elem? w.actors by ≡ some a → Needs w by a (register_again n) → IsSound w → IsSound (done w by (forgets w.writes.history (length w.cache) (register_again n) a) (register_again n))
 registers_again w by a n at k s =
@@ -190,5 +196,5 @@ registers_again w by a n at k s =
     let low = (s.registrations.live n x.0 x.1).1 in
     let below = below_one w.writes.history n in
     snapshots_step w by a (register_again n) (with_registered w.snapshots n) a.participant.seen a.learned (a.participant.registered ++ record { number = n; smallest = 1 } ∷ []) a.reading at k.0 (grows_now w by a n 1 at s (inl k.1) low below)
-    (reads_now w by a n 1 at s (inl k.1) low below a.participant.seen a.learned (s.seen by 0 a.participant.seen (participants_of seen_of a, at_map (participants_of seen_of) w.actors by a at, refl)) (s.learned by a.learned (at_map learned_of w.actors by a at)))
+    (reads_now w by a n 1 at s (inl k.1) low below a.participant.seen a.learned (s.seen by 0 a.participant.seen (participants_of seen_of a, at_map (participants_of seen_of) w.actors by a at, refl)) (s.learned by a.learned (at_map learned_of w.actors by a at)) (omega arith) k.2)
     (registered_now w by a n 1 at s (inl k.1) low below a.participant.seen a.learned) s

@@ -4,6 +4,8 @@ use mathlib.Core.Option.{some}
 use lib.ListN.{get_elem?}
 use Rattle.std.specs.FinMap as finite
 use Rattle.wp_model.specs.LockTables.{LockTables}
+use Rattle.wp_core.proofs.AllParticipants.{mine}
+use Rattle.wp_core.proofs.KeepsSeen.{shorter}
 use Rattle.wp_core.specs.Views.{Event, told, heard, Fact, passed, in_old_commits, apart, words_stay, versions_in_memory, versions_nowhere, number_in_heap, number_not_in_heap, undecided_at, prior_values, unprepared, direct_free, tables_stay, live_listed, nothing_flushed, frozen_stay, delayed_flag_stays, old_flag_stays}
 use Rattle.wp_core.specs.World.{Actor, Participant, World}
 use Rattle.wp_core.specs.World as world
@@ -12,7 +14,7 @@ use Rattle.wp_core.specs.Changes.{with_label}
 use Rattle.wp_core.specs.Effects.{done}
 use Rattle.wp_core.specs.Needs.{Needs}
 use Rattle.wp_core.specs.Notes.{forgets}
-use Rattle.wp_core.specs.Sound.Actors.{participants_of}
+use Rattle.wp_core.specs.Sound.Actors.{participants_of, seen_of}
 use Rattle.wp_core.specs.Sound.Locks.{owner_of, AreLocked}
 use Rattle.wp_core.specs.Sound.Pasts.{past_of, IsPast, AreHolders, IsBoard}
 use Rattle.wp_core.specs.IsSound.{IsSound, participants}
@@ -128,6 +130,7 @@ module _ (w : World) (by : ℕ) (a : Actor) (label : List ℕ) (at : get_elem? w
   parts = record {
     seen = ([], sym (append-nil w.writes.history));
     learned_part = (w.writes.history, refl);
+    grown = shorter w.writes.history a.participant.seen (s.seen by 0 a.participant.seen (mine seen_of w.actors by a a at refl));
     own = refl;
     registered = refl;
     locks_part = locked_part;

@@ -1,10 +1,11 @@
 -- A step of who holds the locks turn: it changes names, keys and labels, and of its own participant all but snapshots and
 -- published numbers.
-use Rattle.std.proofs.Common.{◌≡◌, ◌≢◌, ℕ, true, not, List, ◌∷◌, length, map, set, refl, ap}
+use Rattle.std.proofs.Common.{◌≡◌, ◌≢◌, ℕ, true, not, List, ◌∷◌, length, map, set, refl, ap, ◌≤◌, arith, subst}
 use mathlib.Core.Option.{some}
 use lib.ListN.{get_elem?}
 use Rattle.wp_model.specs.declared.entry.Entry.{Entry}
 use Rattle.wp_model.specs.LockTables.{LockTables}
+use Rattle.wp_core.proofs.AllParticipants.{mine}
 use Rattle.wp_core.specs.Lists.{IsIn}
 use Rattle.wp_core.specs.Turns.{Holds, locks_turn}
 use Rattle.wp_core.specs.Tables.{Content, locks}
@@ -15,7 +16,7 @@ use Rattle.wp_core.specs.Steps.{Step}
 use Rattle.wp_core.specs.Changes.{change, held_with}
 use Rattle.wp_core.specs.Notes.{forgets, ends}
 use Rattle.wp_core.specs.Sound.Actors.{seen_of, own_of, StartsWith, AreOwned, AreHeld, AreLed, participants_of, learned_of, held_of, role_of, IsParticipantAt}
-use Rattle.wp_core.specs.Sound.Snapshots.{registered_of, AreRegistered}
+use Rattle.wp_core.specs.Sound.Snapshots.{registered_of, AreRegistered, view_of, HasSeen}
 use Rattle.wp_core.specs.Sound.Locks.{owner_of, AreLocked}
 use Rattle.wp_core.specs.Sound.Pasts.{past_of, AreHolders, IsBoard, AreFaults, AreEdits}
 use Rattle.wp_core.specs.Sound.Reader.{AreReaders, AreJudged, reader_of}
@@ -45,6 +46,7 @@ module _ (w : World) (by : ℕ) (a : Actor) (step : Step) (p : Participant) (lea
   pub record LocksParts : Type 0 where
     pub seen : StartsWith w.writes.history p.seen
     pub learned_part : StartsWith w.writes.history learned
+    pub grown : length a.participant.seen ≤ length p.seen
     pub own : p.own ≡ a.participant.own
     pub registered : p.registered ≡ a.participant.registered
     pub locks_part : AreLocked w.writes.history t (map (participants_of owner_of) actors_after)
@@ -85,6 +87,7 @@ module _ (w : World) (by : ℕ) (a : Actor) (step : Step) (p : Participant) (lea
             (λ j x ne there. others_hold w e by j x holds ne (s.held j x there));
         have = have_changed w.holders e by w.actors a b at refl s.have;
         readers = kept_part w by a b at reader_of (AreReaders w.writes.history w.max_evicted w.cache) (λ i. (k.registered i, a.reading)) s.readers;
+        viewed = each_person_set view_of HasSeen w.actors by a b at (λ r h. let l = s.viewed by 0 (view_of a.participant) (mine view_of w.actors by a a at refl) r (subst (IsIn r) k.registered h) in let m = k.grown in omega (arith, l, m)) refl s.viewed;
         judged = kept_part w by a b at reader_of (AreJudged w.writes.history) (λ i. (k.registered i, a.reading)) s.judged;
         noted = each_map_set noter_of (λ j x. (fact : Fact) → IsIn fact x.1 → IsNoted w.holders (SoWith w t) j x fact) w.actors by b
             (λ fact there. let left = in_filter (λ (f : Fact). not (ends w.writes.history (length w.cache) step f)) fact a.notes there in let m = s.noted by (noter_of a) (at_map noter_of w.actors by a at) fact left.0 in record { guarded = m.guarded; is_so = k.mine fact left.1 m.is_so })

@@ -8,8 +8,8 @@ use Rattle.wp_judge.specs.Order.{judgement}
 use Rattle.wp_core.specs.Views.{Fact}
 use Rattle.wp_core.specs.World.{Actor, Participant, World, content_of}
 use Rattle.wp_core.specs.Changes.{put}
-use Rattle.wp_core.specs.Sound.Actors.{seen_of, own_of, AreSeen, AreLearned, AreOwned, AreHeld, HoldersHave, AreLed, IsIdle, participants_of, learned_of, held_of, role_of}
-use Rattle.wp_core.specs.Sound.Snapshots.{registered_of, AreRegistered}
+use Rattle.wp_core.specs.Sound.Actors.{seen_of, own_of, AreSeen, AreLearned, AreOwned, AreHeld, HoldersHave, AreLed, IsIdle, participants_of, learned_of, held_of, role_of, EachParticipant}
+use Rattle.wp_core.specs.Sound.Snapshots.{registered_of, AreRegistered, view_of, HasSeen}
 use Rattle.wp_core.specs.Sound.Locks.{owner_of, AreLocked}
 use Rattle.wp_core.specs.Sound.Pasts.{past_of, AreHolders, IsBoard, AreFaults, AreEdits}
 use Rattle.wp_core.specs.Sound.Reader.{IsReader, IsRight, reader_of}
@@ -38,6 +38,7 @@ pub looks : (w : World) (by : ℕ) (a b : Actor) → get_elem? w.actors by ≡ s
 looks w by a b at same reads s =
     let sn : map (participants_of seen_of) (set w.actors by b) ≡ participants seen_of w = kept_map (participants_of seen_of) w.actors by a b at (λ i. seen_of (same.participant i) ∷ map seen_of (same.joined i)) in
     let ow : map (participants_of own_of) (set w.actors by b) ≡ participants own_of w = kept_map (participants_of own_of) w.actors by a b at (λ i. own_of (same.participant i) ∷ map own_of (same.joined i)) in
+    let vs : map (participants_of view_of) (set w.actors by b) ≡ participants view_of w = kept_map (participants_of view_of) w.actors by a b at (λ i. view_of (same.participant i) ∷ map view_of (same.joined i)) in
     let rg : map (participants_of registered_of) (set w.actors by b) ≡ participants registered_of w = kept_map (participants_of registered_of) w.actors by a b at (λ i. registered_of (same.participant i) ∷ map registered_of (same.joined i)) in
     let os : map (participants_of owner_of) (set w.actors by b) ≡ participants owner_of w = kept_map (participants_of owner_of) w.actors by a b at (λ i. owner_of (same.participant i) ∷ map owner_of (same.joined i)) in
     let ps : map (participants_of past_of) (set w.actors by b) ≡ participants past_of w = kept_map (participants_of past_of) w.actors by a b at (λ i. past_of (same.participant i) ∷ map past_of (same.joined i)) in
@@ -67,6 +68,7 @@ looks w by a b at same reads s =
       held = subst (Each (AreHeld w.holders (content_of w))) (sym hs) s.held;
       have = subst (HoldersHave w.holders) (sym hs) s.have;
       readers = each_map_set reader_of (λ j x. (r : Observed) → x.1 ≡ Some r → IsReader w.writes.history w.max_evicted w.cache x.0 r) w.actors by b reads.knows (λ j x ne there. s.readers j x there);
+      viewed = subst (EachParticipant HasSeen) (sym vs) s.viewed;
       judged = each_map_set reader_of (λ j x. (r : Observed) (visible : Bool) → x.1 ≡ Some r → judgement r ≡ Some visible → IsRight w.writes.history r.version r.snapshot visible) w.actors by b reads.right (λ j x ne there. s.judged j x there);
       noted = each_map_set noter_of (λ j x. (fact : Fact) → IsIn fact x.1 → IsNoted w.holders (IsSo w.delayed_flag w.old_flag w.max_evicted w.cache w.writes w.prepared w.snapshots w.store w.locks w.installed) j x fact) w.actors by b
           (λ fact h. let m = mine fact (same.fewer fact h) in record { guarded = m.guarded; is_so = subst (λ (p : Participant). IsSo w.delayed_flag w.old_flag w.max_evicted w.cache w.writes w.prepared w.snapshots w.store w.locks w.installed p fact) (sym same.participant) m.is_so })

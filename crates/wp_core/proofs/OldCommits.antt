@@ -11,6 +11,7 @@ use Rattle.std.specs.FinMap as finite
 use Rattle.wp_model.specs.Decision.{decision_of}
 use Rattle.wp_model.specs.Snapshots.{Snapshot, IsLive, is_old_commit, after_release, after_keep}
 use Rattle.wp_judge.specs.declared.observed.Observed.{Observed}
+use Rattle.wp_core.proofs.AllParticipants.{mine}
 use Rattle.wp_core.specs.Lists.{IsIn, one_if}
 use Rattle.wp_core.specs.Reading.{Registration, snapshot_of}
 use Rattle.wp_core.specs.World.{Actor, World}
@@ -20,7 +21,7 @@ use Rattle.wp_core.specs.Effects.{done}
 use Rattle.wp_core.specs.Needs.{Needs}
 use Rattle.wp_core.specs.Notes.{forgets}
 use Rattle.wp_core.specs.Sound.Actors.{seen_of, participants_of, learned_of}
-use Rattle.wp_core.specs.Sound.Snapshots.{registered_of, AreRegistered, AreBelowCommitted, count_of}
+use Rattle.wp_core.specs.Sound.Snapshots.{registered_of, AreRegistered, AreBelowCommitted, count_of, view_of}
 use Rattle.wp_core.specs.Sound.Reader.{reader_of}
 use Rattle.wp_core.specs.IsSound.{IsSound, participants}
 use Rattle.wp_core.proofs.Frames.{at_map, kept_map}
@@ -95,6 +96,7 @@ notes_old_commit w by a n p at k s =
     (record {
       seen_part = s.seen by 0 a.participant.seen (participants_of seen_of a, at_map (participants_of seen_of) w.actors by a at, refl);
       learned_part = s.learned by a.learned (at_map learned_of w.actors by a at);
+      view_part = s.viewed by 0 (view_of a.participant) (mine view_of w.actors by a a at refl);
       reads = λ r is. (is, (s.readers by (reader_of a) (at_map reader_of w.actors by a at) r is).registered_at);
       none_kept = λ zero_flag. absurd (k.2 zero_flag);
     })
@@ -212,6 +214,12 @@ module _ (w : World) (by : ℕ) (a : Actor) (front back : List Registration) (r 
         smallest = each_person_set registered_of (AreBelowCommitted w.writes.history) w.actors by a b at (below_all w.writes.history (front ++ back) (λ q k. below_of w by a q at (subst (IsIn q) (sym mine) (in_with q r front back k)) s)) refl s.registrations.smallest;
       }
 
+-- what is left is of the whole
+in_whole : {X : Type 0} (x : X) (front back : List X) (r : X) → IsIn x (front ++ back) → IsIn x (front ++ r ∷ back)
+in_whole x [] back r k = inr k
+in_whole x (y ∷ front) back r (inl e) = inl e
+in_whole x (y ∷ front) back r (inr k) = inr (in_whole x front back r k)
+
 pub releases_one : (w : World) (by : ℕ) (a : Actor) (front back : List Registration) (r : Registration) → get_elem? w.actors by ≡ some a → Needs w by a (release front r back) → IsSound w → IsSound (done w by (forgets w.writes.history (length w.cache) (release front r back) a) (release front r back))
 releases_one w by a front back r at n s =
     let x = registered_there w.writes.history w.snapshots w.actors by a r at (subst (IsIn r) (sym n.1) (in_middle r front back)) s.registrations in
@@ -219,6 +227,7 @@ releases_one w by a front back r at n s =
     (record {
       seen_part = s.seen by 0 a.participant.seen (participants_of seen_of a, at_map (participants_of seen_of) w.actors by a at, refl);
       learned_part = s.learned by a.learned (at_map learned_of w.actors by a at);
+      view_part = λ q there. s.viewed by 0 (view_of a.participant) (mine view_of w.actors by a a at refl) q (subst (IsIn q) (sym n.1) (in_whole q front back r there));
       reads = λ q is. still_reads a.reading (front ++ back) q is;
       none_kept = λ zero_flag t q. none_released w by a front back r x.0 at s n.1 x.1 t q _ refl (s.flags.none_kept zero_flag t q);
     })

@@ -30,7 +30,7 @@ use Rattle.wp_core.specs.World.{World, Actor, Participant, Transaction, new_acto
 use Rattle.wp_core.specs.Runs.{IsOpening, AreOpened, named_by}
 use Rattle.wp_core.specs.Sound.Actors.{StartsWith, once, AreHeld, Role, IsParticipantAt}
 use Rattle.wp_core.specs.Sound.History.{logged_part}
-use Rattle.wp_core.specs.Sound.Snapshots.{count_of}
+use Rattle.wp_core.specs.Sound.Snapshots.{count_of, HasSeen}
 use Rattle.wp_core.specs.Sound.Store.{IsStored, NoneFlushed}
 use Rattle.wp_core.specs.Sound.Locks.{prepare_holding, Owner, owner_of, IsOwner}
 use Rattle.wp_core.specs.Sound.Pasts.{IsPast, tables_due}
@@ -236,6 +236,7 @@ module _ (opened : List Entry) (cache : List ℕ) (flag : ℕ) (logged : Bool) (
     held = λ j held at. subst (AreHeld all_free (content_of world) j) (one [] held j at) tt;
     have = λ turn j e. absurd (no_turn turn j e);
     readers = λ j x at r e. let q : None ≡ Some r = ap (λ (z : List Registration × Option Observed). z.1) (one ([], None) x j at) ∙ e in absurd (cc);
+    viewed = λ j i x at. subst HasSeen (one_participant (opened, []) j i x at) (λ r h. absurd h);
     judged = λ j x at r visible e. let q : None ≡ Some r = ap (λ (z : List Registration × Option Observed). z.1) (one ([], None) x j at) ∙ e in absurd (cc);
     noted = λ j x at fact k. absurd (subst (λ (z : Participant × List Fact). IsIn fact z.1) (sym (one (new_participant client opened, []) x j at)) k);
     led = record { first = record { live = true; made = 0; joined = [] }; there = refl; live = refl; counted = refl; others = λ j s at ne. subst (λ (z : Role). (z.made ≡ 0) × (z.joined ≡ [])) (one (record { live = true; made = 0; joined = [] }) s j at) (refl, refl) };

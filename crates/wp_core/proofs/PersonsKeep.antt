@@ -16,8 +16,8 @@ use Rattle.wp_core.specs.Tables.{WriteTable, InstalledEdit, Installed}
 use Rattle.wp_core.specs.Reading.{Registration}
 use Rattle.wp_core.specs.Views.{Account, own, another, prepare_at, Event, installed, found}
 use Rattle.wp_core.specs.World.{Actor, Participant, Transaction}
-use Rattle.wp_core.specs.Sound.Actors.{participants_of, IsParticipantAt, StartsWith, seen_of, own_of, times, AreSeen, AreOwned}
-use Rattle.wp_core.specs.Sound.Snapshots.{registered_of, AreBelowCommitted, AreRegistered}
+use Rattle.wp_core.specs.Sound.Actors.{participants_of, IsParticipantAt, StartsWith, seen_of, own_of, times, AreSeen, AreOwned, EachParticipant}
+use Rattle.wp_core.specs.Sound.Snapshots.{registered_of, AreBelowCommitted, AreRegistered, view_of, HasSeen}
 use Rattle.wp_core.specs.Sound.Locks.{Owner, owner_of, Has, IsOwner, AreLocked}
 use Rattle.wp_core.specs.Sound.Pasts.{past_of, HasDone, IsPast, IsAccounted, WasLocked, AreHolders, IsBoard, is_log_fault, is_tables_fault, AreFaults, WasInstalled, due_after, tables_due, OtherCompacts, AreEdits}
 use Rattle.wp_core.proofs.Persons.{IsNone, Moves, same_there, apart_still, CameWith, IsOfNone, came_from, goes_to, total_same}
@@ -82,6 +82,15 @@ module _ (row place : ℕ → ℕ → ℕ) (history : List Entry) (xs ys : List 
         (λ (n : (o : IsOfNone row place history xs ys m registered_of x) × StartsWith history o.person.seen). subst (AreBelowCommitted history) n.0.has (none_below n.0.person n.0.none))
         (came_from row place history xs ys m registered_of j i x there);
   }
+
+  pub viewed_moved : EachParticipant HasSeen (map (participants_of view_of) xs) → EachParticipant HasSeen (map (participants_of view_of) ys)
+  viewed_moved k j i x there = ⊎_elim
+      (λ (c : CameWith row place history xs ys m view_of j i x). k c.at c.at_place x c.there)
+      (λ (n : (o : IsOfNone row place history xs ys m view_of x) × StartsWith history o.person.seen). subst HasSeen n.0.has (none_viewed n.0.person n.0.none))
+      (came_from row place history xs ys m view_of j i x there)
+    where
+      none_viewed : (p : Participant) → IsNone p → HasSeen (view_of p)
+      none_viewed p none r h = absurd (subst (IsIn r) (ap (λ (z : Participant). z.registered) none) h)
 
   -- ---- names and keys
 

@@ -14,8 +14,8 @@ use Rattle.wp_core.specs.Steps.{set_client}
 use Rattle.wp_core.specs.Effects.{done}
 use Rattle.wp_core.specs.Needs.{Needs}
 use Rattle.wp_core.specs.Notes.{forgets, ends}
-use Rattle.wp_core.specs.Sound.Actors.{seen_of, own_of, AreSeen, AreLearned, AreOwned, AreHeld, HoldersHave, AreLed, IsIdle, participants_of, learned_of, held_of, role_of, IsParticipantAt}
-use Rattle.wp_core.specs.Sound.Snapshots.{registered_of, AreRegistered}
+use Rattle.wp_core.specs.Sound.Actors.{seen_of, own_of, AreSeen, AreLearned, AreOwned, AreHeld, HoldersHave, AreLed, IsIdle, participants_of, learned_of, held_of, role_of, IsParticipantAt, EachParticipant}
+use Rattle.wp_core.specs.Sound.Snapshots.{registered_of, AreRegistered, view_of, HasSeen}
 use Rattle.wp_core.specs.Sound.Locks.{Owner, owner_of, Has, IsOwner, AreLocked}
 use Rattle.wp_core.specs.Sound.Pasts.{past_of, AreHolders, IsBoard, AreFaults, AreEdits}
 use Rattle.wp_core.specs.Sound.Reader.{AreReaders, AreJudged, reader_of}
@@ -131,6 +131,7 @@ sets_client w by a client at needs s =
       held = kept_part w by a b at held_of (Each (AreHeld w.holders (content_of w))) refl s.held;
       have = kept_part w by a b at held_of (HoldersHave w.holders) refl s.have;
       readers = kept_part w by a b at reader_of (AreReaders w.writes.history w.max_evicted w.cache) refl s.readers;
+      viewed = kept_part w by a b at (participants_of view_of) (EachParticipant HasSeen) refl s.viewed;
       judged = kept_part w by a b at reader_of (AreJudged w.writes.history) refl s.judged;
       noted = each_map_set noter_of (λ j x. (fact : Fact) → IsIn fact x.1 → IsNoted w.holders (SoIn w) j x fact) w.actors by b
           (λ fact h. let k = in_filter (λ (f : Fact). not (ends w.writes.history (length w.cache) (set_client client) f)) fact a.notes h in let o = s.noted by (noter_of a) (at_map noter_of w.actors by a at) fact k.0 in

@@ -29,7 +29,7 @@ use Rattle.wp_core.specs.Changes.{held_with, change}
 use Rattle.wp_core.specs.Notes.{forgets, ends}
 use Rattle.wp_core.specs.Sound.Actors.{StartsWith, seen_of, own_of, AreOwned, AreHeld, AreLed, participants_of, learned_of, held_of, role_of}
 use Rattle.wp_core.specs.Sound.Prepared.{AreDecided, IsPassed}
-use Rattle.wp_core.specs.Sound.Snapshots.{registered_of, AreRegistered}
+use Rattle.wp_core.specs.Sound.Snapshots.{registered_of, AreRegistered, view_of, HasSeen}
 use Rattle.wp_core.specs.Sound.Store.{IsStored}
 use Rattle.wp_core.specs.Sound.Locks.{owner_of, AreLocked}
 use Rattle.wp_core.specs.Sound.Pasts.{past_of, AreHolders, IsBoard, AreFaults, AreEdits}
@@ -109,6 +109,7 @@ with_view a seen learned registered reading = record a { participant = record a.
 pub record ViewsGrow (w : World) (a : Actor) (m : Snapshots) (seen learned : List Entry) (registered : List Registration) (reading : Option Observed) : Type 0 where
   pub seen_part : StartsWith w.writes.history seen
   pub learned_part : StartsWith w.writes.history learned
+  pub view_part : HasSeen (seen, registered)
   pub reads : (r : Observed) → reading ≡ Some r → (a.reading ≡ Some r) × IsIn (snapshot_of r) registered
   pub none_kept : w.old_flag ≡ 0 → NoOldCommits m
 
@@ -147,6 +148,7 @@ snapshots_step w by a step m seen learned registered reading at holds grows view
       have = have_changed w.holders e by w.actors a b at refl s.have;
       readers = each_map_set reader_of (λ j x. (r : Observed) → x.1 ≡ Some r → IsReader w.writes.history w.max_evicted w.cache x.0 r) w.actors by b
           (λ r is. let v = views.reads r is in let o = reader r v.0 in record { registered_at = v.1; in_order = o.in_order; knows = o.knows }) (λ j x ne there. s.readers j x there);
+      viewed = each_person_set view_of HasSeen w.actors by a b at views.view_part refl s.viewed;
       judged = each_map_set reader_of (λ j x. (r : Observed) (visible : Bool) → x.1 ≡ Some r → judgement r ≡ Some visible → IsRight w.writes.history r.version r.snapshot visible) w.actors by b
           (λ r visible is. judged r visible (views.reads r is).0) (λ j x ne there. s.judged j x there);
       noted = each_map_set noter_of (λ j x. (fact : Fact) → IsIn fact x.1 → IsNoted w.holders so j x fact) w.actors by b

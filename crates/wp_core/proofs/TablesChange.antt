@@ -12,8 +12,8 @@ use Rattle.wp_core.specs.World as world
 use Rattle.wp_core.specs.Steps.{Step}
 use Rattle.wp_core.specs.Changes.{change, held_with, remembers}
 use Rattle.wp_core.specs.Notes.{forgets, ends}
-use Rattle.wp_core.specs.Sound.Actors.{seen_of, own_of, AreSeen, AreLearned, AreOwned, AreHeld, AreLed, participants_of, learned_of, held_of, role_of, IsParticipantAt}
-use Rattle.wp_core.specs.Sound.Snapshots.{registered_of, AreRegistered}
+use Rattle.wp_core.specs.Sound.Actors.{seen_of, own_of, AreSeen, AreLearned, AreOwned, AreHeld, AreLed, participants_of, learned_of, held_of, role_of, IsParticipantAt, EachParticipant}
+use Rattle.wp_core.specs.Sound.Snapshots.{registered_of, AreRegistered, view_of, HasSeen}
 use Rattle.wp_core.specs.Sound.Store.{IsStored}
 use Rattle.wp_core.specs.Sound.Locks.{owner_of}
 use Rattle.wp_core.specs.Sound.Pasts.{past_of, AreFaults, WasInstalled, tables_due, OtherCompacts, AreEdits}
@@ -119,6 +119,7 @@ module _ (w : World) (by : ℕ) (a : Actor) (step : Step) (e : Event) (t : Insta
             (λ j x ne there. others_hold w c by j x holds ne (s.held j x there));
         have = have_changed w.holders c by w.actors a b at refl s.have;
         readers = kept_part w by a b at reader_of (AreReaders w.writes.history w.max_evicted w.cache) refl s.readers;
+        viewed = kept_part w by a b at (participants_of view_of) (EachParticipant HasSeen) refl s.viewed;
         judged = kept_part w by a b at reader_of (AreJudged w.writes.history) refl s.judged;
         noted = each_map_set noter_of (λ j x. (fact : Fact) → IsIn fact x.1 → IsNoted w.holders (SoInstalled w t) j x fact) w.actors by b
             (λ fact there. let left = in_filter (λ (f : Fact). not (ends w.writes.history (length w.cache) step f)) fact a.notes there in let m = s.noted by (noter_of a) (at_map noter_of w.actors by a at) fact left.0 in

@@ -3,10 +3,10 @@ use Rattle.std.specs.Prelude.{map, List}
 use Rattle.wp_core.specs.Lists.{Each}
 use Rattle.wp_core.specs.World.{World, Participant, content_of}
 use Rattle.wp_core.specs.World as world
-use Rattle.wp_core.specs.Sound.Actors.{seen_of, own_of, AreSeen, AreLearned, AreOwned, AreHeld, HoldersHave, AreLed, AreIdle, participants_of, learned_of, held_of, role_of}
+use Rattle.wp_core.specs.Sound.Actors.{seen_of, own_of, AreSeen, AreLearned, AreOwned, AreHeld, HoldersHave, AreLed, AreIdle, EachParticipant, participants_of, learned_of, held_of, role_of}
 use Rattle.wp_core.specs.Sound.History.{IsHistory, IsPendingHeld}
 use Rattle.wp_core.specs.Sound.Prepared.{IsCache, AreDecided, AreUndecided, AreDelayed, AreFlags}
-use Rattle.wp_core.specs.Sound.Snapshots.{registered_of, AreRegistered}
+use Rattle.wp_core.specs.Sound.Snapshots.{registered_of, AreRegistered, view_of, HasSeen}
 use Rattle.wp_core.specs.Sound.Store.{IsStored, IsFlushedGone}
 use Rattle.wp_core.specs.Sound.Locks.{owner_of, AreLocked}
 use Rattle.wp_core.specs.Sound.Pasts.{past_of, AreHolders, IsBoard, AreFaults, AreEdits}
@@ -29,6 +29,7 @@ pub record IsSound (w : World) : Type 0 where
   pub undecided : AreUndecided w.writes.history w.writes.pending w.prepared w.max_evicted
   pub delayed : AreDelayed w.writes.history w.prepared w.cache
   pub registrations : AreRegistered w.writes.history w.snapshots (participants registered_of w)
+  pub viewed : EachParticipant HasSeen (participants view_of w)
   pub flags : AreFlags w.delayed_flag w.old_flag w.prepared w.snapshots w.holders.prepared w.holders.snapshots
   -- versions and edits
   pub versions : IsStored w.writes.history w.writes.pending w.snapshots w.store w.installed

@@ -54,7 +54,7 @@ Needs w by a take_pending_prepared = IsPreparePending w by
 Needs w by a (add_delayed_commit pair) = Holds w.holders prepared_turn by × (w.delayed_flag ≢ 0) × (decision_of w.writes.history pair.number ≡ Some pair.decision)
 Needs w by a (take_out p) = Holds w.holders prepared_turn by × ((c : ℕ) × (decision_of w.writes.history p ≡ Some c))
 -- a version is noted in the old commit map with the flag up, under a live number that it overlaps
-Needs w by a (register_again s) = Holds w.holders snapshots_turn by × IsLive w.snapshots s
+Needs w by a (register_again s) = Holds w.holders snapshots_turn by × IsLive w.snapshots s × (s ≤ length a.participant.seen)
 Needs w by a (release front r back) = Holds w.holders snapshots_turn by × (a.participant.registered ≡ front ++ r ∷ back)
 Needs w by a (add_old_commit s p) = Holds w.holders snapshots_turn by × IsLive w.snapshots s × (w.old_flag ≢ 0) × ((c : ℕ) × (decision_of w.writes.history p ≡ Some c) × (p ≤ s) × (s < c))
 -- the pending entry's versions alone come and go; a flush moves versions, and old ones go only so that each live snapshot

@@ -6,7 +6,7 @@ use Rattle.wp_model.specs.declared.entry.Entry.TheVariants.{Write, Prepare, Undo
 use Rattle.wp_model.specs.History.{entry_at}
 use Rattle.wp_model.specs.Decision.{IsCommittedAt}
 use Rattle.wp_model.specs.Snapshots as snaps
-use Rattle.wp_core.specs.Lists.{Each, one_if, total}
+use Rattle.wp_core.specs.Lists.{Each, IsIn, one_if, total}
 use Rattle.wp_model.specs.Snapshots.{Snapshots}
 use Rattle.wp_core.specs.Reading.{Registration}
 use Rattle.wp_core.specs.World.{Participant}
@@ -38,6 +38,17 @@ IsBelowCommitted history r = (p : ℕ) → p < r.smallest → p ≤ r.number →
 
 abbrev pub AreBelowCommitted : List Entry → List Registration → Type 0
 AreBelowCommitted history registered = Each (λ i r. IsBelowCommitted history r) registered
+
+-- ---- what it had seen
+
+abbrev pub view_of : Participant → List Entry × List Registration
+view_of p = (p.seen, p.registered)
+
+-- each registered number is at most the length of what was seen
+abbrev pub HasSeen : List Entry × List Registration → Type 0
+HasSeen view = (r : Registration) → IsIn r view.1 → r.number ≤ length view.0
+
+-- ---- together
 
 -- the counts are the sums of the actors' registrations, and each live number is at most the published one
 pub record AreRegistered (history : List Entry) (snapshots : Snapshots) (registered : List (List (List Registration))) : Type 0 where
