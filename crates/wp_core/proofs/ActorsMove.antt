@@ -2,7 +2,7 @@
 use Rattle.std.proofs.Common.{◌≡◌, ◌⊎◌, ⊎_elim, inl, inr, ℕ, zero, suc, ◌+◌, List, [], ◌∷◌, ◌++◌, map, set, refl, sym, subst, ap, ◌∙◌, arith}
 use mathlib.Core.Option.{some, some-injective, some-ne-none}
 use lib.ListN.{get_elem?}
-use Rattle.wp_core.specs.Lists.{Each, total}
+use Rattle.wp_core.specs.Lists.{EachAt, total}
 use Rattle.wp_core.specs.Turns.{Holders}
 use Rattle.wp_core.specs.World.{Actor, Participant, World, content_of}
 use Rattle.wp_core.specs.World as world
@@ -22,7 +22,7 @@ use Rattle.wp_core.proofs.PersonsKeep.{seen_moved, owned_moved, registered_moved
 
 pub record ActorParts (w : World) (actors : List Actor) : Type 0 where
   pub learned : AreLearned w.writes.history (map learned_of actors)
-  pub held : Each (AreHeld w.holders (content_of w)) (map held_of actors)
+  pub held : EachAt (AreHeld w.holders (content_of w)) (map held_of actors)
   pub have : HoldersHave w.holders (map held_of actors)
   pub readers : AreReaders w.writes.history w.max_evicted w.cache (map reader_of actors)
   pub judged : AreJudged w.writes.history (map reader_of actors)
@@ -77,11 +77,11 @@ map_more : {A X : Type 0} (f : A → X) (xs : List A) (c : A) → map f (xs ++ c
 map_more f [] c = refl
 map_more f (x ∷ xs) c = λ i. f x ∷ map_more f xs c i
 
-pub each_more : {X : Type 0} (P : ℕ → X → Type 0) (xs : List X) (c : X) → ((j : ℕ) → P j c) → Each P xs → Each P (xs ++ c ∷ [])
+pub each_more : {X : Type 0} (P : ℕ → X → Type 0) (xs : List X) (c : X) → ((j : ℕ) → P j c) → EachAt P xs → EachAt P (xs ++ c ∷ [])
 each_more P xs c new k j x e = ⊎_elim (λ (t : get_elem? xs j ≡ some x). k j x t) (λ (t : c ≡ x). subst (P j) t (new j)) (front_or_last xs c j x e)
 
-pub each_map_more : {A X : Type 0} (f : A → X) (P : ℕ → X → Type 0) (xs : List A) (c : A) → ((j : ℕ) → P j (f c)) → Each P (map f xs) → Each P (map f (xs ++ c ∷ []))
-each_map_more f P xs c new k = subst (Each P) (sym (map_more f xs c)) (each_more P (map f xs) (f c) new k)
+pub each_map_more : {A X : Type 0} (f : A → X) (P : ℕ → X → Type 0) (xs : List A) (c : A) → ((j : ℕ) → P j (f c)) → EachAt P (map f xs) → EachAt P (map f (xs ++ c ∷ []))
+each_map_more f P xs c new k = subst (EachAt P) (sym (map_more f xs c)) (each_more P (map f xs) (f c) new k)
 
 pub at_map_more : {A X : Type 0} (f : A → X) (xs : List A) (c : A) (j : ℕ) (x : X) → get_elem? (map f xs) j ≡ some x → get_elem? (map f (xs ++ c ∷ [])) j ≡ some x
 at_map_more {A} {X} f xs c j x e = ap (λ (z : List X). get_elem? z j) (map_more f xs c) ∙ at_front (map f xs) (f c ∷ []) j x e

@@ -149,9 +149,6 @@ module _ (history : List Entry) (entry : Entry) (legal : IsLegal (history ++ ent
     number_of : (p q : ℕ) → ◌≡◌ {A = Option CommitPair} (Some (record { number = p; decision = next })) (Some (record { number = q; decision = next })) → p ≡ q
     number_of p q e = ap (λ (x : CommitPair). x.number) (same_some (record { number = p; decision = next }) (record { number = q; decision = next }) e)
 
-    none_at_next : (change : Option (Option (List ℕ))) → version_in (Some entry) key ≡ change → change ≡ None → version_at ys key next ≡ None
-    none_at_next change is none = new key ∙ (is ∙ none)
-
     -- a prepare that the entry decides, without the key
     none_of_prepare : (p : ℕ) → is_undecided history p ≡ true → change_to (batch_at history p) key ≡ None → version_at ys key p ≡ None
     none_of_prepare p u none = none_is (version_at ys key p) (λ v e. none_some (entry_version history p key) v (undecided_version history key p u ∙ none) (sym (entry_version_old history (entry ∷ []) p key (undecided_within history p u).1) ∙ part_now key p v e))

@@ -108,7 +108,10 @@ module _ (w : World) (by : ℕ) (a : Actor) (name : List ℕ) (x0 : Transaction)
   name_still : (n c : List ℕ) → (n ≡ name → ⊥) → IsNameOf before n c → IsNameOf after n c
   name_still n c ne k = ⊎_elim
       (λ (g : (k.at ≡ by) × (k.place ≡ 0) × (k.owner ≡ owner_of a.participant)). record {
-        at = k.at; place = k.place; owner = owner_of p; transaction = k.transaction;
+        at = k.at;
+        place = k.place;
+        owner = owner_of p;
+        transaction = k.transaction;
         there = placed k.at k.place g.0 g.1;
         client_is = ap (λ (z : Owner). z.client) (sym g.2) ∙ k.client_is;
         has = has_still n k.transaction ne (subst (λ (z : Owner). Has z n k.transaction) g.2 k.has);
@@ -120,7 +123,9 @@ module _ (w : World) (by : ℕ) (a : Actor) (name : List ℕ) (x0 : Transaction)
   direct_still : (k c : List ℕ) → IsDirectOf before k c → IsDirectOf after k c
   direct_still k c e = ⊎_elim
       (λ (g : (e.at ≡ by) × (e.place ≡ 0) × (e.owner ≡ owner_of a.participant)). record {
-        at = e.at; place = e.place; owner = owner_of p;
+        at = e.at;
+        place = e.place;
+        owner = owner_of p;
         there = placed e.at e.place g.0 g.1;
         client_is = ap (λ (z : Owner). z.client) (sym g.2) ∙ e.client_is;
         has = ap (λ (z : Owner). z.direct) (sym g.2) ∙ e.has;

@@ -2,7 +2,7 @@
 use Rattle.std.proofs.Common.{◌≡◌, ◌≢◌, ◌⊎◌, ⊎_elim, arith, ℕ, zero, suc, Bool, true, false, cond, inl, inr, true≢false, List, [], ◌∷◌, map, filter, set, refl, sym, subst, ap, ◌∙◌}
 use mathlib.Core.Option.{some, some-injective, some-ne-none}
 use lib.ListN.{get_elem?}
-use Rattle.wp_core.specs.Lists.{Each, IsIn}
+use Rattle.wp_core.specs.Lists.{EachAt, IsIn}
 
 -- what a list has once a place is set: the new item there, and elsewhere what it had
 pub at_set : {X : Type 0} (xs : List X) (i j : ℕ) (x y : X) → get_elem? (set xs i x) j ≡ some y → ((j ≡ i) × (x ≡ y)) ⊎ ((j ≢ i) × (get_elem? xs j ≡ some y))
@@ -31,13 +31,13 @@ map_set f (x ∷ xs) zero b = refl
 map_set f (x ∷ xs) (suc by) b = λ i. f x ∷ map_set f xs by b i
 
 -- each item, once one of them changed
-pub each_set : {X : Type 0} (P : ℕ → X → Type 0) (xs : List X) (by : ℕ) (y : X) → P by y → ((j : ℕ) (x : X) → j ≢ by → get_elem? xs j ≡ some x → P j x) → Each P (set xs by y)
+pub each_set : {X : Type 0} (P : ℕ → X → Type 0) (xs : List X) (by : ℕ) (y : X) → P by y → ((j : ℕ) (x : X) → j ≢ by → get_elem? xs j ≡ some x → P j x) → EachAt P (set xs by y)
 each_set {X} P xs by y is others j x at =
     ⊎_elim (λ (t : (j ≡ by) × (y ≡ x)). subst (λ (z : ℕ × X). P z.0 z.1) (λ i. (sym t.0 i, t.1 i)) is) (λ (t : (j ≢ by) × (get_elem? xs j ≡ some x)). others j x t.0 t.1) (at_set xs by j y x at)
 
 -- the same of a projection
-pub each_map_set : {A X : Type 0} (f : A → X) (P : ℕ → X → Type 0) (xs : List A) (by : ℕ) (b : A) → P by (f b) → ((j : ℕ) (x : X) → j ≢ by → get_elem? (map f xs) j ≡ some x → P j x) → Each P (map f (set xs by b))
-each_map_set f P xs by b is others = subst (Each P) (sym (map_set f xs by b)) (each_set P (map f xs) by (f b) is others)
+pub each_map_set : {A X : Type 0} (f : A → X) (P : ℕ → X → Type 0) (xs : List A) (by : ℕ) (b : A) → P by (f b) → ((j : ℕ) (x : X) → j ≢ by → get_elem? (map f xs) j ≡ some x → P j x) → EachAt P (map f (set xs by b))
+each_map_set f P xs by b is others = subst (EachAt P) (sym (map_set f xs by b)) (each_set P (map f xs) by (f b) is others)
 
 pub at_map : {A B : Type 0} (f : A → B) (xs : List A) (i : ℕ) (a : A) → get_elem? xs i ≡ some a → get_elem? (map f xs) i ≡ some (f a)
 at_map f [] i a e = absurd (some-ne-none a (sym e))

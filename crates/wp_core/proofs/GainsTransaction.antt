@@ -282,8 +282,8 @@ module _ (w : World) (by : ℕ) (a : Actor) (name : List ℕ) (x1 : Transaction)
   board_part : IsBoard (world.published w) t pasts
   board_part =
       let k = board_more w.actors by a b start at refl refl (world.published w) w.locks
-          (λ label n q. absurd (⊎_elim (λ (r : start ≡ told label n). is_no_other (told label n) (λ z. absurd cc) (λ z. absurd cc) r) (λ (r : start ≡ heard label n). is_no_other (heard label n) (λ z. absurd cc) (λ z. absurd cc) r) q))
-          (λ label n q. absurd (is_no_other (heard label n) (λ z. absurd cc) (λ z. absurd cc) q)) (λ label n q. is_no_other (told label n) (λ z. absurd cc) (λ z. absurd cc) q) s.board in
+      (λ label n q. absurd (⊎_elim (λ (r : start ≡ told label n). is_no_other (told label n) (λ z. absurd cc) (λ z. absurd cc) r) (λ (r : start ≡ heard label n). is_no_other (heard label n) (λ z. absurd cc) (λ z. absurd cc) r) q))
+      (λ label n q. absurd (is_no_other (heard label n) (λ z. absurd cc) (λ z. absurd cc) q)) (λ label n q. is_no_other (told label n) (λ z. absurd cc) (λ z. absurd cc) q) s.board in
       record { labels = k.labels; numbers = k.numbers; heard = k.heard; told = k.told }
 
   pub gained_parts : LocksParts w by a step p a.learned t
@@ -301,4 +301,3 @@ module _ (w : World) (by : ℕ) (a : Actor) (name : List ℕ) (x1 : Transaction)
     mine = λ fact left k. mine_still fact k;
     others = λ j q fact ne there k. others_still q fact k;
   }
-

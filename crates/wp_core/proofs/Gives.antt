@@ -3,7 +3,7 @@ use Rattle.std.proofs.Common.{◌≡◌, ◌≢◌, ℕ, Bool, true, false, not,
 use mathlib.Core.Logic.{dite}
 use native.Mathlib.Decide.{ℕ_discrete}
 use Rattle.wp_core.specs.Lists.{IsIn}
-use Rattle.wp_core.specs.Turns.{Turn, write_turn, prepared_turn, snapshots_turn, store_turn, locks_turn, tables_turn, Holders, Holds, holder_of, with_holder}
+use Rattle.wp_core.specs.Turns.{Turn, write_turn, prepared_turn, snapshots_turn, store_turn, locks_turn, tables_turn, Holders, Holds, turn_holder, with_holder}
 use Rattle.wp_core.specs.Tables.{Content, turn_of}
 use Rattle.wp_core.specs.Changes.{turn_index, held_without}
 use Rattle.wp_core.specs.Sound.Actors.{AreHeld, NoneAfter}
@@ -11,7 +11,7 @@ use Rattle.wp_core.proofs.Frames.{filter_in}
 
 -- ---- holders
 
-pub given : (h : Holders) (t : Turn) → holder_of (with_holder h t None) t ≡ None
+pub given : (h : Holders) (t : Turn) → turn_holder (with_holder h t None) t ≡ None
 given h write_turn = refl
 given h prepared_turn = refl
 given h snapshots_turn = refl
@@ -19,7 +19,7 @@ given h store_turn = refl
 given h locks_turn = refl
 given h tables_turn = refl
 
-pub other_holder : (h : Holders) (t u : Turn) (x : Option ℕ) → turn_index u ≢ turn_index t → holder_of (with_holder h t x) u ≡ holder_of h u
+pub other_holder : (h : Holders) (t u : Turn) (x : Option ℕ) → turn_index u ≢ turn_index t → turn_holder (with_holder h t x) u ≡ turn_holder h u
 other_holder h write_turn write_turn x n = absurd (n refl)
 other_holder h prepared_turn prepared_turn x n = absurd (n refl)
 other_holder h snapshots_turn snapshots_turn x n = absurd (n refl)
@@ -39,7 +39,7 @@ same_turn t u e = absurd (omega arith)
 
 -- a turn that another actor holds is another turn, and stays its own
 pub others_turn : (h : Holders) (t u : Turn) (by j : ℕ) → Holds h t by → j ≢ by → Holds h u j → turn_index u ≢ turn_index t
-others_turn h t u by j mine ne theirs e = let is : holder_of h u ≡ holder_of h t = ap (holder_of h) (same_turn t u e) in let q : Some j ≡ Some by = sym theirs ∙ (is ∙ mine) in ne (cc)
+others_turn h t u by j mine ne theirs e = let is : turn_holder h u ≡ turn_holder h t = ap (turn_holder h) (same_turn t u e) in let q : Some j ≡ Some by = sym theirs ∙ (is ∙ mine) in ne (cc)
 
 pub still : (h : Holders) (t u : Turn) (by j : ℕ) → Holds h t by → j ≢ by → Holds h u j → Holds (with_holder h t None) u j
 still h t u by j mine ne theirs = other_holder h t u None (others_turn h t u by j mine ne theirs) ∙ theirs
@@ -47,7 +47,7 @@ still h t u by j mine ne theirs = other_holder h t u None (others_turn h t u by 
 -- who holds a turn after another was given holds another one
 pub was : (h : Holders) (t u : Turn) (j : ℕ) → Holds (with_holder h t None) u j → (turn_index u ≢ turn_index t) × Holds h u j
 was h t u j holds = dite (ℕ_discrete (turn_index u) (turn_index t))
-    (λ (e : turn_index u ≡ turn_index t). let n : holder_of (with_holder h t None) u ≡ None = ap (holder_of (with_holder h t None)) (same_turn t u e) ∙ given h t in let q : Some j ≡ None = sym holds ∙ n in absurd (cc))
+    (λ (e : turn_index u ≡ turn_index t). let n : turn_holder (with_holder h t None) u ≡ None = ap (turn_holder (with_holder h t None)) (same_turn t u e) ∙ given h t in let q : Some j ≡ None = sym holds ∙ n in absurd (cc))
     (λ (ne : turn_index u ≢ turn_index t). (ne, sym (other_holder h t u None ne) ∙ holds))
 
 -- ---- what is held

@@ -154,9 +154,6 @@ module _ (history : List Entry) (entry : Entry) (legal : IsLegal (history ++ ent
       by true e = let k = undecided_within history next (decides_undecided history entry next after.names_undecided e) in absurd (omega (arith, k.1))
       by false e = refl
 
-  pub undecided_stays : (p : ℕ) → is_undecided history p ≡ true → decides p entry ≡ false → is_undecided grown p ≡ true
-  undecided_stays p u other = undecided_old history entry p (undecided_within history p u).1 ∙ (ap (λ (b : Bool). b && not (decides p entry)) u ∙ ap not other)
-
   pub undecided_before_or_now : (p : ℕ) → is_undecided grown p ≡ true → ((p ≤ length history) × (is_undecided history p ≡ true) × (decides p entry ≡ false)) ⊎ ((p ≡ next) × (is_prepare (Some entry) ≡ true))
   undecided_before_or_now p u = elim (cases_lt (length history) p) [
     | inl past ↦

@@ -1,4 +1,4 @@
--- Who holds a key, and which undecided prepare has a name.
+-- Who holds a key, and where no undecided prepare has a name.
 use Rattle.std.proofs.Common.{◌≡◌, ℕ, Bool, true, false, cond, eqb, ◌||◌, eq-eqb, true≢false, List, [], ◌∷◌, Some, None, refl, sym, ap, ◌∙◌}
 use Rattle.std.specs.List.{list_any, find}
 use Rattle.std.specs.Str.{bytes_eq}
@@ -26,12 +26,6 @@ pub holder_holds : (history : List Entry) (key : List ℕ) (p : ℕ) → holder_
 holder_holds history key p h =
     let k = find_passes (λ q. is_changed (batch_at history q) key) (undecided history) p h in
     (sym (is_undecided_by_list history p) ∙ k.1, k.0)
-
--- the one of a name is undecided, and has it
-pub named_has : (history : List Entry) (name : List ℕ) (p : ℕ) → named history name ≡ Some p → (is_undecided history p ≡ true) × (name_at history p ≡ name)
-named_has history name p h =
-    let k = find_passes (λ q. bytes_eq (name_at history q) name) (undecided history) p h in
-    (sym (is_undecided_by_list history p) ∙ k.1, (bytes_eq-Decides (name_at history p) name).0 k.0)
 
 find_none : (test : ℕ → Bool) (xs : List ℕ) (p : ℕ) → find test xs ≡ None → test p ≡ true → list_any (λ k. eqb k p) xs ≡ true → ⊥
 find_none test [] p none t h = absurd cc

@@ -8,7 +8,7 @@ use Rattle.std.specs.FinMap.{get-empty}
 use Rattle.wp_model.specs.declared.change.Change.{Change}
 use Rattle.wp_model.specs.Batch.{key_cmp}
 use Rattle.wp_model.specs.declared.holder.Holder.TheVariants.{Client}
-use Rattle.wp_core.specs.Lists.{Each, IsIn}
+use Rattle.wp_core.specs.Lists.{EachAt, IsIn}
 use Rattle.wp_core.specs.Views.{Fact, passed, in_old_commits, apart, words_stay, versions_in_memory, versions_nowhere, number_in_heap, number_not_in_heap, undecided_at, prior_values, unprepared, direct_free, tables_stay, live_listed, nothing_flushed, frozen_stay, delayed_flag_stays, old_flag_stays}
 use Rattle.wp_core.specs.World.{Transaction, Actor, Participant, World, content_of}
 use Rattle.wp_core.specs.World as world
@@ -105,7 +105,7 @@ sets_batch w by a name t batch at needs s =
       faults = kept_part w by a b at (participants_of past_of) (AreFaults w.writes w.installed.halted) refl s.faults;
       edits = kept_part w by a b at (participants_of past_of) (AreEdits w.first_edit w.installed) refl s.edits;
       pending = s.pending;
-      held = kept_part w by a b at held_of (Each (AreHeld w.holders (content_of w))) refl s.held;
+      held = kept_part w by a b at held_of (EachAt (AreHeld w.holders (content_of w))) refl s.held;
       have = kept_part w by a b at held_of (HoldersHave w.holders) refl s.have;
       readers = kept_part w by a b at reader_of (AreReaders w.writes.history w.max_evicted w.cache) refl s.readers;
       viewed = kept_part w by a b at (participants_of view_of) (EachParticipant HasSeen) refl s.viewed;

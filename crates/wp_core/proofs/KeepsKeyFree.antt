@@ -141,8 +141,8 @@ module _ (w : World) (by : ℕ) (a : Actor) (name : List ℕ) (x0 : Transaction)
         names = λ n x h. let y = had_name n x h in old.names n y.0 y.1;
         keys = λ n x c h held. ⊎_elim
             (λ (u : (n ≡ name) × (x1 ≡ x)).
-                let g = was_in x0.locked key c (subst (λ (z : Transaction). words.contains z.locked c ≡ true) (sym u.1) held) in
-                other_still c (Txn n) g.0 (old.keys n x0 c (ap (finite.get a.participant.transactions) u.0 ∙ has) g.1))
+            let g = was_in x0.locked key c (subst (λ (z : Transaction). words.contains z.locked c ≡ true) (sym u.1) held) in
+            other_still c (Txn n) g.0 (old.keys n x0 c (ap (finite.get a.participant.transactions) u.0 ∙ has) g.1))
             (λ (u : (n ≡ name → ⊥) × (finite.get a.participant.transactions n ≡ Some x)). txn_still c n u.0 (old.keys n x c u.1 held)) (has_now n x h);
         direct = λ c h. direct_held c client (old.direct c h);
       }
@@ -156,21 +156,26 @@ module _ (w : World) (by : ℕ) (a : Actor) (name : List ℕ) (x0 : Transaction)
   name_still : (n c : List ℕ) → IsNameOf before n c → IsNameOf after n c
   name_still n c k = ⊎_elim
       (λ (g : (k.at ≡ by) × (k.place ≡ 0) × (k.owner ≡ owner_of a.participant)).
-          let h = has_still n k.transaction (subst (λ (z : Owner). Has z n k.transaction) g.2 k.has) in
-          record {
-            at = k.at; place = k.place; owner = owner_of p; transaction = h.0;
-            there = placed k.at k.place g.0 g.1;
-            client_is = ap (λ (z : Owner). z.client) (sym g.2) ∙ k.client_is;
-            has = h.1;
-            began = subst (λ (z : Owner). Began z.past n) g.2 k.began;
-          })
+      let h = has_still n k.transaction (subst (λ (z : Owner). Has z n k.transaction) g.2 k.has) in
+      record {
+        at = k.at;
+        place = k.place;
+        owner = owner_of p;
+        transaction = h.0;
+        there = placed k.at k.place g.0 g.1;
+        client_is = ap (λ (z : Owner). z.client) (sym g.2) ∙ k.client_is;
+        has = h.1;
+        began = subst (λ (z : Owner). Began z.past n) g.2 k.began;
+      })
       (λ (g : IsParticipantAt after k.at k.place k.owner). record { at = k.at; place = k.place; owner = k.owner; transaction = k.transaction; there = g; client_is = k.client_is; has = k.has; began = k.began })
       (still owner_of w.actors by a b at refl k.at k.place k.owner k.there)
 
   direct_still : (k c : List ℕ) → IsDirectOf before k c → IsDirectOf after k c
   direct_still k c d = ⊎_elim
       (λ (g : (d.at ≡ by) × (d.place ≡ 0) × (d.owner ≡ owner_of a.participant)). record {
-        at = d.at; place = d.place; owner = owner_of p;
+        at = d.at;
+        place = d.place;
+        owner = owner_of p;
         there = placed d.at d.place g.0 g.1;
         client_is = ap (λ (z : Owner). z.client) (sym g.2) ∙ d.client_is;
         has = ap (λ (z : Owner). z.direct) (sym g.2) ∙ d.has;
@@ -184,9 +189,9 @@ module _ (w : World) (by : ℕ) (a : Actor) (name : List ℕ) (x0 : Transaction)
       let g = held_before k (Txn n) h in
       ⊎_elim
       (λ (c : (j ≡ by) × (i ≡ 0) × (o ≡ owner_of p)). ⊎_elim
-          (λ (u : (n ≡ name) × (x1 ≡ x)). subst (λ (z : Transaction). words.contains z.locked k ≡ true) u.1 (still_in x0.locked key k g.0 (s.locks.keys_known k n g.1 by 0 (owner_of a.participant) own_before x0 (ap (finite.get a.participant.transactions) u.0 ∙ has))))
-          (λ (u : (n ≡ name → ⊥) × (finite.get a.participant.transactions n ≡ Some x)). s.locks.keys_known k n g.1 by 0 (owner_of a.participant) own_before x u.1)
-          (has_now n x (subst (λ (z : Owner). Has z n x) c.2 there_has)))
+      (λ (u : (n ≡ name) × (x1 ≡ x)). subst (λ (z : Transaction). words.contains z.locked k ≡ true) u.1 (still_in x0.locked key k g.0 (s.locks.keys_known k n g.1 by 0 (owner_of a.participant) own_before x0 (ap (finite.get a.participant.transactions) u.0 ∙ has))))
+      (λ (u : (n ≡ name → ⊥) × (finite.get a.participant.transactions n ≡ Some x)). s.locks.keys_known k n g.1 by 0 (owner_of a.participant) own_before x u.1)
+      (has_now n x (subst (λ (z : Owner). Has z n x) c.2 there_has)))
       (λ (c : IsParticipantAt before j i o). s.locks.keys_known k n g.1 j i o c x there_has) (was owner_of w.actors by a b at refl j i o there)
 
   -- a key of an undecided prepare is of another name
@@ -223,8 +228,8 @@ module _ (w : World) (by : ℕ) (a : Actor) (name : List ℕ) (x0 : Transaction)
       → (x : Transaction) (c : List ℕ) → finite.get p.transactions n ≡ Some x → words.contains x.locked c ≡ true → holder_of w.writes.history c ≡ None
   unprepared_still n old x c h held = ⊎_elim
       (λ (u : (n ≡ name) × (x1 ≡ x)).
-          let g = was_in x0.locked key c (subst (λ (z : Transaction). words.contains z.locked c ≡ true) (sym u.1) held) in
-          old x0 c (ap (finite.get a.participant.transactions) u.0 ∙ has) g.1)
+      let g = was_in x0.locked key c (subst (λ (z : Transaction). words.contains z.locked c ≡ true) (sym u.1) held) in
+      old x0 c (ap (finite.get a.participant.transactions) u.0 ∙ has) g.1)
       (λ (u : (n ≡ name → ⊥) × (finite.get a.participant.transactions n ≡ Some x)). old x c u.1 held) (has_now n x h)
 
   -- an undecided prepare has another name

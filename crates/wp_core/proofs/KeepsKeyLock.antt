@@ -132,10 +132,10 @@ module _ (w : World) (by : ℕ) (a : Actor) (name : List ℕ) (x0 : Transaction)
         names = λ n x h. let y = had_name n x h in old.names n y.0 y.1;
         keys = λ n x c h held. ⊎_elim
             (λ (u : (n ≡ name) × (x1 ≡ x)).
-                let in_it : words.contains x1.locked c ≡ true = subst (λ (z : Transaction). words.contains z.locked c ≡ true) (sym u.1) held in
-                ⊎_elim
-                (λ (q : c ≡ key). at_inserted w.locks.keys key (Txn name) c q ∙ ap (λ (z : List ℕ). Some (Txn z)) (sym u.0))
-                (λ (ne : c ≡ key → ⊥). held_still c (Txn n) (old.keys n x0 c (ap (finite.get a.participant.transactions) u.0 ∙ has) (was_in x0.locked key c ne in_it))) (is_word_same c key))
+            let in_it : words.contains x1.locked c ≡ true = subst (λ (z : Transaction). words.contains z.locked c ≡ true) (sym u.1) held in
+            ⊎_elim
+            (λ (q : c ≡ key). at_inserted w.locks.keys key (Txn name) c q ∙ ap (λ (z : List ℕ). Some (Txn z)) (sym u.0))
+            (λ (ne : c ≡ key → ⊥). held_still c (Txn n) (old.keys n x0 c (ap (finite.get a.participant.transactions) u.0 ∙ has) (was_in x0.locked key c ne in_it))) (is_word_same c key))
             (λ (u : (n ≡ name → ⊥) × (finite.get a.participant.transactions n ≡ Some x)). held_still c (Txn n) (old.keys n x c u.1 held)) (has_now n x h);
         direct = λ c h. held_still c (Client client) (old.direct c h);
       }
@@ -153,21 +153,26 @@ module _ (w : World) (by : ℕ) (a : Actor) (name : List ℕ) (x0 : Transaction)
   name_still : (n c : List ℕ) → IsNameOf before n c → IsNameOf after n c
   name_still n c k = ⊎_elim
       (λ (g : (k.at ≡ by) × (k.place ≡ 0) × (k.owner ≡ owner_of a.participant)).
-          let h = has_still n k.transaction (subst (λ (z : Owner). Has z n k.transaction) g.2 k.has) in
-          record {
-            at = k.at; place = k.place; owner = owner_of p; transaction = h.0;
-            there = placed k.at k.place g.0 g.1;
-            client_is = ap (λ (z : Owner). z.client) (sym g.2) ∙ k.client_is;
-            has = h.1;
-            began = began_still n (subst (λ (z : Owner). Began z.past n) g.2 k.began);
-          })
+      let h = has_still n k.transaction (subst (λ (z : Owner). Has z n k.transaction) g.2 k.has) in
+      record {
+        at = k.at;
+        place = k.place;
+        owner = owner_of p;
+        transaction = h.0;
+        there = placed k.at k.place g.0 g.1;
+        client_is = ap (λ (z : Owner). z.client) (sym g.2) ∙ k.client_is;
+        has = h.1;
+        began = began_still n (subst (λ (z : Owner). Began z.past n) g.2 k.began);
+      })
       (λ (g : IsParticipantAt after k.at k.place k.owner). record { at = k.at; place = k.place; owner = k.owner; transaction = k.transaction; there = g; client_is = k.client_is; has = k.has; began = k.began })
       (still owner_of w.actors by a b at refl k.at k.place k.owner k.there)
 
   direct_still : (k c : List ℕ) → IsDirectOf before k c → IsDirectOf after k c
   direct_still k c d = ⊎_elim
       (λ (g : (d.at ≡ by) × (d.place ≡ 0) × (d.owner ≡ owner_of a.participant)). record {
-        at = d.at; place = d.place; owner = owner_of p;
+        at = d.at;
+        place = d.place;
+        owner = owner_of p;
         there = placed d.at d.place g.0 g.1;
         client_is = ap (λ (z : Owner). z.client) (sym g.2) ∙ d.client_is;
         has = ap (λ (z : Owner). z.direct) (sym g.2) ∙ d.has;
@@ -196,11 +201,11 @@ module _ (w : World) (by : ℕ) (a : Actor) (name : List ℕ) (x0 : Transaction)
       own_case : ((k ≡ key) × (Txn name ≡ Txn n)) ⊎ ((k ≡ key → ⊥) × (finite.get w.locks.keys k ≡ Some (Txn n))) → Has (owner_of p) n x → words.contains x.locked k ≡ true
       own_case held h2 = ⊎_elim
           (λ (u : (n ≡ name) × (x1 ≡ x)). subst (λ (z : Transaction). words.contains z.locked k ≡ true) u.1 (⊎_elim
-              (λ (g : (k ≡ key) × (Txn name ≡ Txn n)). in_inserted x0.locked key k g.0)
-              (λ (g : (k ≡ key → ⊥) × (finite.get w.locks.keys k ≡ Some (Txn n))). still_in x0.locked key k (s.locks.keys_known k n g.1 by 0 (owner_of a.participant) own_before x0 (ap (finite.get a.participant.transactions) u.0 ∙ has))) held))
+          (λ (g : (k ≡ key) × (Txn name ≡ Txn n)). in_inserted x0.locked key k g.0)
+          (λ (g : (k ≡ key → ⊥) × (finite.get w.locks.keys k ≡ Some (Txn n))). still_in x0.locked key k (s.locks.keys_known k n g.1 by 0 (owner_of a.participant) own_before x0 (ap (finite.get a.participant.transactions) u.0 ∙ has))) held))
           (λ (u : (n ≡ name → ⊥) × (finite.get a.participant.transactions n ≡ Some x)). ⊎_elim
-              (λ (g : (k ≡ key) × (Txn name ≡ Txn n)). let same : name ≡ n = let f = g.1 in cc in absurd (u.0 (sym same)))
-              (λ (g : (k ≡ key → ⊥) × (finite.get w.locks.keys k ≡ Some (Txn n))). s.locks.keys_known k n g.1 by 0 (owner_of a.participant) own_before x u.1) held)
+          (λ (g : (k ≡ key) × (Txn name ≡ Txn n)). let same : name ≡ n = let f = g.1 in cc in absurd (u.0 (sym same)))
+          (λ (g : (k ≡ key → ⊥) × (finite.get w.locks.keys k ≡ Some (Txn n))). s.locks.keys_known k n g.1 by 0 (owner_of a.participant) own_before x u.1) held)
           (has_now n x h2)
 
       both : ((k ≡ key) × (Txn name ≡ Txn n)) ⊎ ((k ≡ key → ⊥) × (finite.get w.locks.keys k ≡ Some (Txn n))) → ((j ≡ by) × (i ≡ 0) × (o ≡ owner_of p)) ⊎ (((j ≢ by) ⊎ (i ≢ 0)) × IsParticipantAt before j i o) → words.contains x.locked k ≡ true
@@ -248,10 +253,10 @@ module _ (w : World) (by : ℕ) (a : Actor) (name : List ℕ) (x0 : Transaction)
       → (x : Transaction) (c : List ℕ) → finite.get p.transactions n ≡ Some x → words.contains x.locked c ≡ true → holder_of w.writes.history c ≡ None
   unprepared_still n old x c h held = ⊎_elim
       (λ (u : (n ≡ name) × (x1 ≡ x)).
-          let in_it : words.contains x1.locked c ≡ true = subst (λ (z : Transaction). words.contains z.locked c ≡ true) (sym u.1) held in
-          ⊎_elim
-          (λ (q : c ≡ key). ap (holder_of w.writes.history) q ∙ holder_free (holder_of w.writes.history key) refl)
-          (λ (ne : c ≡ key → ⊥). old x0 c (ap (finite.get a.participant.transactions) u.0 ∙ has) (was_in x0.locked key c ne in_it)) (is_word_same c key))
+      let in_it : words.contains x1.locked c ≡ true = subst (λ (z : Transaction). words.contains z.locked c ≡ true) (sym u.1) held in
+      ⊎_elim
+      (λ (q : c ≡ key). ap (holder_of w.writes.history) q ∙ holder_free (holder_of w.writes.history key) refl)
+      (λ (ne : c ≡ key → ⊥). old x0 c (ap (finite.get a.participant.transactions) u.0 ∙ has) (was_in x0.locked key c ne in_it)) (is_word_same c key))
       (λ (u : (n ≡ name → ⊥) × (finite.get a.participant.transactions n ≡ Some x)). old x c u.1 held) (has_now n x h)
 
   mine_still : (fact : Fact) → SoIn w a.participant fact → SoWith w t p fact
@@ -312,7 +317,7 @@ module _ (w : World) (by : ℕ) (a : Actor) (name : List ℕ) (x0 : Transaction)
   board_part : IsBoard (world.published w) t pasts
   board_part =
       let k = board_more w.actors by a b e at refl refl (world.published w) w.locks
-          (λ label n q. absurd (⊎_elim (λ (r : e ≡ told label n). cc) (λ (r : e ≡ heard label n). cc) q)) (λ label n q. absurd cc) (λ label n q. absurd cc) s.board in
+      (λ label n q. absurd (⊎_elim (λ (r : e ≡ told label n). cc) (λ (r : e ≡ heard label n). cc) q)) (λ label n q. absurd cc) (λ label n q. absurd cc) s.board in
       record { labels = k.labels; numbers = k.numbers; heard = k.heard; told = k.told }
 
   parts : LocksParts w by a (lock_key name x0 key) p a.learned t

@@ -2,7 +2,7 @@
 use Rattle.std.proofs.Common.{◌≡◌, ⊎_elim, false, not, true≢false, ◌∷◌, ℕ, length, refl, sym, subst, ◌∙◌}
 use mathlib.Core.Option.{some}
 use lib.ListN.{get_elem?}
-use Rattle.wp_core.specs.Lists.{Each, IsIn}
+use Rattle.wp_core.specs.Lists.{EachAt, IsIn}
 use Rattle.wp_core.specs.Views.{Fact}
 use Rattle.wp_core.specs.World.{Actor, World, content_of}
 use Rattle.wp_core.specs.Steps.{note}
@@ -42,7 +42,7 @@ notes w by a fact at needs s =
       faults = p.faults;
       edits = p.edits;
       pending = s.pending;
-      held = kept_part w by a b at held_of (Each (AreHeld w.holders (content_of w))) refl s.held;
+      held = kept_part w by a b at held_of (EachAt (AreHeld w.holders (content_of w))) refl s.held;
       have = kept_part w by a b at held_of (HoldersHave w.holders) refl s.have;
       readers = kept_part w by a b at reader_of (AreReaders w.writes.history w.max_evicted w.cache) refl s.readers;
       viewed = kept_part w by a b at (participants_of view_of) (EachParticipant HasSeen) refl s.viewed;

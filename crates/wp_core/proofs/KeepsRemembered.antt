@@ -8,13 +8,13 @@ use Rattle.wp_model.specs.declared.entry.Entry.{Entry}
 use Rattle.wp_model.specs.History.{named}
 use Rattle.wp_model.specs.declared.holder.Holder.{Holder}
 use Rattle.wp_model.specs.declared.holder.Holder.TheVariants.{Txn, Client}
-use Rattle.wp_core.specs.Lists.{Each, IsIn}
+use Rattle.wp_core.specs.Lists.{EachAt, IsIn}
 use Rattle.wp_core.specs.Turns.{write_turn, locks_turn, tables_turn}
 use Rattle.wp_core.specs.Views.{Account, own, another, prepare_at, Event, claimed, took, locked, told, heard, stopped, found_flushed, found, Fact, passed, in_old_commits, apart, words_stay, versions_in_memory, versions_nowhere, number_in_heap, number_not_in_heap, undecided_at, prior_values, unprepared, direct_free, tables_stay, live_listed, nothing_flushed, frozen_stay, delayed_flag_stays, old_flag_stays}
 use Rattle.wp_core.specs.World.{Actor, Participant, World, content_of}
 use Rattle.wp_core.specs.World as world
 use Rattle.wp_core.specs.Steps.{Step, find_log_closed, find_flushed, find_holder, hear}
-use Rattle.wp_core.specs.Changes.{put, remembers}
+use Rattle.wp_core.specs.Changes.{with_actor, remembers}
 use Rattle.wp_core.specs.Effects.{done}
 use Rattle.wp_core.specs.Needs.{Needs}
 use Rattle.wp_core.specs.Conditions.{Accounts, IsHolder, IsSelf}
@@ -70,7 +70,7 @@ pub record MayRemember (w : World) (by : ℕ) (e : Event) : Type 0 where
   pub was_installed : (n : ℕ) → e ≡ found_flushed n → WasInstalled w.first_edit (participants past_of w) n
 
 pub remembering : (w : World) (by : ℕ) (a : Actor) (e : Event) (step : Step) → get_elem? w.actors by ≡ some a → (a.live ≡ false → ⊥) → MayRemember w by e → IsSound w
-    → IsSound (put w by (remembers (forgets w.writes.history (length w.cache) step a) e))
+    → IsSound (with_actor w by (remembers (forgets w.writes.history (length w.cache) step a) e))
 remembering w by a e step at live may s =
     let b : Actor = remembers (forgets w.writes.history (length w.cache) step a) e in
     let sn : map (participants_of seen_of) (set w.actors by b) ≡ participants seen_of w = kept_map (participants_of seen_of) w.actors by a b at refl in
@@ -100,7 +100,7 @@ remembering w by a e step at live may s =
       faults = faults_more w.actors by a b e at refl refl w.writes w.installed.halted may.quiet may.stopped_at s.faults;
       edits = edits_more w.actors by a b e at refl refl w.first_edit w.installed may.quiet may.was_installed s.edits;
       pending = s.pending;
-      held = subst (Each (AreHeld w.holders (content_of w))) (sym hs) s.held;
+      held = subst (EachAt (AreHeld w.holders (content_of w))) (sym hs) s.held;
       have = subst (HoldersHave w.holders) (sym hs) s.have;
       readers = subst (AreReaders w.writes.history w.max_evicted w.cache) (sym rs) s.readers;
       viewed = subst (EachParticipant HasSeen) (sym vs) s.viewed;

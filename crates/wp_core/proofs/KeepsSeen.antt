@@ -3,7 +3,7 @@ use Rattle.std.proofs.Common.{◌≡◌, ℕ, false, map, set, sym, subst, ◌�
 use mathlib.Core.Option.{some}
 use lib.ListN.{get_elem?}
 use Rattle.wp_core.proofs.AllParticipants.{mine}
-use Rattle.wp_core.specs.Lists.{Each, IsIn}
+use Rattle.wp_core.specs.Lists.{EachAt, IsIn}
 use Rattle.wp_core.specs.Views.{Fact}
 use Rattle.wp_core.specs.World.{Actor, Participant, World, content_of}
 use Rattle.wp_core.specs.Sound.Actors.{seen_of, own_of, AreOwned, AreHeld, HoldersHave, AreLed, IsIdle, participants_of, learned_of, held_of, role_of}
@@ -83,7 +83,7 @@ loads_published w by a at s =
       faults = subst (AreFaults w.writes w.installed.halted) (sym ps) s.faults;
       edits = subst (AreEdits w.first_edit w.installed) (sym ps) s.edits;
       pending = s.pending;
-      held = subst (Each (AreHeld w.holders (content_of w))) (sym hs) s.held;
+      held = subst (EachAt (AreHeld w.holders (content_of w))) (sym hs) s.held;
       have = subst (HoldersHave w.holders) (sym hs) s.have;
       readers = subst (AreReaders w.writes.history w.max_evicted w.cache) (sym rs) s.readers;
       viewed = each_person_set view_of HasSeen w.actors by a b at (λ r h. let low = s.viewed by 0 (view_of a.participant) (mine view_of w.actors by a a at refl) r h in let more = shorter w.writes.history a.participant.seen (s.seen by 0 a.participant.seen (mine seen_of w.actors by a a at refl)) in omega (arith, low, more)) refl s.viewed;

@@ -26,7 +26,7 @@ use Rattle.wp_core.specs.Effects.{done}
 use Rattle.wp_core.specs.Needs.{Needs}
 use Rattle.wp_core.specs.Notes.{forgets}
 use Rattle.wp_core.specs.Sound.Actors.{StartsWith, seen_of, participants_of, learned_of}
-use Rattle.wp_core.specs.Sound.Snapshots.{registered_of, AreRegistered, AreBelowCommitted, IsBelowCommitted, count_of, has_versions_at, view_of, HasSeen}
+use Rattle.wp_core.specs.Sound.Snapshots.{registered_of, AreRegistered, AreBelowCommitted, IsBelowCommitted, count_of, has_versions_at, view_of}
 use Rattle.wp_core.specs.Sound.Reader.{reader_of}
 use Rattle.wp_core.specs.IsSound.{IsSound}
 use Rattle.wp_core.proofs.Frames.{at_map}

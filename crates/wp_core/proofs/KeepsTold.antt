@@ -1,5 +1,5 @@
 -- Telling a label the published number keeps every part of a sound world.
-use Rattle.std.proofs.Common.{◌≡◌, ⊎_elim, inl, inr, ℕ, ◌≤◌, true, List, [], ◌∷◌, ◌++◌, length, append-nil, map, refl, sym, subst, ap, ◌∙◌, arith, Some, is_some}
+use Rattle.std.proofs.Common.{◌≡◌, ⊎_elim, inl, inr, ℕ, true, List, [], ◌∷◌, ◌++◌, length, append-nil, map, refl, sym, subst, ap, ◌∙◌, arith, Some, is_some}
 use mathlib.Core.Option.{some}
 use lib.ListN.{get_elem?}
 use Rattle.std.specs.FinMap as finite
@@ -69,7 +69,8 @@ module _ (w : World) (by : ℕ) (a : Actor) (label : List ℕ) (at : get_elem? w
         (λ (ne : l ≡ label → ⊥). past_still w.actors by a b e at refl refl (told l m) (s.board.numbers l m (sym (else_inserted w.locks.labels label n l ne) ∙ h))) (is_word_same l label);
     heard = λ l m h. ⊎_elim
         (λ (c : IsPast (participants past_of w) (heard l m)). past_still w.actors by a b e at refl refl (told l m) (s.board.heard l m c))
-        (λ (q : e ≡ heard l m). absurd cc) (past_before w.actors by a b e at refl refl (heard l m) h);    told = λ l m h. ⊎_elim
+        (λ (q : e ≡ heard l m). absurd cc) (past_before w.actors by a b e at refl refl (heard l m) h);
+    told = λ l m h. ⊎_elim
         (λ (c : IsPast (participants past_of w) (told l m)). s.board.told l m c)
         (λ (q : e ≡ told l m). let same : n ≡ m = told_same l m q in omega (arith, same)) (past_before w.actors by a b e at refl refl (told l m) h);
   }

@@ -18,7 +18,7 @@ use Rattle.wp_judge.specs.declared.observed.InPrepared.TheVariants.{Absent, Dela
 use Rattle.wp_judge.specs.Words.{decision_in_word}
 use Rattle.wp_judge.specs.Order.{answered_by, ask_is_old_commit, ask_old_flag, ask_second_max, ask_second_word, ask_in_prepared, ask_delayed_flag, ask_first_max, answer_of, ask, judgement}
 use Rattle.wp_core.specs.Lists.{IsIn}
-use Rattle.wp_core.specs.Cache.{word_at, cached}
+use Rattle.wp_core.specs.Cache.{cached_word, cached}
 use Rattle.wp_core.specs.Reading.{Registration, snapshot_of}
 use Rattle.wp_core.specs.Views.{Fact}
 use Rattle.wp_core.specs.World.{Actor, World}
@@ -67,7 +67,7 @@ module _ (w : World) (r : Observed) (s : IsSound w) (live : (r.snapshot ≤ leng
   knows_first_word : ReaderKnows w.writes.history w.max_evicted w.cache r → ReaderKnows w.writes.history w.max_evicted w.cache (loaded w FirstWord r)
   knows_first_word k = record {
     version = k.version;
-    first_word = λ word e another is. gone_by w.writes.history w.cache w.max_evicted w.snapshots r.version is.by s.decided is.decided (ap (decision_in_word r.version) (same_some (word_at w.cache r.version) word e) ∙ another);
+    first_word = λ word e another is. gone_by w.writes.history w.cache w.max_evicted w.snapshots r.version is.by s.decided is.decided (ap (decision_in_word r.version) (same_some (cached_word w.cache r.version) word e) ∙ another);
     first_max = k.first_max;
     not_in_prepared = k.not_in_prepared;
     second_word = k.second_word;
@@ -258,7 +258,7 @@ module _ (w : World) (r : Observed) (s : IsSound w) (live : (r.snapshot ≤ leng
     first_max = k.first_max;
     not_in_prepared = k.not_in_prepared;
     second_word = λ word e another. let d = decided_by_now k at.0 in
-        gone_by w.writes.history w.cache w.max_evicted w.snapshots r.version d.0 s.decided d.1 (ap (decision_in_word r.version) (same_some (word_at w.cache r.version) word e) ∙ another);
+        gone_by w.writes.history w.cache w.max_evicted w.snapshots r.version d.0 s.decided d.1 (ap (decision_in_word r.version) (same_some (cached_word w.cache r.version) word e) ∙ another);
     second_max = k.second_max;
   }
 

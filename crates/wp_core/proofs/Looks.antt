@@ -2,12 +2,12 @@
 use Rattle.std.proofs.Common.{◌≡◌, ℕ, Bool, false, ◌∷◌, map, set, sym, subst, Some}
 use mathlib.Core.Option.{some}
 use lib.ListN.{get_elem?}
-use Rattle.wp_core.specs.Lists.{Each, IsIn}
+use Rattle.wp_core.specs.Lists.{EachAt, IsIn}
 use Rattle.wp_judge.specs.declared.observed.Observed.{Observed}
 use Rattle.wp_judge.specs.Order.{judgement}
 use Rattle.wp_core.specs.Views.{Fact}
 use Rattle.wp_core.specs.World.{Actor, Participant, World, content_of}
-use Rattle.wp_core.specs.Changes.{put}
+use Rattle.wp_core.specs.Changes.{with_actor}
 use Rattle.wp_core.specs.Sound.Actors.{seen_of, own_of, AreSeen, AreLearned, AreOwned, AreHeld, HoldersHave, AreLed, IsIdle, participants_of, learned_of, held_of, role_of, EachParticipant}
 use Rattle.wp_core.specs.Sound.Snapshots.{registered_of, AreRegistered, view_of, HasSeen}
 use Rattle.wp_core.specs.Sound.Locks.{owner_of, AreLocked}
@@ -34,7 +34,7 @@ pub record ReadsRight (w : World) (b : Actor) : Type 0 where
   pub right : (r : Observed) (visible : Bool) → b.reading ≡ Some r → judgement r ≡ Some visible → IsRight w.writes.history r.version r.snapshot visible
   pub idle : b.live ≡ false → IsIdle b
 
-pub looks : (w : World) (by : ℕ) (a b : Actor) → get_elem? w.actors by ≡ some a → LeavesMost a b → ReadsRight w b → IsSound w → IsSound (put w by b)
+pub looks : (w : World) (by : ℕ) (a b : Actor) → get_elem? w.actors by ≡ some a → LeavesMost a b → ReadsRight w b → IsSound w → IsSound (with_actor w by b)
 looks w by a b at same reads s =
     let sn : map (participants_of seen_of) (set w.actors by b) ≡ participants seen_of w = kept_map (participants_of seen_of) w.actors by a b at (λ i. seen_of (same.participant i) ∷ map seen_of (same.joined i)) in
     let ow : map (participants_of own_of) (set w.actors by b) ≡ participants own_of w = kept_map (participants_of own_of) w.actors by a b at (λ i. own_of (same.participant i) ∷ map own_of (same.joined i)) in
@@ -65,7 +65,7 @@ looks w by a b at same reads s =
       faults = subst (AreFaults w.writes w.installed.halted) (sym ps) s.faults;
       edits = subst (AreEdits w.first_edit w.installed) (sym ps) s.edits;
       pending = s.pending;
-      held = subst (Each (AreHeld w.holders (content_of w))) (sym hs) s.held;
+      held = subst (EachAt (AreHeld w.holders (content_of w))) (sym hs) s.held;
       have = subst (HoldersHave w.holders) (sym hs) s.have;
       readers = each_map_set reader_of (λ j x. (r : Observed) → x.1 ≡ Some r → IsReader w.writes.history w.max_evicted w.cache x.0 r) w.actors by b reads.knows (λ j x ne there. s.readers j x there);
       viewed = subst (EachParticipant HasSeen) (sym vs) s.viewed;

@@ -2,7 +2,7 @@
 use Rattle.std.proofs.Common.{◌≡◌, ◌≢◌, ⊎_elim, inl, inr, ℕ, zero, suc, ◌+◌, Bool, true, false, not, List, [], ◌∷◌, ◌++◌, length, map, set, filter, refl, sym, subst, ap, ◌∙◌, arith}
 use mathlib.Core.Option.{some, some-injective, some-ne-none}
 use lib.ListN.{get_elem?}
-use Rattle.wp_core.specs.Lists.{Each, IsIn, one_if, total}
+use Rattle.wp_core.specs.Lists.{EachAt, IsIn, one_if, total}
 use Rattle.wp_core.specs.Views.{Fact}
 use Rattle.wp_core.specs.World.{Actor, Participant, World, new_actor, content_of}
 use Rattle.wp_core.specs.Steps.{make_note, make_seat}
@@ -81,7 +81,7 @@ module _ (w : World) (by : ℕ) (a b : Actor) (live : Bool) (at : get_elem? w.ac
   parts : AreLed (map role_of actors) → ActorParts w actors
   parts led = record {
     learned = each_map_more learned_of (λ j x. StartsWith w.writes.history x) first_actors c (λ j. (w.writes.history, refl)) (kept_part w by a b at learned_of (AreLearned w.writes.history) same_learned s.learned);
-    held = each_map_more held_of (AreHeld w.holders (content_of w)) first_actors c (λ j. tt) (kept_part w by a b at held_of (Each (AreHeld w.holders (content_of w))) same.held s.held);
+    held = each_map_more held_of (AreHeld w.holders (content_of w)) first_actors c (λ j. tt) (kept_part w by a b at held_of (EachAt (AreHeld w.holders (content_of w))) same.held s.held);
     have = have_more w.holders first_actors c (kept_part w by a b at held_of (HoldersHave w.holders) same.held s.have);
     readers = each_map_more reader_of _ first_actors c (λ j r e. absurd cc) (kept_part w by a b at reader_of (AreReaders w.writes.history w.max_evicted w.cache) same_reader s.readers);
     judged = each_map_more reader_of _ first_actors c (λ j r visible e q. absurd cc) (kept_part w by a b at reader_of (AreJudged w.writes.history) same_reader s.judged);

@@ -4,7 +4,7 @@ use mathlib.Core.Option.{some}
 use lib.ListN.{get_elem?}
 use Rattle.wp_model.specs.declared.version.Version.{Version}
 use Rattle.wp_model.specs.Versions.{version_at}
-use Rattle.wp_core.specs.Tables.{Store}
+use Rattle.wp_core.specs.Tables.{StoreTable}
 use Rattle.wp_core.specs.Turns.{Holds, tables_turn}
 use Rattle.wp_core.specs.Views.{Fact, versions_in_memory, versions_nowhere, tables_stay, nothing_flushed, frozen_stay}
 use Rattle.wp_core.specs.World.{Participant, Actor, World}
@@ -21,7 +21,7 @@ use Rattle.wp_core.proofs.StoresFlag.{not_theirs, not_free}
 -- ---- a flush
 
 module _ (w : World) (memory tables : List Version) (pending_same : (key : List ℕ) → version_at memory key (suc (length w.writes.history)) ≡ version_at w.store.memory key (suc (length w.writes.history))) where
-  abbrev flushed_store : Store
+  abbrev flushed_store : StoreTable
   flushed_store = record w.store { memory = memory; tables = tables }
 
   mine_moved : (p : Participant) (fact : Fact) → not (ends w.writes.history (length w.cache) (move_versions memory tables) fact) ≡ true → SoIn w p fact → SoStored w flushed_store p fact
@@ -49,7 +49,7 @@ moves_versions w by a memory tables at n s =
 -- ---- a compaction
 
 module _ (w : World) (tables : List Version) (floor : ℕ) where
-  abbrev compacted_store : Store
+  abbrev compacted_store : StoreTable
   compacted_store = record w.store { tables = tables; floor = floor }
 
   mine_replaced : (p : Participant) (fact : Fact) → not (ends w.writes.history (length w.cache) (replace_versions tables floor) fact) ≡ true → SoIn w p fact → SoStored w compacted_store p fact

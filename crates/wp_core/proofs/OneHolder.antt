@@ -40,19 +40,19 @@ module _ (history : List Entry) (entry : Entry) (next : IsLegalNext history entr
   old_or_last : (p : ℕ) (key : List ℕ) → Holding grown p key → (Holding history p key) ⊎ ((p ≡ length history + 1) × (holder_of history key ≡ None))
   old_or_last p key h = ⊎_elim
       (λ (past : length history < p).
-          let within = (undecided_within grown p h.0).1 in
-          let same : p ≡ length history + 1 = omega (arith, past, within, length-append history (entry ∷ [])) in
-          inr (same, last_free key (subst (λ (n : ℕ). Holding grown n key) same h)))
+      let within = (undecided_within grown p h.0).1 in
+      let same : p ≡ length history + 1 = omega (arith, past, within, length-append history (entry ∷ [])) in
+      inr (same, last_free key (subst (λ (n : ℕ). Holding grown n key) same h)))
       (λ (le : p ≤ length history). inl (held_before p key le h)) (cases_lt (length history) p)
 
   one_more : ((p q : ℕ) (key : List ℕ) → Holding history p key → Holding history q key → p ≡ q) → (p q : ℕ) (key : List ℕ) → Holding grown p key → Holding grown q key → p ≡ q
   one_more old p q key hp hq = ⊎_elim
       (λ (x : Holding history p key). ⊎_elim
-          (λ (y : Holding history q key). old p q key x y)
-          (λ (y : (q ≡ length history + 1) × (holder_of history key ≡ None)). absurd (not_free history key p x.0 x.1 y.1)) (old_or_last q key hq))
+      (λ (y : Holding history q key). old p q key x y)
+      (λ (y : (q ≡ length history + 1) × (holder_of history key ≡ None)). absurd (not_free history key p x.0 x.1 y.1)) (old_or_last q key hq))
       (λ (x : (p ≡ length history + 1) × (holder_of history key ≡ None)). ⊎_elim
-          (λ (y : Holding history q key). absurd (not_free history key q y.0 y.1 x.1))
-          (λ (y : (q ≡ length history + 1) × (holder_of history key ≡ None)). x.0 ∙ sym y.0) (old_or_last q key hq))
+      (λ (y : Holding history q key). absurd (not_free history key q y.0 y.1 x.1))
+      (λ (y : (q ≡ length history + 1) × (holder_of history key ≡ None)). x.0 ∙ sym y.0) (old_or_last q key hq))
       (old_or_last p key hp)
 
 -- two that hold a key are one

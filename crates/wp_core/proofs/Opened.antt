@@ -23,7 +23,7 @@ use Rattle.wp_judge.specs.Words.{CommitPair, pair_of}
 use Rattle.wp_judge.specs.declared.observed.Observed.{Observed}
 use Rattle.wp_core.specs.Lists.{IsIn}
 use Rattle.wp_core.specs.Turns.{Turn, write_turn, prepared_turn, snapshots_turn, store_turn, locks_turn, tables_turn, Holds, all_free}
-use Rattle.wp_core.specs.Tables.{Store, InstalledEdit, Installed, NoneDelayed}
+use Rattle.wp_core.specs.Tables.{StoreTable, InstalledEdit, Installed, NoneDelayed}
 use Rattle.wp_core.specs.Reading.{Registration}
 use Rattle.wp_core.specs.Views.{Event, Fact, told, heard, stopped, found_flushed, found}
 use Rattle.wp_core.specs.World.{World, Actor, Participant, Transaction, new_actor, new_participant, content_of}
@@ -104,7 +104,7 @@ prepared_of opened = record { heap = finset.empty; delayed = finset.from_list (u
 abbrev running : InstalledEdit → Installed
 running edit = record { last = edit; failed = None; halted = false }
 
-abbrev opened_world : List Entry → List ℕ → ℕ → Bool → Store → LockTables → InstalledEdit → List ℕ → World
+abbrev opened_world : List Entry → List ℕ → ℕ → Bool → StoreTable → LockTables → InstalledEdit → List ℕ → World
 opened_world opened cache flag logged store locks edit client =
     record {
       opened = opened;
@@ -123,7 +123,7 @@ opened_world opened cache flag logged store locks edit client =
       actors = new_actor true client opened ∷ [];
     }
 
-module _ (opened : List Entry) (cache : List ℕ) (flag : ℕ) (logged : Bool) (store : Store) (t : LockTables) (edit : InstalledEdit) (client : List ℕ)
+module _ (opened : List Entry) (cache : List ℕ) (flag : ℕ) (logged : Bool) (store : StoreTable) (t : LockTables) (edit : InstalledEdit) (client : List ℕ)
     (legal : IsLegal opened) (no_undo : undone_last opened ≡ None) (words : 1 ≤ length cache) (zeros : All (λ word. word ≡ 0) cache)
     (down : flag ≡ 0 → undecided opened ≡ []) (up : undecided opened ≡ [] → flag ≡ 0)
     (versions : IsStored opened [] finite.empty store (running edit)) (flushed : NoneFlushed store.memory edit.flushed) (locks : AreOpened opened t) where
@@ -267,7 +267,7 @@ same_world w o =
 pub opening_is_sound : (w : World) → IsOpening w → IsSound w
 opening_is_sound w o =
     subst IsSound (sym (same_world w o))
-        (opened_is_sound w.opened w.cache w.delayed_flag w.writes.logged w.store w.locks w.first_edit o.client o.legal o.closed_undo o.words o.cache o.delayed_flag o.delayed_free
-            (subst (λ (z : World). IsStored z.opened [] z.snapshots z.store z.installed) (same_world w o) o.versions)
-            (subst (λ (z : World). NoneFlushed z.store.memory z.installed.last.flushed) (same_world w o) o.flushed)
-            o.locks)
+    (opened_is_sound w.opened w.cache w.delayed_flag w.writes.logged w.store w.locks w.first_edit o.client o.legal o.closed_undo o.words o.cache o.delayed_flag o.delayed_free
+    (subst (λ (z : World). IsStored z.opened [] z.snapshots z.store z.installed) (same_world w o) o.versions)
+    (subst (λ (z : World). NoneFlushed z.store.memory z.installed.last.flushed) (same_world w o) o.flushed)
+    o.locks)

@@ -7,7 +7,7 @@ use Rattle.wp_model.specs.declared.entry.Entry.TheVariants.{Close}
 use Rattle.wp_model.specs.Decision.{version_in, decision_of}
 use Rattle.wp_model.specs.History.{entry_at, is_prepare}
 use Rattle.wp_model.specs.Legal.{IsLegal}
-use Rattle.wp_core.specs.Entries.{next_of, extended, IsRecord}
+use Rattle.wp_core.specs.Entries.{next_of, extended, IsOneRecord}
 use Rattle.wp_core.specs.Tables.{Content, WriteTable, writes}
 use Rattle.wp_core.specs.Turns.{Holds, write_turn}
 use Rattle.wp_core.specs.Views.{Fact, versions_in_memory}
@@ -94,7 +94,7 @@ log_is w none s = s.history.log ∙ ap (λ (z : List Entry). w.writes.history ++
 not_empty : (entry : Entry) (others : List Entry) → [] ≡ entry ∷ others → ⊥
 not_empty entry others e = let k : ◌≡◌ {A = ℕ} 0 (suc (length others)) = ap length e in absurd (omega arith)
 
-history_made : (w : World) (entries : List Entry) → w.writes.pending ≡ [] → IsRecord entries → IsLegal (w.writes.history ++ entries) → IsSound w → IsHistory w.opened (with_pending w.writes entries false w.writes.log) w.max_evicted
+history_made : (w : World) (entries : List Entry) → w.writes.pending ≡ [] → IsOneRecord entries → IsLegal (w.writes.history ++ entries) → IsSound w → IsHistory w.opened (with_pending w.writes entries false w.writes.log) w.max_evicted
 history_made w entries none is legal s = record {
   legal = s.history.legal;
   grown = s.history.grown;

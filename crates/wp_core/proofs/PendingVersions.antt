@@ -13,7 +13,7 @@ use Rattle.wp_model.specs.Covered.{IsCovered, GivesStore}
 use Rattle.wp_model.specs.Decision.{version_in, entry_version}
 use Rattle.wp_model.specs.Versions.{version_at}
 use Rattle.wp_core.specs.Entries.{next_of, HasVersionsAt}
-use Rattle.wp_core.specs.Tables.{Content, Store, store, up_to}
+use Rattle.wp_core.specs.Tables.{Content, StoreTable, store, up_to}
 use Rattle.wp_core.specs.Turns.{Holds, write_turn, store_turn}
 use Rattle.wp_core.specs.Views.{Fact, versions_in_memory, versions_nowhere, nothing_flushed, frozen_stay}
 use Rattle.wp_core.specs.World.{Participant, Actor, World, content_of, with_content}
@@ -130,11 +130,11 @@ module _ (w : World) (memory : List Version) (s : IsSound w) (next : Option Entr
   flushed_now : IsFlushedGone w.holders.tables w.store.memory w.installed.last.flushed → IsFlushedGone w.holders.tables memory w.installed.last.flushed
   flushed_now k free key p low = at_old key p (le_trans low s.versions.last.flushed) ∙ k free key p low
 
-abbrev pub SoStored : World → Store → Participant → Fact → Type 0
+abbrev pub SoStored : World → StoreTable → Participant → Fact → Type 0
 SoStored w t = IsSo w.delayed_flag w.old_flag w.max_evicted w.cache w.writes w.prepared w.snapshots t w.locks w.installed
 
 -- a step of who holds the store turn
-pub store_changes : (w : World) (by : ℕ) (a : Actor) (step : Step) (t : Store) → get_elem? w.actors by ≡ some a → Holds w.holders store_turn by → IsStored w.writes.history w.writes.pending w.snapshots t w.installed
+pub store_changes : (w : World) (by : ℕ) (a : Actor) (step : Step) (t : StoreTable) → get_elem? w.actors by ≡ some a → Holds w.holders store_turn by → IsStored w.writes.history w.writes.pending w.snapshots t w.installed
     → IsFlushedGone w.holders.tables t.memory w.installed.last.flushed → NotesStay w by step (SoStored w t) → IsSound w
     → IsSound (change w by (forgets w.writes.history (length w.cache) step a) (store t))
 store_changes w by a step t at holds stored flushed notes s =

@@ -10,7 +10,7 @@ use Rattle.wp_history.specs.Growth.{undone_by}
 use Rattle.wp_history.proofs.Growth.{length_next}
 use Rattle.wp_history.proofs.Undone.{undone_next}
 use Rattle.wp_core.specs.Lists.{one_if}
-use Rattle.wp_core.specs.Entries.{IsRecord}
+use Rattle.wp_core.specs.Entries.{IsOneRecord}
 use Rattle.wp_core.specs.Tables.{WriteTable}
 use Rattle.wp_core.specs.World.{Actor}
 use Rattle.wp_core.specs.Effects.{with_entry}
@@ -29,7 +29,7 @@ cons_is x y xs ys e = (cc, cc)
 abbrev Follows : Entry → List Entry → Type 0
 Follows entry others = ((others ≡ []) × (undone_by entry ≡ None)) ⊎ ((p : ℕ) × (undone_by entry ≡ Some p) × (others ≡ Close p ∷ []))
 
-rest_of_record : (entry : Entry) (others : List Entry) → IsRecord (entry ∷ others) → Follows entry others
+rest_of_record : (entry : Entry) (others : List Entry) → IsOneRecord (entry ∷ others) → Follows entry others
 rest_of_record (Write batch) [] k = inl (refl, refl)
 rest_of_record (Write batch) (x ∷ xs) k = absurd k
 rest_of_record (Prepare name batch) [] k = inl (refl, refl)

@@ -15,7 +15,7 @@ use Rattle.wp_model.specs.Versions.{version_at}
 use Rattle.wp_history.proofs.Counting.{entry_version_old}
 use Rattle.wp_history.proofs.Growth.{entry_at_past}
 use Rattle.wp_core.specs.Entries.{next_of}
-use Rattle.wp_core.specs.Tables.{Store, InstalledEdit, Installed, live_numbers, up_to, all_in}
+use Rattle.wp_core.specs.Tables.{StoreTable, InstalledEdit, Installed, live_numbers, up_to, all_in}
 use Rattle.wp_core.specs.Sound.Store.{versions_under, versions_after, later_versions, IsEditCovered, IsStored}
 use Rattle.wp_core.proofs.CoveredGrows.{version_within, covered_grows}
 use Rattle.wp_core.proofs.HistoryGrows.{none_is, grown_length, version_new}
@@ -107,7 +107,7 @@ module _ (history : List Entry) (entry : Entry) (legal : IsLegal (history ++ ent
 
   -- ---- the store
 
-  module _ (pending others : List Entry) (snapshots : Snapshots) (t : Store) (e : Installed) (is : pending ≡ entry ∷ others) (live : (m : ℕ) → is_among (live_numbers snapshots) m ≡ true → m ≤ length history) (here : (key : List ℕ) (value : Option (List ℕ)) → version_in (Some entry) key ≡ Some value → version_at t.memory key next ≡ Some value) (k : IsStored history pending snapshots t e) where
+  module _ (pending others : List Entry) (snapshots : Snapshots) (t : StoreTable) (e : Installed) (is : pending ≡ entry ∷ others) (live : (m : ℕ) → is_among (live_numbers snapshots) m ≡ true → m ≤ length history) (here : (key : List ℕ) (value : Option (List ℕ)) → version_in (Some entry) key ≡ Some value → version_at t.memory key next ≡ Some value) (k : IsStored history pending snapshots t e) where
     memory_next : (key : List ℕ) (o : Option (Option (List ℕ))) → version_in (Some entry) key ≡ o → version_at t.memory key next ≡ o
     memory_next key (Some v) at = here key v at
     memory_next key None at = none_is (version_at t.memory key next) (λ v there. none_some (version_in (Some entry) key) v at (ap (λ (z : List Entry). version_in (next_of z) key) (sym is) ∙ (k.next key next v (omega arith) there).1))

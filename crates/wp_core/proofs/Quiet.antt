@@ -4,25 +4,23 @@ use Rattle.std.proofs.Common.{◌≡◌, ◌≢◌, ℕ, true, false, not, List,
 use mathlib.Core.Option.{some, some-injective}
 use lib.ListN.{get_elem?}
 use Rattle.wp_model.specs.PreparedTables.{PreparedTables}
-use Rattle.wp_model.specs.Snapshots.{Snapshots}
-use Rattle.wp_core.specs.Lists.{Each, IsIn}
-use Rattle.wp_core.specs.Turns.{Turn, Holds, prepared_turn, snapshots_turn}
-use Rattle.wp_core.specs.Tables.{Content, prepared, snapshots}
+use Rattle.wp_core.specs.Lists.{EachAt, IsIn}
+use Rattle.wp_core.specs.Turns.{Turn, Holds, prepared_turn}
+use Rattle.wp_core.specs.Tables.{Content, prepared}
 use Rattle.wp_core.specs.Views.{Fact}
 use Rattle.wp_core.specs.World.{Participant, Actor, World, content_of, with_content}
 use Rattle.wp_core.specs.World as world
 use Rattle.wp_core.specs.Steps.{Step}
-use Rattle.wp_core.specs.Changes.{put, held_with, change}
+use Rattle.wp_core.specs.Changes.{with_actor, held_with, change}
 use Rattle.wp_core.specs.Notes.{forgets, ends}
 use Rattle.wp_core.specs.Sound.Actors.{seen_of, own_of, AreSeen, AreLearned, AreOwned, AreHeld, HoldersHave, AreLed, IsIdle, AreIdle, participants_of, learned_of, held_of, role_of, EachParticipant}
 use Rattle.wp_core.specs.Sound.Prepared.{IsCache, AreDecided, AreUndecided, AreDelayed, AreFlags}
 use Rattle.wp_core.specs.Sound.Snapshots.{registered_of, AreRegistered, view_of, HasSeen}
 use Rattle.wp_core.specs.Sound.Locks.{owner_of, AreLocked}
-use Rattle.wp_core.specs.Sound.Store.{IsStored}
 use Rattle.wp_core.specs.Sound.Pasts.{past_of, AreHolders, IsBoard, AreFaults, AreEdits}
 use Rattle.wp_core.specs.Sound.Reader.{AreReaders, AreJudged, reader_of}
 use Rattle.wp_core.specs.Sound.Views.{IsSo, AreNoted, IsNoted, noter_of, guarded_by}
-use Rattle.wp_core.specs.IsSound.{IsSound, participants}
+use Rattle.wp_core.specs.IsSound.{IsSound}
 use Rattle.wp_core.proofs.Frames.{kept_map, each_map_set, each_set, at_map, in_filter}
 use Rattle.wp_core.proofs.Changed.{others_hold, holds_changed, have_changed}
 
@@ -136,55 +134,13 @@ prepared_changes w by a step t at holds undecided delayed flags notes s =
       idle = idle_after w by a b prepared_turn at holds s refl;
     }
 
--- ---- the snapshots change, and no registration
-
-pub snapshots_change : (w : World) (by : ℕ) (a : Actor) (step : Step) (m : Snapshots) → get_elem? w.actors by ≡ some a → Holds w.holders snapshots_turn by
-    → AreDecided w.writes.history w.cache w.max_evicted m → AreRegistered w.writes.history m (participants registered_of w) → AreFlags w.delayed_flag w.old_flag w.prepared m w.holders.prepared w.holders.snapshots
-    → IsStored w.writes.history w.writes.pending m w.store w.installed
-    → NotesStay w by step (IsSo w.delayed_flag w.old_flag w.max_evicted w.cache w.writes w.prepared m w.store w.locks w.installed) → IsSound w
-    → IsSound (change w by (forgets w.writes.history (length w.cache) step a) (snapshots m))
-snapshots_change w by a step m at holds decided registered flags stored notes s =
-    let e : Content = snapshots m in
-    let c : Actor = forgets w.writes.history (length w.cache) step a in
-    let b : Actor = record c { held = held_with c.held e } in
-    let p = parts_of w by a b at (record { participant = refl; learned = refl; live = refl; made = refl; joined = refl }) s in
-    record {
-      history = s.history;
-      seen = p.seen;
-      learned = p.learned;
-      owned = p.owned;
-      cache = s.cache;
-      decided = decided;
-      undecided = s.undecided;
-      delayed = s.delayed;
-      registrations = kept_part w by a b at (participants_of registered_of) (AreRegistered w.writes.history m) refl registered;
-      flags = flags;
-      versions = stored;
-      flushed = s.flushed;
-      locks = p.locks;
-      holders = p.holders;
-      board = p.board;
-      faults = p.faults;
-      edits = p.edits;
-      pending = s.pending;
-      held = each_map_set held_of (AreHeld w.holders (content_of (with_content w e))) w.actors by b (holds_changed w e by a.held (s.held by a.held (at_map held_of w.actors by a at)))
-          (λ j x ne there. others_hold w e by j x holds ne (s.held j x there));
-      have = have_changed w.holders e by w.actors a b at refl s.have;
-      readers = kept_part w by a b at reader_of (AreReaders w.writes.history w.max_evicted w.cache) refl s.readers;
-      viewed = kept_part w by a b at (participants_of view_of) (EachParticipant HasSeen) refl s.viewed;
-      judged = kept_part w by a b at reader_of (AreJudged w.writes.history) refl s.judged;
-      noted = noted_after w by a b step (IsSo w.delayed_flag w.old_flag w.max_evicted w.cache w.writes w.prepared m w.store w.locks w.installed) at refl refl notes s;
-      led = p.led;
-      idle = idle_after w by a b snapshots_turn at holds s refl;
-    }
-
 -- ---- words change, and no table
 
 pub words_change : (w : World) (by : ℕ) (a : Actor) (step : Step) (turn : Turn) (cache : List ℕ) (delayed_flag old_flag : ℕ) → get_elem? w.actors by ≡ some a → Holds w.holders turn by
     → IsCache w.writes.history w.writes.pending cache → AreDecided w.writes.history cache w.max_evicted w.snapshots → AreDelayed w.writes.history w.prepared cache
     → AreFlags delayed_flag old_flag w.prepared w.snapshots w.holders.prepared w.holders.snapshots → AreReaders w.writes.history w.max_evicted cache (map reader_of w.actors)
     → NotesStay w by step (IsSo delayed_flag old_flag w.max_evicted cache w.writes w.prepared w.snapshots w.store w.locks w.installed) → IsSound w
-    → IsSound (put (record w { cache = cache; delayed_flag = delayed_flag; old_flag = old_flag }) by (forgets w.writes.history (length w.cache) step a))
+    → IsSound (with_actor (record w { cache = cache; delayed_flag = delayed_flag; old_flag = old_flag }) by (forgets w.writes.history (length w.cache) step a))
 words_change w by a step turn cache delayed_flag old_flag at holds cached decided delayed flags readers notes s =
     let b : Actor = forgets w.writes.history (length w.cache) step a in
     let p = parts_of w by a b at (record { participant = refl; learned = refl; live = refl; made = refl; joined = refl }) s in
@@ -207,7 +163,7 @@ words_change w by a step turn cache delayed_flag old_flag at holds cached decide
       faults = p.faults;
       edits = p.edits;
       pending = s.pending;
-      held = kept_part w by a b at held_of (Each (AreHeld w.holders (content_of w))) refl s.held;
+      held = kept_part w by a b at held_of (EachAt (AreHeld w.holders (content_of w))) refl s.held;
       have = kept_part w by a b at held_of (HoldersHave w.holders) refl s.have;
       readers = kept_part w by a b at reader_of (AreReaders w.writes.history w.max_evicted cache) refl readers;
       viewed = kept_part w by a b at (participants_of view_of) (EachParticipant HasSeen) refl s.viewed;

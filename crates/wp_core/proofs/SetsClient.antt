@@ -6,7 +6,7 @@ use Rattle.std.specs.FinMap as finite
 use Rattle.wp_model.specs.Batch.{key_cmp}
 use Rattle.wp_model.specs.declared.entry.Entry.{Entry}
 use Rattle.wp_model.specs.LockTables.{LockTables}
-use Rattle.wp_core.specs.Lists.{Each, IsIn}
+use Rattle.wp_core.specs.Lists.{EachAt, IsIn}
 use Rattle.wp_core.specs.Views.{Fact, undecided_at, direct_free}
 use Rattle.wp_core.specs.World.{Transaction, Transactions, Actor, Participant, World, content_of}
 use Rattle.wp_core.specs.World as world
@@ -128,7 +128,7 @@ sets_client w by a client at needs s =
       faults = kept_part w by a b at (participants_of past_of) (AreFaults w.writes w.installed.halted) refl s.faults;
       edits = kept_part w by a b at (participants_of past_of) (AreEdits w.first_edit w.installed) refl s.edits;
       pending = s.pending;
-      held = kept_part w by a b at held_of (Each (AreHeld w.holders (content_of w))) refl s.held;
+      held = kept_part w by a b at held_of (EachAt (AreHeld w.holders (content_of w))) refl s.held;
       have = kept_part w by a b at held_of (HoldersHave w.holders) refl s.have;
       readers = kept_part w by a b at reader_of (AreReaders w.writes.history w.max_evicted w.cache) refl s.readers;
       viewed = kept_part w by a b at (participants_of view_of) (EachParticipant HasSeen) refl s.viewed;

@@ -2,7 +2,7 @@
 use Rattle.std.proofs.Common.{◌≡◌, ◌≢◌, ℕ, true, true≢false, not, length, refl, sym, ◌∙◌, Some, None}
 use mathlib.Core.Option.{some}
 use lib.ListN.{get_elem?}
-use Rattle.wp_core.specs.Turns.{Turn, Holders, Holds, holder_of, prepared_turn, snapshots_turn}
+use Rattle.wp_core.specs.Turns.{Turn, Holders, Holds, turn_holder, prepared_turn, snapshots_turn}
 use Rattle.wp_core.specs.Views.{Fact, delayed_flag_stays, old_flag_stays}
 use Rattle.wp_core.specs.World.{Participant, Actor, World}
 use Rattle.wp_core.specs.Steps.{store_delayed_flag, store_old_flag}
@@ -18,7 +18,7 @@ pub not_theirs : (h : Holders) (turn : Turn) (by j : ℕ) → Holds h turn by �
 not_theirs h turn by j mine ne theirs = let q : Some j ≡ Some by = sym theirs ∙ mine in ne (cc)
 
 -- a turn that somebody holds is not free
-pub not_free : (h : Holders) (turn : Turn) (by : ℕ) → Holds h turn by → holder_of h turn ≡ None → ⊥
+pub not_free : (h : Holders) (turn : Turn) (by : ℕ) → Holds h turn by → turn_holder h turn ≡ None → ⊥
 not_free h turn by mine free = let q : Some by ≡ None = sym mine ∙ free in absurd (cc)
 
 -- ---- the delayed flag

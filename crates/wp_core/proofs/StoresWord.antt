@@ -17,7 +17,7 @@ use Rattle.wp_judge.specs.declared.observed.Observed.{Observed}
 use Rattle.wp_core.specs.Cache.{cache_place, pair_at, cached, with_pair}
 use Rattle.wp_core.specs.Entries.{extended, pending_pair}
 use Rattle.wp_core.specs.Reading.{Registration}
-use Rattle.wp_core.specs.Conditions.{MayGo}
+use Rattle.wp_core.specs.Conditions.{MayBeEvicted}
 use Rattle.wp_core.specs.Turns.{Holds, write_turn}
 use Rattle.wp_core.specs.Views.{Fact, passed, in_old_commits, apart, words_stay}
 use Rattle.wp_core.specs.World.{Participant, Actor, World}
@@ -61,7 +61,7 @@ not_of p pair ne = by_number (pair.number == p) refl
     by_number true is = let n : ℕ = pair.number in let q : (n == p) ≡ true = is in let same : n ≡ p = grind (arith, nat_tests) in absurd (ne same)
     by_number false is = refl
 
-module _ (w : World) (pair : CommitPair) (s : IsSound w) (next : decision_of (extended w.writes.history w.writes.pending) pair.number ≡ Some pair.decision) (last : pair.decision ≡ suc (length w.writes.history)) (back : pair_of (word_of pair) ≡ Some pair) (may : (gone : CommitPair) → pair_at w.cache (cache_place (length w.cache) pair.number) ≡ Some gone → MayGo w gone) where
+module _ (w : World) (pair : CommitPair) (s : IsSound w) (next : decision_of (extended w.writes.history w.writes.pending) pair.number ≡ Some pair.decision) (last : pair.decision ≡ suc (length w.writes.history)) (back : pair_of (word_of pair) ≡ Some pair) (may : (gone : CommitPair) → pair_at w.cache (cache_place (length w.cache) pair.number) ≡ Some gone → MayBeEvicted w gone) where
   after : List ℕ
   after = with_pair w.cache pair
 
@@ -97,7 +97,7 @@ module _ (w : World) (pair : CommitPair) (s : IsSound w) (next : decision_of (ex
   cached_here p e = cached_is p ∙ ap (decision_if p) (ap (pair_at after) e ∙ pair_here)
 
   -- what a version had in the word that goes may go
-  may_go : (p c : ℕ) → cache_place (length w.cache) p ≡ place → cached w.cache p ≡ Some c → (gone : CommitPair) × (gone.number ≡ p) × (gone.decision ≡ c) × MayGo w gone
+  may_go : (p c : ℕ) → cache_place (length w.cache) p ≡ place → cached w.cache p ≡ Some c → (gone : CommitPair) × (gone.number ≡ p) × (gone.decision ≡ c) × MayBeEvicted w gone
   unfolding place
   may_go p c e there =
       let k = cached_pair p c (pair_at w.cache (cache_place (length w.cache) p)) there in

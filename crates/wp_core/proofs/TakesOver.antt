@@ -4,7 +4,7 @@ use mathlib.Core.Option.{some, some-injective, some-ne-none}
 use mathlib.Core.Logic.{dite}
 use native.Mathlib.Decide.{ℕ_discrete}
 use lib.ListN.{get_elem?}
-use Rattle.wp_core.specs.Lists.{Each, IsIn, total}
+use Rattle.wp_core.specs.Lists.{EachAt, IsIn, total}
 use Rattle.wp_core.specs.Tables.{Content}
 use Rattle.wp_core.specs.Views.{Fact}
 use Rattle.wp_core.specs.World.{Actor, Participant, World, content_of}
@@ -20,7 +20,7 @@ use Rattle.wp_core.proofs.ActorsMove.{ActorParts, total_set, people}
 use Rattle.wp_core.proofs.MakesActors.{StaysAs, idle_still}
 
 -- each item, once two of them changed
-each_two : {A X : Type 0} (f : A → X) (P : ℕ → X → Type 0) (xs : List A) (by other : ℕ) (b c : A) → P other (f c) → P by (f b) → Each P (map f xs) → Each P (map f (set (set xs by b) other c))
+each_two : {A X : Type 0} (f : A → X) (P : ℕ → X → Type 0) (xs : List A) (by other : ℕ) (b c : A) → P other (f c) → P by (f b) → EachAt P (map f xs) → EachAt P (map f (set (set xs by b) other c))
 each_two f P xs by other b c second first k = each_map_set f P (set xs by b) other c second (λ j x ne there. each_map_set f P xs by b first (λ l y apart at. k l y at) j x there)
 
 module _ (w : World) (by other : ℕ) (a b o : Actor) (at : get_elem? w.actors by ≡ some a) (there : get_elem? w.actors other ≡ some o) (ne : other ≢ by) (same : StaysAs a b) (s : IsSound w) where

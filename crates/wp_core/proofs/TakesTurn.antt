@@ -5,7 +5,7 @@ use mathlib.Core.Logic.{dite}
 use native.Mathlib.Decide.{ℕ_discrete}
 use lib.ListN.{get_elem?}
 use Rattle.wp_core.specs.Lists.{IsIn}
-use Rattle.wp_core.specs.Turns.{Turn, write_turn, prepared_turn, snapshots_turn, store_turn, locks_turn, tables_turn, Holders, Holds, holder_of, with_holder}
+use Rattle.wp_core.specs.Turns.{Turn, write_turn, prepared_turn, snapshots_turn, store_turn, locks_turn, tables_turn, Holders, Holds, turn_holder, with_holder}
 use Rattle.wp_core.specs.Tables.{Content, turn_of}
 use Rattle.wp_core.specs.Views.{Fact}
 use Rattle.wp_core.specs.World.{Actor, World, content_of}
@@ -26,7 +26,7 @@ use Rattle.wp_core.proofs.Frames.{map_set, here, set_else, each_map_set, each_se
 use Rattle.wp_core.proofs.Gives.{other_holder, same_turn}
 use Rattle.wp_core.proofs.Quiet.{SoIn, parts_of, kept_part}
 
-taken : (h : Holders) (t : Turn) (by : ℕ) → holder_of (with_holder h t (Some by)) t ≡ Some by
+taken : (h : Holders) (t : Turn) (by : ℕ) → turn_holder (with_holder h t (Some by)) t ≡ Some by
 taken h write_turn by = refl
 taken h prepared_turn by = refl
 taken h snapshots_turn by = refl
@@ -43,10 +43,10 @@ table_of w locks_turn = refl
 table_of w tables_turn = refl
 
 -- a turn that somebody holds is another than the free one
-held_else : (h : Holders) (t u : Turn) (j : ℕ) → holder_of h t ≡ None → Holds h u j → turn_index u ≢ turn_index t
-held_else h t u j free holds e = let q : Some j ≡ None = sym holds ∙ (ap (holder_of h) (same_turn t u e) ∙ free) in absurd (cc)
+held_else : (h : Holders) (t u : Turn) (j : ℕ) → turn_holder h t ≡ None → Holds h u j → turn_index u ≢ turn_index t
+held_else h t u j free holds e = let q : Some j ≡ None = sym holds ∙ (ap (turn_holder h) (same_turn t u e) ∙ free) in absurd (cc)
 
-still_holds : (h : Holders) (t u : Turn) (by j : ℕ) → holder_of h t ≡ None → Holds h u j → Holds (with_holder h t (Some by)) u j
+still_holds : (h : Holders) (t u : Turn) (by j : ℕ) → turn_holder h t ≡ None → Holds h u j → Holds (with_holder h t (Some by)) u j
 still_holds h t u by j free holds = other_holder h t u (Some by) (held_else h t u j free holds) ∙ holds
 
 -- ---- the parts that speak of holders
@@ -78,15 +78,15 @@ pending_after w tables_turn by f = f
 
 -- ---- what is held
 
-still_held : (h : Holders) (contents : Turn → Content) (t : Turn) (by j : ℕ) (held : List Content) → holder_of h t ≡ None → AreHeld h contents j held → AreHeld (with_holder h t (Some by)) contents j held
+still_held : (h : Holders) (contents : Turn → Content) (t : Turn) (by j : ℕ) (held : List Content) → turn_holder h t ≡ None → AreHeld h contents j held → AreHeld (with_holder h t (Some by)) contents j held
 still_held h contents t by j [] free k = tt
 still_held h contents t by j (c ∷ others) free k = (still_holds h t (turn_of c) by j free k.0, k.1, k.2, still_held h contents t by j others free k.3)
 
-none_yet : (h : Holders) (contents : Turn → Content) (t : Turn) (j : ℕ) (held : List Content) → holder_of h t ≡ None → AreHeld h contents j held → NoneAfter t held
+none_yet : (h : Holders) (contents : Turn → Content) (t : Turn) (j : ℕ) (held : List Content) → turn_holder h t ≡ None → AreHeld h contents j held → NoneAfter t held
 none_yet h contents t j [] free k = tt
 none_yet h contents t j (c ∷ others) free k = ((λ e. held_else h t (turn_of c) j free k.0 (ap turn_index e)), none_yet h contents t j others free k.3)
 
-now_held : (w : World) (t : Turn) (by : ℕ) (held : List Content) → holder_of w.holders t ≡ None → AreHeld w.holders (content_of w) by held → AreHeld (with_holder w.holders t (Some by)) (content_of w) by (content_of w t ∷ held)
+now_held : (w : World) (t : Turn) (by : ℕ) (held : List Content) → turn_holder w.holders t ≡ None → AreHeld w.holders (content_of w) by held → AreHeld (with_holder w.holders t (Some by)) (content_of w) by (content_of w t ∷ held)
 now_held w t by held free k =
     let is = table_of w t in (
       subst (λ (u : Turn). Holds (with_holder w.holders t (Some by)) u by) (sym is) (taken w.holders t by),
@@ -101,7 +101,7 @@ have_after w t by a b at is have u j holds =
     dite (ℕ_discrete (turn_index u) (turn_index t))
     (λ (e : turn_index u ≡ turn_index t).
     let same : u ≡ t = same_turn t u e in
-    let q : Some by ≡ Some j = sym (taken w.holders t by) ∙ (ap (holder_of (with_holder w.holders t (Some by))) (sym same) ∙ holds) in
+    let q : Some by ≡ Some j = sym (taken w.holders t by) ∙ (ap (turn_holder (with_holder w.holders t (Some by))) (sym same) ∙ holds) in
     let who : by ≡ j = cc in
     (content_of w t ∷ a.held, subst (λ (i : ℕ). get_elem? (map held_of (set w.actors by b)) i ≡ some (content_of w t ∷ a.held)) who mine, content_of w t, inl refl, table_of w t ∙ sym same))
     (λ (ne : turn_index u ≢ turn_index t).

@@ -7,8 +7,8 @@ abbrev pub cache_place : ℕ → ℕ → ℕ
 cache_place words p = p % words
 
 -- the word at the place of a version
-abbrev pub word_at : List ℕ → ℕ → ℕ
-word_at cache p = slice_index cache (cache_place (length cache) p)
+abbrev pub cached_word : List ℕ → ℕ → ℕ
+cached_word cache p = slice_index cache (cache_place (length cache) p)
 
 -- the pair at a place of the cache, if the word there is one
 abbrev pub pair_at : List ℕ → ℕ → Option CommitPair

@@ -11,7 +11,7 @@ use Rattle.wp_model.specs.declared.holder.Holder.TheVariants.{Txn}
 use Rattle.wp_model.specs.Holder.{is_same}
 use Rattle.wp_model.specs.Snapshots as snaps
 use Rattle.wp_core.specs.Turns.{Turn, write_turn, prepared_turn, snapshots_turn, store_turn, locks_turn, tables_turn}
-use Rattle.wp_core.specs.Cache.{word_at}
+use Rattle.wp_core.specs.Cache.{cached_word}
 use Rattle.wp_model.specs.Snapshots.{Snapshots}
 use Rattle.wp_model.specs.LockTables.{LockTables}
 use Rattle.wp_core.specs.Tables.{Content, turn_of}
@@ -27,8 +27,8 @@ use Rattle.wp_core.specs.World.{Transaction, Actor, new_actor, World, with_conte
 
 -- ---- the actor's part
 
-abbrev pub put : World → ℕ → Actor → World
-put w by a = record w { actors = slice_set w.actors by a }
+abbrev pub with_actor : World → ℕ → Actor → World
+with_actor w by a = record w { actors = slice_set w.actors by a }
 
 abbrev pub turn_index : Turn → ℕ
 turn_index write_turn = 0
@@ -48,7 +48,7 @@ held_without held turn = filter (λ c. not (turn_index (turn_of c) == turn_index
 
 -- the table changes, and the actor that holds it knows it so
 abbrev pub change : World → ℕ → Actor → Content → World
-change w by a c = put (with_content w c) by (record a { held = held_with a.held c })
+change w by a c = with_actor (with_content w c) by (record a { held = held_with a.held c })
 
 abbrev pub sees : List Entry → Actor → Actor
 sees history a = record a { participant = record a.participant { seen = history }; learned = [] }
@@ -87,11 +87,11 @@ found_in true None = Delayed
 found_in false None = Absent
 
 abbrev pub loaded : World → Load → Observed → Observed
-loaded w FirstWord r = record r { first_word = Some (word_at w.cache r.version) }
+loaded w FirstWord r = record r { first_word = Some (cached_word w.cache r.version) }
 loaded w FirstMax r = record r { first_max = Some w.max_evicted }
 loaded w DelayedFlag r = record r { delayed_flag = Some w.delayed_flag }
 loaded w load.InPrepared r = record r { in_prepared = Some (found_in (set.contains w.prepared.delayed r.version) (finite.get w.prepared.delayed_commits r.version)) }
-loaded w SecondWord r = record r { second_word = Some (word_at w.cache r.version) }
+loaded w SecondWord r = record r { second_word = Some (cached_word w.cache r.version) }
 loaded w SecondMax r = record r { second_max = Some w.max_evicted }
 loaded w OldFlag r = record r { old_flag = Some w.old_flag }
 loaded w IsOldCommit r = record r { is_old_commit = Some (snaps.is_old_commit w.snapshots r.snapshot r.version) }

@@ -15,7 +15,7 @@ use Rattle.wp_core.specs.Turns.{Turn, write_turn, prepared_turn, snapshots_turn,
 use Rattle.wp_judge.specs.Words.{CommitPair}
 use Rattle.wp_core.specs.Cache.{cached}
 use Rattle.wp_model.specs.PreparedTables.{is_prepared}
-use Rattle.wp_core.specs.Tables.{Store, Installed, NoneDelayed, NoOldCommits}
+use Rattle.wp_core.specs.Tables.{StoreTable, Installed, NoneDelayed, NoOldCommits}
 use Rattle.wp_judge.specs.declared.observed.Observed.{Observed}
 use Rattle.wp_judge.specs.declared.observed.Load.{Load}
 use Rattle.wp_judge.specs.declared.observed.Load.TheVariants.{InPrepared, IsOldCommit}
@@ -81,7 +81,7 @@ pub record MayPublish (w : World) (by : ℕ) (a : Actor) (entry : Entry) (others
 
 -- A pair may be evicted: its decision is at most the bound, the old commit map has it under each live snapshot that it
 -- overlaps, and it is of no prepared transaction, or a delayed commit.
-pub record MayGo (w : World) (pair : CommitPair) : Type 0 where
+pub record MayBeEvicted (w : World) (pair : CommitPair) : Type 0 where
   pub passed : pair.decision ≤ w.max_evicted
   pub kept : IsInOldCommits w.snapshots pair.number pair.decision
   pub apart : IsApart w.prepared pair
@@ -120,7 +120,7 @@ SameVersions w memory tables =
     × ((key : List ℕ) → version_at memory key (suc (published w)) ≡ version_at w.store.memory key (suc (published w)))
 
 -- the store and the edits would be as they should be
-abbrev pub KeepsStore : World → Store → Installed → Type 0
+abbrev pub KeepsStore : World → StoreTable → Installed → Type 0
 KeepsStore w store installed = IsStored w.writes.history w.writes.pending w.snapshots store installed
 
 -- ---- the locks turn

@@ -13,7 +13,7 @@ use Rattle.wp_core.specs.Views.{claimed, took, locked, told, heard, log_failed, 
 use Rattle.wp_core.specs.Views as event
 use Rattle.wp_core.specs.World.{Actor, new_actor, World, published, content_of}
 use Rattle.wp_core.specs.Steps.{Step, load_published, register, begin_reading, load, end_reading, store_published, store_max_evicted, store_word, store_delayed_flag, store_old_flag, take_turn, give_turn, make_pending, log_pending, close_log, find_log_closed, drop_pending, add_prepared, take_pending_prepared, add_delayed_commit, take_out, register_again, release, add_old_commit, add_versions, take_versions, move_versions, replace_versions, install, halt, find_flushed, claim_name, take_name, leave_name, free_transaction, lock_key, free_key, lock_direct, free_direct, find_holder, tell, hear, set_batch, note, make_note, make_seat, set_client, learn, join_seat}
-use Rattle.wp_core.specs.Changes.{put, held_without, change, sees, remembers, registers, releases, has_transaction, has_no_transaction, has_direct, loaded, with_registered, with_released, with_old_commit, keys_of_holder, with_name, with_key, without_key, without_transaction, with_label, informed, joins, joined_actor, made_one}
+use Rattle.wp_core.specs.Changes.{with_actor, held_without, change, sees, remembers, registers, releases, has_transaction, has_no_transaction, has_direct, loaded, with_registered, with_released, with_old_commit, keys_of_holder, with_name, with_key, without_key, without_transaction, with_label, informed, joins, joined_actor, made_one}
 
 -- ---- tables
 
@@ -31,22 +31,22 @@ publishes history entry a = record a { participant = record a.participant { seen
 -- ---- the world after it, where the actor is by and was a
 
 abbrev pub done : World → ℕ → Actor → Step → World
-done w by a load_published = put w by (sees w.writes.history a)
+done w by a load_published = with_actor w by (sees w.writes.history a)
 done w by a (register smallest) = change w by (registers (sees w.writes.history a) (record { number = published w; smallest = smallest })) (snapshots (with_registered w.snapshots (published w)))
-done w by a (begin_reading p snapshot) = put w by (record a { reading = Some (reads p snapshot) })
-done w by a (load which) = put w by (record a { reading = option_map (loaded w which) a.reading })
-done w by a end_reading = put w by (record a { reading = None })
+done w by a (begin_reading p snapshot) = with_actor w by (record a { reading = Some (reads p snapshot) })
+done w by a (load which) = with_actor w by (record a { reading = option_map (loaded w which) a.reading })
+done w by a end_reading = with_actor w by (record a { reading = None })
 done w by a (store_published entry others) = change w by (publishes w.writes.history entry a) (writes (with_entry w.writes entry others))
 done w by a (store_max_evicted m) = change (record w { max_evicted = m }) by a (prepared (with_moved w.prepared m))
-done w by a (store_word pair) = put (record w { cache = with_pair w.cache pair }) by a
-done w by a (store_delayed_flag value) = put (record w { delayed_flag = value }) by a
-done w by a (store_old_flag value) = put (record w { old_flag = value }) by a
-done w by a (take_turn turn) = put (record w { holders = with_holder w.holders turn (Some by) }) by (record a { held = content_of w turn ∷ a.held })
-done w by a (give_turn turn) = put (record w { holders = with_holder w.holders turn None }) by (record a { held = held_without a.held turn })
+done w by a (store_word pair) = with_actor (record w { cache = with_pair w.cache pair }) by a
+done w by a (store_delayed_flag value) = with_actor (record w { delayed_flag = value }) by a
+done w by a (store_old_flag value) = with_actor (record w { old_flag = value }) by a
+done w by a (take_turn turn) = with_actor (record w { holders = with_holder w.holders turn (Some by) }) by (record a { held = content_of w turn ∷ a.held })
+done w by a (give_turn turn) = with_actor (record w { holders = with_holder w.holders turn None }) by (record a { held = held_without a.held turn })
 done w by a (make_pending entries) = change w by a (writes (record w.writes { pending = entries; logged = false }))
 done w by a log_pending = change w by a (writes (record w.writes { logged = true; log = w.writes.log ++ w.writes.pending }))
 done w by a close_log = change w by (remembers a log_failed) (writes (record w.writes { closed = true; failed = w.writes.pending }))
-done w by a find_log_closed = put w by (remembers a (stopped (published w)))
+done w by a find_log_closed = with_actor w by (remembers a (stopped (published w)))
 done w by a drop_pending = change w by a (writes (record w.writes { pending = [] }))
 done w by a add_prepared = change w by a (prepared (record w.prepared { heap = set.insert w.prepared.heap (suc (published w)) }))
 done w by a take_pending_prepared = change w by a (prepared (record w.prepared { heap = set.remove w.prepared.heap (suc (published w)) }))
@@ -61,7 +61,7 @@ done w by a (move_versions memory tables) = change w by a (store (record w.store
 done w by a (replace_versions tables floor) = change w by a (store (record w.store { tables = tables; floor = floor }))
 done w by a (install edit compacts) = change w by (remembers a (event.installed edit.flushed edit.tables compacts)) (installed (record w.installed { last = edit }))
 done w by a (halt edit) = change w by (remembers a tables_failed) (installed (with_failed w.installed edit))
-done w by a find_flushed = put w by (remembers a (found_flushed w.installed.last.flushed))
+done w by a find_flushed = with_actor w by (remembers a (found_flushed w.installed.last.flushed))
 done w by a (claim_name name) = change w by (remembers (has_transaction a name (record { batch = []; locked = set.empty })) (claimed name)) (locks (with_name w.locks name (Some a.participant.client)))
 done w by a (take_name name p) = change w by (remembers (has_transaction a name (record { batch = batch_at w.writes.history p; locked = keys_of_holder w.locks (Txn name) })) (took name)) (locks (with_name w.locks name (Some a.participant.client)))
 done w by a (leave_name name) = change w by (has_no_transaction a name) (locks (with_name w.locks name None))
@@ -70,13 +70,13 @@ done w by a (lock_key name t key) = change w by (remembers (has_transaction a na
 done w by a (free_key name t key) = change w by (has_transaction a name (record t { locked = set.remove t.locked key })) (locks (without_key w.locks key))
 done w by a (lock_direct key) = change w by (remembers (has_direct a (Some key)) (locked key (Client a.participant.client))) (locks (with_key w.locks key (Client a.participant.client)))
 done w by a (free_direct key) = change w by (has_direct a None) (locks (without_key w.locks key))
-done w by a (find_holder key holder account) = put w by (remembers a (found key holder (length a.participant.seen) account))
+done w by a (find_holder key holder account) = with_actor w by (remembers a (found key holder (length a.participant.seen) account))
 done w by a (tell label) = change w by (remembers (sees w.writes.history a) (told label (published w))) (locks (with_label w.locks label (published w)))
-done w by a (hear label n) = put w by (remembers a (heard label n))
-done w by a (set_batch name t batch) = put w by (has_transaction a name (record t { batch = batch }))
-done w by a (note fact) = put w by (record a { notes = fact ∷ a.notes })
+done w by a (hear label n) = with_actor w by (remembers a (heard label n))
+done w by a (set_batch name t batch) = with_actor w by (has_transaction a name (record t { batch = batch }))
+done w by a (note fact) = with_actor w by (record a { notes = fact ∷ a.notes })
 done w by a make_note = record w { actors = w.actors ++ new_actor false a.participant.client a.participant.seen ∷ [] }
 done w by a make_seat = record w { actors = slice_set w.actors by (made_one a) ++ new_actor true a.participant.client a.participant.seen ∷ [] }
-done w by a (set_client client) = put w by (record a { participant = record a.participant { client = client } })
-done w by a (learn other b) = put (put w by (informed a b)) other joined_actor
-done w by a (join_seat other b) = put (put w by (joins a b)) other joined_actor
+done w by a (set_client client) = with_actor w by (record a { participant = record a.participant { client = client } })
+done w by a (learn other b) = with_actor (with_actor w by (informed a b)) other joined_actor
+done w by a (join_seat other b) = with_actor (with_actor w by (joins a b)) other joined_actor

@@ -48,12 +48,12 @@ changes_under history (Undo p batch) = batch
 changes_under history (Close p) = batch_at history p
 
 -- a record: one entry, or an Undo with its Close
-abbrev pub IsRecord : List Entry → Type 0
-IsRecord (Undo p batch ∷ Close q ∷ []) = p ≡ q
-IsRecord (Undo p batch ∷ others) = ⊥
-IsRecord (Close p ∷ others) = ⊥
-IsRecord (entry ∷ []) = Unit {0}
-IsRecord others = ⊥
+abbrev pub IsOneRecord : List Entry → Type 0
+IsOneRecord (Undo p batch ∷ Close q ∷ []) = p ≡ q
+IsOneRecord (Undo p batch ∷ others) = ⊥
+IsOneRecord (Close p ∷ others) = ⊥
+IsOneRecord (entry ∷ []) = Unit {0}
+IsOneRecord others = ⊥
 
 -- the versions of a list, with those of an entry as its only ones under this number
 abbrev pub HasVersionsAt : Option Entry → ℕ → List Version → List Version → Type 0

@@ -1,6 +1,6 @@
 -- A sound world: all parts together.
 use Rattle.std.specs.Prelude.{map, List}
-use Rattle.wp_core.specs.Lists.{Each}
+use Rattle.wp_core.specs.Lists.{EachAt}
 use Rattle.wp_core.specs.World.{World, Participant, content_of}
 use Rattle.wp_core.specs.World as world
 use Rattle.wp_core.specs.Sound.Actors.{seen_of, own_of, AreSeen, AreLearned, AreOwned, AreHeld, HoldersHave, AreLed, AreIdle, EachParticipant, participants_of, learned_of, held_of, role_of}
@@ -42,7 +42,7 @@ pub record IsSound (w : World) : Type 0 where
   pub edits : AreEdits w.first_edit w.installed (participants past_of w)
   -- turns, and what is held
   pub pending : IsPendingHeld w.holders.write w.writes.pending
-  pub held : Each (AreHeld w.holders (content_of w)) (map held_of w.actors)
+  pub held : EachAt (AreHeld w.holders (content_of w)) (map held_of w.actors)
   pub have : HoldersHave w.holders (map held_of w.actors)
   -- readers and views
   pub readers : AreReaders w.writes.history w.max_evicted w.cache (map reader_of w.actors)

@@ -4,8 +4,8 @@ use mathlib.Core.Option.{some}
 use lib.ListN.{get_elem?}
 
 -- each item, with its place
-abbrev pub Each : {X : Type 0} → (ℕ → X → Type 0) → List X → Type 0
-Each {X} P xs = (j : ℕ) (x : X) → get_elem? xs j ≡ some x → P j x
+abbrev pub EachAt : {X : Type 0} → (ℕ → X → Type 0) → List X → Type 0
+EachAt {X} P xs = (j : ℕ) (x : X) → get_elem? xs j ≡ some x → P j x
 
 -- the item is in the list
 abbrev pub IsIn : {X : Type 0} → X → List X → Type 0

@@ -10,17 +10,17 @@ use Rattle.wp_model.specs.Legal.{IsLegal}
 use Rattle.wp_model.specs.Decision.{decision_of}
 use Rattle.wp_model.specs.Snapshots.{IsLive}
 use Rattle.wp_core.specs.Lists.{IsIn}
-use Rattle.wp_core.specs.Turns.{write_turn, prepared_turn, snapshots_turn, store_turn, locks_turn, tables_turn, holder_of, Holds}
+use Rattle.wp_core.specs.Turns.{write_turn, prepared_turn, snapshots_turn, store_turn, locks_turn, tables_turn, turn_holder, Holds}
 use Rattle.wp_judge.specs.Words.{CommitPair}
 use Rattle.wp_core.specs.Cache.{pair_at, cache_place}
 use Rattle.wp_core.specs.Tables.{NoneDelayed, NoOldCommits}
 use Rattle.wp_core.specs.World.{Transaction, Actor, World, published}
-use Rattle.wp_core.specs.Entries.{next_of, pending_pair, IsRecord, HasVersionsAt}
+use Rattle.wp_core.specs.Entries.{next_of, pending_pair, IsOneRecord, HasVersionsAt}
 use Rattle.wp_core.specs.Steps.{Step, load_published, register, begin_reading, load, end_reading, store_published, store_max_evicted, store_word, store_delayed_flag, store_old_flag, take_turn, give_turn, make_pending, log_pending, close_log, find_log_closed, drop_pending, add_prepared, take_pending_prepared, add_delayed_commit, take_out, register_again, release, add_old_commit, add_versions, take_versions, move_versions, replace_versions, install, halt, find_flushed, claim_name, take_name, leave_name, free_transaction, lock_key, free_key, lock_direct, free_direct, find_holder, tell, hear, set_batch, note, make_note, make_seat, set_client, learn, join_seat}
 use Rattle.wp_core.specs.Effects.{with_failed}
 use Rattle.wp_core.specs.Sound.Snapshots.{has_versions_at}
 use Rattle.wp_core.specs.Sound.Views.{IsGuarded, IsSo}
-use Rattle.wp_core.specs.Conditions.{MayBeSmallest, IsNextLoad, HasTransaction, MayPublish, MayGo, MayGive, MayLog, MayDrop, IsPreparePending, SameVersions, KeepsStore, IsHolder, Accounts}
+use Rattle.wp_core.specs.Conditions.{MayBeSmallest, IsNextLoad, HasTransaction, MayPublish, MayBeEvicted, MayGive, MayLog, MayDrop, IsPreparePending, SameVersions, KeepsStore, IsHolder, Accounts}
 
 abbrev pub Needs : World → ℕ → Actor → Step → Type 0
 -- a reading is of a version of the history at a snapshot of the actor's own; it loads in its order, and looks into a table
@@ -35,15 +35,15 @@ Needs w by a (store_published entry others) = MayPublish w by a entry others
 Needs w by a (store_max_evicted m) = Holds w.holders write_turn by × Holds w.holders prepared_turn by × (w.max_evicted ≤ m) × (m ≤ published w) × ((w.delayed_flag ≢ 0) ⊎ ((p : ℕ) → set.contains w.prepared.heap p ≡ true → m < p))
 -- the pending entry's pair comes into its word, where the pair that is there may be evicted; a flag is 0 only where its
 -- tables are empty
-Needs w by a (store_word pair) = Holds w.holders write_turn by × (pending_pair w.writes.history w.writes.pending ≡ Some pair) × ((gone : CommitPair) → pair_at w.cache (cache_place (length w.cache) pair.number) ≡ Some gone → MayGo w gone)
+Needs w by a (store_word pair) = Holds w.holders write_turn by × (pending_pair w.writes.history w.writes.pending ≡ Some pair) × ((gone : CommitPair) → pair_at w.cache (cache_place (length w.cache) pair.number) ≡ Some gone → MayBeEvicted w gone)
 Needs w by a (store_delayed_flag value) = Holds w.holders prepared_turn by × (value ≡ 0 → NoneDelayed w.prepared)
 Needs w by a (store_old_flag value) = Holds w.holders snapshots_turn by × (value ≡ 0 → NoOldCommits w.snapshots)
 -- a turn is taken where it is free
-Needs w by a (take_turn turn) = (holder_of w.holders turn ≡ None) × (a.live ≡ true)
+Needs w by a (take_turn turn) = (turn_holder w.holders turn ≡ None) × (a.live ≡ true)
 Needs w by a (give_turn turn) = Holds w.holders turn by × MayGive w turn
 -- a record is made pending where it may come next, all of it; it is logged once, or the log is closed; an entry is dropped
 -- once nothing of it is left
-Needs w by a (make_pending entries) = Holds w.holders write_turn by × (w.writes.pending ≡ []) × IsRecord entries × IsLegal (w.writes.history ++ entries)
+Needs w by a (make_pending entries) = Holds w.holders write_turn by × (w.writes.pending ≡ []) × IsOneRecord entries × IsLegal (w.writes.history ++ entries)
 Needs w by a log_pending = MayLog w by
 Needs w by a close_log = MayLog w by
 Needs w by a find_log_closed = Holds w.holders write_turn by × (w.writes.closed ≡ true)

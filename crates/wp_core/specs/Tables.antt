@@ -50,7 +50,7 @@ NoOldCommits snapshots = (s p : ℕ) → is_old_commit snapshots s p ≡ false
 -- ---- the store turn
 
 -- the versions in memory and in tables, and the floor: at each number from it on a reader finds all that it needs
-pub record Store : Type 0 where
+pub record StoreTable : Type 0 where
   pub memory : List Version
   pub tables : List Version
   pub floor : ℕ
@@ -60,7 +60,7 @@ abbrev pub up_to : ℕ → List Version → List Version
 up_to n versions = filter (λ v. nat_le v.number n) versions
 
 -- all versions of the store, those of the pending entry too
-abbrev pub all_in : Store → List Version
+abbrev pub all_in : StoreTable → List Version
 all_in store = store.memory ++ store.tables
 
 -- ---- the tables turn
@@ -84,7 +84,7 @@ pub data Content : Type 0 where
   writes : WriteTable → Content
   prepared : PreparedTables → Content
   snapshots : Snapshots → Content
-  store : Store → Content
+  store : StoreTable → Content
   locks : LockTables → Content
   installed : Installed → Content
 

@@ -21,13 +21,13 @@ pub record Holders : Type 0 where
   pub locks : Option ℕ
   pub tables : Option ℕ
 
-abbrev pub holder_of : Holders → Turn → Option ℕ
-holder_of holders write_turn = holders.write
-holder_of holders prepared_turn = holders.prepared
-holder_of holders snapshots_turn = holders.snapshots
-holder_of holders store_turn = holders.store
-holder_of holders locks_turn = holders.locks
-holder_of holders tables_turn = holders.tables
+abbrev pub turn_holder : Holders → Turn → Option ℕ
+turn_holder holders write_turn = holders.write
+turn_holder holders prepared_turn = holders.prepared
+turn_holder holders snapshots_turn = holders.snapshots
+turn_holder holders store_turn = holders.store
+turn_holder holders locks_turn = holders.locks
+turn_holder holders tables_turn = holders.tables
 
 -- the holders once the turn has this one, or none
 abbrev pub with_holder : Holders → Turn → Option ℕ → Holders
@@ -43,9 +43,4 @@ all_free = record { write = None; prepared = None; snapshots = None; store = Non
 
 -- the actor holds the turn
 abbrev pub Holds : Holders → Turn → ℕ → Type 0
-Holds holders turn by = holder_of holders turn ≡ Some by
-
--- the turn's word, where a turn is taken by an exchange of 0 for 1
-abbrev pub turn_word : Option ℕ → ℕ
-turn_word None = 0
-turn_word (Some holder) = 1
+Holds holders turn by = turn_holder holders turn ≡ Some by

@@ -9,7 +9,7 @@ use Rattle.wp_core.specs.Turns.{Turn, write_turn, prepared_turn, snapshots_turn,
 use Rattle.wp_model.specs.PreparedTables.{PreparedTables}
 use Rattle.wp_model.specs.Snapshots.{Snapshots}
 use Rattle.wp_model.specs.LockTables.{LockTables}
-use Rattle.wp_core.specs.Tables.{WriteTable, Store, InstalledEdit, Installed, Content, writes, prepared, snapshots, store, locks, installed}
+use Rattle.wp_core.specs.Tables.{WriteTable, StoreTable, InstalledEdit, Installed, Content, writes, prepared, snapshots, store, locks, installed}
 use Rattle.wp_judge.specs.declared.observed.Observed.{Observed}
 use Rattle.wp_core.specs.Reading.{Registration}
 use Rattle.wp_core.specs.Views.{Event, Fact}
@@ -65,7 +65,7 @@ pub record World : Type 0 where
   pub writes : WriteTable
   pub prepared : PreparedTables
   pub snapshots : Snapshots
-  pub store : Store
+  pub store : StoreTable
   pub locks : LockTables
   pub installed : Installed
   pub first_edit : InstalledEdit

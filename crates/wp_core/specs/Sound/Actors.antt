@@ -3,7 +3,7 @@ use Rattle.std.specs.Prelude.{◌≡◌, ◌≢◌, ℕ, ◌+◌, ◌==◌, ◌&
 use mathlib.Core.Option.{some}
 use lib.ListN.{get_elem?}
 use Rattle.wp_model.specs.declared.entry.Entry.{Entry}
-use Rattle.wp_core.specs.Lists.{Each, IsIn, one_if, total}
+use Rattle.wp_core.specs.Lists.{EachAt, IsIn, one_if, total}
 use Rattle.wp_core.specs.Turns.{Turn, Holders, Holds}
 use Rattle.wp_core.specs.Tables.{Content, turn_of}
 use Rattle.wp_core.specs.World.{Participant, Actor, new_participant}
@@ -40,7 +40,7 @@ abbrev pub learned_of : Actor → List Entry
 learned_of a = a.learned
 
 abbrev pub AreLearned : List Entry → List (List Entry) → Type 0
-AreLearned history learned = Each (λ j entries. StartsWith history entries) learned
+AreLearned history learned = EachAt (λ j entries. StartsWith history entries) learned
 
 -- ---- what they published
 
@@ -93,7 +93,7 @@ pub record AreLed (roles : List Role) : Type 0 where
   pub there : get_elem? roles 0 ≡ some first
   pub live : first.live ≡ true
   pub counted : total (λ s. one_if s.live) roles + length first.joined ≡ 1 + first.made
-  pub others : Each (λ j s. j ≢ 0 → (s.made ≡ 0) × (s.joined ≡ [])) roles
+  pub others : EachAt (λ j s. j ≢ 0 → (s.made ≡ 0) × (s.joined ≡ [])) roles
 
 -- one that is not live did nothing, and has nothing
 pub record IsIdle (a : Actor) : Type 0 where
@@ -103,4 +103,4 @@ pub record IsIdle (a : Actor) : Type 0 where
   pub notes : a.notes ≡ []
 
 abbrev pub AreIdle : List Actor → Type 0
-AreIdle actors = Each (λ j a. a.live ≡ false → IsIdle a) actors
+AreIdle actors = EachAt (λ j a. a.live ≡ false → IsIdle a) actors

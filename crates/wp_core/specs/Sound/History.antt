@@ -4,7 +4,7 @@ use Rattle.wp_model.specs.declared.entry.Entry.{Entry}
 use Rattle.wp_model.specs.declared.entry.Entry.TheVariants.{Close}
 use Rattle.wp_model.specs.Legal.{IsLegal, undone_last}
 use Rattle.wp_core.specs.Tables.{WriteTable}
-use Rattle.wp_core.specs.Entries.{IsRecord}
+use Rattle.wp_core.specs.Entries.{IsOneRecord}
 use Rattle.wp_core.specs.Sound.Actors.{StartsWith}
 
 abbrev pub logged_part : Bool → List Entry → List Entry
@@ -13,7 +13,7 @@ logged_part false pending = []
 
 -- a record, what is left of it after an Undo, or nothing
 abbrev pub IsRest : List Entry → Type 0
-IsRest entries = (entries ≡ []) ⊎ (IsRecord entries ⊎ ((p : ℕ) × (entries ≡ Close p ∷ [])))
+IsRest entries = (entries ≡ []) ⊎ (IsOneRecord entries ⊎ ((p : ℕ) × (entries ≡ Close p ∷ [])))
 
 pub record IsHistory (opened : List Entry) (t : WriteTable) (max : ℕ) : Type 0 where
   pub legal : IsLegal t.history

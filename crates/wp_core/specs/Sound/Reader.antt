@@ -2,7 +2,7 @@
 use Rattle.std.specs.Prelude.{◌≡◌, ◌≢◌, ◌⊎◌, ℕ, ◌≤◌, Bool, true, false, List, Option, Some, None}
 use Rattle.wp_model.specs.declared.entry.Entry.{Entry}
 use Rattle.wp_model.specs.Decision.{decision_of, IsCommittedAt}
-use Rattle.wp_core.specs.Lists.{Each, IsIn}
+use Rattle.wp_core.specs.Lists.{EachAt, IsIn}
 use Rattle.wp_judge.specs.declared.observed.Observed.{Observed}
 use Rattle.wp_judge.specs.declared.observed.InPrepared.{InPrepared}
 use Rattle.wp_judge.specs.declared.observed.InPrepared.TheVariants.{Absent}
@@ -65,7 +65,7 @@ pub record IsReader (history : List Entry) (max : ℕ) (cache : List ℕ) (regis
   pub knows : r.version ≤ r.snapshot → ReaderKnows history max cache r
 
 abbrev pub AreReaders : List Entry → ℕ → List ℕ → List (List Registration × Option Observed) → Type 0
-AreReaders history max cache readers = Each (λ j x. (r : Observed) → x.1 ≡ Some r → IsReader history max cache x.0 r) readers
+AreReaders history max cache readers = EachAt (λ j x. (r : Observed) → x.1 ≡ Some r → IsReader history max cache x.0 r) readers
 
 -- the answer is whether the version p is committed at s
 abbrev pub IsRight : List Entry → ℕ → ℕ → Bool → Type 0
@@ -73,4 +73,4 @@ IsRight history p s true = IsCommittedAt history p s
 IsRight history p s false = IsCommittedAt history p s → ⊥
 
 abbrev pub AreJudged : List Entry → List (List Registration × Option Observed) → Type 0
-AreJudged history readers = Each (λ j x. (r : Observed) (visible : Bool) → x.1 ≡ Some r → judgement r ≡ Some visible → IsRight history r.version r.snapshot visible) readers
+AreJudged history readers = EachAt (λ j x. (r : Observed) (visible : Bool) → x.1 ≡ Some r → judgement r ≡ Some visible → IsRight history r.version r.snapshot visible) readers

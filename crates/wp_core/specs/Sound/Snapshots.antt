@@ -6,7 +6,7 @@ use Rattle.wp_model.specs.declared.entry.Entry.TheVariants.{Write, Prepare, Undo
 use Rattle.wp_model.specs.History.{entry_at}
 use Rattle.wp_model.specs.Decision.{IsCommittedAt}
 use Rattle.wp_model.specs.Snapshots as snaps
-use Rattle.wp_core.specs.Lists.{Each, IsIn, one_if, total}
+use Rattle.wp_core.specs.Lists.{EachAt, IsIn, one_if, total}
 use Rattle.wp_model.specs.Snapshots.{Snapshots}
 use Rattle.wp_core.specs.Reading.{Registration}
 use Rattle.wp_core.specs.World.{Participant}
@@ -37,7 +37,7 @@ abbrev pub IsBelowCommitted : List Entry → Registration → Type 0
 IsBelowCommitted history r = (p : ℕ) → p < r.smallest → p ≤ r.number → has_versions_at history p ≡ true → IsCommittedAt history p r.number
 
 abbrev pub AreBelowCommitted : List Entry → List Registration → Type 0
-AreBelowCommitted history registered = Each (λ i r. IsBelowCommitted history r) registered
+AreBelowCommitted history registered = EachAt (λ i r. IsBelowCommitted history r) registered
 
 -- ---- what it had seen
 

@@ -9,7 +9,7 @@ use Rattle.wp_model.specs.declared.version.Version.{Version}
 use Rattle.wp_model.specs.Versions.{version_at}
 use Rattle.wp_model.specs.Covered.{IsCovered}
 use Rattle.wp_model.specs.Snapshots.{Snapshots}
-use Rattle.wp_core.specs.Tables.{Store, InstalledEdit, Installed, live_numbers, up_to, all_in}
+use Rattle.wp_core.specs.Tables.{StoreTable, InstalledEdit, Installed, live_numbers, up_to, all_in}
 use Rattle.wp_core.specs.Entries.{next_of}
 
 -- ---- the versions of entries
@@ -33,7 +33,7 @@ pub record IsEditCovered (history : List Entry) (edit : InstalledEdit) : Type 0 
   pub flushed : edit.flushed ≤ length history
   pub covered : IsCovered (edit.versions ++ later_versions history edit.flushed) history [] (length history)
 
-pub record IsStored (history pending : List Entry) (snapshots : Snapshots) (t : Store) (e : Installed) : Type 0 where
+pub record IsStored (history pending : List Entry) (snapshots : Snapshots) (t : StoreTable) (e : Installed) : Type 0 where
   pub covered : IsCovered (up_to (length history) (all_in t)) history (live_numbers snapshots) t.floor
   pub floor : t.floor ≤ length history
   -- what is above the history is the pending entry's, and is in memory

@@ -9,14 +9,14 @@ use Rattle.wp_model.specs.Versions.{version_at}
 use Rattle.wp_model.specs.Covered.{is_among}
 use Rattle.wp_model.specs.Snapshots.{IsLive}
 use Rattle.wp_model.specs.declared.holder.Holder.TheVariants.{Txn, Client}
-use Rattle.wp_core.specs.Lists.{Each, IsIn}
+use Rattle.wp_core.specs.Lists.{EachAt, IsIn}
 use Rattle.wp_core.specs.Turns.{Turn, write_turn, prepared_turn, snapshots_turn, tables_turn, Holders, Holds}
 use Rattle.wp_judge.specs.Words.{CommitPair}
 use Rattle.wp_core.specs.Cache.{pair_at}
 use Rattle.wp_model.specs.PreparedTables.{PreparedTables, is_prepared}
 use Rattle.wp_model.specs.Snapshots.{Snapshots}
 use Rattle.wp_model.specs.LockTables.{LockTables}
-use Rattle.wp_core.specs.Tables.{WriteTable, Store, Installed}
+use Rattle.wp_core.specs.Tables.{WriteTable, StoreTable, Installed}
 use Rattle.wp_core.specs.Views.{Fact, passed, in_old_commits, apart, words_stay, versions_in_memory, versions_nowhere, number_in_heap, number_not_in_heap, undecided_at, prior_values, unprepared, direct_free, tables_stay, live_listed, nothing_flushed, frozen_stay, delayed_flag_stays, old_flag_stays}
 use Rattle.wp_core.specs.Entries.{next_of}
 use Rattle.wp_core.specs.World.{Transaction, Participant, Actor}
@@ -57,17 +57,17 @@ abbrev pub IsApart : PreparedTables → CommitPair → Type 0
 IsApart t pair = (is_prepared t pair.number ≡ false) ⊎ (finite.get t.delayed_commits pair.number ≡ Some pair.decision)
 
 -- the versions of the pending entry are in memory
-abbrev pub IsInMemory : WriteTable → Store → Type 0
+abbrev pub IsInMemory : WriteTable → StoreTable → Type 0
 IsInMemory d t = (key : List ℕ) (value : Option (List ℕ)) → version_in (next_of d.pending) key ≡ Some value → version_at t.memory key (suc (length d.history)) ≡ Some value
 
-abbrev pub IsNowhere : WriteTable → Store → Type 0
+abbrev pub IsNowhere : WriteTable → StoreTable → Type 0
 IsNowhere d t = (key : List ℕ) → version_at t.memory key (suc (length d.history)) ≡ None
 
 -- the transaction is the actor's
 abbrev pub Owns : Participant → List ℕ → Type 0
 Owns a name = (t : Transaction) × (finite.get a.transactions name ≡ Some t)
 
-abbrev pub IsSo : ℕ → ℕ → ℕ → List ℕ → WriteTable → PreparedTables → Snapshots → Store → LockTables → Installed → Participant → Fact → Type 0
+abbrev pub IsSo : ℕ → ℕ → ℕ → List ℕ → WriteTable → PreparedTables → Snapshots → StoreTable → LockTables → Installed → Participant → Fact → Type 0
 IsSo delayed_flag old_flag max cache d t m s l e a (passed place pair) = IsClearing (length d.history) cache place pair (pair.decision ≤ max)
 IsSo delayed_flag old_flag max cache d t m s l e a (in_old_commits place pair) = IsClearing (length d.history) cache place pair (IsInOldCommits m pair.number pair.decision)
 IsSo delayed_flag old_flag max cache d t m s l e a (apart place pair) = IsClearing (length d.history) cache place pair (IsApart t pair)
@@ -97,4 +97,4 @@ pub record IsNoted (holders : Holders) (so : Participant → Fact → Type 0) (j
   pub is_so : so x.0 fact
 
 abbrev pub AreNoted : Holders → (Participant → Fact → Type 0) → List (Participant × List Fact) → Type 0
-AreNoted holders so noters = Each (λ j x. (fact : Fact) → IsIn fact x.1 → IsNoted holders so j x fact) noters
+AreNoted holders so noters = EachAt (λ j x. (fact : Fact) → IsIn fact x.1 → IsNoted holders so j x fact) noters
