@@ -20,7 +20,7 @@ use Rattle.wp_session.specs.After.{after_reply}
 use Rattle.wp_session.specs.Kind.{Plain, kind, number_of_kind, numbers_logged, acknowledged, fresh_in, last_after}
 use Rattle.wp_session.specs.Replies.{Claim, refuses_change, unless_idle, unless_open, unless_prepared, if_idle, unless_labelled, refuses_label, refusal_of, IsFresh, IsLoggedAt, PreparesAt, CommitsAt, RollsBackAt, Row, UnlessRefused, Allows}
 use Rattle.wp_session.specs.Session.{IsSession}
-use Rattle.wp_session.specs.Laws.{ReadsValue, AreReads, NeverFall, AsksLog, AreAsked, AreLogged}
+use Rattle.wp_session.specs.Laws.{ReadsValue, AreReads, NeverFall, AsksLog, AreAsked, Takes, AreLogged}
 use Rattle.wp_session.proofs.Rows.{snapshots_after}
 
 -- ---- refusals speak of no entry
@@ -162,11 +162,21 @@ row_asked h limit P last client p c r k = first_of (search rules, cc)
 asked_none : (h : List Entry) (last : ℕ) (txn : Txn) (c : Command) (r : Reply) → kind r ≡ Plain → AreAsked h last txn c (acknowledged r)
 asked_none h last txn c r plain = subst (AreAsked h last txn c) (sym (ap numbers_logged plain)) tt
 
+-- only an idle client is answered `took`
+took_by_row : (txn : Txn) (row : Type 0) → UnlessRefused (unless_idle txn) reply.Took row → row
+took_by_row Idle row a = a
+took_by_row (Open name batch) row a = absurd cc
+took_by_row (Prepared p) row a = absurd cc
+
+allowed_takes : (h : List Entry) (limit : ℕ) (P : Claim → Type 0) (last : ℕ) (client : Client) (p : ℕ) (c : Command) (r : Reply) → Allows h limit P last client p c r → Takes h last p c r
+allowed_takes h limit P last client p (command.Take name) reply.Took a = took_by_row client.txn _ a
+allowed_takes h limit P last client p c r a = tt
+
 pub session_logged : (h : List Entry) (limit : ℕ) (P : Claim → Type 0) (last : ℕ) (client : Client) (cs : List Command) (rs : List Reply) → IsSession h limit P last client cs rs → AreLogged h last client cs rs
 session_logged h limit P last client [] [] s = tt
 session_logged h limit P last client [] (r ∷ rs) s = tt
 session_logged h limit P last client (c ∷ cs) [] s = tt
 session_logged h limit P last client (c ∷ cs) (r ∷ rs) (p, allowed, rest) = (
   allowed_gives _ (refusal_of client c) r _ (refusal_plain client c) (row_asked h limit P last client p c r) (asked_none h last client.txn c r) allowed,
-  (p, session_logged h limit P (last_after last c r) (after_reply p client c r) cs rs rest),
+  (p, allowed_takes h limit P last client p c r allowed, session_logged h limit P (last_after last c r) (after_reply p client c r) cs rs rest),
 )

@@ -15,7 +15,7 @@ use Rattle.wp_session.specs.declared.session.Txn.TheVariants.{Idle, Open, Prepar
 use Rattle.wp_session.specs.Client.{Client, new_client, number_of}
 use Rattle.wp_session.specs.After.{labels_after, after_reply}
 use Rattle.wp_session.specs.Kind.{acknowledged, fresh_in, last_after}
-use Rattle.wp_session.specs.Replies.{Claim, one_at_a_time, IsKnown, IsFresh, IsLoggedAt}
+use Rattle.wp_session.specs.Replies.{Claim, one_at_a_time, IsKnown, IsFresh, IsLoggedAt, WasUndecided}
 use Rattle.wp_session.specs.Moments.{AreDueFrom}
 use Rattle.wp_session.specs.Session.{IsSession}
 
@@ -85,9 +85,14 @@ abbrev pub AreAsked : List Entry → ℕ → Txn → Command → List ℕ → Ty
 AreAsked history last txn command [] = Unit {0}
 AreAsked history last txn command (n ∷ numbers) = ((e : Entry) × IsLoggedAt history last n e × AsksLog txn command e) × AreAsked history last txn command numbers
 
+-- `took` gives the prepare with the number p, which has that name and was undecided
+abbrev pub Takes : List Entry → ℕ → ℕ → Command → Reply → Type 0
+Takes history last p (command.Take name) reply.Took = WasUndecided history last name p
+Takes history last p command answer = Unit {0}
+
 -- what the replies acknowledge is in the history
 abbrev pub AreLogged : List Entry → ℕ → Client → List Command → List Reply → Type 0
-AreLogged history last client (first ∷ commands) (answer ∷ answers) = AreAsked history last client.txn first (acknowledged answer) × ((p : ℕ) × AreLogged history (last_after last first answer) (after_reply p client first answer) commands answers)
+AreLogged history last client (first ∷ commands) (answer ∷ answers) = AreAsked history last client.txn first (acknowledged answer) × ((p : ℕ) × Takes history last p first answer × AreLogged history (last_after last first answer) (after_reply p client first answer) commands answers)
 AreLogged history last client commands answers = Unit {0}
 
 abbrev pub AcknowledgedAreLogged : Type 0
