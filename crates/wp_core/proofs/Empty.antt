@@ -16,10 +16,10 @@ use Rattle.wp_core.specs.World.{World, new_actor}
 use Rattle.wp_core.specs.Sound.Locks.{prepare_holding}
 use Rattle.wp_core.specs.Sound.Store.{IsEditCovered, IsStored}
 
-first_edit : InstalledEdit
+abbrev pub first_edit : InstalledEdit
 first_edit = record { flushed = 0; versions = []; tables = 0 }
 
-pub empty_world : World
+abbrev pub empty_world : World
 empty_world =
     record {
       opened = [];
@@ -64,7 +64,6 @@ covered numbers = record {
 }
 
 edit_covered : IsEditCovered [] first_edit
-unfolding first_edit
 edit_covered = record { flushed = omega arith; covered = covered [] }
 
 in_none : (key : List ℕ) (p : ℕ) (value : Option (List ℕ)) → entry_version [] p key ≡ Some value → ⊥
@@ -72,7 +71,6 @@ in_none key zero value e = let q : None ≡ Some value = e in absurd (cc)
 in_none key (suc n) value e = let q : None ≡ Some value = e in absurd (cc)
 
 versions : IsStored [] [] finite.empty empty_world.store empty_world.installed
-unfolding empty_world
 versions = record {
   covered = covered (live_numbers finite.empty);
   floor = omega arith;
@@ -84,15 +82,12 @@ versions = record {
 }
 
 none_held : (key : List ℕ) → finite.get empty_world.locks.keys key ≡ prepare_holding [] (holder_of [] key)
-unfolding empty_world
 none_held key = finite.get-empty key_cmp key
 
 none_named : (name : List ℕ) → finite.get empty_world.locks.names name ≡ named_by (named [] name)
-unfolding empty_world
 none_named name = finite.get-empty key_cmp name
 
 pub empty_is_opening : IsOpening empty_world
-unfolding empty_world first_edit
 empty_is_opening = record {
   legal = legal;
   closed_undo = refl;

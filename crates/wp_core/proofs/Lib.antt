@@ -73,3 +73,4 @@ pub mod Learns
 pub mod JoinsSeat
 pub mod SetsClient
 pub mod EachStep
+pub mod OneWrite

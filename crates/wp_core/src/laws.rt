@@ -1,7 +1,10 @@
 //! What is proved of the machine, over all worlds that steps of any actors reach, in any order.
 ghost use mathlib.Core.Option.{some};
 ghost use lib.ListN.{get_elem?};
-ghost use Rattle.std.specs.Prelude.{◌≡◌, ℕ, Bool, Some};
+ghost use Rattle.std.specs.Prelude.{◌≡◌, ℕ, Bool, true, List, [], ◌∷◌, Some};
+ghost use Rattle.wp_model.specs.declared.change.Change.{Change};
+ghost use Rattle.wp_model.specs.declared.entry.Entry.TheVariants.{Write};
+ghost use Rattle.wp_model.specs.Batch.{is_batch};
 ghost use Rattle.wp_model.specs.Legal.{IsLegal};
 ghost use Rattle.wp_judge.specs.declared.observed.Observed.{Observed};
 ghost use Rattle.wp_judge.specs.Order.{judgement};
@@ -44,4 +47,15 @@ pub fn readers_judge_right()
     ensures { (w : World) → Reaches w → (j : ℕ) (a : Actor) (r : Observed) (visible : Bool)
         → get_elem? w.actors j ≡ some a → a.reading ≡ Some r → judgement r ≡ Some visible
         → (later : World) → ReachesFrom w later → IsRight (history later) r.version r.snapshot visible }
+{}
+
+/// Steps can be made: from an opening on the empty history they publish each batch.
+pub fn writes_can_be_published()
+    ensures { (batch : List Change) → is_batch batch ≡ true → (w : World) × Reaches w × (history w ≡ Write batch ∷ []) }
+{}
+
+/// A reader can come to a judgement: in a reached world one has found a version committed at its snapshot.
+pub fn readers_can_judge()
+    ensures { (w : World) × Reaches w × (a : Actor) × (r : Observed)
+        × (get_elem? w.actors 0 ≡ some a) × (a.reading ≡ Some r) × (judgement r ≡ Some true) }
 {}
