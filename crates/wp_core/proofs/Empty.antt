@@ -16,7 +16,7 @@ use Rattle.wp_core.specs.World.{World, new_actor}
 use Rattle.wp_core.specs.Sound.Locks.{prepare_holding}
 use Rattle.wp_core.specs.Sound.Store.{IsEditCovered, IsStored}
 
-abbrev pub first_edit : InstalledEdit
+abbrev first_edit : InstalledEdit
 first_edit = record { flushed = 0; versions = []; tables = 0 }
 
 abbrev pub empty_world : World

@@ -8,6 +8,7 @@ use Rattle.std.proofs.lemmas.Slice.Eq.{bytes_eq-Decides}
 use Rattle.std.specs.FinSet as finset
 use Rattle.std.specs.FinMap as finite
 use Rattle.wp_model.specs.declared.change.Change.{Change}
+use Rattle.wp_model.specs.declared.change.Change.TheVariants.{Put}
 use Rattle.wp_model.specs.declared.entry.Entry.{Entry}
 use Rattle.wp_model.specs.declared.entry.Entry.TheVariants.{Write}
 use Rattle.wp_model.specs.declared.holder.Holder.TheVariants.{Txn}
@@ -25,7 +26,7 @@ use Rattle.wp_core.specs.Turns.{write_turn, snapshots_turn, store_turn, locks_tu
 use Rattle.wp_core.specs.Tables.{WriteTable, Content, writes, snapshots, store, locks}
 use Rattle.wp_core.specs.Reading.{Registration, reads}
 use Rattle.wp_core.specs.Views.{Event, claimed, locked}
-use Rattle.wp_core.specs.World.{Transaction, Transactions, Actor, World, history}
+use Rattle.wp_core.specs.World.{Transaction, Transactions, Actor, World, new_participant, new_actor, history}
 use Rattle.wp_core.specs.Changes.{with_key, with_registered}
 use Rattle.wp_core.specs.Cache.{cache_place, pair_at, cached, cached_word}
 use Rattle.wp_core.specs.Steps.{Step, register, begin_reading, load, store_published, store_word, take_turn, make_pending, log_pending, add_versions, claim_name, lock_key}
@@ -36,46 +37,25 @@ use Rattle.wp_core.specs.Needs.{Needs}
 use Rattle.wp_core.specs.Notes.{forgets}
 use Rattle.wp_core.specs.Runs.{ReachesFrom, stays, goes_on, Reaches}
 use Rattle.wp_core.specs.Sound.Store.{versions_under}
-use Rattle.wp_core.proofs.Empty.{first_edit, empty_world, empty_is_opening}
+use Rattle.wp_core.proofs.Empty.{empty_world, empty_is_opening}
 use Rattle.wp_core.proofs.Keyed.{is_word_same, at_inserted, else_inserted}
 use Rattle.wp_core.proofs.PublishesVersions.{at_under}
 
 -- ---- the worlds of the run
 
+-- the first actor, with this past, these transactions and these tables
 abbrev worker : List Event → Transactions → List Content → Actor
-worker past transactions held = record {
-  participant = record { client = []; seen = []; own = []; past = past; registered = []; transactions = transactions; direct = None };
-  learned = [];
-  held = held;
-  reading = None;
-  notes = [];
-  live = true;
-  made = 0;
-  joined = [];
-}
+worker past transactions held = record (new_actor true [] []) { participant = record (new_participant [] []) { past = past; transactions = transactions }; held = held }
 
+-- the opening with other parts
 abbrev world : Holders → ℕ → WriteTable → Snapshots → List Version → LockTables → Actor → World
-world holders word writing snaps memory locking a = record {
-  opened = [];
-  max_evicted = 0;
-  delayed_flag = 0;
-  old_flag = 0;
-  cache = word ∷ [];
-  holders = holders;
-  writes = writing;
-  prepared = record { heap = finset.empty; delayed = finset.empty; delayed_commits = finite.empty };
-  snapshots = snaps;
-  store = record { memory = memory; tables = []; floor = 0 };
-  locks = locking;
-  installed = record { last = first_edit; failed = None; halted = false };
-  first_edit = first_edit;
-  actors = a ∷ [];
-}
+world holders word writing live memory table a =
+    record empty_world { holders = holders; cache = word ∷ []; writes = writing; snapshots = live; store = record empty_world.store { memory = memory }; locks = table; actors = a ∷ [] }
 
 abbrev unwritten : WriteTable
-unwritten = record { history = []; pending = []; logged = false; log = []; closed = false; failed = [] }
+unwritten = empty_world.writes
 
--- one step more of the first actor
+-- the first actor makes one step more
 on : {first w : World} (a : Actor) (step : Step) → get_elem? w.actors 0 ≡ some a → Needs w 0 a step → ReachesFrom first w → ReachesFrom first (done w 0 (forgets w.writes.history (length w.cache) step a) step)
 on a step at needs run = goes_on 0 step run (a, at, needs, refl)
 
@@ -85,7 +65,7 @@ abbrev has_locks : Holders
 has_locks = record all_free { locks = Some 0 }
 
 abbrev locking : List Event → Transactions → LockTables → World
-locking past transactions l = world has_locks 0 unwritten finite.empty [] l (worker past transactions (locks l ∷ []))
+locking past transactions table = world has_locks 0 unwritten finite.empty [] table (worker past transactions (locks table ∷ []))
 
 -- a transaction of the actor holds each key of the changes, and no key is held for another
 record HasKeys (changes : List Change) : Type 0 where
@@ -185,31 +165,34 @@ nothing_there gone e = let q : None ≡ Some gone = e in absurd (cc)
 
 module _ (batch : List Change) (is : is_batch batch ≡ true) (s : HasKeys batch) where
   abbrev pending : Bool → List Entry → WriteTable
-  pending logged log = record { history = []; pending = Write batch ∷ []; logged = logged; log = log; closed = false; failed = [] }
-
-  abbrev published : WriteTable
-  published = record { history = Write batch ∷ []; pending = []; logged = true; log = Write batch ∷ []; closed = false; failed = [] }
+  pending logged log = record unwritten { pending = Write batch ∷ []; logged = logged; log = log }
 
   abbrev logged : WriteTable
   logged = pending true (Write batch ∷ [])
+
+  abbrev published : WriteTable
+  published = record logged { history = Write batch ∷ []; pending = [] }
 
   abbrev in_memory : List Version
   in_memory = versions_under 1 batch
 
   abbrev stored : List Version → Content
-  stored memory = store (record { memory = memory; tables = []; floor = 0 })
+  stored memory = store (record empty_world.store { memory = memory })
 
   abbrev first_word : ℕ
   first_word = word_of first_pair
 
   abbrev a_writer : Holders
-  a_writer = record all_free { write = Some 0; locks = Some 0 }
+  a_writer = record has_locks { write = Some 0 }
 
   abbrev a_storer : Holders
-  a_storer = record all_free { write = Some 0; store = Some 0; locks = Some 0 }
+  a_storer = record a_writer { store = Some 0 }
 
   abbrev doer : List Content → Actor
   doer held = worker s.past s.transactions held
+
+  abbrev tables_held : List Content
+  tables_held = writes logged ∷ locks s.table ∷ []
 
   writes_taken : ReachesFrom empty_world (world a_writer 0 unwritten finite.empty [] s.table (doer (writes unwritten ∷ locks s.table ∷ [])))
   writes_taken = on (doer (locks s.table ∷ [])) (take_turn write_turn) refl (refl, refl) s.run
@@ -217,22 +200,22 @@ module _ (batch : List Change) (is : is_batch batch ≡ true) (s : HasKeys batch
   made_pending : ReachesFrom empty_world (world a_writer 0 (pending false []) finite.empty [] s.table (doer (writes (pending false []) ∷ locks s.table ∷ [])))
   made_pending = on (doer (writes unwritten ∷ locks s.table ∷ [])) (make_pending (Write batch ∷ [])) refl (refl, refl, tt, legal batch is) writes_taken
 
-  was_logged : ReachesFrom empty_world (world a_writer 0 logged finite.empty [] s.table (doer (writes logged ∷ locks s.table ∷ [])))
+  was_logged : ReachesFrom empty_world (world a_writer 0 logged finite.empty [] s.table (doer tables_held))
   was_logged = on (doer (writes (pending false []) ∷ locks s.table ∷ [])) log_pending refl (refl, (λ e. let q : (Write batch ∷ []) ≡ [] = e in absurd (cc)), refl, refl) made_pending
 
-  store_taken : ReachesFrom empty_world (world a_storer 0 logged finite.empty [] s.table (doer (stored [] ∷ writes logged ∷ locks s.table ∷ [])))
-  store_taken = on (doer (writes logged ∷ locks s.table ∷ [])) (take_turn store_turn) refl (refl, refl) was_logged
+  store_taken : ReachesFrom empty_world (world a_storer 0 logged finite.empty [] s.table (doer (stored [] ∷ tables_held)))
+  store_taken = on (doer tables_held) (take_turn store_turn) refl (refl, refl) was_logged
 
-  versions_added : ReachesFrom empty_world (world a_storer 0 logged finite.empty in_memory s.table (doer (stored in_memory ∷ writes logged ∷ locks s.table ∷ [])))
-  versions_added = on (doer (stored [] ∷ writes logged ∷ locks s.table ∷ [])) (add_versions in_memory) refl (refl, refl, has_versions batch) store_taken
+  versions_added : ReachesFrom empty_world (world a_storer 0 logged finite.empty in_memory s.table (doer (stored in_memory ∷ tables_held)))
+  versions_added = on (doer (stored [] ∷ tables_held)) (add_versions in_memory) refl (refl, refl, has_versions batch) store_taken
 
-  word_stored : ReachesFrom empty_world (world a_storer first_word logged finite.empty in_memory s.table (doer (stored in_memory ∷ writes logged ∷ locks s.table ∷ [])))
-  word_stored = on (doer (stored in_memory ∷ writes logged ∷ locks s.table ∷ [])) (store_word first_pair) refl (refl, refl, λ gone e. absurd (nothing_there gone e)) versions_added
+  word_stored : ReachesFrom empty_world (world a_storer first_word logged finite.empty in_memory s.table (doer (stored in_memory ∷ tables_held)))
+  word_stored = on (doer (stored in_memory ∷ tables_held)) (store_word first_pair) refl (refl, refl, λ gone e. absurd (nothing_there gone e)) versions_added
 
   abbrev ready : World
-  ready = world a_storer first_word logged finite.empty in_memory s.table (doer (stored in_memory ∷ writes logged ∷ locks s.table ∷ []))
+  ready = world a_storer first_word logged finite.empty in_memory s.table (doer (stored in_memory ∷ tables_held))
 
-  may_publish : MayPublish ready 0 (doer (stored in_memory ∷ writes logged ∷ locks s.table ∷ [])) (Write batch) []
+  may_publish : MayPublish ready 0 (doer (stored in_memory ∷ tables_held)) (Write batch) []
   may_publish = record {
     turn = refl;
     pending = refl;
@@ -247,22 +230,13 @@ module _ (batch : List Change) (is : is_batch batch ≡ true) (s : HasKeys batch
 
   -- the actor once the batch is published, with these registrations and this reading
   abbrev reader : List Content → List Registration → Option Observed → Actor
-  reader held registered reading = record {
-    participant = record { client = []; seen = Write batch ∷ []; own = 1 ∷ []; past = s.past; registered = registered; transactions = s.transactions; direct = None };
-    learned = [];
-    held = held;
-    reading = reading;
-    notes = [];
-    live = true;
-    made = 0;
-    joined = [];
-  }
+  reader held registered reading = record (doer held) { participant = record (doer held).participant { seen = Write batch ∷ []; own = 1 ∷ []; registered = registered }; reading = reading }
 
   abbrev written : List Content
   written = stored in_memory ∷ writes published ∷ locks s.table ∷ []
 
   was_published : ReachesFrom empty_world (world a_storer first_word published finite.empty in_memory s.table (reader written [] None))
-  was_published = on (doer (stored in_memory ∷ writes logged ∷ locks s.table ∷ [])) (store_published (Write batch) []) refl may_publish word_stored
+  was_published = on (doer (stored in_memory ∷ tables_held)) (store_published (Write batch) []) refl may_publish word_stored
 
   -- ---- the batch is read
 
@@ -298,6 +272,6 @@ module _ (batch : List Change) (is : is_batch batch ≡ true) (s : HasKeys batch
 pub publishes : (batch : List Change) → is_batch batch ≡ true → (w : World) × Reaches w × (history w ≡ Write batch ∷ [])
 publishes batch is = (_, (empty_world, empty_is_opening, was_published batch is (lock_all batch)), refl)
 
--- any batch does
+-- a batch of one change does
 pub judges : (w : World) × Reaches w × (a : Actor) × (r : Observed) × (get_elem? w.actors 0 ≡ some a) × (a.reading ≡ Some r) × (judgement r ≡ Some true)
-judges = (_, (empty_world, empty_is_opening, was_loaded [] refl (lock_all [])), _, _, refl, refl, refl)
+judges = (_, (empty_world, empty_is_opening, was_loaded (Put [] [] ∷ []) refl (lock_all (Put [] [] ∷ []))), _, _, refl, refl, refl)
