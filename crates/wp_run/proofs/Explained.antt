@@ -19,8 +19,8 @@ use Rattle.wp_session.specs.Laws.{DueIsSession}
 use Rattle.wp_session.specs.Moments.{store_at, IsDueFrom, AreDueFrom}
 use Rattle.wp_session.specs.Current.{RunsAlone}
 use Rattle.wp_run.specs.Transcript.{AreSessions, IsExact, all_replies, Explains}
-use Rattle.wp_run.specs.Engine.{EngineState, Answered, fault_count, store_of, Later, Steps, Runs, AllRun, IsRunSoFar, AllRunSoFar}
-use Rattle.wp_run.proofs.LaterLemmas.{Later-equal, Later-same, Later-trans, Steps-later}
+use Rattle.wp_run.specs.Engine.{EngineState, Answered, fault_count, store_of, Later, IsCommandStep, Runs, AllRun, IsRunSoFar, AllRunSoFar}
+use Rattle.wp_run.proofs.LaterLemmas.{Later-equal, Later-same, Later-trans, IsCommandStep-later}
 
 -- ---- runs
 
@@ -28,7 +28,7 @@ pub Runs-later : (old new : EngineState) (was now : Client) (commands : List Com
 Runs-later old new was now [] [] e = Later-equal old new e.0
 Runs-later old new was now [] (a ∷ answers) h = absurd h
 Runs-later old new was now (c ∷ commands) [] h = absurd h
-Runs-later old new was now (c ∷ commands) (a ∷ answers) (mid, next, step, rest) = Later-trans old mid new (Steps-later old mid was next c a step) (Runs-later mid new next now commands answers rest)
+Runs-later old new was now (c ∷ commands) (a ∷ answers) (mid, next, step, rest) = Later-trans old mid new (IsCommandStep-later old mid was next c a step) (Runs-later mid new next now commands answers rest)
 
 pub AllRun-later : (old new : EngineState) (parts : List Part) (sessions : List (List Reply)) → AllRun old parts sessions new → Later old new
 AllRun-later old new [] [] e = Later-equal old new e
@@ -51,11 +51,11 @@ longer_by old new later = omega (arith, ap (λ (xs : List Entry). length xs) lat
 -- ---- answers
 
 -- a command's reply in every later history
-answered : (old new final : EngineState) (was now : Client) (c : Command) (answer : Reply) → Steps old was c answer new now → Later new final
+answered : (old new final : EngineState) (was now : Client) (c : Command) (answer : Reply) → IsCommandStep old was c answer new now → Later new final
     → (given : IsDueFrom final.entries old.limit (length old.entries) was c answer) × (client_after (take given.before final.entries) was c answer ≡ now) × (given.after ≡ length new.entries)
 answered old new final was now c answer step later =
     let new_is = logged_entries (store_of old) was c answer in
-    let first = Steps-later old new was now c answer step in
+    let first = IsCommandStep-later old new was now c answer step in
     let whole : final.entries ≡ (old.entries ++ new_is) ++ later.grows.0 = later.grows.1 ∙ ap (λ (xs : List Entry). xs ++ later.grows.0) step.entries in
     let split : final.entries ≡ old.entries ++ (new_is ++ later.grows.0) = whole ∙ append_assoc old.entries new_is later.grows.0 in
     let front : take (length old.entries) final.entries ≡ old.entries = ap (λ (xs : List Entry). take (length old.entries) xs) split ∙ take-append_seam old.entries (new_is ++ later.grows.0) in
@@ -141,7 +141,7 @@ run_totals old new was now (c ∷ commands) (a ∷ answers) (mid, next, step, re
           let from : length mid.entries + 1 ≡ (length old.entries + 1) + here = omega (arith, longer) in
           rw (flat_map-cons acknowledged a answers, step.numbers, more.numbers, from) (range-append (length old.entries + 1) here more.count);
       failed = omega (arith, sum_by-cons (λ x. cond (is_fault x) 1 0) a answers, fault_counts a old.stopped mid.stopped step.stopped step.running, more.failed);
-      stopped = λ t. elim (or_cases _ _ t) [ inl first ↦ later.stopped ((Steps-later old mid was next c a step).stopped (step.stopped_before first)) | inr others ↦ more.stopped others ];
+      stopped = λ t. elim (or_cases _ _ t) [ inl first ↦ later.stopped ((IsCommandStep-later old mid was next c a step).stopped (step.stopped_before first)) | inr others ↦ more.stopped others ];
     }
 
 -- one client's answers after another's

@@ -13,7 +13,7 @@ use Rattle.wp_session.specs.Client.{Client}
 use Rattle.wp_session.specs.Kind.{is_fault}
 use Rattle.wp_session.specs.Due.{logged_entries}
 use Rattle.wp_wal.specs.Spelling.{MAGIC}
-use Rattle.wp_run.specs.Engine.{EngineState, store_of, Later, Steps}
+use Rattle.wp_run.specs.Engine.{EngineState, store_of, Later, IsCommandStep}
 use Rattle.wp_wal.specs.Wal.{LosesNothing}
 use Rattle.wp_run.proofs.StepLemmas.{false_is_true}
 
@@ -85,8 +85,8 @@ newly_stopped : (fault before now : Bool) → now ≡ (if fault then true else b
 newly_stopped true before now is running stopped = refl
 newly_stopped false before now is running stopped = false_is_true now (is ∙ running) stopped
 
-pub Steps-later : (old new : EngineState) (was now : Client) (c : Command) (answer : Reply) → Steps old was c answer new now → Later old new
-Steps-later old new was now c answer step = record {
+pub IsCommandStep-later : (old new : EngineState) (was now : Client) (c : Command) (answer : Reply) → IsCommandStep old was c answer new now → Later old new
+IsCommandStep-later old new was now c answer step = record {
   grows = (logged_entries (store_of old) was c answer, step.entries);
   stays = step.stays;
   stopped = still_stopped (is_fault answer) old.stopped new.stopped step.stopped;

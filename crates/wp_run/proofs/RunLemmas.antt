@@ -7,11 +7,11 @@ use Rattle.wp_text.specs.declared.script.Command.{Command}
 use Rattle.wp_text.specs.declared.script.Part.{Part}
 use Rattle.wp_text.specs.declared.reply.Reply.{Reply}
 use Rattle.wp_session.specs.Client.{Client, new_client}
-use Rattle.wp_run.specs.Engine.{EngineState, Answered, Steps, Runs, AllRun, IsRunSoFar, AllRunSoFar, replies_of, are_whole}
+use Rattle.wp_run.specs.Engine.{EngineState, Answered, IsCommandStep, Runs, AllRun, IsRunSoFar, AllRunSoFar, replies_of, are_whole}
 use Rattle.wp_run.specs.Serving.{AreFirstParts, HasRun}
 
-pub Runs-push : (old mid new : EngineState) (was between now : Client) (commands : List Command) (answers : List Reply) (last : Command) (answer : Reply) → Runs old was commands answers mid between → Steps mid between last answer new now → Runs old was (commands ++ last ∷ []) (answers ++ answer ∷ []) new now
-Runs-push old mid new was between now [] [] last answer e step = (new, now, subst (λ (c : Client). Steps old c last answer new now) e.1 (subst (λ (s : EngineState). Steps s between last answer new now) e.0 step), (refl, refl))
+pub Runs-push : (old mid new : EngineState) (was between now : Client) (commands : List Command) (answers : List Reply) (last : Command) (answer : Reply) → Runs old was commands answers mid between → IsCommandStep mid between last answer new now → Runs old was (commands ++ last ∷ []) (answers ++ answer ∷ []) new now
+Runs-push old mid new was between now [] [] last answer e step = (new, now, subst (λ (c : Client). IsCommandStep old c last answer new now) e.1 (subst (λ (s : EngineState). IsCommandStep s between last answer new now) e.0 step), (refl, refl))
 Runs-push old mid new was between now [] (a ∷ answers) last answer e step = absurd e
 Runs-push old mid new was between now (c ∷ commands) [] last answer e step = absurd e
 Runs-push old mid new was between now (c ∷ commands) (a ∷ answers) last answer (s, x, h, rest) step = (s, x, h, Runs-push s mid new x between now commands answers last answer rest step)
@@ -23,7 +23,7 @@ AllRunSoFar-push old mid new (p ∷ parts) [] part answered e run = absurd e
 AllRunSoFar-push old mid new (p ∷ parts) (a ∷ sessions) part answered (s, h, rest) run = (s, h, AllRunSoFar-push s mid new parts sessions part answered rest run)
 
 -- the loop's step over the commands
-pub steps_on : (old mid new : EngineState) (was between now : Client) (commands : List Command) (i : ℕ) (answers : List Reply) (here : Command) (answer : Reply) → i < length commands → here ≡ get_or commands i here → Runs old was (take i commands) answers mid between → Steps mid between here answer new now → Runs old was (take (i + 1) commands) (answers ++ answer ∷ []) new now
+pub steps_on : (old mid new : EngineState) (was between now : Client) (commands : List Command) (i : ℕ) (answers : List Reply) (here : Command) (answer : Reply) → i < length commands → here ≡ get_or commands i here → Runs old was (take i commands) answers mid between → IsCommandStep mid between here answer new now → Runs old was (take (i + 1) commands) (answers ++ answer ∷ []) new now
 steps_on old mid new was between now commands i answers here answer lt is so_far step =
     rw (take_more commands i here lt, ← is) (Runs-push old mid new was between now (take i commands) answers here answer so_far step)
 

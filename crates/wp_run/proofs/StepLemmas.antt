@@ -16,7 +16,7 @@ use Rattle.wp_session.specs.Client.{Client, ClientFits}
 use Rattle.wp_session.specs.Due.{Store, logged, reply_to, due, logged_entries, client_after}
 use Rattle.wp_session.specs.Kind.{acknowledged, is_logged, is_fault, number_in, fresh_in, is_stopped}
 use Rattle.wp_session.specs.After.{after_decision}
-use Rattle.wp_run.specs.Engine.{EngineState, store_of, Steps}
+use Rattle.wp_run.specs.Engine.{EngineState, store_of, IsCommandStep}
 use Rattle.wp_session.specs.Plan.{plan, asked_of}
 use Rattle.wp_run.specs.Logging.{HasLogged, HasFailed, IsLogAnswer}
 use Rattle.wp_session.proofs.PlanLemmas.{Logs}
@@ -80,7 +80,7 @@ not_stopped : (r : Reply) → is_logged r ≡ true → is_stopped r ≡ false
 not_stopped (reply.Stopped n) is = absurd cc
 not_stopped other is = refl
 
-takes_steps : (old new : EngineState) (was now : Client) (c : Command) (entries : List Entry) (success : Reply) → Asks old was c entries success → HasLogged old new entries → now ≡ after_decision was success → Steps old was c success new now
+takes_steps : (old new : EngineState) (was now : Client) (c : Command) (entries : List Entry) (success : Reply) → Asks old was c entries success → HasLogged old new entries → now ≡ after_decision was success → IsCommandStep old was c success new now
 takes_steps old new was now c entries success asks takes is =
     let added_is : logged_entries (store_of old) was c success ≡ entries = rw (asks.logs.logged, asks.asked) refl in
     let longer : new.entries ≡ old.entries ++ entries = ap (λ (s : EngineState). s.entries) takes.changed in
@@ -101,7 +101,7 @@ takes_steps old new was now c entries success asks takes is =
       stays = λ s. false_is_true old.stopped takes.running s;
     }
 
-fails_steps : (old new : EngineState) (was : Client) (c : Command) (entries : List Entry) (success : Reply) → Asks old was c entries success → HasFailed old new entries → Steps old was c reply.FaultLog new was
+fails_steps : (old new : EngineState) (was : Client) (c : Command) (entries : List Entry) (success : Reply) → Asks old was c entries success → HasFailed old new entries → IsCommandStep old was c reply.FaultLog new was
 fails_steps old new was c entries success asks fails = record {
   replied = inr (refl, ap is_logged (asks.replies ∙ logged_takes (store_of old) (length entries) success fails.running fails.fits) ∙ asks.logs.logged);
   entries = ap (λ (s : EngineState). s.entries) fails.changed ∙ sym (append-nil old.entries);
@@ -120,7 +120,7 @@ fails_steps old new was c entries success asks fails = record {
 }
 
 -- a reply without the log changes nothing of the store
-still_steps : (old : EngineState) (was now : Client) (c : Command) (answer : Reply) → answer ≡ due (store_of old) was c → now ≡ client_after old.entries was c answer → acknowledged answer ≡ [] → is_logged answer ≡ false → is_fault answer ≡ false → (is_stopped answer ≡ true → old.stopped ≡ true) → IfSome (fresh_in c answer) (λ n. n ≡ length old.entries) → Steps old was c answer old now
+still_steps : (old : EngineState) (was now : Client) (c : Command) (answer : Reply) → answer ≡ due (store_of old) was c → now ≡ client_after old.entries was c answer → acknowledged answer ≡ [] → is_logged answer ≡ false → is_fault answer ≡ false → (is_stopped answer ≡ true → old.stopped ≡ true) → IfSome (fresh_in c answer) (λ n. n ≡ length old.entries) → IsCommandStep old was c answer old now
 still_steps old was now c answer is client none unlogged faultless stopped fresh = record {
   replied = inl is;
   entries = rw unlogged (sym (append-nil old.entries));
@@ -142,14 +142,14 @@ still_steps old was now c answer is client none unlogged faultless stopped fresh
     if_current (Some m) n at = (omega (arith, at), omega (arith, at))
     if_current None n at = tt
 
-step_at : (old new : EngineState) (was now : Client) (c : Command) (answer success : Reply) → answer ≡ success → new ≡ old → now ≡ was → Steps old was c success old was → Steps old was c answer new now
+step_at : (old new : EngineState) (was now : Client) (c : Command) (answer success : Reply) → answer ≡ success → new ≡ old → now ≡ was → IsCommandStep old was c success old was → IsCommandStep old was c answer new now
 step_at old new was now c answer success a n i step =
-    subst (λ (r : Reply). Steps old was c r new now) (sym a) (subst (λ (s : EngineState). Steps old was c success s now) (sym n) (subst (λ (x : Client). Steps old was c success old x) (sym i) step))
+    subst (λ (r : Reply). IsCommandStep old was c r new now) (sym a) (subst (λ (s : EngineState). IsCommandStep old was c success s now) (sym n) (subst (λ (x : Client). IsCommandStep old was c success old x) (sym i) step))
 
-pub logged_steps : (old new : EngineState) (was now : Client) (c : Command) (entries : List Entry) (success answer : Reply) → Asks old was c entries success → IsLogAnswer old was entries success answer new now → Steps old was c answer new now
+pub logged_steps : (old new : EngineState) (was now : Client) (c : Command) (entries : List Entry) (success answer : Reply) → Asks old was c entries success → IsLogAnswer old was entries success answer new now → IsCommandStep old was c answer new now
 logged_steps old new was now c entries success answer asks answered = elim answered [
-  | inl accepted ↦ subst (λ (r : Reply). Steps old was c r new now) (sym accepted.1) (takes_steps old new was now c entries success asks accepted.0 accepted.2)
-  | inr (inl failed) ↦ subst (λ (r : Reply). Steps old was c r new now) (sym failed.1) (subst (λ (x : Client). Steps old was c reply.FaultLog new x) (sym failed.2) (fails_steps old new was c entries success asks failed.0))
+  | inl accepted ↦ subst (λ (r : Reply). IsCommandStep old was c r new now) (sym accepted.1) (takes_steps old new was now c entries success asks accepted.0 accepted.2)
+  | inr (inl failed) ↦ subst (λ (r : Reply). IsCommandStep old was c r new now) (sym failed.1) (subst (λ (x : Client). IsCommandStep old was c reply.FaultLog new x) (sym failed.2) (fails_steps old new was c entries success asks failed.0))
   | inr (inr (inl full)) ↦ step_at old new was now c answer (reply.Full (length old.entries) old.limit) full.1 full.0.same full.2
       (still_steps old was was c (reply.Full (length old.entries) old.limit) (sym (asks.replies ∙ logged_full (store_of old) (length entries) success full.0.running full.0.past)) refl refl refl refl (λ t. absurd cc) (fresh_if_numbered _ c (reply.Full (length old.entries) old.limit) tt))
   | inr (inr (inr stopped)) ↦ step_at old new was now c answer (reply.Stopped (length old.entries)) stopped.1 stopped.0.same stopped.2
@@ -169,7 +169,7 @@ logged_fits old new was now entries success answer logs fits answered = elim ans
   | inr (inr (inr stopped)) ↦ subst (λ (x : Client). ClientFits new.entries x) (sym stopped.2) (rw stopped.0.same fits)
 ]
 
-pub said_steps : (s : EngineState) (was now : Client) (c : Command) (answer : Reply) → plan s.entries was c ≡ Say answer → now ≡ client_after s.entries was c answer → Steps s was c answer s now
+pub said_steps : (s : EngineState) (was now : Client) (c : Command) (answer : Reply) → plan s.entries was c ≡ Say answer → now ≡ client_after s.entries was c answer → IsCommandStep s was c answer s now
 said_steps s was now c answer planned is =
     let plain = plan_says s.entries was c answer planned in
     still_steps s was now c answer (sym (ap (reply_to (store_of s)) planned)) is plain.none plain.unlogged plain.faultless (λ t. false_is_true (is_stopped answer) plain.running t) plain.current

@@ -40,7 +40,7 @@ pub record Later (old new : EngineState) : Type 0 where
   pub durable : LosesNothing old.moments new.moments
 
 -- a command's step from one state to the next, and its reply
-pub record Steps (old : EngineState) (was : Client) (command : Command) (answer : Reply) (new : EngineState) (now : Client) : Type 0 where
+pub record IsCommandStep (old : EngineState) (was : Client) (command : Command) (answer : Reply) (new : EngineState) (now : Client) : Type 0 where
   pub replied : IsReply (store_of old) was command answer
   pub entries : new.entries ≡ old.entries ++ logged_entries (store_of old) was command answer
   pub stopped : new.stopped ≡ (if is_fault answer then true else old.stopped)
@@ -63,7 +63,7 @@ abbrev pub Runs : EngineState → Client → List Command → List Reply → Eng
 Runs old was [] [] new now = (new ≡ old) × (now ≡ was)
 Runs old was [] (answer ∷ answers) new now = ⊥
 Runs old was (first ∷ commands) [] new now = ⊥
-Runs old was (first ∷ commands) (answer ∷ answers) new now = (mid : EngineState) × (next : Client) × Steps old was first answer mid next × Runs mid next commands answers new now
+Runs old was (first ∷ commands) (answer ∷ answers) new now = (mid : EngineState) × (next : Client) × IsCommandStep old was first answer mid next × Runs mid next commands answers new now
 
 -- a client's whole session
 abbrev pub IsRun : EngineState → List Command → List Reply → EngineState → Type 0

@@ -12,6 +12,7 @@ use Rattle.wp_words.specs.Choice.{IsChoice, IsTaken}
 use Rattle.wp_outside.specs.Whole.{AreBytesRead}
 use Rattle.wp_run.specs.declared.status.Status.{Status}
 use Rattle.wp_run.specs.declared.status.Status.TheVariants as status
+use Rattle.wp_text.specs.declared.read.TheConstants.{MOST_BYTES}
 use Rattle.wp_run.specs.Serving.{Serves}
 use Rattle.wp_run.specs.Use.{DiskUse, SourceUse, SinkUse}
 
@@ -21,7 +22,7 @@ IsChosen words chosen = (choice : Choice) × IsChoice words choice × (choice.ac
 
 -- how many bytes are read at most: one more than a script may have, so that a longer one is named
 abbrev pub most_read : ℕ
-most_read = 2 ^ 20 + 1
+most_read = MOST_BYTES + 1
 
 -- the script that the source held
 abbrev pub IsScriptIn : SourceUse → List Part → Type 0

@@ -2,7 +2,7 @@ ghost use Rattle.std.specs.Prelude.{◌≡◌, true, IfOk, OnOk, OnErr};
 ghost use Rattle.wp_model.specs.Batch.{is_batch};
 ghost use Rattle.wp_model.specs.Legal.{changes_in};
 ghost use Rattle.wp_session.specs.Client.{ClientFits};
-ghost use Rattle.wp_run.specs.Engine.{Steps, IsRunSoFar};
+ghost use Rattle.wp_run.specs.Engine.{IsCommandStep, IsRunSoFar};
 ghost use Rattle.wp_session.specs.Next.{AreNext};
 ghost use Rattle.wp_run.specs.Logging.{IsRefusalOf, IsLogAnswer};
 
@@ -96,7 +96,7 @@ fn answer<D: Disk>(
     command: &Command,
 ) -> Result<Reply, AllocError>
     requires fits { ClientFits engine.old.entries session.old }
-    ensures steps { IfOk result (λ reply. Steps engine.old session.old command.now reply engine.new session.new) }
+    ensures steps { IfOk result (λ reply. IsCommandStep engine.old session.old command.now reply engine.new session.new) }
     ensures fits { OnOk result (ClientFits engine.new.entries session.new) }
     ensures err { OnErr result (engine.new ≡ engine.old) }
 {

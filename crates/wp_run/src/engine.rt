@@ -116,7 +116,7 @@ impl<D: Disk> Engine<D> {
         wal.into_disk()
     }
 
-    /// Logs the entries as one record, and then adds them to the history. The reply's number is that of the last one.
+    /// Logs the entries as one record, and then adds them to the history.
     pub(crate) fn log(&mut self, entries: Vec<Entry>) -> Result<(), WriteError>
         requires next { AreNext self.old.entries entries.items }
         ensures { IsLogResult self.old self.new entries.items result }

@@ -25,7 +25,7 @@ use Rattle.wp_session.specs.Client.{Client, AreWithin, number_of, own_batch, has
 use Rattle.wp_session.specs.After.{with_held, labels_after}
 use Rattle.wp_session.specs.Kind.{is_logged, fresh_in, last_after}
 use Rattle.wp_session.specs.Replies.{IsKnown, one_at_a_time, refusal_of, refuses_change, IsFresh, IsLoggedAt, WasUndecided, IsBusy, TxnIsOpen, TxnIsWithin, OwnSays, needed, unless_labelled, unless_idle, unless_open, if_idle, unless_prepared, PreparesAt, CommitsAt, RollsBackAt, Row, UnlessRefused, Allows}
-use Rattle.wp_session.specs.Plan.{plan, asked_of, next, held_or, change_plan, read_reply, get_reply, get_at_reply, free_reply, begin_reply, begin_plan, prepare_plan, commit_plan, rollback_plan, leave_plan, take_reply, take_plan}
+use Rattle.wp_session.specs.Plan.{plan, asked_of, next, busy_or, change_plan, read_reply, get_reply, get_at_reply, free_reply, begin_reply, begin_plan, prepare_plan, commit_plan, rollback_plan, leave_plan, take_reply, take_plan}
 use Rattle.wp_session.specs.Due.{Store, logged, reply_to, due, IsReply, logged_entries, taken, client_after}
 use Rattle.wp_session.specs.Moments.{store_at, IsDueFrom, AreDueFrom}
 use Rattle.wp_session.specs.Session.{IsSession}
@@ -182,11 +182,11 @@ change_allowed : {client : Client} {c : Command} {answer : Reply} (s : Scene cli
     → (TxnIsOpen client.txn → RowOf s reply.Held) → IsAllowed s
 change_allowed {client = client} {c = c} s change made plan_is refusal_is needs logs row busy held = by client.txn refl
   where
-    on_holder : (other : Plan) → plan (front s) client c ≡ held_or (front s) (holder_of (front s) (key_of change)) other → refusal_of client c ≡ None → (plan (front s) client c ≡ other → IsAllowed s) → IsAllowed s
+    on_holder : (other : Plan) → plan (front s) client c ≡ busy_or (front s) (holder_of (front s) (key_of change)) other → refusal_of client c ≡ None → (plan (front s) client c ≡ other → IsAllowed s) → IsAllowed s
     on_holder other is free rest =
         elim (option_cases (holder_of (front s) (key_of change))) [
-          | inl none ↦ rest (is ∙ ap (λ (o : Option ℕ). held_or (front s) o other) none)
-          | inr found ↦ say_allowed s (reply.Busy (name_at (front s) found.0)) (is ∙ ap (λ (o : Option ℕ). held_or (front s) o other) found.1) refl free (busy _ (busy_in s (key_of change) found.0 found.1))
+          | inl none ↦ rest (is ∙ ap (λ (o : Option ℕ). busy_or (front s) o other) none)
+          | inr found ↦ say_allowed s (reply.Busy (name_at (front s) found.0)) (is ∙ ap (λ (o : Option ℕ). busy_or (front s) o other) found.1) refl free (busy _ (busy_in s (key_of change) found.0 found.1))
         ]
 
     by : (txn : Txn) → client.txn ≡ txn → IsAllowed s

@@ -23,7 +23,7 @@ use Rattle.wp_session.specs.Client.{Client, ClientFits, TxnFits, has_no_room}
 use Rattle.wp_session.specs.After.{after_decision}
 use Rattle.wp_session.specs.Kind.{acknowledged, is_logged, number_in}
 use Rattle.wp_session.specs.Next.{AreNext}
-use Rattle.wp_session.specs.Plan.{plan, next, held_or, unless_held, change_plan, begin_plan, prepare_plan, commit_plan, rollback_plan, leave_plan, take_plan}
+use Rattle.wp_session.specs.Plan.{plan, next, busy_or, unless_busy, change_plan, begin_plan, prepare_plan, commit_plan, rollback_plan, leave_plan, take_plan}
 
 -- what a history undoes last is at its end
 abbrev pub LastIs : Type 0
@@ -99,19 +99,19 @@ logs_by h client first e made answer is may logged numbers number txn whole =
       txn = subst (λ (x : Entry). TxnFits (h ++ x ∷ []) (after_decision client answer).txn) same_entry (subst (λ (r : Reply). TxnFits (h ++ first ∷ []) (after_decision client r).txn) same_reply txn);
     }
 
-held_or_logs : (h : List Entry) (holder : Option ℕ) (made : Plan) (e : Entry) (answer : Reply) → held_or h holder made ≡ Log e answer → (holder ≡ None) × (made ≡ Log e answer)
-held_or_logs h None made e answer is = (refl, is)
-held_or_logs h (Some p) made e answer is = absurd cc
+busy_or_logs : (h : List Entry) (holder : Option ℕ) (made : Plan) (e : Entry) (answer : Reply) → busy_or h holder made ≡ Log e answer → (holder ≡ None) × (made ≡ Log e answer)
+busy_or_logs h None made e answer is = (refl, is)
+busy_or_logs h (Some p) made e answer is = absurd cc
 
 -- a change that is logged is written at once, and its key is free
 change_logs : (h : List Entry) (txn : Txn) (c : Change) (made : Reply) (e : Entry) (answer : Reply) → change_plan h txn c made ≡ Log e answer → (txn ≡ Idle) × (holder_of h (key_of c) ≡ None) × (Log (entry.Write (c ∷ [])) made ≡ Log e answer)
-change_logs h Idle c made e answer is = let l = held_or_logs h (holder_of h (key_of c)) (Log (entry.Write (c ∷ [])) made) e answer is in (refl, l.0, l.1)
+change_logs h Idle c made e answer is = let l = busy_or_logs h (holder_of h (key_of c)) (Log (entry.Write (c ∷ [])) made) e answer is in (refl, l.0, l.1)
 change_logs h (Open name batch) c made e answer is =
     elim (cases_Bool (has_no_room batch (key_of c))) [
       | inl full ↦ let said : Say reply.TooMany ≡ Log e answer = rw full at is in absurd cc
       | inr room ↦
-          let asked : unless_held h (key_of c) (Say reply.Held) ≡ Log e answer = rw room at is in
-          let said = held_or_logs h (holder_of h (key_of c)) (Say reply.Held) e answer asked in
+          let asked : unless_busy h (key_of c) (Say reply.Held) ≡ Log e answer = rw room at is in
+          let said = busy_or_logs h (holder_of h (key_of c)) (Say reply.Held) e answer asked in
           absurd cc
     ]
 change_logs h (Prepared p) c made e answer is = absurd cc
@@ -194,18 +194,18 @@ rolled_back last follows h client (Prepared p) q batch answer closed fits whole 
       txn = tt;
     })))
 
-held_or_rolls : (h : List Entry) (holder : Option ℕ) (made : Plan) (q : ℕ) (batch : List Change) (answer : Reply) → held_or h holder made ≡ RollBack q batch answer → made ≡ RollBack q batch answer
-held_or_rolls h None made q batch answer is = is
-held_or_rolls h (Some p) made q batch answer is = absurd cc
+busy_or_rolls : (h : List Entry) (holder : Option ℕ) (made : Plan) (q : ℕ) (batch : List Change) (answer : Reply) → busy_or h holder made ≡ RollBack q batch answer → made ≡ RollBack q batch answer
+busy_or_rolls h None made q batch answer is = is
+busy_or_rolls h (Some p) made q batch answer is = absurd cc
 
 change_rolls : (h : List Entry) (txn : Txn) (c : Change) (made : Reply) (q : ℕ) (batch : List Change) (answer : Reply) → change_plan h txn c made ≡ RollBack q batch answer → ⊥
-change_rolls h Idle c made q batch answer is = let said = held_or_rolls h (holder_of h (key_of c)) (Log (entry.Write (c ∷ [])) made) q batch answer is in absurd cc
+change_rolls h Idle c made q batch answer is = let said = busy_or_rolls h (holder_of h (key_of c)) (Log (entry.Write (c ∷ [])) made) q batch answer is in absurd cc
 change_rolls h (Open name own) c made q batch answer is =
     elim (cases_Bool (has_no_room own (key_of c))) [
       | inl full ↦ let said : Say reply.TooMany ≡ RollBack q batch answer = rw full at is in absurd cc
       | inr room ↦
-          let asked : unless_held h (key_of c) (Say reply.Held) ≡ RollBack q batch answer = rw room at is in
-          let said = held_or_rolls h (holder_of h (key_of c)) (Say reply.Held) q batch answer asked in
+          let asked : unless_busy h (key_of c) (Say reply.Held) ≡ RollBack q batch answer = rw room at is in
+          let said = busy_or_rolls h (holder_of h (key_of c)) (Say reply.Held) q batch answer asked in
           absurd cc
     ]
 change_rolls h (Prepared p) c made q batch answer is = absurd cc

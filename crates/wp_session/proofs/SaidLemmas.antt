@@ -28,7 +28,7 @@ use Rattle.wp_session.specs.Client.{Client, ClientFits, AreWithin, number_of, ow
 use Rattle.wp_session.specs.After.{with_held}
 use Rattle.wp_session.specs.Due.{client_after}
 use Rattle.wp_session.specs.Kind.{acknowledged, is_logged, is_fault, is_stopped, number_in, fresh_in}
-use Rattle.wp_session.specs.Plan.{plan, held_or, change_plan, begin_reply, begin_plan, prepare_plan, commit_plan, rollback_plan, leave_plan, take_reply, take_plan, read_reply, get_reply, get_at_reply, snap_reply, free_reply}
+use Rattle.wp_session.specs.Plan.{plan, busy_or, change_plan, begin_reply, begin_plan, prepare_plan, commit_plan, rollback_plan, leave_plan, take_reply, take_plan, read_reply, get_reply, get_at_reply, snap_reply, free_reply}
 
 -- ---- the reply
 
@@ -55,17 +55,17 @@ bare answer given b is = subst IsBare (said_is answer given is) b
 plain_if_bare : (h : List Entry) (c : Command) (answer : Reply) → (IsBare answer → fresh_in c answer ≡ None) → IsBare answer → IsPlain h c answer
 plain_if_bare h c answer fresh b = record { none = b.0; unlogged = b.1; faultless = b.2; running = b.3; current = rw (fresh b) tt }
 
-held_or_answers : (P : Reply → Type 0) (h : List Entry) (holder : Option ℕ) (made : Plan) (answer : Reply) → ((name : List ℕ) → P (reply.Busy name)) → ((given : Reply) → holder ≡ None → made ≡ Say given → P given) → held_or h holder made ≡ Say answer → P answer
-held_or_answers P h None made answer busy others is = others answer refl is
-held_or_answers P h (Some p) made answer busy others is = subst P (said_is (reply.Busy (name_at h p)) answer is) (busy (name_at h p))
+busy_or_answers : (P : Reply → Type 0) (h : List Entry) (holder : Option ℕ) (made : Plan) (answer : Reply) → ((name : List ℕ) → P (reply.Busy name)) → ((given : Reply) → holder ≡ None → made ≡ Say given → P given) → busy_or h holder made ≡ Say answer → P answer
+busy_or_answers P h None made answer busy others is = others answer refl is
+busy_or_answers P h (Some p) made answer busy others is = subst P (said_is (reply.Busy (name_at h p)) answer is) (busy (name_at h p))
 
 -- what has P, if each reply has it that a change may be given without the log
 change_answers : (P : Reply → Type 0) (h : List Entry) (txn : Txn) (c : Change) (made answer : Reply) → P reply.State → ((name : List ℕ) → P (reply.Busy name)) → P reply.TooMany → ((name : List ℕ) (batch : List Change) → txn ≡ Open name batch → holder_of h (key_of c) ≡ None → P reply.Held) → change_plan h txn c made ≡ Say answer → P answer
-change_answers P h Idle c made answer state busy many held is = held_or_answers P h (holder_of h (key_of c)) (Log (entry.Write (c ∷ [])) made) answer busy (λ given none said. absurd cc) is
+change_answers P h Idle c made answer state busy many held is = busy_or_answers P h (holder_of h (key_of c)) (Log (entry.Write (c ∷ [])) made) answer busy (λ given none said. absurd cc) is
 change_answers P h (Open name batch) c made answer state busy many held is =
     elim (cases_Bool (has_no_room batch (key_of c))) [
       | inl full ↦ subst P (said_is reply.TooMany answer (rw full at is)) many
-      | inr room ↦ held_or_answers P h (holder_of h (key_of c)) (Say reply.Held) answer busy (λ given none said. subst P (said_is reply.Held given said) (held name batch refl none)) (rw room at is)
+      | inr room ↦ busy_or_answers P h (holder_of h (key_of c)) (Say reply.Held) answer busy (λ given none said. subst P (said_is reply.Held given said) (held name batch refl none)) (rw room at is)
     ]
 change_answers P h (Prepared p) c made answer state busy many held is = subst P (said_is reply.State answer is) state
 

@@ -27,17 +27,17 @@ next history = length history + 1
 -- ---- put, del
 
 -- busy, where an undecided prepare holds the key
-abbrev pub held_or : List Entry → Option ℕ → Plan → Plan
-held_or history None plan = plan
-held_or history (Some p) plan = Say (reply.Busy (name_at history p))
+abbrev pub busy_or : List Entry → Option ℕ → Plan → Plan
+busy_or history None plan = plan
+busy_or history (Some p) plan = Say (reply.Busy (name_at history p))
 
-abbrev pub unless_held : List Entry → List ℕ → Plan → Plan
-unless_held history key plan = held_or history (holder_of history key) plan
+abbrev pub unless_busy : List Entry → List ℕ → Plan → Plan
+unless_busy history key plan = busy_or history (holder_of history key) plan
 
 -- the reply is that of a change that is written at once
 abbrev pub change_plan : List Entry → Txn → Change → Reply → Plan
-change_plan history Idle change answer = unless_held history (key_of change) (Log (entry.Write (change ∷ [])) answer)
-change_plan history (Open name batch) change answer = if has_no_room batch (key_of change) then Say reply.TooMany else unless_held history (key_of change) (Say reply.Held)
+change_plan history Idle change answer = unless_busy history (key_of change) (Log (entry.Write (change ∷ [])) answer)
+change_plan history (Open name batch) change answer = if has_no_room batch (key_of change) then Say reply.TooMany else unless_busy history (key_of change) (Say reply.Held)
 change_plan history (Prepared p) change answer = Say reply.State
 
 -- ---- get

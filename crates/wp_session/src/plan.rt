@@ -33,14 +33,14 @@ fn next(history: &History) -> Seq
 
 // ---- put, del
 
-fn held_or(
+fn busy_or(
     alloc: Global,
     history: &History,
     holder: Option<Seq>,
     plan: Plan,
 ) -> Result<Plan, AllocError>
     requires { IfSome holder (λ p. is_undecided history.now.entries p ≡ true) }
-    ensures { IfOk result (λ made. made ≡ plans.held_or history.now.entries holder plan) }
+    ensures { IfOk result (λ made. made ≡ plans.busy_or history.now.entries holder plan) }
 {
     match holder {
         Some(p) => Ok(Plan::Say(Reply::Busy(history.name_at(p).copy(alloc)?))),
@@ -71,13 +71,13 @@ fn change_plan(
     match txn {
         Txn::Idle => {
             let write = Entry::Write(Batch::of(alloc, change)?);
-            held_or(alloc, history, holder, Plan::Log(write, reply))
+            busy_or(alloc, history, holder, Plan::Log(write, reply))
         }
         Txn::Open(_, batch) => {
             if has_no_room(batch, change.key()) {
                 return Ok(Plan::Say(Reply::TooMany));
             }
-            held_or(alloc, history, holder, Plan::Say(Reply::Held))
+            busy_or(alloc, history, holder, Plan::Say(Reply::Held))
         }
         Txn::Prepared(_) => Ok(Plan::Say(Reply::State)),
     }
