@@ -105,8 +105,10 @@ lock_one first others s = by (s.free (key_of first))
   where
     key : List ℕ
     key = key_of first
+
     more : Transaction
     more = record s.transaction { locked = finset.insert s.transaction.locked key }
+
     by : (finite.get s.table.keys key ≡ None) ⊎ (finite.get s.table.keys key ≡ Some (Txn [])) → HasKeys (first ∷ others)
     by (inr held) = record {
       table = s.table;
@@ -149,6 +151,7 @@ legal batch is = record { few = omega arith; each = each }
   where
     first : IsLegalNext [] (Write batch)
     first = record { batch = is; names_undecided = tt; undo_is_closed = refl; restores_prior = tt; keys_are_free = none_held batch }
+
     each : (n : ℕ) (entry : Entry) → slice_get (Write batch ∷ []) n ≡ Some entry → IsLegalNext (take n (Write batch ∷ [])) entry
     each zero entry at = subst (IsLegalNext []) (ap (λ o. unwrap_or o (Write batch)) at) first
     each (suc n) entry at = let q : None ≡ Some entry = at in absurd (cc)
