@@ -68,7 +68,7 @@ at_newest : (moments : List Moment) (m : Moment) (P : Moment → Type 0) → IfK
 at_newest [] m P e now = tt
 at_newest (k ∷ past) m P e now = subst P (sym e) now
 
--- what holds of the disk now holds of the moment that it tells first
+-- what holds of the disk now holds of the moment that it shows first
 pub known_now : (d : DiskState) (P : Moment → Type 0) → P (now_of d) → IfKnown (moments_of d) P
 known_now d P now = at_newest (moments_of d) (now_of d) P (newest_from (synced d.start) [] d.effects) now
 

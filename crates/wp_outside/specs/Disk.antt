@@ -7,7 +7,7 @@ use Rattle.std.specs.Prelude.{◌≡◌, ◌⊎◌, ℕ, zero, suc, ◌+◌, ◌
 -- a disk at one moment
 pub record Moment : Type 0 where
   pub reads : List ℕ  -- what a read gives
-  pub sure : List (Option ℕ)  -- each byte below the shortest length since the last sync; None: any byte may stand there
+  pub sure : List (Option ℕ)  -- each byte below the shortest length since the last sync; None: any byte may be there
   pub longest : ℕ  -- the longest length since the last sync
 
 -- the bytes begin with those that are sure
@@ -64,7 +64,7 @@ after_cut len m = record { reads = take len m.reads; sure = take len m.sure; lon
 abbrev pub after_sync : Moment → Moment
 after_sync m = synced m.reads
 
--- of a disk that tells its moments, the newest first: P of the newest
+-- of a disk that shows its moments, the newest first: P of the newest
 abbrev pub IfKnown : List Moment → (Moment → Type 0) → Type 0
 IfKnown [] P = ⊤
 IfKnown (m ∷ past) P = P m
@@ -73,12 +73,12 @@ IfKnown (m ∷ past) P = P m
 abbrev pub ReadsItself : List Moment → Type 0
 ReadsItself moments = IfKnown moments (λ m. IsImage m m.reads)
 
--- n bytes from a place on stand at the front of buf, fewer than it has room for exactly at the end
+-- n bytes from a place on are at the front of buf, fewer than it has room for exactly at the end
 pub record IsRead (reads : List ℕ) (at : ℕ) (buf : List ℕ) (n : ℕ) : Type 0 where
   pub count : n ≡ min (length buf) (length reads - at)
   pub bytes : take n buf ≡ take n (drop at reads)
 
--- one more moment, which the step makes of the newest; a disk that tells none still tells none
+-- one more moment, which the step makes of the newest; a disk that shows none still shows none
 abbrev pub added : (Moment → Moment) → List Moment → List Moment
 added step [] = []
 added step (m ∷ past) = step m ∷ m ∷ past

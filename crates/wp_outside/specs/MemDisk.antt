@@ -1,4 +1,4 @@
--- A disk in memory. It keeps all that was done to it, so it tells each moment.
+-- A disk in memory. It keeps all that was done to it, so it shows each moment.
 use Rattle.std.specs.Prelude.{ℕ, ◌+◌, Bool, ◌||◌, nat_lt, nat_le, List, [], ◌∷◌, ◌++◌, length, fold, sum_by, Result, Ok, Err}
 use Rattle.wp_outside.specs.declared.failed.Failed.{Failed}
 use Rattle.wp_outside.specs.Counter.{Calls, is_listed, counted}

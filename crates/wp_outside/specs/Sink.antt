@@ -1,4 +1,4 @@
--- What a write does to the bytes that a sink holds, where it tells them.
+-- What a write does to the bytes that a sink holds, where it shows them.
 use Rattle.std.specs.Prelude.{◌≡◌, ℕ, ◌<◌, ◌≤◌, List, ◌++◌, length, take, Option, Result, Ok, Err}
 use Rattle.std.specs.Io.KnownBytes.{Appends}
 use Rattle.wp_outside.specs.declared.failed.Failed.{Failed}

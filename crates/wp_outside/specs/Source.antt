@@ -1,4 +1,4 @@
--- What a read does to the bytes that a source has left, where it tells them.
+-- What a read does to the bytes that a source has left, where it shows them.
 use Rattle.std.specs.Prelude.{ℕ, ◌≤◌, List, length, take, Option, Result, Ok, Err}
 use Rattle.std.specs.Io.KnownBytes.{Consumes, IsAtEnd, Keeps}
 use Rattle.wp_outside.specs.declared.failed.Failed.{Failed}

@@ -9,7 +9,7 @@ use std::fmt;
 ///
 /// A write or a cut that fails may have been done in part, and a sync that fails has synced nothing.
 pub trait Disk {
-    /// The disk at each moment so far, the newest first; empty where it doesn't tell.
+    /// The disk at each moment so far, the newest first; empty where it doesn't show them.
     ghost moments: { Self → List Moment };
 
     /// How many calls failed, up to the greatest `u64`.

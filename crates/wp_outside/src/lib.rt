@@ -1,7 +1,7 @@
 //! The outside of the store: where bytes come from, where they go, and the devices that keep them.
 //!
 //! Whatever is there may refuse a call, and says so by one refusal whose cause is a count of faults that rose.
-//! What it holds is known or not: the forms in memory tell it, files and standard streams don't. A disk tells each
+//! What it holds is known or not: the forms in memory show it, files and standard streams don't. A disk shows each
 //! of its moments: what a read gives, and what a crash may leave. Everything that the store promises about a crash
 //! is said of those.
 #![tactic(auto)]

@@ -6,7 +6,7 @@ use crate::failed::Failed;
 
 /// Takes bytes to the outside, in order.
 pub trait Sink {
-    /// The bytes that it has taken; `None` where it doesn't tell.
+    /// The bytes that it has taken; `None` where it doesn't show them.
     ghost contents: { Self → Option (List ℕ) };
 
     /// How many writes failed, up to the greatest `u64`.

@@ -13,7 +13,7 @@ pub enum Got {
 
 /// Bytes that come from outside, in order.
 pub trait Source {
-    /// The bytes that reads will give from here on; `None` where it doesn't tell.
+    /// The bytes that reads will give from here on; `None` where it doesn't show them.
     ghost left: { Self → Option (List ℕ) };
 
     /// How many reads failed, up to the greatest `u64`.

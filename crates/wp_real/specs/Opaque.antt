@@ -1,4 +1,4 @@
--- A form that tells no content.
+-- A form that shows no content.
 use Rattle.std.specs.Prelude.{ℕ}
 
 -- all that contracts see of a file or a standard stream
