@@ -5,7 +5,7 @@ use lib.ListN.{get_elem?}
 use Rattle.wp_core.specs.Lists.{IsIn, one_if}
 use Rattle.wp_core.specs.Tables.{Content, WriteTable, writes}
 use Rattle.wp_core.specs.Turns.{write_turn}
-use Rattle.wp_core.specs.Views.{log_failed, told, heard, stopped, Fact, passed, in_old_commits, apart, words_stay, versions_in_memory, versions_nowhere, number_in_heap, number_not_in_heap, undecided_at, prior_values, unprepared, direct_free, tables_stay, live_listed, nothing_flushed, frozen_stay, delayed_flag_stays, old_flag_stays}
+use Rattle.wp_core.specs.Views.{log_failed, told, heard, stopped, Fact}
 use Rattle.wp_core.specs.World.{Participant, Actor, World, content_of, with_content}
 use Rattle.wp_core.specs.World as world
 use Rattle.wp_core.specs.Steps.{close_log}
@@ -48,44 +48,10 @@ module _ (w : World) (by : ℕ) (a : Actor) (at : get_elem? w.actors by ≡ some
 
   -- no fact speaks of a past, nor of a closed log
   so_closed : (fact : Fact) → SoIn w a.participant fact → SoPending w d p fact
-  so_closed (passed place pair) k = k
-  so_closed (in_old_commits place pair) k = k
-  so_closed (apart place pair) k = k
-  so_closed (words_stay max cache) k = k
-  so_closed versions_in_memory k = k
-  so_closed versions_nowhere k = k
-  so_closed number_in_heap k = k
-  so_closed number_not_in_heap k = k
-  so_closed (undecided_at name q) k = k
-  so_closed (prior_values name q batch) k = k
-  so_closed (unprepared name) k = k
-  so_closed (direct_free key) k = k
-  so_closed (tables_stay versions floor) k = k
-  so_closed (live_listed floor listed) k = k
-  so_closed nothing_flushed k = k
-  so_closed (frozen_stay m versions) k = k
-  so_closed (delayed_flag_stays value) k = k
-  so_closed (old_flag_stays value) k = k
+  so_closed fact k = k
 
   others_closed : (x : Participant) (fact : Fact) → SoIn w x fact → SoPending w d x fact
-  others_closed x (passed place pair) k = k
-  others_closed x (in_old_commits place pair) k = k
-  others_closed x (apart place pair) k = k
-  others_closed x (words_stay max cache) k = k
-  others_closed x versions_in_memory k = k
-  others_closed x versions_nowhere k = k
-  others_closed x number_in_heap k = k
-  others_closed x number_not_in_heap k = k
-  others_closed x (undecided_at name q) k = k
-  others_closed x (prior_values name q batch) k = k
-  others_closed x (unprepared name) k = k
-  others_closed x (direct_free key) k = k
-  others_closed x (tables_stay versions floor) k = k
-  others_closed x (live_listed floor listed) k = k
-  others_closed x nothing_flushed k = k
-  others_closed x (frozen_stay m versions) k = k
-  others_closed x (delayed_flag_stays value) k = k
-  others_closed x (old_flag_stays value) k = k
+  others_closed x fact k = k
 
   history_closed : IsHistory w.opened d w.max_evicted
   history_closed = let k = s.history in record {

@@ -9,7 +9,7 @@ use Rattle.wp_model.specs.declared.holder.Holder.{Holder}
 use Rattle.wp_model.specs.declared.holder.Holder.TheVariants.{Txn, Client}
 use Rattle.wp_model.specs.LockTables.{LockTables}
 use Rattle.wp_core.specs.Lists.{IsIn}
-use Rattle.wp_core.specs.Views.{locked, Fact, passed, in_old_commits, apart, words_stay, versions_in_memory, versions_nowhere, number_in_heap, number_not_in_heap, undecided_at, prior_values, unprepared, direct_free, tables_stay, live_listed, nothing_flushed, frozen_stay, delayed_flag_stays, old_flag_stays}
+use Rattle.wp_core.specs.Views.{locked, Fact, undecided_at, prior_values, unprepared, direct_free}
 use Rattle.wp_core.specs.World.{Transaction, Actor, Participant, World}
 use Rattle.wp_core.specs.World as world
 use Rattle.wp_core.specs.Steps.{Step}
@@ -170,44 +170,16 @@ module _ (w : World) (by : ℕ) (a : Actor) (name : List ℕ) (x0 : Transaction)
   owns_still n ne k = (k.0, has_still n k.0 ne k.1)
 
   mine_still : (fact : Fact) → not (ends w.writes.history (length w.cache) step fact) ≡ true → SoIn w a.participant fact → SoWith w t p fact
-  mine_still (passed place pair) left k = k
-  mine_still (in_old_commits place pair) left k = k
-  mine_still (apart place pair) left k = k
-  mine_still (words_stay max cache) left k = k
-  mine_still versions_in_memory left k = k
-  mine_still versions_nowhere left k = k
-  mine_still number_in_heap left k = k
-  mine_still number_not_in_heap left k = k
   mine_still (undecided_at n q) left k = let ne = d.ended n left in (owns_still n ne k.0, k.1, d.names n ne ∙ k.2, λ c h. d.transactions c n ne (k.3 c h))
   mine_still (prior_values n q batch) left k = (owns_still n (d.ended n left) k.0, k.1, k.2)
   mine_still (unprepared n) left k = (owns_still n (d.ended n left) k.0, k.1, λ x c h. k.2 x c (had_name n x h).1)
   mine_still (direct_free c) left k = (k.0, d.directs c a.participant.client k.1, k.2)
-  mine_still (tables_stay versions floor) left k = k
-  mine_still (live_listed floor listed) left k = k
-  mine_still nothing_flushed left k = k
-  mine_still (frozen_stay n versions) left k = k
-  mine_still (delayed_flag_stays value) left k = k
-  mine_still (old_flag_stays value) left k = k
+  mine_still fact left k = k
 
   others_still : (j : ℕ) (q : Participant) (fact : Fact) → j ≢ by → IsParticipantAt before j 0 (owner_of q) → SoIn w q fact → SoWith w t q fact
-  others_still j q (passed place pair) away there k = k
-  others_still j q (in_old_commits place pair) away there k = k
-  others_still j q (apart place pair) away there k = k
-  others_still j q (words_stay max cache) away there k = k
-  others_still j q versions_in_memory away there k = k
-  others_still j q versions_nowhere away there k = k
-  others_still j q number_in_heap away there k = k
-  others_still j q number_not_in_heap away there k = k
   others_still j q (undecided_at n m) away there k = let ne = not_theirs j 0 (owner_of q) n k.0.0 (inl away) there k.0.1 in (k.0, k.1, d.names n ne ∙ k.2, λ c h. d.transactions c n ne (k.3 c h))
-  others_still j q (prior_values n m batch) away there k = k
-  others_still j q (unprepared n) away there k = k
   others_still j q (direct_free c) away there k = (k.0, d.directs c q.client k.1, k.2)
-  others_still j q (tables_stay versions floor) away there k = k
-  others_still j q (live_listed floor listed) away there k = k
-  others_still j q nothing_flushed away there k = k
-  others_still j q (frozen_stay n versions) away there k = k
-  others_still j q (delayed_flag_stays value) away there k = k
-  others_still j q (old_flag_stays value) away there k = k
+  others_still j q fact away there k = k
 
   were : (k : List ℕ) (holder : Holder) → finite.get t.keys k ≡ Some holder → finite.get w.locks.keys k ≡ Some holder
   were k (Txn n) h = d.transactions_were k n h

@@ -9,7 +9,7 @@ use Rattle.wp_model.specs.declared.change.Change.{Change}
 use Rattle.wp_model.specs.Batch.{key_cmp}
 use Rattle.wp_model.specs.declared.holder.Holder.TheVariants.{Client}
 use Rattle.wp_core.specs.Lists.{EachAt, IsIn}
-use Rattle.wp_core.specs.Views.{Fact, passed, in_old_commits, apart, words_stay, versions_in_memory, versions_nowhere, number_in_heap, number_not_in_heap, undecided_at, prior_values, unprepared, direct_free, tables_stay, live_listed, nothing_flushed, frozen_stay, delayed_flag_stays, old_flag_stays}
+use Rattle.wp_core.specs.Views.{Fact, undecided_at, prior_values, unprepared, direct_free}
 use Rattle.wp_core.specs.World.{Transaction, Actor, Participant, World, content_of}
 use Rattle.wp_core.specs.World as world
 use Rattle.wp_core.specs.Steps.{set_batch}
@@ -34,24 +34,11 @@ module _ (w : World) (a p : Participant) (is : IsSameOwner (owner_of a) (owner_o
   owns_still name k = let h = is.has name k.0 k.1 in (h.0, h.1)
 
   pub so_same : (fact : Fact) → SoIn w a fact → SoIn w p fact
-  so_same (passed place pair) k = k
-  so_same (in_old_commits place pair) k = k
-  so_same (apart place pair) k = k
-  so_same (words_stay max cache) k = k
-  so_same versions_in_memory k = k
-  so_same versions_nowhere k = k
-  so_same number_in_heap k = k
-  so_same number_not_in_heap k = k
   so_same (undecided_at name q) k = (owns_still name k.0, k.1, k.2 ∙ ap (λ (c : List ℕ). Some (Some c)) (sym is.client), k.3)
   so_same (prior_values name q batch) k = (owns_still name k.0, k.1, k.2)
   so_same (unprepared name) k = (owns_still name k.0, k.1, λ x key h held. let y = is.had name x h in k.2 y.0 key y.1 (subst (λ (z : words.FinSet key_cmp). words.contains z key ≡ true) (sym y.2) held))
   so_same (direct_free key) k = (is.direct ∙ k.0, k.1 ∙ ap (λ (c : List ℕ). Some (Client c)) (sym is.client), k.2)
-  so_same (tables_stay versions floor) k = k
-  so_same (live_listed floor listed) k = k
-  so_same nothing_flushed k = k
-  so_same (frozen_stay n versions) k = k
-  so_same (delayed_flag_stays value) k = k
-  so_same (old_flag_stays value) k = k
+  so_same fact k = k
 
 module _ (a : Participant) (name : List ℕ) (t : Transaction) (batch : List Change) (has : finite.get a.transactions name ≡ Some t) where
   abbrev with_batch : Transaction

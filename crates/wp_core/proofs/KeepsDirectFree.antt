@@ -7,7 +7,7 @@ use Rattle.wp_model.specs.History.{name_at}
 use Rattle.wp_model.specs.declared.holder.Holder.{Holder}
 use Rattle.wp_model.specs.declared.holder.Holder.TheVariants.{Txn, Client}
 use Rattle.wp_model.specs.LockTables.{LockTables}
-use Rattle.wp_core.specs.Views.{Fact, passed, in_old_commits, apart, words_stay, versions_in_memory, versions_nowhere, number_in_heap, number_not_in_heap, undecided_at, prior_values, unprepared, direct_free, tables_stay, live_listed, nothing_flushed, frozen_stay, delayed_flag_stays, old_flag_stays}
+use Rattle.wp_core.specs.Views.{Fact, undecided_at, direct_free}
 use Rattle.wp_core.specs.World.{Transaction, Actor, Participant, World}
 use Rattle.wp_core.specs.World as world
 use Rattle.wp_core.specs.Steps.{free_direct}
@@ -141,44 +141,14 @@ module _ (w : World) (by : ℕ) (a : Actor) (key : List ℕ) (at : get_elem? w.a
   }
 
   mine_still : (fact : Fact) → not (ends w.writes.history (length w.cache) (free_direct key) fact) ≡ true → SoIn w a.participant fact → SoWith w t p fact
-  mine_still (passed place pair) left k = k
-  mine_still (in_old_commits place pair) left k = k
-  mine_still (apart place pair) left k = k
-  mine_still (words_stay max cache) left k = k
-  mine_still versions_in_memory left k = k
-  mine_still versions_nowhere left k = k
-  mine_still number_in_heap left k = k
-  mine_still number_not_in_heap left k = k
   mine_still (undecided_at n q) left k = (k.0, k.1, k.2, λ c h. txn_still c n (k.3 c h))
-  mine_still (prior_values n q batch) left k = k
-  mine_still (unprepared n) left k = k
   mine_still (direct_free c) left k = absurd (true≢false (sym left))
-  mine_still (tables_stay versions floor) left k = k
-  mine_still (live_listed floor listed) left k = k
-  mine_still nothing_flushed left k = k
-  mine_still (frozen_stay n versions) left k = k
-  mine_still (delayed_flag_stays value) left k = k
-  mine_still (old_flag_stays value) left k = k
+  mine_still fact left k = k
 
   others_still : (j : ℕ) (q : Participant) (fact : Fact) → j ≢ by → IsParticipantAt before j 0 (owner_of q) → SoIn w q fact → SoWith w t q fact
-  others_still j q (passed place pair) ne there k = k
-  others_still j q (in_old_commits place pair) ne there k = k
-  others_still j q (apart place pair) ne there k = k
-  others_still j q (words_stay max cache) ne there k = k
-  others_still j q versions_in_memory ne there k = k
-  others_still j q versions_nowhere ne there k = k
-  others_still j q number_in_heap ne there k = k
-  others_still j q number_not_in_heap ne there k = k
   others_still j q (undecided_at n m) ne there k = (k.0, k.1, k.2, λ c h. txn_still c n (k.3 c h))
-  others_still j q (prior_values n m batch) ne there k = k
-  others_still j q (unprepared n) ne there k = k
   others_still j q (direct_free c) ne there k = (k.0, else_removed w.locks.keys key c (not_theirs j 0 (owner_of q) c (inl ne) there k.0) ∙ k.1, k.2)
-  others_still j q (tables_stay versions floor) ne there k = k
-  others_still j q (live_listed floor listed) ne there k = k
-  others_still j q nothing_flushed ne there k = k
-  others_still j q (frozen_stay n versions) ne there k = k
-  others_still j q (delayed_flag_stays value) ne there k = k
-  others_still j q (old_flag_stays value) ne there k = k
+  others_still j q fact ne there k = k
 
   parts : LocksParts w by a (free_direct key) p a.learned t
   parts = record {

@@ -8,7 +8,7 @@ use Rattle.wp_model.specs.declared.holder.Holder.{Holder}
 use Rattle.wp_model.specs.declared.holder.Holder.TheVariants.{Txn, Client}
 use Rattle.wp_model.specs.LockTables.{LockTables}
 use Rattle.wp_core.specs.Lists.{IsIn}
-use Rattle.wp_core.specs.Views.{Event, claimed, took, locked, told, heard, Fact, passed, in_old_commits, apart, words_stay, versions_in_memory, versions_nowhere, number_in_heap, number_not_in_heap, undecided_at, prior_values, unprepared, direct_free, tables_stay, live_listed, nothing_flushed, frozen_stay, delayed_flag_stays, old_flag_stays}
+use Rattle.wp_core.specs.Views.{Event, claimed, took, locked, told, heard, Fact, undecided_at, direct_free}
 use Rattle.wp_core.specs.World.{Transaction, Actor, Participant, World}
 use Rattle.wp_core.specs.World as world
 use Rattle.wp_core.specs.Steps.{lock_direct}
@@ -166,44 +166,14 @@ module _ (w : World) (by : ℕ) (a : Actor) (key : List ℕ) (at : get_elem? w.a
   }
 
   mine_still : (fact : Fact) → SoIn w a.participant fact → SoWith w t p fact
-  mine_still (passed place pair) k = k
-  mine_still (in_old_commits place pair) k = k
-  mine_still (apart place pair) k = k
-  mine_still (words_stay max cache) k = k
-  mine_still versions_in_memory k = k
-  mine_still versions_nowhere k = k
-  mine_still number_in_heap k = k
-  mine_still number_not_in_heap k = k
   mine_still (undecided_at n q) k = (k.0, k.1, k.2, λ c h. held_still c (Txn n) (k.3 c h))
-  mine_still (prior_values n q batch) k = k
-  mine_still (unprepared n) k = k
   mine_still (direct_free c) k = let f : None ≡ Some c = sym no_direct ∙ k.0 in absurd cc
-  mine_still (tables_stay versions floor) k = k
-  mine_still (live_listed floor listed) k = k
-  mine_still nothing_flushed k = k
-  mine_still (frozen_stay n versions) k = k
-  mine_still (delayed_flag_stays value) k = k
-  mine_still (old_flag_stays value) k = k
+  mine_still fact k = k
 
   others_still : (q : Participant) (fact : Fact) → SoIn w q fact → SoWith w t q fact
-  others_still q (passed place pair) k = k
-  others_still q (in_old_commits place pair) k = k
-  others_still q (apart place pair) k = k
-  others_still q (words_stay max cache) k = k
-  others_still q versions_in_memory k = k
-  others_still q versions_nowhere k = k
-  others_still q number_in_heap k = k
-  others_still q number_not_in_heap k = k
   others_still q (undecided_at n m) k = (k.0, k.1, k.2, λ c h. held_still c (Txn n) (k.3 c h))
-  others_still q (prior_values n m batch) k = k
-  others_still q (unprepared n) k = k
   others_still q (direct_free c) k = (k.0, held_still c (Client q.client) k.1, k.2)
-  others_still q (tables_stay versions floor) k = k
-  others_still q (live_listed floor listed) k = k
-  others_still q nothing_flushed k = k
-  others_still q (frozen_stay n versions) k = k
-  others_still q (delayed_flag_stays value) k = k
-  others_still q (old_flag_stays value) k = k
+  others_still q fact k = k
 
   quiet : IsQuiet e
   quiet = record { log = refl; tables = refl; due = λ n. refl }

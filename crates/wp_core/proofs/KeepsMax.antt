@@ -32,7 +32,7 @@ use Rattle.std.specs.FinMap as finite
 use Rattle.wp_core.specs.Cache.{cached}
 use Rattle.wp_core.specs.Reading.{Registration}
 use Rattle.wp_judge.specs.declared.observed.Observed.{Observed}
-use Rattle.wp_core.specs.Views.{passed, in_old_commits, apart, words_stay, versions_in_memory, versions_nowhere, number_in_heap, number_not_in_heap, undecided_at, prior_values, unprepared, direct_free, tables_stay, live_listed, nothing_flushed, frozen_stay, delayed_flag_stays, old_flag_stays}
+use Rattle.wp_core.specs.Views.{passed, apart, words_stay, number_in_heap, number_not_in_heap}
 use Rattle.wp_core.specs.Changes.{held_with}
 use Rattle.wp_core.specs.World.{with_content}
 use Rattle.wp_model.specs.PreparedTables.{PreparedTables, is_prepared}
@@ -152,23 +152,11 @@ so_after : (w : World) (m : ℕ) (a : Participant) (fact : Fact) → w.max_evict
     → IsSo w.delayed_flag w.old_flag m w.cache w.writes (with_moved w.prepared m) w.snapshots w.store w.locks w.installed a fact
 unfolding IsPreserved
 so_after w m a (passed place pair) le low stays k = record { place_within = k.place_within; there = k.there; published_by = k.published_by; so = le_trans k.so le }
-so_after w m a (in_old_commits place pair) le low stays k = k
 so_after w m a (apart place pair) le low stays k = record { place_within = k.place_within; there = k.there; published_by = k.published_by; so = ⊎_elim (λ (e : is_prepared w.prepared pair.number ≡ false). inl (same_prepared w.prepared m pair.number ∙ e)) (λ (e : finite.get w.prepared.delayed_commits pair.number ≡ Some pair.decision). inr e) k.so }
 so_after w m a (words_stay max cache) le low stays k = absurd stays
-so_after w m a versions_in_memory le low stays k = k
-so_after w m a versions_nowhere le low stays k = k
 so_after w m a number_in_heap le low stays k = let n : ℕ = suc (length w.writes.history) in in_heap w.prepared m n ∙ (λ i. k i && not (above_is n m (omega arith) i))
 so_after w m a number_not_in_heap le low stays k = let n : ℕ = suc (length w.writes.history) in in_heap w.prepared m n ∙ (λ i. k i && not (nat_le n m))
-so_after w m a (undecided_at name p) le low stays k = k
-so_after w m a (prior_values name p batch) le low stays k = k
-so_after w m a (unprepared name) le low stays k = k
-so_after w m a (direct_free key) le low stays k = k
-so_after w m a (tables_stay versions floor) le low stays k = k
-so_after w m a (live_listed floor listed) le low stays k = k
-so_after w m a nothing_flushed le low stays k = k
-so_after w m a (frozen_stay n versions) le low stays k = k
-so_after w m a (delayed_flag_stays value) le low stays k = k
-so_after w m a (old_flag_stays value) le low stays k = k
+so_after w m a fact le low stays k = k
 
 mine_preserved : (history : List Entry) (words m : ℕ) (fact : Fact) → not (ends history words (store_max_evicted m) fact) ≡ true → IsPreserved fact
 unfolding IsPreserved

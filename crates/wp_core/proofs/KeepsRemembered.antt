@@ -10,7 +10,7 @@ use Rattle.wp_model.specs.declared.holder.Holder.{Holder}
 use Rattle.wp_model.specs.declared.holder.Holder.TheVariants.{Txn, Client}
 use Rattle.wp_core.specs.Lists.{EachAt, IsIn}
 use Rattle.wp_core.specs.Turns.{write_turn, locks_turn, tables_turn}
-use Rattle.wp_core.specs.Views.{Account, own, another, prepare_at, Event, claimed, took, locked, told, heard, stopped, found_flushed, found, Fact, passed, in_old_commits, apart, words_stay, versions_in_memory, versions_nowhere, number_in_heap, number_not_in_heap, undecided_at, prior_values, unprepared, direct_free, tables_stay, live_listed, nothing_flushed, frozen_stay, delayed_flag_stays, old_flag_stays}
+use Rattle.wp_core.specs.Views.{Account, own, another, prepare_at, Event, claimed, took, locked, told, heard, stopped, found_flushed, found, Fact}
 use Rattle.wp_core.specs.World.{Actor, Participant, World, content_of}
 use Rattle.wp_core.specs.World as world
 use Rattle.wp_core.specs.Steps.{Step, find_log_closed, find_flushed, find_holder, hear}
@@ -37,24 +37,7 @@ use Rattle.wp_core.proofs.Remembers.{IsQuiet, holders_more, board_more, faults_m
 
 -- no fact speaks of a past
 so_past : (w : World) (a : Participant) (past : List Event) (fact : Fact) → SoIn w a fact → SoIn w (record a { past = past }) fact
-so_past w a past (passed place pair) k = k
-so_past w a past (in_old_commits place pair) k = k
-so_past w a past (apart place pair) k = k
-so_past w a past (words_stay max cache) k = k
-so_past w a past versions_in_memory k = k
-so_past w a past versions_nowhere k = k
-so_past w a past number_in_heap k = k
-so_past w a past number_not_in_heap k = k
-so_past w a past (undecided_at name p) k = k
-so_past w a past (prior_values name p batch) k = k
-so_past w a past (unprepared name) k = k
-so_past w a past (direct_free key) k = k
-so_past w a past (tables_stay versions floor) k = k
-so_past w a past (live_listed floor listed) k = k
-so_past w a past nothing_flushed k = k
-so_past w a past (frozen_stay n versions) k = k
-so_past w a past (delayed_flag_stays value) k = k
-so_past w a past (old_flag_stays value) k = k
+so_past w a past fact k = k
 
 -- ---- all parts
 

@@ -17,7 +17,6 @@ use Rattle.wp_core.specs.IsSound.{IsSound, participants}
 use Rattle.wp_core.proofs.Frames.{kept_map, each_map_set, each_set, at_map}
 use Rattle.std.proofs.Common.{List, [], refl, ap, append-nil, filter, not, length}
 use Rattle.wp_model.specs.declared.entry.Entry.{Entry}
-use Rattle.wp_core.specs.Views.{passed, in_old_commits, apart, words_stay, versions_in_memory, versions_nowhere, number_in_heap, number_not_in_heap, undecided_at, prior_values, unprepared, direct_free, tables_stay, live_listed, nothing_flushed, frozen_stay, delayed_flag_stays, old_flag_stays}
 use Rattle.wp_core.specs.Steps.{load_published}
 use Rattle.wp_core.specs.Changes.{sees}
 use Rattle.wp_core.specs.Effects.{done}
@@ -29,24 +28,7 @@ use Rattle.wp_core.proofs.Frames.{in_filter}
 
 -- no fact speaks of what was seen
 so_after : (w : World) (a : Participant) (fact : Fact) → IsSo w.delayed_flag w.old_flag w.max_evicted w.cache w.writes w.prepared w.snapshots w.store w.locks w.installed a fact → IsSo w.delayed_flag w.old_flag w.max_evicted w.cache w.writes w.prepared w.snapshots w.store w.locks w.installed (record a { seen = w.writes.history }) fact
-so_after w a (passed place pair) k = k
-so_after w a (in_old_commits place pair) k = k
-so_after w a (apart place pair) k = k
-so_after w a (words_stay max cache) k = k
-so_after w a versions_in_memory k = k
-so_after w a versions_nowhere k = k
-so_after w a number_in_heap k = k
-so_after w a number_not_in_heap k = k
-so_after w a (undecided_at name p) k = k
-so_after w a (prior_values name p batch) k = k
-so_after w a (unprepared name) k = k
-so_after w a (direct_free key) k = k
-so_after w a (tables_stay versions floor) k = k
-so_after w a (live_listed floor listed) k = k
-so_after w a nothing_flushed k = k
-so_after w a (frozen_stay n versions) k = k
-so_after w a (delayed_flag_stays value) k = k
-so_after w a (old_flag_stays value) k = k
+so_after w a fact k = k
 
 whole : (history : List Entry) → StartsWith history history
 whole history = ([], sym (append-nil history))

@@ -6,7 +6,7 @@ use Rattle.std.specs.FinMap as finite
 use Rattle.wp_model.specs.LockTables.{LockTables}
 use Rattle.wp_core.proofs.AllParticipants.{mine}
 use Rattle.wp_core.proofs.KeepsSeen.{shorter}
-use Rattle.wp_core.specs.Views.{Event, told, heard, Fact, passed, in_old_commits, apart, words_stay, versions_in_memory, versions_nowhere, number_in_heap, number_not_in_heap, undecided_at, prior_values, unprepared, direct_free, tables_stay, live_listed, nothing_flushed, frozen_stay, delayed_flag_stays, old_flag_stays}
+use Rattle.wp_core.specs.Views.{Event, told, heard, Fact}
 use Rattle.wp_core.specs.World.{Actor, Participant, World}
 use Rattle.wp_core.specs.World as world
 use Rattle.wp_core.specs.Steps.{tell}
@@ -77,44 +77,10 @@ module _ (w : World) (by : ℕ) (a : Actor) (label : List ℕ) (at : get_elem? w
 
   -- no fact speaks of labels, of what was seen or of a past
   mine_still : (fact : Fact) → SoIn w a.participant fact → SoWith w t p fact
-  mine_still (passed place pair) k = k
-  mine_still (in_old_commits place pair) k = k
-  mine_still (apart place pair) k = k
-  mine_still (words_stay max cache) k = k
-  mine_still versions_in_memory k = k
-  mine_still versions_nowhere k = k
-  mine_still number_in_heap k = k
-  mine_still number_not_in_heap k = k
-  mine_still (undecided_at name q) k = k
-  mine_still (prior_values name q batch) k = k
-  mine_still (unprepared name) k = k
-  mine_still (direct_free key) k = k
-  mine_still (tables_stay versions floor) k = k
-  mine_still (live_listed floor listed) k = k
-  mine_still nothing_flushed k = k
-  mine_still (frozen_stay m versions) k = k
-  mine_still (delayed_flag_stays value) k = k
-  mine_still (old_flag_stays value) k = k
+  mine_still fact k = k
 
   others_still : (x : Participant) (fact : Fact) → SoIn w x fact → SoWith w t x fact
-  others_still x (passed place pair) k = k
-  others_still x (in_old_commits place pair) k = k
-  others_still x (apart place pair) k = k
-  others_still x (words_stay max cache) k = k
-  others_still x versions_in_memory k = k
-  others_still x versions_nowhere k = k
-  others_still x number_in_heap k = k
-  others_still x number_not_in_heap k = k
-  others_still x (undecided_at name q) k = k
-  others_still x (prior_values name q batch) k = k
-  others_still x (unprepared name) k = k
-  others_still x (direct_free key) k = k
-  others_still x (tables_stay versions floor) k = k
-  others_still x (live_listed floor listed) k = k
-  others_still x nothing_flushed k = k
-  others_still x (frozen_stay m versions) k = k
-  others_still x (delayed_flag_stays value) k = k
-  others_still x (old_flag_stays value) k = k
+  others_still x fact k = k
 
   quiet : IsQuiet e
   quiet = record { log = refl; tables = refl; due = λ m. refl }

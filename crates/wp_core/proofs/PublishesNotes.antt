@@ -20,7 +20,7 @@ use Rattle.wp_core.specs.Conditions.{MayPublish}
 use Rattle.wp_core.specs.Entries.{transaction_of, changes_under}
 use Rattle.wp_core.specs.Turns.{write_turn}
 use Rattle.wp_core.specs.Tables.{WriteTable}
-use Rattle.wp_core.specs.Views.{Fact, passed, in_old_commits, apart, words_stay, versions_in_memory, versions_nowhere, number_in_heap, number_not_in_heap, undecided_at, prior_values, unprepared, direct_free, tables_stay, live_listed, nothing_flushed, frozen_stay, delayed_flag_stays, old_flag_stays}
+use Rattle.wp_core.specs.Views.{Fact, passed, in_old_commits, apart, versions_in_memory, versions_nowhere, number_in_heap, number_not_in_heap, undecided_at, prior_values, unprepared, direct_free, live_listed, frozen_stay}
 use Rattle.wp_core.specs.World.{Participant, Actor, World}
 use Rattle.wp_core.specs.Steps.{store_published}
 use Rattle.wp_core.specs.Effects.{with_entry}
@@ -137,7 +137,6 @@ module _ (w : World) (by : ℕ) (a : Actor) (entry : Entry) (others : List Entry
   mine_grows (passed place pair) left k = clearing_grows (length history) (length grown) w.cache place pair _ longer k
   mine_grows (in_old_commits place pair) left k = clearing_grows (length history) (length grown) w.cache place pair _ longer k
   mine_grows (apart place pair) left k = clearing_grows (length history) (length grown) w.cache place pair _ longer k
-  mine_grows (words_stay max cache) left k = k
   mine_grows versions_in_memory left k = absurd (true≢false (sym left))
   mine_grows versions_nowhere left k = absurd (true≢false (sym left))
   mine_grows number_in_heap left k = absurd (true≢false (sym left))
@@ -146,12 +145,9 @@ module _ (w : World) (by : ℕ) (a : Actor) (entry : Entry) (others : List Entry
   mine_grows (prior_values name p batch) left k = prior_grows a.participant own_owner name p batch (not_its name left) k
   mine_grows (unprepared name) left k = unprepared_grows a.participant own_owner name (not_its name left) k
   mine_grows (direct_free key) left k = direct_grows a.participant own_owner key k
-  mine_grows (tables_stay versions floor) left k = k
   mine_grows (live_listed floor listed) left k = (le_trans k.0 longer, k.1)
-  mine_grows nothing_flushed left k = k
   mine_grows (frozen_stay m versions) left k = (le_trans k.0 longer, k.1)
-  mine_grows (delayed_flag_stays value) left k = k
-  mine_grows (old_flag_stays value) left k = k
+  mine_grows fact left k = k
 
   -- ---- the others' notes
 
@@ -166,7 +162,6 @@ module _ (w : World) (by : ℕ) (a : Actor) (entry : Entry) (others : List Entry
     others_grow (passed place pair) guard k = clearing_grows (length history) (length grown) w.cache place pair _ longer k
     others_grow (in_old_commits place pair) guard k = clearing_grows (length history) (length grown) w.cache place pair _ longer k
     others_grow (apart place pair) guard k = clearing_grows (length history) (length grown) w.cache place pair _ longer k
-    others_grow (words_stay max cache) guard k = k
     others_grow versions_in_memory guard k = absurd (not_theirs w.holders write_turn by j n.turn ne (guard write_turn refl))
     others_grow versions_nowhere guard k = absurd (not_theirs w.holders write_turn by j n.turn ne (guard write_turn refl))
     others_grow number_in_heap guard k = absurd (not_theirs w.holders write_turn by j n.turn ne (guard write_turn refl))
@@ -175,9 +170,6 @@ module _ (w : World) (by : ℕ) (a : Actor) (entry : Entry) (others : List Entry
     others_grow (prior_values name p batch) guard k = prior_grows q theirs name p batch (not_theirs_now name k.0) k
     others_grow (unprepared name) guard k = unprepared_grows q theirs name (not_theirs_now name k.0) k
     others_grow (direct_free key) guard k = direct_grows q theirs key k
-    others_grow (tables_stay versions floor) guard k = k
     others_grow (live_listed floor listed) guard k = (le_trans k.0 longer, k.1)
-    others_grow nothing_flushed guard k = k
     others_grow (frozen_stay m versions) guard k = (le_trans k.0 longer, k.1)
-    others_grow (delayed_flag_stays value) guard k = k
-    others_grow (old_flag_stays value) guard k = k
+    others_grow fact guard k = k
