@@ -4,31 +4,28 @@ use mathlib.Core.Option.{some, some-injective}
 use mathlib.Core.Logic.{dite}
 use native.Mathlib.Decide.{ℕ_discrete}
 use lib.ListN.{get_elem?}
+use Rattle.wp_core.proofs.Quiet.{kept_part, parts_of}
 use Rattle.wp_core.proofs.Frames.{set_else}
 use Rattle.wp_model.specs.declared.entry.Entry.{Entry}
 use Rattle.wp_core.specs.Lists.{IsIn}
 use Rattle.wp_core.specs.Turns.{Turn, write_turn, prepared_turn, snapshots_turn, store_turn, locks_turn, tables_turn, Holders, with_holder}
 use Rattle.wp_core.specs.Tables.{Content}
 use Rattle.wp_core.specs.Views.{Fact}
-use Rattle.wp_core.specs.World.{Actor, Participant, World, content_of}
-use Rattle.wp_core.specs.World as world
+use Rattle.wp_core.specs.World.{Actor, World, content_of}
 use Rattle.wp_core.specs.Steps.{give_turn}
 use Rattle.wp_core.specs.Changes.{turn_index, held_without}
 use Rattle.wp_core.specs.Effects.{done}
 use Rattle.wp_core.specs.Needs.{Needs}
 use Rattle.wp_core.specs.Conditions.{MayGive}
 use Rattle.wp_core.specs.Notes.{forgets, ends, ends_itself, gives_guard}
-use Rattle.wp_core.specs.Sound.Actors.{seen_of, own_of, AreSeen, AreLearned, AreOwned, AreHeld, HoldersHave, AreLed, IsIdle, participants_of, learned_of, held_of, role_of, EachParticipant}
+use Rattle.wp_core.specs.Sound.Actors.{AreHeld, HoldersHave, IsIdle, held_of}
 use Rattle.wp_core.specs.Sound.History.{IsPendingHeld}
 use Rattle.wp_core.specs.Sound.Prepared.{AreFlags}
-use Rattle.wp_core.specs.Sound.Snapshots.{registered_of, AreRegistered, view_of, HasSeen}
 use Rattle.wp_core.specs.Sound.Store.{IsFlushedGone}
-use Rattle.wp_core.specs.Sound.Locks.{owner_of, AreLocked}
-use Rattle.wp_core.specs.Sound.Pasts.{past_of, AreHolders, IsBoard, AreFaults, AreEdits}
 use Rattle.wp_core.specs.Sound.Reader.{AreReaders, AreJudged, reader_of}
 use Rattle.wp_core.specs.Sound.Views.{IsSo, IsNoted, noter_of, guarded_by}
-use Rattle.wp_core.specs.IsSound.{IsSound, participants}
-use Rattle.wp_core.proofs.Frames.{kept_map, map_set, here, each_map_set, each_set, at_map, in_filter}
+use Rattle.wp_core.specs.IsSound.{IsSound}
+use Rattle.wp_core.proofs.Frames.{map_set, here, each_map_set, each_set, at_map, in_filter}
 use Rattle.wp_core.proofs.Gives.{other_holder, still, was, still_held, left_held, in_left}
 
 -- ---- the parts that speak of holders
@@ -89,46 +86,38 @@ gives w by a t at n s =
     let c : Actor = forgets w.writes.history (length w.cache) (give_turn t) a in
     let b : Actor = record c { held = held_without c.held t } in
     let h : Holders = with_holder w.holders t None in
-    let sn : map (participants_of seen_of) (set w.actors by b) ≡ participants seen_of w = kept_map (participants_of seen_of) w.actors by a b at refl in
-    let ow : map (participants_of own_of) (set w.actors by b) ≡ participants own_of w = kept_map (participants_of own_of) w.actors by a b at refl in
-    let vs : map (participants_of view_of) (set w.actors by b) ≡ participants view_of w = kept_map (participants_of view_of) w.actors by a b at refl in
-    let rg : map (participants_of registered_of) (set w.actors by b) ≡ participants registered_of w = kept_map (participants_of registered_of) w.actors by a b at refl in
-    let os : map (participants_of owner_of) (set w.actors by b) ≡ participants owner_of w = kept_map (participants_of owner_of) w.actors by a b at refl in
-    let ps : map (participants_of past_of) (set w.actors by b) ≡ participants past_of w = kept_map (participants_of past_of) w.actors by a b at refl in
-    let ts : map learned_of (set w.actors by b) ≡ map learned_of w.actors = kept_map learned_of w.actors by a b at refl in
-    let ss : map role_of (set w.actors by b) ≡ map role_of w.actors = kept_map role_of w.actors by a b at refl in
-    let rs : map reader_of (set w.actors by b) ≡ map reader_of w.actors = kept_map reader_of w.actors by a b at refl in
+    let p = parts_of w by a b at (record { participant = refl; learned = refl; live = refl; made = refl; joined = refl }) s in
     record {
       history = s.history;
-      seen = subst (AreSeen w.writes.history) (sym sn) s.seen;
-      learned = subst (AreLearned w.writes.history) (sym ts) s.learned;
-      owned = subst (AreOwned w.opened w.writes.history) (sym ow) s.owned;
+      seen = p.seen;
+      learned = p.learned;
+      owned = p.owned;
       cache = s.cache;
       decided = s.decided;
       undecided = s.undecided;
       delayed = s.delayed;
-      registrations = subst (AreRegistered w.writes.history w.snapshots) (sym rg) s.registrations;
+      registrations = p.registrations;
       flags = flags_after w t n.1 s.flags;
       versions = s.versions;
       flushed = flushed_after w t n.1 s.flushed;
-      locks = subst (AreLocked w.writes.history w.locks) (sym os) s.locks;
-      holders = subst (AreHolders w.opened w.writes.history w.locks) (sym ps) s.holders;
-      board = subst (IsBoard (world.published w) w.locks) (sym ps) s.board;
-      faults = subst (AreFaults w.writes w.installed.halted) (sym ps) s.faults;
-      edits = subst (AreEdits w.first_edit w.installed) (sym ps) s.edits;
+      locks = p.locks;
+      holders = p.holders;
+      board = p.board;
+      faults = p.faults;
+      edits = p.edits;
       pending = pending_after w t n.1 s.pending;
       held = each_map_set held_of (AreHeld h (content_of w)) w.actors by b
           (left_held w.holders (content_of w) t by a.held (s.held by a.held (at_map held_of w.actors by a at)))
           (λ j x ne there. still_held w.holders (content_of w) t by j x n.0 ne (s.held j x there));
       have = have_after w.holders t by w.actors a b at refl s.have;
-      readers = subst (AreReaders w.writes.history w.max_evicted w.cache) (sym rs) s.readers;
-      viewed = subst (EachParticipant HasSeen) (sym vs) s.viewed;
-      judged = subst (AreJudged w.writes.history) (sym rs) s.judged;
+      readers = kept_part w by a b at reader_of (AreReaders w.writes.history w.max_evicted w.cache) refl s.readers;
+      viewed = p.viewed;
+      judged = kept_part w by a b at reader_of (AreJudged w.writes.history) refl s.judged;
       noted = each_map_set noter_of (λ j x. (fact : Fact) → IsIn fact x.1 → IsNoted h (IsSo w.delayed_flag w.old_flag w.max_evicted w.cache w.writes w.prepared w.snapshots w.store w.locks w.installed) j x fact) w.actors by b
           (λ fact there. let k = in_filter (λ (f : Fact). not (ends w.writes.history (length w.cache) (give_turn t) f)) fact a.notes there in let m = s.noted by (noter_of a) (at_map noter_of w.actors by a at) fact k.0 in
           record { guarded = λ u is. other_holder w.holders t u None (not_ended w.writes.history (length w.cache) t fact u k.1 is) ∙ m.guarded u is; is_so = m.is_so })
           (λ j x ne there fact k. let m = s.noted j x there fact k in record { guarded = λ u is. still w.holders t u by j n.0 ne (m.guarded u is); is_so = m.is_so });
-      led = subst AreLed (sym ss) s.led;
+      led = p.led;
       idle = each_set (λ j x. x.live ≡ false → IsIdle x) w.actors by b
           (λ dead. let i = s.idle by a at dead in record { participant = i.participant; held = ap (λ (z : List Content). held_without z t) i.held; reading = i.reading; notes = ap (λ (z : List Fact). filter (λ f. not (ends w.writes.history (length w.cache) (give_turn t) f)) z) i.notes })
           (λ j x ne there. s.idle j x there);

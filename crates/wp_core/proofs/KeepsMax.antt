@@ -1,5 +1,5 @@
 -- Storing the bound keeps every part of a sound world.
-use Rattle.std.proofs.Common.{◌≡◌, ◌≢◌, ◌⊎◌, ⊎_elim, inl, inr, ℕ, suc, ◌<◌, ◌≤◌, nat_le, le_trans, arith, Bool, true, false, not, ◌||◌, ◌&&◌, true≢false, List, length, map, set, filter, refl, sym, subst, ap, ◌∙◌, Some, None}
+use Rattle.std.proofs.Common.{◌≡◌, ◌≢◌, ◌⊎◌, ⊎_elim, inl, inr, ℕ, suc, ◌<◌, ◌≤◌, nat_le, le_trans, arith, Bool, true, false, not, ◌||◌, ◌&&◌, true≢false, List, length, filter, refl, sym, ap, ◌∙◌, Some, None}
 use mathlib.Core.Option.{some}
 use lib.ListN.{get_elem?}
 use Rattle.wp_model.specs.declared.entry.Entry.{Entry}
@@ -8,20 +8,17 @@ use Rattle.wp_core.specs.Turns.{Turn, Holds, write_turn, prepared_turn, Holders}
 use Rattle.wp_core.specs.Tables.{Content}
 use Rattle.wp_core.specs.Views.{Fact}
 use Rattle.wp_core.specs.World.{Actor, Participant, World, content_of}
-use Rattle.wp_core.specs.World as world
 use Rattle.wp_core.specs.Steps.{store_max_evicted}
 use Rattle.wp_core.specs.Effects.{done}
 use Rattle.wp_core.specs.Needs.{Needs}
 use Rattle.wp_core.specs.Notes.{forgets, ends}
-use Rattle.wp_core.specs.Sound.Actors.{seen_of, own_of, AreSeen, AreLearned, AreOwned, AreHeld, AreLed, IsIdle, participants_of, learned_of, held_of, role_of, EachParticipant}
+use Rattle.wp_core.specs.Sound.Actors.{AreHeld, IsIdle, held_of}
 use Rattle.wp_core.specs.Sound.Prepared.{AreFlags}
-use Rattle.wp_core.specs.Sound.Snapshots.{registered_of, AreRegistered, view_of, HasSeen}
-use Rattle.wp_core.specs.Sound.Locks.{owner_of, AreLocked}
-use Rattle.wp_core.specs.Sound.Pasts.{past_of, AreHolders, IsBoard, AreFaults, AreEdits}
 use Rattle.wp_core.specs.Sound.Reader.{AreReaders, AreJudged, reader_of}
 use Rattle.wp_core.specs.Sound.Views.{IsSo, IsNoted, noter_of, guarded_by}
-use Rattle.wp_core.specs.IsSound.{IsSound, participants}
-use Rattle.wp_core.proofs.Frames.{kept_map, each_map_set, each_set, at_map, in_filter}
+use Rattle.wp_core.specs.IsSound.{IsSound}
+use Rattle.wp_core.proofs.Quiet.{kept_part, parts_of}
+use Rattle.wp_core.proofs.Frames.{each_map_set, each_set, at_map, in_filter}
 use Rattle.std.proofs.lemmas.Bool.Decides.{nat_tests}
 use Rattle.std.specs.Ordering.{nat_cmp}
 use Rattle.std.specs.declared.cmp.Ordering.TheVariants.{Equal}
@@ -175,46 +172,38 @@ stores_max w by a m at n s =
     let e : Content = prepared (with_moved w.prepared m) in
     let c : Actor = forgets w.writes.history (length w.cache) (store_max_evicted m) a in
     let b : Actor = record c { held = held_with c.held e } in
-    let sn : map (participants_of seen_of) (set w.actors by b) ≡ participants seen_of w = kept_map (participants_of seen_of) w.actors by a b at refl in
-    let ow : map (participants_of own_of) (set w.actors by b) ≡ participants own_of w = kept_map (participants_of own_of) w.actors by a b at refl in
-    let vs : map (participants_of view_of) (set w.actors by b) ≡ participants view_of w = kept_map (participants_of view_of) w.actors by a b at refl in
-    let rg : map (participants_of registered_of) (set w.actors by b) ≡ participants registered_of w = kept_map (participants_of registered_of) w.actors by a b at refl in
-    let os : map (participants_of owner_of) (set w.actors by b) ≡ participants owner_of w = kept_map (participants_of owner_of) w.actors by a b at refl in
-    let ps : map (participants_of past_of) (set w.actors by b) ≡ participants past_of w = kept_map (participants_of past_of) w.actors by a b at refl in
-    let ts : map learned_of (set w.actors by b) ≡ map learned_of w.actors = kept_map learned_of w.actors by a b at refl in
-    let ss : map role_of (set w.actors by b) ≡ map role_of w.actors = kept_map role_of w.actors by a b at refl in
-    let rs : map reader_of (set w.actors by b) ≡ map reader_of w.actors = kept_map reader_of w.actors by a b at refl in
+    let p = parts_of w by a b at (record { participant = refl; learned = refl; live = refl; made = refl; joined = refl }) s in
     record {
       history = history_after w m n.3 s.history;
-      seen = subst (AreSeen w.writes.history) (sym sn) s.seen;
-      learned = subst (AreLearned w.writes.history) (sym ts) s.learned;
-      owned = subst (AreOwned w.opened w.writes.history) (sym ow) s.owned;
+      seen = p.seen;
+      learned = p.learned;
+      owned = p.owned;
       cache = s.cache;
       decided = decided_after w m n.2 s.decided;
       undecided = undecided_after w m n.2 s.undecided;
       delayed = delayed_after w m s.delayed;
-      registrations = subst (AreRegistered w.writes.history w.snapshots) (sym rg) s.registrations;
+      registrations = p.registrations;
       flags = flags_after w m by n.1 n.4 s.flags;
       versions = s.versions;
       flushed = s.flushed;
-      locks = subst (AreLocked w.writes.history w.locks) (sym os) s.locks;
-      holders = subst (AreHolders w.opened w.writes.history w.locks) (sym ps) s.holders;
-      board = subst (IsBoard (world.published w) w.locks) (sym ps) s.board;
-      faults = subst (AreFaults w.writes w.installed.halted) (sym ps) s.faults;
-      edits = subst (AreEdits w.first_edit w.installed) (sym ps) s.edits;
+      locks = p.locks;
+      holders = p.holders;
+      board = p.board;
+      faults = p.faults;
+      edits = p.edits;
       pending = s.pending;
       held = each_map_set held_of (AreHeld w.holders (content_of (with_content w e))) w.actors by b
           (holds_changed w e by a.held (s.held by a.held (at_map held_of w.actors by a at)))
           (λ j x ne there. others_hold w e by j x n.1 ne (s.held j x there));
       have = have_changed w.holders e by w.actors a b at refl s.have;
-      readers = subst (AreReaders w.writes.history m w.cache) (sym rs) (λ j x there r is. reader_after w m x.0 r n.2 (s.readers j x there r is));
-      viewed = subst (EachParticipant HasSeen) (sym vs) s.viewed;
-      judged = subst (AreJudged w.writes.history) (sym rs) s.judged;
+      readers = kept_part w by a b at reader_of (AreReaders w.writes.history m w.cache) refl (λ j x there r is. reader_after w m x.0 r n.2 (s.readers j x there r is));
+      viewed = p.viewed;
+      judged = kept_part w by a b at reader_of (AreJudged w.writes.history) refl s.judged;
       noted = each_map_set noter_of (λ j x. (fact : Fact) → IsIn fact x.1 → IsNoted w.holders (IsSo w.delayed_flag w.old_flag m w.cache w.writes (with_moved w.prepared m) w.snapshots w.store w.locks w.installed) j x fact) w.actors by b
           (λ fact there. let k = in_filter (λ (f : Fact). not (ends w.writes.history (length w.cache) (store_max_evicted m) f)) fact a.notes there in let o = s.noted by (noter_of a) (at_map noter_of w.actors by a at) fact k.0 in
           record { guarded = o.guarded; is_so = so_after w m a.participant fact n.2 n.3 (mine_preserved w.writes.history (length w.cache) m fact k.1) o.is_so })
           (λ j x ne there fact k. let o = s.noted j x there fact k in record { guarded = o.guarded; is_so = so_after w m x.0 fact n.2 n.3 (theirs_preserved w.holders by j fact n.0 ne o.guarded) o.is_so });
-      led = subst AreLed (sym ss) s.led;
+      led = p.led;
       idle = each_set (λ j x. x.live ≡ false → IsIdle x) w.actors by b
           (λ dead. let i = s.idle by a at dead in record { participant = i.participant; held = ap (λ (z : List Content). held_with z e) i.held; reading = i.reading; notes = ap (λ (z : List Fact). filter (λ f. not (ends w.writes.history (length w.cache) (store_max_evicted m) f)) z) i.notes })
           (λ j x ne there. s.idle j x there);

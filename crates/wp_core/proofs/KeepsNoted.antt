@@ -9,10 +9,9 @@ use Rattle.wp_core.specs.Steps.{note}
 use Rattle.wp_core.specs.Effects.{done}
 use Rattle.wp_core.specs.Needs.{Needs}
 use Rattle.wp_core.specs.Notes.{forgets, ends}
-use Rattle.wp_core.specs.Sound.Actors.{AreHeld, HoldersHave, IsIdle, held_of, EachParticipant, participants_of}
+use Rattle.wp_core.specs.Sound.Actors.{AreHeld, HoldersHave, IsIdle, held_of}
 use Rattle.wp_core.specs.Sound.Reader.{AreReaders, AreJudged, reader_of}
 use Rattle.wp_core.specs.Sound.Views.{IsNoted, noter_of}
-use Rattle.wp_core.specs.Sound.Snapshots.{view_of, HasSeen}
 use Rattle.wp_core.specs.IsSound.{IsSound}
 use Rattle.wp_core.proofs.Frames.{each_map_set, each_set, at_map, in_filter}
 use Rattle.wp_core.proofs.Quiet.{SoIn, kept_part, parts_of}
@@ -45,7 +44,7 @@ notes w by a fact at needs s =
       held = kept_part w by a b at held_of (EachAt (AreHeld w.holders (content_of w))) refl s.held;
       have = kept_part w by a b at held_of (HoldersHave w.holders) refl s.have;
       readers = kept_part w by a b at reader_of (AreReaders w.writes.history w.max_evicted w.cache) refl s.readers;
-      viewed = kept_part w by a b at (participants_of view_of) (EachParticipant HasSeen) refl s.viewed;
+      viewed = p.viewed;
       judged = kept_part w by a b at reader_of (AreJudged w.writes.history) refl s.judged;
       noted = each_map_set noter_of (λ j x. (other : Fact) → IsIn other x.1 → IsNoted w.holders (SoIn w) j x other) w.actors by b
           (λ other there. ⊎_elim

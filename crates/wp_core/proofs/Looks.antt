@@ -1,5 +1,5 @@
 -- A load keeps a world sound: only what one actor reads, and its notes, change.
-use Rattle.std.proofs.Common.{◌≡◌, ℕ, Bool, false, ◌∷◌, map, set, sym, subst, Some}
+use Rattle.std.proofs.Common.{◌≡◌, ℕ, Bool, false, map, set, sym, subst, Some}
 use mathlib.Core.Option.{some}
 use lib.ListN.{get_elem?}
 use Rattle.wp_core.specs.Lists.{EachAt, IsIn}
@@ -8,14 +8,11 @@ use Rattle.wp_judge.specs.Order.{judgement}
 use Rattle.wp_core.specs.Views.{Fact}
 use Rattle.wp_core.specs.World.{Actor, Participant, World, content_of}
 use Rattle.wp_core.specs.Changes.{with_actor}
-use Rattle.wp_core.specs.Sound.Actors.{seen_of, own_of, AreSeen, AreLearned, AreOwned, AreHeld, HoldersHave, AreLed, IsIdle, participants_of, learned_of, held_of, role_of, EachParticipant}
-use Rattle.wp_core.specs.Sound.Snapshots.{registered_of, AreRegistered, view_of, HasSeen}
-use Rattle.wp_core.specs.Sound.Locks.{owner_of, AreLocked}
-use Rattle.wp_core.specs.Sound.Pasts.{past_of, AreHolders, IsBoard, AreFaults, AreEdits}
+use Rattle.wp_core.specs.Sound.Actors.{AreHeld, HoldersHave, IsIdle, held_of}
 use Rattle.wp_core.specs.Sound.Reader.{IsReader, IsRight, reader_of}
 use Rattle.wp_core.specs.Sound.Views.{IsSo, IsNoted, noter_of}
-use Rattle.wp_core.specs.World as world
-use Rattle.wp_core.specs.IsSound.{IsSound, participants}
+use Rattle.wp_core.specs.IsSound.{IsSound}
+use Rattle.wp_core.proofs.Quiet.{parts_of}
 use Rattle.wp_core.proofs.Frames.{kept_map, each_map_set, each_set, at_map}
 
 -- what a change of an actor leaves: all but what it reads, and its notes, which become fewer
@@ -36,43 +33,36 @@ pub record ReadsRight (w : World) (b : Actor) : Type 0 where
 
 pub looks : (w : World) (by : ℕ) (a b : Actor) → get_elem? w.actors by ≡ some a → LeavesMost a b → ReadsRight w b → IsSound w → IsSound (with_actor w by b)
 looks w by a b at same reads s =
-    let sn : map (participants_of seen_of) (set w.actors by b) ≡ participants seen_of w = kept_map (participants_of seen_of) w.actors by a b at (λ i. seen_of (same.participant i) ∷ map seen_of (same.joined i)) in
-    let ow : map (participants_of own_of) (set w.actors by b) ≡ participants own_of w = kept_map (participants_of own_of) w.actors by a b at (λ i. own_of (same.participant i) ∷ map own_of (same.joined i)) in
-    let vs : map (participants_of view_of) (set w.actors by b) ≡ participants view_of w = kept_map (participants_of view_of) w.actors by a b at (λ i. view_of (same.participant i) ∷ map view_of (same.joined i)) in
-    let rg : map (participants_of registered_of) (set w.actors by b) ≡ participants registered_of w = kept_map (participants_of registered_of) w.actors by a b at (λ i. registered_of (same.participant i) ∷ map registered_of (same.joined i)) in
-    let os : map (participants_of owner_of) (set w.actors by b) ≡ participants owner_of w = kept_map (participants_of owner_of) w.actors by a b at (λ i. owner_of (same.participant i) ∷ map owner_of (same.joined i)) in
-    let ps : map (participants_of past_of) (set w.actors by b) ≡ participants past_of w = kept_map (participants_of past_of) w.actors by a b at (λ i. past_of (same.participant i) ∷ map past_of (same.joined i)) in
-    let ts : map learned_of (set w.actors by b) ≡ map learned_of w.actors = kept_map learned_of w.actors by a b at same.learned in
+    let p = parts_of w by a b at (record { participant = same.participant; learned = same.learned; live = same.live; made = same.made; joined = same.joined }) s in
     let hs : map held_of (set w.actors by b) ≡ map held_of w.actors = kept_map held_of w.actors by a b at same.held in
-    let ss : map role_of (set w.actors by b) ≡ map role_of w.actors = kept_map role_of w.actors by a b at (λ i. record { live = same.live i; made = same.made i; joined = same.joined i }) in
     let mine = s.noted by (noter_of a) (at_map noter_of w.actors by a at) in
     record {
       history = s.history;
-      seen = subst (AreSeen w.writes.history) (sym sn) s.seen;
-      learned = subst (AreLearned w.writes.history) (sym ts) s.learned;
-      owned = subst (AreOwned w.opened w.writes.history) (sym ow) s.owned;
+      seen = p.seen;
+      learned = p.learned;
+      owned = p.owned;
       cache = s.cache;
       decided = s.decided;
       undecided = s.undecided;
       delayed = s.delayed;
-      registrations = subst (AreRegistered w.writes.history w.snapshots) (sym rg) s.registrations;
+      registrations = p.registrations;
       flags = s.flags;
       versions = s.versions;
       flushed = s.flushed;
-      locks = subst (AreLocked w.writes.history w.locks) (sym os) s.locks;
-      holders = subst (AreHolders w.opened w.writes.history w.locks) (sym ps) s.holders;
-      board = subst (IsBoard (world.published w) w.locks) (sym ps) s.board;
-      faults = subst (AreFaults w.writes w.installed.halted) (sym ps) s.faults;
-      edits = subst (AreEdits w.first_edit w.installed) (sym ps) s.edits;
+      locks = p.locks;
+      holders = p.holders;
+      board = p.board;
+      faults = p.faults;
+      edits = p.edits;
       pending = s.pending;
       held = subst (EachAt (AreHeld w.holders (content_of w))) (sym hs) s.held;
       have = subst (HoldersHave w.holders) (sym hs) s.have;
       readers = each_map_set reader_of (λ j x. (r : Observed) → x.1 ≡ Some r → IsReader w.writes.history w.max_evicted w.cache x.0 r) w.actors by b reads.knows (λ j x ne there. s.readers j x there);
-      viewed = subst (EachParticipant HasSeen) (sym vs) s.viewed;
+      viewed = p.viewed;
       judged = each_map_set reader_of (λ j x. (r : Observed) (visible : Bool) → x.1 ≡ Some r → judgement r ≡ Some visible → IsRight w.writes.history r.version r.snapshot visible) w.actors by b reads.right (λ j x ne there. s.judged j x there);
       noted = each_map_set noter_of (λ j x. (fact : Fact) → IsIn fact x.1 → IsNoted w.holders (IsSo w.delayed_flag w.old_flag w.max_evicted w.cache w.writes w.prepared w.snapshots w.store w.locks w.installed) j x fact) w.actors by b
           (λ fact h. let m = mine fact (same.fewer fact h) in record { guarded = m.guarded; is_so = subst (λ (p : Participant). IsSo w.delayed_flag w.old_flag w.max_evicted w.cache w.writes w.prepared w.snapshots w.store w.locks w.installed p fact) (sym same.participant) m.is_so })
           (λ j x ne there. s.noted j x there);
-      led = subst AreLed (sym ss) s.led;
+      led = p.led;
       idle = each_set (λ j x. x.live ≡ false → IsIdle x) w.actors by b reads.idle (λ j x ne there. s.idle j x there);
     }

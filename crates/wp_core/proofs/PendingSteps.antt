@@ -17,14 +17,13 @@ use Rattle.wp_core.specs.Changes.{held_with, change}
 use Rattle.wp_core.specs.Effects.{done}
 use Rattle.wp_core.specs.Needs.{Needs}
 use Rattle.wp_core.specs.Notes.{forgets, ends}
-use Rattle.wp_core.specs.Sound.Actors.{AreHeld, participants_of, held_of, EachParticipant}
+use Rattle.wp_core.specs.Sound.Actors.{AreHeld, participants_of, held_of}
 use Rattle.wp_core.specs.Sound.History.{IsHistory, logged_part}
 use Rattle.wp_core.specs.Sound.Pasts.{past_of, AreFaults}
 use Rattle.wp_core.specs.Sound.Prepared.{IsCache, AreUndecided}
 use Rattle.wp_core.specs.Sound.Reader.{AreReaders, AreJudged, reader_of}
 use Rattle.wp_core.specs.Sound.Store.{IsStored}
 use Rattle.wp_core.specs.Sound.Views.{IsSo, IsGuarded}
-use Rattle.wp_core.specs.Sound.Snapshots.{view_of, HasSeen}
 use Rattle.wp_core.specs.IsSound.{IsSound, participants}
 use Rattle.wp_history.proofs.Growth.{entry_at_old, prepared_within}
 use Rattle.wp_core.proofs.Frames.{each_map_set, at_map}
@@ -74,7 +73,7 @@ pending_changes w by a step pending logged log at holds history cache undecided 
           (λ j x ne there. others_hold w e by j x holds ne (s.held j x there));
       have = have_changed w.holders e by w.actors a b at refl s.have;
       readers = kept_part w by a b at reader_of (AreReaders w.writes.history w.max_evicted w.cache) refl s.readers;
-      viewed = kept_part w by a b at (participants_of view_of) (EachParticipant HasSeen) refl s.viewed;
+      viewed = p.viewed;
       judged = kept_part w by a b at reader_of (AreJudged w.writes.history) refl s.judged;
       noted = noted_after w by a b step (SoPending w d) at refl refl notes s;
       led = p.led;

@@ -22,11 +22,10 @@ use Rattle.wp_core.specs.Changes.{held_with, change}
 use Rattle.wp_core.specs.Effects.{done}
 use Rattle.wp_core.specs.Needs.{Needs}
 use Rattle.wp_core.specs.Notes.{forgets, ends}
-use Rattle.wp_core.specs.Sound.Actors.{AreHeld, held_of, EachParticipant, participants_of}
+use Rattle.wp_core.specs.Sound.Actors.{AreHeld, held_of}
 use Rattle.wp_core.specs.Sound.Reader.{AreReaders, AreJudged, reader_of}
 use Rattle.wp_core.specs.Sound.Store.{IsStored, IsFlushedGone}
 use Rattle.wp_core.specs.Sound.Views.{IsSo, IsGuarded}
-use Rattle.wp_core.specs.Sound.Snapshots.{view_of, HasSeen}
 use Rattle.wp_core.specs.IsSound.{IsSound}
 use Rattle.wp_history.proofs.Growth.{entry_at_past}
 use Rattle.wp_core.proofs.Frames.{each_map_set, at_map}
@@ -165,7 +164,7 @@ store_changes w by a step t at holds stored flushed notes s =
           (λ j x ne there. others_hold w e by j x holds ne (s.held j x there));
       have = have_changed w.holders e by w.actors a b at refl s.have;
       readers = kept_part w by a b at reader_of (AreReaders w.writes.history w.max_evicted w.cache) refl s.readers;
-      viewed = kept_part w by a b at (participants_of view_of) (EachParticipant HasSeen) refl s.viewed;
+      viewed = p.viewed;
       judged = kept_part w by a b at reader_of (AreJudged w.writes.history) refl s.judged;
       noted = noted_after w by a b step (SoStored w t) at refl refl notes s;
       led = p.led;

@@ -34,6 +34,7 @@ pub record PartsOf (w : World) (actors : List Actor) : Type 0 where
   pub learned : AreLearned w.writes.history (map learned_of actors)
   pub owned : AreOwned w.opened w.writes.history (map (participants_of own_of) actors)
   pub registrations : AreRegistered w.writes.history w.snapshots (map (participants_of registered_of) actors)
+  pub viewed : EachParticipant HasSeen (map (participants_of view_of) actors)
   pub locks : AreLocked w.writes.history w.locks (map (participants_of owner_of) actors)
   pub holders : AreHolders w.opened w.writes.history w.locks (map (participants_of past_of) actors)
   pub board : IsBoard (world.published w) w.locks (map (participants_of past_of) actors)
@@ -60,6 +61,7 @@ module _ (w : World) (by : ℕ) (a b : Actor) (at : get_elem? w.actors by ≡ so
     learned = kept_part learned_of (AreLearned w.writes.history) same.learned s.learned;
     owned = kept_part (participants_of own_of) (AreOwned w.opened w.writes.history) (λ i. own_of (same.participant i) ∷ map own_of (same.joined i)) s.owned;
     registrations = kept_part (participants_of registered_of) (AreRegistered w.writes.history w.snapshots) (λ i. registered_of (same.participant i) ∷ map registered_of (same.joined i)) s.registrations;
+    viewed = kept_part (participants_of view_of) (EachParticipant HasSeen) (λ i. view_of (same.participant i) ∷ map view_of (same.joined i)) s.viewed;
     locks = kept_part (participants_of owner_of) (AreLocked w.writes.history w.locks) (λ i. owner_of (same.participant i) ∷ map owner_of (same.joined i)) s.locks;
     holders = kept_part (participants_of past_of) (AreHolders w.opened w.writes.history w.locks) (λ i. past_of (same.participant i) ∷ map past_of (same.joined i)) s.holders;
     board = kept_part (participants_of past_of) (IsBoard (world.published w) w.locks) (λ i. past_of (same.participant i) ∷ map past_of (same.joined i)) s.board;
@@ -127,7 +129,7 @@ prepared_changes w by a step t at holds undecided delayed flags notes s =
           (λ j x ne there. others_hold w e by j x holds ne (s.held j x there));
       have = have_changed w.holders e by w.actors a b at refl s.have;
       readers = kept_part w by a b at reader_of (AreReaders w.writes.history w.max_evicted w.cache) refl s.readers;
-      viewed = kept_part w by a b at (participants_of view_of) (EachParticipant HasSeen) refl s.viewed;
+      viewed = p.viewed;
       judged = kept_part w by a b at reader_of (AreJudged w.writes.history) refl s.judged;
       noted = noted_after w by a b step (IsSo w.delayed_flag w.old_flag w.max_evicted w.cache w.writes t w.snapshots w.store w.locks w.installed) at refl refl notes s;
       led = p.led;
@@ -166,7 +168,7 @@ words_change w by a step turn cache delayed_flag old_flag at holds cached decide
       held = kept_part w by a b at held_of (EachAt (AreHeld w.holders (content_of w))) refl s.held;
       have = kept_part w by a b at held_of (HoldersHave w.holders) refl s.have;
       readers = kept_part w by a b at reader_of (AreReaders w.writes.history w.max_evicted cache) refl readers;
-      viewed = kept_part w by a b at (participants_of view_of) (EachParticipant HasSeen) refl s.viewed;
+      viewed = p.viewed;
       judged = kept_part w by a b at reader_of (AreJudged w.writes.history) refl s.judged;
       noted = noted_after w by a b step (IsSo delayed_flag old_flag w.max_evicted cache w.writes w.prepared w.snapshots w.store w.locks w.installed) at refl refl notes s;
       led = p.led;

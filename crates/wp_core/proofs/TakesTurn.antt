@@ -14,13 +14,12 @@ use Rattle.wp_core.specs.Changes.{turn_index}
 use Rattle.wp_core.specs.Effects.{done}
 use Rattle.wp_core.specs.Needs.{Needs}
 use Rattle.wp_core.specs.Notes.{forgets, ends}
-use Rattle.wp_core.specs.Sound.Actors.{AreHeld, HoldersHave, NoneAfter, IsIdle, held_of, EachParticipant, participants_of}
+use Rattle.wp_core.specs.Sound.Actors.{AreHeld, HoldersHave, NoneAfter, IsIdle, held_of}
 use Rattle.wp_core.specs.Sound.History.{IsPendingHeld}
 use Rattle.wp_core.specs.Sound.Prepared.{AreFlags}
 use Rattle.wp_core.specs.Sound.Store.{IsFlushedGone}
 use Rattle.wp_core.specs.Sound.Reader.{AreReaders, AreJudged, reader_of}
 use Rattle.wp_core.specs.Sound.Views.{IsNoted, noter_of}
-use Rattle.wp_core.specs.Sound.Snapshots.{view_of, HasSeen}
 use Rattle.wp_core.specs.IsSound.{IsSound}
 use Rattle.wp_core.proofs.Frames.{map_set, here, set_else, each_map_set, each_set, at_map, in_filter}
 use Rattle.wp_core.proofs.Gives.{other_holder, same_turn}
@@ -142,7 +141,7 @@ takes_turn w by a t at n s =
           (λ j x ne there. still_held w.holders (content_of w) t by j x n.0 (s.held j x there));
       have = have_after w t by a b at refl s.have;
       readers = kept_part w by a b at reader_of (AreReaders w.writes.history w.max_evicted w.cache) refl s.readers;
-      viewed = kept_part w by a b at (participants_of view_of) (EachParticipant HasSeen) refl s.viewed;
+      viewed = p.viewed;
       judged = kept_part w by a b at reader_of (AreJudged w.writes.history) refl s.judged;
       noted = each_map_set noter_of (λ j x. (fact : Fact) → IsIn fact x.1 → IsNoted (with_holder w.holders t (Some by)) (SoIn w) j x fact) w.actors by b
           (λ fact there. let k = in_filter (λ (f : Fact). not (ends w.writes.history (length w.cache) (take_turn t) f)) fact a.notes there in let m = s.noted by (noter_of a) (at_map noter_of w.actors by a at) fact k.0 in
