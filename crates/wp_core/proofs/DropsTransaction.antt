@@ -8,20 +8,20 @@ use Rattle.wp_model.specs.History.{is_undecided, is_changed, name_at, batch_at, 
 use Rattle.wp_model.specs.declared.holder.Holder.{Holder}
 use Rattle.wp_model.specs.declared.holder.Holder.TheVariants.{Txn, Client}
 use Rattle.wp_model.specs.LockTables.{LockTables}
-use Rattle.wp_core.specs.Lists.{IsIn}
-use Rattle.wp_core.specs.Views.{locked, Fact, undecided_at, prior_values, unprepared, direct_free}
+use Rattle.wp_core.specs.Views.{Fact, undecided_at, prior_values, unprepared, direct_free}
 use Rattle.wp_core.specs.World.{Transaction, Actor, Participant, World}
 use Rattle.wp_core.specs.World as world
 use Rattle.wp_core.specs.Steps.{Step}
 use Rattle.wp_core.specs.Notes.{ends, ends_transaction}
 use Rattle.wp_core.specs.Sound.Actors.{participants_of, seen_of, learned_of, IsParticipantAt}
-use Rattle.wp_core.specs.Sound.Locks.{Owner, owner_of, Has, Began, IsNameOf, IsDirectOf, IsOwner, AreLocked}
+use Rattle.wp_core.specs.Sound.Locks.{Owner, owner_of, Has, IsNameOf, IsDirectOf, IsOwner, AreLocked}
 use Rattle.wp_core.specs.Sound.Pasts.{past_of, AreHolders, IsBoard, AreFaults, AreEdits}
 use Rattle.wp_core.specs.Sound.Views.{Owns}
 use Rattle.wp_core.specs.IsSound.{IsSound, participants}
 use Rattle.wp_core.proofs.Frames.{at_map}
 use Rattle.wp_core.proofs.Keyed.{is_word_same, at_removed, else_removed}
-use Rattle.wp_core.proofs.AllParticipants.{mine, mine_now, was, was_apart, still}
+use Rattle.wp_core.proofs.OwnerMoves.{name_kept, direct_kept, owner_before}
+use Rattle.wp_core.proofs.AllParticipants.{mine, was, was_apart}
 use Rattle.wp_core.proofs.Quiet.{SoIn, kept_part}
 use Rattle.wp_core.proofs.LocksChange.{SoWith, actor_after, actors_after, LocksParts}
 
@@ -57,9 +57,6 @@ module _ (w : World) (by : ℕ) (a : Actor) (name : List ℕ) (x0 : Transaction)
   own_before : IsParticipantAt before by 0 (owner_of a.participant)
   own_before = mine owner_of w.actors by a b at refl
 
-  own_after : IsParticipantAt after by 0 (owner_of p)
-  own_after = mine_now owner_of w.actors by a b at refl
-
   -- what the actor has now it had, under another name
   had_name : (n : List ℕ) (x : Transaction) → finite.get p.transactions n ≡ Some x → (n ≡ name → ⊥) × (finite.get a.participant.transactions n ≡ Some x)
   had_name n x h = ⊎_elim
@@ -68,12 +65,6 @@ module _ (w : World) (by : ℕ) (a : Actor) (name : List ℕ) (x0 : Transaction)
 
   has_still : (n : List ℕ) (y : Transaction) → (n ≡ name → ⊥) → finite.get a.participant.transactions n ≡ Some y → finite.get p.transactions n ≡ Some y
   has_still n y ne h = else_removed a.participant.transactions name n ne ∙ h
-
-  placed_before : (j i : ℕ) → j ≡ by → i ≡ 0 → IsParticipantAt before j i (owner_of a.participant)
-  placed_before j i q f = subst (λ (n : ℕ). IsParticipantAt before n i (owner_of a.participant)) (sym q) (subst (λ (n : ℕ). IsParticipantAt before by n (owner_of a.participant)) (sym f) own_before)
-
-  placed : (j i : ℕ) → j ≡ by → i ≡ 0 → IsParticipantAt after j i (owner_of p)
-  placed j i q f = subst (λ (n : ℕ). IsParticipantAt after n i (owner_of p)) (sym q) (subst (λ (n : ℕ). IsParticipantAt after by n (owner_of p)) (sym f) own_after)
 
   -- nobody else has the transaction
   not_theirs : (j i : ℕ) (o : Owner) (n : List ℕ) (x : Transaction) → ((j ≢ by) ⊎ (i ≢ 0)) → IsParticipantAt before j i o → Has o n x → n ≡ name → ⊥
@@ -102,37 +93,14 @@ module _ (w : World) (by : ℕ) (a : Actor) (name : List ℕ) (x0 : Transaction)
   -- who is there was there, with the same direct write, and had each transaction that it has
   had : (j i : ℕ) (o : Owner) → IsParticipantAt after j i o → (c : Owner) × IsParticipantAt before j i c × (o.direct ≡ c.direct) × ((n : List ℕ) (x : Transaction) → Has o n x → Has c n x)
   had j i o k = ⊎_elim
-      (λ (g : (j ≡ by) × (i ≡ 0) × (o ≡ owner_of p)). (owner_of a.participant, placed_before j i g.0 g.1, ap (λ (z : Owner). z.direct) g.2, λ n x h. (had_name n x (subst (λ (z : Owner). Has z n x) g.2 h)).1))
+      (λ (g : (j ≡ by) × (i ≡ 0) × (o ≡ owner_of p)). (owner_of a.participant, owner_before w.actors by a b at refl j i g.0 g.1, ap (λ (z : Owner). z.direct) g.2, λ n x h. (had_name n x (subst (λ (z : Owner). Has z n x) g.2 h)).1))
       (λ (g : IsParticipantAt before j i o). (o, g, refl, λ n x h. h)) (was owner_of w.actors by a b at refl j i o k)
 
   name_still : (n c : List ℕ) → (n ≡ name → ⊥) → IsNameOf before n c → IsNameOf after n c
-  name_still n c ne k = ⊎_elim
-      (λ (g : (k.at ≡ by) × (k.place ≡ 0) × (k.owner ≡ owner_of a.participant)). record {
-        at = k.at;
-        place = k.place;
-        owner = owner_of p;
-        transaction = k.transaction;
-        there = placed k.at k.place g.0 g.1;
-        client_is = ap (λ (z : Owner). z.client) (sym g.2) ∙ k.client_is;
-        has = has_still n k.transaction ne (subst (λ (z : Owner). Has z n k.transaction) g.2 k.has);
-        began = subst (λ (z : Owner). Began z.past n) g.2 k.began;
-      })
-      (λ (g : IsParticipantAt after k.at k.place k.owner). record { at = k.at; place = k.place; owner = k.owner; transaction = k.transaction; there = g; client_is = k.client_is; has = k.has; began = k.began })
-      (still owner_of w.actors by a b at refl k.at k.place k.owner k.there)
+  name_still n c ne k = name_kept w.actors by a b at refl refl (λ x k. k) n c (λ y h. (y, has_still n y ne h)) k
 
   direct_still : (k c : List ℕ) → IsDirectOf before k c → IsDirectOf after k c
-  direct_still k c e = ⊎_elim
-      (λ (g : (e.at ≡ by) × (e.place ≡ 0) × (e.owner ≡ owner_of a.participant)). record {
-        at = e.at;
-        place = e.place;
-        owner = owner_of p;
-        there = placed e.at e.place g.0 g.1;
-        client_is = ap (λ (z : Owner). z.client) (sym g.2) ∙ e.client_is;
-        has = ap (λ (z : Owner). z.direct) (sym g.2) ∙ e.has;
-        began = subst (λ (z : Owner). IsIn (locked k (Client c)) z.past) g.2 e.began;
-      })
-      (λ (g : IsParticipantAt after e.at e.place e.owner). record { at = e.at; place = e.place; owner = e.owner; there = g; client_is = e.client_is; has = e.has; began = e.began })
-      (still owner_of w.actors by a b at refl e.at e.place e.owner e.there)
+  direct_still k c d = direct_kept w.actors by a b at refl refl (λ x k. k) k c (λ h. h) d
 
   names_had : (n c : List ℕ) → finite.get t.names n ≡ Some (Some c) → IsNameOf after n c
   names_had n c h = ⊎_elim

@@ -5,10 +5,10 @@ use lib.ListN.{get_elem?}
 use Rattle.std.specs.FinSet as words
 use Rattle.std.specs.FinMap as finite
 use Rattle.wp_model.specs.History.{named}
-use Rattle.wp_model.specs.declared.holder.Holder.TheVariants.{Txn, Client}
+use Rattle.wp_model.specs.declared.holder.Holder.TheVariants.{Txn}
 use Rattle.wp_model.specs.LockTables.{LockTables}
 use Rattle.wp_core.specs.Lists.{IsIn}
-use Rattle.wp_core.specs.Views.{Event, claimed, took, locked, told, heard, stopped, found_flushed, found, Fact, undecided_at, prior_values, unprepared}
+use Rattle.wp_core.specs.Views.{Event, claimed, took, told, heard, stopped, found_flushed, found, Fact, undecided_at, prior_values, unprepared}
 use Rattle.wp_core.specs.World.{Transaction, Actor, Participant, World}
 use Rattle.wp_core.specs.World as world
 use Rattle.wp_core.specs.Steps.{Step}
@@ -19,7 +19,8 @@ use Rattle.wp_core.specs.Sound.Pasts.{past_of, IsPast, AreHolders, IsBoard}
 use Rattle.wp_core.specs.Sound.Views.{Owns}
 use Rattle.wp_core.specs.IsSound.{IsSound, participants}
 use Rattle.wp_core.proofs.Keyed.{is_word_same, at_inserted, else_inserted}
-use Rattle.wp_core.proofs.AllParticipants.{mine, mine_now, was, still}
+use Rattle.wp_core.proofs.OwnerMoves.{name_kept, direct_kept}
+use Rattle.wp_core.proofs.AllParticipants.{mine, mine_now, was}
 use Rattle.wp_core.proofs.PastsGrow.{in_front, in_last, past_last}
 use Rattle.wp_core.proofs.Quiet.{SoIn}
 use Rattle.wp_core.proofs.LocksChange.{SoWith, actor_after, actors_after, LocksParts}
@@ -123,41 +124,11 @@ module _ (w : World) (by : ℕ) (a : Actor) (name : List ℕ) (x1 : Transaction)
   own_after : IsParticipantAt after by 0 (owner_of p)
   own_after = mine_now owner_of w.actors by a b at refl
 
-  began_still : (n : List ℕ) → Began a.participant.past n → Began p.past n
-  began_still n (inl k) = inl (in_front (claimed n) a.participant.past (start ∷ []) k)
-  began_still n (inr k) = inr (in_front (took n) a.participant.past (start ∷ []) k)
-
-  placed : (j i : ℕ) → j ≡ by → i ≡ 0 → IsParticipantAt after j i (owner_of p)
-  placed j i e f = subst (λ (n : ℕ). IsParticipantAt after n i (owner_of p)) (sym e) (subst (λ (n : ℕ). IsParticipantAt after by n (owner_of p)) (sym f) own_after)
-
   name_still : (n client : List ℕ) → (n ≡ name → ⊥) → IsNameOf before n client → IsNameOf after n client
-  name_still n client ne k = ⊎_elim
-      (λ (g : (k.at ≡ by) × (k.place ≡ 0) × (k.owner ≡ owner_of a.participant)). record {
-        at = k.at;
-        place = k.place;
-        owner = owner_of p;
-        transaction = k.transaction;
-        there = placed k.at k.place g.0 g.1;
-        client_is = ap (λ (z : Owner). z.client) (sym g.2) ∙ k.client_is;
-        has = else_inserted a.participant.transactions name x1 n ne ∙ subst (λ (z : Owner). Has z n k.transaction) g.2 k.has;
-        began = began_still n (subst (λ (z : Owner). Began z.past n) g.2 k.began);
-      })
-      (λ (g : IsParticipantAt after k.at k.place k.owner). record { at = k.at; place = k.place; owner = k.owner; transaction = k.transaction; there = g; client_is = k.client_is; has = k.has; began = k.began })
-      (still owner_of w.actors by a b at refl k.at k.place k.owner k.there)
+  name_still n client ne k = name_kept w.actors by a b at refl refl (λ x k. in_front x a.participant.past (start ∷ []) k) n client (λ y h. (y, else_inserted a.participant.transactions name x1 n ne ∙ h)) k
 
   direct_still : (key client : List ℕ) → IsDirectOf before key client → IsDirectOf after key client
-  direct_still key client k = ⊎_elim
-      (λ (g : (k.at ≡ by) × (k.place ≡ 0) × (k.owner ≡ owner_of a.participant)). record {
-        at = k.at;
-        place = k.place;
-        owner = owner_of p;
-        there = placed k.at k.place g.0 g.1;
-        client_is = ap (λ (z : Owner). z.client) (sym g.2) ∙ k.client_is;
-        has = ap (λ (z : Owner). z.direct) (sym g.2) ∙ k.has;
-        began = in_front (locked key (Client client)) a.participant.past (start ∷ []) (subst (λ (z : Owner). IsIn (locked key (Client client)) z.past) g.2 k.began);
-      })
-      (λ (g : IsParticipantAt after k.at k.place k.owner). record { at = k.at; place = k.place; owner = k.owner; there = g; client_is = k.client_is; has = k.has; began = k.began })
-      (still owner_of w.actors by a b at refl k.at k.place k.owner k.there)
+  direct_still key client d = direct_kept w.actors by a b at refl refl (λ x k. in_front x a.participant.past (start ∷ []) k) key client (λ h. h) d
 
   began_now : (n : List ℕ) → n ≡ name → Began p.past n
   began_now n same = ⊎_elim

@@ -16,12 +16,13 @@ use Rattle.wp_core.specs.Effects.{done}
 use Rattle.wp_core.specs.Needs.{Needs}
 use Rattle.wp_core.specs.Notes.{forgets, ends}
 use Rattle.wp_core.specs.Sound.Actors.{participants_of, seen_of, learned_of, IsParticipantAt}
-use Rattle.wp_core.specs.Sound.Locks.{Owner, owner_of, Has, Began, IsNameOf, IsDirectOf, IsOwner, AreLocked}
+use Rattle.wp_core.specs.Sound.Locks.{Owner, owner_of, IsNameOf, IsDirectOf, IsOwner, AreLocked}
 use Rattle.wp_core.specs.Sound.Pasts.{past_of, AreHolders, IsBoard, AreFaults, AreEdits}
 use Rattle.wp_core.specs.IsSound.{IsSound, participants}
 use Rattle.wp_core.proofs.Frames.{at_map}
 use Rattle.wp_core.proofs.Keyed.{is_word_same, at_removed, else_removed}
-use Rattle.wp_core.proofs.AllParticipants.{mine, mine_now, was, was_apart, still}
+use Rattle.wp_core.proofs.OwnerMoves.{name_kept, direct_kept, owner_before}
+use Rattle.wp_core.proofs.AllParticipants.{mine, was, was_apart}
 use Rattle.wp_core.proofs.Quiet.{SoIn, kept_part}
 use Rattle.wp_core.proofs.LocksChange.{SoWith, actor_after, actors_after, LocksParts, locks_change}
 
@@ -79,18 +80,9 @@ module _ (w : World) (by : ℕ) (a : Actor) (key : List ℕ) (at : get_elem? w.a
       let old = s.locks.had by 0 (owner_of a.participant) own_before in
       record { names = old.names; keys = λ name x c h held. txn_still c name (old.keys name x c h held); direct = λ c h. absurd cc }
 
-  placed_before : (j i : ℕ) → j ≡ by → i ≡ 0 → IsParticipantAt before j i (owner_of a.participant)
-  placed_before j i q f = subst (λ (n : ℕ). IsParticipantAt before n i (owner_of a.participant)) (sym q) (subst (λ (n : ℕ). IsParticipantAt before by n (owner_of a.participant)) (sym f) own_before)
-
-  own_after : IsParticipantAt after by 0 (owner_of p)
-  own_after = mine_now owner_of w.actors by a b at refl
-
-  placed : (j i : ℕ) → j ≡ by → i ≡ 0 → IsParticipantAt after j i (owner_of p)
-  placed j i q f = subst (λ (n : ℕ). IsParticipantAt after n i (owner_of p)) (sym q) (subst (λ (n : ℕ). IsParticipantAt after by n (owner_of p)) (sym f) own_after)
-
   had_names : (j i : ℕ) (o : Owner) → IsParticipantAt after j i o → (c : Owner) × IsParticipantAt before j i c × (o.transactions ≡ c.transactions)
   had_names j i o k = ⊎_elim
-      (λ (g : (j ≡ by) × (i ≡ 0) × (o ≡ owner_of p)). (owner_of a.participant, placed_before j i g.0 g.1, ap (λ (z : Owner). z.transactions) g.2))
+      (λ (g : (j ≡ by) × (i ≡ 0) × (o ≡ owner_of p)). (owner_of a.participant, owner_before w.actors by a b at refl j i g.0 g.1, ap (λ (z : Owner). z.transactions) g.2))
       (λ (g : IsParticipantAt before j i o). (o, g, refl)) (was owner_of w.actors by a b at refl j i o k)
 
   -- who has a direct write now had it
@@ -100,25 +92,13 @@ module _ (w : World) (by : ℕ) (a : Actor) (key : List ℕ) (at : get_elem? w.a
       (λ (g : IsParticipantAt before j i o). g) (was owner_of w.actors by a b at refl j i o k)
 
   name_still : (n c : List ℕ) → IsNameOf before n c → IsNameOf after n c
-  name_still n c k = ⊎_elim
-      (λ (g : (k.at ≡ by) × (k.place ≡ 0) × (k.owner ≡ owner_of a.participant)). record {
-        at = k.at;
-        place = k.place;
-        owner = owner_of p;
-        transaction = k.transaction;
-        there = placed k.at k.place g.0 g.1;
-        client_is = ap (λ (z : Owner). z.client) (sym g.2) ∙ k.client_is;
-        has = subst (λ (z : Owner). Has z n k.transaction) g.2 k.has;
-        began = subst (λ (z : Owner). Began z.past n) g.2 k.began;
-      })
-      (λ (g : IsParticipantAt after k.at k.place k.owner). record { at = k.at; place = k.place; owner = k.owner; transaction = k.transaction; there = g; client_is = k.client_is; has = k.has; began = k.began })
-      (still owner_of w.actors by a b at refl k.at k.place k.owner k.there)
+  name_still n c k = name_kept w.actors by a b at refl refl (λ x k. k) n c (λ y h. (y, h)) k
+
+  other_key : (k : List ℕ) → a.participant.direct ≡ Some k → k ≡ key
+  other_key k h = let f : Some k ≡ Some key = sym h ∙ has in cc
 
   direct_still : (k c : List ℕ) → (k ≡ key → ⊥) → IsDirectOf before k c → IsDirectOf after k c
-  direct_still k c ne d = ⊎_elim
-      (λ (g : (d.at ≡ by) × (d.place ≡ 0) × (d.owner ≡ owner_of a.participant)). let f : Some key ≡ Some k = sym has ∙ ap (λ (z : Owner). z.direct) (sym g.2) ∙ d.has in let same : key ≡ k = cc in absurd (ne (sym same)))
-      (λ (g : IsParticipantAt after d.at d.place d.owner). record { at = d.at; place = d.place; owner = d.owner; there = g; client_is = d.client_is; has = d.has; began = d.began })
-      (still owner_of w.actors by a b at refl d.at d.place d.owner d.there)
+  direct_still k c ne d = direct_kept w.actors by a b at refl refl (λ x k. k) k c (λ h. absurd (ne (other_key k h))) d
 
   locked_part : AreLocked w.writes.history t after
   locked_part = record {

@@ -8,7 +8,7 @@ use Rattle.wp_model.specs.declared.holder.Holder.{Holder}
 use Rattle.wp_model.specs.declared.holder.Holder.TheVariants.{Txn, Client}
 use Rattle.wp_model.specs.LockTables.{LockTables}
 use Rattle.wp_core.specs.Lists.{IsIn}
-use Rattle.wp_core.specs.Views.{Event, claimed, took, locked, told, heard, Fact, undecided_at, direct_free}
+use Rattle.wp_core.specs.Views.{Event, locked, told, heard, Fact, undecided_at, direct_free}
 use Rattle.wp_core.specs.World.{Transaction, Actor, Participant, World}
 use Rattle.wp_core.specs.World as world
 use Rattle.wp_core.specs.Steps.{lock_direct}
@@ -17,12 +17,13 @@ use Rattle.wp_core.specs.Effects.{done}
 use Rattle.wp_core.specs.Needs.{Needs}
 use Rattle.wp_core.specs.Notes.{forgets}
 use Rattle.wp_core.specs.Sound.Actors.{participants_of, seen_of, learned_of, IsParticipantAt}
-use Rattle.wp_core.specs.Sound.Locks.{Owner, owner_of, Has, Began, IsNameOf, IsDirectOf, IsOwner, AreLocked}
+use Rattle.wp_core.specs.Sound.Locks.{Owner, owner_of, Has, IsNameOf, IsDirectOf, IsOwner, AreLocked}
 use Rattle.wp_core.specs.Sound.Pasts.{past_of, IsPast, AreHolders, IsBoard}
 use Rattle.wp_core.specs.IsSound.{IsSound, participants}
 use Rattle.wp_core.proofs.Frames.{at_map}
 use Rattle.wp_core.proofs.Keyed.{is_word_same, at_inserted, else_inserted}
-use Rattle.wp_core.proofs.AllParticipants.{mine, mine_now, was, still}
+use Rattle.wp_core.proofs.OwnerMoves.{name_kept, direct_kept, owner_before}
+use Rattle.wp_core.proofs.AllParticipants.{mine, mine_now, was}
 use Rattle.wp_core.proofs.PastsGrow.{in_front, in_last, past_last}
 use Rattle.wp_core.proofs.Quiet.{SoIn}
 use Rattle.wp_core.proofs.LocksChange.{SoWith, actor_after, actors_after, LocksParts, locks_change}
@@ -72,12 +73,6 @@ module _ (w : World) (by : ℕ) (a : Actor) (key : List ℕ) (at : get_elem? w.a
   own_after : IsParticipantAt after by 0 (owner_of p)
   own_after = mine_now owner_of w.actors by a b at refl
 
-  placed_before : (j i : ℕ) → j ≡ by → i ≡ 0 → IsParticipantAt before j i (owner_of a.participant)
-  placed_before j i q f = subst (λ (n : ℕ). IsParticipantAt before n i (owner_of a.participant)) (sym q) (subst (λ (n : ℕ). IsParticipantAt before by n (owner_of a.participant)) (sym f) own_before)
-
-  placed : (j i : ℕ) → j ≡ by → i ≡ 0 → IsParticipantAt after j i (owner_of p)
-  placed j i q f = subst (λ (n : ℕ). IsParticipantAt after n i (owner_of p)) (sym q) (subst (λ (n : ℕ). IsParticipantAt after by n (owner_of p)) (sym f) own_after)
-
   other_owner : (o : Owner) → IsOwner w.locks o → IsOwner t o
   other_owner o k = record { names = k.names; keys = λ name x c h held. held_still c (Txn name) (k.keys name x c h held); direct = λ c h. held_still c (Client o.client) (k.direct c h) }
 
@@ -89,7 +84,7 @@ module _ (w : World) (by : ℕ) (a : Actor) (key : List ℕ) (at : get_elem? w.a
   -- who is there was there, with the same transactions; and with the same direct write, but for the actor
   had_names : (j i : ℕ) (o : Owner) → IsParticipantAt after j i o → (c : Owner) × IsParticipantAt before j i c × (o.transactions ≡ c.transactions)
   had_names j i o k = ⊎_elim
-      (λ (g : (j ≡ by) × (i ≡ 0) × (o ≡ owner_of p)). (owner_of a.participant, placed_before j i g.0 g.1, ap (λ (z : Owner). z.transactions) g.2))
+      (λ (g : (j ≡ by) × (i ≡ 0) × (o ≡ owner_of p)). (owner_of a.participant, owner_before w.actors by a b at refl j i g.0 g.1, ap (λ (z : Owner). z.transactions) g.2))
       (λ (g : IsParticipantAt before j i o). (o, g, refl)) (was owner_of w.actors by a b at refl j i o k)
 
   names_apart : (j i k l : ℕ) (o q : Owner) (n : List ℕ) (x y : Transaction) → IsParticipantAt after j i o → IsParticipantAt after k l q → Has o n x → Has q n y → (j ≡ k) × (i ≡ l)
@@ -115,30 +110,11 @@ module _ (w : World) (by : ℕ) (a : Actor) (key : List ℕ) (at : get_elem? w.a
       both (inr u) (inl v) = absurd (none_had j i o c u first (its_key q v.2 second))
       both (inr u) (inr v) = s.locks.apart.direct j i k l o q c u v first second
 
-  began_still : (n : List ℕ) → Began a.participant.past n → Began p.past n
-  began_still n (inl k) = inl (in_front (claimed n) a.participant.past (e ∷ []) k)
-  began_still n (inr k) = inr (in_front (took n) a.participant.past (e ∷ []) k)
-
   name_still : (n c : List ℕ) → IsNameOf before n c → IsNameOf after n c
-  name_still n c k = ⊎_elim
-      (λ (g : (k.at ≡ by) × (k.place ≡ 0) × (k.owner ≡ owner_of a.participant)). record {
-        at = k.at;
-        place = k.place;
-        owner = owner_of p;
-        transaction = k.transaction;
-        there = placed k.at k.place g.0 g.1;
-        client_is = ap (λ (z : Owner). z.client) (sym g.2) ∙ k.client_is;
-        has = subst (λ (z : Owner). Has z n k.transaction) g.2 k.has;
-        began = began_still n (subst (λ (z : Owner). Began z.past n) g.2 k.began);
-      })
-      (λ (g : IsParticipantAt after k.at k.place k.owner). record { at = k.at; place = k.place; owner = k.owner; transaction = k.transaction; there = g; client_is = k.client_is; has = k.has; began = k.began })
-      (still owner_of w.actors by a b at refl k.at k.place k.owner k.there)
+  name_still n c k = name_kept w.actors by a b at refl refl (λ x k. in_front x a.participant.past (e ∷ []) k) n c (λ y h. (y, h)) k
 
   direct_still : (k c : List ℕ) → IsDirectOf before k c → IsDirectOf after k c
-  direct_still k c d = ⊎_elim
-      (λ (g : (d.at ≡ by) × (d.place ≡ 0) × (d.owner ≡ owner_of a.participant)). let f : None ≡ Some k = sym no_direct ∙ ap (λ (z : Owner). z.direct) (sym g.2) ∙ d.has in absurd cc)
-      (λ (g : IsParticipantAt after d.at d.place d.owner). record { at = d.at; place = d.place; owner = d.owner; there = g; client_is = d.client_is; has = d.has; began = d.began })
-      (still owner_of w.actors by a b at refl d.at d.place d.owner d.there)
+  direct_still k c d = direct_kept w.actors by a b at refl refl (λ x k. in_front x a.participant.past (e ∷ []) k) k c (λ h. let f : None ≡ Some k = sym no_direct ∙ h in absurd cc) d
 
   direct_held : (k c : List ℕ) → finite.get t.keys k ≡ Some (Client c) → IsDirectOf after k c
   direct_held k c h = ⊎_elim

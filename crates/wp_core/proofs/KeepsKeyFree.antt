@@ -12,8 +12,7 @@ use Rattle.wp_model.specs.History.{is_undecided, is_changed, name_at, batch_at, 
 use Rattle.wp_model.specs.declared.holder.Holder.{Holder}
 use Rattle.wp_model.specs.declared.holder.Holder.TheVariants.{Txn, Client}
 use Rattle.wp_model.specs.LockTables.{LockTables}
-use Rattle.wp_core.specs.Lists.{IsIn}
-use Rattle.wp_core.specs.Views.{locked, Fact, undecided_at, prior_values, unprepared, direct_free}
+use Rattle.wp_core.specs.Views.{Fact, undecided_at, prior_values, unprepared, direct_free}
 use Rattle.wp_core.specs.World.{Transaction, Actor, Participant, World}
 use Rattle.wp_core.specs.World as world
 use Rattle.wp_core.specs.Steps.{free_key}
@@ -22,13 +21,14 @@ use Rattle.wp_core.specs.Effects.{done}
 use Rattle.wp_core.specs.Needs.{Needs}
 use Rattle.wp_core.specs.Notes.{forgets}
 use Rattle.wp_core.specs.Sound.Actors.{participants_of, seen_of, learned_of, IsParticipantAt}
-use Rattle.wp_core.specs.Sound.Locks.{Owner, owner_of, Has, Began, IsNameOf, IsDirectOf, IsOwner, AreLocked}
+use Rattle.wp_core.specs.Sound.Locks.{Owner, owner_of, Has, IsNameOf, IsDirectOf, IsOwner, AreLocked}
 use Rattle.wp_core.specs.Sound.Pasts.{past_of, AreHolders, IsBoard, AreFaults, AreEdits}
 use Rattle.wp_core.specs.Sound.Views.{Owns}
 use Rattle.wp_core.specs.IsSound.{IsSound, participants}
 use Rattle.wp_core.proofs.Frames.{at_map}
 use Rattle.wp_core.proofs.Keyed.{is_word_same, same_test, not_same, at_inserted, else_inserted, at_removed, else_removed}
-use Rattle.wp_core.proofs.AllParticipants.{mine, mine_now, was, was_apart, still}
+use Rattle.wp_core.proofs.OwnerMoves.{name_kept, direct_kept, owner_before}
+use Rattle.wp_core.proofs.AllParticipants.{mine, was, was_apart}
 use Rattle.wp_core.proofs.HistoryHolders.{none_named}
 use Rattle.wp_core.proofs.Quiet.{SoIn, kept_part}
 use Rattle.wp_core.proofs.LocksChange.{SoWith, actor_after, actors_after, LocksParts, locks_change}
@@ -70,9 +70,6 @@ module _ (w : World) (by : ℕ) (a : Actor) (name : List ℕ) (x0 : Transaction)
   own_before : IsParticipantAt before by 0 (owner_of a.participant)
   own_before = mine owner_of w.actors by a b at refl
 
-  own_after : IsParticipantAt after by 0 (owner_of p)
-  own_after = mine_now owner_of w.actors by a b at refl
-
   -- the key was held for the transaction
   was_held : finite.get w.locks.keys key ≡ Some (Txn name)
   was_held = (s.locks.had by 0 (owner_of a.participant) own_before).keys name x0 key has locked_one
@@ -113,12 +110,6 @@ module _ (w : World) (by : ℕ) (a : Actor) (name : List ℕ) (x0 : Transaction)
       (λ (q : n ≡ name). (x1, at_inserted a.participant.transactions name x1 n q))
       (λ (ne : n ≡ name → ⊥). (y, else_inserted a.participant.transactions name x1 n ne ∙ h)) (is_word_same n name)
 
-  placed_before : (j i : ℕ) → j ≡ by → i ≡ 0 → IsParticipantAt before j i (owner_of a.participant)
-  placed_before j i q f = subst (λ (n : ℕ). IsParticipantAt before n i (owner_of a.participant)) (sym q) (subst (λ (n : ℕ). IsParticipantAt before by n (owner_of a.participant)) (sym f) own_before)
-
-  placed : (j i : ℕ) → j ≡ by → i ≡ 0 → IsParticipantAt after j i (owner_of p)
-  placed j i q f = subst (λ (n : ℕ). IsParticipantAt after n i (owner_of p)) (sym q) (subst (λ (n : ℕ). IsParticipantAt after by n (owner_of p)) (sym f) own_after)
-
   -- nobody else has the transaction
   not_theirs : (j i : ℕ) (o : Owner) (x : Transaction) → ((j ≢ by) ⊎ (i ≢ 0)) → IsParticipantAt before j i o → Has o name x → ⊥
   not_theirs j i o x elsewhere there h =
@@ -150,39 +141,14 @@ module _ (w : World) (by : ℕ) (a : Actor) (name : List ℕ) (x0 : Transaction)
   -- who is there was there, with the same names and the same direct write
   had : (j i : ℕ) (o : Owner) → IsParticipantAt after j i o → (c : Owner) × IsParticipantAt before j i c × (o.direct ≡ c.direct) × ((n : List ℕ) (x : Transaction) → Has o n x → (y : Transaction) × Has c n y)
   had j i o k = ⊎_elim
-      (λ (g : (j ≡ by) × (i ≡ 0) × (o ≡ owner_of p)). (owner_of a.participant, placed_before j i g.0 g.1, ap (λ (z : Owner). z.direct) g.2, λ n x h. had_name n x (subst (λ (z : Owner). Has z n x) g.2 h)))
+      (λ (g : (j ≡ by) × (i ≡ 0) × (o ≡ owner_of p)). (owner_of a.participant, owner_before w.actors by a b at refl j i g.0 g.1, ap (λ (z : Owner). z.direct) g.2, λ n x h. had_name n x (subst (λ (z : Owner). Has z n x) g.2 h)))
       (λ (g : IsParticipantAt before j i o). (o, g, refl, λ n x h. (x, h))) (was owner_of w.actors by a b at refl j i o k)
 
   name_still : (n c : List ℕ) → IsNameOf before n c → IsNameOf after n c
-  name_still n c k = ⊎_elim
-      (λ (g : (k.at ≡ by) × (k.place ≡ 0) × (k.owner ≡ owner_of a.participant)).
-      let h = has_still n k.transaction (subst (λ (z : Owner). Has z n k.transaction) g.2 k.has) in
-      record {
-        at = k.at;
-        place = k.place;
-        owner = owner_of p;
-        transaction = h.0;
-        there = placed k.at k.place g.0 g.1;
-        client_is = ap (λ (z : Owner). z.client) (sym g.2) ∙ k.client_is;
-        has = h.1;
-        began = subst (λ (z : Owner). Began z.past n) g.2 k.began;
-      })
-      (λ (g : IsParticipantAt after k.at k.place k.owner). record { at = k.at; place = k.place; owner = k.owner; transaction = k.transaction; there = g; client_is = k.client_is; has = k.has; began = k.began })
-      (still owner_of w.actors by a b at refl k.at k.place k.owner k.there)
+  name_still n c k = name_kept w.actors by a b at refl refl (λ x k. k) n c (λ y h. has_still n y h) k
 
   direct_still : (k c : List ℕ) → IsDirectOf before k c → IsDirectOf after k c
-  direct_still k c d = ⊎_elim
-      (λ (g : (d.at ≡ by) × (d.place ≡ 0) × (d.owner ≡ owner_of a.participant)). record {
-        at = d.at;
-        place = d.place;
-        owner = owner_of p;
-        there = placed d.at d.place g.0 g.1;
-        client_is = ap (λ (z : Owner). z.client) (sym g.2) ∙ d.client_is;
-        has = ap (λ (z : Owner). z.direct) (sym g.2) ∙ d.has;
-        began = subst (λ (z : Owner). IsIn (locked k (Client c)) z.past) g.2 d.began;
-      })
-      (λ (g : IsParticipantAt after d.at d.place d.owner). record { at = d.at; place = d.place; owner = d.owner; there = g; client_is = d.client_is; has = d.has; began = d.began })
-      (still owner_of w.actors by a b at refl d.at d.place d.owner d.there)
+  direct_still k c d = direct_kept w.actors by a b at refl refl (λ x k. k) k c (λ h. h) d
 
   keys_known : (k n : List ℕ) → finite.get t.keys k ≡ Some (Txn n) → (j i : ℕ) (o : Owner) → IsParticipantAt after j i o → (x : Transaction) → Has o n x → words.contains x.locked k ≡ true
   keys_known k n h j i o there x there_has =

@@ -30,6 +30,7 @@ pub mod Empty
 pub mod AllParticipants
 pub mod PastsGrow
 pub mod OwnersStay
+pub mod OwnerMoves
 pub mod Remembers
 pub mod KeepsRemembered
 pub mod Keyed
