@@ -19,7 +19,7 @@ use Rattle.wp_core.specs.Sound.Pasts.{past_of, AreHolders, IsBoard, AreFaults, A
 use Rattle.wp_core.specs.Sound.Views.{Owns}
 use Rattle.wp_core.specs.IsSound.{IsSound, participants}
 use Rattle.wp_core.proofs.Frames.{at_map}
-use Rattle.wp_core.proofs.Keyed.{is_word_same, at_removed, else_removed}
+use Rattle.wp_core.proofs.Keyed.{is_word_same, else_removed, still_there}
 use Rattle.wp_core.proofs.OwnerMoves.{name_kept, direct_kept, owner_before}
 use Rattle.wp_core.proofs.AllParticipants.{mine, was, was_apart}
 use Rattle.wp_core.proofs.Quiet.{SoIn, kept_part}
@@ -59,9 +59,7 @@ module _ (w : World) (by : ℕ) (a : Actor) (name : List ℕ) (x0 : Transaction)
 
   -- what the actor has now it had, under another name
   had_name : (n : List ℕ) (x : Transaction) → finite.get p.transactions n ≡ Some x → (n ≡ name → ⊥) × (finite.get a.participant.transactions n ≡ Some x)
-  had_name n x h = ⊎_elim
-      (λ (q : n ≡ name). let f : None ≡ Some x = sym (at_removed a.participant.transactions name n q) ∙ h in absurd cc)
-      (λ (ne : n ≡ name → ⊥). (ne, sym (else_removed a.participant.transactions name n ne) ∙ h)) (is_word_same n name)
+  had_name n x h = still_there a.participant.transactions name x n h
 
   has_still : (n : List ℕ) (y : Transaction) → (n ≡ name → ⊥) → finite.get a.participant.transactions n ≡ Some y → finite.get p.transactions n ≡ Some y
   has_still n y ne h = else_removed a.participant.transactions name n ne ∙ h

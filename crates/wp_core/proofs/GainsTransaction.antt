@@ -18,7 +18,7 @@ use Rattle.wp_core.specs.Sound.Locks.{Owner, owner_of, Has, Began, IsNameOf, IsD
 use Rattle.wp_core.specs.Sound.Pasts.{past_of, IsPast, AreHolders, IsBoard}
 use Rattle.wp_core.specs.Sound.Views.{Owns}
 use Rattle.wp_core.specs.IsSound.{IsSound, participants}
-use Rattle.wp_core.proofs.Keyed.{is_word_same, at_inserted, else_inserted}
+use Rattle.wp_core.proofs.Keyed.{is_word_same, at_inserted, else_inserted, now_inserted}
 use Rattle.wp_core.proofs.OwnerMoves.{name_kept, direct_kept}
 use Rattle.wp_core.proofs.AllParticipants.{mine, mine_now, was}
 use Rattle.wp_core.proofs.PastsGrow.{in_front, in_last, past_last}
@@ -64,9 +64,7 @@ module _ (w : World) (by : ℕ) (a : Actor) (name : List ℕ) (x1 : Transaction)
 
   -- what the actor has now: the new one, or what it had
   has_now : (n : List ℕ) (x : Transaction) → finite.get p.transactions n ≡ Some x → ((n ≡ name) × (x1 ≡ x)) ⊎ ((n ≡ name → ⊥) × (finite.get a.participant.transactions n ≡ Some x))
-  has_now n x h = ⊎_elim
-      (λ (e : n ≡ name). let q : Some x1 ≡ Some x = sym (at_inserted a.participant.transactions name x1 n e) ∙ h in inl (e, cc))
-      (λ (ne : n ≡ name → ⊥). inr (ne, sym (else_inserted a.participant.transactions name x1 n ne) ∙ h)) (is_word_same n name)
+  has_now n x h = now_inserted a.participant.transactions name x1 x n h
 
   own_before : IsParticipantAt before by 0 (owner_of a.participant)
   own_before = mine owner_of w.actors by a b at refl

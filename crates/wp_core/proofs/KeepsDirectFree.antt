@@ -20,7 +20,7 @@ use Rattle.wp_core.specs.Sound.Locks.{Owner, owner_of, IsNameOf, IsDirectOf, IsO
 use Rattle.wp_core.specs.Sound.Pasts.{past_of, AreHolders, IsBoard, AreFaults, AreEdits}
 use Rattle.wp_core.specs.IsSound.{IsSound, participants}
 use Rattle.wp_core.proofs.Frames.{at_map}
-use Rattle.wp_core.proofs.Keyed.{is_word_same, at_removed, else_removed}
+use Rattle.wp_core.proofs.Keyed.{is_word_same, else_removed, still_there}
 use Rattle.wp_core.proofs.OwnerMoves.{name_kept, direct_kept, owner_before}
 use Rattle.wp_core.proofs.AllParticipants.{mine, was, was_apart}
 use Rattle.wp_core.proofs.Quiet.{SoIn, kept_part}
@@ -60,9 +60,7 @@ module _ (w : World) (by : ℕ) (a : Actor) (key : List ℕ) (at : get_elem? w.a
 
   -- what is held was held, and is another key
   held_before : (k : List ℕ) (holder : Holder) → finite.get t.keys k ≡ Some holder → (k ≡ key → ⊥) × (finite.get w.locks.keys k ≡ Some holder)
-  held_before k holder h = ⊎_elim
-      (λ (q : k ≡ key). let f : None ≡ Some holder = sym (at_removed w.locks.keys key k q) ∙ h in absurd cc)
-      (λ (ne : k ≡ key → ⊥). (ne, sym (else_removed w.locks.keys key k ne) ∙ h)) (is_word_same k key)
+  held_before k holder h = still_there w.locks.keys key holder k h
 
   -- another one's direct write is of another key
   not_theirs : (j i : ℕ) (o : Owner) (k : List ℕ) → ((j ≢ by) ⊎ (i ≢ 0)) → IsParticipantAt before j i o → o.direct ≡ Some k → k ≡ key → ⊥

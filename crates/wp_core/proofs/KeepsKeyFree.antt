@@ -1,5 +1,5 @@
 -- Freeing a key of a transaction keeps every part of a sound world.
-use Rattle.std.proofs.Common.{◌≡◌, ◌≢◌, ◌⊎◌, ◌&&◌, Bool, not, ⊎_elim, inl, inr, ℕ, true, false, true≢false, List, length, map, refl, sym, subst, ap, ◌∙◌, Some, None, arith}
+use Rattle.std.proofs.Common.{◌≡◌, ◌≢◌, ◌⊎◌, ◌&&◌, Bool, not, ⊎_elim, ℕ, true, false, true≢false, List, length, map, refl, sym, subst, ap, ◌∙◌, Some, None, arith}
 use mathlib.Core.Option.{some}
 use lib.ListN.{get_elem?}
 use Rattle.std.specs.FinSet as words
@@ -26,7 +26,7 @@ use Rattle.wp_core.specs.Sound.Pasts.{past_of, AreHolders, IsBoard, AreFaults, A
 use Rattle.wp_core.specs.Sound.Views.{Owns}
 use Rattle.wp_core.specs.IsSound.{IsSound, participants}
 use Rattle.wp_core.proofs.Frames.{at_map}
-use Rattle.wp_core.proofs.Keyed.{is_word_same, same_test, not_same, at_inserted, else_inserted, at_removed, else_removed}
+use Rattle.wp_core.proofs.Keyed.{is_word_same, same_test, not_same, at_inserted, else_inserted, else_removed, still_there, now_inserted}
 use Rattle.wp_core.proofs.OwnerMoves.{name_kept, direct_kept, owner_before}
 use Rattle.wp_core.proofs.AllParticipants.{mine, was, was_apart}
 use Rattle.wp_core.proofs.HistoryHolders.{none_named}
@@ -89,15 +89,11 @@ module _ (w : World) (by : ℕ) (a : Actor) (name : List ℕ) (x0 : Transaction)
 
   -- what is held was held, and is another key
   held_before : (k : List ℕ) (holder : Holder) → finite.get t.keys k ≡ Some holder → (k ≡ key → ⊥) × (finite.get w.locks.keys k ≡ Some holder)
-  held_before k holder h = ⊎_elim
-      (λ (q : k ≡ key). let f : None ≡ Some holder = sym (at_removed w.locks.keys key k q) ∙ h in absurd cc)
-      (λ (ne : k ≡ key → ⊥). (ne, sym (else_removed w.locks.keys key k ne) ∙ h)) (is_word_same k key)
+  held_before k holder h = still_there w.locks.keys key holder k h
 
   -- what the actor has now: the transaction without the key, or what it had
   has_now : (n : List ℕ) (x : Transaction) → finite.get p.transactions n ≡ Some x → ((n ≡ name) × (x1 ≡ x)) ⊎ ((n ≡ name → ⊥) × (finite.get a.participant.transactions n ≡ Some x))
-  has_now n x h = ⊎_elim
-      (λ (q : n ≡ name). let f : Some x1 ≡ Some x = sym (at_inserted a.participant.transactions name x1 n q) ∙ h in inl (q, cc))
-      (λ (ne : n ≡ name → ⊥). inr (ne, sym (else_inserted a.participant.transactions name x1 n ne) ∙ h)) (is_word_same n name)
+  has_now n x h = now_inserted a.participant.transactions name x1 x n h
 
   -- it has the same names
   had_name : (n : List ℕ) (x : Transaction) → finite.get p.transactions n ≡ Some x → (y : Transaction) × (finite.get a.participant.transactions n ≡ Some y)

@@ -26,7 +26,7 @@ use Rattle.wp_core.specs.Sound.Pasts.{past_of, AreHolders, IsBoard, IsPast}
 use Rattle.wp_core.specs.Sound.Views.{Owns}
 use Rattle.wp_core.specs.IsSound.{IsSound, participants}
 use Rattle.wp_core.proofs.Frames.{at_map}
-use Rattle.wp_core.proofs.Keyed.{is_word_same, same_test, not_same, at_inserted, else_inserted}
+use Rattle.wp_core.proofs.Keyed.{is_word_same, same_test, not_same, at_inserted, else_inserted, now_inserted}
 use Rattle.wp_core.proofs.OwnerMoves.{name_kept, direct_kept, owner_before}
 use Rattle.wp_core.proofs.AllParticipants.{mine, was, was_apart}
 use Rattle.wp_core.proofs.HistoryHolders.{holder_holds}
@@ -89,15 +89,11 @@ module _ (w : World) (by : ℕ) (a : Actor) (name : List ℕ) (x0 : Transaction)
 
   -- what is held now: the key, or what was
   held_now : (k : List ℕ) (holder : Holder) → finite.get t.keys k ≡ Some holder → ((k ≡ key) × (Txn name ≡ holder)) ⊎ ((k ≡ key → ⊥) × (finite.get w.locks.keys k ≡ Some holder))
-  held_now k holder h = ⊎_elim
-      (λ (q : k ≡ key). let f : Some (Txn name) ≡ Some holder = sym (at_inserted w.locks.keys key (Txn name) k q) ∙ h in inl (q, cc))
-      (λ (ne : k ≡ key → ⊥). inr (ne, sym (else_inserted w.locks.keys key (Txn name) k ne) ∙ h)) (is_word_same k key)
+  held_now k holder h = now_inserted w.locks.keys key (Txn name) holder k h
 
   -- what the actor has now: the transaction with the key, or what it had
   has_now : (n : List ℕ) (x : Transaction) → finite.get p.transactions n ≡ Some x → ((n ≡ name) × (x1 ≡ x)) ⊎ ((n ≡ name → ⊥) × (finite.get a.participant.transactions n ≡ Some x))
-  has_now n x h = ⊎_elim
-      (λ (q : n ≡ name). let f : Some x1 ≡ Some x = sym (at_inserted a.participant.transactions name x1 n q) ∙ h in inl (q, cc))
-      (λ (ne : n ≡ name → ⊥). inr (ne, sym (else_inserted a.participant.transactions name x1 n ne) ∙ h)) (is_word_same n name)
+  has_now n x h = now_inserted a.participant.transactions name x1 x n h
 
   -- it has the same names
   had_name : (n : List ℕ) (x : Transaction) → finite.get p.transactions n ≡ Some x → (y : Transaction) × (finite.get a.participant.transactions n ≡ Some y)

@@ -1,5 +1,5 @@
 -- Finite maps whose keys are words.
-use Rattle.std.proofs.Common.{◌≡◌, ◌⊎◌, inl, inr, ℕ, Bool, true, false, cond, true≢false, Less, Equal, Greater, List, Some, None, refl, sym, ap, ◌∙◌}
+use Rattle.std.proofs.Common.{◌≡◌, ◌⊎◌, inl, inr, ℕ, Bool, true, false, cond, true≢false, Less, Equal, Greater, List, Some, None, refl, sym, ap, ◌∙◌, ⊎_elim}
 use Rattle.std.specs.Cmp.{eq_by_cmp_equiv}
 use Rattle.std.specs.declared.cmp.Ordering.{Ordering}
 use Rattle.std.specs.Ordering.{eq_by_cmp, is_eq}
@@ -31,6 +31,9 @@ pub not_same : (a b : List ℕ) → (a ≡ b → ⊥) → (t : Bool) → eq_by_c
 not_same a b ne true e = absurd (ne (same_word a b e))
 not_same a b ne false e = refl
 
+same_item : {X : Type 0} (v x : X) → Some v ≡ Some x → v ≡ x
+same_item v x e = cc
+
 module _ {X : Type 0} (m : FinMap key_cmp X) (k : List ℕ) where
   pub at_inserted : (v : X) (q : List ℕ) → q ≡ k → get (insert m k v) q ≡ Some v
   at_inserted v q same = get-insert nat_list_cmp_total m k v q ∙ ap (λ (b : Bool). cond b (Some v) (get m q)) (same_test q k same)
@@ -43,3 +46,15 @@ module _ {X : Type 0} (m : FinMap key_cmp X) (k : List ℕ) where
 
   pub else_removed : (q : List ℕ) → (q ≡ k → ⊥) → get (remove m k) q ≡ get m q
   else_removed q ne = get-remove nat_list_cmp_total m k q ∙ ap (λ (b : Bool). cond b None (get m q)) (not_same q k ne (eq_by_cmp key_cmp q k) refl)
+
+  -- what is there now: the new one, or what was there
+  pub now_inserted : (v x : X) (q : List ℕ) → get (insert m k v) q ≡ Some x → ((q ≡ k) × (v ≡ x)) ⊎ ((q ≡ k → ⊥) × (get m q ≡ Some x))
+  now_inserted v x q h = ⊎_elim
+      (λ (e : q ≡ k). inl (e, same_item v x (sym (at_inserted v q e) ∙ h)))
+      (λ (ne : q ≡ k → ⊥). inr (ne, sym (else_inserted v q ne) ∙ h)) (is_word_same q k)
+
+  -- what is still there was there
+  pub still_there : (x : X) (q : List ℕ) → get (remove m k) q ≡ Some x → (q ≡ k → ⊥) × (get m q ≡ Some x)
+  still_there x q h = ⊎_elim
+      (λ (e : q ≡ k). let f : None ≡ Some x = sym (at_removed q e) ∙ h in absurd cc)
+      (λ (ne : q ≡ k → ⊥). (ne, sym (else_removed q ne) ∙ h)) (is_word_same q k)
