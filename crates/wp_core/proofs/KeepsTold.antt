@@ -1,9 +1,10 @@
--- Telling a label the published number keeps every part of a sound world.
-use Rattle.std.proofs.Common.{◌≡◌, ⊎_elim, inl, inr, ℕ, true, List, [], ◌∷◌, ◌++◌, length, append-nil, map, refl, sym, subst, ap, ◌∙◌, arith, Some, is_some}
+-- Putting under a label the length of what the actor saw keeps every part of a sound world.
+use Rattle.std.proofs.Common.{◌≡◌, ⊎_elim, inl, inr, ℕ, true, List, [], ◌∷◌, ◌++◌, length, map, refl, sym, subst, ap, ◌∙◌, arith, Some, is_some, ◌≤◌}
 use mathlib.Core.Option.{some}
 use lib.ListN.{get_elem?}
 use Rattle.std.specs.FinMap as finite
 use Rattle.wp_model.specs.LockTables.{LockTables}
+use Rattle.wp_core.proofs.Frames.{at_map}
 use Rattle.wp_core.proofs.AllParticipants.{mine}
 use Rattle.wp_core.proofs.KeepsSeen.{shorter}
 use Rattle.wp_core.specs.Views.{Event, told, heard, Fact}
@@ -14,7 +15,7 @@ use Rattle.wp_core.specs.Changes.{with_label}
 use Rattle.wp_core.specs.Effects.{done}
 use Rattle.wp_core.specs.Needs.{Needs}
 use Rattle.wp_core.specs.Notes.{forgets}
-use Rattle.wp_core.specs.Sound.Actors.{participants_of, seen_of}
+use Rattle.wp_core.specs.Sound.Actors.{participants_of, seen_of, learned_of}
 use Rattle.wp_core.specs.Sound.Locks.{owner_of, AreLocked}
 use Rattle.wp_core.specs.Sound.Pasts.{past_of, IsPast, AreHolders, IsBoard}
 use Rattle.wp_core.specs.IsSound.{IsSound, participants}
@@ -28,7 +29,7 @@ use Rattle.wp_core.proofs.KeepsRemembered.{at_label}
 
 module _ (w : World) (by : ℕ) (a : Actor) (label : List ℕ) (at : get_elem? w.actors by ≡ some a) (s : IsSound w) where
   abbrev n : ℕ
-  n = world.published w
+  n = length a.participant.seen
 
   abbrev e : Event
   e = told label n
@@ -37,13 +38,13 @@ module _ (w : World) (by : ℕ) (a : Actor) (label : List ℕ) (at : get_elem? w
   t = with_label w.locks label n
 
   abbrev p : Participant
-  p = record a.participant { seen = w.writes.history; past = a.participant.past ++ e ∷ [] }
+  p = record a.participant { past = a.participant.past ++ e ∷ [] }
 
   abbrev b : Actor
-  b = actor_after w by a (tell label) p [] t
+  b = actor_after w by a (tell label) p a.learned t
 
   abbrev after : List (List (List Event))
-  after = map (participants_of past_of) (actors_after w by a (tell label) p [] t)
+  after = map (participants_of past_of) (actors_after w by a (tell label) p a.learned t)
 
   told_label : (l : List ℕ) → is_some (finite.get w.locks.labels l) ≡ true → is_some (finite.get t.labels l) ≡ true
   told_label l k = ⊎_elim
@@ -56,7 +57,10 @@ module _ (w : World) (by : ℕ) (a : Actor) (label : List ℕ) (at : get_elem? w
   told_same : (l : List ℕ) (m : ℕ) → e ≡ told l m → n ≡ m
   told_same l m q = cc
 
-  board_part : IsBoard n t after
+  seen_within : n ≤ world.published w
+  seen_within = shorter w.writes.history a.participant.seen (s.seen by 0 a.participant.seen (mine seen_of w.actors by a a at refl))
+
+  board_part : IsBoard (world.published w) t after
   board_part = record {
     labels = λ l m h. ⊎_elim
         (λ (k : IsPast after (told l m)). ⊎_elim (λ (c : IsPast (participants past_of w) (told l m)). told_label l (s.board.labels l m (inl c))) (λ (q : e ≡ told l m). told_new l m q) (past_before w.actors by a b e at refl refl (told l m) k))
@@ -72,7 +76,7 @@ module _ (w : World) (by : ℕ) (a : Actor) (label : List ℕ) (at : get_elem? w
         (λ (q : e ≡ heard l m). absurd cc) (past_before w.actors by a b e at refl refl (heard l m) h);
     told = λ l m h. ⊎_elim
         (λ (c : IsPast (participants past_of w) (told l m)). s.board.told l m c)
-        (λ (q : e ≡ told l m). let same : n ≡ m = told_same l m q in omega (arith, same)) (past_before w.actors by a b e at refl refl (told l m) h);
+        (λ (q : e ≡ told l m). let same : n ≡ m = told_same l m q in let low = seen_within in omega (arith, same, low)) (past_before w.actors by a b e at refl refl (told l m) h);
   }
 
   -- no fact speaks of labels, of what was seen or of a past
@@ -85,7 +89,7 @@ module _ (w : World) (by : ℕ) (a : Actor) (label : List ℕ) (at : get_elem? w
   quiet : IsQuiet e
   quiet = record { log = refl; tables = refl; due = λ m. refl }
 
-  locked_part : AreLocked w.writes.history t (map (participants_of owner_of) (actors_after w by a (tell label) p [] t))
+  locked_part : AreLocked w.writes.history t (map (participants_of owner_of) (actors_after w by a (tell label) p a.learned t))
   locked_part =
       let k = locked_still w.actors by a b at refl (same_transactions (owner_of a.participant) (a.participant.past ++ e ∷ []) (λ x c. in_front x a.participant.past (e ∷ []) c)) w.writes.history w.locks s.locks in
       record { prepared_names = k.prepared_names; prepared_keys = k.prepared_keys; had = λ j i o there. let c = k.had j i o there in record { names = c.names; keys = c.keys; direct = c.direct }; apart = k.apart; names_had = k.names_had; names_left = k.names_left; keys_live = k.keys_live; keys_known = k.keys_known; keys_direct = k.keys_direct }
@@ -93,11 +97,11 @@ module _ (w : World) (by : ℕ) (a : Actor) (label : List ℕ) (at : get_elem? w
   holders_part : AreHolders w.opened w.writes.history t after
   holders_part = let k = holders_more w.actors by a b e at refl refl w.opened w.writes.history w.locks (λ key holder seen account q. absurd cc) (λ key holder seen account q. absurd cc) s.holders in record { names = k.names; keys = k.keys; found_keys = k.found_keys; found = k.found }
 
-  parts : LocksParts w by a (tell label) p [] t
+  parts : LocksParts w by a (tell label) p a.learned t
   parts = record {
-    seen = ([], sym (append-nil w.writes.history));
-    learned_part = (w.writes.history, refl);
-    grown = shorter w.writes.history a.participant.seen (s.seen by 0 a.participant.seen (mine seen_of w.actors by a a at refl));
+    seen = s.seen by 0 a.participant.seen (mine seen_of w.actors by a b at refl);
+    learned_part = s.learned by a.learned (at_map learned_of w.actors by a at);
+    grown = omega arith;
     own = refl;
     registered = refl;
     locks_part = locked_part;
@@ -111,4 +115,4 @@ module _ (w : World) (by : ℕ) (a : Actor) (label : List ℕ) (at : get_elem? w
 
 pub tells : (w : World) (by : ℕ) (a : Actor) (label : List ℕ) → get_elem? w.actors by ≡ some a → Needs w by a (tell label) → IsSound w
     → IsSound (done w by (forgets w.writes.history (length w.cache) (tell label) a) (tell label))
-tells w by a label at needs s = locks_change w by a (tell label) (p w by a label at s) [] (t w by a label at s) at needs (parts w by a label at s) s
+tells w by a label at needs s = locks_change w by a (tell label) (p w by a label at s) a.learned (t w by a label at s) at needs (parts w by a label at s) s

@@ -71,7 +71,7 @@ done w by a (free_key name t key) = change w by (has_transaction a name (record 
 done w by a (lock_direct key) = change w by (remembers (has_direct a (Some key)) (locked key (Client a.participant.client))) (locks (with_key w.locks key (Client a.participant.client)))
 done w by a (free_direct key) = change w by (has_direct a None) (locks (without_key w.locks key))
 done w by a (find_holder key holder account) = with_actor w by (remembers a (found key holder (length a.participant.seen) account))
-done w by a (tell label) = change w by (remembers (sees w.writes.history a) (told label (published w))) (locks (with_label w.locks label (published w)))
+done w by a (tell label) = change w by (remembers a (told label (length a.participant.seen))) (locks (with_label w.locks label (length a.participant.seen)))
 done w by a (hear label n) = with_actor w by (remembers a (heard label n))
 done w by a (set_batch name t batch) = with_actor w by (has_transaction a name (record t { batch = batch }))
 done w by a (note fact) = with_actor w by (record a { notes = fact ∷ a.notes })

@@ -84,7 +84,7 @@ pub data Step : Type 0 where
   free_direct : List ℕ → Step
   -- of a key, or else of a live name
   find_holder : Option (List ℕ) → Holder → Account → Step
-  -- a label with the published number, and the number under a label
+  -- a label with the length of what the actor saw, and the number under a label
   tell : List ℕ → Step
   hear : List ℕ → ℕ → Step
   -- ---- the actor alone
