@@ -11,3 +11,4 @@ pub mod Moments
 pub mod Opening
 pub mod Scanning
 pub mod Spelling
+pub mod Left
