@@ -4,9 +4,11 @@ use Rattle.std.specs.List.{list_any}
 use Rattle.std.specs.Str.{bytes_eq}
 use Rattle.std.proofs.lemmas.Bool.{false≢true, lt-ltb, le-ltb, le-leb, lt-leb, or_from}
 use Rattle.std.proofs.lemmas.List.Folds.{list_any-append}
+use Rattle.std.proofs.lemmas.Slice.Eq.{bytes_eq-Decides}
 use Rattle.wp_model.specs.declared.version.Version.{Version}
 use Rattle.wp_model.specs.Versions.{version_cmp}
-use Rattle.wp_keep.proofs.Order.{IsAfter, IsBefore, IsPlaced, same_version_key, bytes_eq-same, newer_number, between}
+use Rattle.wp_model.proofs.VersionLists.{IsBefore}
+use Rattle.wp_keep.proofs.Order.{IsAfter, IsPlaced, bytes_eq-same, newer_number, between}
 
 -- a version of the key is among them that passes the test
 abbrev pub any_of : List ℕ → (Version → Bool) → List Version → Bool
@@ -28,7 +30,7 @@ and_false true b c h = ap (λ x. x && c) (h refl)
 and_false false b c h = refl
 
 other_way : (a b : List ℕ) → bytes_eq a b ≡ true → bytes_eq b a ≡ true
-other_way a b h = ap (λ k. bytes_eq k a) (sym (same_version_key a b h)) ∙ bytes_eq-same a
+other_way a b h = ap (λ k. bytes_eq k a) (sym ((bytes_eq-Decides a b).0 h)) ∙ bytes_eq-same a
 
 module _ (g : Version → Bool) where
   abbrev newer_passes : Version → Version → Bool
@@ -78,7 +80,7 @@ module _ (g : Version → Bool) where
       by : (b : Bool) → bytes_eq w.key u.key ≡ b → (b && g w) ≡ false
       by false e = refl
       by true e =
-          let same = same_version_key w.key u.key e in
+          let same = (bytes_eq-Decides w.key u.key).0 e in
           let keys : v.key ≡ u.key = between w v u h.0 less same ∙ same in
           absurd (false≢true (sym other ∙ ap (λ k. bytes_eq k u.key) keys ∙ bytes_eq-same u.key))
 
@@ -89,5 +91,5 @@ module _ (g : Version → Bool) where
       by : (b : Bool) → bytes_eq w.key u.key ≡ b → (b && g w) ≡ false
       by false e = refl
       by true e =
-          let keys : v.key ≡ u.key = between u v w less h.0 (sym (same_version_key w.key u.key e)) in
+          let keys : v.key ≡ u.key = between u v w less h.0 (sym ((bytes_eq-Decides w.key u.key).0 e)) in
           absurd (false≢true (sym other ∙ ap (λ k. bytes_eq k u.key) keys ∙ bytes_eq-same u.key))

@@ -4,6 +4,7 @@ use Rattle.std.specs.Option.{option_or}
 use Rattle.std.specs.List.{list_any}
 use Rattle.std.specs.Str.{bytes_eq}
 use Rattle.std.proofs.lemmas.Bool.{false≢true, cases_lt, and_parts, and_from, or_left, or_right, not_from_false, eqb-true, eq-eqb, ltb-true, leb-true, le-leb, false_from_ne_true, and_right}
+use Rattle.std.proofs.lemmas.Slice.Eq.{bytes_eq-Decides}
 use Rattle.wp_model.specs.declared.entry.Entry.{Entry}
 use Rattle.wp_model.specs.History.{is_undecided}
 use Rattle.wp_model.specs.Legal.{IsLegal}
@@ -13,9 +14,10 @@ use Rattle.wp_model.specs.Versions.{version_at}
 use Rattle.wp_keep.specs.Keep.{has_newer, stays, staying, is_settled_deletion, remains, kept_of}
 use Rattle.wp_keep.specs.MayGo.{DecidesAt, MayGo}
 use Rattle.wp_model.specs.Covered.{GivesNewest, GivesNone, GivesStore, is_among, IsCovered}
-use Rattle.wp_keep.proofs.Order.{in_order_filter, same_version_key, bytes_eq-same}
+use Rattle.wp_keep.proofs.Order.{in_order_filter, bytes_eq-same}
 use Rattle.wp_keep.proofs.Lookups.{version, at_both, any_mono, any_found, at_filter, passed_filter, in_filtered, finds}
-use Rattle.wp_keep.proofs.Undone.{undecided_uncommitted, entry_past, UndoesLast, undoes_last}
+use Rattle.wp_model.proofs.Entries.{entry_at_past}
+use Rattle.wp_keep.proofs.Undone.{undecided_uncommitted, UndoesLast, undoes_last}
 
 -- ---- lists and options
 
@@ -82,7 +84,7 @@ module _ (committed : ℕ → ℕ → Bool) (history : List Entry) (newer versio
       let it = finds (λ w. bytes_eq w.key key && (nat_lt p w.number && committed w.number n)) versions h in
       let parts = and_parts (bytes_eq it.found.key key) (nat_lt p it.found.number && committed it.found.number n) it.passes in
       let tests = and_parts (nat_lt p it.found.number) (committed it.found.number n) parts.1 in
-      none it.found.number it.value (ltb-true p it.found.number tests.0) (ap (λ k. version_at versions k it.found.number) (sym (same_version_key it.found.key key parts.0)) ∙ it.there) tests.1)
+      none it.found.number it.value (ltb-true p it.found.number tests.0) (ap (λ k. version_at versions k it.found.number) (sym ((bytes_eq-Decides it.found.key key).0 parts.0)) ∙ it.there) tests.1)
 
   stays_newest : (key : List ℕ) (p n : ℕ) (value : Option (List ℕ)) → version_at versions key p ≡ Some value → committed p n ≡ true → NoneAbove key p n → is_among (floor ∷ snapshots) n ≡ true → version_at stayed key p ≡ Some value
   stays_newest key p n value e there none listed =
@@ -231,7 +233,7 @@ module _ (committed : ℕ → ℕ → Bool) (history : List Entry) (newer versio
           where
             at : (o : Option (Option (List ℕ))) → version_at (newer ++ versions) key q ≡ o → o ≡ None
             at None e = refl
-            at (Some x) e = let some = covered.part key q x e in let none = ap (λ (o : Option Entry). decision.version_in o key) (entry_past history q lt) in absurd cc
+            at (Some x) e = let some = covered.part key q x e in let none = ap (λ (o : Option Entry). decision.version_in o key) (entry_at_past history q lt) in absurd cc
 
         stays_ : version_at stayed key (length history) ≡ Some value
         stays_ = stays_from key (length history) floor value (omega arith) here past

@@ -4,11 +4,13 @@ use Rattle.std.specs.List.{filter}
 use Rattle.std.specs.Str.{bytes_eq}
 use Rattle.std.proofs.lemmas.Bool.{or_parts}
 use Rattle.std.proofs.lemmas.List.{reverse-append}
+use Rattle.std.proofs.lemmas.Slice.Eq.{bytes_eq-Decides}
 use Rattle.wp_model.specs.declared.version.Version.{Version}
 use Rattle.wp_model.specs.Versions.{AreInOrder}
 use Rattle.wp_keep.specs.Keep.{is_settled_deletion, remains}
 use Rattle.wp_keep.specs.Newer.{starts_with_key}
-use Rattle.wp_keep.proofs.Order.{IsBefore, placed_version, same_version_key}
+use Rattle.wp_model.proofs.VersionLists.{IsBefore}
+use Rattle.wp_keep.proofs.Order.{placed_version}
 use Rattle.wp_keep.proofs.Any.{any_of, any_older, none_ahead}
 
 module _ (committed : ℕ → ℕ → Bool) (all : List Version) (floor : ℕ) where
@@ -24,7 +26,7 @@ module _ (committed : ℕ → ℕ → Bool) (all : List Version) (floor : ℕ) w
   first_key_more front v back split order u before true e rest = at_key (bytes_eq v.key u.key) refl e
     where
       at_key : (b : Bool) → bytes_eq v.key u.key ≡ b → true ≡ (says v || any_of v.key says back) → b ≡ ((b && says v) || any_of u.key says back)
-      at_key true same e = e ∙ ap (λ k. says v || any_of k says back) (same_version_key v.key u.key same)
+      at_key true same e = e ∙ ap (λ k. says v || any_of k says back) ((bytes_eq-Decides v.key u.key).0 same)
       at_key false other e = sym (none_ahead says v u back (placed_version front v back (subst AreInOrder split order)).before before.0 other)
   first_key_more front v back split order u before false e rest = rest ∙ beyond (bytes_eq v.key u.key) (or_parts (says v) (any_of v.key says back) (sym e)).0
     where

@@ -7,11 +7,12 @@ use Rattle.std.specs.Ordering.{nat_cmp}
 use Rattle.std.specs.FinMap as map
 use Rattle.std.proofs.lemmas.List.Folds.{list_any-append}
 use Rattle.std.proofs.lemmas.List.Elements.{filter-append}
+use Rattle.std.proofs.lemmas.Slice.Eq.{bytes_eq-Decides}
 use Rattle.wp_model.specs.declared.version.Version.{Version}
 use Rattle.wp_model.specs.Versions.{AreInOrder, version_cmp}
 use Rattle.wp_keep.specs.Keep.{is_by, by_commits, has_newer, is_needed, stays}
 use Rattle.wp_keep.specs.Newer.{is_above}
-use Rattle.wp_keep.proofs.Order.{IsAfter, placed_version, after_parts, same_version_key}
+use Rattle.wp_keep.proofs.Order.{IsAfter, placed_version, after_parts}
 use Rattle.wp_keep.proofs.Any.{any_of, any_newer, none_passed}
 
 abbrev pub Commits : Type 0
@@ -58,7 +59,7 @@ noted_more commits front v noted next commit is note after had = record { each =
           where
             at_key : (b : Bool) → bytes_eq v.key u.key ≡ b → (b && (is_above noted v.key n || is_by commit n)) ≡ (any_of u.key (λ w. by_commits commits w.number n) front || ((b && by_commits commits v.number n) || false))
             at_key true same =
-                let keys = same_version_key v.key u.key same in
+                let keys = (bytes_eq-Decides v.key u.key).0 same in
                 (λ i. had.each v after n i || is_by (is i) n)
                 ∙ ap (λ k. any_of k (λ w. by_commits commits w.number n) front || by_commits commits v.number n) keys
                 ∙ or_last (any_of u.key (λ w. by_commits commits w.number n) front) (by_commits commits v.number n)

@@ -30,9 +30,9 @@ use Rattle.wp_session.specs.Due.{Store, logged, reply_to, due, IsReply, logged_e
 use Rattle.wp_session.specs.Moments.{store_at, IsDueFrom, AreDueFrom}
 use Rattle.wp_session.specs.Session.{IsSession}
 use Rattle.wp_session.proofs.Found.{found_holder, found_named}
-use Rattle.wp_session.proofs.PlanLemmas.{undecided_within}
+use Rattle.wp_model.proofs.Entries.{undecided_within, batch_at_old}
 use Rattle.wp_session.proofs.SaidLemmas.{within_same, within_filter, within_more, number_within}
-use Rattle.wp_session.proofs.Rows.{slice_get_more, batch_old, snapshots_after}
+use Rattle.wp_session.proofs.Rows.{slice_get_more, snapshots_after}
 
 -- ---- the history at a moment
 
@@ -216,7 +216,7 @@ own_in {client = client} s key = by client.txn s.txn
     by (Open name batch) within = (tt, refl)
     by (Prepared p) within =
         let published : p ≤ length (front s) = omega (arith, front_size s, within, s.given.earlier) in
-        let same : batch_at s.h p ≡ batch_at (front s) p = subst (λ (xs : List Entry). batch_at xs p ≡ batch_at (front s) p) (take-append-drop s.given.before s.h) (batch_old (front s) (drop s.given.before s.h) p published) in
+        let same : batch_at s.h p ≡ batch_at (front s) p = subst (λ (xs : List Entry). batch_at xs p ≡ batch_at (front s) p) (take-append-drop s.given.before s.h) (batch_at_old (front s) (drop s.given.before s.h) p published) in
         (omega (arith, within, s.given.earlier, s.given.grows, s.given.within), ap (λ (b : List Change). change_to b key) same)
 
 get_allowed : {client : Client} {answer : Reply} (key : List ℕ) (s : Scene client (command.Get key) answer) → IsAllowed s
@@ -272,14 +272,11 @@ free_allowed {client = client} label s = by (number_of client.snapshots label) r
 
 -- ---- transactions
 
-same_bytes : (xs ys : List ℕ) → bytes_eq xs ys ≡ true → xs ≡ ys
-same_bytes xs ys is = (bytes_eq-Decides xs ys).0 is
-
 was_in : {client : Client} {c : Command} {answer : Reply} (s : Scene client c answer) (name : List ℕ) (p : ℕ) → named (front s) name ≡ Some p → WasUndecided s.h s.last name p
 was_in s name p is =
     let found = found_named (front s) name p is in
     let fresh = front_fresh s in
-    record { at = s.given.before; fresh = (omega (arith, fresh.0, front_size s), omega (arith, fresh.1, front_size s)); undecided = found.0; named = same_bytes _ _ found.1 }
+    record { at = s.given.before; fresh = (omega (arith, fresh.0, front_size s), omega (arith, fresh.1, front_size s)); undecided = found.0; named = (bytes_eq-Decides _ _).0 found.1 }
 
 begin_allowed : {client : Client} {answer : Reply} (name : List ℕ) (s : Scene client (command.Begin name) answer) → IsAllowed s
 begin_allowed {client = client} name s = by client.txn refl

@@ -11,6 +11,7 @@ use Rattle.wp_model.specs.declared.entry.Entry.TheVariants as entry
 use Rattle.wp_model.specs.Batch.{key_of, is_batch}
 use Rattle.wp_model.specs.History.{entry_at, batch_at, is_prepare, is_undecided, named, holder_of}
 use Rattle.wp_model.specs.Legal.{changes_in, IsLegal, IsLegalNext, undone_last, AreFree, prior}
+use Rattle.wp_model.proofs.Entries.{undecided_within}
 use Rattle.wp_text.specs.declared.script.Command.{Command}
 use Rattle.wp_text.specs.declared.script.Command.TheVariants as command
 use Rattle.wp_text.specs.declared.reply.Reply.{Reply}
@@ -34,14 +35,6 @@ abbrev pub Follows : Type 0
 Follows = (h : List Entry) (p : ℕ) (batch : List Change) → IsLegalNext h (entry.Undo p batch) → IsLegalNext (h ++ entry.Undo p batch ∷ []) (entry.Close p)
 
 -- ---- entries that may be logged next
-
-prepared_within : (h : List Entry) (p : ℕ) (e : Option Entry) → entry_at h p ≡ e → is_prepare e ≡ true → (1 ≤ p) × (p ≤ length h)
-prepared_within h zero (Some e) at is = absurd cc
-prepared_within h (suc p) (Some e) at is = let lt = slice_get_within h p e at in (omega arith, omega (arith, lt))
-prepared_within h p None at is = absurd cc
-
-pub undecided_within : (h : List Entry) (p : ℕ) → is_undecided h p ≡ true → (1 ≤ p) × (p ≤ length h)
-undecided_within h p is = prepared_within h p (entry_at h p) refl (and_parts _ _ is).0
 
 write_next : LastIs → (h : List Entry) (batch : List Change) → undone_last h ≡ None → is_batch batch ≡ true → AreFree h batch → AreNext h (entry.Write batch ∷ [])
 write_next last h batch closed whole free = record {

@@ -5,6 +5,7 @@ use Rattle.std.proofs.lemmas.List.{take-append-le}
 use Rattle.wp_model.specs.declared.entry.Entry.{Entry}
 use Rattle.wp_model.specs.Batch.{change_to}
 use Rattle.wp_model.specs.History.{entry_at, prepared_batch, name_at, batch_at, is_undecided, is_changed, named, newest}
+use Rattle.wp_model.proofs.Entries.{batch_at_old}
 use Rattle.wp_text.specs.declared.script.Command.{Command}
 use Rattle.wp_text.specs.declared.script.Command.TheVariants as command
 use Rattle.wp_text.specs.declared.reply.Reply.{Reply}
@@ -27,18 +28,6 @@ slice_get_more (y ∷ xs) ys (suc k) x e = slice_get_more xs ys k x e
 entry_more : (h more : List Entry) (n : ℕ) (e : Entry) → entry_at h n ≡ Some e → entry_at (h ++ more) n ≡ Some e
 entry_more h more zero e is = absurd cc
 entry_more h more (suc n) e is = slice_get_more h more n e is
-
-slice_get_old : (xs ys : List Entry) (k : ℕ) → suc k ≤ length xs → slice_get (xs ++ ys) k ≡ slice_get xs k
-slice_get_old [] ys k le = absurd (omega arith)
-slice_get_old (x ∷ xs) ys zero le = refl
-slice_get_old (x ∷ xs) ys (suc k) le = slice_get_old xs ys k (omega arith)
-
-entry_old : (h more : List Entry) (p : ℕ) → p ≤ length h → entry_at (h ++ more) p ≡ entry_at h p
-entry_old h more zero le = refl
-entry_old h more (suc p) le = slice_get_old h more p le
-
-pub batch_old : (h more : List Entry) (p : ℕ) → p ≤ length h → batch_at (h ++ more) p ≡ batch_at h p
-batch_old h more p le = ap prepared_batch (entry_old h more p le)
 
 longer : (h more : List Entry) (n : ℕ) → n ≤ length h → n ≤ length (h ++ more)
 longer h more n le = omega (arith, le, length-append h more)
@@ -75,7 +64,7 @@ taken_more h more P Q f last name (inr claim) = inr (f (HasName name) claim)
 own_more : (h more : List Entry) (txn : Txn) (key : List ℕ) (said : Option (Option (List ℕ))) → OwnSays h txn key said → OwnSays (h ++ more) txn key said
 own_more h more Idle key said s = s
 own_more h more (Open name batch) key said s = s
-own_more h more (Prepared p) key said s = (longer h more p s.0, ap (λ b. change_to b key) (batch_old h more p s.0) ∙ s.1)
+own_more h more (Prepared p) key said s = (longer h more p s.0, ap (λ b. change_to b key) (batch_at_old h more p s.0) ∙ s.1)
 
 value_more : (h more : List Entry) (key : List ℕ) (n : ℕ) (value : Option (List ℕ)) → n ≤ length h → newest (take n h) key ≡ value → newest (take n (h ++ more)) key ≡ value
 value_more h more key n value le is = front_more (λ f. newest f key ≡ value) h more n le is
