@@ -2,7 +2,6 @@
 use Rattle.std.proofs.Common.{◌≡◌, ℕ, zero, suc, ◌+◌, ◌-◌, ◌≤◌, ◌<◌, ◌⊎◌, true, false, List, [], ◌∷◌, ◌++◌, length, take, drop, Option, Some, None, refl, sym, ap, ◌∙◌, subst, append_assoc, length-append, arith, inl, inr}
 use Rattle.std.specs.Prelude.{IfSome, slice_get, is_some, nat_le, nat_lt, unwrap_or}
 use Rattle.std.proofs.lemmas.Bool.{cases_Bool, eq-eqb, ltb-true}
-use Rattle.std.specs.Str.{bytes_eq}
 use Rattle.std.proofs.lemmas.Slice.Eq.{bytes_eq-Decides}
 use Rattle.std.proofs.lemmas.List.{take-append-drop}
 use Rattle.wp_model.specs.declared.change.Change.{Change}

@@ -1,15 +1,14 @@
 -- What the commands come to: entries that may be logged next, and replies that acknowledge just them.
-use Rattle.std.proofs.Common.{◌≡◌, ℕ, zero, suc, ◌+◌, ◌-◌, ◌≤◌, true, List, [], ◌∷◌, ◌++◌, length, Option, Some, None, refl, sym, ap, subst, arith, inl, inr}
+use Rattle.std.proofs.Common.{◌≡◌, ℕ, ◌+◌, ◌-◌, ◌≤◌, true, List, [], ◌∷◌, ◌++◌, length, Option, Some, None, refl, sym, ap, subst, arith, inl, inr}
 use Rattle.std.specs.Prelude.{IfSome}
 use Rattle.std.specs.List.{range_with_len}
-use Rattle.std.proofs.lemmas.Bool.{and_parts, cases_Bool}
-use Rattle.std.proofs.lemmas.Option.{slice_get_within}
+use Rattle.std.proofs.lemmas.Bool.{cases_Bool}
 use Rattle.wp_model.specs.declared.change.Change.{Change}
 use Rattle.wp_model.specs.declared.change.Change.TheVariants as change
 use Rattle.wp_model.specs.declared.entry.Entry.{Entry}
 use Rattle.wp_model.specs.declared.entry.Entry.TheVariants as entry
 use Rattle.wp_model.specs.Batch.{key_of, is_batch}
-use Rattle.wp_model.specs.History.{entry_at, batch_at, is_prepare, is_undecided, named, holder_of}
+use Rattle.wp_model.specs.History.{batch_at, is_undecided, named, holder_of}
 use Rattle.wp_model.specs.Legal.{changes_in, IsLegal, IsLegalNext, undone_last, AreFree, prior}
 use Rattle.wp_model.proofs.Entries.{undecided_within}
 use Rattle.wp_text.specs.declared.script.Command.{Command}

@@ -4,7 +4,7 @@ use Rattle.std.specs.Prelude.{slice_get}
 use Rattle.std.proofs.lemmas.List.{take-append-le}
 use Rattle.wp_model.specs.declared.entry.Entry.{Entry}
 use Rattle.wp_model.specs.Batch.{change_to}
-use Rattle.wp_model.specs.History.{entry_at, prepared_batch, name_at, batch_at, is_undecided, is_changed, named, newest}
+use Rattle.wp_model.specs.History.{entry_at, name_at, batch_at, is_undecided, is_changed, named, newest}
 use Rattle.wp_model.proofs.Entries.{batch_at_old}
 use Rattle.wp_text.specs.declared.script.Command.{Command}
 use Rattle.wp_text.specs.declared.script.Command.TheVariants as command
