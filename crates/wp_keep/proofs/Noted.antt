@@ -93,14 +93,14 @@ noted_at commits all i v noted next commit order within is own note had =
     subst (λ vs. HasNoted commits vs next) (sym (take_next all i v within is)) (noted_more commits (take i all) v noted next commit own note place.after had)
 
 -- the versions so far, and this one where it is needed
-pub kept_at : (commits : Commits) (all : List Version) (i : ℕ) (v : Version) (snapshots : List ℕ) (floor : ℕ) (noted : Option (List ℕ × ℕ)) (commit above : Option ℕ) (needed : Bool) (kept next : List Version) → AreInOrder all → i < length all → v ≡ get_or all i v → HasNoted commits (take i all) noted → commit ≡ map.get commits v.number → ((n : ℕ) → is_by above n ≡ is_above noted v.key n) → needed ≡ is_needed (is_by commit) (is_by above) snapshots floor → kept ≡ filter (stays (by_commits commits) all snapshots floor) (take i all) → next ≡ cond needed (kept ++ v ∷ []) kept → next ≡ filter (stays (by_commits commits) all snapshots floor) (take (i + 1) all)
-kept_at commits all i v snapshots floor noted commit above needed kept next order within is had own tells test before pushed =
+pub retained_at : (commits : Commits) (all : List Version) (i : ℕ) (v : Version) (snapshots : List ℕ) (floor : ℕ) (noted : Option (List ℕ × ℕ)) (commit above : Option ℕ) (needed : Bool) (retained next : List Version) → AreInOrder all → i < length all → v ≡ get_or all i v → HasNoted commits (take i all) noted → commit ≡ map.get commits v.number → ((n : ℕ) → is_by above n ≡ is_above noted v.key n) → needed ≡ is_needed (is_by commit) (is_by above) snapshots floor → retained ≡ filter (stays (by_commits commits) all snapshots floor) (take i all) → next ≡ cond needed (retained ++ v ∷ []) retained → next ≡ filter (stays (by_commits commits) all snapshots floor) (take (i + 1) all)
+retained_at commits all i v snapshots floor noted commit above needed retained next order within is had own tells test before pushed =
     pushed
     ∙ by needed (test ∙ stays_by commits all (take i all) v (drop (suc i) all) snapshots floor noted commit above (split_at all i v within is) order had own tells)
     ∙ ap (λ vs. vs ++ filter (stays (by_commits commits) all snapshots floor) (v ∷ [])) before
     ∙ sym (filter-append (stays (by_commits commits) all snapshots floor) (take i all) (v ∷ []))
     ∙ ap (filter (stays (by_commits commits) all snapshots floor)) (sym (take_next all i v within is))
   where
-    by : (b : Bool) → b ≡ stays (by_commits commits) all snapshots floor v → cond b (kept ++ v ∷ []) kept ≡ kept ++ cond (stays (by_commits commits) all snapshots floor v) (v ∷ []) []
-    by true e = ap (λ c. kept ++ cond c (v ∷ []) []) e
-    by false e = sym (append-nil kept) ∙ ap (λ c. kept ++ cond c (v ∷ []) []) e
+    by : (b : Bool) → b ≡ stays (by_commits commits) all snapshots floor v → cond b (retained ++ v ∷ []) retained ≡ retained ++ cond (stays (by_commits commits) all snapshots floor v) (v ∷ []) []
+    by true e = ap (λ c. retained ++ cond c (v ∷ []) []) e
+    by false e = sym (append-nil retained) ∙ ap (λ c. retained ++ cond c (v ∷ []) []) e

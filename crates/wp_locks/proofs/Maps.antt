@@ -63,9 +63,9 @@ module _ {X : Type 0} where
 
   -- with what is there already a map is as it was
   pub insert_same : (m : FinMap key_cmp X) (k : List ℕ) (v : X) → get m k ≡ Some v → insert m k v ≡ m
-  insert_same m k v stood =
+  insert_same m k v had =
       same_map nat_list_cmp_total (slice_cmp-IsAntisymmetric nat_cmp-IsAntisymmetric) _ _ (λ q. get-insert nat_list_cmp_total m k v q ∙ by q (eq_by_cmp key_cmp q k) refl)
     where
       by : (q : List ℕ) (b : Bool) → eq_by_cmp key_cmp q k ≡ b → cond b (Some v) (get m q) ≡ get m q
-      by q true is = sym stood ∙ ap (get m) (sym (same_key q k is))
+      by q true is = sym had ∙ ap (get m) (sym (same_key q k is))
       by q false is = refl

@@ -34,9 +34,6 @@ use Rattle.wp_memtable.specs.Memtable.{Places, HavePlaces, under, versions_in, A
 bytes_eq-back : (a b : List ℕ) → bytes_eq a b ≡ bytes_eq b a
 bytes_eq-back a b = sym (is_eq-slice_cmp a b) ∙ (eq_by_cmp_equiv nat_list_cmp_total).symm a b ∙ is_eq-slice_cmp b a
 
-bytes_eq-same : (a : List ℕ) → bytes_eq a a ≡ true
-bytes_eq-same a = (bytes_eq-Decides a a).1 refl
-
 at_key : (key k : List ℕ) → is_at (key_cmp key) k ≡ bytes_eq k key
 at_key key k = is_eq-slice_cmp key k ∙ bytes_eq-back key k
 
@@ -228,7 +225,7 @@ length-versions_in e es = length-append (under e.0 e.1.versions) (versions_in es
 
 pub is_change_to : (changes : List Change) (i : ℕ) (c : Change) → i < length changes → c ≡ get_or changes i c → is_some (change_to changes (key_of c)) ≡ true
 is_change_to [] i c within is = absurd (omega arith)
-is_change_to (x ∷ xs) zero c within is = rw (ap (λ (k : List ℕ). bytes_eq k (key_of c)) (ap key_of (sym is)) ∙ bytes_eq-same (key_of c)) refl
+is_change_to (x ∷ xs) zero c within is = rw (ap (λ (k : List ℕ). bytes_eq k (key_of c)) (ap key_of (sym is)) ∙ (bytes_eq-Decides (key_of c) (key_of c)).1 refl) refl
 is_change_to (x ∷ xs) (suc i) c within is = by (bytes_eq (key_of x) (key_of c)) (is_change_to xs i c (omega arith) is)
   where
     by : (b : Bool) → is_some (change_to xs (key_of c)) ≡ true → is_some (cond b (Some (value_of x)) (change_to xs (key_of c))) ≡ true
