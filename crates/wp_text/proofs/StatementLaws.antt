@@ -3,6 +3,7 @@ use Rattle.std.proofs.Common.{◌≡◌, ℕ, Bool, true, false, ◌&&◌, List,
 use Rattle.std.specs.List.{find}
 use Rattle.std.specs.Str.{bytes_eq}
 use Rattle.std.specs.Cmp.Lexicographic.{same_text}
+use Rattle.wp_model.specs.declared.word.TheConstants.{MOST_KEY_BYTES, MOST_NAME_BYTES, MOST_VALUE_BYTES}
 use Rattle.wp_model.specs.Word.{is_word}
 use Rattle.wp_text.specs.declared.fault.Why.{Why}
 use Rattle.wp_text.specs.declared.fault.Why.TheVariants.{BadCommand, BadWord}
@@ -161,29 +162,29 @@ get_at_read key at name =
     elim (either (bytes_eq at (codes "at"))) [
       | inl so ↦
           let is : at ≡ codes "at" = same_text at (codes "at") (sym so) in
-          rw so (two_words_read 64 32 (codes "get" ∷ key ∷ at ∷ name ∷ []) (key ∷ name ∷ []) (λ a b. statement.Command (command.GetAt a b)) (λ a b e. (cc, refl)))
+          rw so (two_words_read MOST_KEY_BYTES MOST_NAME_BYTES (codes "get" ∷ key ∷ at ∷ name ∷ []) (key ∷ name ∷ []) (λ a b. statement.Command (command.GetAt a b)) (λ a b e. (cc, refl)))
       | inr other ↦ rw other (record { takes = λ s e. absurd cc; fails = λ why e. inl cc })
     ]
 
 get_read : (words : List (List ℕ)) → ReadsStatement (codes "get" ∷ words) (get_with words)
 unfolding get_with
 get_read (key ∷ at ∷ name ∷ []) = get_at_read key at name
-get_read words = one_word_read 64 (codes "get") (λ w. statement.Command (command.Get w)) (λ w. (refl, refl)) words
+get_read words = one_word_read MOST_KEY_BYTES (codes "get") (λ w. statement.Command (command.Get w)) (λ w. (refl, refl)) words
 
 after_keyword : (k : Keyword) (words : List (List ℕ)) → ReadsStatement (keyword_text k ∷ words) (statement_with k words)
 unfolding statement_with
-after_keyword keyword.Client words = one_word_read 32 (keyword_text keyword.Client) (λ w. statement.Client w) (λ w. (refl, refl)) words
-after_keyword keyword.Put words = two_words_read 64 256 (keyword_text keyword.Put ∷ words) words (λ a b. statement.Command (command.Put a b)) (λ a b e. (ap (λ (x : List (List ℕ)). keyword_text keyword.Put ∷ x) e, refl))
-after_keyword keyword.Del words = one_word_read 64 (keyword_text keyword.Del) (λ w. statement.Command (command.Del w)) (λ w. (refl, refl)) words
+after_keyword keyword.Client words = one_word_read MOST_NAME_BYTES (keyword_text keyword.Client) (λ w. statement.Client w) (λ w. (refl, refl)) words
+after_keyword keyword.Put words = two_words_read MOST_KEY_BYTES MOST_VALUE_BYTES (keyword_text keyword.Put ∷ words) words (λ a b. statement.Command (command.Put a b)) (λ a b e. (ap (λ (x : List (List ℕ)). keyword_text keyword.Put ∷ x) e, refl))
+after_keyword keyword.Del words = one_word_read MOST_KEY_BYTES (keyword_text keyword.Del) (λ w. statement.Command (command.Del w)) (λ w. (refl, refl)) words
 after_keyword keyword.Get words = get_read words
-after_keyword keyword.Snap words = one_word_read 32 (keyword_text keyword.Snap) (λ w. statement.Command (command.Snap w)) (λ w. (refl, refl)) words
-after_keyword keyword.Free words = one_word_read 32 (keyword_text keyword.Free) (λ w. statement.Command (command.Free w)) (λ w. (refl, refl)) words
-after_keyword keyword.Begin words = one_word_read 32 (keyword_text keyword.Begin) (λ w. statement.Command (command.Begin w)) (λ w. (refl, refl)) words
+after_keyword keyword.Snap words = one_word_read MOST_NAME_BYTES (keyword_text keyword.Snap) (λ w. statement.Command (command.Snap w)) (λ w. (refl, refl)) words
+after_keyword keyword.Free words = one_word_read MOST_NAME_BYTES (keyword_text keyword.Free) (λ w. statement.Command (command.Free w)) (λ w. (refl, refl)) words
+after_keyword keyword.Begin words = one_word_read MOST_NAME_BYTES (keyword_text keyword.Begin) (λ w. statement.Command (command.Begin w)) (λ w. (refl, refl)) words
 after_keyword keyword.Prepare words = alone_read (keyword_text keyword.Prepare) command.Prepare (refl, refl) words
 after_keyword keyword.Commit words = alone_read (keyword_text keyword.Commit) command.Commit (refl, refl) words
 after_keyword keyword.Rollback words = alone_read (keyword_text keyword.Rollback) command.Rollback (refl, refl) words
 after_keyword keyword.Leave words = alone_read (keyword_text keyword.Leave) command.Leave (refl, refl) words
-after_keyword keyword.Take words = one_word_read 32 (keyword_text keyword.Take) (λ w. statement.Command (command.Take w)) (λ w. (refl, refl)) words
+after_keyword keyword.Take words = one_word_read MOST_NAME_BYTES (keyword_text keyword.Take) (λ w. statement.Command (command.Take w)) (λ w. (refl, refl)) words
 
 -- ---- all words of a line
 
