@@ -2,6 +2,8 @@
 use Rattle.std.proofs.Common.{◌≡◌, inl, inr, ℕ, zero, suc, ◌+◌, ◌≤◌, max, List, [], ◌∷◌, ◌++◌, map, length, take, drop, Option, None, Some, Result, Ok, Err, OnOk, OnErr, refl, sym, ◌∙◌, ap, subst, arith, length-append, length-drop, length-take}
 use Rattle.std.proofs.lemmas.List.{append-nil, append_assoc, drop_all, take-map, take_at, length-map}
 use Rattle.wp_outside.specs.Disk.{Moment, Matches, IsImage, synced, put, hide, hide_at, after_write, after_cut, after_sync, IfKnown, added, Tears, Each, Passes, images}
+use Rattle.wp_outside.specs.Images.{matches_itself}
+use Rattle.wp_outside.proofs.Moments.{image_of_synced}
 use Rattle.wp_gatelog.specs.Moments.{Leaves, Goes}
 
 -- ---- moments, one after another
@@ -51,10 +53,6 @@ known_as ms x y is known = subst (λ (z : List ℕ). IfKnown ms (λ m. m ≡ syn
 
 -- ---- bytes of which all are sure
 
-pub matches_self : (xs : List ℕ) → Matches (map (λ b. Some b) xs) xs
-matches_self [] = tt
-matches_self (x ∷ xs) = (refl, matches_self xs)
-
 -- an image begins with what is sure, and its rest matches the rest
 matches_front : (xs : List ℕ) (sure : List (Option ℕ)) (c : List ℕ) → Matches (map (λ b. Some b) xs ++ sure) c → (d : List ℕ) × (c ≡ xs ++ d) × Matches sure d
 matches_front [] sure c h = (c, refl, h)
@@ -63,14 +61,8 @@ matches_front (x ∷ xs) sure (b ∷ c) h =
     let rest = matches_front xs sure c h.1 in
     (rest.0, (λ i. h.0 i ∷ rest.1 i), rest.2)
 
-pub image_of_synced : (xs c : List ℕ) → IsImage (synced xs) c → c ≡ xs
-image_of_synced [] [] h = refl
-image_of_synced [] (b ∷ c) h = absurd (omega (arith, h.1))
-image_of_synced (x ∷ xs) [] h = absurd h.0
-image_of_synced (x ∷ xs) (b ∷ c) h = λ i. h.0.0 i ∷ image_of_synced xs c (h.0.1, omega (arith, h.1)) i
-
 hide_front : (bytes old : List ℕ) → Matches (hide (length bytes) (map (λ b. Some b) old)) (bytes ++ drop (length bytes) old)
-hide_front [] old = matches_self old
+hide_front [] old = matches_itself old
 hide_front (b ∷ bytes) [] = tt
 hide_front (b ∷ bytes) (x ∷ old) = hide_front bytes old
 
@@ -86,12 +78,12 @@ length-put (suc at) bytes (x ∷ old) = omega (arith, length-put at bytes old)
 
 -- what a read gives after a write or a cut is one of the images
 pub write_reads_image : (at : ℕ) (bytes before : List ℕ) → IsImage (after_write at bytes (synced before)) (after_write at bytes (synced before)).reads
-write_reads_image at [] before = (matches_self before, omega arith)
+write_reads_image at [] before = (matches_itself before, omega arith)
 write_reads_image at (b ∷ bytes) before = (hide_put at (b ∷ bytes) before, length-put at (b ∷ bytes) before)
 
 pub cut_reads_image : (len : ℕ) (before : List ℕ) → IsImage (after_cut len (synced before)) (after_cut len (synced before)).reads
 cut_reads_image len before =
-    (subst (λ (s : List (Option ℕ)). Matches s (take len before)) (sym (take-map (λ b. Some b) len before)) (matches_self (take len before)), omega (arith, length-take len before))
+    (subst (λ (s : List (Option ℕ)). Matches s (take len before)) (sym (take-map (λ b. Some b) len before)) (matches_itself (take len before)), omega (arith, length-take len before))
 
 -- ---- one step and its sync, from a disk that has all of its bytes for good
 

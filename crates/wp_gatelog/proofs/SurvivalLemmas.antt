@@ -3,6 +3,7 @@ use Rattle.std.proofs.Common.{◌≡◌, ◌≢◌, inl, inr, ℕ, List, [], ◌
 use Rattle.std.proofs.lemmas.Bool.{cases_eq}
 use Rattle.std.proofs.lemmas.List.{append_assoc, map_push}
 use Rattle.wp_outside.specs.Disk.{Moment, IfKnown, IsImage, images, Each, Passes}
+use Rattle.wp_outside.proofs.Moments.{image_of_synced}
 use Rattle.wp_gatelog.specs.Log.{IsAcknowledged, IsAtRest, BeforeOrAfter, Grows}
 use Rattle.wp_gatelog.specs.Repair.{HasFront, IsRepaired}
 use Rattle.wp_gatelog.specs.Moments.{Leaves, Goes}
@@ -10,7 +11,7 @@ use Rattle.wp_gatelog.specs.Opening.{HasMost, Survives, Repairs, SurvivesThrough
 use Rattle.wp_gatelog.specs.Spelling.{Gated, IsOpen, framed, identity, all_gated, log_of, records_of, IsUnmade, Spells}
 use Rattle.wp_gatelog.proofs.AppendLemmas.{records_more, log_more, log_longer}
 use Rattle.wp_gatelog.proofs.RepairLemmas.{each_but_last}
-use Rattle.wp_gatelog.proofs.MomentLemmas.{goes_map, left_now, image_of_synced}
+use Rattle.wp_gatelog.proofs.MomentLemmas.{goes_map, left_now}
 
 -- ---- gates of any byte
 

@@ -1,4 +1,4 @@
-pub mod Answers
+pub mod Opens
 pub mod Append
 pub mod Changes
 pub mod Damage

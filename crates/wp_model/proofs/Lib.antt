@@ -1,1 +1,3 @@
 pub mod BatchLemmas
+pub mod Entries
+pub mod VersionLists

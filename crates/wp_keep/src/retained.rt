@@ -1,5 +1,5 @@
 ghost use Rattle.std.specs.Prelude.{◌≡◌, IfOk};
-ghost use Rattle.wp_keep.specs.Keep.{is_committed, kept_of};
+ghost use Rattle.wp_keep.specs.Keep.{is_committed, retained_of};
 
 use crate::commits::Commits;
 use crate::pair::Pair;
@@ -17,10 +17,10 @@ pub fn keep(
     snapshots: &[Seq],
     floor: Seq,
 ) -> Result<Versions, AllocError>
-    ensures kept { IfOk result (λ kept. kept ≡ kept_of (is_committed committed.now) versions.now snapshots.now floor) }
+    ensures retained { IfOk result (λ retained. retained ≡ retained_of (is_committed committed.now) versions.now snapshots.now floor) }
 {
     let commits = Commits::of(alloc, committed)?;
     let staying = staying(alloc, versions.as_slice(), &commits, snapshots, floor)?;
-    let kept = remaining(alloc, staying, &commits, floor)?;
-    Ok(Versions::of(kept))
+    let retained = remaining(alloc, staying, &commits, floor)?;
+    Ok(Versions::of(retained))
 }

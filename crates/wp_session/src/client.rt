@@ -1,7 +1,7 @@
 ghost use Rattle.std.specs.Prelude.{◌≡◌, false, nat_le, length, OnOk};
 ghost use Rattle.wp_model.specs.Batch.{key_of, with_change};
 ghost use Rattle.wp_session.specs.Client.{new_client, number_of, without_label, has_no_room};
-ghost use Rattle.wp_session.specs.After.{with_held, after_held, after_begun, after_decision, with_labels_after};
+ghost use Rattle.wp_session.specs.After.{with_staged, after_staged, after_begun, after_decision, with_labels_after};
 ghost use Rattle.wp_session.specs.Due.{client_after};
 ghost use Rattle.wp_session.specs.Plan.{plan};
 ghost use Rattle.wp_session.specs.Room.{TakesChange, TakesChangeOf, NamesPrepared};
@@ -30,19 +30,19 @@ pub enum Txn {
 
 /// A snapshot of a client: the state of the store when this number was published.
 #[derive(Debug, Drop)]
-pub struct Snapshot {
+pub struct LabelledSnapshot {
     pub label: Name,
     pub number: Seq,
 }
 
 /// A client between two of its commands: its transaction and its snapshots.
 #[derive(Drop)]
-pub struct Session {
+pub struct Client {
     txn: Txn,
-    snapshots: Vec<Snapshot>,
+    snapshots: Vec<LabelledSnapshot>,
 }
 
-impl Model for Session {
+impl Model for Client {
     ghost use Rattle.wp_session.specs.Client.{Client};
 
     ghost Value = { Client };
@@ -63,18 +63,18 @@ fn add(batch: &mut Batch, change: Change) -> Result<(), AllocError>
 }
 
 /// Takes the snapshot with that label out.
-fn forget(snapshots: &mut Vec<Snapshot>, label: &Name)
+fn forget(snapshots: &mut Vec<LabelledSnapshot>, label: &Name)
     ensures { snapshots.new.items ≡ without_label snapshots.old.items label.now }
 {
     snapshots.retain(|snapshot| snapshot.label != *label);
 }
 
-impl Session {
+impl Client {
     /// As each session begins.
-    pub fn new(alloc: Global) -> Session
+    pub fn new(alloc: Global) -> Client
         ensures { result ≡ new_client }
     {
-        Session {
+        Client {
             txn: Txn::Idle,
             snapshots: Vec::new(alloc),
         }
@@ -103,9 +103,9 @@ impl Session {
         self.snapshots.len() >= MOST_SNAPSHOTS
     }
 
-    fn hold(&mut self, change: Change) -> Result<(), AllocError>
+    fn stage(&mut self, change: Change) -> Result<(), AllocError>
         requires { TakesChange self.old.txn change }
-        ensures { OnOk result (self.new ≡ record self.old { txn = with_held self.old.txn change }) }
+        ensures { OnOk result (self.new ≡ record self.old { txn = with_staged self.old.txn change }) }
     {
         match &mut self.txn {
             Txn::Open(_, batch) => add(batch, change),
@@ -113,16 +113,16 @@ impl Session {
         }
     }
 
-    fn held(&mut self, alloc: Global, command: &Command) -> Result<(), AllocError>
+    fn staged(&mut self, alloc: Global, command: &Command) -> Result<(), AllocError>
         requires { TakesChangeOf self.old.txn command.now }
-        ensures { OnOk result (self.new ≡ after_held self.old command.now) }
+        ensures { OnOk result (self.new ≡ after_staged self.old command.now) }
     {
         match command {
-            Command::Put(key, value) => self.hold(Change::Put(
+            Command::Put(key, value) => self.stage(Change::Put(
                 key.copy(alloc)?,
                 value.copy(alloc)?,
             )),
-            Command::Del(key) => self.hold(Change::Del(key.copy(alloc)?)),
+            Command::Del(key) => self.stage(Change::Del(key.copy(alloc)?)),
             _ => Ok(()),
         }
     }
@@ -132,7 +132,7 @@ impl Session {
     {
         if let Command::Snap(label) = command {
             let label = label.copy(alloc)?;
-            self.snapshots.push(Snapshot { label, number: n })?;
+            self.snapshots.push(LabelledSnapshot { label, number: n })?;
         }
         Ok(())
     }
@@ -190,7 +190,7 @@ impl Session {
         ensures { OnOk result (self.new ≡ client_after history.now.entries self.old command.now reply.now) }
     {
         match reply {
-            Reply::Held => self.held(alloc, command),
+            Reply::Held => self.staged(alloc, command),
             Reply::Snapped(n) => self.snapped(alloc, command, *n),
             Reply::Begun => self.begun(alloc, command),
             Reply::Freed => {
