@@ -13,10 +13,10 @@ use Rattle.wp_core.specs.Sound.Views.{AreNoted, noter_of}
 use Rattle.wp_core.specs.IsSound.{IsSound}
 use Rattle.wp_core.proofs.Frames.{kept_map, at_map}
 use Rattle.wp_core.proofs.AllParticipants.{mine}
-use Rattle.wp_core.proofs.Quiet.{SoIn}
 use Rattle.wp_core.proofs.KeepsRemembered.{from_map}
 use Rattle.wp_core.proofs.Persons.{IsPersonAt, Moves}
 use Rattle.wp_core.proofs.PersonsKeep.{seen_moved, owned_moved, registered_moved, viewed_moved, locked_moved, holders_moved, board_moved, faults_moved, edits_moved}
+use Rattle.wp_core.proofs.AllParts.{SoIn}
 
 -- ---- the parts that speak of actors
 

@@ -26,9 +26,10 @@ use Rattle.wp_core.proofs.Changed.{others_hold, holds_changed, have_changed}
 use Rattle.wp_core.proofs.OwnersStay.{same_transactions, locked_still}
 use Rattle.wp_core.proofs.PastsGrow.{in_front, past_before, times_more}
 use Rattle.wp_core.proofs.PendingSteps.{SoPending}
-use Rattle.wp_core.proofs.Quiet.{SoIn, kept_part, idle_after}
+use Rattle.wp_core.proofs.Quiet.{idle_after}
 use Rattle.wp_core.proofs.Remembers.{holders_more, board_more, edits_still}
 use Rattle.wp_core.proofs.StoresFlag.{not_free}
+use Rattle.wp_core.proofs.AllParts.{SoIn, kept_part}
 
 module _ (w : World) (by : ℕ) (a : Actor) (at : get_elem? w.actors by ≡ some a) (n : Needs w by a close_log) (s : IsSound w) where
   abbrev d : WriteTable

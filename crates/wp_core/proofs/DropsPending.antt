@@ -27,8 +27,8 @@ use Rattle.wp_history.proofs.Growth.{entry_at_old, prepared_within}
 use Rattle.wp_core.proofs.HistoryLaws.{decision_was, decision_within, decided_by_last}
 use Rattle.wp_core.proofs.ReaderFacts.{pair_ordered}
 use Rattle.wp_core.proofs.PreparedSteps.{either}
-use Rattle.wp_core.proofs.Quiet.{SoIn}
 use Rattle.wp_core.proofs.PendingSteps.{SoPending, with_pending, pending_changes, others_made}
+use Rattle.wp_core.proofs.AllParts.{SoIn}
 
 -- ---- the cache has pairs of the history alone
 

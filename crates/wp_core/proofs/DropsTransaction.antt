@@ -22,8 +22,8 @@ use Rattle.wp_core.proofs.Frames.{at_map}
 use Rattle.wp_core.proofs.Keyed.{is_word_same, else_removed, still_there}
 use Rattle.wp_core.proofs.OwnerMoves.{name_kept, direct_kept, owner_before}
 use Rattle.wp_core.proofs.AllParticipants.{mine, was, was_apart}
-use Rattle.wp_core.proofs.Quiet.{SoIn, kept_part}
 use Rattle.wp_core.proofs.LocksChange.{SoWith, actor_after, actors_after, LocksParts}
+use Rattle.wp_core.proofs.AllParts.{SoIn, kept_part}
 
 -- what of names and keys a step leaves that drops a transaction
 pub record Drops (w : World) (name : List ℕ) (t : LockTables) (step : Step) : Type 0 where

@@ -22,10 +22,10 @@ use Rattle.wp_core.proofs.Keyed.{is_word_same, at_inserted, else_inserted, now_i
 use Rattle.wp_core.proofs.OwnerMoves.{name_kept, direct_kept}
 use Rattle.wp_core.proofs.AllParticipants.{mine, mine_now, was}
 use Rattle.wp_core.proofs.PastsGrow.{in_front, in_last, past_last}
-use Rattle.wp_core.proofs.Quiet.{SoIn}
 use Rattle.wp_core.proofs.LocksChange.{SoWith, actor_after, actors_after, LocksParts}
 use Rattle.wp_core.proofs.Frames.{at_map}
 use Rattle.wp_core.proofs.Remembers.{IsQuiet, holders_more, board_more, faults_more, edits_more}
+use Rattle.wp_core.proofs.AllParts.{SoIn}
 
 -- what of the names and keys there are such a step needs, and of the event that it leaves in the past
 pub record Gains (w : World) (name : List ℕ) (x1 : Transaction) (start : Event) : Type 0 where

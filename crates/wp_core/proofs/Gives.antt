@@ -11,13 +11,13 @@ use Rattle.wp_core.proofs.Frames.{filter_in}
 
 -- ---- holders
 
-pub given : (h : Holders) (t : Turn) → turn_holder (with_holder h t None) t ≡ None
-given h write_turn = refl
-given h prepared_turn = refl
-given h snapshots_turn = refl
-given h store_turn = refl
-given h locks_turn = refl
-given h tables_turn = refl
+pub now_holder : (h : Holders) (t : Turn) (x : Option ℕ) → turn_holder (with_holder h t x) t ≡ x
+now_holder h write_turn x = refl
+now_holder h prepared_turn x = refl
+now_holder h snapshots_turn x = refl
+now_holder h store_turn x = refl
+now_holder h locks_turn x = refl
+now_holder h tables_turn x = refl
 
 pub other_holder : (h : Holders) (t u : Turn) (x : Option ℕ) → turn_index u ≢ turn_index t → turn_holder (with_holder h t x) u ≡ turn_holder h u
 other_holder h write_turn write_turn x n = absurd (n refl)
@@ -47,7 +47,7 @@ still h t u by j mine ne theirs = other_holder h t u None (others_turn h t u by 
 -- who holds a turn after another was given holds another one
 pub was : (h : Holders) (t u : Turn) (j : ℕ) → Holds (with_holder h t None) u j → (turn_index u ≢ turn_index t) × Holds h u j
 was h t u j holds = dite (ℕ_discrete (turn_index u) (turn_index t))
-    (λ (e : turn_index u ≡ turn_index t). let n : turn_holder (with_holder h t None) u ≡ None = ap (turn_holder (with_holder h t None)) (same_turn t u e) ∙ given h t in let q : Some j ≡ None = sym holds ∙ n in absurd (cc))
+    (λ (e : turn_index u ≡ turn_index t). let n : turn_holder (with_holder h t None) u ≡ None = ap (turn_holder (with_holder h t None)) (same_turn t u e) ∙ now_holder h t None in let q : Some j ≡ None = sym holds ∙ n in absurd (cc))
     (λ (ne : turn_index u ≢ turn_index t). (ne, sym (other_holder h t u None ne) ∙ holds))
 
 -- ---- what is held

@@ -17,10 +17,10 @@ use Rattle.wp_core.specs.Sound.Pasts.{is_log_fault, is_tables_fault, AreFaults, 
 use Rattle.wp_core.specs.Sound.Views.{IsGuarded}
 use Rattle.wp_core.specs.IsSound.{IsSound}
 use Rattle.wp_core.proofs.PastsGrow.{past_before, past_last, done_last, times_more}
-use Rattle.wp_core.proofs.Quiet.{SoIn}
 use Rattle.wp_core.proofs.Remembers.{installed_still}
 use Rattle.wp_core.proofs.StoresFlag.{not_theirs}
 use Rattle.wp_core.proofs.TablesChange.{SoInstalled, IsOfTables, edits_grown, actor_after, pasts_after, tables_change}
+use Rattle.wp_core.proofs.AllParts.{SoIn}
 
 -- the tables that are due once one more event is in a past
 due_more : (first : InstalledEdit) (past : List Event) (e : Event) → tables_due first (past ++ e ∷ []) ≡ due_after (tables_due first past) e

@@ -26,7 +26,7 @@ use Rattle.wp_core.specs.IsSound.{IsSound}
 use Rattle.wp_core.proofs.Frames.{each_map_set, each_set, at_map, in_filter}
 use Rattle.wp_core.proofs.Keyed.{is_word_same, at_inserted, else_inserted}
 use Rattle.wp_core.proofs.OwnersStay.{IsSameOwner, locked_still}
-use Rattle.wp_core.proofs.Quiet.{SoIn, kept_part}
+use Rattle.wp_core.proofs.AllParts.{SoIn, kept_part}
 
 -- what is noted stays so where the participant has the same of names and keys
 module _ (w : World) (a p : Participant) (is : IsSameOwner (owner_of a) (owner_of p)) where

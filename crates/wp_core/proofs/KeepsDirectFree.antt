@@ -23,8 +23,8 @@ use Rattle.wp_core.proofs.Frames.{at_map}
 use Rattle.wp_core.proofs.Keyed.{is_word_same, else_removed, still_there}
 use Rattle.wp_core.proofs.OwnerMoves.{name_kept, direct_kept, owner_before}
 use Rattle.wp_core.proofs.AllParticipants.{mine, was, was_apart}
-use Rattle.wp_core.proofs.Quiet.{SoIn, kept_part}
 use Rattle.wp_core.proofs.LocksChange.{SoWith, actor_after, actors_after, LocksParts, locks_change}
+use Rattle.wp_core.proofs.AllParts.{SoIn, kept_part}
 
 module _ (w : World) (by : ℕ) (a : Actor) (key : List ℕ) (at : get_elem? w.actors by ≡ some a) (has : a.participant.direct ≡ Some key) (s : IsSound w) where
   abbrev client : List ℕ

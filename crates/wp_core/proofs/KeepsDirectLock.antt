@@ -25,9 +25,9 @@ use Rattle.wp_core.proofs.Keyed.{is_word_same, at_inserted, else_inserted}
 use Rattle.wp_core.proofs.OwnerMoves.{name_kept, direct_kept, owner_before}
 use Rattle.wp_core.proofs.AllParticipants.{mine, mine_now, was}
 use Rattle.wp_core.proofs.PastsGrow.{in_front, in_last, past_last}
-use Rattle.wp_core.proofs.Quiet.{SoIn}
 use Rattle.wp_core.proofs.LocksChange.{SoWith, actor_after, actors_after, LocksParts, locks_change}
 use Rattle.wp_core.proofs.Remembers.{IsQuiet, holders_more, board_more, faults_more, edits_more}
+use Rattle.wp_core.proofs.AllParts.{SoIn}
 
 module _ (w : World) (by : ℕ) (a : Actor) (key : List ℕ) (at : get_elem? w.actors by ≡ some a) (no_direct : a.participant.direct ≡ None) (free : finite.get w.locks.keys key ≡ None) (s : IsSound w) where
   abbrev client : List ℕ

@@ -30,8 +30,8 @@ use Rattle.wp_core.proofs.Keyed.{is_word_same, same_test, not_same, at_inserted,
 use Rattle.wp_core.proofs.OwnerMoves.{name_kept, direct_kept, owner_before}
 use Rattle.wp_core.proofs.AllParticipants.{mine, was, was_apart}
 use Rattle.wp_core.proofs.HistoryHolders.{none_named}
-use Rattle.wp_core.proofs.Quiet.{SoIn, kept_part}
 use Rattle.wp_core.proofs.LocksChange.{SoWith, actor_after, actors_after, LocksParts, locks_change}
+use Rattle.wp_core.proofs.AllParts.{SoIn, kept_part}
 
 -- ---- sets of keys
 

@@ -31,9 +31,9 @@ use Rattle.wp_core.proofs.OwnerMoves.{name_kept, direct_kept, owner_before}
 use Rattle.wp_core.proofs.AllParticipants.{mine, was, was_apart}
 use Rattle.wp_core.proofs.HistoryHolders.{holder_holds}
 use Rattle.wp_core.proofs.PastsGrow.{in_front, past_last}
-use Rattle.wp_core.proofs.Quiet.{SoIn}
 use Rattle.wp_core.proofs.LocksChange.{SoWith, actor_after, actors_after, LocksParts, locks_change}
 use Rattle.wp_core.proofs.Remembers.{IsQuiet, holders_more, board_more, faults_more, edits_more}
+use Rattle.wp_core.proofs.AllParts.{SoIn}
 
 -- ---- sets of keys
 

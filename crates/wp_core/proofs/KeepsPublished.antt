@@ -38,9 +38,10 @@ use Rattle.wp_core.proofs.PublishesLocks.{some_there, locks_part, holders_part, 
 use Rattle.wp_core.proofs.PublishesNotes.{prepares_held, transaction_live, mine_grows, others_grow}
 use Rattle.wp_core.proofs.PublishesReaders.{registered_part, readers_part, judged_part}
 use Rattle.wp_core.proofs.PublishesVersions.{stored_part}
-use Rattle.wp_core.proofs.Quiet.{kept_part, idle_after}
+use Rattle.wp_core.proofs.Quiet.{idle_after}
 use Rattle.wp_core.proofs.SnapshotsStep.{among_live}
 use Rattle.wp_core.proofs.StoresFlag.{not_free}
+use Rattle.wp_core.proofs.AllParts.{kept_part}
 
 module _ (w : World) (by : ℕ) (a : Actor) (entry : Entry) (others : List Entry) (at : get_elem? w.actors by ≡ some a) (n : MayPublish w by a entry others) (s : IsSound w) where
   abbrev history : List Entry

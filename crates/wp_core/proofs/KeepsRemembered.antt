@@ -30,8 +30,9 @@ use Rattle.wp_core.proofs.Frames.{kept_map, each_map_set, each_set, at_map, in_f
 use Rattle.wp_core.proofs.AllParticipants.{mine}
 use Rattle.wp_core.proofs.PastsGrow.{in_front}
 use Rattle.wp_core.proofs.OwnersStay.{same_transactions, locked_still}
-use Rattle.wp_core.proofs.Quiet.{SoIn, holder_lives}
+use Rattle.wp_core.proofs.Quiet.{holder_lives}
 use Rattle.wp_core.proofs.Remembers.{IsQuiet, holders_more, board_more, faults_more, edits_more}
+use Rattle.wp_core.proofs.AllParts.{SoIn}
 
 -- ---- what is noted
 

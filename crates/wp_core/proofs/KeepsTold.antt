@@ -22,10 +22,10 @@ use Rattle.wp_core.specs.IsSound.{IsSound, participants}
 use Rattle.wp_core.proofs.Keyed.{is_word_same, at_inserted, else_inserted}
 use Rattle.wp_core.proofs.OwnersStay.{same_transactions, locked_still}
 use Rattle.wp_core.proofs.PastsGrow.{in_front, past_still, past_last, past_before}
-use Rattle.wp_core.proofs.Quiet.{SoIn}
 use Rattle.wp_core.proofs.LocksChange.{SoWith, actor_after, actors_after, LocksParts, locks_change}
 use Rattle.wp_core.proofs.Remembers.{IsQuiet, holders_more, faults_more, edits_more}
 use Rattle.wp_core.proofs.KeepsRemembered.{at_label}
+use Rattle.wp_core.proofs.AllParts.{SoIn}
 
 module _ (w : World) (by : ℕ) (a : Actor) (label : List ℕ) (at : get_elem? w.actors by ≡ some a) (s : IsSound w) where
   abbrev n : ℕ

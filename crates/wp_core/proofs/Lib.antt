@@ -11,6 +11,8 @@ pub mod Gives
 pub mod KeepsGive
 pub mod HistoryLaws
 pub mod Changed
+pub mod AllParts
+pub mod HoldersChange
 pub mod Quiet
 pub mod TakesTurn
 pub mod StoresFlag

@@ -25,8 +25,9 @@ use Rattle.wp_core.specs.IsSound.{IsSound, participants}
 use Rattle.wp_core.proofs.Frames.{each_map_set, at_map, in_filter}
 use Rattle.wp_core.proofs.Participants.{each_person_set}
 use Rattle.wp_core.proofs.Changed.{others_hold, holds_changed, have_changed}
-use Rattle.wp_core.proofs.Quiet.{SoIn, kept_part, idle_after}
+use Rattle.wp_core.proofs.Quiet.{idle_after}
 use Rattle.wp_core.proofs.KeepsRemembered.{from_map}
+use Rattle.wp_core.proofs.AllParts.{SoIn, kept_part}
 
 -- what is noted, with this table in place of the world's
 abbrev pub SoWith : World → LockTables → Participant → Fact → Type 0

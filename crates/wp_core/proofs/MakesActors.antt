@@ -17,9 +17,9 @@ use Rattle.wp_core.specs.IsSound.{IsSound}
 use Rattle.wp_core.proofs.Frames.{each_map_set, each_set, at_map, in_filter, here}
 use Rattle.wp_core.proofs.AllParticipants.{mine}
 use Rattle.wp_core.proofs.PastsGrow.{total_more}
-use Rattle.wp_core.proofs.Quiet.{SoIn, kept_part}
 use Rattle.wp_core.proofs.Persons.{IsNone, sum_of, Moves, total_map}
 use Rattle.wp_core.proofs.ActorsMove.{ActorParts, actors_move, at_front, front_or_last, each_more, each_map_more, at_map_more, have_more, total_set, set_same, people, person_still, person_was}
+use Rattle.wp_core.proofs.AllParts.{SoIn, kept_part}
 
 -- it stays as it was, but for whom it made and joined and what it learned, and may have fewer notes
 pub record StaysAs (a b : Actor) : Type 0 where

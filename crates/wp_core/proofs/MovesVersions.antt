@@ -14,9 +14,9 @@ use Rattle.wp_core.specs.Needs.{Needs}
 use Rattle.wp_core.specs.Notes.{forgets, ends}
 use Rattle.wp_core.specs.Sound.Views.{IsGuarded}
 use Rattle.wp_core.specs.IsSound.{IsSound}
-use Rattle.wp_core.proofs.Quiet.{SoIn}
 use Rattle.wp_core.proofs.PendingVersions.{SoStored, store_changes}
 use Rattle.wp_core.proofs.StoresFlag.{not_theirs, not_free}
+use Rattle.wp_core.proofs.AllParts.{SoIn}
 
 -- ---- a flush
 

@@ -28,9 +28,10 @@ use Rattle.wp_history.proofs.Growth.{entry_at_next}
 use Rattle.wp_history.proofs.Undecided.{undecided_within}
 use Rattle.wp_core.proofs.HistoryLaws.{decided_within}
 use Rattle.wp_core.proofs.Numbers.{in_inserted, in_inserted_else, in_removed, in_removed_else}
-use Rattle.wp_core.proofs.Quiet.{SoIn, prepared_changes}
+use Rattle.wp_core.proofs.Quiet.{prepared_changes}
 use Rattle.wp_core.proofs.StoresFlag.{not_theirs, not_free}
 use Rattle.wp_core.proofs.PreparedSteps.{SoWith, clearing_decided, either, in_either}
+use Rattle.wp_core.proofs.AllParts.{SoIn}
 
 module _ (w : World) (s : IsSound w) where
   with_next : PreparedTables

@@ -8,29 +8,26 @@ use Rattle.wp_model.specs.Decision.{version_in, decision_of}
 use Rattle.wp_model.specs.History.{entry_at, is_prepare}
 use Rattle.wp_model.specs.Legal.{IsLegal}
 use Rattle.wp_core.specs.Entries.{next_of, extended, IsOneRecord}
-use Rattle.wp_core.specs.Tables.{Content, WriteTable, writes}
+use Rattle.wp_core.specs.Tables.{WriteTable, writes}
 use Rattle.wp_core.specs.Turns.{Holds, write_turn}
 use Rattle.wp_core.specs.Views.{Fact, versions_in_memory}
-use Rattle.wp_core.specs.World.{Participant, Actor, World, content_of, with_content}
+use Rattle.wp_core.specs.World.{Participant, Actor, World, with_content}
 use Rattle.wp_core.specs.Steps.{Step, make_pending, log_pending}
 use Rattle.wp_core.specs.Changes.{held_with, change}
 use Rattle.wp_core.specs.Effects.{done}
 use Rattle.wp_core.specs.Needs.{Needs}
 use Rattle.wp_core.specs.Notes.{forgets, ends}
-use Rattle.wp_core.specs.Sound.Actors.{AreHeld, participants_of, held_of}
 use Rattle.wp_core.specs.Sound.History.{IsHistory, logged_part}
 use Rattle.wp_core.specs.Sound.Pasts.{past_of, AreFaults}
 use Rattle.wp_core.specs.Sound.Prepared.{IsCache, AreUndecided}
-use Rattle.wp_core.specs.Sound.Reader.{AreReaders, AreJudged, reader_of}
 use Rattle.wp_core.specs.Sound.Store.{IsStored}
 use Rattle.wp_core.specs.Sound.Views.{IsSo, IsGuarded}
 use Rattle.wp_core.specs.IsSound.{IsSound, participants}
 use Rattle.wp_history.proofs.Growth.{entry_at_old, prepared_within}
-use Rattle.wp_core.proofs.Frames.{each_map_set, at_map}
-use Rattle.wp_core.proofs.Changed.{others_hold, holds_changed, have_changed}
-use Rattle.wp_core.proofs.Quiet.{SoIn, NotesStay, parts_of, kept_part, idle_after, noted_after}
+use Rattle.wp_core.proofs.Quiet.{idle_after, NotesStay, noted_after}
 use Rattle.wp_core.proofs.ReaderFacts.{extended_stays}
 use Rattle.wp_core.proofs.StoresFlag.{not_theirs, not_free}
+use Rattle.wp_core.proofs.AllParts.{SoIn, views_of, readers_of, readers_kept, turns_changed, quiet_step}
 
 -- the write table with what is pending, whether that is logged, and the log
 abbrev pub with_pending : WriteTable → List Entry → Bool → List Entry → WriteTable
@@ -46,39 +43,13 @@ pub pending_changes : (w : World) (by : ℕ) (a : Actor) (step : Step) (pending 
     → IsSound (change w by (forgets w.writes.history (length w.cache) step a) (writes (with_pending w.writes pending logged log)))
 pending_changes w by a step pending logged log at holds history cache undecided stored faults notes s =
     let d : WriteTable = with_pending w.writes pending logged log in
-    let e : Content = writes d in
     let c : Actor = forgets w.writes.history (length w.cache) step a in
-    let b : Actor = record c { held = held_with c.held e } in
-    let p = parts_of w by a b at (record { participant = refl; learned = refl; live = refl; made = refl; joined = refl }) s in
-    record {
-      history = history;
-      seen = p.seen;
-      learned = p.learned;
-      owned = p.owned;
-      cache = cache;
-      decided = s.decided;
-      undecided = undecided;
-      delayed = s.delayed;
-      registrations = p.registrations;
-      flags = s.flags;
-      versions = stored;
-      flushed = s.flushed;
-      locks = p.locks;
-      holders = p.holders;
-      board = p.board;
-      faults = kept_part w by a b at (participants_of past_of) (AreFaults d w.installed.halted) refl faults;
-      edits = p.edits;
-      pending = λ free. absurd (not_free w.holders write_turn by holds free);
-      held = each_map_set held_of (AreHeld w.holders (content_of (with_content w e))) w.actors by b (holds_changed w e by a.held (s.held by a.held (at_map held_of w.actors by a at)))
-          (λ j x ne there. others_hold w e by j x holds ne (s.held j x there));
-      have = have_changed w.holders e by w.actors a b at refl s.have;
-      readers = kept_part w by a b at reader_of (AreReaders w.writes.history w.max_evicted w.cache) refl s.readers;
-      viewed = p.viewed;
-      judged = kept_part w by a b at reader_of (AreJudged w.writes.history) refl s.judged;
-      noted = noted_after w by a b step (SoPending w d) at refl refl notes s;
-      led = p.led;
-      idle = idle_after w by a b write_turn at holds s refl;
-    }
+    let b : Actor = record c { held = held_with c.held (writes d) } in
+    quiet_step w (with_content w (writes d)) by a b at refl
+    (record { history = history; cache = cache; decided = s.decided; undecided = undecided; delayed = s.delayed; flags = s.flags; versions = stored; flushed = s.flushed; pending = λ free. absurd (not_free w.holders write_turn by holds free) })
+    (views_of w s) s.locks (record { holders = s.holders; board = s.board; faults = faults; edits = s.edits })
+    (turns_changed w by a b at (writes d) holds refl s) (readers_kept w by a b at w.writes.history w.max_evicted w.cache refl (readers_of w s))
+    (noted_after w by a b step (SoPending w d) at refl refl notes s) (idle_after w by a b write_turn at holds s refl) s
 
 -- ---- a record is made pending
 

@@ -13,24 +13,21 @@ use Rattle.wp_model.specs.Covered.{IsCovered, GivesStore}
 use Rattle.wp_model.specs.Decision.{version_in, entry_version}
 use Rattle.wp_model.specs.Versions.{version_at}
 use Rattle.wp_core.specs.Entries.{next_of, HasVersionsAt}
-use Rattle.wp_core.specs.Tables.{Content, StoreTable, store, up_to}
+use Rattle.wp_core.specs.Tables.{StoreTable, store, up_to}
 use Rattle.wp_core.specs.Turns.{Holds, write_turn, store_turn}
 use Rattle.wp_core.specs.Views.{Fact, versions_in_memory, versions_nowhere, nothing_flushed, frozen_stay}
-use Rattle.wp_core.specs.World.{Participant, Actor, World, content_of, with_content}
+use Rattle.wp_core.specs.World.{Participant, Actor, World, with_content}
 use Rattle.wp_core.specs.Steps.{Step, add_versions, take_versions}
 use Rattle.wp_core.specs.Changes.{held_with, change}
 use Rattle.wp_core.specs.Effects.{done}
 use Rattle.wp_core.specs.Needs.{Needs}
 use Rattle.wp_core.specs.Notes.{forgets, ends}
-use Rattle.wp_core.specs.Sound.Actors.{AreHeld, held_of}
-use Rattle.wp_core.specs.Sound.Reader.{AreReaders, AreJudged, reader_of}
 use Rattle.wp_core.specs.Sound.Store.{IsStored, IsFlushedGone}
 use Rattle.wp_core.specs.Sound.Views.{IsSo, IsGuarded}
 use Rattle.wp_core.specs.IsSound.{IsSound}
 use Rattle.wp_history.proofs.Growth.{entry_at_past}
-use Rattle.wp_core.proofs.Frames.{each_map_set, at_map}
-use Rattle.wp_core.proofs.Changed.{others_hold, holds_changed, have_changed}
-use Rattle.wp_core.proofs.Quiet.{SoIn, NotesStay, parts_of, kept_part, idle_after, noted_after}
+use Rattle.wp_core.proofs.AllParts.{SoIn, views_of, pasts_of, readers_of, readers_kept, turns_changed, quiet_step}
+use Rattle.wp_core.proofs.Quiet.{idle_after, NotesStay, noted_after}
 use Rattle.wp_core.proofs.StoresFlag.{not_theirs}
 
 -- ---- look-ups
@@ -137,39 +134,12 @@ pub store_changes : (w : World) (by : ℕ) (a : Actor) (step : Step) (t : StoreT
     → IsFlushedGone w.holders.tables t.memory w.installed.last.flushed → NotesStay w by step (SoStored w t) → IsSound w
     → IsSound (change w by (forgets w.writes.history (length w.cache) step a) (store t))
 store_changes w by a step t at holds stored flushed notes s =
-    let e : Content = store t in
     let c : Actor = forgets w.writes.history (length w.cache) step a in
-    let b : Actor = record c { held = held_with c.held e } in
-    let p = parts_of w by a b at (record { participant = refl; learned = refl; live = refl; made = refl; joined = refl }) s in
-    record {
-      history = s.history;
-      seen = p.seen;
-      learned = p.learned;
-      owned = p.owned;
-      cache = s.cache;
-      decided = s.decided;
-      undecided = s.undecided;
-      delayed = s.delayed;
-      registrations = p.registrations;
-      flags = s.flags;
-      versions = stored;
-      flushed = flushed;
-      locks = p.locks;
-      holders = p.holders;
-      board = p.board;
-      faults = p.faults;
-      edits = p.edits;
-      pending = s.pending;
-      held = each_map_set held_of (AreHeld w.holders (content_of (with_content w e))) w.actors by b (holds_changed w e by a.held (s.held by a.held (at_map held_of w.actors by a at)))
-          (λ j x ne there. others_hold w e by j x holds ne (s.held j x there));
-      have = have_changed w.holders e by w.actors a b at refl s.have;
-      readers = kept_part w by a b at reader_of (AreReaders w.writes.history w.max_evicted w.cache) refl s.readers;
-      viewed = p.viewed;
-      judged = kept_part w by a b at reader_of (AreJudged w.writes.history) refl s.judged;
-      noted = noted_after w by a b step (SoStored w t) at refl refl notes s;
-      led = p.led;
-      idle = idle_after w by a b store_turn at holds s refl;
-    }
+    let b : Actor = record c { held = held_with c.held (store t) } in
+    quiet_step w (with_content w (store t)) by a b at refl
+    (record { history = s.history; cache = s.cache; decided = s.decided; undecided = s.undecided; delayed = s.delayed; flags = s.flags; versions = stored; flushed = flushed; pending = s.pending })
+    (views_of w s) s.locks (pasts_of w s) (turns_changed w by a b at (store t) holds refl s) (readers_kept w by a b at w.writes.history w.max_evicted w.cache refl (readers_of w s))
+    (noted_after w by a b step (SoStored w t) at refl refl notes s) (idle_after w by a b store_turn at holds s refl) s
 
 -- ---- they come
 

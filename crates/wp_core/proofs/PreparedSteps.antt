@@ -25,9 +25,10 @@ use Rattle.wp_core.specs.Sound.Views.{IsSo, IsApart, IsClearing}
 use Rattle.wp_core.specs.IsSound.{IsSound}
 use Rattle.wp_core.proofs.HistoryLaws.{decided_within, undecided_not_decided}
 use Rattle.wp_core.proofs.Numbers.{in_removed, in_removed_else, get_inserted, get_inserted_else, get_removed, get_removed_else}
-use Rattle.wp_core.proofs.Quiet.{SoIn, prepared_changes}
+use Rattle.wp_core.proofs.Quiet.{prepared_changes}
 use Rattle.wp_core.proofs.StoresFlag.{not_free}
 use Rattle.wp_core.proofs.ReaderFacts.{same_some, none_some, extended_was, pair_ordered}
+use Rattle.wp_core.proofs.AllParts.{SoIn}
 
 -- what is noted with these prepared tables in place of the world's
 abbrev pub SoWith : World → PreparedTables → Participant → Fact → Type 0

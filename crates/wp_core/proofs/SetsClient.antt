@@ -23,7 +23,7 @@ use Rattle.wp_core.specs.Sound.Views.{IsNoted, noter_of}
 use Rattle.wp_core.specs.IsSound.{IsSound}
 use Rattle.wp_core.proofs.Frames.{each_map_set, each_set, at_map, in_filter}
 use Rattle.wp_core.proofs.AllParticipants.{was, still}
-use Rattle.wp_core.proofs.Quiet.{SoIn, kept_part}
+use Rattle.wp_core.proofs.AllParts.{SoIn, kept_part}
 
 -- it has no transaction and no direct write
 pub record HasNothing (transactions : Transactions) (direct : Option (List ℕ)) : Type 0 where

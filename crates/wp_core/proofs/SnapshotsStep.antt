@@ -40,8 +40,9 @@ use Rattle.wp_core.proofs.Frames.{map_set, each_map_set, at_map, in_filter}
 use Rattle.wp_core.proofs.Participants.{each_person_set}
 use Rattle.wp_core.proofs.Changed.{others_hold, holds_changed, have_changed}
 use Rattle.wp_core.proofs.HistoryLaws.{decision_within}
-use Rattle.wp_core.proofs.Quiet.{SoIn, kept_part, idle_after}
+use Rattle.wp_core.proofs.Quiet.{idle_after}
 use Rattle.wp_core.proofs.StoresFlag.{not_free}
+use Rattle.wp_core.proofs.AllParts.{SoIn, kept_part}
 
 -- ---- live numbers
 

@@ -11,7 +11,8 @@ use Rattle.wp_core.specs.Needs.{Needs}
 use Rattle.wp_core.specs.Notes.{forgets, ends}
 use Rattle.wp_core.specs.Sound.Views.{IsSo, IsGuarded}
 use Rattle.wp_core.specs.IsSound.{IsSound}
-use Rattle.wp_core.proofs.Quiet.{SoIn, words_change}
+use Rattle.wp_core.proofs.Quiet.{words_change}
+use Rattle.wp_core.proofs.AllParts.{SoIn}
 
 -- a turn that one actor holds no other holds
 pub not_theirs : (h : Holders) (turn : Turn) (by j : ℕ) → Holds h turn by → j ≢ by → Holds h turn j → ⊥

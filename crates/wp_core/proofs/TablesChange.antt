@@ -25,9 +25,10 @@ use Rattle.wp_core.proofs.Changed.{others_hold, holds_changed, have_changed}
 use Rattle.wp_core.proofs.AllParticipants.{mine, was_apart}
 use Rattle.wp_core.proofs.OwnersStay.{same_transactions, locked_still}
 use Rattle.wp_core.proofs.PastsGrow.{in_front, past_before}
-use Rattle.wp_core.proofs.Quiet.{SoIn, kept_part, idle_after}
+use Rattle.wp_core.proofs.Quiet.{idle_after}
 use Rattle.wp_core.proofs.Remembers.{holders_more, board_more, installed_still, compacts_still}
 use Rattle.wp_core.proofs.StoresFlag.{not_free}
+use Rattle.wp_core.proofs.AllParts.{SoIn, kept_part}
 
 -- what is noted, with this in place of what the world has installed
 abbrev pub SoInstalled : World → Installed → Participant → Fact → Type 0
