@@ -172,8 +172,21 @@ module _ (w : World) (by : ℕ) (a b : Actor) (at : get_elem? w.actors by ≡ so
   pub readers_kept : (history : List Entry) (max : ℕ) (words : List ℕ) → reader_of b ≡ reader_of a → Readers history max words w.actors → Readers history max words (set w.actors by b)
   readers_kept history max words same k = record { readers = kept_part reader_of (AreReaders history max words) same k.readers; judged = kept_part reader_of (AreJudged history) same k.judged }
 
-  pub turns_kept : b.held ≡ a.held → IsSound w → TurnsOf w (set w.actors by b)
-  turns_kept same s = record { held = kept_part held_of (EachAt (AreHeld w.holders (content_of w))) same s.held; have = kept_part held_of (HoldersHave w.holders) same s.have }
+  -- the same of the groups of this world
+  pub views_still : viewer_of b ≡ viewer_of a → IsSound w → ViewsOf w (set w.actors by b)
+  views_still same s = views_kept w.opened w.writes.history w.snapshots same (views_of w s)
+
+  pub locks_still : participants_of owner_of b ≡ participants_of owner_of a → IsSound w → LocksOf w (set w.actors by b)
+  locks_still same s = kept_part (participants_of owner_of) (AreLocked w.writes.history w.locks) same s.locks
+
+  pub pasts_still : participants_of past_of b ≡ participants_of past_of a → IsSound w → PastsOf w (set w.actors by b)
+  pasts_still same s = pasts_kept w.opened w.writes w.locks w.first_edit w.installed same (pasts_of w s)
+
+  pub readers_still : reader_of b ≡ reader_of a → IsSound w → ReadersOf w (set w.actors by b)
+  readers_still same s = readers_kept w.writes.history w.max_evicted w.cache same (readers_of w s)
+
+  pub turns_still : b.held ≡ a.held → IsSound w → TurnsOf w (set w.actors by b)
+  turns_still same s = record { held = kept_part held_of (EachAt (AreHeld w.holders (content_of w))) same s.held; have = kept_part held_of (HoldersHave w.holders) same s.have }
 
   -- the actor changes a table that it holds
   pub turns_changed : (e : Content) → Holds w.holders (turn_of e) by → b.held ≡ held_with a.held e → IsSound w → Turns w.holders (content_of (with_content w e)) (set w.actors by b)
@@ -199,8 +212,8 @@ module _ (w : World) (by : ℕ) (a b : Actor) (at : get_elem? w.actors by ≡ so
   pub idle_set : (b.live ≡ false → IsIdle b) → IsSound w → AreIdle (set w.actors by b)
   idle_set is s = each_set (λ j x. x.live ≡ false → IsIdle x) w.actors by b is (λ j x ne there. s.idle j x there)
 
-  pub led_kept : role_of b ≡ role_of a → IsSound w → AreLed (map role_of (set w.actors by b))
-  led_kept same s = kept_part role_of AreLed same s.led
+  pub led_still : role_of b ≡ role_of a → IsSound w → AreLed (map role_of (set w.actors by b))
+  led_still same s = kept_part role_of AreLed same s.led
 
 -- what stays of an actor that only holds, reads or notes something else
 abbrev pub fixed_of : Actor → Participant × List Entry × Role
@@ -216,4 +229,4 @@ quiet_step w v by a b at same tables views locks pasts turns readers notes idle 
     all_parts v (set w.actors by b) tables
     (views_kept w by a b at v.opened v.writes.history v.snapshots (λ i. (people_same seen_of a b same i, people_same own_of a b same i, people_same registered_of a b same i, people_same view_of a b same i, (same i).1)) views)
     (kept_part w by a b at (participants_of owner_of) (AreLocked v.writes.history v.locks) (people_same owner_of a b same) locks)
-    (pasts_kept w by a b at v.opened v.writes v.locks v.first_edit v.installed (people_same past_of a b same) pasts) turns readers notes (led_kept w by a b at (λ i. (same i).2) s) idle
+    (pasts_kept w by a b at v.opened v.writes v.locks v.first_edit v.installed (people_same past_of a b same) pasts) turns readers notes (led_still w by a b at (λ i. (same i).2) s) idle

@@ -15,7 +15,7 @@ use Rattle.wp_core.specs.Sound.Prepared.{AreFlags}
 use Rattle.wp_core.specs.Sound.Store.{IsFlushedGone}
 use Rattle.wp_core.specs.Sound.Views.{guarded_by}
 use Rattle.wp_core.specs.IsSound.{IsSound}
-use Rattle.wp_core.proofs.AllParts.{Turns, SoIn, views_of, pasts_of, readers_of, readers_kept, notes_stay, quiet_step}
+use Rattle.wp_core.proofs.AllParts.{Turns, SoIn, views_of, pasts_of, readers_still, notes_stay, quiet_step}
 
 -- the turn has another holder, or none where it may be given
 module _ (w : World) (x : Option ℕ) where
@@ -44,7 +44,7 @@ module _ (w : World) (x : Option ℕ) where
       let b : Actor = record (forgets w.writes.history (length w.cache) step a) { held = held } in
       quiet_step w (record w { holders = h }) by a b at refl
       (record { history = s.history; cache = s.cache; decided = s.decided; undecided = s.undecided; delayed = s.delayed; flags = flags_with t may s.flags; versions = s.versions; flushed = flushed_with t may s.flushed; pending = pending_with t may s.pending })
-      (views_of w s) s.locks (pasts_of w s) turns (readers_kept w by a b at w.writes.history w.max_evicted w.cache refl (readers_of w s))
+      (views_of w s) s.locks (pasts_of w s) turns (readers_still w by a b at refl s)
       (notes_stay w by a b at step h (SoIn w) refl
       (λ fact left m. record { guarded = λ u is. mine fact u left is (m.guarded u is); is_so = m.is_so })
       (λ j x fact ne there m. record { guarded = λ u is. others j u ne (m.guarded u is); is_so = m.is_so }) s) idle s

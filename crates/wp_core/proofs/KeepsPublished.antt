@@ -1,5 +1,5 @@
 -- Storing the published number keeps every part of a sound world: the pending entry joins the history.
-use Rattle.std.proofs.Common.{◌≡◌, ⊎_elim, ℕ, suc, ◌≤◌, Bool, true, false, true≢false, not, List, [], ◌∷◌, ◌++◌, length, length-append, map, refl, sym, ap, ◌∙◌, Option, Some, arith}
+use Rattle.std.proofs.Common.{◌≡◌, set, ⊎_elim, ℕ, suc, ◌≤◌, Bool, true, false, true≢false, List, [], ◌∷◌, ◌++◌, length, length-append, map, refl, sym, ap, ◌∙◌, Option, Some, arith}
 use mathlib.Core.Option.{some}
 use lib.ListN.{get_elem?}
 use Rattle.wp_model.specs.declared.entry.Entry.{Entry}
@@ -8,27 +8,24 @@ use Rattle.wp_model.specs.Decision.{version_in}
 use Rattle.wp_model.specs.Versions.{version_at}
 use Rattle.wp_core.proofs.AllParticipants.{mine}
 use Rattle.wp_core.proofs.KeepsSeen.{shorter}
-use Rattle.wp_core.specs.Lists.{IsIn}
 use Rattle.wp_core.specs.Conditions.{MayPublish}
 use Rattle.wp_core.specs.Entries.{next_of}
 use Rattle.wp_core.specs.Tables.{Content, WriteTable, writes, live_numbers}
 use Rattle.wp_core.specs.Turns.{write_turn}
 use Rattle.wp_core.specs.Views.{Fact}
-use Rattle.wp_core.specs.World.{Participant, Actor, World, content_of, with_content}
+use Rattle.wp_core.specs.World.{Participant, Actor, World, with_content}
 use Rattle.wp_core.specs.Steps.{store_published}
 use Rattle.wp_core.specs.Changes.{held_with}
 use Rattle.wp_core.specs.Effects.{done, publishes, with_entry}
 use Rattle.wp_core.specs.Needs.{Needs}
-use Rattle.wp_core.specs.Notes.{forgets, ends}
-use Rattle.wp_core.specs.Sound.Actors.{seen_of, StartsWith, AreHeld, AreLed, participants_of, learned_of, held_of, role_of, IsParticipantAt}
+use Rattle.wp_core.specs.Notes.{forgets}
+use Rattle.wp_core.specs.Sound.Actors.{seen_of, StartsWith, participants_of, learned_of, IsParticipantAt}
 use Rattle.wp_core.specs.Sound.Snapshots.{registered_of, AreRegistered, view_of, HasSeen}
 use Rattle.wp_core.specs.Sound.Locks.{owner_of, AreLocked}
-use Rattle.wp_core.specs.Sound.Pasts.{past_of, AreHolders, IsBoard, AreFaults, AreEdits}
-use Rattle.wp_core.specs.Sound.Reader.{AreReaders, AreJudged, reader_of}
-use Rattle.wp_core.specs.Sound.Views.{IsNoted, noter_of}
+use Rattle.wp_core.specs.Sound.Pasts.{past_of}
+use Rattle.wp_core.specs.Sound.Views.{noter_of}
 use Rattle.wp_core.specs.IsSound.{IsSound, participants}
-use Rattle.wp_core.proofs.Frames.{each_map_set, at_map, in_filter}
-use Rattle.wp_core.proofs.Changed.{others_hold, holds_changed, have_changed}
+use Rattle.wp_core.proofs.Frames.{each_map_set, at_map}
 use Rattle.wp_core.proofs.KeepsRemembered.{from_map}
 use Rattle.wp_core.proofs.Participants.{each_person_set}
 use Rattle.wp_core.proofs.PendingSteps.{SoPending}
@@ -41,7 +38,7 @@ use Rattle.wp_core.proofs.PublishesVersions.{stored_part}
 use Rattle.wp_core.proofs.Quiet.{idle_after}
 use Rattle.wp_core.proofs.SnapshotsStep.{among_live}
 use Rattle.wp_core.proofs.StoresFlag.{not_free}
-use Rattle.wp_core.proofs.AllParts.{kept_part}
+use Rattle.wp_core.proofs.AllParts.{all_parts, kept_part, pasts_kept, readers_kept, turns_changed, notes_stay, led_still}
 
 module _ (w : World) (by : ℕ) (a : Actor) (entry : Entry) (others : List Entry) (at : get_elem? w.actors by ≡ some a) (n : MayPublish w by a entry others) (s : IsSound w) where
   abbrev history : List Entry
@@ -86,38 +83,41 @@ module _ (w : World) (by : ℕ) (a : Actor) (entry : Entry) (others : List Entry
   noter_there j x facts there = let o = from_map noter_of w.actors j (x, facts) there in (participants_of owner_of o.0, at_map (participants_of owner_of) w.actors j o.0 o.1, ap (λ (z : Participant × List Fact). some (owner_of z.0)) o.2)
 
   now_sound : IsSound (done w by (forgets history (length w.cache) (store_published entry others) a) (store_published entry others))
-  now_sound = record {
-    history = history_part w.opened w.writes w.max_evicted entry others n.pending n.logged open_log n.legal s.history;
-    seen = each_person_set seen_of (StartsWith grown) w.actors by a b at (seen_whole grown) refl (λ j i x there. seen_grows history entry x (s.seen j i x there));
-    learned = each_map_set learned_of (λ j x. StartsWith grown x) w.actors by b (grown, refl) (λ j x ne there. seen_grows history entry x (s.learned j x there));
-    owned = owned_part w.actors by a b at refl history entry refl w.opened opened_within s.owned;
-    cache = cache_part history entry others n.legal w.writes.pending w.cache n.pending s.cache;
-    decided = decided_part history entry others n.legal w.cache w.max_evicted w.snapshots n.pair s.decided;
-    undecided = undecided_part history entry others n.legal w.writes.pending w.prepared w.max_evicted n.pending n.number s.undecided;
-    delayed = delayed_part history entry others n.legal w.prepared w.cache n.pair s.delayed;
-    registrations = kept_part w by a b at (participants_of registered_of) (AreRegistered grown w.snapshots) refl (registered_part history entry n.legal w.snapshots (participants registered_of w) s.registrations);
-    flags = s.flags;
-    versions = stored_part history entry n.legal w.writes.pending others w.snapshots w.store w.installed n.pending live_within in_memory s.versions;
-    flushed = s.flushed;
-    locks = kept_part w by a b at (participants_of owner_of) (AreLocked grown w.locks) refl
-        (locks_part history entry n.legal w.locks (participants owner_of w) (λ name of. transaction_live w by a entry others at n s name of) (λ name batch key is changed. prepares_held w by a entry others at n s name batch key is changed) s.locks);
-    holders = kept_part w by a b at (participants_of past_of) (AreHolders w.opened grown w.locks) refl (holders_part history entry n.legal w.opened w.locks (participants past_of w) s.holders);
-    board = kept_part w by a b at (participants_of past_of) (IsBoard (length grown) w.locks) refl (board_part history entry n.legal w.locks (participants past_of w) s.board);
-    faults = kept_part w by a b at (participants_of past_of) (AreFaults d w.installed.halted) refl (faults_part w.writes entry others w.installed.halted (participants past_of w) open_log s.faults);
-    edits = kept_part w by a b at (participants_of past_of) (AreEdits w.first_edit w.installed) refl s.edits;
-    pending = λ free. absurd (not_free w.holders write_turn by n.turn free);
-    held = each_map_set held_of (AreHeld w.holders (content_of (with_content w e))) w.actors by b (holds_changed w e by a.held (s.held by a.held (at_map held_of w.actors by a at)))
-        (λ j x ne there. others_hold w e by j x n.turn ne (s.held j x there));
-    have = have_changed w.holders e by w.actors a b at refl s.have;
-    readers = kept_part w by a b at reader_of (AreReaders grown w.max_evicted w.cache) refl (readers_part history entry n.legal w.snapshots w.max_evicted w.cache w.actors s.registrations s.readers);
-    viewed = each_person_set view_of HasSeen w.actors by a b at (λ r h. let low = s.viewed by 0 (view_of a.participant) (mine view_of w.actors by a a at refl) r h in let more = shorter history a.participant.seen (s.seen by 0 a.participant.seen (mine seen_of w.actors by a a at refl)) in let l = length-append history (entry ∷ []) in omega (arith, low, more, l)) refl s.viewed;
-    judged = kept_part w by a b at reader_of (AreJudged grown) refl (judged_part history entry n.legal w.snapshots w.max_evicted w.cache w.actors s.registrations s.readers s.judged);
-    noted = each_map_set noter_of (λ j x. (fact : Fact) → IsIn fact x.1 → IsNoted w.holders (SoPending w d) j x fact) w.actors by b
-        (λ fact there. let left = in_filter (λ (f : Fact). not (ends history (length w.cache) (store_published entry others) f)) fact a.notes there in let m = s.noted by (noter_of a) (at_map noter_of w.actors by a at) fact left.0 in record { guarded = m.guarded; is_so = mine_grows w by a entry others at n s fact left.1 m.is_so })
-        (λ j x ne there fact h. let m = s.noted j x there fact h in record { guarded = m.guarded; is_so = others_grow w by a entry others at n s j x.0 ne (noter_there j x.0 x.1 there) fact m.guarded m.is_so });
-    led = kept_part w by a b at role_of AreLed refl s.led;
-    idle = idle_after w by a b write_turn at n.turn s refl;
-  }
+  now_sound =
+      all_parts (with_content w e) (set w.actors by b) (record {
+        history = history_part w.opened w.writes w.max_evicted entry others n.pending n.logged open_log n.legal s.history;
+        cache = cache_part history entry others n.legal w.writes.pending w.cache n.pending s.cache;
+        decided = decided_part history entry others n.legal w.cache w.max_evicted w.snapshots n.pair s.decided;
+        undecided = undecided_part history entry others n.legal w.writes.pending w.prepared w.max_evicted n.pending n.number s.undecided;
+        delayed = delayed_part history entry others n.legal w.prepared w.cache n.pair s.delayed;
+        flags = s.flags;
+        versions = stored_part history entry n.legal w.writes.pending others w.snapshots w.store w.installed n.pending live_within in_memory s.versions;
+        flushed = s.flushed;
+        pending = λ free. absurd (not_free w.holders write_turn by n.turn free);
+      })
+      (record {
+        seen = each_person_set seen_of (StartsWith grown) w.actors by a b at (seen_whole grown) refl (λ j i x there. seen_grows history entry x (s.seen j i x there));
+        learned = each_map_set learned_of (λ j x. StartsWith grown x) w.actors by b (grown, refl) (λ j x ne there. seen_grows history entry x (s.learned j x there));
+        owned = owned_part w.actors by a b at refl history entry refl w.opened opened_within s.owned;
+        registrations = kept_part w by a b at (participants_of registered_of) (AreRegistered grown w.snapshots) refl (registered_part history entry n.legal w.snapshots (participants registered_of w) s.registrations);
+        viewed = each_person_set view_of HasSeen w.actors by a b at (λ r h. let low = s.viewed by 0 (view_of a.participant) (mine view_of w.actors by a a at refl) r h in let more = shorter history a.participant.seen (s.seen by 0 a.participant.seen (mine seen_of w.actors by a a at refl)) in let l = length-append history (entry ∷ []) in omega (arith, low, more, l)) refl s.viewed;
+      })
+      (kept_part w by a b at (participants_of owner_of) (AreLocked grown w.locks) refl
+      (locks_part history entry n.legal w.locks (participants owner_of w) (λ name of. transaction_live w by a entry others at n s name of) (λ name batch key is changed. prepares_held w by a entry others at n s name batch key is changed) s.locks))
+      (pasts_kept w by a b at w.opened d w.locks w.first_edit w.installed refl (record {
+        holders = holders_part history entry n.legal w.opened w.locks (participants past_of w) s.holders;
+        board = board_part history entry n.legal w.locks (participants past_of w) s.board;
+        faults = faults_part w.writes entry others w.installed.halted (participants past_of w) open_log s.faults;
+        edits = s.edits;
+      }))
+      (turns_changed w by a b at e n.turn refl s)
+      (readers_kept w by a b at grown w.max_evicted w.cache refl (record {
+        readers = readers_part history entry n.legal w.snapshots w.max_evicted w.cache w.actors s.registrations s.readers;
+        judged = judged_part history entry n.legal w.snapshots w.max_evicted w.cache w.actors s.registrations s.readers s.judged;
+      }))
+      (notes_stay w by a b at (store_published entry others) w.holders (SoPending w d) refl (λ fact left m. record { guarded = m.guarded; is_so = mine_grows w by a entry others at n s fact left m.is_so })
+      (λ j x fact ne there m. record { guarded = m.guarded; is_so = others_grow w by a entry others at n s j x.0 ne (noter_there j x.0 x.1 there) fact m.guarded m.is_so }) s)
+      (led_still w by a b at refl s) (idle_after w by a b write_turn at n.turn s refl)
 
 pub stores_published : (w : World) (by : ℕ) (a : Actor) (entry : Entry) (others : List Entry) → get_elem? w.actors by ≡ some a → Needs w by a (store_published entry others) → IsSound w
     → IsSound (done w by (forgets w.writes.history (length w.cache) (store_published entry others) a) (store_published entry others))

@@ -1,5 +1,5 @@
 -- An actor that only remembers what it found keeps every part of a sound world.
-use Rattle.std.proofs.Common.{◌≡◌, ◌⊎◌, ⊎_elim, inl, inr, ℕ, ◌≤◌, true, false, not, List, [], ◌∷◌, ◌++◌, length, length-append, zero, suc, map, set, refl, sym, subst, ap, ◌∙◌, arith, Option, Some, None, is_some, take}
+use Rattle.std.proofs.Common.{◌≡◌, ◌⊎◌, ⊎_elim, inl, inr, ℕ, ◌≤◌, true, false, List, [], ◌∷◌, ◌++◌, length, length-append, zero, suc, map, set, refl, sym, subst, ap, ◌∙◌, arith, Option, Some, None, is_some, take}
 use Rattle.std.proofs.Math.Seq.{take-length}
 use mathlib.Core.Option.{some, some-injective, some-ne-none}
 use lib.ListN.{get_elem?}
@@ -8,7 +8,7 @@ use Rattle.wp_model.specs.declared.entry.Entry.{Entry}
 use Rattle.wp_model.specs.History.{named}
 use Rattle.wp_model.specs.declared.holder.Holder.{Holder}
 use Rattle.wp_model.specs.declared.holder.Holder.TheVariants.{Txn, Client}
-use Rattle.wp_core.specs.Lists.{EachAt, IsIn}
+use Rattle.wp_core.specs.Lists.{IsIn}
 use Rattle.wp_core.specs.Turns.{write_turn, locks_turn, tables_turn}
 use Rattle.wp_core.specs.Views.{Account, own, another, prepare_at, Event, claimed, took, locked, told, heard, stopped, found_flushed, found, Fact}
 use Rattle.wp_core.specs.World.{Actor, Participant, World, content_of}
@@ -18,21 +18,17 @@ use Rattle.wp_core.specs.Changes.{with_actor, remembers}
 use Rattle.wp_core.specs.Effects.{done}
 use Rattle.wp_core.specs.Needs.{Needs}
 use Rattle.wp_core.specs.Conditions.{Accounts, IsHolder, IsSelf}
-use Rattle.wp_core.specs.Notes.{forgets, ends}
-use Rattle.wp_core.specs.Sound.Actors.{seen_of, own_of, AreSeen, AreLearned, AreOwned, AreHeld, HoldersHave, AreLed, IsIdle, participants_of, learned_of, held_of, role_of, IsParticipantAt, EachParticipant}
-use Rattle.wp_core.specs.Sound.Snapshots.{registered_of, AreRegistered, view_of, HasSeen}
+use Rattle.wp_core.specs.Notes.{forgets}
+use Rattle.wp_core.specs.Sound.Actors.{seen_of, participants_of, IsParticipantAt}
 use Rattle.wp_core.specs.Sound.Locks.{Owner, owner_of, Began}
 use Rattle.wp_core.specs.Sound.Pasts.{past_of, IsPast, Makes, HasDone, IsAccounted, WasLocked, WasInstalled}
-use Rattle.wp_core.specs.Sound.Reader.{AreReaders, AreJudged, reader_of}
-use Rattle.wp_core.specs.Sound.Views.{IsNoted, noter_of}
 use Rattle.wp_core.specs.IsSound.{IsSound, participants}
-use Rattle.wp_core.proofs.Frames.{kept_map, each_map_set, each_set, at_map, in_filter}
+use Rattle.wp_core.proofs.Frames.{at_map}
 use Rattle.wp_core.proofs.AllParticipants.{mine}
-use Rattle.wp_core.proofs.PastsGrow.{in_front}
-use Rattle.wp_core.proofs.OwnersStay.{same_transactions, locked_still}
+use Rattle.wp_core.proofs.OwnersStay.{past_locked}
 use Rattle.wp_core.proofs.Quiet.{holder_lives}
 use Rattle.wp_core.proofs.Remembers.{IsQuiet, holders_more, board_more, faults_more, edits_more}
-use Rattle.wp_core.proofs.AllParts.{SoIn}
+use Rattle.wp_core.proofs.AllParts.{SoIn, all_parts, tables_of, views_still, readers_still, turns_still, notes_stay, idle_set, led_still}
 
 -- ---- what is noted
 
@@ -57,45 +53,15 @@ pub remembering : (w : World) (by : ℕ) (a : Actor) (e : Event) (step : Step) �
     → IsSound (with_actor w by (remembers (forgets w.writes.history (length w.cache) step a) e))
 remembering w by a e step at live may s =
     let b : Actor = remembers (forgets w.writes.history (length w.cache) step a) e in
-    let sn : map (participants_of seen_of) (set w.actors by b) ≡ participants seen_of w = kept_map (participants_of seen_of) w.actors by a b at refl in
-    let ow : map (participants_of own_of) (set w.actors by b) ≡ participants own_of w = kept_map (participants_of own_of) w.actors by a b at refl in
-    let vs : map (participants_of view_of) (set w.actors by b) ≡ participants view_of w = kept_map (participants_of view_of) w.actors by a b at refl in
-    let rg : map (participants_of registered_of) (set w.actors by b) ≡ participants registered_of w = kept_map (participants_of registered_of) w.actors by a b at refl in
-    let ts : map learned_of (set w.actors by b) ≡ map learned_of w.actors = kept_map learned_of w.actors by a b at refl in
-    let hs : map held_of (set w.actors by b) ≡ map held_of w.actors = kept_map held_of w.actors by a b at refl in
-    let ss : map role_of (set w.actors by b) ≡ map role_of w.actors = kept_map role_of w.actors by a b at refl in
-    let rs : map reader_of (set w.actors by b) ≡ map reader_of w.actors = kept_map reader_of w.actors by a b at refl in
-    record {
-      history = s.history;
-      seen = subst (AreSeen w.writes.history) (sym sn) s.seen;
-      learned = subst (AreLearned w.writes.history) (sym ts) s.learned;
-      owned = subst (AreOwned w.opened w.writes.history) (sym ow) s.owned;
-      cache = s.cache;
-      decided = s.decided;
-      undecided = s.undecided;
-      delayed = s.delayed;
-      registrations = subst (AreRegistered w.writes.history w.snapshots) (sym rg) s.registrations;
-      flags = s.flags;
-      versions = s.versions;
-      flushed = s.flushed;
-      locks = locked_still w.actors by a b at refl (same_transactions (owner_of a.participant) (a.participant.past ++ e ∷ []) (λ x k. in_front x a.participant.past (e ∷ []) k)) w.writes.history w.locks s.locks;
+    all_parts w (set w.actors by b) (tables_of w s) (views_still w by a b at refl s) (past_locked w.actors by a b e at refl refl w.writes.history w.locks s.locks) (record {
       holders = holders_more w.actors by a b e at refl refl w.opened w.writes.history w.locks may.accounted may.locked_for s.holders;
       board = board_more w.actors by a b e at refl refl (world.published w) w.locks may.labelled may.was_told may.not_told s.board;
       faults = faults_more w.actors by a b e at refl refl w.writes w.installed.halted may.quiet may.stopped_at s.faults;
       edits = edits_more w.actors by a b e at refl refl w.first_edit w.installed may.quiet may.was_installed s.edits;
-      pending = s.pending;
-      held = subst (EachAt (AreHeld w.holders (content_of w))) (sym hs) s.held;
-      have = subst (HoldersHave w.holders) (sym hs) s.have;
-      readers = subst (AreReaders w.writes.history w.max_evicted w.cache) (sym rs) s.readers;
-      viewed = subst (EachParticipant HasSeen) (sym vs) s.viewed;
-      judged = subst (AreJudged w.writes.history) (sym rs) s.judged;
-      noted = each_map_set noter_of (λ j x. (fact : Fact) → IsIn fact x.1 → IsNoted w.holders (SoIn w) j x fact) w.actors by b
-          (λ fact there. let k = in_filter (λ (f : Fact). not (ends w.writes.history (length w.cache) step f)) fact a.notes there in let o = s.noted by (noter_of a) (at_map noter_of w.actors by a at) fact k.0 in
-          record { guarded = o.guarded; is_so = so_past w a.participant (a.participant.past ++ e ∷ []) fact o.is_so })
-          (λ j x ne there. s.noted j x there);
-      led = subst AreLed (sym ss) s.led;
-      idle = each_set (λ j x. x.live ≡ false → IsIdle x) w.actors by b (λ dead. absurd (live dead)) (λ j x ne there. s.idle j x there);
-    }
+    }) (turns_still w by a b at refl s)
+    (readers_still w by a b at refl s)
+    (notes_stay w by a b at step w.holders (SoIn w) refl (λ fact left m. record { guarded = m.guarded; is_so = so_past w a.participant (a.participant.past ++ e ∷ []) fact m.is_so }) (λ j x fact ne there m. m) s)
+    (led_still w by a b at refl s) (idle_set w by a b at (λ dead. absurd (live dead)) s)
 
 -- ---- the four steps
 

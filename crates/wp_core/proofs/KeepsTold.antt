@@ -20,8 +20,8 @@ use Rattle.wp_core.specs.Sound.Locks.{owner_of, AreLocked}
 use Rattle.wp_core.specs.Sound.Pasts.{past_of, IsPast, AreHolders, IsBoard}
 use Rattle.wp_core.specs.IsSound.{IsSound, participants}
 use Rattle.wp_core.proofs.Keyed.{is_word_same, at_inserted, else_inserted}
-use Rattle.wp_core.proofs.OwnersStay.{same_transactions, locked_still}
-use Rattle.wp_core.proofs.PastsGrow.{in_front, past_still, past_last, past_before}
+use Rattle.wp_core.proofs.OwnersStay.{past_locked}
+use Rattle.wp_core.proofs.PastsGrow.{past_still, past_last, past_before}
 use Rattle.wp_core.proofs.LocksChange.{SoWith, actor_after, actors_after, LocksParts, locks_change}
 use Rattle.wp_core.proofs.Remembers.{IsQuiet, holders_more, faults_more, edits_more}
 use Rattle.wp_core.proofs.KeepsRemembered.{at_label}
@@ -91,7 +91,7 @@ module _ (w : World) (by : ℕ) (a : Actor) (label : List ℕ) (at : get_elem? w
 
   locked_part : AreLocked w.writes.history t (map (participants_of owner_of) (actors_after w by a (tell label) p a.learned t))
   locked_part =
-      let k = locked_still w.actors by a b at refl (same_transactions (owner_of a.participant) (a.participant.past ++ e ∷ []) (λ x c. in_front x a.participant.past (e ∷ []) c)) w.writes.history w.locks s.locks in
+      let k = past_locked w.actors by a b e at refl refl w.writes.history w.locks s.locks in
       record { prepared_names = k.prepared_names; prepared_keys = k.prepared_keys; had = λ j i o there. let c = k.had j i o there in record { names = c.names; keys = c.keys; direct = c.direct }; apart = k.apart; names_had = k.names_had; names_left = k.names_left; keys_live = k.keys_live; keys_known = k.keys_known; keys_direct = k.keys_direct }
 
   holders_part : AreHolders w.opened w.writes.history t after

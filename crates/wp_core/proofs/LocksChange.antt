@@ -15,19 +15,17 @@ use Rattle.wp_core.specs.World as world
 use Rattle.wp_core.specs.Steps.{Step}
 use Rattle.wp_core.specs.Changes.{change, held_with}
 use Rattle.wp_core.specs.Notes.{forgets, ends}
-use Rattle.wp_core.specs.Sound.Actors.{seen_of, own_of, StartsWith, AreOwned, AreHeld, AreLed, participants_of, learned_of, held_of, role_of, IsParticipantAt}
+use Rattle.wp_core.specs.Sound.Actors.{seen_of, own_of, StartsWith, AreOwned, participants_of, learned_of, IsParticipantAt}
 use Rattle.wp_core.specs.Sound.Snapshots.{registered_of, AreRegistered, view_of, HasSeen}
 use Rattle.wp_core.specs.Sound.Locks.{owner_of, AreLocked}
 use Rattle.wp_core.specs.Sound.Pasts.{past_of, AreHolders, IsBoard, AreFaults, AreEdits}
-use Rattle.wp_core.specs.Sound.Reader.{AreReaders, AreJudged, reader_of}
-use Rattle.wp_core.specs.Sound.Views.{IsSo, IsNoted, noter_of}
+use Rattle.wp_core.specs.Sound.Views.{IsSo, noter_of}
 use Rattle.wp_core.specs.IsSound.{IsSound, participants}
-use Rattle.wp_core.proofs.Frames.{each_map_set, at_map, in_filter}
+use Rattle.wp_core.proofs.Frames.{each_map_set, at_map}
 use Rattle.wp_core.proofs.Participants.{each_person_set}
-use Rattle.wp_core.proofs.Changed.{others_hold, holds_changed, have_changed}
 use Rattle.wp_core.proofs.Quiet.{idle_after}
 use Rattle.wp_core.proofs.KeepsRemembered.{from_map}
-use Rattle.wp_core.proofs.AllParts.{SoIn, kept_part}
+use Rattle.wp_core.proofs.AllParts.{SoIn, all_parts, tables_of, kept_part, readers_still, turns_changed, notes_stay, led_still}
 
 -- what is noted, with this table in place of the world's
 abbrev pub SoWith : World → LockTables → Participant → Fact → Type 0
@@ -65,34 +63,13 @@ module _ (w : World) (by : ℕ) (a : Actor) (step : Step) (p : Participant) (lea
   locks_change at holds k s =
       let b : Actor = actor_after in
       let e : Content = locks t in
-      record {
-        history = s.history;
+      all_parts (with_content w e) actors_after (tables_of w s) (record {
         seen = each_person_set seen_of (StartsWith w.writes.history) w.actors by a b at k.seen refl s.seen;
         learned = each_map_set learned_of (λ j x. StartsWith w.writes.history x) w.actors by b k.learned_part (λ j x ne there. s.learned j x there);
         owned = kept_part w by a b at (participants_of own_of) (AreOwned w.opened w.writes.history) (λ i. k.own i ∷ map own_of a.joined) s.owned;
-        cache = s.cache;
-        decided = s.decided;
-        undecided = s.undecided;
-        delayed = s.delayed;
         registrations = kept_part w by a b at (participants_of registered_of) (AreRegistered w.writes.history w.snapshots) (λ i. k.registered i ∷ map registered_of a.joined) s.registrations;
-        flags = s.flags;
-        versions = s.versions;
-        flushed = s.flushed;
-        locks = k.locks_part;
-        holders = k.holders;
-        board = k.board;
-        faults = k.faults;
-        edits = k.edits;
-        pending = s.pending;
-        held = each_map_set held_of (AreHeld w.holders (content_of (with_content w e))) w.actors by b (holds_changed w e by a.held (s.held by a.held (at_map held_of w.actors by a at)))
-            (λ j x ne there. others_hold w e by j x holds ne (s.held j x there));
-        have = have_changed w.holders e by w.actors a b at refl s.have;
-        readers = kept_part w by a b at reader_of (AreReaders w.writes.history w.max_evicted w.cache) (λ i. (k.registered i, a.reading)) s.readers;
         viewed = each_person_set view_of HasSeen w.actors by a b at (λ r h. let l = s.viewed by 0 (view_of a.participant) (mine view_of w.actors by a a at refl) r (subst (IsIn r) k.registered h) in let m = k.grown in omega (arith, l, m)) refl s.viewed;
-        judged = kept_part w by a b at reader_of (AreJudged w.writes.history) (λ i. (k.registered i, a.reading)) s.judged;
-        noted = each_map_set noter_of (λ j x. (fact : Fact) → IsIn fact x.1 → IsNoted w.holders (SoWith w t) j x fact) w.actors by b
-            (λ fact there. let left = in_filter (λ (f : Fact). not (ends w.writes.history (length w.cache) step f)) fact a.notes there in let m = s.noted by (noter_of a) (at_map noter_of w.actors by a at) fact left.0 in record { guarded = m.guarded; is_so = k.mine fact left.1 m.is_so })
-            (λ j x ne there fact h. let m = s.noted j x there fact h in record { guarded = m.guarded; is_so = k.others j x.0 fact ne (noter_there j x there) m.is_so });
-        led = kept_part w by a b at role_of AreLed refl s.led;
-        idle = idle_after w by a b locks_turn at holds s refl;
-      }
+      })
+      k.locks_part (record { holders = k.holders; board = k.board; faults = k.faults; edits = k.edits }) (turns_changed w by a b at e holds refl s) (readers_still w by a b at (λ i. (k.registered i, a.reading)) s)
+      (notes_stay w by a b at step w.holders (SoWith w t) refl (λ fact left m. record { guarded = m.guarded; is_so = k.mine fact left m.is_so }) (λ j x fact ne there m. record { guarded = m.guarded; is_so = k.others j x.0 fact ne (noter_there j x there) m.is_so }) s)
+      (led_still w by a b at refl s) (idle_after w by a b locks_turn at holds s refl)

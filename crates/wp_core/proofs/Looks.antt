@@ -12,7 +12,7 @@ use Rattle.wp_core.specs.Sound.Actors.{IsIdle}
 use Rattle.wp_core.specs.Sound.Reader.{IsReader, IsRight, reader_of}
 use Rattle.wp_core.specs.Sound.Views.{IsNoted, noter_of}
 use Rattle.wp_core.specs.IsSound.{IsSound}
-use Rattle.wp_core.proofs.AllParts.{SoIn, tables_of, views_of, pasts_of, turns_kept, idle_set, quiet_step}
+use Rattle.wp_core.proofs.AllParts.{SoIn, tables_of, views_of, pasts_of, turns_still, idle_set, quiet_step}
 use Rattle.wp_core.proofs.Frames.{each_map_set, at_map}
 
 -- what a change of an actor leaves: all but what it reads, and its notes, which become fewer
@@ -34,7 +34,7 @@ pub record ReadsRight (w : World) (b : Actor) : Type 0 where
 pub looks : (w : World) (by : ℕ) (a b : Actor) → get_elem? w.actors by ≡ some a → LeavesMost a b → ReadsRight w b → IsSound w → IsSound (with_actor w by b)
 looks w by a b at same reads s =
     let mine = s.noted by (noter_of a) (at_map noter_of w.actors by a at) in
-    quiet_step w w by a b at (λ i. (same.participant i, same.learned i, record { live = same.live i; made = same.made i; joined = same.joined i })) (tables_of w s) (views_of w s) s.locks (pasts_of w s) (turns_kept w by a b at same.held s)
+    quiet_step w w by a b at (λ i. (same.participant i, same.learned i, record { live = same.live i; made = same.made i; joined = same.joined i })) (tables_of w s) (views_of w s) s.locks (pasts_of w s) (turns_still w by a b at same.held s)
     (record {
       readers = each_map_set reader_of (λ j x. (r : Observed) → x.1 ≡ Some r → IsReader w.writes.history w.max_evicted w.cache x.0 r) w.actors by b reads.knows (λ j x ne there. s.readers j x there);
       judged = each_map_set reader_of (λ j x. (r : Observed) (visible : Bool) → x.1 ≡ Some r → judgement r ≡ Some visible → IsRight w.writes.history r.version r.snapshot visible) w.actors by b reads.right (λ j x ne there. s.judged j x there);

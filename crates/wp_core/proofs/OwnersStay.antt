@@ -1,5 +1,5 @@
 -- Names and keys, where one actor's own participant changed but for what it has of them, and its past grew.
-use Rattle.std.proofs.Common.{◌≡◌, ⊎_elim, inl, inr, ℕ, true, List, map, set, refl, sym, subst, ap, ◌∙◌, Some}
+use Rattle.std.proofs.Common.{◌≡◌, ⊎_elim, inl, inr, ℕ, true, List, [], ◌∷◌, ◌++◌, map, set, refl, sym, subst, ap, ◌∙◌, Some}
 use mathlib.Core.Option.{some}
 use lib.ListN.{get_elem?}
 use Rattle.std.specs.FinSet as set_of
@@ -13,6 +13,7 @@ use Rattle.wp_core.specs.World.{Transaction, Actor}
 use Rattle.wp_core.specs.Sound.Actors.{participants_of, IsParticipantAt}
 use Rattle.wp_core.specs.Sound.Locks.{Owner, owner_of, Has, Began, IsNameOf, IsDirectOf, IsOwner, AreLocked}
 use Rattle.wp_core.proofs.AllParticipants.{mine, mine_now, was, still}
+use Rattle.wp_core.proofs.PastsGrow.{in_front}
 
 -- the same of names and keys, and a past that grew
 pub record IsSameOwner (o p : Owner) : Type 0 where
@@ -112,3 +113,10 @@ module _ (xs : List Actor) (by : ℕ) (a b : Actor) (at : get_elem? xs by ≡ so
         subst (λ (z : set_of.FinSet key_cmp). set_of.contains z key ≡ true) u.2 (k.keys_known key name h j i o.owner o.there u.0 u.1);
     keys_direct = λ key client h. direct_still key client (k.keys_direct key client h);
   }
+
+-- one that has the same of names and keys remembers one event more
+pub past_locked : (xs : List Actor) (by : ℕ) (a b : Actor) (e : Event) → get_elem? xs by ≡ some a → b.joined ≡ a.joined → owner_of b.participant ≡ owner_of (record a.participant { past = a.participant.past ++ e ∷ [] }) → (history : List Entry) (t : LockTables)
+    → AreLocked history t (map (participants_of owner_of) xs) → AreLocked history t (map (participants_of owner_of) (set xs by b))
+past_locked xs by a b e at same is history t k =
+    let grown = same_transactions (owner_of a.participant) (a.participant.past ++ e ∷ []) (λ x there. in_front x a.participant.past (e ∷ []) there) in
+    locked_still xs by a b at same (subst (IsSameOwner (owner_of a.participant)) (sym is) grown) history t k

@@ -27,7 +27,7 @@ use Rattle.wp_history.proofs.Growth.{entry_at_old, prepared_within}
 use Rattle.wp_core.proofs.Quiet.{idle_after, NotesStay, noted_after}
 use Rattle.wp_core.proofs.ReaderFacts.{extended_stays}
 use Rattle.wp_core.proofs.StoresFlag.{not_theirs, not_free}
-use Rattle.wp_core.proofs.AllParts.{SoIn, views_of, readers_of, readers_kept, turns_changed, quiet_step}
+use Rattle.wp_core.proofs.AllParts.{SoIn, views_of, readers_still, turns_changed, quiet_step}
 
 -- the write table with what is pending, whether that is logged, and the log
 abbrev pub with_pending : WriteTable → List Entry → Bool → List Entry → WriteTable
@@ -48,7 +48,7 @@ pending_changes w by a step pending logged log at holds history cache undecided 
     quiet_step w (with_content w (writes d)) by a b at refl
     (record { history = history; cache = cache; decided = s.decided; undecided = undecided; delayed = s.delayed; flags = s.flags; versions = stored; flushed = s.flushed; pending = λ free. absurd (not_free w.holders write_turn by holds free) })
     (views_of w s) s.locks (record { holders = s.holders; board = s.board; faults = faults; edits = s.edits })
-    (turns_changed w by a b at (writes d) holds refl s) (readers_kept w by a b at w.writes.history w.max_evicted w.cache refl (readers_of w s))
+    (turns_changed w by a b at (writes d) holds refl s) (readers_still w by a b at refl s)
     (noted_after w by a b step (SoPending w d) at refl refl notes s) (idle_after w by a b write_turn at holds s refl) s
 
 -- ---- a record is made pending

@@ -26,7 +26,7 @@ use Rattle.wp_core.specs.Sound.Store.{IsStored, IsFlushedGone}
 use Rattle.wp_core.specs.Sound.Views.{IsSo, IsGuarded}
 use Rattle.wp_core.specs.IsSound.{IsSound}
 use Rattle.wp_history.proofs.Growth.{entry_at_past}
-use Rattle.wp_core.proofs.AllParts.{SoIn, views_of, pasts_of, readers_of, readers_kept, turns_changed, quiet_step}
+use Rattle.wp_core.proofs.AllParts.{SoIn, views_of, pasts_of, readers_still, turns_changed, quiet_step}
 use Rattle.wp_core.proofs.Quiet.{idle_after, NotesStay, noted_after}
 use Rattle.wp_core.proofs.StoresFlag.{not_theirs}
 
@@ -138,7 +138,7 @@ store_changes w by a step t at holds stored flushed notes s =
     let b : Actor = record c { held = held_with c.held (store t) } in
     quiet_step w (with_content w (store t)) by a b at refl
     (record { history = s.history; cache = s.cache; decided = s.decided; undecided = s.undecided; delayed = s.delayed; flags = s.flags; versions = stored; flushed = flushed; pending = s.pending })
-    (views_of w s) s.locks (pasts_of w s) (turns_changed w by a b at (store t) holds refl s) (readers_kept w by a b at w.writes.history w.max_evicted w.cache refl (readers_of w s))
+    (views_of w s) s.locks (pasts_of w s) (turns_changed w by a b at (store t) holds refl s) (readers_still w by a b at refl s)
     (noted_after w by a b step (SoStored w t) at refl refl notes s) (idle_after w by a b store_turn at holds s refl) s
 
 -- ---- they come

@@ -19,7 +19,7 @@ use Rattle.wp_core.specs.Sound.Reader.{AreReaders, reader_of}
 use Rattle.wp_core.specs.Sound.Views.{IsSo, AreNoted, noter_of, guarded_by}
 use Rattle.wp_core.specs.IsSound.{IsSound}
 use Rattle.wp_core.proofs.Frames.{at_map}
-use Rattle.wp_core.proofs.AllParts.{SoIn, views_of, pasts_of, readers_kept, turns_kept, turns_changed, notes_stay, idle_set, quiet_step}
+use Rattle.wp_core.proofs.AllParts.{SoIn, views_of, pasts_of, readers_kept, turns_still, turns_changed, notes_stay, idle_set, quiet_step}
 
 -- who holds a turn is live
 pub holder_lives : (w : World) (by : ℕ) (a : Actor) (turn : Turn) → get_elem? w.actors by ≡ some a → Holds w.holders turn by → IsSound w → a.live ≡ false → ⊥
@@ -76,6 +76,6 @@ words_change w by a step turn cache delayed_flag old_flag at holds cached decide
     let v : World = record w { cache = cache; delayed_flag = delayed_flag; old_flag = old_flag } in
     let b : Actor = forgets w.writes.history (length w.cache) step a in
     quiet_step w v by a b at refl (record { history = s.history; cache = cached; decided = decided; undecided = s.undecided; delayed = delayed; flags = flags; versions = s.versions; flushed = s.flushed; pending = s.pending })
-    (views_of w s) s.locks (pasts_of w s) (turns_kept w by a b at refl s)
+    (views_of w s) s.locks (pasts_of w s) (turns_still w by a b at refl s)
     (readers_kept w by a b at w.writes.history w.max_evicted cache refl (record { readers = readers; judged = s.judged }))
     (noted_after w by a b step (SoIn v) at refl refl notes s) (idle_after w by a b turn at holds s refl) s

@@ -1,29 +1,22 @@
 -- Giving a seat that has no transaction and no direct write to a client keeps a world sound.
-use Rattle.std.proofs.Common.{◌≡◌, ⊎_elim, ℕ, false, true≢false, not, List, length, map, set, refl, sym, subst, ap, ◌∙◌, Option, Some, None}
+use Rattle.std.proofs.Common.{◌≡◌, ⊎_elim, ℕ, true≢false, List, length, map, set, refl, sym, subst, ap, ◌∙◌, Option, Some, None}
 use mathlib.Core.Option.{some}
 use lib.ListN.{get_elem?}
 use Rattle.std.specs.FinMap as finite
 use Rattle.wp_model.specs.Batch.{key_cmp}
 use Rattle.wp_model.specs.declared.entry.Entry.{Entry}
 use Rattle.wp_model.specs.LockTables.{LockTables}
-use Rattle.wp_core.specs.Lists.{EachAt, IsIn}
 use Rattle.wp_core.specs.Views.{Fact, undecided_at, direct_free}
-use Rattle.wp_core.specs.World.{Transaction, Transactions, Actor, Participant, World, content_of}
-use Rattle.wp_core.specs.World as world
+use Rattle.wp_core.specs.World.{Transaction, Transactions, Actor, Participant, World}
 use Rattle.wp_core.specs.Steps.{set_client}
 use Rattle.wp_core.specs.Effects.{done}
 use Rattle.wp_core.specs.Needs.{Needs}
-use Rattle.wp_core.specs.Notes.{forgets, ends}
-use Rattle.wp_core.specs.Sound.Actors.{seen_of, own_of, AreSeen, AreLearned, AreOwned, AreHeld, HoldersHave, AreLed, IsIdle, participants_of, learned_of, held_of, role_of, IsParticipantAt, EachParticipant}
-use Rattle.wp_core.specs.Sound.Snapshots.{registered_of, AreRegistered, view_of, HasSeen}
+use Rattle.wp_core.specs.Notes.{forgets}
+use Rattle.wp_core.specs.Sound.Actors.{participants_of, IsParticipantAt}
 use Rattle.wp_core.specs.Sound.Locks.{Owner, owner_of, Has, IsOwner, AreLocked}
-use Rattle.wp_core.specs.Sound.Pasts.{past_of, AreHolders, IsBoard, AreFaults, AreEdits}
-use Rattle.wp_core.specs.Sound.Reader.{AreReaders, AreJudged, reader_of}
-use Rattle.wp_core.specs.Sound.Views.{IsNoted, noter_of}
 use Rattle.wp_core.specs.IsSound.{IsSound}
-use Rattle.wp_core.proofs.Frames.{each_map_set, each_set, at_map, in_filter}
 use Rattle.wp_core.proofs.AllParticipants.{was, still}
-use Rattle.wp_core.proofs.AllParts.{SoIn, kept_part}
+use Rattle.wp_core.proofs.AllParts.{SoIn, all_parts, tables_of, views_still, pasts_still, readers_still, turns_still, notes_stay, idle_set, led_still}
 
 -- it has no transaction and no direct write
 pub record HasNothing (transactions : Transactions) (direct : Option (List ℕ)) : Type 0 where
@@ -109,34 +102,7 @@ sets_client w by a client at needs s =
     let c : Actor = forgets w.writes.history (length w.cache) (set_client client) a in
     let b : Actor = record c { participant = record c.participant { client = client } } in
     let nothing : HasNothing a.participant.transactions a.participant.direct = record { none = needs.1; not_writing = needs.2 } in
-    record {
-      history = s.history;
-      seen = kept_part w by a b at (participants_of seen_of) (AreSeen w.writes.history) refl s.seen;
-      learned = kept_part w by a b at learned_of (AreLearned w.writes.history) refl s.learned;
-      owned = kept_part w by a b at (participants_of own_of) (AreOwned w.opened w.writes.history) refl s.owned;
-      cache = s.cache;
-      decided = s.decided;
-      undecided = s.undecided;
-      delayed = s.delayed;
-      registrations = kept_part w by a b at (participants_of registered_of) (AreRegistered w.writes.history w.snapshots) refl s.registrations;
-      flags = s.flags;
-      versions = s.versions;
-      flushed = s.flushed;
-      locks = locked_none w.actors by a b at refl nothing nothing w.writes.history w.locks s.locks;
-      holders = kept_part w by a b at (participants_of past_of) (AreHolders w.opened w.writes.history w.locks) refl s.holders;
-      board = kept_part w by a b at (participants_of past_of) (IsBoard (world.published w) w.locks) refl s.board;
-      faults = kept_part w by a b at (participants_of past_of) (AreFaults w.writes w.installed.halted) refl s.faults;
-      edits = kept_part w by a b at (participants_of past_of) (AreEdits w.first_edit w.installed) refl s.edits;
-      pending = s.pending;
-      held = kept_part w by a b at held_of (EachAt (AreHeld w.holders (content_of w))) refl s.held;
-      have = kept_part w by a b at held_of (HoldersHave w.holders) refl s.have;
-      readers = kept_part w by a b at reader_of (AreReaders w.writes.history w.max_evicted w.cache) refl s.readers;
-      viewed = kept_part w by a b at (participants_of view_of) (EachParticipant HasSeen) refl s.viewed;
-      judged = kept_part w by a b at reader_of (AreJudged w.writes.history) refl s.judged;
-      noted = each_map_set noter_of (λ j x. (fact : Fact) → IsIn fact x.1 → IsNoted w.holders (SoIn w) j x fact) w.actors by b
-          (λ fact h. let k = in_filter (λ (f : Fact). not (ends w.writes.history (length w.cache) (set_client client) f)) fact a.notes h in let o = s.noted by (noter_of a) (at_map noter_of w.actors by a at) fact k.0 in
-          record { guarded = o.guarded; is_so = so_client w a.participant client fact nothing o.is_so })
-          (λ j x ne there. s.noted j x there);
-      led = kept_part w by a b at role_of AreLed refl s.led;
-      idle = each_set (λ j x. x.live ≡ false → IsIdle x) w.actors by b (λ dead. absurd (true≢false (sym needs.0 ∙ dead))) (λ j x ne there. s.idle j x there);
-    }
+    all_parts w (set w.actors by b) (tables_of w s) (views_still w by a b at refl s) (locked_none w.actors by a b at refl nothing nothing w.writes.history w.locks s.locks) (pasts_still w by a b at refl s) (turns_still w by a b at refl s)
+    (readers_still w by a b at refl s)
+    (notes_stay w by a b at (set_client client) w.holders (SoIn w) refl (λ fact left m. record { guarded = m.guarded; is_so = so_client w a.participant client fact nothing m.is_so }) (λ j x fact ne there m. m) s)
+    (led_still w by a b at refl s) (idle_set w by a b at (λ dead. absurd (true≢false (sym needs.0 ∙ dead))) s)

@@ -3,7 +3,6 @@ use Rattle.std.proofs.Common.{◌≡◌, ◌≢◌, ◌⊎◌, ⊎_elim, inl, in
 use mathlib.Core.Option.{some}
 use lib.ListN.{get_elem?}
 use Rattle.wp_model.specs.declared.holder.Holder.{Holder}
-use Rattle.wp_core.specs.Lists.{IsIn}
 use Rattle.wp_core.specs.Turns.{Holds, tables_turn}
 use Rattle.wp_core.specs.Tables.{Content, InstalledEdit, Installed, installed}
 use Rattle.wp_core.specs.Views.{Account, Event, told, heard, stopped, found_flushed, found, Fact}
@@ -12,23 +11,18 @@ use Rattle.wp_core.specs.World as world
 use Rattle.wp_core.specs.Steps.{Step}
 use Rattle.wp_core.specs.Changes.{change, held_with, remembers}
 use Rattle.wp_core.specs.Notes.{forgets, ends}
-use Rattle.wp_core.specs.Sound.Actors.{seen_of, own_of, AreSeen, AreLearned, AreOwned, AreHeld, AreLed, participants_of, learned_of, held_of, role_of, IsParticipantAt, EachParticipant}
-use Rattle.wp_core.specs.Sound.Snapshots.{registered_of, AreRegistered, view_of, HasSeen}
+use Rattle.wp_core.specs.Sound.Actors.{participants_of, IsParticipantAt}
 use Rattle.wp_core.specs.Sound.Store.{IsStored}
-use Rattle.wp_core.specs.Sound.Locks.{owner_of}
 use Rattle.wp_core.specs.Sound.Pasts.{past_of, AreFaults, WasInstalled, tables_due, OtherCompacts, AreEdits}
-use Rattle.wp_core.specs.Sound.Reader.{AreReaders, AreJudged, reader_of}
-use Rattle.wp_core.specs.Sound.Views.{IsSo, IsGuarded, IsNoted, noter_of}
+use Rattle.wp_core.specs.Sound.Views.{IsSo, IsGuarded}
 use Rattle.wp_core.specs.IsSound.{IsSound}
-use Rattle.wp_core.proofs.Frames.{each_map_set, at_map, in_filter}
-use Rattle.wp_core.proofs.Changed.{others_hold, holds_changed, have_changed}
 use Rattle.wp_core.proofs.AllParticipants.{mine, was_apart}
-use Rattle.wp_core.proofs.OwnersStay.{same_transactions, locked_still}
-use Rattle.wp_core.proofs.PastsGrow.{in_front, past_before}
+use Rattle.wp_core.proofs.OwnersStay.{past_locked}
+use Rattle.wp_core.proofs.PastsGrow.{past_before}
 use Rattle.wp_core.proofs.Quiet.{idle_after}
 use Rattle.wp_core.proofs.Remembers.{holders_more, board_more, installed_still, compacts_still}
 use Rattle.wp_core.proofs.StoresFlag.{not_free}
-use Rattle.wp_core.proofs.AllParts.{SoIn, kept_part}
+use Rattle.wp_core.proofs.AllParts.{SoIn, all_parts, views_still, readers_still, turns_changed, notes_stay, led_still}
 
 -- what is noted, with this in place of what the world has installed
 abbrev pub SoInstalled : World → Installed → Participant → Fact → Type 0
@@ -97,35 +91,16 @@ module _ (w : World) (by : ℕ) (a : Actor) (step : Step) (e : Event) (t : Insta
   tables_change at holds k s =
       let b : Actor = actor_after in
       let c : Content = installed t in
-      record {
-        history = s.history;
-        seen = kept_part w by a b at (participants_of seen_of) (AreSeen w.writes.history) refl s.seen;
-        learned = kept_part w by a b at learned_of (AreLearned w.writes.history) refl s.learned;
-        owned = kept_part w by a b at (participants_of own_of) (AreOwned w.opened w.writes.history) refl s.owned;
-        cache = s.cache;
-        decided = s.decided;
-        undecided = s.undecided;
-        delayed = s.delayed;
-        registrations = kept_part w by a b at (participants_of registered_of) (AreRegistered w.writes.history w.snapshots) refl s.registrations;
-        flags = s.flags;
-        versions = k.stored;
-        flushed = λ free. absurd (not_free w.holders tables_turn by holds free);
-        locks = locked_still w.actors by a b at refl (same_transactions (owner_of a.participant) (a.participant.past ++ e ∷ []) (λ x there. in_front x a.participant.past (e ∷ []) there)) w.writes.history w.locks s.locks;
+      all_parts (with_content w c) (set w.actors by b)
+      (record { history = s.history; cache = s.cache; decided = s.decided; undecided = s.undecided; delayed = s.delayed; flags = s.flags; versions = k.stored; flushed = λ free. absurd (not_free w.holders tables_turn by holds free); pending = s.pending })
+      (views_still w by a b at refl s) (past_locked w.actors by a b e at refl refl w.writes.history w.locks s.locks) (record {
         holders = holders_more w.actors by a b e at refl refl w.opened w.writes.history w.locks (λ key holder seen account q. absurd (k.event.finds_none key holder seen account q)) (λ key holder seen account q. absurd (k.event.finds_none (Some key) holder seen account q)) s.holders;
         board = board_more w.actors by a b e at refl refl (world.published w) w.locks (λ label n q. absurd (k.event.no_label label n q)) (λ label n q. absurd (k.event.no_label label n (inr q))) (λ label n q. k.event.no_label label n (inl q)) s.board;
         faults = k.faults;
         edits = k.edits;
-        pending = s.pending;
-        held = each_map_set held_of (AreHeld w.holders (content_of (with_content w c))) w.actors by b (holds_changed w c by a.held (s.held by a.held (at_map held_of w.actors by a at)))
-            (λ j x ne there. others_hold w c by j x holds ne (s.held j x there));
-        have = have_changed w.holders c by w.actors a b at refl s.have;
-        readers = kept_part w by a b at reader_of (AreReaders w.writes.history w.max_evicted w.cache) refl s.readers;
-        viewed = kept_part w by a b at (participants_of view_of) (EachParticipant HasSeen) refl s.viewed;
-        judged = kept_part w by a b at reader_of (AreJudged w.writes.history) refl s.judged;
-        noted = each_map_set noter_of (λ j x. (fact : Fact) → IsIn fact x.1 → IsNoted w.holders (SoInstalled w t) j x fact) w.actors by b
-            (λ fact there. let left = in_filter (λ (f : Fact). not (ends w.writes.history (length w.cache) step f)) fact a.notes there in let m = s.noted by (noter_of a) (at_map noter_of w.actors by a at) fact left.0 in
-            record { guarded = m.guarded; is_so = so_past a.participant (a.participant.past ++ e ∷ []) fact (k.mine_so a.participant fact left.1 m.is_so) })
-            (λ j x ne there fact h. let m = s.noted j x there fact h in record { guarded = m.guarded; is_so = k.others_so j x.0 fact ne m.guarded m.is_so });
-        led = kept_part w by a b at role_of AreLed refl s.led;
-        idle = idle_after w by a b tables_turn at holds s refl;
-      }
+      }) (turns_changed w by a b at c holds refl s)
+      (readers_still w by a b at refl s)
+      (notes_stay w by a b at step w.holders (SoInstalled w t) refl
+      (λ fact left m. record { guarded = m.guarded; is_so = so_past a.participant (a.participant.past ++ e ∷ []) fact (k.mine_so a.participant fact left m.is_so) })
+      (λ j x fact ne there m. record { guarded = m.guarded; is_so = k.others_so j x.0 fact ne m.guarded m.is_so }) s)
+      (led_still w by a b at refl s) (idle_after w by a b tables_turn at holds s refl)
