@@ -5,7 +5,7 @@ use lib.ListN.{get_elem?}
 use Rattle.wp_core.specs.Lists.{one_if}
 use Rattle.wp_core.specs.Tables.{Content, WriteTable, writes}
 use Rattle.wp_core.specs.Turns.{write_turn}
-use Rattle.wp_core.specs.Views.{log_failed, told, heard, stopped, Fact}
+use Rattle.wp_core.specs.Views.{log_failed, stopped, Fact}
 use Rattle.wp_core.specs.World.{Participant, Actor, World, content_of, with_content}
 use Rattle.wp_core.specs.World as world
 use Rattle.wp_core.specs.Steps.{close_log}
@@ -21,7 +21,7 @@ use Rattle.wp_core.proofs.OwnersStay.{past_locked}
 use Rattle.wp_core.proofs.PastsGrow.{past_before, times_more}
 use Rattle.wp_core.proofs.PendingSteps.{SoPending}
 use Rattle.wp_core.proofs.Quiet.{idle_after}
-use Rattle.wp_core.proofs.Remembers.{holders_more, board_more, edits_still}
+use Rattle.wp_core.proofs.Remembers.{holders_still, board_still, edits_still}
 use Rattle.wp_core.proofs.StoresFlag.{not_free}
 use Rattle.wp_core.proofs.AllParts.{SoIn, all_parts, views_still, readers_still, turns_changed, notes_stay, led_still}
 
@@ -74,8 +74,8 @@ module _ (w : World) (by : ℕ) (a : Actor) (at : get_elem? w.actors by ≡ some
       all_parts (with_content w e) (set w.actors by b)
       (record { history = history_closed; cache = s.cache; decided = s.decided; undecided = s.undecided; delayed = s.delayed; flags = s.flags; versions = s.versions; flushed = s.flushed; pending = λ free. absurd (not_free w.holders write_turn by n.0 free) })
       (views_still w by a b at refl s) (past_locked w.actors by a b log_failed at refl refl w.writes.history w.locks s.locks) (record {
-        holders = holders_more w.actors by a b log_failed at refl refl w.opened w.writes.history w.locks (λ key holder seen account q. absurd cc) (λ key holder seen account q. absurd cc) s.holders;
-        board = board_more w.actors by a b log_failed at refl refl (world.published w) w.locks (λ label m k. ⊎_elim (λ (q : log_failed ≡ told label m). absurd cc) (λ (q : log_failed ≡ heard label m). absurd cc) k) (λ label m q. absurd cc) (λ label m q. absurd cc) s.board;
+        holders = holders_still w.actors by a b log_failed at refl refl w.opened w.writes.history w.locks tt s.holders;
+        board = board_still w.actors by a b log_failed at refl refl (world.published w) w.locks tt s.board;
         faults = faults_closed;
         edits = edits_still w.actors by a b log_failed at refl refl w.first_edit w.installed (λ m. refl) (λ m q. absurd cc) s.edits;
       }) (turns_changed w by a b at e n.0 refl s)

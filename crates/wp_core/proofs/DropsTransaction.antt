@@ -1,29 +1,25 @@
 -- A step that takes a transaction from the actor that has it, with its name left or gone, keeps a world sound.
-use Rattle.std.proofs.Common.{◌≡◌, ◌≢◌, ◌⊎◌, not, ⊎_elim, inl, ℕ, true, List, length, map, refl, sym, subst, ap, ◌∙◌, Some, None, is_some, arith}
+use Rattle.std.proofs.Common.{◌≡◌, ◌≢◌, ◌⊎◌, not, ⊎_elim, inl, ℕ, true, List, length, map, refl, sym, subst, ap, ◌∙◌, Some, None, is_some}
 use mathlib.Core.Option.{some}
 use lib.ListN.{get_elem?}
 use Rattle.std.specs.FinMap as finite
-use Rattle.wp_model.specs.Batch.{key_cmp}
 use Rattle.wp_model.specs.History.{is_undecided, is_changed, name_at, batch_at, named}
 use Rattle.wp_model.specs.declared.holder.Holder.{Holder}
 use Rattle.wp_model.specs.declared.holder.Holder.TheVariants.{Txn, Client}
 use Rattle.wp_model.specs.LockTables.{LockTables}
 use Rattle.wp_core.specs.Views.{Fact, undecided_at, prior_values, unprepared, direct_free}
 use Rattle.wp_core.specs.World.{Transaction, Actor, Participant, World}
-use Rattle.wp_core.specs.World as world
 use Rattle.wp_core.specs.Steps.{Step}
 use Rattle.wp_core.specs.Notes.{ends, ends_transaction}
-use Rattle.wp_core.specs.Sound.Actors.{participants_of, seen_of, learned_of, IsParticipantAt}
+use Rattle.wp_core.specs.Sound.Actors.{participants_of, IsParticipantAt}
 use Rattle.wp_core.specs.Sound.Locks.{Owner, owner_of, Has, IsNameOf, IsDirectOf, IsOwner, AreLocked}
-use Rattle.wp_core.specs.Sound.Pasts.{past_of, AreHolders, IsBoard, AreFaults, AreEdits}
 use Rattle.wp_core.specs.Sound.Views.{Owns}
 use Rattle.wp_core.specs.IsSound.{IsSound, participants}
-use Rattle.wp_core.proofs.Frames.{at_map}
 use Rattle.wp_core.proofs.Keyed.{is_word_same, else_removed, still_there}
-use Rattle.wp_core.proofs.OwnerMoves.{name_kept, direct_kept, owner_before}
-use Rattle.wp_core.proofs.AllParticipants.{mine, was, was_apart}
-use Rattle.wp_core.proofs.LocksChange.{SoWith, actor_after, actors_after, LocksParts}
-use Rattle.wp_core.proofs.AllParts.{SoIn, kept_part}
+use Rattle.wp_core.proofs.OwnerMoves.{each_owner, names_apart, direct_apart, key_known, name_kept, direct_kept}
+use Rattle.wp_core.proofs.AllParticipants.{mine}
+use Rattle.wp_core.proofs.LocksChange.{SoWith, actor_after, actors_after, LocksParts, pasts_left}
+use Rattle.wp_core.proofs.AllParts.{SoIn}
 
 -- what of names and keys a step leaves that drops a transaction
 pub record Drops (w : World) (name : List ℕ) (t : LockTables) (step : Step) : Type 0 where
@@ -46,13 +42,13 @@ module _ (w : World) (by : ℕ) (a : Actor) (name : List ℕ) (x0 : Transaction)
   p = record a.participant { transactions = finite.remove a.participant.transactions name }
 
   abbrev b : Actor
-  b = actor_after w by a step p a.learned t
+  b = actor_after w by a step p t
 
   abbrev before : List (List Owner)
   before = participants owner_of w
 
   abbrev after : List (List Owner)
-  after = map (participants_of owner_of) (actors_after w by a step p a.learned t)
+  after = map (participants_of owner_of) (actors_after w by a step p t)
 
   own_before : IsParticipantAt before by 0 (owner_of a.participant)
   own_before = mine owner_of w.actors by a b at refl
@@ -88,12 +84,6 @@ module _ (w : World) (by : ℕ) (a : Actor) (name : List ℕ) (x0 : Transaction)
         direct = λ c h. d.directs c a.participant.client (old.direct c h);
       }
 
-  -- who is there was there, with the same direct write, and had each transaction that it has
-  had : (j i : ℕ) (o : Owner) → IsParticipantAt after j i o → (c : Owner) × IsParticipantAt before j i c × (o.direct ≡ c.direct) × ((n : List ℕ) (x : Transaction) → Has o n x → Has c n x)
-  had j i o k = ⊎_elim
-      (λ (g : (j ≡ by) × (i ≡ 0) × (o ≡ owner_of p)). (owner_of a.participant, owner_before w.actors by a b at refl j i g.0 g.1, ap (λ (z : Owner). z.direct) g.2, λ n x h. (had_name n x (subst (λ (z : Owner). Has z n x) g.2 h)).1))
-      (λ (g : IsParticipantAt before j i o). (o, g, refl, λ n x h. h)) (was owner_of w.actors by a b at refl j i o k)
-
   name_still : (n c : List ℕ) → (n ≡ name → ⊥) → IsNameOf before n c → IsNameOf after n c
   name_still n c ne k = name_kept w.actors by a b at refl refl (λ x k. k) n c (λ y h. (y, has_still n y ne h)) k
 
@@ -114,21 +104,12 @@ module _ (w : World) (by : ℕ) (a : Actor) (name : List ℕ) (x0 : Transaction)
   locked_part = record {
     prepared_names = d.prepared_names;
     prepared_keys = d.prepared_keys;
-    had = λ j i o there. ⊎_elim
-        (λ (g : (j ≡ by) × (i ≡ 0) × (o ≡ owner_of p)). subst (IsOwner t) (sym g.2) own_owner)
-        (λ (g : ((j ≢ by) ⊎ (i ≢ 0)) × IsParticipantAt before j i o). other_owner j i o g.0 g.1) (was_apart owner_of w.actors by a b at refl j i o there);
-    apart = record {
-      names = λ j i k l o q n x y here there first second.
-          let u = had j i o here in let v = had k l q there in
-          s.locks.apart.names j i k l u.0 v.0 n x y u.1 v.1 (u.3 n x first) (v.3 n y second);
-      direct = λ j i k l o q c here there first second.
-          let u = had j i o here in let v = had k l q there in
-          s.locks.apart.direct j i k l u.0 v.0 c u.1 v.1 (sym u.2 ∙ first) (sym v.2 ∙ second);
-    };
+    had = each_owner w.actors by a b at refl (IsOwner t) own_owner other_owner;
+    apart = record { names = names_apart w.actors by a b at refl (λ n x h. (x, (had_name n x h).1)) s.locks.apart; direct = direct_apart w.actors by a b at refl (λ c h. h) s.locks.apart };
     names_had = names_had;
     names_left = names_left;
     keys_live = d.live;
-    keys_known = λ k n h j i o there x first. let u = had j i o there in s.locks.keys_known k n (d.transactions_were k n h) j i u.0 u.1 x (u.3 n x first);
+    keys_known = λ k n h. key_known w.actors by a b at refl (λ m x has_it. (had_name m x has_it).1) k n (s.locks.keys_known k n (d.transactions_were k n h));
     keys_direct = λ k c h. direct_still k c (s.locks.keys_direct k c (d.directs_were k c h));
   }
 
@@ -151,25 +132,5 @@ module _ (w : World) (by : ℕ) (a : Actor) (name : List ℕ) (x0 : Transaction)
   were k (Txn n) h = d.transactions_were k n h
   were k (Client c) h = d.directs_were k c h
 
-  pub dropped_parts : LocksParts w by a step p a.learned t
-  dropped_parts = record {
-    seen = s.seen by 0 a.participant.seen (mine seen_of w.actors by a b at refl);
-    learned_part = s.learned by a.learned (at_map learned_of w.actors by a at);
-    grown = omega arith;
-    own = refl;
-    registered = refl;
-    locks_part = locked_part;
-    holders = let k = kept_part w by a b at (participants_of past_of) (AreHolders w.opened w.writes.history w.locks) refl s.holders in record { names = λ n h. k.names n (d.live_were n h); keys = λ c holder h. k.keys c holder (were c holder h); found_keys = k.found_keys; found = k.found };
-    board =
-        let k = kept_part w by a b at (participants_of past_of) (IsBoard (world.published w) w.locks) refl s.board in
-        record {
-          labels = λ label n h. ap (λ (z : finite.FinMap key_cmp ℕ). is_some (finite.get z label)) d.labels ∙ k.labels label n h;
-          numbers = λ label n h. k.numbers label n (ap (λ (z : finite.FinMap key_cmp ℕ). finite.get z label) (sym d.labels) ∙ h);
-          heard = k.heard;
-          told = k.told;
-        };
-    faults = kept_part w by a b at (participants_of past_of) (AreFaults w.writes w.installed.halted) refl s.faults;
-    edits = kept_part w by a b at (participants_of past_of) (AreEdits w.first_edit w.installed) refl s.edits;
-    mine = mine_still;
-    others = others_still;
-  }
+  pub dropped_parts : LocksParts w by a step p t
+  dropped_parts = record { locks_part = locked_part; pasts_part = pasts_left w by a step p t at refl d.labels d.live_were were s; mine = mine_still; others = others_still }

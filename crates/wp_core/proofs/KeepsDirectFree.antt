@@ -1,5 +1,5 @@
 -- Freeing the key of a direct write keeps every part of a sound world.
-use Rattle.std.proofs.Common.{◌≡◌, ◌≢◌, ◌⊎◌, ⊎_elim, inl, ℕ, true, not, true≢false, List, length, map, refl, sym, subst, ap, ◌∙◌, Some, None, arith}
+use Rattle.std.proofs.Common.{◌≡◌, ◌≢◌, ◌⊎◌, ⊎_elim, inl, ℕ, true, not, true≢false, List, length, map, refl, sym, ap, ◌∙◌, Some, None}
 use mathlib.Core.Option.{some}
 use lib.ListN.{get_elem?}
 use Rattle.std.specs.FinMap as finite
@@ -8,23 +8,20 @@ use Rattle.wp_model.specs.declared.holder.Holder.{Holder}
 use Rattle.wp_model.specs.declared.holder.Holder.TheVariants.{Txn, Client}
 use Rattle.wp_model.specs.LockTables.{LockTables}
 use Rattle.wp_core.specs.Views.{Fact, undecided_at, direct_free}
-use Rattle.wp_core.specs.World.{Transaction, Actor, Participant, World}
-use Rattle.wp_core.specs.World as world
+use Rattle.wp_core.specs.World.{Actor, Participant, World}
 use Rattle.wp_core.specs.Steps.{free_direct}
 use Rattle.wp_core.specs.Changes.{without_key}
 use Rattle.wp_core.specs.Effects.{done}
 use Rattle.wp_core.specs.Needs.{Needs}
 use Rattle.wp_core.specs.Notes.{forgets, ends}
-use Rattle.wp_core.specs.Sound.Actors.{participants_of, seen_of, learned_of, IsParticipantAt}
+use Rattle.wp_core.specs.Sound.Actors.{participants_of, IsParticipantAt}
 use Rattle.wp_core.specs.Sound.Locks.{Owner, owner_of, IsNameOf, IsDirectOf, IsOwner, AreLocked}
-use Rattle.wp_core.specs.Sound.Pasts.{past_of, AreHolders, IsBoard, AreFaults, AreEdits}
 use Rattle.wp_core.specs.IsSound.{IsSound, participants}
-use Rattle.wp_core.proofs.Frames.{at_map}
 use Rattle.wp_core.proofs.Keyed.{is_word_same, else_removed, still_there}
-use Rattle.wp_core.proofs.OwnerMoves.{name_kept, direct_kept, owner_before}
-use Rattle.wp_core.proofs.AllParticipants.{mine, was, was_apart}
-use Rattle.wp_core.proofs.LocksChange.{SoWith, actor_after, actors_after, LocksParts, locks_change}
-use Rattle.wp_core.proofs.AllParts.{SoIn, kept_part}
+use Rattle.wp_core.proofs.OwnerMoves.{each_owner, names_apart, direct_apart, key_known, name_kept, direct_kept}
+use Rattle.wp_core.proofs.AllParticipants.{mine}
+use Rattle.wp_core.proofs.LocksChange.{SoWith, actor_after, actors_after, LocksParts, locks_change, pasts_left}
+use Rattle.wp_core.proofs.AllParts.{SoIn}
 
 module _ (w : World) (by : ℕ) (a : Actor) (key : List ℕ) (at : get_elem? w.actors by ≡ some a) (has : a.participant.direct ≡ Some key) (s : IsSound w) where
   abbrev client : List ℕ
@@ -37,13 +34,13 @@ module _ (w : World) (by : ℕ) (a : Actor) (key : List ℕ) (at : get_elem? w.a
   p = record a.participant { direct = None }
 
   abbrev b : Actor
-  b = actor_after w by a (free_direct key) p a.learned t
+  b = actor_after w by a (free_direct key) p t
 
   abbrev before : List (List Owner)
   before = participants owner_of w
 
   abbrev after : List (List Owner)
-  after = map (participants_of owner_of) (actors_after w by a (free_direct key) p a.learned t)
+  after = map (participants_of owner_of) (actors_after w by a (free_direct key) p t)
 
   own_before : IsParticipantAt before by 0 (owner_of a.participant)
   own_before = mine owner_of w.actors by a b at refl
@@ -78,16 +75,9 @@ module _ (w : World) (by : ℕ) (a : Actor) (key : List ℕ) (at : get_elem? w.a
       let old = s.locks.had by 0 (owner_of a.participant) own_before in
       record { names = old.names; keys = λ name x c h held. txn_still c name (old.keys name x c h held); direct = λ c h. absurd cc }
 
-  had_names : (j i : ℕ) (o : Owner) → IsParticipantAt after j i o → (c : Owner) × IsParticipantAt before j i c × (o.transactions ≡ c.transactions)
-  had_names j i o k = ⊎_elim
-      (λ (g : (j ≡ by) × (i ≡ 0) × (o ≡ owner_of p)). (owner_of a.participant, owner_before w.actors by a b at refl j i g.0 g.1, ap (λ (z : Owner). z.transactions) g.2))
-      (λ (g : IsParticipantAt before j i o). (o, g, refl)) (was owner_of w.actors by a b at refl j i o k)
-
-  -- who has a direct write now had it
-  had_direct : (j i : ℕ) (o : Owner) (c : List ℕ) → IsParticipantAt after j i o → o.direct ≡ Some c → IsParticipantAt before j i o
-  had_direct j i o c k h = ⊎_elim
-      (λ (g : (j ≡ by) × (i ≡ 0) × (o ≡ owner_of p)). let f : None ≡ Some c = sym (ap (λ (z : Owner). z.direct) g.2) ∙ h in absurd cc)
-      (λ (g : IsParticipantAt before j i o). g) (was owner_of w.actors by a b at refl j i o k)
+  -- it has no direct write
+  had_direct : (c : List ℕ) → p.direct ≡ Some c → a.participant.direct ≡ Some c
+  had_direct c h = absurd cc
 
   name_still : (n c : List ℕ) → IsNameOf before n c → IsNameOf after n c
   name_still n c k = name_kept w.actors by a b at refl refl (λ x k. k) n c (λ y h. (y, h)) k
@@ -102,19 +92,12 @@ module _ (w : World) (by : ℕ) (a : Actor) (key : List ℕ) (at : get_elem? w.a
   locked_part = record {
     prepared_names = s.locks.prepared_names;
     prepared_keys = λ q k u h. txn_still k (name_at w.writes.history q) (s.locks.prepared_keys q k u h);
-    had = λ j i o there. ⊎_elim
-        (λ (g : (j ≡ by) × (i ≡ 0) × (o ≡ owner_of p)). subst (IsOwner t) (sym g.2) own_owner)
-        (λ (g : ((j ≢ by) ⊎ (i ≢ 0)) × IsParticipantAt before j i o). other_owner j i o g.0 g.1) (was_apart owner_of w.actors by a b at refl j i o there);
-    apart = record {
-      names = λ j i k l o q n x y here there first second.
-          let u = had_names j i o here in let v = had_names k l q there in
-          s.locks.apart.names j i k l u.0 v.0 n x y u.1 v.1 (ap (λ ts. finite.get ts n) (sym u.2) ∙ first) (ap (λ ts. finite.get ts n) (sym v.2) ∙ second);
-      direct = λ j i k l o q c here there first second. s.locks.apart.direct j i k l o q c (had_direct j i o c here first) (had_direct k l q c there second) first second;
-    };
+    had = each_owner w.actors by a b at refl (IsOwner t) own_owner other_owner;
+    apart = record { names = names_apart w.actors by a b at refl (λ n x h. (x, h)) s.locks.apart; direct = direct_apart w.actors by a b at refl had_direct s.locks.apart };
     names_had = λ n c h. name_still n c (s.locks.names_had n c h);
     names_left = s.locks.names_left;
     keys_live = λ k n h. s.locks.keys_live k n (held_before k (Txn n) h).1;
-    keys_known = λ k n h j i o there x has. let u = had_names j i o there in s.locks.keys_known k n (held_before k (Txn n) h).1 j i u.0 u.1 x (ap (λ ts. finite.get ts n) (sym u.2) ∙ has);
+    keys_known = λ k n h. key_known w.actors by a b at refl (λ m x has. has) k n (s.locks.keys_known k n (held_before k (Txn n) h).1);
     keys_direct = λ k c h. let u = held_before k (Client c) h in direct_still k c u.0 (s.locks.keys_direct k c u.1);
   }
 
@@ -128,22 +111,9 @@ module _ (w : World) (by : ℕ) (a : Actor) (key : List ℕ) (at : get_elem? w.a
   others_still j q (direct_free c) ne there k = (k.0, else_removed w.locks.keys key c (not_theirs j 0 (owner_of q) c (inl ne) there k.0) ∙ k.1, k.2)
   others_still j q fact ne there k = k
 
-  parts : LocksParts w by a (free_direct key) p a.learned t
-  parts = record {
-    seen = s.seen by 0 a.participant.seen (mine seen_of w.actors by a b at refl);
-    learned_part = s.learned by a.learned (at_map learned_of w.actors by a at);
-    grown = omega arith;
-    own = refl;
-    registered = refl;
-    locks_part = locked_part;
-    holders = let k = kept_part w by a b at (participants_of past_of) (AreHolders w.opened w.writes.history w.locks) refl s.holders in record { names = k.names; keys = λ c holder h. k.keys c holder (held_before c holder h).1; found_keys = k.found_keys; found = k.found };
-    board = let k = kept_part w by a b at (participants_of past_of) (IsBoard (world.published w) w.locks) refl s.board in record { labels = k.labels; numbers = k.numbers; heard = k.heard; told = k.told };
-    faults = kept_part w by a b at (participants_of past_of) (AreFaults w.writes w.installed.halted) refl s.faults;
-    edits = kept_part w by a b at (participants_of past_of) (AreEdits w.first_edit w.installed) refl s.edits;
-    mine = mine_still;
-    others = others_still;
-  }
+  parts : LocksParts w by a (free_direct key) p t
+  parts = record { locks_part = locked_part; pasts_part = pasts_left w by a (free_direct key) p t at refl refl (λ n live. live) (λ c holder h. (held_before c holder h).1) s; mine = mine_still; others = others_still }
 
 pub frees_direct : (w : World) (by : ℕ) (a : Actor) (key : List ℕ) → get_elem? w.actors by ≡ some a → Needs w by a (free_direct key) → IsSound w
     → IsSound (done w by (forgets w.writes.history (length w.cache) (free_direct key) a) (free_direct key))
-frees_direct w by a key at needs s = locks_change w by a (free_direct key) (p w by a key at needs.1 s) a.learned (t w by a key at needs.1 s) at needs.0 (parts w by a key at needs.1 s) s
+frees_direct w by a key at needs s = locks_change w by a (free_direct key) (p w by a key at needs.1 s) (t w by a key at needs.1 s) at needs.0 (parts w by a key at needs.1 s) s

@@ -93,5 +93,5 @@ pub frees_transaction : (w : World) (by : ℕ) (a : Actor) (name : List ℕ) →
     → IsSound (done w by (forgets w.writes.history (length w.cache) (free_transaction name) a) (free_transaction name))
 frees_transaction w by a name at needs s =
     let d = freed_one w by a name needs.1.0 at needs.1.1 needs.2 s in
-    locks_change w by a (free_transaction name) (p w by a name needs.1.0 (without_transaction w.locks name) (free_transaction name) at needs.1.1 d s) a.learned (without_transaction w.locks name) at needs.0
+    locks_change w by a (free_transaction name) (p w by a name needs.1.0 (without_transaction w.locks name) (free_transaction name) at needs.1.1 d s) (without_transaction w.locks name) at needs.0
     (dropped_parts w by a name needs.1.0 (without_transaction w.locks name) (free_transaction name) at needs.1.1 d s) s

@@ -62,5 +62,5 @@ pub leaves_name : (w : World) (by : ℕ) (a : Actor) (name : List ℕ) → get_e
     → IsSound (done w by (forgets w.writes.history (length w.cache) (leave_name name) a) (leave_name name))
 leaves_name w by a name at needs s =
     let d = left_one w by a name needs.1.0 at needs.1.1 needs.2 s in
-    locks_change w by a (leave_name name) (p w by a name needs.1.0 (with_name w.locks name None) (leave_name name) at needs.1.1 d s) a.learned (with_name w.locks name None) at needs.0
+    locks_change w by a (leave_name name) (p w by a name needs.1.0 (with_name w.locks name None) (leave_name name) at needs.1.1 d s) (with_name w.locks name None) at needs.0
     (dropped_parts w by a name needs.1.0 (with_name w.locks name None) (leave_name name) at needs.1.1 d s) s

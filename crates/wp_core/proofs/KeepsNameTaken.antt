@@ -72,5 +72,5 @@ pub takes_name : (w : World) (by : ℕ) (a : Actor) (name : List ℕ) (q : ℕ) 
     → IsSound (done w by (forgets w.writes.history (length w.cache) (take_name name q) a) (take_name name q))
 takes_name w by a name q at needs s =
     let d = taken_one w name q needs.1 in let x = taken_transaction w name q in
-    locks_change w by a (take_name name q) (p w by a name x (took name) (take_name name q) at d s) a.learned (t w by a name x (took name) (take_name name q) at d s) at needs.0
+    locks_change w by a (take_name name q) (p w by a name x (took name) (take_name name q) at d s) (t w by a name x (took name) (take_name name q) at d s) at needs.0
     (gained_parts w by a name x (took name) (take_name name q) at d s) s

@@ -58,3 +58,9 @@ module _ {X : Type 0} (m : FinMap key_cmp X) (k : List ℕ) where
   still_there x q h = ⊎_elim
       (λ (e : q ≡ k). let f : None ≡ Some x = sym (at_removed q e) ∙ h in absurd cc)
       (λ (ne : q ≡ k → ⊥). (ne, sym (else_removed q ne) ∙ h)) (is_word_same q k)
+
+  -- where nothing was under it, what is there stays there
+  pub inserted_still : get m k ≡ None → (v x : X) (q : List ℕ) → get m q ≡ Some x → get (insert m k v) q ≡ Some x
+  inserted_still free v x q h = ⊎_elim
+      (λ (e : q ≡ k). let f : None ≡ Some x = sym free ∙ ap (get m) (sym e) ∙ h in absurd cc)
+      (λ (ne : q ≡ k → ⊥). else_inserted v q ne ∙ h) (is_word_same q k)

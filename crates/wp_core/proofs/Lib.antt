@@ -37,6 +37,8 @@ pub mod Remembers
 pub mod KeepsRemembered
 pub mod Keyed
 pub mod LocksChange
+pub mod KeyLocked
+pub mod OtherKeys
 pub mod GainsTransaction
 pub mod KeepsClaimed
 pub mod KeepsTold

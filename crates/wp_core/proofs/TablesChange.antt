@@ -1,11 +1,10 @@
 -- A step of who holds the tables turn: it changes what is installed, and the actor remembers it.
-use Rattle.std.proofs.Common.{◌≡◌, ◌≢◌, ◌⊎◌, ⊎_elim, inl, inr, ℕ, ◌≤◌, not, true, List, [], ◌∷◌, ◌++◌, length, map, set, refl, sym, subst, Option, Some}
+use Rattle.std.proofs.Common.{◌≡◌, ◌≢◌, ◌⊎◌, ⊎_elim, inl, inr, ℕ, ◌≤◌, not, true, List, [], ◌∷◌, ◌++◌, length, map, set, refl, sym, subst}
 use mathlib.Core.Option.{some}
 use lib.ListN.{get_elem?}
-use Rattle.wp_model.specs.declared.holder.Holder.{Holder}
 use Rattle.wp_core.specs.Turns.{Holds, tables_turn}
 use Rattle.wp_core.specs.Tables.{Content, InstalledEdit, Installed, installed}
-use Rattle.wp_core.specs.Views.{Account, Event, told, heard, stopped, found_flushed, found, Fact}
+use Rattle.wp_core.specs.Views.{Event, found_flushed, Fact}
 use Rattle.wp_core.specs.World.{Actor, Participant, World, content_of, with_content}
 use Rattle.wp_core.specs.World as world
 use Rattle.wp_core.specs.Steps.{Step}
@@ -20,20 +19,13 @@ use Rattle.wp_core.proofs.AllParticipants.{mine, was_apart}
 use Rattle.wp_core.proofs.OwnersStay.{past_locked}
 use Rattle.wp_core.proofs.PastsGrow.{past_before}
 use Rattle.wp_core.proofs.Quiet.{idle_after}
-use Rattle.wp_core.proofs.Remembers.{holders_more, board_more, installed_still, compacts_still}
+use Rattle.wp_core.proofs.Remembers.{FindsNothing, TellsNothing, holders_still, board_still, installed_still, compacts_still}
 use Rattle.wp_core.proofs.StoresFlag.{not_free}
 use Rattle.wp_core.proofs.AllParts.{SoIn, all_parts, views_still, readers_still, turns_changed, notes_stay, led_still}
 
 -- what is noted, with this in place of what the world has installed
 abbrev pub SoInstalled : World → Installed → Participant → Fact → Type 0
 SoInstalled w t = IsSo w.delayed_flag w.old_flag w.max_evicted w.cache w.writes w.prepared w.snapshots w.store w.locks t
-
--- it finds nothing, and tells nothing
-pub record IsOfTables (e : Event) : Type 0 where
-  pub finds_none : (key : Option (List ℕ)) (holder : Holder) (seen : ℕ) (account : Account) → e ≡ found key holder seen account → ⊥
-  pub no_label : (label : List ℕ) (n : ℕ) → (e ≡ told label n) ⊎ (e ≡ heard label n) → ⊥
-  pub not_stopped : (n : ℕ) → e ≡ stopped n → ⊥
-  pub finds_no_flushed : (n : ℕ) → e ≡ found_flushed n → ⊥
 
 -- the edits, once an actor remembers an event of the tables
 module _ (xs : List Actor) (by : ℕ) (a b : Actor) (e : Event) (at : get_elem? xs by ≡ some a) (same : b.joined ≡ a.joined) (grown : b.participant.past ≡ a.participant.past ++ e ∷ []) where
@@ -43,13 +35,13 @@ module _ (xs : List Actor) (by : ℕ) (a b : Actor) (e : Event) (at : get_elem? 
   abbrev after : List (List (List Event))
   after = map (participants_of past_of) (set xs by b)
 
-  pub edits_grown : (first : InstalledEdit) (t u : Installed) → IsOfTables e → WasInstalled first after u.last.flushed
+  pub edits_grown : (first : InstalledEdit) (t u : Installed) → FindsNothing e → WasInstalled first after u.last.flushed
       → (tables_due first a.participant.past ≤ t.last.tables → tables_due first b.participant.past ≤ u.last.tables)
       → ((j i : ℕ) (past : List Event) → (j ≢ by) ⊎ (i ≢ 0) → tables_due first past ≤ t.last.tables → (tables_due first past ≤ u.last.tables) ⊎ OtherCompacts after j i)
       → AreEdits first t before → AreEdits first u after
   edits_grown first t u is last own others k = record {
     last = last;
-    found = λ n h. installed_still xs by a b e at same grown first n (⊎_elim (λ c. k.found n c) (λ c. absurd (is.finds_no_flushed n c)) (past_before xs by a b e at same grown (found_flushed n) h));
+    found = λ n h. installed_still xs by a b e at same grown first n (⊎_elim (λ c. k.found n c) (λ c. absurd (subst FindsNothing c is)) (past_before xs by a b e at same grown (found_flushed n) h));
     tables = λ j i past there. ⊎_elim
         (λ (c : (j ≡ by) × (i ≡ 0) × (past ≡ b.participant.past)).
         ⊎_elim
@@ -76,7 +68,8 @@ module _ (w : World) (by : ℕ) (a : Actor) (step : Step) (e : Event) (t : Insta
   pasts_after = map (participants_of past_of) (set w.actors by actor_after)
 
   pub record TablesParts : Type 0 where
-    pub event : IsOfTables e
+    pub nothing : FindsNothing e
+    pub tells_nothing : TellsNothing e
     pub stored : IsStored w.writes.history w.writes.pending w.snapshots w.store t
     pub faults : AreFaults w.writes t.halted pasts_after
     pub edits : AreEdits w.first_edit t pasts_after
@@ -94,8 +87,8 @@ module _ (w : World) (by : ℕ) (a : Actor) (step : Step) (e : Event) (t : Insta
       all_parts (with_content w c) (set w.actors by b)
       (record { history = s.history; cache = s.cache; decided = s.decided; undecided = s.undecided; delayed = s.delayed; flags = s.flags; versions = k.stored; flushed = λ free. absurd (not_free w.holders tables_turn by holds free); pending = s.pending })
       (views_still w by a b at refl s) (past_locked w.actors by a b e at refl refl w.writes.history w.locks s.locks) (record {
-        holders = holders_more w.actors by a b e at refl refl w.opened w.writes.history w.locks (λ key holder seen account q. absurd (k.event.finds_none key holder seen account q)) (λ key holder seen account q. absurd (k.event.finds_none (Some key) holder seen account q)) s.holders;
-        board = board_more w.actors by a b e at refl refl (world.published w) w.locks (λ label n q. absurd (k.event.no_label label n q)) (λ label n q. absurd (k.event.no_label label n (inr q))) (λ label n q. k.event.no_label label n (inl q)) s.board;
+        holders = holders_still w.actors by a b e at refl refl w.opened w.writes.history w.locks k.nothing s.holders;
+        board = board_still w.actors by a b e at refl refl (world.published w) w.locks k.tells_nothing s.board;
         faults = k.faults;
         edits = k.edits;
       }) (turns_changed w by a b at c holds refl s)
