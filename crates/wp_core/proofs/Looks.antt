@@ -1,5 +1,5 @@
 -- A load keeps a world sound: only what one actor reads, and its notes, change.
-use Rattle.std.proofs.Common.{◌≡◌, ℕ, Bool, false, sym, subst, Some}
+use Rattle.std.proofs.Common.{refl, filter, ◌≡◌, ℕ, Bool, false, sym, subst, Some, Option, filter}
 use mathlib.Core.Option.{some}
 use lib.ListN.{get_elem?}
 use Rattle.wp_core.specs.Lists.{IsIn}
@@ -13,7 +13,7 @@ use Rattle.wp_core.specs.Sound.Reader.{IsReader, IsRight, reader_of}
 use Rattle.wp_core.specs.Sound.Views.{IsNoted, noter_of}
 use Rattle.wp_core.specs.IsSound.{IsSound}
 use Rattle.wp_core.proofs.AllParts.{SoIn, tables_of, views_of, pasts_of, turns_still, idle_set, quiet_step}
-use Rattle.wp_core.proofs.Frames.{each_map_set, at_map}
+use Rattle.wp_core.proofs.Frames.{each_map_set, at_map, in_filter}
 
 -- what a change of an actor leaves: all but what it reads, and its notes, which become fewer
 pub record LeavesMost (a b : Actor) : Type 0 where
@@ -24,6 +24,9 @@ pub record LeavesMost (a b : Actor) : Type 0 where
   pub made : b.made ≡ a.made
   pub joined : b.joined ≡ a.joined
   pub fewer : (fact : Fact) → IsIn fact b.notes → IsIn fact a.notes
+
+pub leaves_most : (w : World) (a : Actor) (o : Option Observed) (test : Fact → Bool) → LeavesMost a (record a { reading = o; notes = filter test a.notes })
+leaves_most w a o test = record { participant = refl; learned = refl; held = refl; live = refl; made = refl; joined = refl; fewer = λ fact there. (in_filter test fact a.notes there).0 }
 
 -- what the actor reads is as it should be
 pub record ReadsRight (w : World) (b : Actor) : Type 0 where

@@ -1,5 +1,5 @@
 -- A reader begins and ends soundly.
-use Rattle.std.proofs.Common.{◌≡◌, ℕ, ◌≤◌, true, length, refl, subst, ap, ◌∙◌, Option, Some, None, Bool, ⊎_elim, ◌<◌, suc, nat_lt, false, not, cond, List, [], ◌∷◌, filter, arith}
+use Rattle.std.proofs.Common.{◌≡◌, ℕ, ◌≤◌, true, length, refl, subst, ap, ◌∙◌, Some, None, Bool, ⊎_elim, ◌<◌, suc, nat_lt, false, not, cond, List, [], ◌∷◌, filter, arith}
 use mathlib.Core.Option.{some}
 use lib.ListN.{get_elem?}
 use Rattle.wp_judge.specs.declared.observed.Observed.{Observed}
@@ -21,10 +21,10 @@ use Rattle.wp_judge.specs.declared.observed.Load.TheVariants.{FirstWord}
 use Rattle.wp_judge.specs.declared.observed.Asked.TheVariants.{Load, Answer}
 use Rattle.wp_judge.specs.Order.{answer_of}
 use Rattle.std.proofs.lemmas.Bool.Decides.{nat_tests}
-use Rattle.wp_core.proofs.Frames.{at_map, in_filter}
+use Rattle.wp_core.proofs.Frames.{at_map}
 use Rattle.wp_core.proofs.HistoryLaws.{decided_late}
 use Rattle.wp_core.proofs.ReaderFacts.{same_some}
-use Rattle.wp_core.proofs.Looks.{LeavesMost, looks}
+use Rattle.wp_core.proofs.Looks.{leaves_most, looks}
 
 pub in_at : {X : Type 0} (x : X) (xs : List X) → IsIn x xs → (i : ℕ) × (get_elem? xs i ≡ some x)
 in_at x [] there = absurd there
@@ -52,9 +52,6 @@ by_snapshot w by a p r visible false at there has s above e =
     let below : p < r.smallest = grind (arith, nat_tests) in
     subst (IsRight w.writes.history p r.number) k.1 (below_smallest w by a r at there s p below low (has low))
 
-leaves : (w : World) (a : Actor) (o : Option Observed) (test : Fact → Bool) → LeavesMost a (record a { reading = o; notes = filter test a.notes })
-leaves w a o test = record { participant = refl; learned = refl; held = refl; live = refl; made = refl; joined = refl; fewer = λ fact there. (in_filter test fact a.notes there).0 }
-
 none_read : {A : Type 0} (r : A) (C : Type 0) → None ≡ Some r → C
 none_read r C e = absurd (cc)
 
@@ -62,7 +59,7 @@ pub begins_reading : (w : World) (by : ℕ) (a : Actor) (p : ℕ) (snapshot : Re
 begins_reading w by a p snapshot at n s =
     let test : Fact → Bool = λ f. not (ends w.writes.history (length w.cache) (begin_reading p snapshot) f) in
     let b : Actor = record a { reading = Some (reads p snapshot); notes = filter test a.notes } in
-    looks w by a b at (leaves w a (Some (reads p snapshot)) test)
+    looks w by a b at (leaves_most w a (Some (reads p snapshot)) test)
     record {
       knows = λ r e. subst (IsReader w.writes.history w.max_evicted w.cache a.participant.registered) (same_some (reads p snapshot) r e)
           record {
@@ -86,7 +83,7 @@ pub ends_reading : (w : World) (by : ℕ) (a : Actor) → get_elem? w.actors by 
 ends_reading w by a at s =
     let test : Fact → Bool = λ f. not (ends w.writes.history (length w.cache) end_reading f) in
     let b : Actor = record a { reading = None; notes = filter test a.notes } in
-    looks w by a b at (leaves w a None test)
+    looks w by a b at (leaves_most w a None test)
     record {
       knows = λ r e. none_read r _ e;
       right = λ r visible e judged. none_read r _ e;
