@@ -31,6 +31,12 @@ module _ (xs : List Actor) (by : ℕ) (a b : Actor) (at : get_elem? xs by ≡ so
       (λ (g : (j ≡ by) × (i ≡ 0) × (o ≡ owner_of b.participant)). (owner_of a.participant, owner_before j i g.0 g.1, subst (λ (z : Owner). R z (owner_of a.participant)) (sym g.2) changed))
       (λ (g : IsParticipantAt before j i o). (o, g, same_of o)) (was owner_of xs by a b at same j i o there)
 
+  -- who was there is there
+  pub who_is : (R : Owner → Owner → Type 0) → ((o : Owner) → R o o) → R (owner_of a.participant) (owner_of b.participant) → (j i : ℕ) (o : Owner) → IsParticipantAt before j i o → (c : Owner) × IsParticipantAt after j i c × R o c
+  who_is R same_of changed j i o there = ⊎_elim
+      (λ (g : (j ≡ by) × (i ≡ 0) × (o ≡ owner_of a.participant)). (owner_of b.participant, owner_after j i g.0 g.1, subst (λ (z : Owner). R z (owner_of b.participant)) (sym g.2) changed))
+      (λ (g : IsParticipantAt after j i o). (o, g, same_of o)) (still owner_of xs by a b at same j i o there)
+
   -- what is so of each, from what is so of the changed one and of each that is elsewhere
   pub each_owner : (P : Owner → Type 0) → P (owner_of b.participant) → ((j i : ℕ) (o : Owner) → (j ≢ by) ⊎ (i ≢ 0) → IsParticipantAt before j i o → P o) → EachParticipant P after
   each_owner P changed others j i o there = ⊎_elim

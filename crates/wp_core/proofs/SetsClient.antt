@@ -15,8 +15,9 @@ use Rattle.wp_core.specs.Notes.{forgets}
 use Rattle.wp_core.specs.Sound.Actors.{participants_of, IsParticipantAt}
 use Rattle.wp_core.specs.Sound.Locks.{Owner, owner_of, Has, IsOwner, AreLocked}
 use Rattle.wp_core.specs.IsSound.{IsSound}
-use Rattle.wp_core.proofs.AllParticipants.{was, still}
+use Rattle.wp_core.proofs.AllParticipants.{still}
 use Rattle.wp_core.proofs.AllParts.{SoIn, all_parts, tables_of, views_still, pasts_still, readers_still, turns_still, notes_stay, idle_set, led_still}
+use Rattle.wp_core.proofs.OwnerMoves.{each_owner, names_apart, direct_apart, key_known}
 
 -- it has no transaction and no direct write
 pub record HasNothing (transactions : Transactions) (direct : Option (List ℕ)) : Type 0 where
@@ -37,23 +38,11 @@ module _ (xs : List Actor) (by : ℕ) (a b : Actor) (at : get_elem? xs by ≡ so
   abbrev after : List (List Owner)
   after = map (participants_of owner_of) (set xs by b)
 
-  abbrev IsNow : ℕ → ℕ → Owner → Type 0
-  IsNow j i o = (j ≡ by) × (i ≡ 0) × (o ≡ owner_of b.participant)
-
-  abbrev WasIt : ℕ → ℕ → Owner → Type 0
-  WasIt j i o = (j ≡ by) × (i ≡ 0) × (o ≡ owner_of a.participant)
-
   none_now : (o : Owner) (name : List ℕ) (x : Transaction) → o ≡ owner_of b.participant → Has o name x → ⊥
   none_now o name x e h = no_transaction b.participant.transactions b.participant.direct name x after_none (subst (λ (z : Owner). Has z name x) e h)
 
   none_writes : (o : Owner) (key : List ℕ) → o ≡ owner_of b.participant → o.direct ≡ Some key → ⊥
   none_writes o key e h = no_direct b.participant.transactions b.participant.direct key after_none (subst (λ (z : Owner). z.direct ≡ Some key) e h)
-
-  who_has : (j i : ℕ) (o : Owner) (name : List ℕ) (x : Transaction) → IsParticipantAt after j i o → Has o name x → IsParticipantAt before j i o
-  who_has j i o name x there h = ⊎_elim (λ (t : IsNow j i o). absurd (none_now o name x t.2 h)) (λ (t : IsParticipantAt before j i o). t) (was owner_of xs by a b at same j i o there)
-
-  who_writes : (j i : ℕ) (o : Owner) (key : List ℕ) → IsParticipantAt after j i o → o.direct ≡ Some key → IsParticipantAt before j i o
-  who_writes j i o key there h = ⊎_elim (λ (t : IsNow j i o). absurd (none_writes o key t.2 h)) (λ (t : IsParticipantAt before j i o). t) (was owner_of xs by a b at same j i o there)
 
   none_owner : (t : LockTables) → IsOwner t (owner_of b.participant)
   none_owner t = record {
@@ -66,26 +55,24 @@ module _ (xs : List Actor) (by : ℕ) (a b : Actor) (at : get_elem? xs by ≡ so
   locked_none history t k = record {
     prepared_names = k.prepared_names;
     prepared_keys = k.prepared_keys;
-    had = λ j i o there. ⊎_elim
-        (λ (c : IsNow j i o). subst (IsOwner t) (sym c.2) (none_owner t))
-        (λ (c : IsParticipantAt before j i o). k.had j i o c) (was owner_of xs by a b at same j i o there);
+    had = each_owner xs by a b at same (IsOwner t) (none_owner t) (λ j i o elsewhere there. k.had j i o there);
     apart = record {
-      names = λ j i l m o p name x y here there first second. k.apart.names j i l m o p name x y (who_has j i o name x here first) (who_has l m p name y there second) first second;
-      direct = λ j i l m o p key here there first second. k.apart.direct j i l m o p key (who_writes j i o key here first) (who_writes l m p key there second) first second;
+      names = names_apart xs by a b at same (λ name x h. absurd (none_now (owner_of b.participant) name x refl h)) k.apart;
+      direct = direct_apart xs by a b at same (λ key h. absurd (none_writes (owner_of b.participant) key refl h)) k.apart;
     };
     names_had = λ name client h.
         let o = k.names_had name client h in
         ⊎_elim
-        (λ (c : WasIt o.at o.place o.owner). absurd (no_transaction a.participant.transactions a.participant.direct name o.transaction before_none (subst (λ (z : Owner). Has z name o.transaction) c.2 o.has)))
+        (λ (c : (o.at ≡ by) × (o.place ≡ 0) × (o.owner ≡ owner_of a.participant)). absurd (no_transaction a.participant.transactions a.participant.direct name o.transaction before_none (subst (λ (z : Owner). Has z name o.transaction) c.2 o.has)))
         (λ (c : IsParticipantAt after o.at o.place o.owner). record { at = o.at; place = o.place; owner = o.owner; transaction = o.transaction; there = c; client_is = o.client_is; has = o.has; began = o.began })
         (still owner_of xs by a b at same o.at o.place o.owner o.there);
     names_left = k.names_left;
     keys_live = k.keys_live;
-    keys_known = λ key name h j i o there x has. k.keys_known key name h j i o (who_has j i o name x there has) x has;
+    keys_known = λ key name h. key_known xs by a b at same (λ n x has. absurd (none_now (owner_of b.participant) n x refl has)) key name (k.keys_known key name h);
     keys_direct = λ key client h.
         let o = k.keys_direct key client h in
         ⊎_elim
-        (λ (c : WasIt o.at o.place o.owner). absurd (no_direct a.participant.transactions a.participant.direct key before_none (subst (λ (z : Owner). z.direct ≡ Some key) c.2 o.has)))
+        (λ (c : (o.at ≡ by) × (o.place ≡ 0) × (o.owner ≡ owner_of a.participant)). absurd (no_direct a.participant.transactions a.participant.direct key before_none (subst (λ (z : Owner). z.direct ≡ Some key) c.2 o.has)))
         (λ (c : IsParticipantAt after o.at o.place o.owner). record { at = o.at; place = o.place; owner = o.owner; there = c; client_is = o.client_is; has = o.has; began = o.began })
         (still owner_of xs by a b at same o.at o.place o.owner o.there);
   }
