@@ -1,5 +1,5 @@
 -- A step that takes a transaction from the actor that has it, with its name left or gone, keeps a world sound.
-use Rattle.std.proofs.Common.{◌≡◌, ◌≢◌, ◌⊎◌, not, ⊎_elim, inl, ℕ, true, List, length, map, refl, sym, subst, ap, ◌∙◌, Some, None, is_some}
+use Rattle.std.proofs.Common.{◌≡◌, ◌≢◌, ◌⊎◌, not, ⊎_elim, inl, ℕ, true, List, length, refl, sym, subst, ap, ◌∙◌, Some, None, is_some}
 use mathlib.Core.Option.{some}
 use lib.ListN.{get_elem?}
 use Rattle.std.specs.FinMap as finite
@@ -11,14 +11,14 @@ use Rattle.wp_core.specs.Views.{Fact, undecided_at, prior_values, unprepared, di
 use Rattle.wp_core.specs.World.{Transaction, Actor, Participant, World}
 use Rattle.wp_core.specs.Steps.{Step}
 use Rattle.wp_core.specs.Notes.{ends, ends_transaction}
-use Rattle.wp_core.specs.Sound.Actors.{participants_of, IsParticipantAt}
+use Rattle.wp_core.specs.Sound.Actors.{IsParticipantAt}
 use Rattle.wp_core.specs.Sound.Locks.{Owner, owner_of, Has, IsNameOf, IsDirectOf, IsOwner, AreLocked}
 use Rattle.wp_core.specs.Sound.Views.{Owns}
 use Rattle.wp_core.specs.IsSound.{IsSound, participants}
 use Rattle.wp_core.proofs.Keyed.{is_word_same, else_removed, still_there}
 use Rattle.wp_core.proofs.OwnerMoves.{each_owner, names_apart, direct_apart, key_known, name_kept, direct_kept}
 use Rattle.wp_core.proofs.AllParticipants.{mine}
-use Rattle.wp_core.proofs.LocksChange.{SoWith, actor_after, actors_after, LocksParts, pasts_left}
+use Rattle.wp_core.proofs.LocksChange.{SoWith, actor_after, owners_after, LocksParts, pasts_left}
 use Rattle.wp_core.proofs.AllParts.{SoIn}
 
 -- what of names and keys a step leaves that drops a transaction
@@ -44,14 +44,8 @@ module _ (w : World) (by : ℕ) (a : Actor) (name : List ℕ) (x0 : Transaction)
   abbrev b : Actor
   b = actor_after w by a step p t
 
-  abbrev before : List (List Owner)
-  before = participants owner_of w
-
   abbrev after : List (List Owner)
-  after = map (participants_of owner_of) (actors_after w by a step p t)
-
-  own_before : IsParticipantAt before by 0 (owner_of a.participant)
-  own_before = mine owner_of w.actors by a b at refl
+  after = owners_after w by a step p t
 
   -- what the actor has now it had, under another name
   had_name : (n : List ℕ) (x : Transaction) → finite.get p.transactions n ≡ Some x → (n ≡ name → ⊥) × (finite.get a.participant.transactions n ≡ Some x)
@@ -61,12 +55,12 @@ module _ (w : World) (by : ℕ) (a : Actor) (name : List ℕ) (x0 : Transaction)
   has_still n y ne h = else_removed a.participant.transactions name n ne ∙ h
 
   -- nobody else has the transaction
-  not_theirs : (j i : ℕ) (o : Owner) (n : List ℕ) (x : Transaction) → ((j ≢ by) ⊎ (i ≢ 0)) → IsParticipantAt before j i o → Has o n x → n ≡ name → ⊥
+  not_theirs : (j i : ℕ) (o : Owner) (n : List ℕ) (x : Transaction) → ((j ≢ by) ⊎ (i ≢ 0)) → IsParticipantAt (participants owner_of w) j i o → Has o n x → n ≡ name → ⊥
   not_theirs j i o n x elsewhere there h same =
-      let one = s.locks.apart.names j i by 0 o (owner_of a.participant) name x x0 there own_before (subst (λ (z : List ℕ). Has o z x) same h) has in
+      let one = s.locks.apart.names j i by 0 o (owner_of a.participant) name x x0 there (mine owner_of w.actors by a a at refl) (subst (λ (z : List ℕ). Has o z x) same h) has in
       ⊎_elim (λ (ne : j ≢ by). ne one.0) (λ (ne : i ≢ 0). ne one.1) elsewhere
 
-  other_owner : (j i : ℕ) (o : Owner) → ((j ≢ by) ⊎ (i ≢ 0)) → IsParticipantAt before j i o → IsOwner t o
+  other_owner : (j i : ℕ) (o : Owner) → ((j ≢ by) ⊎ (i ≢ 0)) → IsParticipantAt (participants owner_of w) j i o → IsOwner t o
   other_owner j i o elsewhere there =
       let k = s.locks.had j i o there in
       record {
@@ -77,17 +71,17 @@ module _ (w : World) (by : ℕ) (a : Actor) (name : List ℕ) (x0 : Transaction)
 
   own_owner : IsOwner t (owner_of p)
   own_owner =
-      let old = s.locks.had by 0 (owner_of a.participant) own_before in
+      let old = s.locks.had by 0 (owner_of a.participant) (mine owner_of w.actors by a a at refl) in
       record {
         names = λ n x h. let g = had_name n x h in d.names n g.0 ∙ old.names n x g.1;
         keys = λ n x c h held. let g = had_name n x h in d.transactions c n g.0 (old.keys n x c g.1 held);
         direct = λ c h. d.directs c a.participant.client (old.direct c h);
       }
 
-  name_still : (n c : List ℕ) → (n ≡ name → ⊥) → IsNameOf before n c → IsNameOf after n c
+  name_still : (n c : List ℕ) → (n ≡ name → ⊥) → IsNameOf (participants owner_of w) n c → IsNameOf after n c
   name_still n c ne k = name_kept w.actors by a b at refl refl (λ x k. k) n c (λ y h. (y, has_still n y ne h)) k
 
-  direct_still : (k c : List ℕ) → IsDirectOf before k c → IsDirectOf after k c
+  direct_still : (k c : List ℕ) → IsDirectOf (participants owner_of w) k c → IsDirectOf after k c
   direct_still k c d = direct_kept w.actors by a b at refl refl (λ x k. k) k c (λ h. h) d
 
   names_had : (n c : List ℕ) → finite.get t.names n ≡ Some (Some c) → IsNameOf after n c
@@ -123,7 +117,7 @@ module _ (w : World) (by : ℕ) (a : Actor) (name : List ℕ) (x0 : Transaction)
   mine_still (direct_free c) left k = (k.0, d.directs c a.participant.client k.1, k.2)
   mine_still fact left k = k
 
-  others_still : (j : ℕ) (q : Participant) (fact : Fact) → j ≢ by → IsParticipantAt before j 0 (owner_of q) → SoIn w q fact → SoWith w t q fact
+  others_still : (j : ℕ) (q : Participant) (fact : Fact) → j ≢ by → IsParticipantAt (participants owner_of w) j 0 (owner_of q) → SoIn w q fact → SoWith w t q fact
   others_still j q (undecided_at n m) away there k = let ne = not_theirs j 0 (owner_of q) n k.0.0 (inl away) there k.0.1 in (k.0, k.1, d.names n ne ∙ k.2, λ c h. d.transactions c n ne (k.3 c h))
   others_still j q (direct_free c) away there k = (k.0, d.directs c q.client k.1, k.2)
   others_still j q fact away there k = k

@@ -1,5 +1,5 @@
 -- A step that gives an actor a transaction, under a name that nobody has, keeps a world sound.
-use Rattle.std.proofs.Common.{◌≡◌, ◌⊎◌, ⊎_elim, inl, inr, ℕ, true, List, [], ◌∷◌, ◌++◌, map, refl, sym, subst, ap, ◌∙◌, Some, None, is_some}
+use Rattle.std.proofs.Common.{◌≡◌, ◌⊎◌, ⊎_elim, inl, inr, ℕ, true, List, [], ◌∷◌, ◌++◌, refl, sym, subst, ap, ◌∙◌, Some, None, is_some}
 use mathlib.Core.Option.{some}
 use lib.ListN.{get_elem?}
 use Rattle.std.specs.FinSet as words
@@ -12,7 +12,7 @@ use Rattle.wp_core.specs.Views.{Event, claimed, took, Fact, undecided_at, prior_
 use Rattle.wp_core.specs.World.{Transaction, Actor, Participant, World}
 use Rattle.wp_core.specs.Steps.{Step}
 use Rattle.wp_core.specs.Changes.{with_name}
-use Rattle.wp_core.specs.Sound.Actors.{participants_of, IsParticipantAt}
+use Rattle.wp_core.specs.Sound.Actors.{IsParticipantAt}
 use Rattle.wp_core.specs.Sound.Locks.{Owner, owner_of, Has, Began, IsNameOf, IsDirectOf, IsOwner, AreLocked}
 use Rattle.wp_core.specs.Sound.Views.{Owns}
 use Rattle.wp_core.specs.IsSound.{IsSound, participants}
@@ -20,7 +20,7 @@ use Rattle.wp_core.proofs.Keyed.{is_word_same, at_inserted, else_inserted, now_i
 use Rattle.wp_core.proofs.OwnerMoves.{each_owner, direct_apart, name_kept, direct_kept}
 use Rattle.wp_core.proofs.AllParticipants.{mine, mine_now, was}
 use Rattle.wp_core.proofs.PastsGrow.{in_front, in_last}
-use Rattle.wp_core.proofs.LocksChange.{SoWith, actor_after, actors_after, LocksParts, pasts_grown, board_grown}
+use Rattle.wp_core.proofs.LocksChange.{SoWith, actor_after, owners_after, LocksParts, pasts_grown, board_grown}
 use Rattle.wp_core.proofs.Remembers.{IsQuiet, FindsNothing, TellsNothing}
 use Rattle.wp_core.proofs.AllParts.{SoIn}
 
@@ -41,11 +41,8 @@ module _ (w : World) (by : ℕ) (a : Actor) (name : List ℕ) (x1 : Transaction)
   abbrev b : Actor
   b = actor_after w by a step p t
 
-  abbrev before : List (List Owner)
-  before = participants owner_of w
-
   abbrev after : List (List Owner)
-  after = map (participants_of owner_of) (actors_after w by a step p t)
+  after = owners_after w by a step p t
 
   not_it : {C : Type 0} (n c : List ℕ) → finite.get w.locks.names n ≡ Some (Some c) → n ≡ name → C
   not_it n c h same = absurd (d.nobody c (ap (finite.get w.locks.names) (sym same) ∙ h))
@@ -63,12 +60,9 @@ module _ (w : World) (by : ℕ) (a : Actor) (name : List ℕ) (x1 : Transaction)
   has_now : (n : List ℕ) (x : Transaction) → finite.get p.transactions n ≡ Some x → ((n ≡ name) × (x1 ≡ x)) ⊎ ((n ≡ name → ⊥) × (finite.get a.participant.transactions n ≡ Some x))
   has_now n x h = now_inserted a.participant.transactions name x1 x n h
 
-  own_before : IsParticipantAt before by 0 (owner_of a.participant)
-  own_before = mine owner_of w.actors by a b at refl
-
   own_owner : IsOwner t (owner_of p)
   own_owner =
-      let old = s.locks.had by 0 (owner_of a.participant) own_before in
+      let old = s.locks.had by 0 (owner_of a.participant) (mine owner_of w.actors by a a at refl) in
       record {
         names = λ n x h. ⊎_elim
             (λ (u : (n ≡ name) × (x1 ≡ x)). at_inserted w.locks.names name (Some a.participant.client) n u.0)
@@ -83,7 +77,7 @@ module _ (w : World) (by : ℕ) (a : Actor) (name : List ℕ) (x1 : Transaction)
   other_owner o k = record { names = λ n x h. live_still n o.client (k.names n x h); keys = k.keys; direct = k.direct }
 
   -- nobody had the name
-  none_had : (j i : ℕ) (o : Owner) (x : Transaction) → IsParticipantAt before j i o → Has o name x → ⊥
+  none_had : (j i : ℕ) (o : Owner) (x : Transaction) → IsParticipantAt (participants owner_of w) j i o → Has o name x → ⊥
   none_had j i o x there h = not_it name o.client ((s.locks.had j i o there).names name x h) refl
 
   new_apart : (j i k l : ℕ) (o q : Owner) (n : List ℕ) (x y : Transaction) → IsParticipantAt after j i o → IsParticipantAt after k l q → Has o n x → Has q n y → (j ≡ k) × (i ≡ l)
@@ -93,14 +87,14 @@ module _ (w : World) (by : ℕ) (a : Actor) (name : List ℕ) (x1 : Transaction)
       Changed : ℕ → ℕ → Owner → Type 0
       Changed = λ u v r. (u ≡ by) × (v ≡ 0) × (r ≡ owner_of p)
 
-      one : (u v m r : ℕ) (c d : Owner) (z z' : Transaction) → Changed u v c → IsParticipantAt before m r d → Has c n z → Has d n z' → (u ≡ m) × (v ≡ r)
+      one : (u v m r : ℕ) (c d : Owner) (z z' : Transaction) → Changed u v c → IsParticipantAt (participants owner_of w) m r d → Has c n z → Has d n z' → (u ≡ m) × (v ≡ r)
       one u v m r c d z z' new old has has' = ⊎_elim
           (λ (g : (n ≡ name) × (x1 ≡ z)). absurd (none_had m r d z' old (subst (λ (h : List ℕ). Has d h z') g.0 has')))
           (λ (g : (n ≡ name → ⊥) × (finite.get a.participant.transactions n ≡ Some z)).
-          let same = s.locks.apart.names by 0 m r (owner_of a.participant) d n z z' own_before old g.1 has' in (new.0 ∙ same.0, new.1 ∙ same.1))
+          let same = s.locks.apart.names by 0 m r (owner_of a.participant) d n z z' (mine owner_of w.actors by a a at refl) old g.1 has' in (new.0 ∙ same.0, new.1 ∙ same.1))
           (has_now n z (subst (λ (h : Owner). Has h n z) new.2 has))
 
-      both : Changed j i o ⊎ IsParticipantAt before j i o → Changed k l q ⊎ IsParticipantAt before k l q → (j ≡ k) × (i ≡ l)
+      both : Changed j i o ⊎ IsParticipantAt (participants owner_of w) j i o → Changed k l q ⊎ IsParticipantAt (participants owner_of w) k l q → (j ≡ k) × (i ≡ l)
       both (inl u) (inl v) = (u.0 ∙ sym v.0, u.1 ∙ sym v.1)
       both (inl u) (inr v) = one j i k l o q x y u v first second
       both (inr u) (inl v) = let same = one k l j i q o y x v u second first in (sym same.0, sym same.1)
@@ -109,10 +103,10 @@ module _ (w : World) (by : ℕ) (a : Actor) (name : List ℕ) (x1 : Transaction)
   own_after : IsParticipantAt after by 0 (owner_of p)
   own_after = mine_now owner_of w.actors by a b at refl
 
-  name_still : (n client : List ℕ) → (n ≡ name → ⊥) → IsNameOf before n client → IsNameOf after n client
+  name_still : (n client : List ℕ) → (n ≡ name → ⊥) → IsNameOf (participants owner_of w) n client → IsNameOf after n client
   name_still n client ne k = name_kept w.actors by a b at refl refl (λ x k. in_front x a.participant.past (start ∷ []) k) n client (λ y h. (y, else_inserted a.participant.transactions name x1 n ne ∙ h)) k
 
-  direct_still : (key client : List ℕ) → IsDirectOf before key client → IsDirectOf after key client
+  direct_still : (key client : List ℕ) → IsDirectOf (participants owner_of w) key client → IsDirectOf after key client
   direct_still key client d = direct_kept w.actors by a b at refl refl (λ x k. in_front x a.participant.past (start ∷ []) k) key client (λ h. h) d
 
   began_now : (n : List ℕ) → n ≡ name → Began p.past n
@@ -137,9 +131,9 @@ module _ (w : World) (by : ℕ) (a : Actor) (name : List ℕ) (x1 : Transaction)
   keys_known key n h j i o there x has = ⊎_elim
       (λ (g : (j ≡ by) × (i ≡ 0) × (o ≡ owner_of p)). ⊎_elim
       (λ (u : (n ≡ name) × (x1 ≡ x)). subst (λ (z : Transaction). words.contains z.locked key ≡ true) u.1 (d.known key (h ∙ ap (λ (z : List ℕ). Some (Txn z)) u.0)))
-      (λ (u : (n ≡ name → ⊥) × (finite.get a.participant.transactions n ≡ Some x)). s.locks.keys_known key n h by 0 (owner_of a.participant) own_before x u.1)
+      (λ (u : (n ≡ name → ⊥) × (finite.get a.participant.transactions n ≡ Some x)). s.locks.keys_known key n h by 0 (owner_of a.participant) (mine owner_of w.actors by a a at refl) x u.1)
       (has_now n x (subst (λ (z : Owner). Has z n x) g.2 has)))
-      (λ (g : IsParticipantAt before j i o). s.locks.keys_known key n h j i o g x has) (was owner_of w.actors by a b at refl j i o there)
+      (λ (g : IsParticipantAt (participants owner_of w) j i o). s.locks.keys_known key n h j i o g x has) (was owner_of w.actors by a b at refl j i o there)
 
   locked_part : AreLocked w.writes.history t after
   locked_part = record {
@@ -158,7 +152,7 @@ module _ (w : World) (by : ℕ) (a : Actor) (name : List ℕ) (x1 : Transaction)
 
   owns_still : (n : List ℕ) → Owns a.participant n → (n ≡ name → ⊥) × Owns p n
   owns_still n (x, h) =
-      let ne : n ≡ name → ⊥ = λ e. none_had by 0 (owner_of a.participant) x own_before (subst (λ (z : List ℕ). finite.get a.participant.transactions z ≡ Some x) e h) in
+      let ne : n ≡ name → ⊥ = λ e. none_had by 0 (owner_of a.participant) x (mine owner_of w.actors by a a at refl) (subst (λ (z : List ℕ). finite.get a.participant.transactions z ≡ Some x) e h) in
       (ne, (x, else_inserted a.participant.transactions name x1 n ne ∙ h))
 
   mine_still : (fact : Fact) → SoIn w a.participant fact → SoWith w t p fact

@@ -307,32 +307,27 @@ last_decides history entry p at =
     same : (x y : Entry) → Some x ≡ Some y → x ≡ y
     same x y q = cc
 
+-- an entry that decides itself, as the last one
+by_itself : (history : List Entry) (entry x : Entry) (p : ℕ) → pair_by (suc (length history)) x ≡ Some (record { number = suc (length history); decision = suc (length history) }) → Some p ≡ Some (suc (length history)) → (p ≡ suc (length history) → Some x ≡ Some entry)
+    → pair_by (suc (length history)) entry ≡ Some (record { number = p; decision = suc (length history) })
+by_itself history entry x p own e is =
+    let q : p ≡ suc (length history) = number_is p (suc (length history)) e in
+    let same : Some x ≡ Some entry = is q in
+    ap (λ (o : Option Entry). pair_in (suc (length history)) o) (sym same) ∙ own ∙ ap (λ (n : ℕ). Some (record { number = n; decision = suc (length history) })) (sym q)
+  where
+    pair_in : ℕ → Option Entry → Option CommitPair
+    pair_in n (Some y) = pair_by n y
+    pair_in n None = None
+
+    number_is : (n m : ℕ) → Some n ≡ Some m → n ≡ m
+    number_is n m f = cc
+
 by_last : (history : List Entry) (entry : Entry) (p : ℕ) (o : Option Entry) → decision_in (history ++ entry ∷ []) p o ≡ Some (suc (length history)) → (p ≡ suc (length history) → o ≡ Some entry) → pair_by (suc (length history)) entry ≡ Some (record { number = p; decision = suc (length history) })
 by_last history entry p (Some (Prepare name batch)) e is =
     let k = position_is (decides p) (history ++ entry ∷ []) (nat_lt (position_or_len (decides p) (history ++ entry ∷ [])) (length (history ++ entry ∷ []))) (suc (length history)) refl e in
     let at = k.1 in pair_of_decider (suc (length history)) p entry (last_decides history entry p (omega arith))
-by_last history entry p (Some (Write batch)) e is =
-    let q : p ≡ suc (length history) = number_is p (suc (length history)) e in
-    let same : Some (Write batch) ≡ Some entry = is q in
-    ap (λ (x : Option Entry). pair_in (suc (length history)) x) (sym same) ∙ ap (λ (x : ℕ). Some (record { number = x; decision = suc (length history) })) (sym q)
-  where
-    pair_in : ℕ → Option Entry → Option CommitPair
-    pair_in n (Some x) = pair_by n x
-    pair_in n None = None
-
-    number_is : (x y : ℕ) → Some x ≡ Some y → x ≡ y
-    number_is x y f = cc
-by_last history entry p (Some (Undo r batch)) e is =
-    let q : p ≡ suc (length history) = number_is p (suc (length history)) e in
-    let same : Some (Undo r batch) ≡ Some entry = is q in
-    ap (λ (x : Option Entry). pair_in (suc (length history)) x) (sym same) ∙ ap (λ (x : ℕ). Some (record { number = x; decision = suc (length history) })) (sym q)
-  where
-    pair_in : ℕ → Option Entry → Option CommitPair
-    pair_in n (Some x) = pair_by n x
-    pair_in n None = None
-
-    number_is : (x y : ℕ) → Some x ≡ Some y → x ≡ y
-    number_is x y f = cc
+by_last history entry p (Some (Write batch)) e is = by_itself history entry (Write batch) p refl e is
+by_last history entry p (Some (Undo r batch)) e is = by_itself history entry (Undo r batch) p refl e is
 by_last history entry p (Some (Commit q)) e is = let no : None ≡ Some (suc (length history)) = e in absurd (cc)
 by_last history entry p (Some (Close q)) e is = let no : None ≡ Some (suc (length history)) = e in absurd (cc)
 by_last history entry p None e is = let no : None ≡ Some (suc (length history)) = e in absurd (cc)

@@ -1,5 +1,5 @@
 -- Freeing the key of a direct write keeps every part of a sound world.
-use Rattle.std.proofs.Common.{◌≡◌, ◌≢◌, ◌⊎◌, ⊎_elim, inl, ℕ, true, not, true≢false, List, length, map, refl, sym, ap, ◌∙◌, Some, None}
+use Rattle.std.proofs.Common.{◌≡◌, ◌≢◌, ◌⊎◌, ⊎_elim, inl, ℕ, true, not, true≢false, List, length, refl, sym, ap, ◌∙◌, Some, None}
 use mathlib.Core.Option.{some}
 use lib.ListN.{get_elem?}
 use Rattle.std.specs.FinMap as finite
@@ -14,13 +14,13 @@ use Rattle.wp_core.specs.Changes.{without_key}
 use Rattle.wp_core.specs.Effects.{done}
 use Rattle.wp_core.specs.Needs.{Needs}
 use Rattle.wp_core.specs.Notes.{forgets, ends}
-use Rattle.wp_core.specs.Sound.Actors.{participants_of, IsParticipantAt}
+use Rattle.wp_core.specs.Sound.Actors.{IsParticipantAt}
 use Rattle.wp_core.specs.Sound.Locks.{Owner, owner_of, IsNameOf, IsDirectOf, IsOwner, AreLocked}
 use Rattle.wp_core.specs.IsSound.{IsSound, participants}
 use Rattle.wp_core.proofs.Keyed.{is_word_same, else_removed, still_there}
 use Rattle.wp_core.proofs.OwnerMoves.{each_owner, names_apart, direct_apart, key_known, name_kept, direct_kept}
 use Rattle.wp_core.proofs.AllParticipants.{mine}
-use Rattle.wp_core.proofs.LocksChange.{SoWith, actor_after, actors_after, LocksParts, locks_change, pasts_left}
+use Rattle.wp_core.proofs.LocksChange.{SoWith, actor_after, owners_after, LocksParts, locks_change, pasts_left}
 use Rattle.wp_core.proofs.AllParts.{SoIn}
 
 module _ (w : World) (by : ℕ) (a : Actor) (key : List ℕ) (at : get_elem? w.actors by ≡ some a) (has : a.participant.direct ≡ Some key) (s : IsSound w) where
@@ -36,18 +36,12 @@ module _ (w : World) (by : ℕ) (a : Actor) (key : List ℕ) (at : get_elem? w.a
   abbrev b : Actor
   b = actor_after w by a (free_direct key) p t
 
-  abbrev before : List (List Owner)
-  before = participants owner_of w
-
   abbrev after : List (List Owner)
-  after = map (participants_of owner_of) (actors_after w by a (free_direct key) p t)
-
-  own_before : IsParticipantAt before by 0 (owner_of a.participant)
-  own_before = mine owner_of w.actors by a b at refl
+  after = owners_after w by a (free_direct key) p t
 
   -- the key was held for the actor's direct write
   was_held : finite.get w.locks.keys key ≡ Some (Client client)
-  was_held = (s.locks.had by 0 (owner_of a.participant) own_before).direct key has
+  was_held = (s.locks.had by 0 (owner_of a.participant) (mine owner_of w.actors by a a at refl)).direct key has
 
   -- a key that is held for a transaction stays held
   txn_still : (k n : List ℕ) → finite.get w.locks.keys k ≡ Some (Txn n) → finite.get t.keys k ≡ Some (Txn n)
@@ -60,32 +54,32 @@ module _ (w : World) (by : ℕ) (a : Actor) (key : List ℕ) (at : get_elem? w.a
   held_before k holder h = still_there w.locks.keys key holder k h
 
   -- another one's direct write is of another key
-  not_theirs : (j i : ℕ) (o : Owner) (k : List ℕ) → ((j ≢ by) ⊎ (i ≢ 0)) → IsParticipantAt before j i o → o.direct ≡ Some k → k ≡ key → ⊥
+  not_theirs : (j i : ℕ) (o : Owner) (k : List ℕ) → ((j ≢ by) ⊎ (i ≢ 0)) → IsParticipantAt (participants owner_of w) j i o → o.direct ≡ Some k → k ≡ key → ⊥
   not_theirs j i o k elsewhere there h q =
-      let same = s.locks.apart.direct j i by 0 o (owner_of a.participant) key there own_before (h ∙ ap (λ (z : List ℕ). Some z) q) has in
+      let same = s.locks.apart.direct j i by 0 o (owner_of a.participant) key there (mine owner_of w.actors by a a at refl) (h ∙ ap (λ (z : List ℕ). Some z) q) has in
       ⊎_elim (λ (ne : j ≢ by). ne same.0) (λ (ne : i ≢ 0). ne same.1) elsewhere
 
-  other_owner : (j i : ℕ) (o : Owner) → ((j ≢ by) ⊎ (i ≢ 0)) → IsParticipantAt before j i o → IsOwner t o
+  other_owner : (j i : ℕ) (o : Owner) → ((j ≢ by) ⊎ (i ≢ 0)) → IsParticipantAt (participants owner_of w) j i o → IsOwner t o
   other_owner j i o elsewhere there =
       let k = s.locks.had j i o there in
       record { names = k.names; keys = λ name x c h held. txn_still c name (k.keys name x c h held); direct = λ c h. else_removed w.locks.keys key c (not_theirs j i o c elsewhere there h) ∙ k.direct c h }
 
   own_owner : IsOwner t (owner_of p)
   own_owner =
-      let old = s.locks.had by 0 (owner_of a.participant) own_before in
+      let old = s.locks.had by 0 (owner_of a.participant) (mine owner_of w.actors by a a at refl) in
       record { names = old.names; keys = λ name x c h held. txn_still c name (old.keys name x c h held); direct = λ c h. absurd cc }
 
   -- it has no direct write
   had_direct : (c : List ℕ) → p.direct ≡ Some c → a.participant.direct ≡ Some c
   had_direct c h = absurd cc
 
-  name_still : (n c : List ℕ) → IsNameOf before n c → IsNameOf after n c
+  name_still : (n c : List ℕ) → IsNameOf (participants owner_of w) n c → IsNameOf after n c
   name_still n c k = name_kept w.actors by a b at refl refl (λ x k. k) n c (λ y h. (y, h)) k
 
   other_key : (k : List ℕ) → a.participant.direct ≡ Some k → k ≡ key
   other_key k h = let f : Some k ≡ Some key = sym h ∙ has in cc
 
-  direct_still : (k c : List ℕ) → (k ≡ key → ⊥) → IsDirectOf before k c → IsDirectOf after k c
+  direct_still : (k c : List ℕ) → (k ≡ key → ⊥) → IsDirectOf (participants owner_of w) k c → IsDirectOf after k c
   direct_still k c ne d = direct_kept w.actors by a b at refl refl (λ x k. k) k c (λ h. absurd (ne (other_key k h))) d
 
   locked_part : AreLocked w.writes.history t after
@@ -106,7 +100,7 @@ module _ (w : World) (by : ℕ) (a : Actor) (key : List ℕ) (at : get_elem? w.a
   mine_still (direct_free c) left k = absurd (true≢false (sym left))
   mine_still fact left k = k
 
-  others_still : (j : ℕ) (q : Participant) (fact : Fact) → j ≢ by → IsParticipantAt before j 0 (owner_of q) → SoIn w q fact → SoWith w t q fact
+  others_still : (j : ℕ) (q : Participant) (fact : Fact) → j ≢ by → IsParticipantAt (participants owner_of w) j 0 (owner_of q) → SoIn w q fact → SoWith w t q fact
   others_still j q (undecided_at n m) ne there k = (k.0, k.1, k.2, λ c h. txn_still c n (k.3 c h))
   others_still j q (direct_free c) ne there k = (k.0, else_removed w.locks.keys key c (not_theirs j 0 (owner_of q) c (inl ne) there k.0) ∙ k.1, k.2)
   others_still j q fact ne there k = k

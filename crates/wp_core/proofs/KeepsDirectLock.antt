@@ -1,5 +1,5 @@
 -- Locking the key of a direct write keeps every part of a sound world.
-use Rattle.std.proofs.Common.{◌≡◌, ◌⊎◌, ⊎_elim, inl, inr, ℕ, List, [], ◌∷◌, ◌++◌, length, map, refl, sym, subst, ap, ◌∙◌, Some, None}
+use Rattle.std.proofs.Common.{◌≡◌, ◌⊎◌, ⊎_elim, inl, inr, ℕ, List, [], ◌∷◌, ◌++◌, length, refl, sym, subst, ap, ◌∙◌, Some, None}
 use mathlib.Core.Option.{some}
 use lib.ListN.{get_elem?}
 use Rattle.std.specs.FinMap as finite
@@ -14,14 +14,14 @@ use Rattle.wp_core.specs.Changes.{with_key}
 use Rattle.wp_core.specs.Effects.{done}
 use Rattle.wp_core.specs.Needs.{Needs}
 use Rattle.wp_core.specs.Notes.{forgets}
-use Rattle.wp_core.specs.Sound.Actors.{participants_of, IsParticipantAt}
+use Rattle.wp_core.specs.Sound.Actors.{IsParticipantAt}
 use Rattle.wp_core.specs.Sound.Locks.{Owner, owner_of, IsNameOf, IsDirectOf, IsOwner, AreLocked}
 use Rattle.wp_core.specs.IsSound.{IsSound, participants}
 use Rattle.wp_core.proofs.Keyed.{at_inserted}
 use Rattle.wp_core.proofs.OwnerMoves.{each_owner, names_apart, key_known, name_kept, direct_kept}
 use Rattle.wp_core.proofs.AllParticipants.{mine, mine_now, was}
 use Rattle.wp_core.proofs.PastsGrow.{in_front, in_last}
-use Rattle.wp_core.proofs.LocksChange.{SoWith, actor_after, actors_after, LocksParts, locks_change}
+use Rattle.wp_core.proofs.LocksChange.{SoWith, actor_after, owners_after, LocksParts, locks_change}
 use Rattle.wp_core.proofs.AllParts.{SoIn}
 use Rattle.wp_core.proofs.KeyLocked.{held_still, held_now, owner_locked, so_locked, pasts_locked}
 
@@ -41,24 +41,18 @@ module _ (w : World) (by : ℕ) (a : Actor) (key : List ℕ) (at : get_elem? w.a
   abbrev b : Actor
   b = actor_after w by a (lock_direct key) p t
 
-  abbrev before : List (List Owner)
-  before = participants owner_of w
-
   abbrev after : List (List Owner)
-  after = map (participants_of owner_of) (actors_after w by a (lock_direct key) p t)
-
-  own_before : IsParticipantAt before by 0 (owner_of a.participant)
-  own_before = mine owner_of w.actors by a b at refl
+  after = owners_after w by a (lock_direct key) p t
 
   own_after : IsParticipantAt after by 0 (owner_of p)
   own_after = mine_now owner_of w.actors by a b at refl
 
   own_owner : IsOwner t (owner_of p)
   own_owner =
-      let old = s.locks.had by 0 (owner_of a.participant) own_before in
+      let old = s.locks.had by 0 (owner_of a.participant) (mine owner_of w.actors by a a at refl) in
       record { names = old.names; keys = λ name x c h held. held_still w key (Client client) free c (Txn name) (old.keys name x c h held); direct = λ c h. let same : key ≡ c = cc in at_inserted w.locks.keys key (Client client) c (sym same) }
 
-  none_had : (j i : ℕ) (o : Owner) (k : List ℕ) → IsParticipantAt before j i o → o.direct ≡ Some k → k ≡ key → ⊥
+  none_had : (j i : ℕ) (o : Owner) (k : List ℕ) → IsParticipantAt (participants owner_of w) j i o → o.direct ≡ Some k → k ≡ key → ⊥
   none_had j i o k there h q = let f : None ≡ Some (Client o.client) = sym free ∙ ap (finite.get w.locks.keys) (sym q) ∙ (s.locks.had j i o there).direct k h in absurd cc
 
   own_apart : (j i k l : ℕ) (o q : Owner) (c : List ℕ) → IsParticipantAt after j i o → IsParticipantAt after k l q → o.direct ≡ Some c → q.direct ≡ Some c → (j ≡ k) × (i ≡ l)
@@ -70,16 +64,16 @@ module _ (w : World) (by : ℕ) (a : Actor) (key : List ℕ) (at : get_elem? w.a
       its_key : (r : Owner) → r ≡ owner_of p → r.direct ≡ Some c → c ≡ key
       its_key r is h = let f : Some key ≡ Some c = sym (ap (λ (z : Owner). z.direct) is) ∙ h in cc
 
-      both : Changed j i o ⊎ IsParticipantAt before j i o → Changed k l q ⊎ IsParticipantAt before k l q → (j ≡ k) × (i ≡ l)
+      both : Changed j i o ⊎ IsParticipantAt (participants owner_of w) j i o → Changed k l q ⊎ IsParticipantAt (participants owner_of w) k l q → (j ≡ k) × (i ≡ l)
       both (inl u) (inl v) = (u.0 ∙ sym v.0, u.1 ∙ sym v.1)
       both (inl u) (inr v) = absurd (none_had k l q c v second (its_key o u.2 first))
       both (inr u) (inl v) = absurd (none_had j i o c u first (its_key q v.2 second))
       both (inr u) (inr v) = s.locks.apart.direct j i k l o q c u v first second
 
-  name_still : (n c : List ℕ) → IsNameOf before n c → IsNameOf after n c
+  name_still : (n c : List ℕ) → IsNameOf (participants owner_of w) n c → IsNameOf after n c
   name_still n c k = name_kept w.actors by a b at refl refl (λ x k. in_front x a.participant.past (e ∷ []) k) n c (λ y h. (y, h)) k
 
-  direct_still : (k c : List ℕ) → IsDirectOf before k c → IsDirectOf after k c
+  direct_still : (k c : List ℕ) → IsDirectOf (participants owner_of w) k c → IsDirectOf after k c
   direct_still k c d = direct_kept w.actors by a b at refl refl (λ x k. in_front x a.participant.past (e ∷ []) k) k c (λ h. let f : None ≡ Some k = sym no_direct ∙ h in absurd cc) d
 
   direct_held : (k c : List ℕ) → finite.get t.keys k ≡ Some (Client c) → IsDirectOf after k c

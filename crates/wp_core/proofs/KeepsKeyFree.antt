@@ -1,5 +1,5 @@
 -- Freeing a key of a transaction keeps every part of a sound world.
-use Rattle.std.proofs.Common.{◌≡◌, ◌≢◌, ◌⊎◌, ◌&&◌, Bool, not, ⊎_elim, ℕ, true, false, true≢false, List, length, map, refl, sym, subst, ap, ◌∙◌, Some, None}
+use Rattle.std.proofs.Common.{◌≡◌, ◌≢◌, ◌⊎◌, ◌&&◌, Bool, not, ⊎_elim, ℕ, true, false, true≢false, List, length, refl, sym, subst, ap, ◌∙◌, Some, None}
 use mathlib.Core.Option.{some}
 use lib.ListN.{get_elem?}
 use Rattle.std.specs.FinSet as words
@@ -19,16 +19,16 @@ use Rattle.wp_core.specs.Changes.{without_key}
 use Rattle.wp_core.specs.Effects.{done}
 use Rattle.wp_core.specs.Needs.{Needs}
 use Rattle.wp_core.specs.Notes.{forgets}
-use Rattle.wp_core.specs.Sound.Actors.{participants_of, IsParticipantAt}
+use Rattle.wp_core.specs.Sound.Actors.{IsParticipantAt}
 use Rattle.wp_core.specs.Sound.Locks.{Owner, owner_of, Has, IsNameOf, IsDirectOf, IsOwner, AreLocked}
 use Rattle.wp_core.specs.IsSound.{IsSound, participants}
 use Rattle.wp_core.proofs.Keyed.{same_test, is_word_same, not_same, else_removed, still_there}
 use Rattle.wp_core.proofs.OwnerMoves.{each_owner, names_apart, direct_apart, name_kept, direct_kept}
-use Rattle.wp_core.proofs.AllParticipants.{was}
+use Rattle.wp_core.proofs.AllParticipants.{mine, was}
 use Rattle.wp_core.proofs.HistoryHolders.{none_named}
-use Rattle.wp_core.proofs.LocksChange.{SoWith, actor_after, actors_after, LocksParts, locks_change, pasts_left}
+use Rattle.wp_core.proofs.LocksChange.{SoWith, actor_after, owners_after, LocksParts, locks_change, pasts_left}
 use Rattle.wp_core.proofs.AllParts.{SoIn}
-use Rattle.wp_core.proofs.OtherKeys.{has_now, had_name, has_still, own_before, nobody_else, owns_still, each_key}
+use Rattle.wp_core.proofs.OtherKeys.{has_now, had_name, has_still, nobody_else, owns_still, each_key}
 
 -- ---- sets of keys
 
@@ -58,15 +58,12 @@ module _ (w : World) (by : ℕ) (a : Actor) (name : List ℕ) (x0 : Transaction)
   abbrev b : Actor
   b = actor_after w by a (free_key name x0 key) p t
 
-  abbrev before : List (List Owner)
-  before = participants owner_of w
-
   abbrev after : List (List Owner)
-  after = map (participants_of owner_of) (actors_after w by a (free_key name x0 key) p t)
+  after = owners_after w by a (free_key name x0 key) p t
 
   -- the key was held for the transaction
   was_held : finite.get w.locks.keys key ≡ Some (Txn name)
-  was_held = (s.locks.had by 0 (owner_of a.participant) (own_before w by a name x0 x1 at has)).keys name x0 key has locked_one
+  was_held = (s.locks.had by 0 (owner_of a.participant) (mine owner_of w.actors by a a at refl)).keys name x0 key has locked_one
 
   same_name : (k n : List ℕ) → finite.get w.locks.keys k ≡ Some (Txn n) → k ≡ key → n ≡ name
   same_name k n h q = let f : Some (Txn n) ≡ Some (Txn name) = sym h ∙ ap (finite.get w.locks.keys) q ∙ was_held in cc
@@ -85,7 +82,7 @@ module _ (w : World) (by : ℕ) (a : Actor) (name : List ℕ) (x0 : Transaction)
   held_before : (k : List ℕ) (holder : Holder) → finite.get t.keys k ≡ Some holder → (k ≡ key → ⊥) × (finite.get w.locks.keys k ≡ Some holder)
   held_before k holder h = still_there w.locks.keys key holder k h
 
-  other_owner : (j i : ℕ) (o : Owner) → ((j ≢ by) ⊎ (i ≢ 0)) → IsParticipantAt before j i o → IsOwner t o
+  other_owner : (j i : ℕ) (o : Owner) → ((j ≢ by) ⊎ (i ≢ 0)) → IsParticipantAt (participants owner_of w) j i o → IsOwner t o
   other_owner j i o elsewhere there =
       let k = s.locks.had j i o there in
       record {
@@ -96,17 +93,17 @@ module _ (w : World) (by : ℕ) (a : Actor) (name : List ℕ) (x0 : Transaction)
 
   own_owner : IsOwner t (owner_of p)
   own_owner =
-      let old = s.locks.had by 0 (owner_of a.participant) (own_before w by a name x0 x1 at has) in
+      let old = s.locks.had by 0 (owner_of a.participant) (mine owner_of w.actors by a a at refl) in
       record {
         names = λ n x h. let y = had_name w by a name x0 x1 at has n x h in old.names n y.0 y.1;
         keys = each_key w by a name x0 x1 at has (λ n c. finite.get t.keys c ≡ Some (Txn n)) (λ c in_it. let g = was_in x0.locked key c in_it in other_still c (Txn name) g.0 (old.keys name x0 c has g.1)) (λ n x c ne h held. txn_still c n ne (old.keys n x c h held));
         direct = λ c h. direct_held c client (old.direct c h);
       }
 
-  name_still : (n c : List ℕ) → IsNameOf before n c → IsNameOf after n c
+  name_still : (n c : List ℕ) → IsNameOf (participants owner_of w) n c → IsNameOf after n c
   name_still n c k = name_kept w.actors by a b at refl refl (λ x k. k) n c (λ y h. has_still w by a name x0 x1 at has n y h) k
 
-  direct_still : (k c : List ℕ) → IsDirectOf before k c → IsDirectOf after k c
+  direct_still : (k c : List ℕ) → IsDirectOf (participants owner_of w) k c → IsDirectOf after k c
   direct_still k c d = direct_kept w.actors by a b at refl refl (λ x k. k) k c (λ h. h) d
 
   keys_known : (k n : List ℕ) → finite.get t.keys k ≡ Some (Txn n) → (j i : ℕ) (o : Owner) → IsParticipantAt after j i o → (x : Transaction) → Has o n x → words.contains x.locked k ≡ true
@@ -114,10 +111,10 @@ module _ (w : World) (by : ℕ) (a : Actor) (name : List ℕ) (x0 : Transaction)
       let g = held_before k (Txn n) h in
       ⊎_elim
       (λ (c : (j ≡ by) × (i ≡ 0) × (o ≡ owner_of p)). ⊎_elim
-      (λ (u : (n ≡ name) × (x1 ≡ x)). subst (λ (z : Transaction). words.contains z.locked k ≡ true) u.1 (still_in x0.locked key k g.0 (s.locks.keys_known k n g.1 by 0 (owner_of a.participant) (own_before w by a name x0 x1 at has) x0 (ap (finite.get a.participant.transactions) u.0 ∙ has))))
-      (λ (u : (n ≡ name → ⊥) × (finite.get a.participant.transactions n ≡ Some x)). s.locks.keys_known k n g.1 by 0 (owner_of a.participant) (own_before w by a name x0 x1 at has) x u.1)
+      (λ (u : (n ≡ name) × (x1 ≡ x)). subst (λ (z : Transaction). words.contains z.locked k ≡ true) u.1 (still_in x0.locked key k g.0 (s.locks.keys_known k n g.1 by 0 (owner_of a.participant) (mine owner_of w.actors by a a at refl) x0 (ap (finite.get a.participant.transactions) u.0 ∙ has))))
+      (λ (u : (n ≡ name → ⊥) × (finite.get a.participant.transactions n ≡ Some x)). s.locks.keys_known k n g.1 by 0 (owner_of a.participant) (mine owner_of w.actors by a a at refl) x u.1)
       (has_now w by a name x0 x1 at has n x (subst (λ (z : Owner). Has z n x) c.2 there_has)))
-      (λ (c : IsParticipantAt before j i o). s.locks.keys_known k n g.1 j i o c x there_has) (was owner_of w.actors by a b at refl j i o there)
+      (λ (c : IsParticipantAt (participants owner_of w) j i o). s.locks.keys_known k n g.1 j i o c x there_has) (was owner_of w.actors by a b at refl j i o there)
 
   -- a key of an undecided prepare is of another name
   prepared_keys : (q : ℕ) (k : List ℕ) → is_undecided w.writes.history q ≡ true → is_changed (batch_at w.writes.history q) k ≡ true → finite.get t.keys k ≡ Some (Txn (name_at w.writes.history q))

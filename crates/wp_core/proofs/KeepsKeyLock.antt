@@ -1,5 +1,5 @@
 -- Locking a key for a transaction keeps every part of a sound world.
-use Rattle.std.proofs.Common.{◌≡◌, ◌≢◌, ◌⊎◌, ◌||◌, Bool, ⊎_elim, inl, inr, ℕ, true, false, List, [], ◌∷◌, ◌++◌, length, map, refl, sym, subst, ap, ◌∙◌, Option, Some, None, is_some}
+use Rattle.std.proofs.Common.{◌≡◌, ◌≢◌, ◌⊎◌, ◌||◌, Bool, ⊎_elim, inl, inr, ℕ, true, false, List, [], ◌∷◌, ◌++◌, length, refl, sym, subst, ap, ◌∙◌, Option, Some, None, is_some}
 use mathlib.Core.Option.{some}
 use lib.ListN.{get_elem?}
 use Rattle.std.specs.FinSet as words
@@ -18,18 +18,18 @@ use Rattle.wp_core.specs.Changes.{with_key}
 use Rattle.wp_core.specs.Effects.{done}
 use Rattle.wp_core.specs.Needs.{Needs}
 use Rattle.wp_core.specs.Notes.{forgets}
-use Rattle.wp_core.specs.Sound.Actors.{participants_of, IsParticipantAt}
+use Rattle.wp_core.specs.Sound.Actors.{IsParticipantAt}
 use Rattle.wp_core.specs.Sound.Locks.{Owner, owner_of, Has, IsNameOf, IsDirectOf, IsOwner, AreLocked}
 use Rattle.wp_core.specs.IsSound.{IsSound, participants}
 use Rattle.wp_core.proofs.Keyed.{same_test, is_word_same, not_same, at_inserted}
 use Rattle.wp_core.proofs.OwnerMoves.{each_owner, names_apart, direct_apart, name_kept, direct_kept}
-use Rattle.wp_core.proofs.AllParticipants.{was_apart}
+use Rattle.wp_core.proofs.AllParticipants.{mine, was_apart}
 use Rattle.wp_core.proofs.HistoryHolders.{holder_holds}
 use Rattle.wp_core.proofs.PastsGrow.{in_front}
-use Rattle.wp_core.proofs.LocksChange.{SoWith, actor_after, actors_after, LocksParts, locks_change}
+use Rattle.wp_core.proofs.LocksChange.{SoWith, actor_after, owners_after, LocksParts, locks_change}
 use Rattle.wp_core.proofs.AllParts.{SoIn}
 use Rattle.wp_core.proofs.KeyLocked.{held_still, held_now, owner_locked, so_locked, pasts_locked}
-use Rattle.wp_core.proofs.OtherKeys.{has_now, had_name, has_still, own_before, nobody_else, owns_still, each_key}
+use Rattle.wp_core.proofs.OtherKeys.{has_now, had_name, has_still, nobody_else, owns_still, each_key}
 
 -- ---- sets of keys
 
@@ -64,15 +64,12 @@ module _ (w : World) (by : ℕ) (a : Actor) (name : List ℕ) (x0 : Transaction)
   abbrev b : Actor
   b = actor_after w by a (lock_key name x0 key) p t
 
-  abbrev before : List (List Owner)
-  before = participants owner_of w
-
   abbrev after : List (List Owner)
-  after = map (participants_of owner_of) (actors_after w by a (lock_key name x0 key) p t)
+  after = owners_after w by a (lock_key name x0 key) p t
 
   own_owner : IsOwner t (owner_of p)
   own_owner =
-      let old = s.locks.had by 0 (owner_of a.participant) (own_before w by a name x0 x1 at has) in
+      let old = s.locks.had by 0 (owner_of a.participant) (mine owner_of w.actors by a a at refl) in
       record {
         names = λ n x h. let y = had_name w by a name x0 x1 at has n x h in old.names n y.0 y.1;
         keys = each_key w by a name x0 x1 at has (λ n c. finite.get t.keys c ≡ Some (Txn n))
@@ -83,14 +80,14 @@ module _ (w : World) (by : ℕ) (a : Actor) (name : List ℕ) (x0 : Transaction)
         direct = λ c h. held_still w key (Txn name) free c (Client a.participant.client) (old.direct c h);
       }
 
-  name_still : (n c : List ℕ) → IsNameOf before n c → IsNameOf after n c
+  name_still : (n c : List ℕ) → IsNameOf (participants owner_of w) n c → IsNameOf after n c
   name_still n c k = name_kept w.actors by a b at refl refl (λ x k. in_front x a.participant.past (e ∷ []) k) n c (λ y h. has_still w by a name x0 x1 at has n y h) k
 
-  direct_still : (k c : List ℕ) → IsDirectOf before k c → IsDirectOf after k c
+  direct_still : (k c : List ℕ) → IsDirectOf (participants owner_of w) k c → IsDirectOf after k c
   direct_still k c d = direct_kept w.actors by a b at refl refl (λ x k. in_front x a.participant.past (e ∷ []) k) k c (λ h. h) d
 
   name_lives : is_some (finite.get w.locks.names name) ≡ true
-  name_lives = ap is_some ((s.locks.had by 0 (owner_of a.participant) (own_before w by a name x0 x1 at has)).names name x0 has)
+  name_lives = ap is_some ((s.locks.had by 0 (owner_of a.participant) (mine owner_of w.actors by a a at refl)).names name x0 has)
 
   keys_live : (k n : List ℕ) → finite.get t.keys k ≡ Some (Txn n) → is_some (finite.get w.locks.names n) ≡ true
   keys_live k n h = ⊎_elim
@@ -104,13 +101,13 @@ module _ (w : World) (by : ℕ) (a : Actor) (name : List ℕ) (x0 : Transaction)
       own_case held h2 = ⊎_elim
           (λ (u : (n ≡ name) × (x1 ≡ x)). subst (λ (z : Transaction). words.contains z.locked k ≡ true) u.1 (⊎_elim
           (λ (g : (k ≡ key) × (Txn name ≡ Txn n)). in_inserted x0.locked key k g.0)
-          (λ (g : (k ≡ key → ⊥) × (finite.get w.locks.keys k ≡ Some (Txn n))). still_in x0.locked key k (s.locks.keys_known k n g.1 by 0 (owner_of a.participant) (own_before w by a name x0 x1 at has) x0 (ap (finite.get a.participant.transactions) u.0 ∙ has))) held))
+          (λ (g : (k ≡ key → ⊥) × (finite.get w.locks.keys k ≡ Some (Txn n))). still_in x0.locked key k (s.locks.keys_known k n g.1 by 0 (owner_of a.participant) (mine owner_of w.actors by a a at refl) x0 (ap (finite.get a.participant.transactions) u.0 ∙ has))) held))
           (λ (u : (n ≡ name → ⊥) × (finite.get a.participant.transactions n ≡ Some x)). ⊎_elim
           (λ (g : (k ≡ key) × (Txn name ≡ Txn n)). let same : name ≡ n = let f = g.1 in cc in absurd (u.0 (sym same)))
-          (λ (g : (k ≡ key → ⊥) × (finite.get w.locks.keys k ≡ Some (Txn n))). s.locks.keys_known k n g.1 by 0 (owner_of a.participant) (own_before w by a name x0 x1 at has) x u.1) held)
+          (λ (g : (k ≡ key → ⊥) × (finite.get w.locks.keys k ≡ Some (Txn n))). s.locks.keys_known k n g.1 by 0 (owner_of a.participant) (mine owner_of w.actors by a a at refl) x u.1) held)
           (has_now w by a name x0 x1 at has n x h2)
 
-      both : ((k ≡ key) × (Txn name ≡ Txn n)) ⊎ ((k ≡ key → ⊥) × (finite.get w.locks.keys k ≡ Some (Txn n))) → ((j ≡ by) × (i ≡ 0) × (o ≡ owner_of p)) ⊎ (((j ≢ by) ⊎ (i ≢ 0)) × IsParticipantAt before j i o) → words.contains x.locked k ≡ true
+      both : ((k ≡ key) × (Txn name ≡ Txn n)) ⊎ ((k ≡ key → ⊥) × (finite.get w.locks.keys k ≡ Some (Txn n))) → ((j ≡ by) × (i ≡ 0) × (o ≡ owner_of p)) ⊎ (((j ≢ by) ⊎ (i ≢ 0)) × IsParticipantAt (participants owner_of w) j i o) → words.contains x.locked k ≡ true
       both held (inl g) = own_case held (subst (λ (z : Owner). Has z n x) g.2 there_has)
       both (inl g) (inr v) = let same : name ≡ n = let f = g.1 in cc in absurd (nobody_else w by a name x0 x1 at has s j i o n x v.0 v.1 there_has (sym same))
       both (inr g) (inr v) = s.locks.keys_known k n g.1 j i o v.1 x there_has

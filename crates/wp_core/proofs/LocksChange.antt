@@ -16,7 +16,7 @@ use Rattle.wp_core.specs.Steps.{Step}
 use Rattle.wp_core.specs.Changes.{change, held_with}
 use Rattle.wp_core.specs.Notes.{forgets, ends}
 use Rattle.wp_core.specs.Sound.Actors.{participants_of, IsParticipantAt}
-use Rattle.wp_core.specs.Sound.Locks.{owner_of, AreLocked}
+use Rattle.wp_core.specs.Sound.Locks.{owner_of, AreLocked, Owner}
 use Rattle.wp_core.specs.Sound.Pasts.{past_of, IsBoard}
 use Rattle.wp_core.specs.Sound.Views.{IsSo, noter_of}
 use Rattle.wp_core.specs.IsSound.{IsSound, participants}
@@ -41,8 +41,11 @@ module _ (w : World) (by : ℕ) (a : Actor) (step : Step) (p : Participant) (t :
   abbrev pub actors_after : List Actor
   actors_after = set w.actors by actor_after
 
+  abbrev pub owners_after : List (List Owner)
+  owners_after = map (participants_of owner_of) actors_after
+
   pub record LocksParts : Type 0 where
-    pub locks_part : AreLocked w.writes.history t (map (participants_of owner_of) actors_after)
+    pub locks_part : AreLocked w.writes.history t owners_after
     pub pasts_part : Pasts w.opened w.writes t w.first_edit w.installed actors_after
     pub mine : (fact : Fact) → not (ends w.writes.history (length w.cache) step fact) ≡ true → SoIn w a.participant fact → SoWith w t (record a.participant { transactions = p.transactions; direct = p.direct; past = p.past }) fact
     pub others : (j : ℕ) (q : Participant) (fact : Fact) → j ≢ by → IsParticipantAt (participants owner_of w) j 0 (owner_of q) → SoIn w q fact → SoWith w t q fact

@@ -2,6 +2,7 @@
 use Rattle.std.proofs.Common.{◌≡◌, ◌≢◌, ⊎_elim, inl, inr, ℕ, zero, suc, ◌+◌, Bool, true, false, not, List, [], ◌∷◌, ◌++◌, length, map, set, filter, refl, sym, subst, ap, ◌∙◌, arith}
 use mathlib.Core.Option.{some, some-injective, some-ne-none}
 use lib.ListN.{get_elem?}
+use Rattle.wp_model.specs.declared.entry.Entry.{Entry}
 use Rattle.wp_core.specs.Lists.{EachAt, IsIn, one_if, total}
 use Rattle.wp_core.specs.Views.{Fact}
 use Rattle.wp_core.specs.World.{Actor, Participant, World, new_actor, content_of}
@@ -29,6 +30,10 @@ pub record StaysAs (a b : Actor) : Type 0 where
   pub live : b.live ≡ a.live
   pub notes : (fact : Fact) → IsIn fact b.notes → IsIn fact a.notes
   pub no_notes : a.notes ≡ [] → b.notes ≡ []
+
+-- an actor that learns or joins stays as it is, but for the notes that its step ends
+pub stays_but : (a : Actor) (test : Fact → Bool) (learned : List Entry) (joined : List Participant) → StaysAs a (record a { notes = filter test a.notes; learned = learned; joined = joined })
+stays_but a test learned joined = record { participant = refl; held = refl; reading = refl; live = refl; notes = λ fact h. (in_filter test fact a.notes h).0; no_notes = λ e. ap (filter test) e }
 
 pub idle_still : (a b : Actor) → StaysAs a b → IsIdle a → IsIdle b
 idle_still a b same k = record {

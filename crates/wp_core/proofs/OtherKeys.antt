@@ -16,9 +16,6 @@ module _ (w : World) (by : ℕ) (a : Actor) (name : List ℕ) (x0 x1 : Transacti
   abbrev p : Participant
   p = record a.participant { transactions = finite.insert a.participant.transactions name x1 }
 
-  abbrev before : List (List Owner)
-  before = participants owner_of w
-
   -- what the actor has now: the transaction with its other keys, or what it had
   pub has_now : (n : List ℕ) (x : Transaction) → finite.get p.transactions n ≡ Some x → ((n ≡ name) × (x1 ≡ x)) ⊎ ((n ≡ name → ⊥) × (finite.get a.participant.transactions n ≡ Some x))
   has_now n x h = now_inserted a.participant.transactions name x1 x n h
@@ -34,13 +31,10 @@ module _ (w : World) (by : ℕ) (a : Actor) (name : List ℕ) (x0 x1 : Transacti
       (λ (q : n ≡ name). (x1, at_inserted a.participant.transactions name x1 n q))
       (λ (ne : n ≡ name → ⊥). (y, else_inserted a.participant.transactions name x1 n ne ∙ h)) (is_word_same n name)
 
-  pub own_before : IsParticipantAt before by 0 (owner_of a.participant)
-  own_before = mine owner_of w.actors by a a at refl
-
   -- nobody else has the transaction
-  pub nobody_else : IsSound w → (j i : ℕ) (o : Owner) (n : List ℕ) (x : Transaction) → ((j ≢ by) ⊎ (i ≢ 0)) → IsParticipantAt before j i o → Has o n x → n ≡ name → ⊥
+  pub nobody_else : IsSound w → (j i : ℕ) (o : Owner) (n : List ℕ) (x : Transaction) → ((j ≢ by) ⊎ (i ≢ 0)) → IsParticipantAt (participants owner_of w) j i o → Has o n x → n ≡ name → ⊥
   nobody_else s j i o n x elsewhere there h is =
-      let same = s.locks.apart.names j i by 0 o (owner_of a.participant) name x x0 there own_before (subst (λ (z : List ℕ). Has o z x) is h) has in
+      let same = s.locks.apart.names j i by 0 o (owner_of a.participant) name x x0 there (mine owner_of w.actors by a a at refl) (subst (λ (z : List ℕ). Has o z x) is h) has in
       ⊎_elim (λ (ne : j ≢ by). ne same.0) (λ (ne : i ≢ 0). ne same.1) elsewhere
 
   pub owns_still : (n : List ℕ) → Owns a.participant n → Owns p n

@@ -9,7 +9,7 @@ use Rattle.wp_core.specs.Views.{Event, claimed, took, locked}
 use Rattle.wp_core.specs.World.{Transaction, Actor}
 use Rattle.wp_core.specs.Sound.Actors.{participants_of, IsParticipantAt, EachParticipant}
 use Rattle.wp_core.specs.Sound.Locks.{Owner, owner_of, Has, Began, IsNameOf, IsDirectOf, AreApart}
-use Rattle.wp_core.proofs.AllParticipants.{mine, mine_now, still, was, was_apart}
+use Rattle.wp_core.proofs.AllParticipants.{mine, mine_now, was, still, was_apart}
 
 module _ (xs : List Actor) (by : ℕ) (a b : Actor) (at : get_elem? xs by ≡ some a) (same : b.joined ≡ a.joined) where
   abbrev before : List (List Owner)
