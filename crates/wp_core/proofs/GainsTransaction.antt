@@ -17,8 +17,8 @@ use Rattle.wp_core.specs.Sound.Locks.{Owner, owner_of, Has, Began, IsNameOf, IsD
 use Rattle.wp_core.specs.Sound.Views.{Owns}
 use Rattle.wp_core.specs.IsSound.{IsSound, participants}
 use Rattle.wp_core.proofs.Keyed.{is_word_same, at_inserted, else_inserted, now_inserted}
-use Rattle.wp_core.proofs.OwnerMoves.{each_owner, direct_apart, name_kept, direct_kept}
-use Rattle.wp_core.proofs.AllParticipants.{mine, mine_now, was}
+use Rattle.wp_core.proofs.OwnerMoves.{direct_apart, name_kept, direct_kept}
+use Rattle.wp_core.proofs.AllParticipants.{mine, mine_now, was, each_apart}
 use Rattle.wp_core.proofs.PastsGrow.{in_front, in_last}
 use Rattle.wp_core.proofs.LocksChange.{SoWith, actor_after, owners_after, LocksParts, pasts_grown, board_grown}
 use Rattle.wp_core.proofs.Remembers.{IsQuiet, FindsNothing, TellsNothing}
@@ -139,7 +139,7 @@ module _ (w : World) (by : ℕ) (a : Actor) (name : List ℕ) (x1 : Transaction)
   locked_part = record {
     prepared_names = λ q u. is_live_still _ (s.locks.prepared_names q u);
     prepared_keys = s.locks.prepared_keys;
-    had = each_owner w.actors by a b at refl (IsOwner t) own_owner (λ j i o elsewhere there. other_owner o (s.locks.had j i o there));
+    had = each_apart owner_of w.actors by a b at refl (IsOwner t) own_owner (λ j i o elsewhere there. other_owner o (s.locks.had j i o there));
     apart = record { names = new_apart; direct = direct_apart w.actors by a b at refl (λ c h. h) s.locks.apart };
     names_had = names_had;
     names_left = names_left;

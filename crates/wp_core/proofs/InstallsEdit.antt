@@ -21,6 +21,7 @@ use Rattle.wp_core.proofs.Remembers.{installed_still}
 use Rattle.wp_core.proofs.StoresFlag.{not_theirs}
 use Rattle.wp_core.proofs.TablesChange.{SoInstalled, edits_grown, actor_after, pasts_after, tables_change}
 use Rattle.wp_core.proofs.AllParts.{SoIn}
+use Rattle.wp_core.proofs.AllParticipants.{mine}
 
 -- the tables that are due once one more event is in a past
 due_more : (first : InstalledEdit) (past : List Event) (e : Event) → tables_due first (past ++ e ∷ []) ≡ due_after (tables_due first past) e

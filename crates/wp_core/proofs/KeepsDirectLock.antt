@@ -18,8 +18,8 @@ use Rattle.wp_core.specs.Sound.Actors.{IsParticipantAt}
 use Rattle.wp_core.specs.Sound.Locks.{Owner, owner_of, IsNameOf, IsDirectOf, IsOwner, AreLocked}
 use Rattle.wp_core.specs.IsSound.{IsSound, participants}
 use Rattle.wp_core.proofs.Keyed.{at_inserted}
-use Rattle.wp_core.proofs.OwnerMoves.{each_owner, names_apart, key_known, name_kept, direct_kept}
-use Rattle.wp_core.proofs.AllParticipants.{mine, mine_now, was}
+use Rattle.wp_core.proofs.OwnerMoves.{names_apart, key_known, name_kept, direct_kept}
+use Rattle.wp_core.proofs.AllParticipants.{mine, mine_now, was, each_apart}
 use Rattle.wp_core.proofs.PastsGrow.{in_front, in_last}
 use Rattle.wp_core.proofs.LocksChange.{SoWith, actor_after, owners_after, LocksParts, locks_change}
 use Rattle.wp_core.proofs.AllParts.{SoIn}
@@ -90,7 +90,7 @@ module _ (w : World) (by : ℕ) (a : Actor) (key : List ℕ) (at : get_elem? w.a
   locked_part = record {
     prepared_names = s.locks.prepared_names;
     prepared_keys = λ q k u h. held_still w key (Client client) free k (Txn (name_at w.writes.history q)) (s.locks.prepared_keys q k u h);
-    had = each_owner w.actors by a b at refl (IsOwner t) own_owner (λ j i o elsewhere there. owner_locked w key (Client client) free o (s.locks.had j i o there));
+    had = each_apart owner_of w.actors by a b at refl (IsOwner t) own_owner (λ j i o elsewhere there. owner_locked w key (Client client) free o (s.locks.had j i o there));
     apart = record { names = names_apart w.actors by a b at refl (λ n x h. (x, h)) s.locks.apart; direct = own_apart };
     names_had = λ n c h. name_still n c (s.locks.names_had n c h);
     names_left = s.locks.names_left;

@@ -22,8 +22,8 @@ use Rattle.wp_core.specs.Sound.Actors.{IsParticipantAt}
 use Rattle.wp_core.specs.Sound.Locks.{Owner, owner_of, Has, IsNameOf, IsDirectOf, IsOwner, AreLocked}
 use Rattle.wp_core.specs.IsSound.{IsSound, participants}
 use Rattle.wp_core.proofs.Keyed.{same_test, is_word_same, not_same, at_inserted}
-use Rattle.wp_core.proofs.OwnerMoves.{each_owner, names_apart, direct_apart, name_kept, direct_kept}
-use Rattle.wp_core.proofs.AllParticipants.{mine, was_apart}
+use Rattle.wp_core.proofs.OwnerMoves.{names_apart, direct_apart, name_kept, direct_kept}
+use Rattle.wp_core.proofs.AllParticipants.{mine, was_apart, each_apart}
 use Rattle.wp_core.proofs.HistoryHolders.{holder_holds}
 use Rattle.wp_core.proofs.PastsGrow.{in_front}
 use Rattle.wp_core.proofs.LocksChange.{SoWith, actor_after, owners_after, LocksParts, locks_change}
@@ -121,7 +121,7 @@ module _ (w : World) (by : ℕ) (a : Actor) (name : List ℕ) (x0 : Transaction)
   locked_part = record {
     prepared_names = s.locks.prepared_names;
     prepared_keys = λ q k u h. held_still w key (Txn name) free k (Txn (name_at w.writes.history q)) (s.locks.prepared_keys q k u h);
-    had = each_owner w.actors by a b at refl (IsOwner t) own_owner (λ j i o elsewhere there. owner_locked w key (Txn name) free o (s.locks.had j i o there));
+    had = each_apart owner_of w.actors by a b at refl (IsOwner t) own_owner (λ j i o elsewhere there. owner_locked w key (Txn name) free o (s.locks.had j i o there));
     apart = record { names = names_apart w.actors by a b at refl (had_name w by a name x0 x1 at has) s.locks.apart; direct = direct_apart w.actors by a b at refl (λ c h. h) s.locks.apart };
     names_had = λ n c h. name_still n c (s.locks.names_had n c h);
     names_left = s.locks.names_left;

@@ -13,7 +13,8 @@ use Rattle.wp_core.specs.World.{Transaction, Actor}
 use Rattle.wp_core.specs.Sound.Actors.{participants_of, IsParticipantAt, EachParticipant}
 use Rattle.wp_core.specs.Sound.Locks.{Owner, owner_of, Has, IsOwner, AreLocked}
 use Rattle.wp_core.proofs.PastsGrow.{in_front}
-use Rattle.wp_core.proofs.OwnerMoves.{who_was, names_apart, direct_apart, name_kept, direct_kept}
+use Rattle.wp_core.proofs.OwnerMoves.{names_apart, direct_apart, name_kept, direct_kept}
+use Rattle.wp_core.proofs.AllParticipants.{who_was}
 
 -- the same of names and keys, and a past that grew
 pub record IsSameOwner (o p : Owner) : Type 0 where
@@ -45,7 +46,7 @@ module _ (xs : List Actor) (by : ℕ) (a b : Actor) (at : get_elem? xs by ≡ so
   }
 
   was_there : (j i : ℕ) (p : Owner) → IsParticipantAt after j i p → (o : Owner) × IsParticipantAt before j i o × IsSameOwner o p
-  was_there j i p there = who_was xs by a b at same (λ q o. IsSameOwner o q) same_owner is j i p there
+  was_there j i p there = who_was owner_of xs by a b at same (λ q o. IsSameOwner o q) same_owner is j i p there
 
   -- a held key that each had under its transaction
   known_still : (key name : List ℕ) → EachParticipant (λ o. (x : Transaction) → Has o name x → set_of.contains x.locked key ≡ true) before → EachParticipant (λ o. (x : Transaction) → Has o name x → set_of.contains x.locked key ≡ true) after

@@ -28,6 +28,7 @@ use Rattle.wp_core.proofs.Quiet.{idle_after, NotesStay, noted_after}
 use Rattle.wp_core.proofs.ReaderFacts.{extended_stays}
 use Rattle.wp_core.proofs.StoresFlag.{not_theirs, not_free}
 use Rattle.wp_core.proofs.AllParts.{SoIn, views_of, readers_still, turns_changed, quiet_step}
+use Rattle.wp_core.proofs.AllParticipants.{mine}
 
 -- the write table with what is pending, whether that is logged, and the log
 abbrev pub with_pending : WriteTable → List Entry → Bool → List Entry → WriteTable

@@ -29,6 +29,7 @@ use Rattle.wp_history.proofs.Growth.{entry_at_past}
 use Rattle.wp_core.proofs.AllParts.{SoIn, views_of, pasts_of, readers_still, turns_changed, quiet_step}
 use Rattle.wp_core.proofs.Quiet.{idle_after, NotesStay, noted_after}
 use Rattle.wp_core.proofs.StoresFlag.{not_theirs}
+use Rattle.wp_core.proofs.AllParticipants.{mine}
 
 -- ---- look-ups
 

@@ -29,6 +29,7 @@ use Rattle.wp_core.proofs.Quiet.{prepared_changes}
 use Rattle.wp_core.proofs.StoresFlag.{not_free}
 use Rattle.wp_core.proofs.ReaderFacts.{same_some, none_some, extended_was, pair_ordered}
 use Rattle.wp_core.proofs.AllParts.{SoIn}
+use Rattle.wp_core.proofs.AllParticipants.{mine}
 
 -- what is noted with these prepared tables in place of the world's
 abbrev pub SoWith : World → PreparedTables → Participant → Fact → Type 0

@@ -34,6 +34,7 @@ use Rattle.wp_core.proofs.ReaderFacts.{same_some, none_some, extended_stays}
 use Rattle.wp_core.proofs.Quiet.{words_change}
 use Rattle.wp_core.proofs.StoresFlag.{not_theirs}
 use Rattle.wp_core.proofs.AllParts.{SoIn}
+use Rattle.wp_core.proofs.AllParticipants.{mine}
 
 -- ---- pairs and words
 
