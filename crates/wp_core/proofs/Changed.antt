@@ -14,7 +14,6 @@ use Rattle.wp_core.specs.Changes.{turn_index, held_with}
 use Rattle.wp_core.specs.Sound.Actors.{AreHeld, HoldersHave, NoneAfter, held_of}
 use Rattle.wp_core.proofs.Frames.{map_set, here, at_map}
 use Rattle.wp_core.proofs.Gives.{same_turn, others_turn}
-use Rattle.wp_core.proofs.AllParticipants.{mine}
 
 pub changed_there : (w : World) (c : Content) → content_of (with_content w c) (turn_of c) ≡ c
 changed_there w (writes t) = refl

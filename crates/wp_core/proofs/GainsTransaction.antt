@@ -16,7 +16,7 @@ use Rattle.wp_core.specs.Sound.Actors.{IsParticipantAt}
 use Rattle.wp_core.specs.Sound.Locks.{Owner, owner_of, Has, Began, IsNameOf, IsDirectOf, IsOwner, AreLocked}
 use Rattle.wp_core.specs.Sound.Views.{Owns}
 use Rattle.wp_core.specs.IsSound.{IsSound, participants}
-use Rattle.wp_core.proofs.Keyed.{is_word_same, at_inserted, else_inserted, now_inserted}
+use Rattle.wp_core.proofs.Keyed.{is_word_same, at_inserted, else_inserted, now_inserted, some_inserted}
 use Rattle.wp_core.proofs.OwnerMoves.{direct_apart, name_kept, direct_kept}
 use Rattle.wp_core.proofs.AllParticipants.{mine, mine_now, was, each_apart}
 use Rattle.wp_core.proofs.PastsGrow.{in_front, in_last}
@@ -50,11 +50,6 @@ module _ (w : World) (by : ℕ) (a : Actor) (name : List ℕ) (x1 : Transaction)
   -- what is live stays live, and a name that an actor has stays its
   live_still : (n c : List ℕ) → finite.get w.locks.names n ≡ Some (Some c) → finite.get t.names n ≡ Some (Some c)
   live_still n c h = ⊎_elim (λ (q : n ≡ name). not_it n c h q) (λ (ne : n ≡ name → ⊥). else_inserted w.locks.names name (Some a.participant.client) n ne ∙ h) (is_word_same n name)
-
-  is_live_still : (n : List ℕ) → is_some (finite.get w.locks.names n) ≡ true → is_some (finite.get t.names n) ≡ true
-  is_live_still n live = ⊎_elim
-      (λ (q : n ≡ name). ap is_some (at_inserted w.locks.names name (Some a.participant.client) n q))
-      (λ (ne : n ≡ name → ⊥). ap is_some (else_inserted w.locks.names name (Some a.participant.client) n ne) ∙ live) (is_word_same n name)
 
   -- what the actor has now: the new one, or what it had
   has_now : (n : List ℕ) (x : Transaction) → finite.get p.transactions n ≡ Some x → ((n ≡ name) × (x1 ≡ x)) ⊎ ((n ≡ name → ⊥) × (finite.get a.participant.transactions n ≡ Some x))
@@ -137,13 +132,13 @@ module _ (w : World) (by : ℕ) (a : Actor) (name : List ℕ) (x1 : Transaction)
 
   locked_part : AreLocked w.writes.history t after
   locked_part = record {
-    prepared_names = λ q u. is_live_still _ (s.locks.prepared_names q u);
+    prepared_names = λ q u. some_inserted w.locks.names name (Some a.participant.client) _ (s.locks.prepared_names q u);
     prepared_keys = s.locks.prepared_keys;
     had = each_apart owner_of w.actors by a b at refl (IsOwner t) own_owner (λ j i o elsewhere there. other_owner o (s.locks.had j i o there));
     apart = record { names = new_apart; direct = direct_apart w.actors by a b at refl (λ c h. h) s.locks.apart };
     names_had = names_had;
     names_left = names_left;
-    keys_live = λ key n h. is_live_still n (s.locks.keys_live key n h);
+    keys_live = λ key n h. some_inserted w.locks.names name (Some a.participant.client) n (s.locks.keys_live key n h);
     keys_known = keys_known;
     keys_direct = λ key client h. direct_still key client (s.locks.keys_direct key client h);
   }

@@ -8,7 +8,6 @@ use Rattle.wp_core.specs.Tables.{Content, turn_of}
 use Rattle.wp_core.specs.Changes.{turn_index, held_without}
 use Rattle.wp_core.specs.Sound.Actors.{AreHeld, NoneAfter}
 use Rattle.wp_core.proofs.Frames.{filter_in}
-use Rattle.wp_core.proofs.AllParticipants.{mine}
 
 -- ---- holders
 

@@ -1,5 +1,5 @@
 -- Laws of a history with one entry more: what it decides, leaves undecided, and has under names and keys.
-use Rattle.std.proofs.Common.{◌≡◌, ◌≢◌, ◌⊎◌, ⊎_elim, inl, inr, ℕ, suc, ◌+◌, ◌≤◌, ◌==◌, ◌&&◌, eq-eqb, ne_eqb, Bool, true, false, not, cond, true≢false, List, [], ◌∷◌, ◌++◌, length, refl, sym, subst, ap, ◌∙◌, Option, Some, None, filter, arith}
+use Rattle.std.proofs.Common.{◌≡◌, ◌≢◌, ◌⊎◌, ⊎_elim, inl, inr, ℕ, suc, ◌+◌, ◌≤◌, ◌==◌, eq-eqb, ne_eqb, Bool, true, false, not, cond, true≢false, List, [], ◌∷◌, ◌++◌, length, refl, sym, subst, ap, ◌∙◌, Option, Some, None, filter, arith}
 use Rattle.std.specs.Prelude.{unwrap_or, is_some}
 use Rattle.std.specs.List.{find, range_with_len}
 use Rattle.std.specs.Str.{bytes_eq}
@@ -24,6 +24,7 @@ use Rattle.wp_core.specs.Lists.{IsIn}
 use Rattle.wp_core.specs.Entries.{pair_by}
 use Rattle.wp_core.proofs.Frames.{in_filter}
 use Rattle.wp_core.proofs.HistoryLaws.{decided_late, decision_stays, decision_was, decision_within, decided_by_last}
+use Rattle.wp_core.proofs.Tests.{one_not_other}
 
 pub none_is : {A : Type 0} (o : Option A) → ((x : A) → o ≡ Some x → ⊥) → o ≡ None
 none_is None never = refl
@@ -84,11 +85,6 @@ swapped : (r p : ℕ) → (r == p) ≡ false → not (p == r) ≡ true
 swapped r p e = dite (ℕ_discrete p r)
     (λ (q : p ≡ r). absurd (true≢false (sym (eq-eqb r p (sym q)) ∙ e)))
     (λ (ne : p ≢ r). ap not (ne_eqb p r ne))
-
-both : (a b : Bool) → (a && not b) ≡ true → (a ≡ true) × (b ≡ false)
-both true false e = (refl, refl)
-both true true e = absurd (true≢false (sym e))
-both false b e = absurd (true≢false (sym e))
 
 -- ---- what the undecided numbers of a name or key are
 
@@ -161,7 +157,7 @@ module _ (history : List Entry) (entry : Entry) (legal : IsLegal (history ++ ent
         let same : p ≡ length history + 1 = omega (arith, within, l, past) in
         let other : decides (length history + 1) entry ≡ false = ap (λ (x : ℕ). decides x entry) (let q : length history + 1 ≡ suc (length history) = omega arith in q) ∙ not_by_itself in
         inr (omega (arith, same), sym (undecided_at_next history entry before other) ∙ (ap (is_undecided grown) (sym same) ∙ u))
-    | inr le ↦ let k = both (is_undecided history p) (decides p entry) (sym (undecided_old history entry p le) ∙ u) in inl (le, k.0, k.1)
+    | inr le ↦ let k = one_not_other (is_undecided history p) (decides p entry) (sym (undecided_old history entry p le) ∙ u) in inl (le, k.0, k.1)
   ]
 
   -- ---- names and keys of undecided prepares

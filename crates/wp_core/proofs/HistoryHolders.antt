@@ -7,10 +7,7 @@ use Rattle.std.proofs.lemmas.Slice.Eq.{bytes_eq-Decides}
 use Rattle.wp_model.specs.declared.entry.Entry.{Entry}
 use Rattle.wp_model.specs.History.{batch_at, name_at, is_undecided, undecided, is_changed, holder_of, named}
 use Rattle.wp_history.proofs.Undecided.{is_undecided_by_list}
-
-or_true : (b : Bool) → (b || true) ≡ true
-or_true true = refl
-or_true false = refl
+use Rattle.wp_core.proofs.Tests.{or_true}
 
 -- what is found passes the test, and is in the list
 find_passes : (test : ℕ → Bool) (xs : List ℕ) (p : ℕ) → find test xs ≡ Some p → (test p ≡ true) × (list_any (λ k. eqb k p) xs ≡ true)

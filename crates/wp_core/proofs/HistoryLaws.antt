@@ -14,10 +14,7 @@ use Rattle.wp_history.proofs.Undecided.{undecided_within}
 use Rattle.wp_judge.specs.Words.{CommitPair}
 use Rattle.wp_core.specs.Entries.{pair_by}
 use Rattle.wp_core.specs.Sound.Snapshots.{has_versions, has_versions_at}
-
-and_first : (a b : Bool) → (a && b) ≡ true → a ≡ true
-and_first true b e = refl
-and_first false b e = e
+use Rattle.wp_core.proofs.Tests.{both, one_not_other, same_some}
 
 pub is_equal : (q p : ℕ) → (q == p) ≡ true → q ≡ p
 is_equal q p e = grind (arith, nat_tests)
@@ -65,10 +62,7 @@ stands_below history i zero is = omega arith
 stands_below history i (suc n) is = let k = prepare_there (slice_get (take i history) n) is in let l = taken_within history i n k.0 k.1 in omega arith
 
 position_is : (p : Entry → Bool) (xs : List Entry) (b : Bool) (c : ℕ) → nat_lt (position_or_len p xs) (length xs) ≡ b → option_map suc (cond b (Some (position_or_len p xs)) None) ≡ Some c → (position_or_len p xs < length xs) × (suc (position_or_len p xs) ≡ c)
-position_is p xs true c lt e = (grind (arith, nat_tests), some_is (suc (position_or_len p xs)) c e)
-  where
-    some_is : (n m : ℕ) → Some n ≡ Some m → n ≡ m
-    some_is n m q = cc
+position_is p xs true c lt e = (grind (arith, nat_tests), same_some (suc (position_or_len p xs)) c e)
 position_is p xs false c lt e = let no : None ≡ Some c = e in absurd (cc)
 
 decided_in : (history : List Entry) (p c : ℕ) (o : Option Entry) → IsLegal history → decision_in history p o ≡ Some c → p ≤ c
@@ -79,7 +73,7 @@ decided_in history p c (Some (Prepare name batch)) legal e =
     let i : ℕ = position_or_len (decides p) history in
     let f = first_of_them (decides p) history k.0 in
     let open_before = names_before (take i history) p f.entry f.passes (legal.each i f.entry f.there) in
-    let le = stands_below history i p (and_first _ _ open_before) in let same : suc i ≡ c = k.1 in omega arith
+    let le = stands_below history i p (both _ _ open_before).0 in let same : suc i ≡ c = k.1 in omega arith
 decided_in history p c (Some (Commit q)) legal e = let no : None ≡ Some c = e in absurd (cc)
 decided_in history p c (Some (Close q)) legal e = let no : None ≡ Some c = e in absurd (cc)
 decided_in history p c None legal e = let no : None ≡ Some c = e in absurd (cc)
@@ -225,11 +219,6 @@ last_first test (x ∷ xs) y none is =
       | false ↦ λ e. let r = rest e in omega arith
     ] none
 
-parts_true : (a b : Bool) → (a && not b) ≡ true → (a ≡ true) × (b ≡ false)
-parts_true true false e = (refl, refl)
-parts_true true true e = absurd (true≢false (sym e))
-parts_true false b e = absurd (true≢false (sym e))
-
 decided_now : (history : List Entry) (entry : Entry) (p : ℕ) (o : Option Entry) → is_prepare o ≡ true → list_any (decides p) history ≡ false → decides p entry ≡ true → decision_in (history ++ entry ∷ []) p o ≡ Some (suc (length history))
 decided_now history entry p (Some (Prepare name batch)) is none now =
     let at = last_first (decides p) history entry none now in
@@ -243,7 +232,7 @@ decided_now history entry p None is none now = absurd (true≢false (sym is))
 -- the entry that comes next decides an undecided prepare
 pub next_decides_prepare : (history : List Entry) (entry : Entry) (p : ℕ) → is_undecided history p ≡ true → decides p entry ≡ true → decision_of (history ++ entry ∷ []) p ≡ Some (suc (length history))
 next_decides_prepare history entry p u now =
-    let k = parts_true (is_prepare (entry_at history p)) (list_any (decides p) history) u in
+    let k = one_not_other (is_prepare (entry_at history p)) (list_any (decides p) history) u in
     let low = (undecided_within history p u).1 in
     decided_now history entry p (entry_at (history ++ entry ∷ []) p) (ap is_prepare (entry_at_old history (entry ∷ []) p low) ∙ k.0) k.1 now
 
@@ -302,25 +291,19 @@ last_decides history entry p at =
     let f = first_of_them (decides p) (history ++ entry ∷ []) (omega (arith, at, length-append history (entry ∷ []))) in
     let there : slice_get (history ++ entry ∷ []) (length history) ≡ Some f.entry = subst (λ (n : ℕ). slice_get (history ++ entry ∷ []) n ≡ Some f.entry) at f.there in
     let q : Some f.entry ≡ Some entry = sym there ∙ entry_next history entry in
-    ap (decides p) (sym (same f.entry entry q)) ∙ f.passes
-  where
-    same : (x y : Entry) → Some x ≡ Some y → x ≡ y
-    same x y q = cc
+    ap (decides p) (sym (same_some f.entry entry q)) ∙ f.passes
 
 -- an entry that decides itself, as the last one
 by_itself : (history : List Entry) (entry x : Entry) (p : ℕ) → pair_by (suc (length history)) x ≡ Some (record { number = suc (length history); decision = suc (length history) }) → Some p ≡ Some (suc (length history)) → (p ≡ suc (length history) → Some x ≡ Some entry)
     → pair_by (suc (length history)) entry ≡ Some (record { number = p; decision = suc (length history) })
 by_itself history entry x p own e is =
-    let q : p ≡ suc (length history) = number_is p (suc (length history)) e in
+    let q : p ≡ suc (length history) = same_some p (suc (length history)) e in
     let same : Some x ≡ Some entry = is q in
     ap (λ (o : Option Entry). pair_in (suc (length history)) o) (sym same) ∙ own ∙ ap (λ (n : ℕ). Some (record { number = n; decision = suc (length history) })) (sym q)
   where
     pair_in : ℕ → Option Entry → Option CommitPair
     pair_in n (Some y) = pair_by n y
     pair_in n None = None
-
-    number_is : (n m : ℕ) → Some n ≡ Some m → n ≡ m
-    number_is n m f = cc
 
 by_last : (history : List Entry) (entry : Entry) (p : ℕ) (o : Option Entry) → decision_in (history ++ entry ∷ []) p o ≡ Some (suc (length history)) → (p ≡ suc (length history) → o ≡ Some entry) → pair_by (suc (length history)) entry ≡ Some (record { number = p; decision = suc (length history) })
 by_last history entry p (Some (Prepare name batch)) e is =

@@ -16,12 +16,11 @@ use Rattle.wp_core.specs.Notes.{forgets, ends}
 use Rattle.wp_core.specs.Sound.Pasts.{is_log_fault, is_tables_fault, AreFaults, WasInstalled, due_after, tables_due, AreEdits}
 use Rattle.wp_core.specs.Sound.Views.{IsGuarded}
 use Rattle.wp_core.specs.IsSound.{IsSound}
-use Rattle.wp_core.proofs.PastsGrow.{past_before, past_last, done_last, times_more}
+use Rattle.wp_core.proofs.PastsGrow.{done_last, past_last, past_before, times_more}
 use Rattle.wp_core.proofs.Remembers.{installed_still}
 use Rattle.wp_core.proofs.StoresFlag.{not_theirs}
 use Rattle.wp_core.proofs.TablesChange.{SoInstalled, edits_grown, actor_after, pasts_after, tables_change}
 use Rattle.wp_core.proofs.AllParts.{SoIn}
-use Rattle.wp_core.proofs.AllParticipants.{mine}
 
 -- the tables that are due once one more event is in a past
 due_more : (first : InstalledEdit) (past : List Event) (e : Event) → tables_due first (past ++ e ∷ []) ≡ due_after (tables_due first past) e

@@ -1,5 +1,5 @@
 -- Locking a key for a transaction keeps every part of a sound world.
-use Rattle.std.proofs.Common.{◌≡◌, ◌≢◌, ◌⊎◌, ◌||◌, Bool, ⊎_elim, inl, inr, ℕ, true, false, List, [], ◌∷◌, ◌++◌, length, refl, sym, subst, ap, ◌∙◌, Option, Some, None, is_some}
+use Rattle.std.proofs.Common.{◌≡◌, ◌≢◌, ◌⊎◌, ◌||◌, Bool, ⊎_elim, inl, inr, ℕ, true, List, [], ◌∷◌, ◌++◌, length, refl, sym, subst, ap, ◌∙◌, Option, Some, None, is_some}
 use mathlib.Core.Option.{some}
 use lib.ListN.{get_elem?}
 use Rattle.std.specs.FinSet as words
@@ -30,15 +30,12 @@ use Rattle.wp_core.proofs.LocksChange.{SoWith, actor_after, owners_after, LocksP
 use Rattle.wp_core.proofs.AllParts.{SoIn}
 use Rattle.wp_core.proofs.KeyLocked.{held_still, held_now, owner_locked, so_locked, pasts_locked}
 use Rattle.wp_core.proofs.OtherKeys.{has_now, had_name, has_still, nobody_else, owns_still, each_key}
+use Rattle.wp_core.proofs.Tests.{or_true}
 
 -- ---- sets of keys
 
 in_inserted : (s : words.FinSet key_cmp) (key k : List ℕ) → k ≡ key → words.contains (words.insert s key) k ≡ true
 in_inserted s key k same = contains-insert nat_list_cmp_total s key k ∙ ap (λ (b : Bool). b || words.contains s k) (same_test k key same)
-
-or_true : (b : Bool) → (b || true) ≡ true
-or_true true = refl
-or_true false = refl
 
 still_in : (s : words.FinSet key_cmp) (key k : List ℕ) → words.contains s k ≡ true → words.contains (words.insert s key) k ≡ true
 still_in s key k h = contains-insert nat_list_cmp_total s key k ∙ ap (λ (b : Bool). eq_by_cmp key_cmp k key || b) h ∙ or_true (eq_by_cmp key_cmp k key)

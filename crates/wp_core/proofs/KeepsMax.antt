@@ -31,6 +31,7 @@ use Rattle.wp_core.specs.Sound.History.{IsHistory}
 use Rattle.wp_core.specs.Sound.Prepared.{AreDecided, AreUndecided, AreDelayed, IsPassed}
 use Rattle.wp_core.specs.Sound.Reader.{IsPassedBy, IsReader}
 use Rattle.wp_core.proofs.AllParticipants.{mine}
+use Rattle.wp_core.proofs.Tests.{both, either}
 
 -- ---- the moved numbers
 
@@ -54,14 +55,6 @@ split_or false false l = refl
 -- no number comes or goes
 same_prepared : (t : PreparedTables) (m p : ℕ) → is_prepared (with_moved t m) p ≡ is_prepared t p
 same_prepared t m p = (λ i. in_heap t m p i || in_delayed t m p i) ∙ split_or (finset.contains t.heap p) (finset.contains t.delayed p) (nat_le p m)
-
-both : (a b : Bool) → (a && b) ≡ true → (a ≡ true) × (b ≡ true)
-both true b e = (refl, e)
-both false b e = absurd (true≢false (sym e))
-
-either : (a b : Bool) → (a || b) ≡ true → (a ≡ true) ⊎ (b ≡ true)
-either true b e = inl refl
-either false b e = inr e
 
 not_below : (p m : ℕ) → not (nat_le p m) ≡ true → m < p
 not_below p m e = grind (arith, nat_tests)

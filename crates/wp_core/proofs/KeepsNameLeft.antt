@@ -15,7 +15,7 @@ use Rattle.wp_core.specs.Needs.{Needs}
 use Rattle.wp_core.specs.Notes.{forgets}
 use Rattle.wp_core.specs.Sound.Locks.{owner_of}
 use Rattle.wp_core.specs.IsSound.{IsSound}
-use Rattle.wp_core.proofs.Keyed.{is_word_same, at_inserted, else_inserted}
+use Rattle.wp_core.proofs.Keyed.{is_word_same, at_inserted, else_inserted, some_inserted}
 use Rattle.wp_core.proofs.AllParticipants.{mine}
 use Rattle.wp_core.proofs.LocksChange.{locks_change}
 use Rattle.wp_core.proofs.DropsTransaction.{Drops, p, dropped_parts}
@@ -30,11 +30,6 @@ module _ (w : World) (by : ℕ) (a : Actor) (name : List ℕ) (x0 : Transaction)
 
   was_live : finite.get w.locks.names name ≡ Some (Some a.participant.client)
   was_live = (s.locks.had by 0 (owner_of a.participant) (mine owner_of w.actors by a a at refl)).names name x0 has
-
-  live_still : (n : List ℕ) → is_some (finite.get w.locks.names n) ≡ true → is_some (finite.get t.names n) ≡ true
-  live_still n live = ⊎_elim
-      (λ (q : n ≡ name). ap is_some (at_inserted w.locks.names name None n q))
-      (λ (ne : n ≡ name → ⊥). ap is_some (else_inserted w.locks.names name None n ne) ∙ live) (is_word_same n name)
 
   live_were : (n : List ℕ) → is_some (finite.get t.names n) ≡ true → is_some (finite.get w.locks.names n) ≡ true
   live_were n live = ⊎_elim
@@ -51,9 +46,9 @@ module _ (w : World) (by : ℕ) (a : Actor) (name : List ℕ) (x0 : Transaction)
     directs = λ k c h. h;
     transactions_were = λ k n h. h;
     directs_were = λ k c h. h;
-    prepared_names = λ q u. live_still (name_at w.writes.history q) (s.locks.prepared_names q u);
+    prepared_names = λ q u. some_inserted w.locks.names name None (name_at w.writes.history q) (s.locks.prepared_names q u);
     prepared_keys = s.locks.prepared_keys;
-    live = λ k n h. live_still n (s.locks.keys_live k n h);
+    live = λ k n h. some_inserted w.locks.names name None n (s.locks.keys_live k n h);
     live_were = live_were;
     ended = λ n h. two_names name n h;
   }

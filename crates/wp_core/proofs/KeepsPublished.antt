@@ -1,5 +1,5 @@
 -- Storing the published number keeps every part of a sound world: the pending entry joins the history.
-use Rattle.std.proofs.Common.{◌≡◌, set, ⊎_elim, ℕ, suc, ◌≤◌, Bool, true, false, true≢false, List, [], ◌∷◌, ◌++◌, length, length-append, map, refl, sym, ap, ◌∙◌, Option, Some, arith}
+use Rattle.std.proofs.Common.{◌≡◌, set, ⊎_elim, ℕ, suc, ◌≤◌, Bool, true, false, true≢false, List, [], ◌∷◌, ◌++◌, length, length-append, refl, sym, ap, ◌∙◌, Option, Some, arith}
 use mathlib.Core.Option.{some}
 use lib.ListN.{get_elem?}
 use Rattle.wp_model.specs.declared.entry.Entry.{Entry}
@@ -7,30 +7,28 @@ use Rattle.wp_model.specs.Covered.{is_among}
 use Rattle.wp_model.specs.Decision.{version_in}
 use Rattle.wp_model.specs.Versions.{version_at}
 use Rattle.wp_core.proofs.AllParticipants.{mine}
-use Rattle.wp_core.proofs.KeepsSeen.{shorter}
+use Rattle.wp_core.proofs.KeepsSeen.{whole, shorter}
 use Rattle.wp_core.specs.Conditions.{MayPublish}
 use Rattle.wp_core.specs.Entries.{next_of}
 use Rattle.wp_core.specs.Tables.{Content, WriteTable, writes, live_numbers}
 use Rattle.wp_core.specs.Turns.{write_turn}
-use Rattle.wp_core.specs.Views.{Fact}
-use Rattle.wp_core.specs.World.{Participant, Actor, World, with_content}
+use Rattle.wp_core.specs.World.{Actor, World, with_content}
 use Rattle.wp_core.specs.Steps.{store_published}
 use Rattle.wp_core.specs.Changes.{held_with}
 use Rattle.wp_core.specs.Effects.{done, publishes, with_entry}
 use Rattle.wp_core.specs.Needs.{Needs}
 use Rattle.wp_core.specs.Notes.{forgets}
-use Rattle.wp_core.specs.Sound.Actors.{seen_of, StartsWith, participants_of, learned_of, IsParticipantAt}
+use Rattle.wp_core.specs.Sound.Actors.{seen_of, StartsWith, participants_of, learned_of}
 use Rattle.wp_core.specs.Sound.Snapshots.{registered_of, AreRegistered, view_of, HasSeen}
 use Rattle.wp_core.specs.Sound.Locks.{owner_of, AreLocked}
 use Rattle.wp_core.specs.Sound.Pasts.{past_of}
-use Rattle.wp_core.specs.Sound.Views.{noter_of}
 use Rattle.wp_core.specs.IsSound.{IsSound, participants}
-use Rattle.wp_core.proofs.Frames.{each_map_set, at_map}
-use Rattle.wp_core.proofs.KeepsRemembered.{from_map}
+use Rattle.wp_core.proofs.Frames.{each_map_set}
+use Rattle.wp_core.proofs.KeepsRemembered.{noter_there}
 use Rattle.wp_core.proofs.Participants.{each_person_set}
 use Rattle.wp_core.proofs.PendingSteps.{SoPending}
 use Rattle.wp_core.proofs.PublishesDecisions.{cache_part, decided_part, undecided_part, delayed_part}
-use Rattle.wp_core.proofs.PublishesHistory.{history_part, seen_grows, seen_whole, owned_part}
+use Rattle.wp_core.proofs.PublishesHistory.{history_part, seen_grows, owned_part}
 use Rattle.wp_core.proofs.PublishesLocks.{some_there, locks_part, holders_part, board_part, faults_part}
 use Rattle.wp_core.proofs.PublishesNotes.{prepares_held, transaction_live, mine_grows, others_grow}
 use Rattle.wp_core.proofs.PublishesReaders.{registered_part, readers_part, judged_part}
@@ -79,9 +77,6 @@ module _ (w : World) (by : ℕ) (a : Actor) (entry : Entry) (others : List Entry
   opened_within : length w.opened ≤ length history
   opened_within = let g = s.history.grown in let l = length-append w.opened g.0 in let q : length history ≡ length (w.opened ++ g.0) = ap length g.1 in omega (arith, l, q)
 
-  noter_there : (j : ℕ) (x : Participant) (facts : List Fact) → get_elem? (map noter_of w.actors) j ≡ some (x, facts) → IsParticipantAt (participants owner_of w) j 0 (owner_of x)
-  noter_there j x facts there = let o = from_map noter_of w.actors j (x, facts) there in (participants_of owner_of o.0, at_map (participants_of owner_of) w.actors j o.0 o.1, ap (λ (z : Participant × List Fact). some (owner_of z.0)) o.2)
-
   now_sound : IsSound (done w by (forgets history (length w.cache) (store_published entry others) a) (store_published entry others))
   now_sound =
       all_parts (with_content w e) (set w.actors by b) (record {
@@ -96,7 +91,7 @@ module _ (w : World) (by : ℕ) (a : Actor) (entry : Entry) (others : List Entry
         pending = λ free. absurd (not_free w.holders write_turn by n.turn free);
       })
       (record {
-        seen = each_person_set seen_of (StartsWith grown) w.actors by a b at (seen_whole grown) refl (λ j i x there. seen_grows history entry x (s.seen j i x there));
+        seen = each_person_set seen_of (StartsWith grown) w.actors by a b at (whole grown) refl (λ j i x there. seen_grows history entry x (s.seen j i x there));
         learned = each_map_set learned_of (λ j x. StartsWith grown x) w.actors by b (grown, refl) (λ j x ne there. seen_grows history entry x (s.learned j x there));
         owned = owned_part w.actors by a b at refl history entry refl w.opened opened_within s.owned;
         registrations = kept_part w by a b at (participants_of registered_of) (AreRegistered grown w.snapshots) refl (registered_part history entry n.legal w.snapshots (participants registered_of w) s.registrations);
@@ -116,7 +111,7 @@ module _ (w : World) (by : ℕ) (a : Actor) (entry : Entry) (others : List Entry
         judged = judged_part history entry n.legal w.snapshots w.max_evicted w.cache w.actors s.registrations s.readers s.judged;
       }))
       (notes_stay w by a b at (store_published entry others) w.holders (SoPending w d) refl (λ fact left m. record { guarded = m.guarded; is_so = mine_grows w by a entry others at n s fact left m.is_so })
-      (λ j x fact ne there m. record { guarded = m.guarded; is_so = others_grow w by a entry others at n s j x.0 ne (noter_there j x.0 x.1 there) fact m.guarded m.is_so }) s)
+      (λ j x fact ne there m. record { guarded = m.guarded; is_so = others_grow w by a entry others at n s j x.0 ne (noter_there w j x there) fact m.guarded m.is_so }) s)
       (led_still w by a b at refl s) (idle_after w by a b write_turn at n.turn s refl)
 
 pub stores_published : (w : World) (by : ℕ) (a : Actor) (entry : Entry) (others : List Entry) → get_elem? w.actors by ≡ some a → Needs w by a (store_published entry others) → IsSound w

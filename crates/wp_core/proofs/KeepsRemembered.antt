@@ -22,6 +22,7 @@ use Rattle.wp_core.specs.Notes.{forgets}
 use Rattle.wp_core.specs.Sound.Actors.{seen_of, participants_of, IsParticipantAt}
 use Rattle.wp_core.specs.Sound.Locks.{Owner, owner_of, Began}
 use Rattle.wp_core.specs.Sound.Pasts.{past_of, IsPast, Makes, HasDone, IsAccounted, WasLocked, WasInstalled}
+use Rattle.wp_core.specs.Sound.Views.{noter_of}
 use Rattle.wp_core.specs.IsSound.{IsSound, participants}
 use Rattle.wp_core.proofs.Frames.{at_map}
 use Rattle.wp_core.proofs.AllParticipants.{mine}
@@ -130,6 +131,10 @@ pub from_map : {A B : Type 0} (f : A → B) (xs : List A) (i : ℕ) (y : B) → 
 from_map f [] i y e = absurd (some-ne-none y (sym e))
 from_map f (x ∷ xs) zero y e = (x, refl, some-injective (f x) y e)
 from_map f (x ∷ xs) (suc i) y e = from_map f xs i y e
+
+-- the participant of one that noted something
+pub noter_there : (w : World) (j : ℕ) (x : Participant × List Fact) → get_elem? (map noter_of w.actors) j ≡ some x → IsParticipantAt (participants owner_of w) j 0 (owner_of x.0)
+noter_there w j x there = let b = from_map noter_of w.actors j x there in (participants_of owner_of b.0, at_map (participants_of owner_of) w.actors j b.0 b.1, ap (λ (z : Participant × List Fact). some (owner_of z.0)) b.2)
 
 -- the past of an owner is one of the pasts
 past_there : (xs : List Actor) (j i : ℕ) (o : Owner) → IsParticipantAt (map (participants_of owner_of) xs) j i o → IsParticipantAt (map (participants_of past_of) xs) j i o.past

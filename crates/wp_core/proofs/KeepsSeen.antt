@@ -24,7 +24,7 @@ use Rattle.wp_core.proofs.AllParts.{SoIn, all_parts, tables_of, kept_part, locks
 so_after : (w : World) (a : Participant) (fact : Fact) → IsSo w.delayed_flag w.old_flag w.max_evicted w.cache w.writes w.prepared w.snapshots w.store w.locks w.installed a fact → IsSo w.delayed_flag w.old_flag w.max_evicted w.cache w.writes w.prepared w.snapshots w.store w.locks w.installed (record a { seen = w.writes.history }) fact
 so_after w a fact k = k
 
-whole : (history : List Entry) → StartsWith history history
+pub whole : (history : List Entry) → StartsWith history history
 whole history = ([], sym (append-nil history))
 
 pub shorter : (history seen : List Entry) → StartsWith history seen → length seen ≤ length history

@@ -12,7 +12,7 @@ use Rattle.wp_model.specs.declared.entry.Entry.{Entry}
 use Rattle.wp_model.specs.Decision.{decision_of}
 use Rattle.wp_model.specs.History.{is_undecided}
 use Rattle.wp_model.specs.Snapshots.{Snapshot, Snapshots, IsLive, is_old_commit, after_register}
-use Rattle.wp_core.proofs.PastsGrow.{in_either}
+use Rattle.wp_core.proofs.PastsGrow.{in_front, in_either}
 use Rattle.wp_core.proofs.AllParticipants.{mine}
 use Rattle.wp_core.proofs.KeepsSeen.{shorter}
 use Rattle.wp_core.specs.Lists.{IsIn, one_if, total}
@@ -33,9 +33,9 @@ use Rattle.wp_core.proofs.Frames.{at_map}
 use Rattle.wp_core.proofs.Participants.{each_person_set, total_person_set}
 use Rattle.wp_core.proofs.HistoryLaws.{decided_or_undecided, decision_within}
 use Rattle.wp_core.proofs.Numbers.{get_inserted, get_inserted_else, get_removed, get_removed_else}
-use Rattle.wp_core.proofs.ReaderFacts.{same_some}
-use Rattle.wp_core.proofs.Readings.{in_at}
+use Rattle.wp_core.proofs.Readings.{below_smallest}
 use Rattle.wp_core.proofs.SnapshotsStep.{SnapshotsGrow, ViewsGrow, with_view, snapshots_step}
+use Rattle.wp_core.proofs.Tests.{same_some}
 
 -- ---- one number's snapshot
 
@@ -63,10 +63,6 @@ pub sum_append : (t : ℕ) (front back : List Registration) → at_number t (fro
 sum_append t [] back = omega arith
 sum_append t (r ∷ rs) back = let k = sum_append t rs back in omega arith
 
-in_append : {X : Type 0} (x : X) (front back : List X) → IsIn x front → IsIn x (front ++ back)
-in_append x [] back there = absurd there
-in_append x (y ∷ ys) back there = ⊎_elim (λ (e : y ≡ x). inl e) (λ (k : IsIn x ys). inr (in_append x ys back k)) there
-
 pub in_with : {X : Type 0} (x y : X) (front back : List X) → IsIn x (front ++ back) → IsIn x (front ++ y ∷ back)
 in_with x y [] back there = inr there
 in_with x y (z ∷ zs) back there = ⊎_elim (λ (e : z ≡ x). inl e) (λ (k : IsIn x (zs ++ back)). inr (in_with x y zs back k)) there
@@ -80,15 +76,7 @@ at_in [] i x e = absurd (some-ne-none x (sym e))
 at_in (y ∷ ys) zero x e = inl (some-injective y x e)
 at_in (y ∷ ys) (suc i) x e = inr (at_in ys i x e)
 
-in_snoc : {X : Type 0} (x y : X) (xs : List X) → IsIn x (xs ++ y ∷ []) → IsIn x xs ⊎ (y ≡ x)
-in_snoc x y [] there = ⊎_elim (λ (e : y ≡ x). inr e) (λ (k : ⊥). absurd k) there
-in_snoc x y (z ∷ zs) there = ⊎_elim (λ (e : z ≡ x). inl (inl e)) (λ (k : IsIn x (zs ++ y ∷ [])). ⊎_elim (λ (l : IsIn x zs). inl (inr l)) (λ (e : y ≡ x). inr e) (in_snoc x y zs k)) there
-
 -- ---- what is below a smallest
-
-pub below_of : (w : World) (by : ℕ) (a : Actor) (r : Registration) → get_elem? w.actors by ≡ some a → IsIn r a.participant.registered → IsSound w → IsBelowCommitted w.writes.history r
-below_of w by a r at there s =
-    let k = in_at r a.participant.registered there in s.registrations.smallest by 0 a.participant.registered (participants_of registered_of a, at_map (participants_of registered_of) w.actors by a at, refl) k.0 r k.1
 
 pub below_all : (history : List Entry) (rs : List Registration) → ((r : Registration) → IsIn r rs → IsBelowCommitted history r) → AreBelowCommitted history rs
 below_all history rs k i r at = k r (at_in rs i r at)
@@ -153,7 +141,7 @@ module _ (w : World) (by : ℕ) (a : Actor) (n least : ℕ) (at : get_elem? w.ac
             (λ (e : t ≡ n). (found_more (finite.get w.snapshots n) x (sym there_now ∙ (ap (finite.get (with_registered w.snapshots n)) (sym e) ∙ there)), subst (λ (z : ℕ). z ≤ length w.writes.history) (sym e) low))
             (λ (ne : t ≢ n). s.registrations.live t x (sym (else_now t ne) ∙ there));
         smallest = each_person_set registered_of (AreBelowCommitted w.writes.history) w.actors by a b at
-            (below_all w.writes.history (a.participant.registered ++ r ∷ []) (λ q there. ⊎_elim (λ (k : IsIn q a.participant.registered). below_of w by a q at k s) (λ (e : r ≡ q). subst (IsBelowCommitted w.writes.history) e below) (in_snoc q r a.participant.registered there))) refl
+            (below_all w.writes.history (a.participant.registered ++ r ∷ []) (λ q there. ⊎_elim (λ (k : IsIn q a.participant.registered). below_smallest w by a q at k s) (λ (e : r ≡ q). subst (IsBelowCommitted w.writes.history) e below) (in_either q r a.participant.registered there))) refl
             s.registrations.smallest;
       }
 
@@ -164,7 +152,7 @@ module _ (w : World) (by : ℕ) (a : Actor) (n least : ℕ) (at : get_elem? w.ac
     view_part = λ r there. ⊎_elim
         (λ (k : IsIn r a.participant.registered). let l = s.viewed by 0 (view_of a.participant) (mine view_of w.actors by a a at refl) r k in omega (arith, l, more))
         (λ (k : record { number = n; smallest = least } ≡ r). subst (λ (z : Registration). z.number ≤ length seen) k now) (in_either r (record { number = n; smallest = least }) a.participant.registered there);
-    reads = λ r is. (is, in_append (snapshot_of r) a.participant.registered (record { number = n; smallest = least } ∷ []) (s.readers by (reader_of a) (at_map reader_of w.actors by a at) r is).registered_at);
+    reads = λ r is. (is, in_front (snapshot_of r) a.participant.registered (record { number = n; smallest = least } ∷ []) (s.readers by (reader_of a) (at_map reader_of w.actors by a at) r is).registered_at);
     none_kept = λ zero_flag. none_now (s.flags.none_kept zero_flag);
   }
 

@@ -18,7 +18,7 @@ use Rattle.wp_core.specs.Sound.Actors.{participants_of, seen_of}
 use Rattle.wp_core.specs.Sound.Locks.{owner_of, AreLocked}
 use Rattle.wp_core.specs.Sound.Pasts.{past_of, IsPast, IsBoard}
 use Rattle.wp_core.specs.IsSound.{IsSound, participants}
-use Rattle.wp_core.proofs.Keyed.{is_word_same, at_inserted, else_inserted}
+use Rattle.wp_core.proofs.Keyed.{is_word_same, at_inserted, else_inserted, some_inserted}
 use Rattle.wp_core.proofs.OwnersStay.{past_locked}
 use Rattle.wp_core.proofs.PastsGrow.{past_still, past_last, past_before}
 use Rattle.wp_core.proofs.LocksChange.{SoWith, actor_after, actors_after, LocksParts, locks_change, pasts_grown}
@@ -45,11 +45,6 @@ module _ (w : World) (by : ℕ) (a : Actor) (label : List ℕ) (at : get_elem? w
   abbrev after : List (List (List Event))
   after = map (participants_of past_of) (actors_after w by a (tell label) p t)
 
-  told_label : (l : List ℕ) → is_some (finite.get w.locks.labels l) ≡ true → is_some (finite.get t.labels l) ≡ true
-  told_label l k = ⊎_elim
-      (λ (q : l ≡ label). ap is_some (at_inserted w.locks.labels label n l q))
-      (λ (ne : l ≡ label → ⊥). ap is_some (else_inserted w.locks.labels label n l ne) ∙ k) (is_word_same l label)
-
   told_new : (l : List ℕ) (m : ℕ) → e ≡ told l m → is_some (finite.get t.labels l) ≡ true
   told_new l m q = ap is_some (at_inserted w.locks.labels label n l (sym (ap at_label q)))
 
@@ -62,8 +57,8 @@ module _ (w : World) (by : ℕ) (a : Actor) (label : List ℕ) (at : get_elem? w
   board_part : IsBoard (world.published w) t after
   board_part = record {
     labels = λ l m h. ⊎_elim
-        (λ (k : IsPast after (told l m)). ⊎_elim (λ (c : IsPast (participants past_of w) (told l m)). told_label l (s.board.labels l m (inl c))) (λ (q : e ≡ told l m). told_new l m q) (past_before w.actors by a b e at refl refl (told l m) k))
-        (λ (k : IsPast after (heard l m)). ⊎_elim (λ (c : IsPast (participants past_of w) (heard l m)). told_label l (s.board.labels l m (inr c))) (λ (q : e ≡ heard l m). absurd cc) (past_before w.actors by a b e at refl refl (heard l m) k)) h;
+        (λ (k : IsPast after (told l m)). ⊎_elim (λ (c : IsPast (participants past_of w) (told l m)). some_inserted w.locks.labels label n l (s.board.labels l m (inl c))) (λ (q : e ≡ told l m). told_new l m q) (past_before w.actors by a b e at refl refl (told l m) k))
+        (λ (k : IsPast after (heard l m)). ⊎_elim (λ (c : IsPast (participants past_of w) (heard l m)). some_inserted w.locks.labels label n l (s.board.labels l m (inr c))) (λ (q : e ≡ heard l m). absurd cc) (past_before w.actors by a b e at refl refl (heard l m) k)) h;
     numbers = λ l m h. ⊎_elim
         (λ (q : l ≡ label).
         let f : Some n ≡ Some m = sym (at_inserted w.locks.labels label n l q) ∙ h in

@@ -1,3 +1,4 @@
+pub mod Tests
 pub mod Frames
 pub mod Participants
 pub mod ReaderOrder

@@ -34,8 +34,9 @@ use Rattle.wp_core.proofs.Frames.{at_map}
 use Rattle.wp_core.proofs.HistoryLaws.{decided_late}
 use Rattle.wp_core.proofs.Registered.{registered_live}
 use Rattle.wp_core.proofs.ReaderOrder.{NotDelayed, MissedAgain, At, asked, from_begun, from_missed, from_flag, from_not_delayed, from_missed_again, from_bounded_again, from_old}
-use Rattle.wp_core.proofs.ReaderFacts.{same_some, none_some, decided_unless_delayed, gone_by, decided_right, word_right, old_right, delayed_right}
+use Rattle.wp_core.proofs.ReaderFacts.{decided_unless_delayed, gone_by, decided_right, word_right, old_right, delayed_right}
 use Rattle.wp_core.proofs.Looks.{leaves_most, looks}
+use Rattle.wp_core.proofs.Tests.{same_some, some_none, none_some}
 
 -- ---- answers
 
@@ -50,9 +51,6 @@ answered_word None s visible which e = let no : None ≡ Some visible = e in abs
 
 not_answered : (x : Asked) (which : loads.Load) (visible : Bool) → x ≡ Load which → answer_of x ≡ Some visible → ⊥
 not_answered x which visible is e = let no : None ≡ Some visible = sym (ap answer_of is) ∙ e in absurd (cc)
-
-some_none : {A : Type 0} (x : A) → Some x ≡ None → ⊥
-some_none x e = absurd (cc)
 
 abbrev read_at : Observed → ℕ × Registration
 read_at r = (r.version, snapshot_of r)

@@ -18,11 +18,10 @@ use Rattle.wp_core.specs.Notes.{forgets, ends}
 use Rattle.wp_core.specs.Sound.Actors.{participants_of, IsParticipantAt}
 use Rattle.wp_core.specs.Sound.Locks.{owner_of, AreLocked, Owner}
 use Rattle.wp_core.specs.Sound.Pasts.{past_of, IsBoard}
-use Rattle.wp_core.specs.Sound.Views.{IsSo, noter_of}
+use Rattle.wp_core.specs.Sound.Views.{IsSo}
 use Rattle.wp_core.specs.IsSound.{IsSound, participants}
-use Rattle.wp_core.proofs.Frames.{at_map}
 use Rattle.wp_core.proofs.Quiet.{idle_after}
-use Rattle.wp_core.proofs.KeepsRemembered.{from_map}
+use Rattle.wp_core.proofs.KeepsRemembered.{noter_there}
 use Rattle.wp_core.proofs.AllParts.{Pasts, SoIn, all_parts, tables_of, views_still, pasts_still, readers_still, turns_changed, notes_stay, led_still}
 use Rattle.wp_core.proofs.Remembers.{IsQuiet, FindsNothing, TellsNothing, holders_new, board_still, faults_more, edits_more}
 
@@ -50,16 +49,13 @@ module _ (w : World) (by : ℕ) (a : Actor) (step : Step) (p : Participant) (t :
     pub mine : (fact : Fact) → not (ends w.writes.history (length w.cache) step fact) ≡ true → SoIn w a.participant fact → SoWith w t (record a.participant { transactions = p.transactions; direct = p.direct; past = p.past }) fact
     pub others : (j : ℕ) (q : Participant) (fact : Fact) → j ≢ by → IsParticipantAt (participants owner_of w) j 0 (owner_of q) → SoIn w q fact → SoWith w t q fact
 
-  noter_there : (j : ℕ) (x : Participant × List Fact) → get_elem? (map noter_of w.actors) j ≡ some x → IsParticipantAt (participants owner_of w) j 0 (owner_of x.0)
-  noter_there j x there = let b = from_map noter_of w.actors j x there in (participants_of owner_of b.0, at_map (participants_of owner_of) w.actors j b.0 b.1, ap (λ (z : Participant × List Fact). some (owner_of z.0)) b.2)
-
   module _ (at : get_elem? w.actors by ≡ some a) where
     pub locks_change : Holds w.holders locks_turn by → LocksParts → IsSound w → IsSound (change w by actor_then (locks t))
     locks_change holds k s =
         let b : Actor = actor_after in
         let e : Content = locks t in
         all_parts (with_content w e) actors_after (tables_of w s) (views_still w by a b at refl s) k.locks_part k.pasts_part (turns_changed w by a b at e holds refl s) (readers_still w by a b at refl s)
-        (notes_stay w by a b at step w.holders (SoWith w t) refl (λ fact left m. record { guarded = m.guarded; is_so = k.mine fact left m.is_so }) (λ j x fact ne there m. record { guarded = m.guarded; is_so = k.others j x.0 fact ne (noter_there j x there) m.is_so }) s)
+        (notes_stay w by a b at step w.holders (SoWith w t) refl (λ fact left m. record { guarded = m.guarded; is_so = k.mine fact left m.is_so }) (λ j x fact ne there m. record { guarded = m.guarded; is_so = k.others j x.0 fact ne (noter_there w j x there) m.is_so }) s)
         (led_still w by a b at refl s) (idle_after w by a b locks_turn at holds s refl)
 
     -- the pasts, where the actor remembers an event, and names and keys that were not before are that event's

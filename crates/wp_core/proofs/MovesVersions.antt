@@ -17,7 +17,6 @@ use Rattle.wp_core.specs.IsSound.{IsSound}
 use Rattle.wp_core.proofs.PendingVersions.{SoStored, store_changes}
 use Rattle.wp_core.proofs.StoresFlag.{not_theirs, not_free}
 use Rattle.wp_core.proofs.AllParts.{SoIn}
-use Rattle.wp_core.proofs.AllParticipants.{mine}
 
 -- ---- a flush
 

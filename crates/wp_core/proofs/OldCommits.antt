@@ -27,10 +27,11 @@ use Rattle.wp_core.specs.IsSound.{IsSound, participants}
 use Rattle.wp_core.proofs.Frames.{at_map, kept_map}
 use Rattle.wp_core.proofs.Participants.{each_person_set, total_person_set}
 use Rattle.wp_core.proofs.Numbers.{in_inserted, in_inserted_else}
-use Rattle.wp_core.proofs.ReaderFacts.{same_some}
 use Rattle.wp_core.proofs.Registered.{registered_there}
-use Rattle.wp_core.proofs.KeepsSnapshots.{placed_there, placed_else, has_old, live_there, at_number, sum_append, in_with, in_middle, below_of, below_all}
+use Rattle.wp_core.proofs.KeepsSnapshots.{placed_there, placed_else, has_old, live_there, at_number, sum_append, in_with, in_middle, below_all}
 use Rattle.wp_core.proofs.SnapshotsStep.{SnapshotsGrow, with_view, snapshots_step}
+use Rattle.wp_core.proofs.Readings.{below_smallest}
+use Rattle.wp_core.proofs.Tests.{same_some}
 
 -- ---- a version is noted
 
@@ -211,7 +212,7 @@ module _ (w : World) (by : ℕ) (a : Actor) (front back : List Registration) (r 
             dite (ℕ_discrete t r.number)
             (λ (e : t ≡ r.number). (still_some (nat_le x.registrations 1) y refl (sym released_there ∙ (ap (finite.get (with_released w.snapshots r.number)) (sym e) ∙ found)), subst (λ (z : ℕ). z ≤ length w.writes.history) (sym e) (s.registrations.live r.number x there).1))
             (λ (ne : t ≢ r.number). s.registrations.live t y (sym (released_else t ne) ∙ found));
-        smallest = each_person_set registered_of (AreBelowCommitted w.writes.history) w.actors by a b at (below_all w.writes.history (front ++ back) (λ q k. below_of w by a q at (subst (IsIn q) (sym mine) (in_with q r front back k)) s)) refl s.registrations.smallest;
+        smallest = each_person_set registered_of (AreBelowCommitted w.writes.history) w.actors by a b at (below_all w.writes.history (front ++ back) (λ q k. below_smallest w by a q at (subst (IsIn q) (sym mine) (in_with q r front back k)) s)) refl s.registrations.smallest;
       }
 
 -- what is left is of the whole

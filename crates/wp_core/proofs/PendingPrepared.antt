@@ -30,9 +30,9 @@ use Rattle.wp_core.proofs.HistoryLaws.{decided_within}
 use Rattle.wp_core.proofs.Numbers.{in_inserted, in_inserted_else, in_removed, in_removed_else}
 use Rattle.wp_core.proofs.Quiet.{prepared_changes}
 use Rattle.wp_core.proofs.StoresFlag.{not_theirs, not_free}
-use Rattle.wp_core.proofs.PreparedSteps.{SoWith, clearing_decided, either}
+use Rattle.wp_core.proofs.PreparedSteps.{SoWith, clearing_decided}
 use Rattle.wp_core.proofs.AllParts.{SoIn}
-use Rattle.wp_core.proofs.AllParticipants.{mine}
+use Rattle.wp_core.proofs.Tests.{either}
 
 -- the heap has of other numbers than the next what it had
 module _ (w : World) (s : IsSound w) (heap : finset.FinSet nat_cmp) (same : (p : ℕ) → p ≢ suc (length w.writes.history) → finset.contains heap p ≡ finset.contains w.prepared.heap p) where

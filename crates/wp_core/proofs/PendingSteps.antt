@@ -1,5 +1,5 @@
 -- Making an entry pending, logging it and dropping it keep a world sound.
-use Rattle.std.proofs.Common.{◌≡◌, ◌≢◌, inl, inr, ℕ, suc, Bool, true, false, true≢false, not, List, [], ◌∷◌, ◌++◌, length, refl, sym, ap, ◌∙◌, Option, Some, None, append-nil, arith}
+use Rattle.std.proofs.Common.{◌≡◌, ◌≢◌, inl, inr, ℕ, suc, Bool, true, false, true≢false, not, List, [], ◌∷◌, ◌++◌, length, refl, sym, ap, ◌∙◌, append-nil, arith}
 use mathlib.Core.Option.{some}
 use lib.ListN.{get_elem?}
 use Rattle.wp_model.specs.declared.entry.Entry.{Entry}
@@ -28,7 +28,7 @@ use Rattle.wp_core.proofs.Quiet.{idle_after, NotesStay, noted_after}
 use Rattle.wp_core.proofs.ReaderFacts.{extended_stays}
 use Rattle.wp_core.proofs.StoresFlag.{not_theirs, not_free}
 use Rattle.wp_core.proofs.AllParts.{SoIn, views_of, readers_still, turns_changed, quiet_step}
-use Rattle.wp_core.proofs.AllParticipants.{mine}
+use Rattle.wp_core.proofs.Tests.{none_some}
 
 -- the write table with what is pending, whether that is logged, and the log
 abbrev pub with_pending : WriteTable → List Entry → Bool → List Entry → WriteTable
@@ -54,7 +54,7 @@ pending_changes w by a step pending logged log at holds history cache undecided 
 
 -- ---- a record is made pending
 
-none_logged : (logged : Bool) → logged_part logged [] ≡ []
+pub none_logged : (logged : Bool) → logged_part logged [] ≡ []
 none_logged true = refl
 none_logged false = refl
 
@@ -98,16 +98,13 @@ undecided_made w entries none s = record {
   known = λ p there. prepare_stays w.writes.history entries p (ap (λ (z : List Entry). is_prepare (entry_at (extended w.writes.history z) p)) (sym none) ∙ s.undecided.known p there);
 }
 
-none_next : (o : Option (Option (List ℕ))) (value : Option (List ℕ)) → o ≡ None → o ≡ Some value → ⊥
-none_next o value none e = let q : None ≡ Some value = sym none ∙ e in absurd (cc)
-
 stored_made : (w : World) (entries : List Entry) → w.writes.pending ≡ [] → IsSound w → IsStored w.writes.history entries w.snapshots w.store w.installed
 stored_made w entries none s =
     let o = s.versions in record {
       covered = o.covered;
       floor = o.floor;
       next = λ key p value lt there. let k = o.next key p value lt there in
-          absurd (none_next (version_in (next_of w.writes.pending) key) value (ap (λ (z : List Entry). version_in (next_of z) key) none) k.1);
+          absurd (none_some (version_in (next_of w.writes.pending) key) value (ap (λ (z : List Entry). version_in (next_of z) key) none) k.1);
       tables = o.tables;
       last = o.last;
       failed = o.failed;

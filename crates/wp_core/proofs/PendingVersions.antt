@@ -29,7 +29,7 @@ use Rattle.wp_history.proofs.Growth.{entry_at_past}
 use Rattle.wp_core.proofs.AllParts.{SoIn, views_of, pasts_of, readers_still, turns_changed, quiet_step}
 use Rattle.wp_core.proofs.Quiet.{idle_after, NotesStay, noted_after}
 use Rattle.wp_core.proofs.StoresFlag.{not_theirs}
-use Rattle.wp_core.proofs.AllParticipants.{mine}
+use Rattle.wp_core.proofs.Tests.{both, none_either}
 
 -- ---- look-ups
 
@@ -54,19 +54,11 @@ one_up_to v F key p true false c x is tie rest = ap (λ (t : Bool). cond t (Some
 one_up_to v F key p false true c x is tie rest = rest ∙ (ap (λ (t : Bool). cond t x None) (sym (tie refl)) ∙ ap (λ (t : Bool). cond t (Some v.value) None) (tie refl))
 one_up_to v F key p false false c x is tie rest = rest
 
-second_test : (a b : Bool) → (a && b) ≡ true → b ≡ true
-second_test true b e = e
-second_test false b e = absurd (true≢false (sym e))
-
-none_either : (c : Bool) → ◌≡◌ {A = Option (Option (List ℕ))} None (cond c None None)
-none_either true = refl
-none_either false = refl
-
 pub at_up_to : (n : ℕ) (vs : List Version) (key : List ℕ) (p : ℕ) → version_at (up_to n vs) key p ≡ cond (nat_le p n) (version_at vs key p) None
 at_up_to n [] key p = none_either (nat_le p n)
 at_up_to n (v ∷ vs) key p =
     one_up_to v (up_to n vs) key p (nat_le v.number n) (bytes_eq v.key key && (v.number == p)) (nat_le p n) (version_at vs key p) refl
-    (λ e. let m : ℕ = v.number in let q : (m == p) ≡ true = second_test (bytes_eq v.key key) (v.number == p) e in let same : m ≡ p = grind (arith, nat_tests) in ap (λ (k : ℕ). nat_le k n) same) (at_up_to n vs key p)
+    (λ e. let m : ℕ = v.number in let q : (m == p) ≡ true = (both (bytes_eq v.key key) (v.number == p) e).1 in let same : m ≡ p = grind (arith, nat_tests) in ap (λ (k : ℕ). nat_le k n) same) (at_up_to n vs key p)
 
 pub gives_same : (xs ys : List Version) (history : List Entry) (key : List ℕ) (n : ℕ) → ((p : ℕ) → version_at ys key p ≡ version_at xs key p) → GivesStore xs history key n → GivesStore ys history key n
 gives_same xs ys history key n same (inl k) = inl record { number = k.number; value = k.value; there = same k.number ∙ k.there; committed = k.committed; newest = λ q lt is. same q ∙ k.newest q lt is; stored = k.stored }

@@ -27,9 +27,10 @@ use Rattle.wp_core.proofs.HistoryLaws.{decided_within, undecided_not_decided}
 use Rattle.wp_core.proofs.Numbers.{in_removed, in_removed_else, get_inserted, get_inserted_else, get_removed, get_removed_else}
 use Rattle.wp_core.proofs.Quiet.{prepared_changes}
 use Rattle.wp_core.proofs.StoresFlag.{not_free}
-use Rattle.wp_core.proofs.ReaderFacts.{same_some, none_some, extended_was, pair_ordered}
+use Rattle.wp_core.proofs.ReaderFacts.{pair_ordered, extended_was}
 use Rattle.wp_core.proofs.AllParts.{SoIn}
 use Rattle.wp_core.proofs.AllParticipants.{mine}
+use Rattle.wp_core.proofs.Tests.{same_some, none_some}
 
 -- what is noted with these prepared tables in place of the world's
 abbrev pub SoWith : World → PreparedTables → Participant → Fact → Type 0
@@ -42,10 +43,6 @@ clearing_decided w place pair why s k =
     let ordered = pair_ordered (slice_index w.cache place) pair k.there in
     let published = k.published_by in let low = ordered.1 in
     extended_was w.writes.history w.writes.pending pair.number pair.decision (omega arith) published at.decided
-
-pub either : (a b : Bool) → (a || b) ≡ true → (a ≡ true) ⊎ (b ≡ true)
-either true b e = inl refl
-either false b e = inr e
 
 pub in_either : (a b : Bool) → (a ≡ true) ⊎ (b ≡ true) → (a || b) ≡ true
 in_either true b k = refl

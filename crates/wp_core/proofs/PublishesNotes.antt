@@ -35,13 +35,11 @@ use Rattle.wp_core.proofs.PendingSteps.{SoPending}
 use Rattle.wp_core.proofs.PublishesLocks.{prepare_of, not_decided, batch_new}
 use Rattle.wp_core.proofs.StoresFlag.{not_theirs}
 use Rattle.wp_core.proofs.AllParts.{SoIn}
+use Rattle.wp_core.proofs.Keyed.{txn_is}
 
 never_true : (b : Bool) → (b ≡ true → ⊥) → b ≡ false
 never_true true never = absurd (never refl)
 never_true false never = refl
-
-txn_is : (x y : List ℕ) → Some (Txn x) ≡ Some (Txn y) → x ≡ y
-txn_is x y e = cc
 
 txn_not_client : (x y : List ℕ) → Some (Txn x) ≡ Some (Client y) → ⊥
 txn_not_client x y e = absurd cc

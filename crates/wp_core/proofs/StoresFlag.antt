@@ -13,7 +13,6 @@ use Rattle.wp_core.specs.Sound.Views.{IsSo, IsGuarded}
 use Rattle.wp_core.specs.IsSound.{IsSound}
 use Rattle.wp_core.proofs.Quiet.{words_change}
 use Rattle.wp_core.proofs.AllParts.{SoIn}
-use Rattle.wp_core.proofs.AllParticipants.{mine}
 
 -- a turn that one actor holds no other holds
 pub not_theirs : (h : Holders) (turn : Turn) (by j : ℕ) → Holds h turn by → j ≢ by → Holds h turn j → ⊥
