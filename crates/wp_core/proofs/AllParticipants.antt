@@ -82,3 +82,23 @@ module _ {X : Type 0} (f : Participant → X) (xs : List Actor) (by : ℕ) (a b 
   each_apart P changed others j i x there = ⊎_elim
       (λ (t : (j ≡ by) × (i ≡ 0) × (x ≡ f b.participant)). subst P (sym t.2) changed)
       (λ (t : ((j ≢ by) ⊎ (i ≢ 0)) × IsParticipantAt before j i x). others j i x t.0 t.1) (was_apart j i x there)
+
+  -- no two have such a thing, where the changed one has it as before, or nobody had it
+  pub still_apart : (Q : X → Type 0) → (Q (f b.participant) → Q (f a.participant) ⊎ ((j i : ℕ) (x : X) → IsParticipantAt before j i x → Q x → ⊥))
+      → ((j i k l : ℕ) (x y : X) → IsParticipantAt before j i x → IsParticipantAt before k l y → Q x → Q y → (j ≡ k) × (i ≡ l))
+      → (j i k l : ℕ) (x y : X) → IsParticipantAt after j i x → IsParticipantAt after k l y → Q x → Q y → (j ≡ k) × (i ≡ l)
+  still_apart Q now k j i l m x y here there first second = each_way (was j i x here) (was l m y there)
+    where
+      Changed : ℕ → ℕ → X → Type 0
+      Changed = λ u v z. (u ≡ by) × (v ≡ 0) × (z ≡ f b.participant)
+
+      with_changed : (u v n r : ℕ) (z o : X) → Changed u v z → IsParticipantAt before n r o → Q z → Q o → (u ≡ n) × (v ≡ r)
+      with_changed u v n r z o changed old has also = ⊎_elim
+          (λ (q : Q (f a.participant)). let s = k by 0 n r (f a.participant) o mine old q also in (changed.0 ∙ s.0, changed.1 ∙ s.1))
+          (λ (none : (d c : ℕ) (p : X) → IsParticipantAt before d c p → Q p → ⊥). absurd (none n r o old also)) (now (subst Q changed.2 has))
+
+      each_way : Changed j i x ⊎ IsParticipantAt before j i x → Changed l m y ⊎ IsParticipantAt before l m y → (j ≡ l) × (i ≡ m)
+      each_way (inl u) (inl v) = (u.0 ∙ sym v.0, u.1 ∙ sym v.1)
+      each_way (inl u) (inr v) = with_changed j i l m x y u v first second
+      each_way (inr u) (inl v) = let s = with_changed l m j i y x v u second first in (sym s.0, sym s.1)
+      each_way (inr u) (inr v) = k j i l m x y u v first second

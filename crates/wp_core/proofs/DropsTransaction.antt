@@ -16,7 +16,7 @@ use Rattle.wp_core.specs.Sound.Locks.{Owner, owner_of, Has, IsNameOf, IsDirectOf
 use Rattle.wp_core.specs.Sound.Views.{Owns}
 use Rattle.wp_core.specs.IsSound.{IsSound, participants}
 use Rattle.wp_core.proofs.Keyed.{is_word_same, else_removed, still_there}
-use Rattle.wp_core.proofs.OwnerMoves.{names_apart, direct_apart, key_known, name_kept, direct_kept}
+use Rattle.wp_core.proofs.OwnerMoves.{owners_apart, key_known, name_kept, direct_kept}
 use Rattle.wp_core.proofs.AllParticipants.{mine, each_apart}
 use Rattle.wp_core.proofs.LocksChange.{SoWith, actor_after, owners_after, LocksParts, pasts_left}
 use Rattle.wp_core.proofs.AllParts.{SoIn}
@@ -99,7 +99,7 @@ module _ (w : World) (by : ℕ) (a : Actor) (name : List ℕ) (x0 : Transaction)
     prepared_names = d.prepared_names;
     prepared_keys = d.prepared_keys;
     had = each_apart owner_of w.actors by a b at refl (IsOwner t) own_owner other_owner;
-    apart = record { names = names_apart w.actors by a b at refl (λ n x h. (x, (had_name n x h).1)) s.locks.apart; direct = direct_apart w.actors by a b at refl (λ c h. h) s.locks.apart };
+    apart = owners_apart w.actors by a b at refl (λ n x h. inl (x, (had_name n x h).1)) (λ c h. inl h) s.locks.apart;
     names_had = names_had;
     names_left = names_left;
     keys_live = d.live;

@@ -17,7 +17,7 @@ use Rattle.wp_core.specs.Sound.Locks.{Owner, owner_of, Has, Began, IsNameOf, IsD
 use Rattle.wp_core.specs.Sound.Views.{Owns}
 use Rattle.wp_core.specs.IsSound.{IsSound, participants}
 use Rattle.wp_core.proofs.Keyed.{is_word_same, at_inserted, else_inserted, now_inserted, some_inserted}
-use Rattle.wp_core.proofs.OwnerMoves.{direct_apart, name_kept, direct_kept}
+use Rattle.wp_core.proofs.OwnerMoves.{owners_apart, name_kept, direct_kept}
 use Rattle.wp_core.proofs.AllParticipants.{mine, mine_now, was, each_apart}
 use Rattle.wp_core.proofs.PastsGrow.{in_front, in_last}
 use Rattle.wp_core.proofs.LocksChange.{SoWith, actor_after, owners_after, LocksParts, pasts_grown, board_grown}
@@ -75,25 +75,11 @@ module _ (w : World) (by : ℕ) (a : Actor) (name : List ℕ) (x1 : Transaction)
   none_had : (j i : ℕ) (o : Owner) (x : Transaction) → IsParticipantAt (participants owner_of w) j i o → Has o name x → ⊥
   none_had j i o x there h = not_it name o.client ((s.locks.had j i o there).names name x h) refl
 
-  new_apart : (j i k l : ℕ) (o q : Owner) (n : List ℕ) (x y : Transaction) → IsParticipantAt after j i o → IsParticipantAt after k l q → Has o n x → Has q n y → (j ≡ k) × (i ≡ l)
-  new_apart j i k l o q n x y here there first second =
-      both (was owner_of w.actors by a b at refl j i o here) (was owner_of w.actors by a b at refl k l q there)
-    where
-      Changed : ℕ → ℕ → Owner → Type 0
-      Changed = λ u v r. (u ≡ by) × (v ≡ 0) × (r ≡ owner_of p)
-
-      one : (u v m r : ℕ) (c d : Owner) (z z' : Transaction) → Changed u v c → IsParticipantAt (participants owner_of w) m r d → Has c n z → Has d n z' → (u ≡ m) × (v ≡ r)
-      one u v m r c d z z' new old has has' = ⊎_elim
-          (λ (g : (n ≡ name) × (x1 ≡ z)). absurd (none_had m r d z' old (subst (λ (h : List ℕ). Has d h z') g.0 has')))
-          (λ (g : (n ≡ name → ⊥) × (finite.get a.participant.transactions n ≡ Some z)).
-          let same = s.locks.apart.names by 0 m r (owner_of a.participant) d n z z' (mine owner_of w.actors by a a at refl) old g.1 has' in (new.0 ∙ same.0, new.1 ∙ same.1))
-          (has_now n z (subst (λ (h : Owner). Has h n z) new.2 has))
-
-      both : Changed j i o ⊎ IsParticipantAt (participants owner_of w) j i o → Changed k l q ⊎ IsParticipantAt (participants owner_of w) k l q → (j ≡ k) × (i ≡ l)
-      both (inl u) (inl v) = (u.0 ∙ sym v.0, u.1 ∙ sym v.1)
-      both (inl u) (inr v) = one j i k l o q x y u v first second
-      both (inr u) (inl v) = let same = one k l j i q o y x v u second first in (sym same.0, sym same.1)
-      both (inr u) (inr v) = s.locks.apart.names j i k l o q n x y u v first second
+  -- what it has it had, or nobody had
+  had_or_new : (n : List ℕ) (x : Transaction) → finite.get p.transactions n ≡ Some x → ((y : Transaction) × (finite.get a.participant.transactions n ≡ Some y)) ⊎ ((j i : ℕ) (o : Owner) (y : Transaction) → IsParticipantAt (participants owner_of w) j i o → Has o n y → ⊥)
+  had_or_new n x h = ⊎_elim
+      (λ (g : (n ≡ name) × (x1 ≡ x)). inr (λ j i o y there has. none_had j i o y there (subst (λ (z : List ℕ). Has o z y) g.0 has)))
+      (λ (g : (n ≡ name → ⊥) × (finite.get a.participant.transactions n ≡ Some x)). inl (x, g.1)) (has_now n x h)
 
   own_after : IsParticipantAt after by 0 (owner_of p)
   own_after = mine_now owner_of w.actors by a b at refl
@@ -135,7 +121,7 @@ module _ (w : World) (by : ℕ) (a : Actor) (name : List ℕ) (x1 : Transaction)
     prepared_names = λ q u. some_inserted w.locks.names name (Some a.participant.client) _ (s.locks.prepared_names q u);
     prepared_keys = s.locks.prepared_keys;
     had = each_apart owner_of w.actors by a b at refl (IsOwner t) own_owner (λ j i o elsewhere there. other_owner o (s.locks.had j i o there));
-    apart = record { names = new_apart; direct = direct_apart w.actors by a b at refl (λ c h. h) s.locks.apart };
+    apart = owners_apart w.actors by a b at refl had_or_new (λ c h. inl h) s.locks.apart;
     names_had = names_had;
     names_left = names_left;
     keys_live = λ key n h. some_inserted w.locks.names name (Some a.participant.client) n (s.locks.keys_live key n h);

@@ -18,7 +18,7 @@ use Rattle.wp_core.specs.Sound.Actors.{IsParticipantAt}
 use Rattle.wp_core.specs.Sound.Locks.{Owner, owner_of, IsNameOf, IsDirectOf, IsOwner, AreLocked}
 use Rattle.wp_core.specs.IsSound.{IsSound, participants}
 use Rattle.wp_core.proofs.Keyed.{is_word_same, else_removed, still_there}
-use Rattle.wp_core.proofs.OwnerMoves.{names_apart, direct_apart, key_known, name_kept, direct_kept}
+use Rattle.wp_core.proofs.OwnerMoves.{owners_apart, key_known, name_kept, direct_kept}
 use Rattle.wp_core.proofs.AllParticipants.{mine, each_apart}
 use Rattle.wp_core.proofs.LocksChange.{SoWith, actor_after, owners_after, LocksParts, locks_change, pasts_left}
 use Rattle.wp_core.proofs.AllParts.{SoIn}
@@ -87,7 +87,7 @@ module _ (w : World) (by : ℕ) (a : Actor) (key : List ℕ) (at : get_elem? w.a
     prepared_names = s.locks.prepared_names;
     prepared_keys = λ q k u h. txn_still k (name_at w.writes.history q) (s.locks.prepared_keys q k u h);
     had = each_apart owner_of w.actors by a b at refl (IsOwner t) own_owner other_owner;
-    apart = record { names = names_apart w.actors by a b at refl (λ n x h. (x, h)) s.locks.apart; direct = direct_apart w.actors by a b at refl had_direct s.locks.apart };
+    apart = owners_apart w.actors by a b at refl (λ n x h. inl (x, h)) (λ c h. inl (had_direct c h)) s.locks.apart;
     names_had = λ n c h. name_still n c (s.locks.names_had n c h);
     names_left = s.locks.names_left;
     keys_live = λ k n h. s.locks.keys_live k n (held_before k (Txn n) h).1;

@@ -1,5 +1,5 @@
 -- Locking the key of a direct write keeps every part of a sound world.
-use Rattle.std.proofs.Common.{◌≡◌, ◌⊎◌, ⊎_elim, inl, inr, ℕ, List, [], ◌∷◌, ◌++◌, length, refl, sym, subst, ap, ◌∙◌, Some, None}
+use Rattle.std.proofs.Common.{◌≡◌, ⊎_elim, inl, inr, ℕ, List, [], ◌∷◌, ◌++◌, length, refl, sym, subst, ap, ◌∙◌, Some, None}
 use mathlib.Core.Option.{some}
 use lib.ListN.{get_elem?}
 use Rattle.std.specs.FinMap as finite
@@ -18,12 +18,13 @@ use Rattle.wp_core.specs.Sound.Actors.{IsParticipantAt}
 use Rattle.wp_core.specs.Sound.Locks.{Owner, owner_of, IsNameOf, IsDirectOf, IsOwner, AreLocked}
 use Rattle.wp_core.specs.IsSound.{IsSound, participants}
 use Rattle.wp_core.proofs.Keyed.{at_inserted}
-use Rattle.wp_core.proofs.OwnerMoves.{names_apart, key_known, name_kept, direct_kept}
-use Rattle.wp_core.proofs.AllParticipants.{mine, mine_now, was, each_apart}
+use Rattle.wp_core.proofs.OwnerMoves.{owners_apart, key_known, name_kept, direct_kept}
+use Rattle.wp_core.proofs.AllParticipants.{mine, mine_now, each_apart}
 use Rattle.wp_core.proofs.PastsGrow.{in_front, in_last}
 use Rattle.wp_core.proofs.LocksChange.{SoWith, actor_after, owners_after, LocksParts, locks_change}
 use Rattle.wp_core.proofs.AllParts.{SoIn}
 use Rattle.wp_core.proofs.KeyLocked.{held_still, held_now, owner_locked, so_locked, pasts_locked}
+use Rattle.wp_core.proofs.Tests.{same_some}
 
 module _ (w : World) (by : ℕ) (a : Actor) (key : List ℕ) (at : get_elem? w.actors by ≡ some a) (no_direct : a.participant.direct ≡ None) (free : finite.get w.locks.keys key ≡ None) (s : IsSound w) where
   abbrev client : List ℕ
@@ -55,20 +56,9 @@ module _ (w : World) (by : ℕ) (a : Actor) (key : List ℕ) (at : get_elem? w.a
   none_had : (j i : ℕ) (o : Owner) (k : List ℕ) → IsParticipantAt (participants owner_of w) j i o → o.direct ≡ Some k → k ≡ key → ⊥
   none_had j i o k there h q = let f : None ≡ Some (Client o.client) = sym free ∙ ap (finite.get w.locks.keys) (sym q) ∙ (s.locks.had j i o there).direct k h in absurd cc
 
-  own_apart : (j i k l : ℕ) (o q : Owner) (c : List ℕ) → IsParticipantAt after j i o → IsParticipantAt after k l q → o.direct ≡ Some c → q.direct ≡ Some c → (j ≡ k) × (i ≡ l)
-  own_apart j i k l o q c here there first second = both (was owner_of w.actors by a b at refl j i o here) (was owner_of w.actors by a b at refl k l q there)
-    where
-      Changed : ℕ → ℕ → Owner → Type 0
-      Changed = λ u v r. (u ≡ by) × (v ≡ 0) × (r ≡ owner_of p)
-
-      its_key : (r : Owner) → r ≡ owner_of p → r.direct ≡ Some c → c ≡ key
-      its_key r is h = let f : Some key ≡ Some c = sym (ap (λ (z : Owner). z.direct) is) ∙ h in cc
-
-      both : Changed j i o ⊎ IsParticipantAt (participants owner_of w) j i o → Changed k l q ⊎ IsParticipantAt (participants owner_of w) k l q → (j ≡ k) × (i ≡ l)
-      both (inl u) (inl v) = (u.0 ∙ sym v.0, u.1 ∙ sym v.1)
-      both (inl u) (inr v) = absurd (none_had k l q c v second (its_key o u.2 first))
-      both (inr u) (inl v) = absurd (none_had j i o c u first (its_key q v.2 second))
-      both (inr u) (inr v) = s.locks.apart.direct j i k l o q c u v first second
+  -- its direct write is one that nobody had
+  is_new : (k : List ℕ) → p.direct ≡ Some k → (j i : ℕ) (o : Owner) → IsParticipantAt (participants owner_of w) j i o → o.direct ≡ Some k → ⊥
+  is_new k h j i o there has = none_had j i o k there has (sym (same_some key k h))
 
   name_still : (n c : List ℕ) → IsNameOf (participants owner_of w) n c → IsNameOf after n c
   name_still n c k = name_kept w.actors by a b at refl refl (λ x k. in_front x a.participant.past (e ∷ []) k) n c (λ y h. (y, h)) k
@@ -91,7 +81,7 @@ module _ (w : World) (by : ℕ) (a : Actor) (key : List ℕ) (at : get_elem? w.a
     prepared_names = s.locks.prepared_names;
     prepared_keys = λ q k u h. held_still w key (Client client) free k (Txn (name_at w.writes.history q)) (s.locks.prepared_keys q k u h);
     had = each_apart owner_of w.actors by a b at refl (IsOwner t) own_owner (λ j i o elsewhere there. owner_locked w key (Client client) free o (s.locks.had j i o there));
-    apart = record { names = names_apart w.actors by a b at refl (λ n x h. (x, h)) s.locks.apart; direct = own_apart };
+    apart = owners_apart w.actors by a b at refl (λ n x h. inl (x, h)) (λ c h. inr (is_new c h)) s.locks.apart;
     names_had = λ n c h. name_still n c (s.locks.names_had n c h);
     names_left = s.locks.names_left;
     keys_live = λ k n h. s.locks.keys_live k n (txn_held k n h);

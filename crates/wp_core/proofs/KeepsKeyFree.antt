@@ -1,5 +1,5 @@
 -- Freeing a key of a transaction keeps every part of a sound world.
-use Rattle.std.proofs.Common.{◌≡◌, ◌≢◌, ◌⊎◌, ◌&&◌, Bool, not, ⊎_elim, ℕ, true, false, true≢false, List, length, refl, sym, subst, ap, ◌∙◌, Some, None}
+use Rattle.std.proofs.Common.{◌≡◌, ◌≢◌, ◌⊎◌, ◌&&◌, Bool, not, ⊎_elim, ℕ, true, false, true≢false, List, length, refl, sym, subst, ap, ◌∙◌, Some, None, inl}
 use mathlib.Core.Option.{some}
 use lib.ListN.{get_elem?}
 use Rattle.std.specs.FinSet as words
@@ -8,7 +8,7 @@ use Rattle.std.specs.FinMap as finite
 use Rattle.std.specs.Ordering.{eq_by_cmp}
 use Rattle.std.proofs.lemmas.Cmp.{nat_list_cmp_total}
 use Rattle.wp_model.specs.Batch.{key_cmp}
-use Rattle.wp_model.specs.History.{is_undecided, is_changed, name_at, batch_at, holder_of, named}
+use Rattle.wp_model.specs.History.{is_undecided, is_changed, name_at, batch_at, named}
 use Rattle.wp_model.specs.declared.holder.Holder.{Holder}
 use Rattle.wp_model.specs.declared.holder.Holder.TheVariants.{Txn, Client}
 use Rattle.wp_model.specs.LockTables.{LockTables}
@@ -23,12 +23,12 @@ use Rattle.wp_core.specs.Sound.Actors.{IsParticipantAt}
 use Rattle.wp_core.specs.Sound.Locks.{Owner, owner_of, Has, IsNameOf, IsDirectOf, IsOwner, AreLocked}
 use Rattle.wp_core.specs.IsSound.{IsSound, participants}
 use Rattle.wp_core.proofs.Keyed.{same_test, is_word_same, not_same, else_removed, still_there}
-use Rattle.wp_core.proofs.OwnerMoves.{names_apart, direct_apart, name_kept, direct_kept}
+use Rattle.wp_core.proofs.OwnerMoves.{owners_apart, name_kept, direct_kept}
 use Rattle.wp_core.proofs.AllParticipants.{mine, was, each_apart}
 use Rattle.wp_core.proofs.HistoryHolders.{none_named}
 use Rattle.wp_core.proofs.LocksChange.{SoWith, actor_after, owners_after, LocksParts, locks_change, pasts_left}
 use Rattle.wp_core.proofs.AllParts.{SoIn}
-use Rattle.wp_core.proofs.OtherKeys.{has_now, had_name, has_still, nobody_else, owns_still, each_key}
+use Rattle.wp_core.proofs.OtherKeys.{has_now, had_name, has_still, nobody_else, owns_still, each_key, unprepared_still}
 
 -- ---- sets of keys
 
@@ -125,21 +125,13 @@ module _ (w : World) (by : ℕ) (a : Actor) (name : List ℕ) (x0 : Transaction)
     prepared_names = s.locks.prepared_names;
     prepared_keys = prepared_keys;
     had = each_apart owner_of w.actors by a b at refl (IsOwner t) own_owner other_owner;
-    apart = record { names = names_apart w.actors by a b at refl (had_name w by a name x0 x1 at has) s.locks.apart; direct = direct_apart w.actors by a b at refl (λ c h. h) s.locks.apart };
+    apart = owners_apart w.actors by a b at refl (λ n x h. inl (had_name w by a name x0 x1 at has n x h)) (λ c h. inl h) s.locks.apart;
     names_had = λ n c h. name_still n c (s.locks.names_had n c h);
     names_left = s.locks.names_left;
     keys_live = λ k n h. s.locks.keys_live k n (held_before k (Txn n) h).1;
     keys_known = keys_known;
     keys_direct = λ k c h. direct_still k c (s.locks.keys_direct k c (held_before k (Client c) h).1);
   }
-
-  unprepared_still : (n : List ℕ) → ((x : Transaction) (c : List ℕ) → finite.get a.participant.transactions n ≡ Some x → words.contains x.locked c ≡ true → holder_of w.writes.history c ≡ None)
-      → (x : Transaction) (c : List ℕ) → finite.get p.transactions n ≡ Some x → words.contains x.locked c ≡ true → holder_of w.writes.history c ≡ None
-  unprepared_still n old x c h held = ⊎_elim
-      (λ (u : (n ≡ name) × (x1 ≡ x)).
-      let g = was_in x0.locked key c (subst (λ (z : Transaction). words.contains z.locked c ≡ true) (sym u.1) held) in
-      old x0 c (ap (finite.get a.participant.transactions) u.0 ∙ has) g.1)
-      (λ (u : (n ≡ name → ⊥) × (finite.get a.participant.transactions n ≡ Some x)). old x c u.1 held) (has_now w by a name x0 x1 at has n x h)
 
   -- an undecided prepare has another name
   other_name : (n : List ℕ) (q : ℕ) → named w.writes.history n ≡ Some q → n ≡ name → ⊥
@@ -148,7 +140,7 @@ module _ (w : World) (by : ℕ) (a : Actor) (name : List ℕ) (x0 : Transaction)
   mine_still : (fact : Fact) → SoIn w a.participant fact → SoWith w t p fact
   mine_still (undecided_at n q) k = (owns_still w by a name x0 x1 at has n k.0, k.1, k.2, λ c h. txn_still c n (other_name n q k.1) (k.3 c h))
   mine_still (prior_values n q batch) k = (owns_still w by a name x0 x1 at has n k.0, k.1, k.2)
-  mine_still (unprepared n) k = (owns_still w by a name x0 x1 at has n k.0, k.1, unprepared_still n k.2)
+  mine_still (unprepared n) k = (owns_still w by a name x0 x1 at has n k.0, k.1, unprepared_still w by a name x0 x1 at has (λ c held. inl (was_in x0.locked key c held).1) n k.2)
   mine_still (direct_free c) k = (k.0, direct_held c client k.1, k.2)
   mine_still fact k = k
 

@@ -22,14 +22,14 @@ use Rattle.wp_core.specs.Sound.Actors.{IsParticipantAt}
 use Rattle.wp_core.specs.Sound.Locks.{Owner, owner_of, Has, IsNameOf, IsDirectOf, IsOwner, AreLocked}
 use Rattle.wp_core.specs.IsSound.{IsSound, participants}
 use Rattle.wp_core.proofs.Keyed.{same_test, is_word_same, not_same, at_inserted}
-use Rattle.wp_core.proofs.OwnerMoves.{names_apart, direct_apart, name_kept, direct_kept}
+use Rattle.wp_core.proofs.OwnerMoves.{owners_apart, name_kept, direct_kept}
 use Rattle.wp_core.proofs.AllParticipants.{mine, was_apart, each_apart}
 use Rattle.wp_core.proofs.HistoryHolders.{holder_holds}
 use Rattle.wp_core.proofs.PastsGrow.{in_front}
 use Rattle.wp_core.proofs.LocksChange.{SoWith, actor_after, owners_after, LocksParts, locks_change}
 use Rattle.wp_core.proofs.AllParts.{SoIn}
 use Rattle.wp_core.proofs.KeyLocked.{held_still, held_now, owner_locked, so_locked, pasts_locked}
-use Rattle.wp_core.proofs.OtherKeys.{has_now, had_name, has_still, nobody_else, owns_still, each_key}
+use Rattle.wp_core.proofs.OtherKeys.{has_now, had_name, has_still, nobody_else, owns_still, each_key, unprepared_still}
 use Rattle.wp_core.proofs.Tests.{or_true}
 
 -- ---- sets of keys
@@ -119,7 +119,7 @@ module _ (w : World) (by : ℕ) (a : Actor) (name : List ℕ) (x0 : Transaction)
     prepared_names = s.locks.prepared_names;
     prepared_keys = λ q k u h. held_still w key (Txn name) free k (Txn (name_at w.writes.history q)) (s.locks.prepared_keys q k u h);
     had = each_apart owner_of w.actors by a b at refl (IsOwner t) own_owner (λ j i o elsewhere there. owner_locked w key (Txn name) free o (s.locks.had j i o there));
-    apart = record { names = names_apart w.actors by a b at refl (had_name w by a name x0 x1 at has) s.locks.apart; direct = direct_apart w.actors by a b at refl (λ c h. h) s.locks.apart };
+    apart = owners_apart w.actors by a b at refl (λ n x h. inl (had_name w by a name x0 x1 at has n x h)) (λ c h. inl h) s.locks.apart;
     names_had = λ n c h. name_still n c (s.locks.names_had n c h);
     names_left = s.locks.names_left;
     keys_live = keys_live;
@@ -132,20 +132,16 @@ module _ (w : World) (by : ℕ) (a : Actor) (name : List ℕ) (x0 : Transaction)
   holder_free None h = refl
   holder_free (Some q) h = let k = holder_holds w.writes.history key q h in let f : None ≡ Some (Txn (name_at w.writes.history q)) = sym free ∙ s.locks.prepared_keys q key k.0 k.1 in absurd cc
 
-  unprepared_still : (n : List ℕ) → ((x : Transaction) (c : List ℕ) → finite.get a.participant.transactions n ≡ Some x → words.contains x.locked c ≡ true → holder_of w.writes.history c ≡ None)
-      → (x : Transaction) (c : List ℕ) → finite.get p.transactions n ≡ Some x → words.contains x.locked c ≡ true → holder_of w.writes.history c ≡ None
-  unprepared_still n old x c h held = ⊎_elim
-      (λ (u : (n ≡ name) × (x1 ≡ x)).
-      let in_it : words.contains x1.locked c ≡ true = subst (λ (z : Transaction). words.contains z.locked c ≡ true) (sym u.1) held in
-      ⊎_elim
-      (λ (q : c ≡ key). ap (holder_of w.writes.history) q ∙ holder_free (holder_of w.writes.history key) refl)
-      (λ (ne : c ≡ key → ⊥). old x0 c (ap (finite.get a.participant.transactions) u.0 ∙ has) (was_in x0.locked key c ne in_it)) (is_word_same c key))
-      (λ (u : (n ≡ name → ⊥) × (finite.get a.participant.transactions n ≡ Some x)). old x c u.1 held) (has_now w by a name x0 x1 at has n x h)
+  -- the keys of the transaction were its own, or are held by no undecided prepare
+  was_or_free : (c : List ℕ) → words.contains x1.locked c ≡ true → (words.contains x0.locked c ≡ true) ⊎ (holder_of w.writes.history c ≡ None)
+  was_or_free c held = ⊎_elim
+      (λ (q : c ≡ key). inr (ap (holder_of w.writes.history) q ∙ holder_free (holder_of w.writes.history key) refl))
+      (λ (ne : c ≡ key → ⊥). inl (was_in x0.locked key c ne held)) (is_word_same c key)
 
   mine_still : (fact : Fact) → SoIn w a.participant fact → SoWith w t p fact
   mine_still (undecided_at n q) k = (owns_still w by a name x0 x1 at has n k.0, k.1, k.2, λ c h. held_still w key (Txn name) free c (Txn n) (k.3 c h))
   mine_still (prior_values n q batch) k = (owns_still w by a name x0 x1 at has n k.0, k.1, k.2)
-  mine_still (unprepared n) k = (owns_still w by a name x0 x1 at has n k.0, k.1, unprepared_still n k.2)
+  mine_still (unprepared n) k = (owns_still w by a name x0 x1 at has n k.0, k.1, unprepared_still w by a name x0 x1 at has was_or_free n k.2)
   mine_still (direct_free c) k = (k.0, held_still w key (Txn name) free c (Client a.participant.client) k.1, k.2)
   mine_still fact k = k
 

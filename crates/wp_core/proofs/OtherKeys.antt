@@ -1,9 +1,10 @@
 -- A transaction of an actor has other keys than it had: what the actor has now, and what that leaves of who has what.
-use Rattle.std.proofs.Common.{◌≡◌, ◌≢◌, ◌⊎◌, ⊎_elim, ℕ, true, List, refl, sym, subst, ap, ◌∙◌, Some}
+use Rattle.std.proofs.Common.{◌≡◌, ◌≢◌, ◌⊎◌, ⊎_elim, ℕ, true, List, refl, sym, subst, ap, ◌∙◌, Some, None}
 use mathlib.Core.Option.{some}
 use lib.ListN.{get_elem?}
 use Rattle.std.specs.FinMap as finite
 use Rattle.std.specs.FinSet as words
+use Rattle.wp_model.specs.History.{holder_of}
 use Rattle.wp_core.specs.World.{Transaction, Participant, Actor, World}
 use Rattle.wp_core.specs.Sound.Actors.{IsParticipantAt}
 use Rattle.wp_core.specs.Sound.Locks.{Owner, owner_of, Has}
@@ -46,3 +47,12 @@ module _ (w : World) (by : ℕ) (a : Actor) (name : List ℕ) (x0 x1 : Transacti
   each_key P changed others n x c h held = ⊎_elim
       (λ (u : (n ≡ name) × (x1 ≡ x)). subst (λ (z : List ℕ). P z c) (sym u.0) (changed c (subst (λ (z : Transaction). words.contains z.locked c ≡ true) (sym u.1) held)))
       (λ (u : (n ≡ name → ⊥) × (finite.get a.participant.transactions n ≡ Some x)). others n x c u.0 u.1 held) (has_now n x h)
+
+  -- none of its keys is held by an undecided prepare, where none was and those that came are not
+  pub unprepared_still : ((c : List ℕ) → words.contains x1.locked c ≡ true → (words.contains x0.locked c ≡ true) ⊎ (holder_of w.writes.history c ≡ None))
+      → (n : List ℕ) → ((x : Transaction) (c : List ℕ) → finite.get a.participant.transactions n ≡ Some x → words.contains x.locked c ≡ true → holder_of w.writes.history c ≡ None)
+      → (x : Transaction) (c : List ℕ) → finite.get p.transactions n ≡ Some x → words.contains x.locked c ≡ true → holder_of w.writes.history c ≡ None
+  unprepared_still was n old x c h held =
+      each_key (λ v k. v ≡ n → holder_of w.writes.history k ≡ None)
+      (λ k locked is. ⊎_elim (λ (q : words.contains x0.locked k ≡ true). old x0 k (ap (finite.get a.participant.transactions) (sym is) ∙ has) q) (λ (q : holder_of w.writes.history k ≡ None). q) (was k locked))
+      (λ v y k ne has_it locked is. old y k (ap (finite.get a.participant.transactions) (sym is) ∙ has_it) locked) n x c h held refl

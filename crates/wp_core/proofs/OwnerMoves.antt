@@ -1,5 +1,5 @@
 -- Whose names and direct writes they stay, where one actor's own participant changed and its past grew.
-use Rattle.std.proofs.Common.{◌≡◌, ⊎_elim, inl, inr, ℕ, List, map, set, sym, subst, ap, ◌∙◌, Some, true}
+use Rattle.std.proofs.Common.{◌≡◌, ⊎_elim, inl, inr, ℕ, List, map, set, sym, subst, ap, ◌∙◌, Some, true, ◌⊎◌}
 use mathlib.Core.Option.{some}
 use lib.ListN.{get_elem?}
 use Rattle.std.specs.FinSet as words
@@ -9,7 +9,7 @@ use Rattle.wp_core.specs.Views.{Event, claimed, took, locked}
 use Rattle.wp_core.specs.World.{Transaction, Actor}
 use Rattle.wp_core.specs.Sound.Actors.{participants_of, IsParticipantAt, EachParticipant}
 use Rattle.wp_core.specs.Sound.Locks.{Owner, owner_of, Has, Began, IsNameOf, IsDirectOf, AreApart}
-use Rattle.wp_core.proofs.AllParticipants.{still, at_after, who_was}
+use Rattle.wp_core.proofs.AllParticipants.{still, at_after, who_was, still_apart}
 
 module _ (xs : List Actor) (by : ℕ) (a b : Actor) (at : get_elem? xs by ≡ some a) (same : b.joined ≡ a.joined) where
   abbrev before : List (List Owner)
@@ -18,22 +18,17 @@ module _ (xs : List Actor) (by : ℕ) (a b : Actor) (at : get_elem? xs by ≡ so
   abbrev after : List (List Owner)
   after = map (participants_of owner_of) (set xs by b)
 
-  -- no two have the same transaction, where the changed one has no name that it had not
-  pub names_apart : ((n : List ℕ) (x : Transaction) → Has (owner_of b.participant) n x → (y : Transaction) × Has (owner_of a.participant) n y) → AreApart before
-      → (j i k l : ℕ) (o q : Owner) (n : List ℕ) (x y : Transaction) → IsParticipantAt after j i o → IsParticipantAt after k l q → Has o n x → Has q n y → (j ≡ k) × (i ≡ l)
-  names_apart had k j i l m o q n x y here there first second =
-      let R : Owner → Owner → Type 0 = λ c d. (v : List ℕ) (z : Transaction) → Has c v z → (r : Transaction) × Has d v r in
-      let u = who_was owner_of xs by a b at same R (λ c v z h. (z, h)) had j i o here in let v = who_was owner_of xs by a b at same R (λ c v z h. (z, h)) had l m q there in
-      let f = u.2 n x first in let g = v.2 n y second in
-      k.names j i l m u.0 v.0 n f.0 g.0 u.1 v.1 f.1 g.1
-
-  -- nor the same direct write, where it has none that it had not
-  pub direct_apart : ((key : List ℕ) → b.participant.direct ≡ Some key → a.participant.direct ≡ Some key) → AreApart before
-      → (j i k l : ℕ) (o q : Owner) (key : List ℕ) → IsParticipantAt after j i o → IsParticipantAt after k l q → o.direct ≡ Some key → q.direct ≡ Some key → (j ≡ k) × (i ≡ l)
-  direct_apart had k j i l m o q key here there first second =
-      let R : Owner → Owner → Type 0 = λ c d. (v : List ℕ) → c.direct ≡ Some v → d.direct ≡ Some v in
-      let u = who_was owner_of xs by a b at same R (λ c v h. h) had j i o here in let v = who_was owner_of xs by a b at same R (λ c v h. h) had l m q there in
-      k.direct j i l m u.0 v.0 key u.1 v.1 (u.2 key first) (v.2 key second)
+  -- no two have the same transaction or direct write, where the changed one has none but what it had, or what nobody had
+  pub owners_apart : ((n : List ℕ) (x : Transaction) → Has (owner_of b.participant) n x → ((y : Transaction) × Has (owner_of a.participant) n y) ⊎ ((j i : ℕ) (o : Owner) (y : Transaction) → IsParticipantAt before j i o → Has o n y → ⊥))
+      → ((key : List ℕ) → b.participant.direct ≡ Some key → (a.participant.direct ≡ Some key) ⊎ ((j i : ℕ) (o : Owner) → IsParticipantAt before j i o → o.direct ≡ Some key → ⊥)) → AreApart before → AreApart after
+  owners_apart names direct k = record {
+    names = λ j i l m o q n x y here there first second.
+        still_apart owner_of xs by a b at same (λ c. (z : Transaction) × Has c n z)
+        (λ h. ⊎_elim (λ (had : (z : Transaction) × Has (owner_of a.participant) n z). inl had) (λ none. inr (λ u v c old has. none u v c has.0 old has.1)) (names n h.0 h.1))
+        (λ u v d e c r old also has his. k.names u v d e c r n has.0 his.0 old also has.1 his.1) j i l m o q here there (x, first) (y, second);
+    direct = λ j i l m o q key here there first second.
+        still_apart owner_of xs by a b at same (λ c. c.direct ≡ Some key) (direct key) (λ u v d e c r old also has his. k.direct u v d e c r key old also has his) j i l m o q here there first second;
+  }
 
   -- a held key is known to who has its transaction, where the changed one has no other transactions than it had
   pub key_known : ((n : List ℕ) (x : Transaction) → Has (owner_of b.participant) n x → Has (owner_of a.participant) n x) → (key n : List ℕ) → EachParticipant (λ o. (x : Transaction) → Has o n x → words.contains x.locked key ≡ true) before

@@ -1,5 +1,5 @@
 -- Names and keys, where one actor's own participant changed but for what it has of them, and its past grew.
-use Rattle.std.proofs.Common.{◌≡◌, ℕ, true, List, [], ◌∷◌, ◌++◌, map, set, refl, sym, subst, ap, ◌∙◌, Some}
+use Rattle.std.proofs.Common.{◌≡◌, ℕ, true, List, [], ◌∷◌, ◌++◌, map, set, refl, sym, subst, ap, ◌∙◌, Some, inl}
 use mathlib.Core.Option.{some}
 use lib.ListN.{get_elem?}
 use Rattle.std.specs.FinSet as set_of
@@ -13,7 +13,7 @@ use Rattle.wp_core.specs.World.{Transaction, Actor}
 use Rattle.wp_core.specs.Sound.Actors.{participants_of, IsParticipantAt, EachParticipant}
 use Rattle.wp_core.specs.Sound.Locks.{Owner, owner_of, Has, IsOwner, AreLocked}
 use Rattle.wp_core.proofs.PastsGrow.{in_front}
-use Rattle.wp_core.proofs.OwnerMoves.{names_apart, direct_apart, name_kept, direct_kept}
+use Rattle.wp_core.proofs.OwnerMoves.{owners_apart, name_kept, direct_kept}
 use Rattle.wp_core.proofs.AllParticipants.{who_was}
 
 -- the same of names and keys, and a past that grew
@@ -59,10 +59,7 @@ module _ (xs : List Actor) (by : ℕ) (a b : Actor) (at : get_elem? xs by ≡ so
     prepared_names = k.prepared_names;
     prepared_keys = k.prepared_keys;
     had = λ j i p there. let o = was_there j i p there in owner_still t o.0 p o.2 (k.had j i o.0 o.1);
-    apart = record {
-      names = names_apart xs by a b at same (λ name x h. let y = is.had name x h in (y.0, y.1)) k.apart;
-      direct = direct_apart xs by a b at same (λ key h. sym is.direct ∙ h) k.apart;
-    };
+    apart = owners_apart xs by a b at same (λ name x h. let y = is.had name x h in inl (y.0, y.1)) (λ key h. inl (sym is.direct ∙ h)) k.apart;
     names_had = λ name client h. name_kept xs by a b at same is.client is.past name client (λ y q. let x = is.has name y q in (x.0, x.1)) (k.names_had name client h);
     names_left = k.names_left;
     keys_live = k.keys_live;

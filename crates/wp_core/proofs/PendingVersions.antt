@@ -22,7 +22,7 @@ use Rattle.wp_core.specs.Changes.{held_with, change}
 use Rattle.wp_core.specs.Effects.{done}
 use Rattle.wp_core.specs.Needs.{Needs}
 use Rattle.wp_core.specs.Notes.{forgets, ends}
-use Rattle.wp_core.specs.Sound.Store.{IsStored, IsFlushedGone}
+use Rattle.wp_core.specs.Sound.Store.{IsStored, IsFlushedGone, NoneFlushed}
 use Rattle.wp_core.specs.Sound.Views.{IsSo, IsGuarded}
 use Rattle.wp_core.specs.IsSound.{IsSound}
 use Rattle.wp_history.proofs.Growth.{entry_at_past}
@@ -76,6 +76,13 @@ covers_same xs ys history numbers from same k = record {
 
 -- ---- the memory of a store changes at the next number alone
 
+abbrev pub SoStored : World → StoreTable → Participant → Fact → Type 0
+SoStored w t = IsSo w.delayed_flag w.old_flag w.max_evicted w.cache w.writes w.prepared w.snapshots t w.locks w.installed
+
+-- what is so of frozen versions
+abbrev IsFrozen : List Entry → List Version → ℕ → List Version → Type 0
+IsFrozen history memory n versions = (n ≤ length history) × ((key : List ℕ) (p : ℕ) → p ≤ n → version_at memory key p ≡ version_at versions key p)
+
 module _ (w : World) (memory : List Version) (s : IsSound w) (next : Option Entry) (has : HasVersionsAt next (suc (length w.writes.history)) w.store.memory memory) (is_next : (key : List ℕ) (value : Option (List ℕ)) → version_in next key ≡ Some value → version_in (next_of w.writes.pending) key ≡ Some value) where
   at_else : (key : List ℕ) (p : ℕ) → p ≢ suc (length w.writes.history) → version_at memory key p ≡ version_at w.store.memory key p
   at_else key p ne = has key p ∙ ap (λ (b : Bool). cond b (version_in next key) (version_at w.store.memory key p)) (ne_eqb p (suc (length w.writes.history)) ne)
@@ -116,11 +123,21 @@ module _ (w : World) (memory : List Version) (s : IsSound w) (next : Option Entr
         in_memory = λ key p value lt there. at_old key p (is_within key p value there) ∙ o.in_memory key p value lt there;
       }
 
-  flushed_now : IsFlushedGone w.holders.tables w.store.memory w.installed.last.flushed → IsFlushedGone w.holders.tables memory w.installed.last.flushed
-  flushed_now k free key p low = at_old key p (le_trans low s.versions.last.flushed) ∙ k free key p low
+  none_flushed_now : NoneFlushed w.store.memory w.installed.last.flushed → NoneFlushed memory w.installed.last.flushed
+  none_flushed_now k key p low = at_old key p (le_trans low s.versions.last.flushed) ∙ k key p low
 
-abbrev pub SoStored : World → StoreTable → Participant → Fact → Type 0
-SoStored w t = IsSo w.delayed_flag w.old_flag w.max_evicted w.cache w.writes w.prepared w.snapshots t w.locks w.installed
+  flushed_now : IsFlushedGone w.holders.tables w.store.memory w.installed.last.flushed → IsFlushedGone w.holders.tables memory w.installed.last.flushed
+  flushed_now k free = none_flushed_now (k free)
+
+  frozen_now : (n : ℕ) (versions : List Version) → IsFrozen w.writes.history w.store.memory n versions → IsFrozen w.writes.history memory n versions
+  frozen_now n versions k = (k.0, λ key p low. at_old key p (le_trans low k.0) ∙ k.1 key p low)
+
+  others_now : (by j : ℕ) (p : Participant) (fact : Fact) → Holds w.holders write_turn by → j ≢ by → IsGuarded w.holders fact j → SoIn w p fact → SoStored w (record w.store { memory = memory }) p fact
+  others_now by j p versions_in_memory mine ne guard k = absurd (not_theirs w.holders write_turn by j mine ne (guard write_turn refl))
+  others_now by j p versions_nowhere mine ne guard k = absurd (not_theirs w.holders write_turn by j mine ne (guard write_turn refl))
+  others_now by j p nothing_flushed mine ne guard k = none_flushed_now k
+  others_now by j p (frozen_stay n versions) mine ne guard k = frozen_now n versions k
+  others_now by j p fact mine ne guard k = k
 
 -- a step of who holds the store turn
 pub store_changes : (w : World) (by : ℕ) (a : Actor) (step : Step) (t : StoreTable) → get_elem? w.actors by ≡ some a → Holds w.holders store_turn by → IsStored w.writes.history w.writes.pending w.snapshots t w.installed
@@ -140,21 +157,14 @@ module _ (w : World) (memory : List Version) (s : IsSound w) (has : HasVersionsA
   mine_added : (p : Participant) (fact : Fact) → not (ends w.writes.history (length w.cache) (add_versions memory) fact) ≡ true → SoIn w p fact → SoStored w (record w.store { memory = memory }) p fact
   mine_added p versions_in_memory left k = λ key value e. at_next w memory s (next_of w.writes.pending) has (λ _ _ f. f) key ∙ e
   mine_added p versions_nowhere left k = absurd (true≢false (sym left))
-  mine_added p nothing_flushed left k = λ key q low. at_old w memory s (next_of w.writes.pending) has (λ _ _ f. f) key q (le_trans low s.versions.last.flushed) ∙ k key q low
-  mine_added p (frozen_stay n versions) left k = (k.0, λ key q low. at_old w memory s (next_of w.writes.pending) has (λ _ _ f. f) key q (le_trans low k.0) ∙ k.1 key q low)
+  mine_added p nothing_flushed left k = none_flushed_now w memory s (next_of w.writes.pending) has (λ _ _ f. f) k
+  mine_added p (frozen_stay n versions) left k = frozen_now w memory s (next_of w.writes.pending) has (λ _ _ f. f) n versions k
   mine_added p fact left k = k
-
-  others_added : (by j : ℕ) (p : Participant) (fact : Fact) → Holds w.holders write_turn by → j ≢ by → IsGuarded w.holders fact j → SoIn w p fact → SoStored w (record w.store { memory = memory }) p fact
-  others_added by j p versions_in_memory mine ne guard k = absurd (not_theirs w.holders write_turn by j mine ne (guard write_turn refl))
-  others_added by j p versions_nowhere mine ne guard k = absurd (not_theirs w.holders write_turn by j mine ne (guard write_turn refl))
-  others_added by j p nothing_flushed mine ne guard k = λ key q low. at_old w memory s (next_of w.writes.pending) has (λ _ _ f. f) key q (le_trans low s.versions.last.flushed) ∙ k key q low
-  others_added by j p (frozen_stay n versions) mine ne guard k = (k.0, λ key q low. at_old w memory s (next_of w.writes.pending) has (λ _ _ f. f) key q (le_trans low k.0) ∙ k.1 key q low)
-  others_added by j p fact mine ne guard k = k
 
 pub adds_versions : (w : World) (by : ℕ) (a : Actor) (memory : List Version) → get_elem? w.actors by ≡ some a → Needs w by a (add_versions memory) → IsSound w → IsSound (done w by (forgets w.writes.history (length w.cache) (add_versions memory) a) (add_versions memory))
 adds_versions w by a memory at n s =
     store_changes w by a (add_versions memory) (record w.store { memory = memory }) at n.1 (stored_now w memory s (next_of w.writes.pending) n.2 (λ _ _ f. f)) (flushed_now w memory s (next_of w.writes.pending) n.2 (λ _ _ f. f) s.flushed)
-    (record { mine = λ p fact left k. mine_added w memory s n.2 p fact left k; others = λ j p fact ne guard k. others_added w memory s n.2 by j p fact n.0 ne guard k }) s
+    (record { mine = λ p fact left k. mine_added w memory s n.2 p fact left k; others = λ j p fact ne guard k. others_now w memory s (next_of w.writes.pending) n.2 (λ _ _ f. f) by j p fact n.0 ne guard k }) s
 
 -- ---- they go
 
@@ -165,18 +175,11 @@ module _ (w : World) (memory : List Version) (s : IsSound w) (has : HasVersionsA
   mine_taken : (p : Participant) (fact : Fact) → not (ends w.writes.history (length w.cache) (take_versions memory) fact) ≡ true → SoIn w p fact → SoStored w (record w.store { memory = memory }) p fact
   mine_taken p versions_in_memory left k = absurd (true≢false (sym left))
   mine_taken p versions_nowhere left k = λ key. at_next w memory s None has (λ y v f. not_in_none y v _ f) key
-  mine_taken p nothing_flushed left k = λ key q low. at_old w memory s None has (λ y v f. not_in_none y v _ f) key q (le_trans low s.versions.last.flushed) ∙ k key q low
-  mine_taken p (frozen_stay n versions) left k = (k.0, λ key q low. at_old w memory s None has (λ y v f. not_in_none y v _ f) key q (le_trans low k.0) ∙ k.1 key q low)
+  mine_taken p nothing_flushed left k = none_flushed_now w memory s None has (λ y v f. not_in_none y v _ f) k
+  mine_taken p (frozen_stay n versions) left k = frozen_now w memory s None has (λ y v f. not_in_none y v _ f) n versions k
   mine_taken p fact left k = k
-
-  others_taken : (by j : ℕ) (p : Participant) (fact : Fact) → Holds w.holders write_turn by → j ≢ by → IsGuarded w.holders fact j → SoIn w p fact → SoStored w (record w.store { memory = memory }) p fact
-  others_taken by j p versions_in_memory mine ne guard k = absurd (not_theirs w.holders write_turn by j mine ne (guard write_turn refl))
-  others_taken by j p versions_nowhere mine ne guard k = absurd (not_theirs w.holders write_turn by j mine ne (guard write_turn refl))
-  others_taken by j p nothing_flushed mine ne guard k = λ key q low. at_old w memory s None has (λ y v f. not_in_none y v _ f) key q (le_trans low s.versions.last.flushed) ∙ k key q low
-  others_taken by j p (frozen_stay n versions) mine ne guard k = (k.0, λ key q low. at_old w memory s None has (λ y v f. not_in_none y v _ f) key q (le_trans low k.0) ∙ k.1 key q low)
-  others_taken by j p fact mine ne guard k = k
 
 pub takes_versions : (w : World) (by : ℕ) (a : Actor) (memory : List Version) → get_elem? w.actors by ≡ some a → Needs w by a (take_versions memory) → IsSound w → IsSound (done w by (forgets w.writes.history (length w.cache) (take_versions memory) a) (take_versions memory))
 takes_versions w by a memory at n s =
     store_changes w by a (take_versions memory) (record w.store { memory = memory }) at n.1 (stored_now w memory s None n.2 (λ y v f. not_in_none y v _ f)) (flushed_now w memory s None n.2 (λ y v f. not_in_none y v _ f) s.flushed)
-    (record { mine = λ p fact left k. mine_taken w memory s n.2 p fact left k; others = λ j p fact ne guard k. others_taken w memory s n.2 by j p fact n.0 ne guard k }) s
+    (record { mine = λ p fact left k. mine_taken w memory s n.2 p fact left k; others = λ j p fact ne guard k. others_now w memory s None n.2 (λ y v f. not_in_none y v _ f) by j p fact n.0 ne guard k }) s

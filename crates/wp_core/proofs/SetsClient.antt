@@ -17,7 +17,7 @@ use Rattle.wp_core.specs.Sound.Locks.{Owner, owner_of, Has, IsOwner, AreLocked}
 use Rattle.wp_core.specs.IsSound.{IsSound}
 use Rattle.wp_core.proofs.AllParticipants.{still, each_apart}
 use Rattle.wp_core.proofs.AllParts.{SoIn, all_parts, tables_of, views_still, pasts_still, readers_still, turns_still, notes_stay, idle_set, led_still}
-use Rattle.wp_core.proofs.OwnerMoves.{names_apart, direct_apart, key_known}
+use Rattle.wp_core.proofs.OwnerMoves.{owners_apart, key_known}
 
 -- it has no transaction and no direct write
 pub record HasNothing (transactions : Transactions) (direct : Option (List ℕ)) : Type 0 where
@@ -56,10 +56,7 @@ module _ (xs : List Actor) (by : ℕ) (a b : Actor) (at : get_elem? xs by ≡ so
     prepared_names = k.prepared_names;
     prepared_keys = k.prepared_keys;
     had = each_apart owner_of xs by a b at same (IsOwner t) (none_owner t) (λ j i o elsewhere there. k.had j i o there);
-    apart = record {
-      names = names_apart xs by a b at same (λ name x h. absurd (none_now (owner_of b.participant) name x refl h)) k.apart;
-      direct = direct_apart xs by a b at same (λ key h. absurd (none_writes (owner_of b.participant) key refl h)) k.apart;
-    };
+    apart = owners_apart xs by a b at same (λ name x h. absurd (none_now (owner_of b.participant) name x refl h)) (λ key h. absurd (none_writes (owner_of b.participant) key refl h)) k.apart;
     names_had = λ name client h.
         let o = k.names_had name client h in
         ⊎_elim
