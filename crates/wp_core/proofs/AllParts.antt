@@ -136,9 +136,6 @@ module _ (w : World) (s : IsSound w) where
   pub pasts_of : PastsOf w w.actors
   pasts_of = record { holders = s.holders; board = s.board; faults = s.faults; edits = s.edits }
 
-  pub turns_of : TurnsOf w w.actors
-  turns_of = record { held = s.held; have = s.have }
-
   pub readers_of : ReadersOf w w.actors
   readers_of = record { readers = s.readers; judged = s.judged }
 

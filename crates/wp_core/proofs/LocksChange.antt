@@ -1,5 +1,5 @@
--- A step of who holds the locks turn: it changes names, keys and labels, and of its own participant all but snapshots and
--- published numbers.
+-- A step of who holds the locks turn: it changes names, keys and labels, and of its own participant the transactions, the
+-- direct write and the past.
 use Rattle.std.proofs.Common.{◌≡◌, ◌≢◌, ℕ, true, not, List, ◌∷◌, length, map, set, refl, ap, subst, is_some, ◌++◌, [], ◌⊎◌, Some, ◌∙◌, sym}
 use mathlib.Core.Option.{some}
 use Rattle.std.specs.FinMap as finite

@@ -1,5 +1,5 @@
--- Steps that leave the actor's own participant as it was: they keep all parts that speak of participants, and the others
--- where the words and the table that they change are as they should be.
+-- Steps that leave the actor's own participant as it was: what they leave of notes, and all parts where the bound, words or a
+-- table of prepared transactions change.
 use Rattle.std.proofs.Common.{◌≡◌, ◌≢◌, ℕ, true, false, not, List, length, map, set, refl, sym, subst, ◌∙◌, Some}
 use mathlib.Core.Option.{some, some-injective}
 use lib.ListN.{get_elem?}
