@@ -1,14 +1,10 @@
 -- Giving a turn keeps every part of a sound world.
 use Rattle.std.proofs.Common.{◌≡◌, ◌≢◌, ℕ, Bool, true, not, ◌||◌, eq-eqb, true≢false, List, length, map, set, refl, sym, subst, ap, ◌∙◌, Option, Some, None}
-use mathlib.Core.Option.{some, some-injective}
-use mathlib.Core.Logic.{dite}
-use native.Mathlib.Decide.{ℕ_discrete}
+use mathlib.Core.Option.{some}
 use lib.ListN.{get_elem?}
-use Rattle.wp_core.proofs.Frames.{set_else}
 use Rattle.wp_model.specs.declared.entry.Entry.{Entry}
 use Rattle.wp_core.specs.Lists.{IsIn}
 use Rattle.wp_core.specs.Turns.{Turn, Holders, with_holder}
-use Rattle.wp_core.specs.Tables.{Content}
 use Rattle.wp_core.specs.Views.{Fact}
 use Rattle.wp_core.specs.World.{Actor, World, content_of}
 use Rattle.wp_core.specs.Steps.{give_turn}
@@ -19,26 +15,21 @@ use Rattle.wp_core.specs.Notes.{forgets, ends, ends_itself, gives_guard}
 use Rattle.wp_core.specs.Sound.Actors.{AreHeld, HoldersHave, held_of}
 use Rattle.wp_core.specs.Sound.Views.{guarded_by}
 use Rattle.wp_core.specs.IsSound.{IsSound}
-use Rattle.wp_core.proofs.Frames.{map_set, here, each_map_set, at_map}
+use Rattle.wp_core.proofs.Frames.{each_map_set, at_map}
 use Rattle.wp_core.proofs.Gives.{other_holder, still, was, still_held, left_held, in_left}
 use Rattle.wp_core.proofs.Quiet.{idle_after}
 use Rattle.wp_core.proofs.HoldersChange.{holder_changes}
+use Rattle.wp_core.proofs.Changed.{own_have, have_set}
 
 -- ---- what is held
 
 have_after : (h : Holders) (t : Turn) (by : ℕ) (actors : List Actor) (a b : Actor) → get_elem? actors by ≡ some a → b.held ≡ held_without a.held t → HoldersHave h (map held_of actors) → HoldersHave (with_holder h t None) (map held_of (set actors by b))
-have_after h t by actors a b at is have u j holds =
-    let k = was h t u j holds in let o = have u j k.1 in
-    dite (ℕ_discrete j by)
-    (λ (e : j ≡ by). let mine : get_elem? (map held_of actors) by ≡ some a.held = at_map held_of actors by a at in
-    let same : o.0 ≡ a.held = some-injective o.0 a.held (sym o.1 ∙ (ap (get_elem? (map held_of actors)) e ∙ mine)) in (
-      held_without a.held t,
-      ap (get_elem? (map held_of (set actors by b))) e ∙ (at_map held_of (set actors by b) by b (here actors by a b at) ∙ ap some is),
-      o.2,
-      in_left t u o.2 a.held o.4 k.0 (subst (IsIn o.2) same o.3),
-      o.4,
-    ))
-    (λ (ne : j ≢ by). (o.0, ap (λ (z : List (List Content)). get_elem? z j) (map_set held_of actors by b) ∙ (set_else (map held_of actors) by j b.held ne ∙ o.1), o.2, o.3, o.4))
+have_after h t by actors a b at is have = have_set h (with_holder h t None) by actors a b at
+    (λ u holds.
+    let k = was h t u by holds in
+    let o = own_have h by actors a at have u k.1 in
+    (o.0, subst (IsIn o.0) (sym is) (in_left t u o.0 a.held o.2 k.0 o.1), o.2))
+    (λ u j ne holds. (was h t u j holds).1) have
 
 -- ---- notes
 

@@ -23,8 +23,11 @@ use Rattle.wp_core.proofs.OwnersStay.{past_locked}
 use Rattle.wp_core.proofs.PastsGrow.{past_still, past_last, past_before}
 use Rattle.wp_core.proofs.LocksChange.{SoWith, actor_after, actors_after, LocksParts, locks_change, pasts_grown}
 use Rattle.wp_core.proofs.Remembers.{IsQuiet}
-use Rattle.wp_core.proofs.KeepsRemembered.{at_label}
 use Rattle.wp_core.proofs.AllParts.{SoIn}
+
+abbrev at_label : Event → List ℕ
+at_label (told label n) = label
+at_label other = []
 
 module _ (w : World) (by : ℕ) (a : Actor) (label : List ℕ) (at : get_elem? w.actors by ≡ some a) (s : IsSound w) where
   abbrev n : ℕ

@@ -1,6 +1,6 @@
 -- Taking a turn keeps a world sound.
 use Rattle.std.proofs.Common.{◌≡◌, ◌≢◌, inl, inr, ℕ, true≢false, List, [], ◌∷◌, length, map, set, refl, sym, subst, ap, ◌∙◌, Some, None}
-use mathlib.Core.Option.{some, some-injective}
+use mathlib.Core.Option.{some}
 use mathlib.Core.Logic.{dite}
 use native.Mathlib.Decide.{ℕ_discrete}
 use lib.ListN.{get_elem?}
@@ -15,10 +15,12 @@ use Rattle.wp_core.specs.Needs.{Needs}
 use Rattle.wp_core.specs.Notes.{forgets}
 use Rattle.wp_core.specs.Sound.Actors.{AreHeld, HoldersHave, NoneAfter, held_of}
 use Rattle.wp_core.specs.IsSound.{IsSound}
-use Rattle.wp_core.proofs.Frames.{map_set, here, set_else, each_map_set, at_map}
+use Rattle.wp_core.proofs.Frames.{each_map_set, at_map}
 use Rattle.wp_core.proofs.Gives.{now_holder, other_holder, same_turn}
 use Rattle.wp_core.proofs.AllParts.{idle_set}
 use Rattle.wp_core.proofs.HoldersChange.{holder_changes}
+use Rattle.wp_core.proofs.Tests.{same_some}
+use Rattle.wp_core.proofs.Changed.{own_have, have_set}
 
 table_of : (w : World) (t : Turn) → turn_of (content_of w t) ≡ t
 table_of w write_turn = refl
@@ -55,21 +57,17 @@ now_held w t by held free k =
     )
 
 have_after : (w : World) (t : Turn) (by : ℕ) (a b : Actor) → get_elem? w.actors by ≡ some a → b.held ≡ content_of w t ∷ a.held → HoldersHave w.holders (map held_of w.actors) → HoldersHave (with_holder w.holders t (Some by)) (map held_of (set w.actors by b))
-have_after w t by a b at is have u j holds =
-    let mine : get_elem? (map held_of (set w.actors by b)) by ≡ some (content_of w t ∷ a.held) = at_map held_of (set w.actors by b) by b (here w.actors by a b at) ∙ ap some is in
-    dite (ℕ_discrete (turn_index u) (turn_index t))
-    (λ (e : turn_index u ≡ turn_index t).
-    let same : u ≡ t = same_turn t u e in
-    let q : Some by ≡ Some j = sym (now_holder w.holders t (Some by)) ∙ (ap (turn_holder (with_holder w.holders t (Some by))) (sym same) ∙ holds) in
-    let who : by ≡ j = cc in
-    (content_of w t ∷ a.held, subst (λ (i : ℕ). get_elem? (map held_of (set w.actors by b)) i ≡ some (content_of w t ∷ a.held)) who mine, content_of w t, inl refl, table_of w t ∙ sym same))
+have_after w t by a b at is have = have_set w.holders (with_holder w.holders t (Some by)) by w.actors a b at
+    (λ u holds. dite (ℕ_discrete (turn_index u) (turn_index t))
+    (λ (e : turn_index u ≡ turn_index t). (content_of w t, subst (IsIn (content_of w t)) (sym is) (inl refl), table_of w t ∙ sym (same_turn t u e)))
     (λ (ne : turn_index u ≢ turn_index t).
-    let o = have u j (sym (other_holder w.holders t u (Some by) ne) ∙ holds) in
-    dite (ℕ_discrete j by)
-    (λ (e : j ≡ by).
-    let was : o.0 ≡ a.held = some-injective o.0 a.held (sym o.1 ∙ (ap (get_elem? (map held_of w.actors)) e ∙ at_map held_of w.actors by a at)) in
-    (content_of w t ∷ a.held, ap (get_elem? (map held_of (set w.actors by b))) e ∙ mine, o.2, inr (subst (IsIn o.2) was o.3), o.4))
-    (λ (apart : j ≢ by). (o.0, ap (λ (z : List (List Content)). get_elem? z j) (map_set held_of w.actors by b) ∙ (set_else (map held_of w.actors) by j b.held apart ∙ o.1), o.2, o.3, o.4)))
+    let o = own_have w.holders by w.actors a at have u (sym (other_holder w.holders t u (Some by) ne) ∙ holds) in
+    (o.0, subst (IsIn o.0) (sym is) (inr o.1), o.2)))
+    (λ u j apart holds. dite (ℕ_discrete (turn_index u) (turn_index t))
+    (λ (e : turn_index u ≡ turn_index t).
+    let q : Some by ≡ Some j = sym (now_holder w.holders t (Some by)) ∙ (ap (turn_holder (with_holder w.holders t (Some by))) (sym (same_turn t u e)) ∙ holds) in
+    absurd (apart (sym (same_some by j q))))
+    (λ (ne : turn_index u ≢ turn_index t). sym (other_holder w.holders t u (Some by) ne) ∙ holds)) have
 
 -- ---- all parts
 
