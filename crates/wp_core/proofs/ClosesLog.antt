@@ -22,8 +22,8 @@ use Rattle.wp_core.proofs.PastsGrow.{past_before, times_more}
 use Rattle.wp_core.proofs.PendingSteps.{SoPending}
 use Rattle.wp_core.proofs.Quiet.{idle_after}
 use Rattle.wp_core.proofs.Remembers.{holders_still, board_still, edits_still}
-use Rattle.wp_core.proofs.StoresFlag.{not_free}
 use Rattle.wp_core.proofs.AllParts.{SoIn, all_parts, views_still, readers_still, turns_changed, notes_stay, led_still}
+use Rattle.wp_core.proofs.Gives.{not_free}
 
 module _ (w : World) (by : ℕ) (a : Actor) (at : get_elem? w.actors by ≡ some a) (n : Needs w by a close_log) (s : IsSound w) where
   abbrev d : WriteTable

@@ -50,6 +50,14 @@ was h t u j holds = dite (ℕ_discrete (turn_index u) (turn_index t))
     (λ (e : turn_index u ≡ turn_index t). let n : turn_holder (with_holder h t None) u ≡ None = ap (turn_holder (with_holder h t None)) (same_turn t u e) ∙ now_holder h t None in let q : Some j ≡ None = sym holds ∙ n in absurd (cc))
     (λ (ne : turn_index u ≢ turn_index t). (ne, sym (other_holder h t u None ne) ∙ holds))
 
+-- a turn that one actor holds no other holds
+pub not_theirs : (h : Holders) (turn : Turn) (by j : ℕ) → Holds h turn by → j ≢ by → Holds h turn j → ⊥
+not_theirs h turn by j mine ne theirs = let q : Some j ≡ Some by = sym theirs ∙ mine in ne (cc)
+
+-- a turn that somebody holds is not free
+pub not_free : (h : Holders) (turn : Turn) (by : ℕ) → Holds h turn by → turn_holder h turn ≡ None → ⊥
+not_free h turn by mine free = let q : Some by ≡ None = sym mine ∙ free in absurd (cc)
+
 -- ---- what is held
 
 pub still_held : (h : Holders) (contents : Turn → Content) (t : Turn) (by j : ℕ) (held : List Content) → Holds h t by → j ≢ by → AreHeld h contents j held → AreHeld (with_holder h t None) contents j held

@@ -1,10 +1,10 @@
 -- Installing an edit, and the failure of the tables' devices, keep a world sound.
-use Rattle.std.proofs.Common.{◌≡◌, ◌≢◌, ⊎_elim, inl, inr, ℕ, ◌+◌, Bool, true, false, true≢false, not, List, [], ◌∷◌, ◌++◌, length, refl, sym, subst, ap, ◌∙◌, arith, Option, Some, None}
+use Rattle.std.proofs.Common.{◌≡◌, ◌≢◌, ⊎_elim, inl, inr, ℕ, ◌+◌, Bool, true, false, List, [], ◌∷◌, ◌++◌, length, refl, sym, subst, ap, ◌∙◌, arith, Option, Some, None}
 use Rattle.std.proofs.lemmas.List.Sums.{fold-append}
 use mathlib.Core.Option.{some}
 use lib.ListN.{get_elem?}
 use Rattle.wp_core.specs.Lists.{one_if}
-use Rattle.wp_core.specs.Turns.{Holds, tables_turn}
+use Rattle.wp_core.specs.Turns.{tables_turn}
 use Rattle.wp_core.specs.Tables.{InstalledEdit, Installed}
 use Rattle.wp_core.specs.Views.{Event, told, heard, stopped, tables_failed, Fact, nothing_flushed}
 use Rattle.wp_core.specs.Views as event
@@ -12,15 +12,14 @@ use Rattle.wp_core.specs.World.{Actor, Participant, World}
 use Rattle.wp_core.specs.Steps.{install, halt}
 use Rattle.wp_core.specs.Effects.{done, with_failed}
 use Rattle.wp_core.specs.Needs.{Needs}
-use Rattle.wp_core.specs.Notes.{forgets, ends}
+use Rattle.wp_core.specs.Notes.{forgets}
 use Rattle.wp_core.specs.Sound.Pasts.{is_log_fault, is_tables_fault, AreFaults, WasInstalled, due_after, tables_due, AreEdits}
-use Rattle.wp_core.specs.Sound.Views.{IsGuarded}
 use Rattle.wp_core.specs.IsSound.{IsSound}
 use Rattle.wp_core.proofs.PastsGrow.{done_last, past_last, past_before, times_more}
 use Rattle.wp_core.proofs.Remembers.{installed_still}
-use Rattle.wp_core.proofs.StoresFlag.{not_theirs}
 use Rattle.wp_core.proofs.TablesChange.{SoInstalled, edits_grown, actor_after, pasts_after, tables_change}
 use Rattle.wp_core.proofs.AllParts.{SoIn}
+use Rattle.wp_core.proofs.Quiet.{Stays, stays_not}
 
 -- the tables that are due once one more event is in a past
 due_more : (first : InstalledEdit) (past : List Event) (e : Event) → tables_due first (past ++ e ∷ []) ≡ due_after (tables_due first past) e
@@ -28,13 +27,9 @@ due_more first past e = fold-append due_after first.tables past (e ∷ [])
 
 -- ---- an edit is installed
 
-mine_installed : (w : World) (edit : InstalledEdit) (compacts : Bool) (p : Participant) (fact : Fact) → not (ends w.writes.history (length w.cache) (install edit compacts) fact) ≡ true → SoIn w p fact → SoInstalled w (record w.installed { last = edit }) p fact
-mine_installed w edit compacts p nothing_flushed left k = absurd (true≢false (sym left))
-mine_installed w edit compacts p fact left k = k
-
-others_installed : (w : World) (edit : InstalledEdit) (by j : ℕ) (p : Participant) (fact : Fact) → Holds w.holders tables_turn by → j ≢ by → IsGuarded w.holders fact j → SoIn w p fact → SoInstalled w (record w.installed { last = edit }) p fact
-others_installed w edit by j p nothing_flushed mine ne guard k = absurd (not_theirs w.holders tables_turn by j mine ne (guard tables_turn refl))
-others_installed w edit by j p fact mine ne guard k = k
+so_installed : (w : World) (edit : InstalledEdit) (compacts : Bool) (p : Participant) (fact : Fact) → Stays w (install edit compacts) tables_turn fact → SoIn w p fact → SoInstalled w (record w.installed { last = edit }) p fact
+so_installed w edit compacts p nothing_flushed stays k = absurd (stays_not tables_turn stays)
+so_installed w edit compacts p fact stays k = k
 
 module _ (w : World) (by : ℕ) (a : Actor) (edit : InstalledEdit) (at : get_elem? w.actors by ≡ some a) (s : IsSound w) where
   abbrev t : Installed
@@ -88,8 +83,7 @@ installs w by a edit compacts at n s =
       stored = n.2;
       faults = faults_installed w by a edit at s compacts;
       edits = edits_installed w by a edit at s compacts n.3 n.4;
-      mine_so = λ p fact left k. mine_installed w edit compacts p fact left k;
-      others_so = λ j p fact ne guard k. others_installed w edit by j p fact n.0 ne guard k;
+      so = so_installed w edit compacts;
     }) s
 
 -- ---- the devices of the tables failed
@@ -144,6 +138,5 @@ halts w by a edit at n s =
       stored = n.2;
       faults = faults_halted w by a edit at s n.1;
       edits = edits_halted w by a edit at s;
-      mine_so = λ p fact left k. so_halted w edit p fact k;
-      others_so = λ j p fact ne guard k. so_halted w edit p fact k;
+      so = λ p fact stays k. so_halted w edit p fact k;
     }) s

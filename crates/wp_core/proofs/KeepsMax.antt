@@ -1,19 +1,18 @@
 -- Storing the bound keeps every part of a sound world.
-use Rattle.std.proofs.Common.{◌≡◌, ◌≢◌, ◌⊎◌, ⊎_elim, inl, inr, ℕ, suc, ◌<◌, ◌≤◌, nat_le, le_trans, arith, Bool, true, false, not, ◌||◌, ◌&&◌, true≢false, List, length, refl, sym, ap, ◌∙◌, Some, None}
+use Rattle.std.proofs.Common.{◌≡◌, ◌≢◌, ◌⊎◌, ⊎_elim, inl, inr, ℕ, suc, ◌<◌, ◌≤◌, nat_le, le_trans, arith, Bool, true, false, not, ◌||◌, ◌&&◌, List, length, refl, sym, ap, ◌∙◌, Some, None}
 use mathlib.Core.Option.{some}
 use lib.ListN.{get_elem?}
-use Rattle.wp_model.specs.declared.entry.Entry.{Entry}
-use Rattle.wp_core.specs.Turns.{Turn, Holds, write_turn, prepared_turn, Holders}
+use Rattle.wp_core.specs.Turns.{Holds, write_turn, prepared_turn}
 use Rattle.wp_core.specs.Views.{Fact}
 use Rattle.wp_core.specs.World.{Actor, Participant, World}
 use Rattle.wp_core.specs.Steps.{store_max_evicted}
 use Rattle.wp_core.specs.Effects.{done}
 use Rattle.wp_core.specs.Needs.{Needs}
-use Rattle.wp_core.specs.Notes.{forgets, ends}
+use Rattle.wp_core.specs.Notes.{forgets}
 use Rattle.wp_core.specs.Sound.Prepared.{AreFlags}
-use Rattle.wp_core.specs.Sound.Views.{IsSo, guarded_by}
+use Rattle.wp_core.specs.Sound.Views.{IsSo}
 use Rattle.wp_core.specs.IsSound.{IsSound}
-use Rattle.wp_core.proofs.Quiet.{bound_changes}
+use Rattle.wp_core.proofs.Quiet.{Stays, stays_not, notes_by, bound_changes}
 use Rattle.std.proofs.lemmas.Bool.Decides.{nat_tests}
 use Rattle.std.specs.Ordering.{nat_cmp}
 use Rattle.std.specs.declared.cmp.Ordering.TheVariants.{Equal}
@@ -126,30 +125,14 @@ reader_after w m rs r le k = record {
 
 -- ---- notes
 
--- a fact that the store of the bound preserves
-IsPreserved : Fact → Type 0
-IsPreserved (words_stay max cache) = ⊥
-IsPreserved other = Unit {0}
-
-so_after : (w : World) (m : ℕ) (a : Participant) (fact : Fact) → w.max_evicted ≤ m → m ≤ length w.writes.history → IsPreserved fact → IsSo w.delayed_flag w.old_flag w.max_evicted w.cache w.writes w.prepared w.snapshots w.store w.locks w.installed a fact
+so_after : (w : World) (m : ℕ) (a : Participant) (fact : Fact) → w.max_evicted ≤ m → m ≤ length w.writes.history → Stays w (store_max_evicted m) write_turn fact → IsSo w.delayed_flag w.old_flag w.max_evicted w.cache w.writes w.prepared w.snapshots w.store w.locks w.installed a fact
     → IsSo w.delayed_flag w.old_flag m w.cache w.writes (with_moved w.prepared m) w.snapshots w.store w.locks w.installed a fact
-unfolding IsPreserved
 so_after w m a (passed place pair) le low stays k = record { place_within = k.place_within; there = k.there; published_by = k.published_by; so = le_trans k.so le }
 so_after w m a (apart place pair) le low stays k = record { place_within = k.place_within; there = k.there; published_by = k.published_by; so = ⊎_elim (λ (e : is_prepared w.prepared pair.number ≡ false). inl (same_prepared w.prepared m pair.number ∙ e)) (λ (e : finite.get w.prepared.delayed_commits pair.number ≡ Some pair.decision). inr e) k.so }
-so_after w m a (words_stay max cache) le low stays k = absurd stays
+so_after w m a (words_stay max cache) le low stays k = absurd (stays_not write_turn stays)
 so_after w m a number_in_heap le low stays k = let n : ℕ = suc (length w.writes.history) in in_heap w.prepared m n ∙ (λ i. k i && not (above_is n m (omega arith) i))
 so_after w m a number_not_in_heap le low stays k = let n : ℕ = suc (length w.writes.history) in in_heap w.prepared m n ∙ (λ i. k i && not (nat_le n m))
 so_after w m a fact le low stays k = k
-
-mine_preserved : (history : List Entry) (words m : ℕ) (fact : Fact) → not (ends history words (store_max_evicted m) fact) ≡ true → IsPreserved fact
-unfolding IsPreserved
-mine_preserved history words m (words_stay max cache) kept_note = absurd (true≢false (sym kept_note))
-mine_preserved history words m fact kept_note = tt
-
-theirs_preserved : (h : Holders) (by j : ℕ) (fact : Fact) → Holds h write_turn by → j ≢ by → ((turn : Turn) → guarded_by fact ≡ Some turn → Holds h turn j) → IsPreserved fact
-unfolding IsPreserved
-theirs_preserved h by j (words_stay max cache) mine ne guards = let theirs : Holds h write_turn j = guards write_turn refl in let q : Some j ≡ Some by = sym theirs ∙ mine in ne (cc)
-theirs_preserved h by j fact mine ne guards = tt
 
 -- ---- all parts
 
@@ -157,7 +140,4 @@ pub stores_max : (w : World) (by : ℕ) (a : Actor) (m : ℕ) → get_elem? w.ac
 stores_max w by a m at n s =
     bound_changes w by a (store_max_evicted m) m (with_moved w.prepared m) at n.1 (history_after w m n.3 s.history) (decided_after w m n.2 s.decided) (undecided_after w m n.2 s.undecided) (delayed_after w m s.delayed)
     (flags_after w m by n.1 n.4 s.flags) (λ j x there r is. reader_after w m x.0 r n.2 (s.readers j x there r is))
-    (record {
-      mine = λ p fact left k. so_after w m p fact n.2 n.3 (mine_preserved w.writes.history (length w.cache) m fact left) k;
-      others = λ j p fact ne guards k. so_after w m p fact n.2 n.3 (theirs_preserved w.holders by j fact n.0 ne guards) k;
-    }) s
+    (notes_by w by (store_max_evicted m) write_turn _ n.0 (λ p fact stays k. so_after w m p fact n.2 n.3 stays k)) s

@@ -35,8 +35,8 @@ use Rattle.wp_core.proofs.PublishesReaders.{registered_part, readers_part, judge
 use Rattle.wp_core.proofs.PublishesVersions.{stored_part}
 use Rattle.wp_core.proofs.Quiet.{idle_after}
 use Rattle.wp_core.proofs.SnapshotsStep.{among_live}
-use Rattle.wp_core.proofs.StoresFlag.{not_free}
 use Rattle.wp_core.proofs.AllParts.{all_parts, kept_part, pasts_kept, readers_kept, turns_changed, notes_stay, led_still}
+use Rattle.wp_core.proofs.Gives.{not_free}
 
 module _ (w : World) (by : ℕ) (a : Actor) (entry : Entry) (others : List Entry) (at : get_elem? w.actors by ≡ some a) (n : MayPublish w by a entry others) (s : IsSound w) where
   abbrev grown : List Entry

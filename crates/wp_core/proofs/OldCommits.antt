@@ -215,12 +215,6 @@ module _ (w : World) (by : ℕ) (a : Actor) (front back : List Registration) (r 
         smallest = each_person_set registered_of (AreBelowCommitted w.writes.history) w.actors by a b at (below_all w.writes.history (front ++ back) (λ q k. below_smallest w by a q at (subst (IsIn q) (sym mine) (in_with q r front back k)) s)) refl s.registrations.smallest;
       }
 
--- what is left is of the whole
-in_whole : {X : Type 0} (x : X) (front back : List X) (r : X) → IsIn x (front ++ back) → IsIn x (front ++ r ∷ back)
-in_whole x [] back r k = inr k
-in_whole x (y ∷ front) back r (inl e) = inl e
-in_whole x (y ∷ front) back r (inr k) = inr (in_whole x front back r k)
-
 pub releases_one : (w : World) (by : ℕ) (a : Actor) (front back : List Registration) (r : Registration) → get_elem? w.actors by ≡ some a → Needs w by a (release front r back) → IsSound w → IsSound (done w by (forgets w.writes.history (length w.cache) (release front r back) a) (release front r back))
 releases_one w by a front back r at n s =
     let x = registered_there w.writes.history w.snapshots w.actors by a r at (subst (IsIn r) (sym n.1) (in_middle r front back)) s.registrations in
@@ -228,7 +222,7 @@ releases_one w by a front back r at n s =
     (record {
       seen_part = s.seen by 0 a.participant.seen (participants_of seen_of a, at_map (participants_of seen_of) w.actors by a at, refl);
       learned_part = s.learned by a.learned (at_map learned_of w.actors by a at);
-      view_part = λ q there. s.viewed by 0 (view_of a.participant) (mine view_of w.actors by a a at refl) q (subst (IsIn q) (sym n.1) (in_whole q front back r there));
+      view_part = λ q there. s.viewed by 0 (view_of a.participant) (mine view_of w.actors by a a at refl) q (subst (IsIn q) (sym n.1) (in_with q r front back there));
       reads = λ q is. still_reads a.reading (front ++ back) q is;
       none_kept = λ zero_flag t q. none_released w by a front back r x.0 at s n.1 x.1 t q _ refl (s.flags.none_kept zero_flag t q);
     })

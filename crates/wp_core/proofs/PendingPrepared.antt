@@ -1,5 +1,5 @@
 -- The number of a pending Prepare comes into the prepared heap, or goes out of it, soundly.
-use Rattle.std.proofs.Common.{◌≡◌, ◌≢◌, inl, inr, ⊎_elim, ℕ, suc, ◌+◌, ◌||◌, true, false, true≢false, not, List, [], ◌∷◌, ◌++◌, length, refl, sym, subst, ap, ◌∙◌, Some, arith, nat_cmp}
+use Rattle.std.proofs.Common.{◌≡◌, ◌≢◌, inl, inr, ⊎_elim, ℕ, suc, ◌+◌, ◌||◌, true, false, true≢false, List, [], ◌∷◌, ◌++◌, length, sym, subst, ap, ◌∙◌, Some, arith, nat_cmp}
 use mathlib.Core.Option.{some}
 use mathlib.Core.Logic.{dite}
 use native.Mathlib.Decide.{ℕ_discrete}
@@ -20,19 +20,19 @@ use Rattle.wp_core.specs.World.{Participant, Actor, World}
 use Rattle.wp_core.specs.Steps.{add_prepared, take_pending_prepared}
 use Rattle.wp_core.specs.Effects.{done}
 use Rattle.wp_core.specs.Needs.{Needs}
-use Rattle.wp_core.specs.Notes.{forgets, ends}
+use Rattle.wp_core.specs.Notes.{forgets}
 use Rattle.wp_core.specs.Sound.Prepared.{AreFlags, AreUndecided, AreDelayed}
-use Rattle.wp_core.specs.Sound.Views.{IsGuarded, IsApart, IsClearing}
+use Rattle.wp_core.specs.Sound.Views.{IsApart, IsClearing}
 use Rattle.wp_core.specs.IsSound.{IsSound}
 use Rattle.wp_history.proofs.Growth.{entry_at_next}
 use Rattle.wp_history.proofs.Undecided.{undecided_within}
 use Rattle.wp_core.proofs.HistoryLaws.{decided_within}
 use Rattle.wp_core.proofs.Numbers.{in_inserted, in_inserted_else, in_removed, in_removed_else}
-use Rattle.wp_core.proofs.Quiet.{prepared_changes}
-use Rattle.wp_core.proofs.StoresFlag.{not_theirs, not_free}
+use Rattle.wp_core.proofs.Quiet.{Stays, stays_not, notes_by, prepared_changes}
 use Rattle.wp_core.proofs.PreparedSteps.{SoWith, clearing_decided}
 use Rattle.wp_core.proofs.AllParts.{SoIn}
 use Rattle.wp_core.proofs.Tests.{either}
+use Rattle.wp_core.proofs.Gives.{not_free}
 
 -- the heap has of other numbers than the next what it had
 module _ (w : World) (s : IsSound w) (heap : finset.FinSet nat_cmp) (same : (p : ℕ) → p ≢ suc (length w.writes.history) → finset.contains heap p ≡ finset.contains w.prepared.heap p) where
@@ -93,24 +93,18 @@ module _ (w : World) (s : IsSound w) where
       let at : entry_at (h ++ Prepare name batch ∷ []) (suc (length h)) ≡ Some (Prepare name batch) = subst (λ (n : ℕ). entry_at (h ++ Prepare name batch ∷ []) n ≡ Some (Prepare name batch)) (let q : length h + 1 ≡ suc (length h) = omega arith in q) (entry_at_next h (Prepare name batch)) in
       ap (λ (z : List Entry). is_prepare (entry_at (extended h z) (suc (length h)))) e ∙ ap is_prepare at
 
-  mine_with : (a : Participant) (fact : Fact) → not (ends w.writes.history (length w.cache) add_prepared fact) ≡ true → SoIn w a fact → SoWith w (record w.prepared { heap = more }) a fact
-  mine_with a (apart place pair) left k = heap_apart w s more more_else place pair k
-  mine_with a number_in_heap left k = in_inserted w.prepared.heap (suc (length w.writes.history))
-  mine_with a number_not_in_heap left k = absurd (true≢false (sym left))
-  mine_with a fact left k = k
-
-  others_with : (by j : ℕ) (a : Participant) (fact : Fact) → Holds w.holders write_turn by → j ≢ by → IsGuarded w.holders fact j → SoIn w a fact → SoWith w (record w.prepared { heap = more }) a fact
-  others_with by j a (apart place pair) mine ne guard k = heap_apart w s more more_else place pair k
-  others_with by j a number_in_heap mine ne guard k = in_inserted w.prepared.heap (suc (length w.writes.history))
-  others_with by j a number_not_in_heap mine ne guard k = absurd (not_theirs w.holders write_turn by j mine ne (guard write_turn refl))
-  others_with by j a fact mine ne guard k = k
+  so_with : (a : Participant) (fact : Fact) → Stays w add_prepared write_turn fact → SoIn w a fact → SoWith w (record w.prepared { heap = more }) a fact
+  so_with a (apart place pair) stays k = heap_apart w s more more_else place pair k
+  so_with a number_in_heap stays k = in_inserted w.prepared.heap (suc (length w.writes.history))
+  so_with a number_not_in_heap stays k = absurd (stays_not write_turn stays)
+  so_with a fact stays k = k
 
 pub adds_prepared : (w : World) (by : ℕ) (a : Actor) → get_elem? w.actors by ≡ some a → Needs w by a add_prepared → IsSound w → IsSound (done w by (forgets w.writes.history (length w.cache) add_prepared a) add_prepared)
 adds_prepared w by a at n s =
     prepared_changes w by a add_prepared (record w.prepared { heap = more w s }) at n.1
     (heap_undecided w s (more w s) (more_else w s) (λ p e there. ap (λ (m : ℕ). is_prepare (entry_at (extended w.writes.history w.writes.pending) m)) e ∙ prepare_pending w s n.2.0 n.2.1 n.2.2 n.2.3))
     (heap_delayed w s (more w s) (more_else w s)) (heap_flags w s (more w s) (more_else w s) by n.1)
-    (record { mine = λ q fact left k. mine_with w s q fact left k; others = λ j q fact ne guard k. others_with w s by j q fact n.0 ne guard k }) s
+    (notes_by w by add_prepared write_turn _ n.0 (so_with w s)) s
 
 -- ---- it goes
 
@@ -131,20 +125,14 @@ module _ (w : World) (s : IsSound w) where
       (λ (q : finset.contains w.prepared.delayed p ≡ true). let low = s.undecided.delayed_passed p q in let bound = s.history.bounded in absurd (omega (arith, e, low, bound)))
       (either (finset.contains less p) (finset.contains w.prepared.delayed p) there)
 
-  mine_without : (a : Participant) (fact : Fact) → not (ends w.writes.history (length w.cache) take_pending_prepared fact) ≡ true → SoIn w a fact → SoWith w (record w.prepared { heap = less }) a fact
-  mine_without a (apart place pair) left k = heap_apart w s less less_else place pair k
-  mine_without a number_in_heap left k = absurd (true≢false (sym left))
-  mine_without a number_not_in_heap left k = in_removed w.prepared.heap (suc (length w.writes.history))
-  mine_without a fact left k = k
-
-  others_without : (by j : ℕ) (a : Participant) (fact : Fact) → Holds w.holders write_turn by → j ≢ by → IsGuarded w.holders fact j → SoIn w a fact → SoWith w (record w.prepared { heap = less }) a fact
-  others_without by j a (apart place pair) mine ne guard k = heap_apart w s less less_else place pair k
-  others_without by j a number_in_heap mine ne guard k = absurd (not_theirs w.holders write_turn by j mine ne (guard write_turn refl))
-  others_without by j a number_not_in_heap mine ne guard k = in_removed w.prepared.heap (suc (length w.writes.history))
-  others_without by j a fact mine ne guard k = k
+  so_without : (a : Participant) (fact : Fact) → Stays w take_pending_prepared write_turn fact → SoIn w a fact → SoWith w (record w.prepared { heap = less }) a fact
+  so_without a (apart place pair) stays k = heap_apart w s less less_else place pair k
+  so_without a number_in_heap stays k = absurd (stays_not write_turn stays)
+  so_without a number_not_in_heap stays k = in_removed w.prepared.heap (suc (length w.writes.history))
+  so_without a fact stays k = k
 
 pub takes_pending_prepared : (w : World) (by : ℕ) (a : Actor) → get_elem? w.actors by ≡ some a → Needs w by a take_pending_prepared → IsSound w → IsSound (done w by (forgets w.writes.history (length w.cache) take_pending_prepared a) take_pending_prepared)
 takes_pending_prepared w by a at n s =
     prepared_changes w by a take_pending_prepared (record w.prepared { heap = less w s }) at n.1 (heap_undecided w s (less w s) (less_else w s) (none_next w s))
     (heap_delayed w s (less w s) (less_else w s)) (heap_flags w s (less w s) (less_else w s) by n.1)
-    (record { mine = λ q fact left k. mine_without w s q fact left k; others = λ j q fact ne guard k. others_without w s by j q fact n.0 ne guard k }) s
+    (notes_by w by take_pending_prepared write_turn _ n.0 (so_without w s)) s

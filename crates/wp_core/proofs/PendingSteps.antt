@@ -1,5 +1,5 @@
 -- Making an entry pending, logging it and dropping it keep a world sound.
-use Rattle.std.proofs.Common.{◌≡◌, ◌≢◌, inl, inr, ℕ, suc, Bool, true, false, true≢false, not, List, [], ◌∷◌, ◌++◌, length, refl, sym, ap, ◌∙◌, append-nil, arith}
+use Rattle.std.proofs.Common.{◌≡◌, inl, inr, ℕ, suc, Bool, true, false, true≢false, not, List, [], ◌∷◌, ◌++◌, length, refl, sym, ap, ◌∙◌, append-nil, arith, ⊎_elim, Some}
 use mathlib.Core.Option.{some}
 use lib.ListN.{get_elem?}
 use Rattle.wp_model.specs.declared.entry.Entry.{Entry}
@@ -21,14 +21,14 @@ use Rattle.wp_core.specs.Sound.History.{IsHistory, logged_part}
 use Rattle.wp_core.specs.Sound.Pasts.{past_of, AreFaults}
 use Rattle.wp_core.specs.Sound.Prepared.{IsCache, AreUndecided}
 use Rattle.wp_core.specs.Sound.Store.{IsStored}
-use Rattle.wp_core.specs.Sound.Views.{IsSo, IsGuarded}
+use Rattle.wp_core.specs.Sound.Views.{IsSo}
 use Rattle.wp_core.specs.IsSound.{IsSound, participants}
 use Rattle.wp_history.proofs.Growth.{entry_at_old, prepared_within}
-use Rattle.wp_core.proofs.Quiet.{idle_after, NotesStay, noted_after}
+use Rattle.wp_core.proofs.Quiet.{idle_after, NotesStay, Stays, stays_not, notes_by, notes_all, noted_after}
 use Rattle.wp_core.proofs.ReaderFacts.{extended_stays}
-use Rattle.wp_core.proofs.StoresFlag.{not_theirs, not_free}
 use Rattle.wp_core.proofs.AllParts.{SoIn, views_of, readers_still, turns_changed, quiet_step}
 use Rattle.wp_core.proofs.Tests.{none_some}
+use Rattle.wp_core.proofs.Gives.{not_free}
 
 -- the write table with what is pending, whether that is logged, and the log
 abbrev pub with_pending : WriteTable → List Entry → Bool → List Entry → WriteTable
@@ -111,19 +111,17 @@ stored_made w entries none s =
       in_memory = o.in_memory;
     }
 
-mine_made : (w : World) (entries log : List Entry) (logged : Bool) (p : Participant) (fact : Fact) → not (ends w.writes.history (length w.cache) (make_pending entries) fact) ≡ true → SoIn w p fact → SoPending w (with_pending w.writes entries logged log) p fact
-mine_made w entries log logged p versions_in_memory left k = absurd (true≢false (sym left))
-mine_made w entries log logged p fact left k = k
-
-pub others_made : (w : World) (pending log : List Entry) (logged : Bool) (by j : ℕ) (p : Participant) (fact : Fact) → Holds w.holders write_turn by → j ≢ by → IsGuarded w.holders fact j → SoIn w p fact → SoPending w (with_pending w.writes pending logged log) p fact
-others_made w pending log logged by j p versions_in_memory mine ne guard k = absurd (not_theirs w.holders write_turn by j mine ne (guard write_turn refl))
-others_made w pending log logged by j p fact mine ne guard k = k
+-- what stays where another record is pending: only that the pending one is in memory does not
+pub so_pending : (w : World) (step : Step) (pending log : List Entry) (logged : Bool) → ends w.writes.history (length w.cache) step versions_in_memory ≡ true → (p : Participant) (fact : Fact) → Stays w step write_turn fact → SoIn w p fact
+    → SoPending w (with_pending w.writes pending logged log) p fact
+so_pending w step pending log logged ended p versions_in_memory stays k = absurd (stays_not write_turn (⊎_elim (λ (left : not (ends w.writes.history (length w.cache) step versions_in_memory) ≡ true). inl (sym (ap not ended) ∙ left)) (λ (free : Some write_turn ≡ Some write_turn → ⊥). inr free) stays))
+so_pending w step pending log logged ended p fact stays k = k
 
 pub makes_pending : (w : World) (by : ℕ) (a : Actor) (entries : List Entry) → get_elem? w.actors by ≡ some a → Needs w by a (make_pending entries) → IsSound w → IsSound (done w by (forgets w.writes.history (length w.cache) (make_pending entries) a) (make_pending entries))
 makes_pending w by a entries at n s =
     pending_changes w by a (make_pending entries) entries false w.writes.log at n.0 (history_made w entries n.1 n.2 n.3 s) (cache_made w entries n.1 s) (undecided_made w entries n.1 s) (stored_made w entries n.1 s)
     (record { log = s.faults.log; tables = s.faults.tables; not_logged = λ closed. inr refl; stopped = s.faults.stopped })
-    (record { mine = λ p fact left k. mine_made w entries w.writes.log false p fact left k; others = λ j p fact ne guard k. others_made w entries w.writes.log false by j p fact n.0 ne guard k }) s
+    (notes_by w by (make_pending entries) write_turn _ n.0 (so_pending w (make_pending entries) entries w.writes.log false refl)) s
 
 -- ---- it is logged
 
@@ -147,4 +145,4 @@ pub logs_pending : (w : World) (by : ℕ) (a : Actor) → get_elem? w.actors by 
 logs_pending w by a at n s =
     pending_changes w by a log_pending w.writes.pending true (w.writes.log ++ w.writes.pending) at n.0 (history_logged w n.2 s) s.cache s.undecided s.versions
     (record { log = s.faults.log; tables = s.faults.tables; not_logged = λ closed. absurd (true≢false (sym closed ∙ n.3)); stopped = s.faults.stopped })
-    (record { mine = λ p fact left k. so_logged w p fact k; others = λ j p fact ne guard k. so_logged w p fact k }) s
+    (notes_all w by log_pending _ (so_logged w)) s

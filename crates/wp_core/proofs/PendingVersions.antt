@@ -1,5 +1,5 @@
 -- The versions of the pending entry come into memory, and go out of it, soundly.
-use Rattle.std.proofs.Common.{◌≡◌, ◌≢◌, inl, inr, ℕ, suc, ◌≤◌, nat_le, ◌==◌, ◌&&◌, eq-eqb, ne_eqb, Bool, true, false, true≢false, not, cond, List, [], ◌∷◌, ◌++◌, length, refl, sym, ap, ◌∙◌, Option, Some, None, le_trans, arith}
+use Rattle.std.proofs.Common.{◌≡◌, ◌≢◌, inl, inr, ℕ, suc, ◌≤◌, nat_le, ◌==◌, ◌&&◌, eq-eqb, ne_eqb, Bool, true, false, cond, List, [], ◌∷◌, ◌++◌, length, refl, sym, ap, ◌∙◌, Option, Some, None, le_trans, arith}
 use Rattle.std.proofs.lemmas.Bool.{cases_lt}
 use Rattle.std.proofs.lemmas.Bool.Decides.{nat_tests}
 use Rattle.std.specs.Str.{bytes_eq}
@@ -21,14 +21,13 @@ use Rattle.wp_core.specs.Steps.{Step, add_versions, take_versions}
 use Rattle.wp_core.specs.Changes.{held_with, change}
 use Rattle.wp_core.specs.Effects.{done}
 use Rattle.wp_core.specs.Needs.{Needs}
-use Rattle.wp_core.specs.Notes.{forgets, ends}
+use Rattle.wp_core.specs.Notes.{forgets}
 use Rattle.wp_core.specs.Sound.Store.{IsStored, IsFlushedGone, NoneFlushed}
-use Rattle.wp_core.specs.Sound.Views.{IsSo, IsGuarded}
+use Rattle.wp_core.specs.Sound.Views.{IsSo}
 use Rattle.wp_core.specs.IsSound.{IsSound}
 use Rattle.wp_history.proofs.Growth.{entry_at_past}
 use Rattle.wp_core.proofs.AllParts.{SoIn, views_of, pasts_of, readers_still, turns_changed, quiet_step}
-use Rattle.wp_core.proofs.Quiet.{idle_after, NotesStay, noted_after}
-use Rattle.wp_core.proofs.StoresFlag.{not_theirs}
+use Rattle.wp_core.proofs.Quiet.{idle_after, NotesStay, Stays, stays_not, notes_by, noted_after}
 use Rattle.wp_core.proofs.Tests.{both, none_either}
 
 -- ---- look-ups
@@ -132,13 +131,6 @@ module _ (w : World) (memory : List Version) (s : IsSound w) (next : Option Entr
   frozen_now : (n : ℕ) (versions : List Version) → IsFrozen w.writes.history w.store.memory n versions → IsFrozen w.writes.history memory n versions
   frozen_now n versions k = (k.0, λ key p low. at_old key p (le_trans low k.0) ∙ k.1 key p low)
 
-  others_now : (by j : ℕ) (p : Participant) (fact : Fact) → Holds w.holders write_turn by → j ≢ by → IsGuarded w.holders fact j → SoIn w p fact → SoStored w (record w.store { memory = memory }) p fact
-  others_now by j p versions_in_memory mine ne guard k = absurd (not_theirs w.holders write_turn by j mine ne (guard write_turn refl))
-  others_now by j p versions_nowhere mine ne guard k = absurd (not_theirs w.holders write_turn by j mine ne (guard write_turn refl))
-  others_now by j p nothing_flushed mine ne guard k = none_flushed_now k
-  others_now by j p (frozen_stay n versions) mine ne guard k = frozen_now n versions k
-  others_now by j p fact mine ne guard k = k
-
 -- a step of who holds the store turn
 pub store_changes : (w : World) (by : ℕ) (a : Actor) (step : Step) (t : StoreTable) → get_elem? w.actors by ≡ some a → Holds w.holders store_turn by → IsStored w.writes.history w.writes.pending w.snapshots t w.installed
     → IsFlushedGone w.holders.tables t.memory w.installed.last.flushed → NotesStay w by step (SoStored w t) → IsSound w
@@ -154,17 +146,17 @@ store_changes w by a step t at holds stored flushed notes s =
 -- ---- they come
 
 module _ (w : World) (memory : List Version) (s : IsSound w) (has : HasVersionsAt (next_of w.writes.pending) (suc (length w.writes.history)) w.store.memory memory) where
-  mine_added : (p : Participant) (fact : Fact) → not (ends w.writes.history (length w.cache) (add_versions memory) fact) ≡ true → SoIn w p fact → SoStored w (record w.store { memory = memory }) p fact
-  mine_added p versions_in_memory left k = λ key value e. at_next w memory s (next_of w.writes.pending) has (λ _ _ f. f) key ∙ e
-  mine_added p versions_nowhere left k = absurd (true≢false (sym left))
-  mine_added p nothing_flushed left k = none_flushed_now w memory s (next_of w.writes.pending) has (λ _ _ f. f) k
-  mine_added p (frozen_stay n versions) left k = frozen_now w memory s (next_of w.writes.pending) has (λ _ _ f. f) n versions k
-  mine_added p fact left k = k
+  so_added : (p : Participant) (fact : Fact) → Stays w (add_versions memory) write_turn fact → SoIn w p fact → SoStored w (record w.store { memory = memory }) p fact
+  so_added p versions_in_memory stays k = λ key value e. at_next w memory s (next_of w.writes.pending) has (λ _ _ f. f) key ∙ e
+  so_added p versions_nowhere stays k = absurd (stays_not write_turn stays)
+  so_added p nothing_flushed stays k = none_flushed_now w memory s (next_of w.writes.pending) has (λ _ _ f. f) k
+  so_added p (frozen_stay n versions) stays k = frozen_now w memory s (next_of w.writes.pending) has (λ _ _ f. f) n versions k
+  so_added p fact stays k = k
 
 pub adds_versions : (w : World) (by : ℕ) (a : Actor) (memory : List Version) → get_elem? w.actors by ≡ some a → Needs w by a (add_versions memory) → IsSound w → IsSound (done w by (forgets w.writes.history (length w.cache) (add_versions memory) a) (add_versions memory))
 adds_versions w by a memory at n s =
     store_changes w by a (add_versions memory) (record w.store { memory = memory }) at n.1 (stored_now w memory s (next_of w.writes.pending) n.2 (λ _ _ f. f)) (flushed_now w memory s (next_of w.writes.pending) n.2 (λ _ _ f. f) s.flushed)
-    (record { mine = λ p fact left k. mine_added w memory s n.2 p fact left k; others = λ j p fact ne guard k. others_now w memory s (next_of w.writes.pending) n.2 (λ _ _ f. f) by j p fact n.0 ne guard k }) s
+    (notes_by w by (add_versions memory) write_turn _ n.0 (so_added w memory s n.2)) s
 
 -- ---- they go
 
@@ -172,14 +164,14 @@ not_in_none : (key : List ℕ) (value : Option (List ℕ)) (C : Type 0) → vers
 not_in_none key value C e = let q : ◌≡◌ {A = Option (Option (List ℕ))} None (Some value) = e in absurd (cc)
 
 module _ (w : World) (memory : List Version) (s : IsSound w) (has : HasVersionsAt None (suc (length w.writes.history)) w.store.memory memory) where
-  mine_taken : (p : Participant) (fact : Fact) → not (ends w.writes.history (length w.cache) (take_versions memory) fact) ≡ true → SoIn w p fact → SoStored w (record w.store { memory = memory }) p fact
-  mine_taken p versions_in_memory left k = absurd (true≢false (sym left))
-  mine_taken p versions_nowhere left k = λ key. at_next w memory s None has (λ y v f. not_in_none y v _ f) key
-  mine_taken p nothing_flushed left k = none_flushed_now w memory s None has (λ y v f. not_in_none y v _ f) k
-  mine_taken p (frozen_stay n versions) left k = frozen_now w memory s None has (λ y v f. not_in_none y v _ f) n versions k
-  mine_taken p fact left k = k
+  so_taken : (p : Participant) (fact : Fact) → Stays w (take_versions memory) write_turn fact → SoIn w p fact → SoStored w (record w.store { memory = memory }) p fact
+  so_taken p versions_in_memory stays k = absurd (stays_not write_turn stays)
+  so_taken p versions_nowhere stays k = λ key. at_next w memory s None has (λ y v f. not_in_none y v _ f) key
+  so_taken p nothing_flushed stays k = none_flushed_now w memory s None has (λ y v f. not_in_none y v _ f) k
+  so_taken p (frozen_stay n versions) stays k = frozen_now w memory s None has (λ y v f. not_in_none y v _ f) n versions k
+  so_taken p fact stays k = k
 
 pub takes_versions : (w : World) (by : ℕ) (a : Actor) (memory : List Version) → get_elem? w.actors by ≡ some a → Needs w by a (take_versions memory) → IsSound w → IsSound (done w by (forgets w.writes.history (length w.cache) (take_versions memory) a) (take_versions memory))
 takes_versions w by a memory at n s =
     store_changes w by a (take_versions memory) (record w.store { memory = memory }) at n.1 (stored_now w memory s None n.2 (λ y v f. not_in_none y v _ f)) (flushed_now w memory s None n.2 (λ y v f. not_in_none y v _ f) s.flushed)
-    (record { mine = λ p fact left k. mine_taken w memory s n.2 p fact left k; others = λ j p fact ne guard k. others_now w memory s None n.2 (λ y v f. not_in_none y v _ f) by j p fact n.0 ne guard k }) s
+    (notes_by w by (take_versions memory) write_turn _ n.0 (so_taken w memory s n.2)) s

@@ -25,12 +25,12 @@ use Rattle.wp_core.specs.Sound.Views.{IsSo, IsApart, IsClearing}
 use Rattle.wp_core.specs.IsSound.{IsSound}
 use Rattle.wp_core.proofs.HistoryLaws.{decided_within, undecided_not_decided}
 use Rattle.wp_core.proofs.Numbers.{in_removed, in_removed_else, get_inserted, get_inserted_else, get_removed, get_removed_else}
-use Rattle.wp_core.proofs.Quiet.{prepared_changes}
-use Rattle.wp_core.proofs.StoresFlag.{not_free}
+use Rattle.wp_core.proofs.Quiet.{notes_all, prepared_changes}
 use Rattle.wp_core.proofs.ReaderFacts.{pair_ordered, extended_was}
 use Rattle.wp_core.proofs.AllParts.{SoIn}
 use Rattle.wp_core.proofs.AllParticipants.{mine}
 use Rattle.wp_core.proofs.Tests.{same_some, none_some}
+use Rattle.wp_core.proofs.Gives.{not_free}
 
 -- what is noted with these prepared tables in place of the world's
 abbrev pub SoWith : World → PreparedTables → Participant → Fact → Type 0
@@ -120,7 +120,7 @@ pub takes_out : (w : World) (by : ℕ) (a : Actor) (p : ℕ) → get_elem? w.act
 takes_out w by a p at n s =
     let c = n.1.0 in let decided = n.1.1 in
     prepared_changes w by a (take_out p) (without_prepared w.prepared p) at n.0 (out_undecided w p c s decided) (out_delayed w p c s decided) (out_flags w p c s decided by n.0)
-    (record { mine = λ q fact left k. out_so w p c s decided q fact k; others = λ j q fact ne guard k. out_so w p c s decided q fact k }) s
+    (notes_all w by (take_out p) _ (out_so w p c s decided)) s
 
 -- ---- a delayed commit comes
 
@@ -168,4 +168,4 @@ unfolding with_commit
 adds_delayed_commit w by a pair at n s =
     let decided = n.2 in
     prepared_changes w by a (add_delayed_commit pair) (with_commit w pair s decided) at n.0 (commit_undecided w pair s decided) (commit_delayed w pair s decided) (commit_flags w pair s decided by n.0 n.1)
-    (record { mine = λ q fact left k. commit_so w pair s decided q fact k; others = λ j q fact ne guard k. commit_so w pair s decided q fact k }) s
+    (notes_all w by (add_delayed_commit pair) _ (commit_so w pair s decided)) s

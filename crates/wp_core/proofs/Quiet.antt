@@ -1,6 +1,6 @@
 -- Steps that leave the actor's own participant as it was: what they leave of notes, and all parts where the bound, words or a
 -- table of prepared transactions change.
-use Rattle.std.proofs.Common.{◌≡◌, ◌≢◌, ℕ, true, false, not, List, length, map, set, refl, sym, subst, ◌∙◌, Some}
+use Rattle.std.proofs.Common.{◌≡◌, ◌≢◌, ℕ, true, false, not, List, length, map, set, refl, sym, subst, ◌∙◌, Some, ◌⊎◌, inl, true≢false, inr}
 use mathlib.Core.Option.{some, some-injective}
 use lib.ListN.{get_elem?}
 use Rattle.wp_model.specs.PreparedTables.{PreparedTables}
@@ -20,6 +20,7 @@ use Rattle.wp_core.specs.Sound.Views.{IsSo, AreNoted, noter_of, guarded_by}
 use Rattle.wp_core.specs.IsSound.{IsSound}
 use Rattle.wp_core.proofs.Frames.{at_map}
 use Rattle.wp_core.proofs.AllParts.{SoIn, views_of, pasts_of, readers_kept, turns_still, turns_changed, notes_stay, idle_set, quiet_step}
+use Rattle.wp_core.proofs.Gives.{not_theirs}
 
 -- who holds a turn is live
 pub holder_lives : (w : World) (by : ℕ) (a : Actor) (turn : Turn) → get_elem? w.actors by ≡ some a → Holds w.holders turn by → IsSound w → a.live ≡ false → ⊥
@@ -36,6 +37,26 @@ idle_after w by a b turn at holds s same = idle_set w by a b at (λ dead. absurd
 pub record NotesStay (w : World) (by : ℕ) (step : Step) (so : Participant → Fact → Type 0) : Type 0 where
   pub mine : (p : Participant) (fact : Fact) → not (ends w.writes.history (length w.cache) step fact) ≡ true → SoIn w p fact → so p fact
   pub others : (j : ℕ) (p : Participant) (fact : Fact) → j ≢ by → ((turn : Turn) → guarded_by fact ≡ Some turn → Holds w.holders turn j) → SoIn w p fact → so p fact
+
+-- the step does not end the fact, or the turn does not guard it
+abbrev pub Stays : World → Step → Turn → Fact → Type 0
+Stays w step turn fact = (not (ends w.writes.history (length w.cache) step fact) ≡ true) ⊎ (guarded_by fact ≡ Some turn → ⊥)
+
+-- it does not where the step ends the fact and the turn guards it
+pub stays_not : (turn : Turn) → (false ≡ true) ⊎ (Some turn ≡ Some turn → ⊥) → ⊥
+stays_not turn (inl e) = true≢false (sym e)
+stays_not turn (inr ne) = ne refl
+
+-- a step of who holds the turn: what it leaves so of what stays
+pub notes_by : (w : World) (by : ℕ) (step : Step) (turn : Turn) (so : Participant → Fact → Type 0) → Holds w.holders turn by → ((p : Participant) (fact : Fact) → Stays w step turn fact → SoIn w p fact → so p fact) → NotesStay w by step so
+notes_by w by step turn so holds k = record {
+  mine = λ p fact left is. k p fact (inl left) is;
+  others = λ j p fact ne guard is. k p fact (inr (λ e. not_theirs w.holders turn by j holds ne (guard turn e))) is;
+}
+
+-- a step that leaves all that is noted
+pub notes_all : (w : World) (by : ℕ) (step : Step) (so : Participant → Fact → Type 0) → ((p : Participant) (fact : Fact) → SoIn w p fact → so p fact) → NotesStay w by step so
+notes_all w by step so k = record { mine = λ p fact left is. k p fact is; others = λ j p fact ne guard is. k p fact is }
 
 pub noted_after : (w : World) (by : ℕ) (a b : Actor) (step : Step) (so : Participant → Fact → Type 0) → get_elem? w.actors by ≡ some a → b.participant ≡ a.participant → b.notes ≡ (forgets w.writes.history (length w.cache) step a).notes → NotesStay w by step so → IsSound w → AreNoted w.holders so (map noter_of (set w.actors by b))
 noted_after w by a b step so at same notes k s =

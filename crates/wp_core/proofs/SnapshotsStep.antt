@@ -37,8 +37,8 @@ use Rattle.wp_core.proofs.Frames.{map_set, each_map_set, at_map}
 use Rattle.wp_core.proofs.Participants.{each_person_set}
 use Rattle.wp_core.proofs.HistoryLaws.{decision_within}
 use Rattle.wp_core.proofs.Quiet.{idle_after}
-use Rattle.wp_core.proofs.StoresFlag.{not_free}
 use Rattle.wp_core.proofs.AllParts.{SoIn, all_parts, kept_part, locks_still, pasts_still, turns_changed, notes_stay, led_still}
+use Rattle.wp_core.proofs.Gives.{not_free}
 
 -- ---- live numbers
 

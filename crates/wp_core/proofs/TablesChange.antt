@@ -1,5 +1,5 @@
 -- A step of who holds the tables turn: it changes what is installed, and the actor remembers it.
-use Rattle.std.proofs.Common.{◌≡◌, ◌≢◌, ◌⊎◌, ⊎_elim, inl, inr, ℕ, ◌≤◌, not, true, List, [], ◌∷◌, ◌++◌, length, map, set, refl, sym, subst}
+use Rattle.std.proofs.Common.{◌≡◌, ◌≢◌, ◌⊎◌, ⊎_elim, inl, inr, ℕ, ◌≤◌, List, [], ◌∷◌, ◌++◌, length, map, set, refl, sym, subst}
 use mathlib.Core.Option.{some}
 use lib.ListN.{get_elem?}
 use Rattle.wp_core.specs.Turns.{Holds, tables_turn}
@@ -9,19 +9,19 @@ use Rattle.wp_core.specs.World.{Actor, Participant, World, content_of, with_cont
 use Rattle.wp_core.specs.World as world
 use Rattle.wp_core.specs.Steps.{Step}
 use Rattle.wp_core.specs.Changes.{change, held_with, remembers}
-use Rattle.wp_core.specs.Notes.{forgets, ends}
+use Rattle.wp_core.specs.Notes.{forgets}
 use Rattle.wp_core.specs.Sound.Actors.{participants_of, IsParticipantAt}
 use Rattle.wp_core.specs.Sound.Store.{IsStored}
 use Rattle.wp_core.specs.Sound.Pasts.{past_of, AreFaults, WasInstalled, tables_due, OtherCompacts, AreEdits}
-use Rattle.wp_core.specs.Sound.Views.{IsSo, IsGuarded}
+use Rattle.wp_core.specs.Sound.Views.{IsSo}
 use Rattle.wp_core.specs.IsSound.{IsSound}
 use Rattle.wp_core.proofs.AllParticipants.{mine, was_apart}
 use Rattle.wp_core.proofs.OwnersStay.{past_locked}
 use Rattle.wp_core.proofs.PastsGrow.{past_before}
-use Rattle.wp_core.proofs.Quiet.{idle_after}
+use Rattle.wp_core.proofs.Quiet.{idle_after, Stays}
 use Rattle.wp_core.proofs.Remembers.{FindsNothing, TellsNothing, holders_still, board_still, installed_still, compacts_still}
-use Rattle.wp_core.proofs.StoresFlag.{not_free}
 use Rattle.wp_core.proofs.AllParts.{SoIn, all_parts, views_still, readers_still, turns_changed, notes_stay, led_still}
+use Rattle.wp_core.proofs.Gives.{not_theirs, not_free}
 
 -- what is noted, with this in place of what the world has installed
 abbrev pub SoInstalled : World → Installed → Participant → Fact → Type 0
@@ -73,8 +73,7 @@ module _ (w : World) (by : ℕ) (a : Actor) (step : Step) (e : Event) (t : Insta
     pub stored : IsStored w.writes.history w.writes.pending w.snapshots w.store t
     pub faults : AreFaults w.writes t.halted pasts_after
     pub edits : AreEdits w.first_edit t pasts_after
-    pub mine_so : (p : Participant) (fact : Fact) → not (ends w.writes.history (length w.cache) step fact) ≡ true → SoIn w p fact → SoInstalled w t p fact
-    pub others_so : (j : ℕ) (p : Participant) (fact : Fact) → j ≢ by → IsGuarded w.holders fact j → SoIn w p fact → SoInstalled w t p fact
+    pub so : (p : Participant) (fact : Fact) → Stays w step tables_turn fact → SoIn w p fact → SoInstalled w t p fact
 
   -- no fact speaks of a past
   so_past : (p : Participant) (past : List Event) (fact : Fact) → SoInstalled w t p fact → SoInstalled w t (record p { past = past }) fact
@@ -94,6 +93,6 @@ module _ (w : World) (by : ℕ) (a : Actor) (step : Step) (e : Event) (t : Insta
       }) (turns_changed w by a b at c holds refl s)
       (readers_still w by a b at refl s)
       (notes_stay w by a b at step w.holders (SoInstalled w t) refl
-      (λ fact left m. record { guarded = m.guarded; is_so = so_past a.participant (a.participant.past ++ e ∷ []) fact (k.mine_so a.participant fact left m.is_so) })
-      (λ j x fact ne there m. record { guarded = m.guarded; is_so = k.others_so j x.0 fact ne m.guarded m.is_so }) s)
+      (λ fact left m. record { guarded = m.guarded; is_so = so_past a.participant (a.participant.past ++ e ∷ []) fact (k.so a.participant fact (inl left) m.is_so) })
+      (λ j x fact ne there m. record { guarded = m.guarded; is_so = k.so x.0 fact (inr (λ q. not_theirs w.holders tables_turn by j holds ne (m.guarded tables_turn q))) m.is_so }) s)
       (led_still w by a b at refl s) (idle_after w by a b tables_turn at holds s refl)
