@@ -140,18 +140,15 @@ module _ (w : World) (r : Observed) (s : IsSound w) (live : (r.snapshot ≤ leng
   abbrev Knows : Type 0
   Knows = ReaderKnows w.writes.history w.max_evicted w.cache r
 
+  is_absent : InPrepared → Bool
+  is_absent Absent = true
+  is_absent other = false
+
   found_absent : (b : Bool) (o : Option ℕ) → found_in b o ≡ Absent → b ≡ false
+  unfolding is_absent
   found_absent false o e = refl
   found_absent true None e = let t : is_absent Delayed ≡ is_absent Absent = ap is_absent e in absurd (true≢false (sym t))
-    where
-      is_absent : InPrepared → Bool
-      is_absent Absent = true
-      is_absent other = false
   found_absent true (Some c) e = let t : is_absent (Decided c) ≡ is_absent Absent = ap is_absent e in absurd (true≢false (sym t))
-    where
-      is_absent : InPrepared → Bool
-      is_absent Absent = true
-      is_absent other = false
 
   -- once it is found not to be delayed, it is decided
   decided_by_now : ReaderKnows w.writes.history w.max_evicted w.cache r → NotDelayed r.version r.snapshot r.smallest r.first_word r.first_max r.delayed_flag r.in_prepared → (c : ℕ) × (decision_of w.writes.history r.version ≡ Some c)
