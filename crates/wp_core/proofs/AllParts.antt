@@ -33,7 +33,7 @@ use Rattle.wp_core.proofs.AllParticipants.{mine}
 -- ---- the groups
 
 -- the parts that speak of no actor
-pub record Tables (opened : List Entry) (d : WriteTable) (max delayed_flag old_flag : ℕ) (words : List ℕ) (t : PreparedTables) (m : Snapshots) (st : StoreTable) (e : Installed) (h : Holders) : Type 0 where
+pub record TableParts (opened : List Entry) (d : WriteTable) (max delayed_flag old_flag : ℕ) (words : List ℕ) (t : PreparedTables) (m : Snapshots) (st : StoreTable) (e : Installed) (h : Holders) : Type 0 where
   pub history : IsHistory opened d max
   pub cache : IsCache d.history d.pending words
   pub decided : AreDecided d.history words max m
@@ -45,7 +45,7 @@ pub record Tables (opened : List Entry) (d : WriteTable) (max delayed_flag old_f
   pub pending : IsPendingHeld h.write d.pending
 
 -- what the participants saw, published and registered
-pub record Views (opened history : List Entry) (m : Snapshots) (actors : List Actor) : Type 0 where
+pub record ViewParts (opened history : List Entry) (m : Snapshots) (actors : List Actor) : Type 0 where
   pub seen : AreSeen history (map (participants_of seen_of) actors)
   pub learned : AreLearned history (map learned_of actors)
   pub owned : AreOwned opened history (map (participants_of own_of) actors)
@@ -53,39 +53,39 @@ pub record Views (opened history : List Entry) (m : Snapshots) (actors : List Ac
   pub viewed : EachParticipant HasSeen (map (participants_of view_of) actors)
 
 -- the pasts
-pub record Pasts (opened : List Entry) (d : WriteTable) (l : LockTables) (first : InstalledEdit) (e : Installed) (actors : List Actor) : Type 0 where
+pub record PastParts (opened : List Entry) (d : WriteTable) (l : LockTables) (first : InstalledEdit) (e : Installed) (actors : List Actor) : Type 0 where
   pub holders : AreHolders opened d.history l (map (participants_of past_of) actors)
   pub board : IsBoard (length d.history) l (map (participants_of past_of) actors)
   pub faults : AreFaults d e.halted (map (participants_of past_of) actors)
   pub edits : AreEdits first e (map (participants_of past_of) actors)
 
 -- what is held
-pub record Turns (h : Holders) (contents : Turn → Content) (actors : List Actor) : Type 0 where
+pub record TurnParts (h : Holders) (contents : Turn → Content) (actors : List Actor) : Type 0 where
   pub held : EachAt (AreHeld h contents) (map held_of actors)
   pub have : HoldersHave h (map held_of actors)
 
-pub record Readers (history : List Entry) (max : ℕ) (words : List ℕ) (actors : List Actor) : Type 0 where
+pub record ReaderParts (history : List Entry) (max : ℕ) (words : List ℕ) (actors : List Actor) : Type 0 where
   pub readers : AreReaders history max words (map reader_of actors)
   pub judged : AreJudged history (map reader_of actors)
 
 -- the groups of a world, whoever its actors are
 abbrev pub TablesOf : World → Type 0
-TablesOf w = Tables w.opened w.writes w.max_evicted w.delayed_flag w.old_flag w.cache w.prepared w.snapshots w.store w.installed w.holders
+TablesOf w = TableParts w.opened w.writes w.max_evicted w.delayed_flag w.old_flag w.cache w.prepared w.snapshots w.store w.installed w.holders
 
 abbrev pub ViewsOf : World → List Actor → Type 0
-ViewsOf w actors = Views w.opened w.writes.history w.snapshots actors
+ViewsOf w actors = ViewParts w.opened w.writes.history w.snapshots actors
 
 abbrev pub LocksOf : World → List Actor → Type 0
 LocksOf w actors = AreLocked w.writes.history w.locks (map (participants_of owner_of) actors)
 
 abbrev pub PastsOf : World → List Actor → Type 0
-PastsOf w actors = Pasts w.opened w.writes w.locks w.first_edit w.installed actors
+PastsOf w actors = PastParts w.opened w.writes w.locks w.first_edit w.installed actors
 
 abbrev pub TurnsOf : World → List Actor → Type 0
-TurnsOf w actors = Turns w.holders (content_of w) actors
+TurnsOf w actors = TurnParts w.holders (content_of w) actors
 
 abbrev pub ReadersOf : World → List Actor → Type 0
-ReadersOf w actors = Readers w.writes.history w.max_evicted w.cache actors
+ReadersOf w actors = ReaderParts w.writes.history w.max_evicted w.cache actors
 
 -- what is noted in a world
 abbrev pub SoIn : World → Participant → Fact → Type 0
@@ -150,7 +150,7 @@ module _ (w : World) (by : ℕ) (a b : Actor) (at : get_elem? w.actors by ≡ so
   pub kept_part : {X : Type 0} (f : Actor → X) (P : List X → Type 0) → f b ≡ f a → P (map f w.actors) → P (map f (set w.actors by b))
   kept_part f P same k = subst P (sym (kept_map f w.actors by a b at same)) k
 
-  pub views_kept : (opened history : List Entry) (m : Snapshots) → viewer_of b ≡ viewer_of a → Views opened history m w.actors → Views opened history m (set w.actors by b)
+  pub views_kept : (opened history : List Entry) (m : Snapshots) → viewer_of b ≡ viewer_of a → ViewParts opened history m w.actors → ViewParts opened history m (set w.actors by b)
   views_kept opened history m same k = record {
     seen = kept_part (participants_of seen_of) (AreSeen history) (λ i. (same i).0) k.seen;
     learned = kept_part learned_of (AreLearned history) (λ i. (same i).4) k.learned;
@@ -159,7 +159,7 @@ module _ (w : World) (by : ℕ) (a b : Actor) (at : get_elem? w.actors by ≡ so
     viewed = kept_part (participants_of view_of) (EachParticipant HasSeen) (λ i. (same i).3) k.viewed;
   }
 
-  pub pasts_kept : (opened : List Entry) (d : WriteTable) (l : LockTables) (first : InstalledEdit) (e : Installed) → participants_of past_of b ≡ participants_of past_of a → Pasts opened d l first e w.actors → Pasts opened d l first e (set w.actors by b)
+  pub pasts_kept : (opened : List Entry) (d : WriteTable) (l : LockTables) (first : InstalledEdit) (e : Installed) → participants_of past_of b ≡ participants_of past_of a → PastParts opened d l first e w.actors → PastParts opened d l first e (set w.actors by b)
   pasts_kept opened d l first e same k = record {
     holders = kept_part (participants_of past_of) (AreHolders opened d.history l) same k.holders;
     board = kept_part (participants_of past_of) (IsBoard (length d.history) l) same k.board;
@@ -167,7 +167,7 @@ module _ (w : World) (by : ℕ) (a b : Actor) (at : get_elem? w.actors by ≡ so
     edits = kept_part (participants_of past_of) (AreEdits first e) same k.edits;
   }
 
-  pub readers_kept : (history : List Entry) (max : ℕ) (words : List ℕ) → reader_of b ≡ reader_of a → Readers history max words w.actors → Readers history max words (set w.actors by b)
+  pub readers_kept : (history : List Entry) (max : ℕ) (words : List ℕ) → reader_of b ≡ reader_of a → ReaderParts history max words w.actors → ReaderParts history max words (set w.actors by b)
   readers_kept history max words same k = record { readers = kept_part reader_of (AreReaders history max words) same k.readers; judged = kept_part reader_of (AreJudged history) same k.judged }
 
   -- the same of the groups of this world
@@ -187,7 +187,7 @@ module _ (w : World) (by : ℕ) (a b : Actor) (at : get_elem? w.actors by ≡ so
   turns_still same s = record { held = kept_part held_of (EachAt (AreHeld w.holders (content_of w))) same s.held; have = kept_part held_of (HoldersHave w.holders) same s.have }
 
   -- the actor changes a table that it holds
-  pub turns_changed : (e : Content) → Holds w.holders (turn_of e) by → b.held ≡ held_with a.held e → IsSound w → Turns w.holders (content_of (with_content w e)) (set w.actors by b)
+  pub turns_changed : (e : Content) → Holds w.holders (turn_of e) by → b.held ≡ held_with a.held e → IsSound w → TurnParts w.holders (content_of (with_content w e)) (set w.actors by b)
   turns_changed e holds is s = record {
     held = each_map_set held_of (AreHeld w.holders (content_of (with_content w e))) w.actors by b
         (subst (AreHeld w.holders (content_of (with_content w e)) by) (sym is) (holds_changed w e by a.held (s.held by a.held (at_map held_of w.actors by a at))))

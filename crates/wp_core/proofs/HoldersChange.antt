@@ -15,7 +15,7 @@ use Rattle.wp_core.specs.Sound.Prepared.{AreFlags}
 use Rattle.wp_core.specs.Sound.Store.{IsFlushedGone}
 use Rattle.wp_core.specs.Sound.Views.{guarded_by}
 use Rattle.wp_core.specs.IsSound.{IsSound}
-use Rattle.wp_core.proofs.AllParts.{Turns, SoIn, views_of, pasts_of, readers_still, notes_stay, quiet_step}
+use Rattle.wp_core.proofs.AllParts.{TurnParts, SoIn, views_of, pasts_of, readers_still, notes_stay, quiet_step}
 use Rattle.wp_core.proofs.AllParticipants.{mine}
 
 -- the turn has another holder, or none where it may be given
@@ -36,7 +36,7 @@ module _ (w : World) (x : Option ℕ) where
 
   -- all parts, once the actor's turn is taken or given
   pub holder_changes : (by : ℕ) (a : Actor) (step : Step) (t : Turn) (held : List Content) → get_elem? w.actors by ≡ some a → (x ≡ None → MayGive w t)
-      → Turns (with_holder w.holders t x) (content_of w) (set w.actors by (record (forgets w.writes.history (length w.cache) step a) { held = held }))
+      → TurnParts (with_holder w.holders t x) (content_of w) (set w.actors by (record (forgets w.writes.history (length w.cache) step a) { held = held }))
       → ((fact : Fact) (u : Turn) → not (ends w.writes.history (length w.cache) step fact) ≡ true → guarded_by fact ≡ Some u → Holds w.holders u by → Holds (with_holder w.holders t x) u by)
       → ((j : ℕ) (u : Turn) → j ≢ by → Holds w.holders u j → Holds (with_holder w.holders t x) u j) → AreIdle (set w.actors by (record (forgets w.writes.history (length w.cache) step a) { held = held })) → IsSound w
       → IsSound (record w { holders = with_holder w.holders t x; actors = set w.actors by (record (forgets w.writes.history (length w.cache) step a) { held = held }) })

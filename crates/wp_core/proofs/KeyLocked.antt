@@ -13,7 +13,7 @@ use Rattle.wp_core.specs.Changes.{with_key}
 use Rattle.wp_core.specs.Sound.Locks.{Owner, IsOwner}
 use Rattle.wp_core.specs.IsSound.{IsSound}
 use Rattle.wp_core.proofs.Keyed.{now_inserted, inserted_still}
-use Rattle.wp_core.proofs.AllParts.{Pasts, SoIn}
+use Rattle.wp_core.proofs.AllParts.{PastParts, SoIn}
 use Rattle.wp_core.proofs.LocksChange.{SoWith, actors_after, pasts_grown, board_grown}
 
 module _ (w : World) (key : List ℕ) (holder : Holder) (free : finite.get w.locks.keys key ≡ None) where
@@ -36,7 +36,7 @@ module _ (w : World) (key : List ℕ) (holder : Holder) (free : finite.get w.loc
   so_locked q (direct_free c) k = (k.0, held_still c (Client q.client) k.1, k.2)
   so_locked q fact k = k
 
-  pub pasts_locked : (by : ℕ) (a : Actor) (step : Step) (p : Participant) → get_elem? w.actors by ≡ some a → p.past ≡ a.participant.past ++ locked key holder ∷ [] → IsSound w → Pasts w.opened w.writes t w.first_edit w.installed (actors_after w by a step p t)
+  pub pasts_locked : (by : ℕ) (a : Actor) (step : Step) (p : Participant) → get_elem? w.actors by ≡ some a → p.past ≡ a.participant.past ++ locked key holder ∷ [] → IsSound w → PastParts w.opened w.writes t w.first_edit w.installed (actors_after w by a step p t)
   pasts_locked by a step p at grown s =
       pasts_grown w by a step p t at (locked key holder) grown (record { log = refl; tables = refl; due = λ n. refl }) tt (λ n live. inr live)
       (λ k h is. ⊎_elim

@@ -22,7 +22,7 @@ use Rattle.wp_core.specs.Sound.Views.{IsSo}
 use Rattle.wp_core.specs.IsSound.{IsSound, participants}
 use Rattle.wp_core.proofs.Quiet.{idle_after}
 use Rattle.wp_core.proofs.KeepsRemembered.{noter_there}
-use Rattle.wp_core.proofs.AllParts.{Pasts, SoIn, all_parts, tables_of, views_still, pasts_still, readers_still, turns_changed, notes_stay, led_still}
+use Rattle.wp_core.proofs.AllParts.{PastParts, SoIn, all_parts, tables_of, views_still, pasts_still, readers_still, turns_changed, notes_stay, led_still}
 use Rattle.wp_core.proofs.Remembers.{IsQuiet, FindsNothing, TellsNothing, holders_new, board_still, faults_more, edits_more}
 
 -- what is noted, with this table in place of the world's
@@ -45,7 +45,7 @@ module _ (w : World) (by : ℕ) (a : Actor) (step : Step) (p : Participant) (t :
 
   pub record LocksParts : Type 0 where
     pub locks_part : AreLocked w.writes.history t owners_after
-    pub pasts_part : Pasts w.opened w.writes t w.first_edit w.installed actors_after
+    pub pasts_part : PastParts w.opened w.writes t w.first_edit w.installed actors_after
     pub mine : (fact : Fact) → not (ends w.writes.history (length w.cache) step fact) ≡ true → SoIn w a.participant fact → SoWith w t (record a.participant { transactions = p.transactions; direct = p.direct; past = p.past }) fact
     pub others : (j : ℕ) (q : Participant) (fact : Fact) → j ≢ by → IsParticipantAt (participants owner_of w) j 0 (owner_of q) → SoIn w q fact → SoWith w t q fact
 
@@ -62,7 +62,7 @@ module _ (w : World) (by : ℕ) (a : Actor) (step : Step) (p : Participant) (t :
     pub pasts_grown : (e : Event) → p.past ≡ a.participant.past ++ e ∷ [] → IsQuiet e → FindsNothing e
         → ((name : List ℕ) → is_some (finite.get t.names name) ≡ true → ((e ≡ claimed name) ⊎ (e ≡ took name)) ⊎ (is_some (finite.get w.locks.names name) ≡ true))
         → ((key : List ℕ) (holder : Holder) → finite.get t.keys key ≡ Some holder → (e ≡ locked key holder) ⊎ (finite.get w.locks.keys key ≡ Some holder))
-        → IsBoard (world.published w) t (map (participants_of past_of) actors_after) → IsSound w → Pasts w.opened w.writes t w.first_edit w.installed actors_after
+        → IsBoard (world.published w) t (map (participants_of past_of) actors_after) → IsSound w → PastParts w.opened w.writes t w.first_edit w.installed actors_after
     pasts_grown e grown quiet nothing names keys board s = record {
       holders = holders_new w.actors by a actor_after e at refl grown w.opened w.writes.history w.locks t nothing names keys s.holders;
       board = board;
@@ -84,7 +84,7 @@ module _ (w : World) (by : ℕ) (a : Actor) (step : Step) (p : Participant) (t :
 
     -- the pasts, where none grows: what is live was live, and what is held was held
     pub pasts_left : p.past ≡ a.participant.past → t.labels ≡ w.locks.labels → ((name : List ℕ) → is_some (finite.get t.names name) ≡ true → is_some (finite.get w.locks.names name) ≡ true)
-        → ((key : List ℕ) (holder : Holder) → finite.get t.keys key ≡ Some holder → finite.get w.locks.keys key ≡ Some holder) → IsSound w → Pasts w.opened w.writes t w.first_edit w.installed actors_after
+        → ((key : List ℕ) (holder : Holder) → finite.get t.keys key ≡ Some holder → finite.get w.locks.keys key ≡ Some holder) → IsSound w → PastParts w.opened w.writes t w.first_edit w.installed actors_after
     pasts_left same labels names keys s =
         let k = pasts_still w by a actor_after at (λ i. same i ∷ map past_of a.joined) s in
         let o = k.holders in
