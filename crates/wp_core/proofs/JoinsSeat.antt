@@ -112,7 +112,7 @@ pub joins_seat : (w : World) (by : ℕ) (a : Actor) (other : ℕ) (o : Actor) �
     → IsSound (done w by (forgets w.writes.history (length w.cache) (join_seat other o) a) (join_seat other o))
 joins_seat w by a other o at needs s =
     let b : Actor = joins (forgets w.writes.history (length w.cache) (join_seat other o) a) o in
-    let same : StaysAs a b = stays_but a (λ (f : Fact). not (ends w.writes.history (length w.cache) (join_seat other o) f)) b.learned b.joined in
+    let same : StaysAs a b = stays_but a (λ (f : Fact). not (ends w.writes.history (length w.cache) (join_seat other o) f)) b.learned b.made b.joined in
     let there = needs.2 in
     let alone = (s.led.others other (role_of o) (at_map role_of w.actors other o there) (λ e. needs.1 (e ∙ sym needs.0))).1 in
     actors_move (row by other) (place by other) w (left w by other a b o at there needs.1 same s) by a at (moves w by other a b o at there needs.1 same s refl alone)

@@ -78,7 +78,7 @@ pub learns : (w : World) (by : ℕ) (a : Actor) (other : ℕ) (o : Actor) → ge
     → IsSound (done w by (forgets w.writes.history (length w.cache) (learn other o) a) (learn other o))
 learns w by a other o at needs s =
     let b : Actor = informed (forgets w.writes.history (length w.cache) (learn other o) a) o in
-    let same : StaysAs a b = stays_but a (λ (f : Fact). not (ends w.writes.history (length w.cache) (learn other o) f)) b.learned b.joined in
+    let same : StaysAs a b = stays_but a (λ (f : Fact). not (ends w.writes.history (length w.cache) (learn other o) f)) b.learned b.made b.joined in
     let idle = s.idle other o needs.1 needs.2 in
     let led = s.led.others other (role_of o) (at_map role_of w.actors other o needs.1) (not_first w other o s needs.1 needs.2) in
     let role : role_of joined_actor ≡ role_of o = λ i. record { live = sym needs.2 i; made = sym led.0 i; joined = sym led.1 i } in
