@@ -1,5 +1,5 @@
 -- Freeing a key of a transaction keeps every part of a sound world.
-use Rattle.std.proofs.Common.{◌≡◌, ◌≢◌, ◌⊎◌, ◌&&◌, Bool, not, ⊎_elim, ℕ, true, false, true≢false, List, length, refl, sym, subst, ap, ◌∙◌, Some, None, inl}
+use Rattle.std.proofs.Common.{◌≡◌, ◌&&◌, Bool, not, ⊎_elim, ℕ, true, false, true≢false, List, length, refl, sym, subst, ap, ◌∙◌, Some, None, inl}
 use mathlib.Core.Option.{some}
 use lib.ListN.{get_elem?}
 use Rattle.std.specs.FinSet as words
@@ -28,7 +28,8 @@ use Rattle.wp_core.proofs.AllParticipants.{mine, was, each_apart}
 use Rattle.wp_core.proofs.HistoryHolders.{none_named}
 use Rattle.wp_core.proofs.LocksChange.{SoWith, actor_after, owners_after, LocksParts, locks_change, pasts_left}
 use Rattle.wp_core.proofs.AllParts.{SoIn}
-use Rattle.wp_core.proofs.OtherKeys.{has_now, had_name, has_still, nobody_else, owns_still, each_key, unprepared_still}
+use Rattle.wp_core.proofs.OtherKeys.{has_now, had_name, has_still, owns_still, each_key, unprepared_still}
+use Rattle.wp_core.proofs.OtherOwners.{KeepsOthers, others_own, others_so}
 
 -- ---- sets of keys
 
@@ -82,14 +83,8 @@ module _ (w : World) (by : ℕ) (a : Actor) (name : List ℕ) (x0 : Transaction)
   held_before : (k : List ℕ) (holder : Holder) → finite.get t.keys k ≡ Some holder → (k ≡ key → ⊥) × (finite.get w.locks.keys k ≡ Some holder)
   held_before k holder h = still_there w.locks.keys key holder k h
 
-  other_owner : (j i : ℕ) (o : Owner) → ((j ≢ by) ⊎ (i ≢ 0)) → IsParticipantAt (participants owner_of w) j i o → IsOwner t o
-  other_owner j i o elsewhere there =
-      let k = s.locks.had j i o there in
-      record {
-        names = k.names;
-        keys = λ n x c h held. txn_still c n (nobody_else w by a name x0 x1 at has s j i o n x elsewhere there h) (k.keys n x c h held);
-        direct = λ c h. direct_held c o.client (k.direct c h);
-      }
+  keeps_others : KeepsOthers w name t
+  keeps_others = record { names = λ n ne. refl; transactions = txn_still; directs = direct_held }
 
   own_owner : IsOwner t (owner_of p)
   own_owner =
@@ -124,7 +119,7 @@ module _ (w : World) (by : ℕ) (a : Actor) (name : List ℕ) (x0 : Transaction)
   locked_part = record {
     prepared_names = s.locks.prepared_names;
     prepared_keys = prepared_keys;
-    had = each_apart owner_of w.actors by a b at refl (IsOwner t) own_owner other_owner;
+    had = each_apart owner_of w.actors by a b at refl (IsOwner t) own_owner (others_own w by a name x0 at has s t keeps_others);
     apart = owners_apart w.actors by a b at refl (λ n x h. inl (had_name w by a name x0 x1 at has n x h)) (λ c h. inl h) s.locks.apart;
     names_had = λ n c h. name_still n c (s.locks.names_had n c h);
     names_left = s.locks.names_left;
@@ -144,17 +139,12 @@ module _ (w : World) (by : ℕ) (a : Actor) (name : List ℕ) (x0 : Transaction)
   mine_still (direct_free c) k = (k.0, direct_held c client k.1, k.2)
   mine_still fact k = k
 
-  others_still : (q : Participant) (fact : Fact) → SoIn w q fact → SoWith w t q fact
-  others_still q (undecided_at n m) k = (k.0, k.1, k.2, λ c h. txn_still c n (other_name n m k.1) (k.3 c h))
-  others_still q (direct_free c) k = (k.0, direct_held c q.client k.1, k.2)
-  others_still q fact k = k
-
   parts : LocksParts w by a (free_key name x0 key) p t
   parts = record {
     locks_part = locked_part;
     pasts_part = pasts_left w by a (free_key name x0 key) p t at refl refl (λ n live. live) (λ c holder h. (held_before c holder h).1) s;
     mine = λ fact left k. mine_still fact k;
-    others = λ j q fact ne there k. others_still q fact k;
+    others = others_so w by a name x0 at has s t keeps_others;
   }
 
 pub frees_key : (w : World) (by : ℕ) (a : Actor) (name : List ℕ) (x0 : Transaction) (key : List ℕ) → get_elem? w.actors by ≡ some a → Needs w by a (free_key name x0 key) → IsSound w

@@ -29,8 +29,9 @@ use Rattle.wp_core.proofs.PastsGrow.{in_front}
 use Rattle.wp_core.proofs.LocksChange.{SoWith, actor_after, owners_after, LocksParts, locks_change}
 use Rattle.wp_core.proofs.AllParts.{SoIn}
 use Rattle.wp_core.proofs.KeyLocked.{held_still, held_now, owner_locked, so_locked, pasts_locked}
-use Rattle.wp_core.proofs.OtherKeys.{has_now, had_name, has_still, nobody_else, owns_still, each_key, unprepared_still}
+use Rattle.wp_core.proofs.OtherKeys.{has_now, had_name, has_still, owns_still, each_key, unprepared_still}
 use Rattle.wp_core.proofs.Tests.{or_true}
+use Rattle.wp_core.proofs.OtherOwners.{nobody_else}
 
 -- ---- sets of keys
 
@@ -106,7 +107,7 @@ module _ (w : World) (by : ℕ) (a : Actor) (name : List ℕ) (x0 : Transaction)
 
       both : ((k ≡ key) × (Txn name ≡ Txn n)) ⊎ ((k ≡ key → ⊥) × (finite.get w.locks.keys k ≡ Some (Txn n))) → ((j ≡ by) × (i ≡ 0) × (o ≡ owner_of p)) ⊎ (((j ≢ by) ⊎ (i ≢ 0)) × IsParticipantAt (participants owner_of w) j i o) → words.contains x.locked k ≡ true
       both held (inl g) = own_case held (subst (λ (z : Owner). Has z n x) g.2 there_has)
-      both (inl g) (inr v) = let same : name ≡ n = let f = g.1 in cc in absurd (nobody_else w by a name x0 x1 at has s j i o n x v.0 v.1 there_has (sym same))
+      both (inl g) (inr v) = let same : name ≡ n = let f = g.1 in cc in absurd (nobody_else w by a name x0 at has s j i o n x v.0 v.1 there_has (sym same))
       both (inr g) (inr v) = s.locks.keys_known k n g.1 j i o v.1 x there_has
 
   keys_direct : (k c : List ℕ) → finite.get t.keys k ≡ Some (Client c) → IsDirectOf after k c

@@ -75,11 +75,9 @@ module _ (w : World) (by : ℕ) (a : Actor) (name : List ℕ) (x0 : Transaction)
   freed_one : Drops w name t (free_transaction name)
   freed_one = record {
     labels = refl;
-    names = λ n ne. else_removed w.locks.names name n ne;
+    others = record { names = λ n ne. else_removed w.locks.names name n ne; transactions = transactions; directs = directs };
     nobody = λ c h. let f : None ≡ Some (Some c) = sym (at_removed w.locks.names name name refl) ∙ h in absurd cc;
     left = λ h. let f : None ≡ Some None = sym (at_removed w.locks.names name name refl) ∙ h in absurd cc;
-    transactions = transactions;
-    directs = directs;
     transactions_were = λ k n h. were k (Txn n) h;
     directs_were = λ k c h. were k (Client c) h;
     prepared_names = λ q u. ap is_some (else_removed w.locks.names name (name_at w.writes.history q) (λ same. none_named w.writes.history name q unprepared u same)) ∙ s.locks.prepared_names q u;

@@ -39,6 +39,7 @@ pub mod KeepsRemembered
 pub mod Keyed
 pub mod LocksChange
 pub mod KeyLocked
+pub mod OtherOwners
 pub mod OtherKeys
 pub mod GainsTransaction
 pub mod KeepsClaimed

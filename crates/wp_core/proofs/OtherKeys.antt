@@ -1,16 +1,12 @@
 -- A transaction of an actor has other keys than it had: what the actor has now, and what that leaves of who has what.
-use Rattle.std.proofs.Common.{◌≡◌, ◌≢◌, ◌⊎◌, ⊎_elim, ℕ, true, List, refl, sym, subst, ap, ◌∙◌, Some, None}
+use Rattle.std.proofs.Common.{◌≡◌, ◌⊎◌, ⊎_elim, ℕ, true, List, refl, sym, subst, ap, ◌∙◌, Some, None}
 use mathlib.Core.Option.{some}
 use lib.ListN.{get_elem?}
 use Rattle.std.specs.FinMap as finite
 use Rattle.std.specs.FinSet as words
 use Rattle.wp_model.specs.History.{holder_of}
 use Rattle.wp_core.specs.World.{Transaction, Participant, Actor, World}
-use Rattle.wp_core.specs.Sound.Actors.{IsParticipantAt}
-use Rattle.wp_core.specs.Sound.Locks.{Owner, owner_of, Has}
 use Rattle.wp_core.specs.Sound.Views.{Owns}
-use Rattle.wp_core.specs.IsSound.{IsSound, participants}
-use Rattle.wp_core.proofs.AllParticipants.{mine}
 use Rattle.wp_core.proofs.Keyed.{is_word_same, at_inserted, else_inserted, now_inserted}
 use Rattle.wp_core.proofs.Gives.{was}
 
@@ -32,12 +28,6 @@ module _ (w : World) (by : ℕ) (a : Actor) (name : List ℕ) (x0 x1 : Transacti
   has_still n y h = ⊎_elim
       (λ (q : n ≡ name). (x1, at_inserted a.participant.transactions name x1 n q))
       (λ (ne : n ≡ name → ⊥). (y, else_inserted a.participant.transactions name x1 n ne ∙ h)) (is_word_same n name)
-
-  -- nobody else has the transaction
-  pub nobody_else : IsSound w → (j i : ℕ) (o : Owner) (n : List ℕ) (x : Transaction) → ((j ≢ by) ⊎ (i ≢ 0)) → IsParticipantAt (participants owner_of w) j i o → Has o n x → n ≡ name → ⊥
-  nobody_else s j i o n x elsewhere there h is =
-      let same = s.locks.apart.names j i by 0 o (owner_of a.participant) name x x0 there (mine owner_of w.actors by a a at refl) (subst (λ (z : List ℕ). Has o z x) is h) has in
-      ⊎_elim (λ (ne : j ≢ by). ne same.0) (λ (ne : i ≢ 0). ne same.1) elsewhere
 
   pub owns_still : (n : List ℕ) → Owns a.participant n → Owns p n
   owns_still n k = has_still n k.0 k.1
