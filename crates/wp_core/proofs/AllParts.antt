@@ -28,7 +28,6 @@ use Rattle.wp_core.specs.Sound.Views.{IsSo, AreNoted, IsNoted, noter_of}
 use Rattle.wp_core.specs.IsSound.{IsSound}
 use Rattle.wp_core.proofs.Frames.{kept_map, each_map_set, each_set, at_map, in_filter}
 use Rattle.wp_core.proofs.Changed.{others_hold, holds_changed, have_changed}
-use Rattle.wp_core.proofs.AllParticipants.{mine}
 
 -- ---- the groups
 

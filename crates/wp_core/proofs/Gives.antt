@@ -64,9 +64,6 @@ pub still_held : (h : Holders) (contents : Turn → Content) (t : Turn) (by j : 
 still_held h contents t by j [] mine ne k = tt
 still_held h contents t by j (c ∷ others) mine ne k = (still h t (turn_of c) by j mine ne k.0, k.1, k.2, still_held h contents t by j others mine ne k.3)
 
-is_other : Turn → Content → Bool
-is_other t c = not (turn_index (turn_of c) == turn_index t)
-
 one_after : (t u : Turn) (c : Content) (others : List Content) (b : Bool) → (turn_of c ≢ u) → NoneAfter u (held_without others t) → NoneAfter u (cond b (c ∷ held_without others t) (held_without others t))
 one_after t u c others true ne k = (ne, k)
 one_after t u c others false ne k = k

@@ -16,7 +16,6 @@ use Rattle.wp_core.specs.Sound.Store.{IsFlushedGone}
 use Rattle.wp_core.specs.Sound.Views.{guarded_by}
 use Rattle.wp_core.specs.IsSound.{IsSound}
 use Rattle.wp_core.proofs.AllParts.{TurnParts, SoIn, views_of, pasts_of, readers_still, notes_stay, quiet_step}
-use Rattle.wp_core.proofs.AllParticipants.{mine}
 
 -- the turn has another holder, or none where it may be given
 module _ (w : World) (x : Option ℕ) where

@@ -16,8 +16,8 @@ use Rattle.wp_core.specs.Notes.{forgets}
 use Rattle.wp_core.specs.Sound.Pasts.{is_log_fault, is_tables_fault, AreFaults, WasInstalled, due_after, tables_due, AreEdits}
 use Rattle.wp_core.specs.IsSound.{IsSound}
 use Rattle.wp_core.proofs.PastsGrow.{done_last, past_last, past_before, times_more}
-use Rattle.wp_core.proofs.Remembers.{installed_still}
-use Rattle.wp_core.proofs.TablesChange.{SoInstalled, edits_grown, actor_after, pasts_after, tables_change}
+use Rattle.wp_core.proofs.Remembers.{installed_still, edits_grown}
+use Rattle.wp_core.proofs.TablesChange.{SoInstalled, actor_after, pasts_after, tables_change}
 use Rattle.wp_core.proofs.AllParts.{SoIn}
 use Rattle.wp_core.proofs.Quiet.{Stays, stays_not}
 
@@ -55,7 +55,7 @@ module _ (w : World) (by : ℕ) (a : Actor) (edit : InstalledEdit) (at : get_ele
   edits_flushed more =
       let e : Event = event.installed edit.flushed edit.tables false in
       let b : Actor = actor_after w by a (install edit false) e t in
-      edits_grown w.actors by a b e at refl refl w.first_edit w.installed t tt (inr (edit.tables, past_last w.actors by a b e at refl refl))
+      edits_grown w.actors by a b e at refl refl w.first_edit w.installed t (λ n q. absurd cc) (inr (edit.tables, past_last w.actors by a b e at refl refl))
       (λ due. let q = due_more w.first_edit a.participant.past e in omega arith)
       (λ j i past apart due. inl (omega arith)) s.edits
 
@@ -65,7 +65,7 @@ module _ (w : World) (by : ℕ) (a : Actor) (edit : InstalledEdit) (at : get_ele
       let e : Event = event.installed edit.flushed edit.tables true in
       let b : Actor = actor_after w by a (install edit true) e t in
       let last = installed_still w.actors by a b e at refl refl w.first_edit w.installed.last.flushed s.edits.last in
-      edits_grown w.actors by a b e at refl refl w.first_edit w.installed t tt (subst (WasInstalled w.first_edit (pasts_after w by a (install edit true) e t)) (sym keeps) last)
+      edits_grown w.actors by a b e at refl refl w.first_edit w.installed t (λ n q. absurd cc) (subst (WasInstalled w.first_edit (pasts_after w by a (install edit true) e t)) (sym keeps) last)
       (λ due. let q = due_more w.first_edit a.participant.past e in omega arith)
       (λ j i past apart due. inr (by, 0, edit.flushed, edit.tables, ⊎_elim (λ (ne : j ≢ by). inl (λ q. ne (sym q))) (λ (ne : i ≢ 0). inr (λ q. ne (sym q))) apart, done_last w.actors by a b e at refl refl)) s.edits
 
@@ -125,7 +125,7 @@ module _ (w : World) (by : ℕ) (a : Actor) (edit : Option InstalledEdit) (at : 
       let same : u.last ≡ w.installed.last = still_last w.installed edit in
       let last = installed_still w.actors by a b tables_failed at refl refl w.first_edit w.installed.last.flushed s.edits.last in
       let tables : u.last.tables ≡ w.installed.last.tables = ap (λ (z : InstalledEdit). z.tables) same in
-      edits_grown w.actors by a b tables_failed at refl refl w.first_edit w.installed u tt (subst (λ (z : InstalledEdit). WasInstalled w.first_edit (pasts_after w by a (halt edit) tables_failed u) z.flushed) (sym same) last)
+      edits_grown w.actors by a b tables_failed at refl refl w.first_edit w.installed u (λ n q. absurd cc) (subst (λ (z : InstalledEdit). WasInstalled w.first_edit (pasts_after w by a (halt edit) tables_failed u) z.flushed) (sym same) last)
       (λ due. let q = due_more w.first_edit a.participant.past tables_failed in omega arith)
       (λ j i past apart due. inl (omega arith)) s.edits
 

@@ -29,7 +29,6 @@ use Rattle.wp_core.specs.Tables.{NoneDelayed, with_moved}
 use Rattle.wp_core.specs.Sound.History.{IsHistory}
 use Rattle.wp_core.specs.Sound.Prepared.{AreDecided, AreUndecided, AreDelayed, IsPassed}
 use Rattle.wp_core.specs.Sound.Reader.{IsPassedBy, IsReader}
-use Rattle.wp_core.proofs.AllParticipants.{mine}
 use Rattle.wp_core.proofs.Tests.{both, either}
 
 -- ---- the moved numbers

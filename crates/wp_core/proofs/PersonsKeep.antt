@@ -21,7 +21,6 @@ use Rattle.wp_core.specs.Sound.Snapshots.{registered_of, AreBelowCommitted, AreR
 use Rattle.wp_core.specs.Sound.Locks.{Owner, owner_of, Has, IsOwner, AreLocked}
 use Rattle.wp_core.specs.Sound.Pasts.{past_of, HasDone, IsPast, IsAccounted, WasLocked, AreHolders, IsBoard, is_log_fault, is_tables_fault, AreFaults, WasInstalled, due_after, tables_due, OtherCompacts, AreEdits}
 use Rattle.wp_core.proofs.Persons.{IsNone, Moves, same_there, apart_still, CameWith, IsOfNone, came_from, goes_to, total_same}
-use Rattle.wp_core.proofs.AllParticipants.{mine}
 
 -- ---- what one has that has nothing
 

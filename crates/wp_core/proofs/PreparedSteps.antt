@@ -28,7 +28,6 @@ use Rattle.wp_core.proofs.Numbers.{in_removed, in_removed_else, get_inserted, ge
 use Rattle.wp_core.proofs.Quiet.{notes_all, prepared_changes}
 use Rattle.wp_core.proofs.ReaderFacts.{pair_ordered, extended_was}
 use Rattle.wp_core.proofs.AllParts.{SoIn}
-use Rattle.wp_core.proofs.AllParticipants.{mine}
 use Rattle.wp_core.proofs.Tests.{same_some, none_some}
 use Rattle.wp_core.proofs.Gives.{not_free}
 

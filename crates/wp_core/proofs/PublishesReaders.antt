@@ -17,7 +17,6 @@ use Rattle.wp_core.proofs.HistoryGrows.{committed_old, committed_stays, grown_le
 use Rattle.wp_core.proofs.HistoryLaws.{decision_stays}
 use Rattle.wp_core.proofs.KeepsRemembered.{from_map}
 use Rattle.wp_core.proofs.Registered.{total_at, some_counted, registered_live}
-use Rattle.wp_core.proofs.AllParticipants.{mine}
 
 -- a registered number is at most the published one
 pub number_within : (history : List Entry) (snapshots : Snapshots) (registered : List (List (List Registration))) (j i k : ℕ) (rs : List Registration) (r : Registration) → AreRegistered history snapshots registered → IsParticipantAt registered j i rs → get_elem? rs k ≡ some r → r.number ≤ length history

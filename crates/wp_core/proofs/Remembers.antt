@@ -1,5 +1,5 @@
 -- What is so of all pasts, once one actor's past has an event more that installs nothing and is no fault.
-use Rattle.std.proofs.Common.{◌≡◌, ◌⊎◌, ⊎_elim, inl, inr, ℕ, ◌≤◌, Bool, true, false, List, [], ◌∷◌, ◌++◌, length, map, set, sym, subst, ap, ◌∙◌, arith, Option, is_some, Some}
+use Rattle.std.proofs.Common.{◌≡◌, ◌⊎◌, ⊎_elim, inl, inr, ℕ, ◌≤◌, Bool, true, false, List, [], ◌∷◌, ◌++◌, length, map, set, sym, subst, ap, ◌∙◌, arith, Option, is_some, Some, ◌≢◌}
 use Rattle.std.proofs.lemmas.List.Sums.{fold-append}
 use mathlib.Core.Option.{some}
 use lib.ListN.{get_elem?}
@@ -13,7 +13,7 @@ use Rattle.wp_core.specs.Views.{Account, own, another, prepare_at, Event, claime
 use Rattle.wp_core.specs.World.{Actor}
 use Rattle.wp_core.specs.Sound.Actors.{participants_of, IsParticipantAt}
 use Rattle.wp_core.specs.Sound.Pasts.{past_of, IsPast, IsAccounted, WasLocked, AreHolders, IsBoard, is_log_fault, is_tables_fault, AreFaults, WasInstalled, due_after, tables_due, OtherCompacts, AreEdits}
-use Rattle.wp_core.proofs.AllParticipants.{mine, was}
+use Rattle.wp_core.proofs.AllParticipants.{mine, was_apart}
 use Rattle.wp_core.proofs.PastsGrow.{done_still, done_before, past_still, past_last, past_before, times_more}
 
 -- it installs nothing, and is no fault
@@ -121,26 +121,32 @@ module _ (xs : List Actor) (by : ℕ) (a b : Actor) (e : Event) (at : get_elem? 
   due_same : (first : InstalledEdit) → ((n : ℕ) → due_after n e ≡ n) → tables_due first b.participant.past ≡ tables_due first a.participant.past
   due_same first due = ap (tables_due first) grown ∙ fold-append due_after first.tables a.participant.past (e ∷ []) ∙ due (tables_due first a.participant.past)
 
-  -- the same where the event installs nothing, a fault or not
-  pub edits_still : (first : InstalledEdit) (t : Installed) → ((n : ℕ) → due_after n e ≡ n) → ((n : ℕ) → e ≡ found_flushed n → WasInstalled first before n)
-      → AreEdits first t before → AreEdits first t after
-  edits_still first t due new k = record {
-    last = installed_still first t.last.flushed k.last;
+  -- the edits, where the last one may be another and the tables that are due may be more
+  pub edits_grown : (first : InstalledEdit) (t u : Installed) → ((n : ℕ) → e ≡ found_flushed n → WasInstalled first before n) → WasInstalled first after u.last.flushed
+      → (tables_due first a.participant.past ≤ t.last.tables → tables_due first b.participant.past ≤ u.last.tables)
+      → ((j i : ℕ) (past : List Event) → (j ≢ by) ⊎ (i ≢ 0) → tables_due first past ≤ t.last.tables → (tables_due first past ≤ u.last.tables) ⊎ OtherCompacts after j i)
+      → AreEdits first t before → AreEdits first u after
+  edits_grown first t u new last its theirs k = record {
+    last = last;
     found = λ n h. installed_still first n (⊎_elim (λ c. k.found n c) (λ c. new n c) (past_before xs by a b e at same grown (found_flushed n) h));
     tables = λ j i past there. ⊎_elim
         (λ (c : (j ≡ by) × (i ≡ 0) × (past ≡ b.participant.past)).
-        let mine = k.tables by 0 a.participant.past (own_there) in
-        let same_due : tables_due first past ≡ tables_due first a.participant.past = ap (tables_due first) c.2 ∙ due_same first due in
         ⊎_elim
-        (λ (d : tables_due first a.participant.past ≤ t.last.tables). inl (subst (λ (n : ℕ). n ≤ t.last.tables) (sym same_due) d))
+        (λ (d : tables_due first a.participant.past ≤ t.last.tables). inl (subst (λ (p : List Event). tables_due first p ≤ u.last.tables) (sym c.2) (its d)))
         (λ (d : OtherCompacts before by 0). inr (subst (λ (n : ℕ). OtherCompacts after n i) (sym c.0) (subst (λ (n : ℕ). OtherCompacts after by n) (sym c.1) (compacts_still by 0 d))))
-        mine)
-        (λ c. ⊎_elim (λ d. inl d) (λ d. inr (compacts_still j i d)) (k.tables j i past c))
-        (was past_of xs by a b at same j i past there);
+        (k.tables by 0 a.participant.past (mine past_of xs by a b at same)))
+        (λ (c : ((j ≢ by) ⊎ (i ≢ 0)) × IsParticipantAt before j i past).
+        ⊎_elim
+        (λ (d : tables_due first past ≤ t.last.tables). theirs j i past c.0 d)
+        (λ (d : OtherCompacts before j i). inr (compacts_still j i d))
+        (k.tables j i past c.1))
+        (was_apart past_of xs by a b at same j i past there);
   }
-    where
-      own_there : IsParticipantAt before by 0 a.participant.past
-      own_there = mine past_of xs by a b at same
+
+  -- the same where the event installs nothing, a fault or not
+  pub edits_still : (first : InstalledEdit) (t : Installed) → ((n : ℕ) → due_after n e ≡ n) → ((n : ℕ) → e ≡ found_flushed n → WasInstalled first before n)
+      → AreEdits first t before → AreEdits first t after
+  edits_still first t due new k = edits_grown first t t new (installed_still first t.last.flushed k.last) (λ le. subst (λ (n : ℕ). n ≤ t.last.tables) (sym (due_same first due)) le) (λ j i past elsewhere le. inl le) k
 
   pub edits_more : (first : InstalledEdit) (t : Installed) → IsQuiet e → ((n : ℕ) → e ≡ found_flushed n → WasInstalled first before n)
       → AreEdits first t before → AreEdits first t after

@@ -1,60 +1,29 @@
 -- A step of who holds the tables turn: it changes what is installed, and the actor remembers it.
-use Rattle.std.proofs.Common.{◌≡◌, ◌≢◌, ◌⊎◌, ⊎_elim, inl, inr, ℕ, ◌≤◌, List, [], ◌∷◌, ◌++◌, length, map, set, refl, sym, subst}
+use Rattle.std.proofs.Common.{◌≡◌, inl, inr, ℕ, List, [], ◌∷◌, ◌++◌, length, map, set, refl}
 use mathlib.Core.Option.{some}
 use lib.ListN.{get_elem?}
 use Rattle.wp_core.specs.Turns.{Holds, tables_turn}
-use Rattle.wp_core.specs.Tables.{Content, InstalledEdit, Installed, installed}
-use Rattle.wp_core.specs.Views.{Event, found_flushed, Fact}
+use Rattle.wp_core.specs.Tables.{Content, Installed, installed}
+use Rattle.wp_core.specs.Views.{Event, Fact}
 use Rattle.wp_core.specs.World.{Actor, Participant, World, content_of, with_content}
 use Rattle.wp_core.specs.World as world
 use Rattle.wp_core.specs.Steps.{Step}
 use Rattle.wp_core.specs.Changes.{change, held_with, remembers}
 use Rattle.wp_core.specs.Notes.{forgets}
-use Rattle.wp_core.specs.Sound.Actors.{participants_of, IsParticipantAt}
+use Rattle.wp_core.specs.Sound.Actors.{participants_of}
 use Rattle.wp_core.specs.Sound.Store.{IsStored}
-use Rattle.wp_core.specs.Sound.Pasts.{past_of, AreFaults, WasInstalled, tables_due, OtherCompacts, AreEdits}
+use Rattle.wp_core.specs.Sound.Pasts.{past_of, AreFaults, AreEdits}
 use Rattle.wp_core.specs.Sound.Views.{IsSo}
 use Rattle.wp_core.specs.IsSound.{IsSound}
-use Rattle.wp_core.proofs.AllParticipants.{mine, was_apart}
 use Rattle.wp_core.proofs.OwnersStay.{past_locked}
-use Rattle.wp_core.proofs.PastsGrow.{past_before}
 use Rattle.wp_core.proofs.Quiet.{idle_after, Stays}
-use Rattle.wp_core.proofs.Remembers.{FindsNothing, TellsNothing, holders_still, board_still, installed_still, compacts_still}
+use Rattle.wp_core.proofs.Remembers.{FindsNothing, TellsNothing, holders_still, board_still}
 use Rattle.wp_core.proofs.AllParts.{SoIn, all_parts, views_still, readers_still, turns_changed, notes_stay, led_still}
 use Rattle.wp_core.proofs.Gives.{not_theirs, not_free}
 
 -- what is noted, with this in place of what the world has installed
 abbrev pub SoInstalled : World → Installed → Participant → Fact → Type 0
 SoInstalled w t = IsSo w.delayed_flag w.old_flag w.max_evicted w.cache w.writes w.prepared w.snapshots w.store w.locks t
-
--- the edits, once an actor remembers an event of the tables
-module _ (xs : List Actor) (by : ℕ) (a b : Actor) (e : Event) (at : get_elem? xs by ≡ some a) (same : b.joined ≡ a.joined) (grown : b.participant.past ≡ a.participant.past ++ e ∷ []) where
-  abbrev before : List (List (List Event))
-  before = map (participants_of past_of) xs
-
-  abbrev after : List (List (List Event))
-  after = map (participants_of past_of) (set xs by b)
-
-  pub edits_grown : (first : InstalledEdit) (t u : Installed) → FindsNothing e → WasInstalled first after u.last.flushed
-      → (tables_due first a.participant.past ≤ t.last.tables → tables_due first b.participant.past ≤ u.last.tables)
-      → ((j i : ℕ) (past : List Event) → (j ≢ by) ⊎ (i ≢ 0) → tables_due first past ≤ t.last.tables → (tables_due first past ≤ u.last.tables) ⊎ OtherCompacts after j i)
-      → AreEdits first t before → AreEdits first u after
-  edits_grown first t u is last own others k = record {
-    last = last;
-    found = λ n h. installed_still xs by a b e at same grown first n (⊎_elim (λ c. k.found n c) (λ c. absurd (subst FindsNothing c is)) (past_before xs by a b e at same grown (found_flushed n) h));
-    tables = λ j i past there. ⊎_elim
-        (λ (c : (j ≡ by) × (i ≡ 0) × (past ≡ b.participant.past)).
-        ⊎_elim
-        (λ (d : tables_due first a.participant.past ≤ t.last.tables). inl (subst (λ (p : List Event). tables_due first p ≤ u.last.tables) (sym c.2) (own d)))
-        (λ (d : OtherCompacts before by 0). inr (subst (λ (n : ℕ). OtherCompacts after n i) (sym c.0) (subst (λ (n : ℕ). OtherCompacts after by n) (sym c.1) (compacts_still xs by a b e at same grown by 0 d))))
-        (k.tables by 0 a.participant.past (mine past_of xs by a b at same)))
-        (λ (c : ((j ≢ by) ⊎ (i ≢ 0)) × IsParticipantAt before j i past).
-        ⊎_elim
-        (λ (d : tables_due first past ≤ t.last.tables). others j i past c.0 d)
-        (λ (d : OtherCompacts before j i). inr (compacts_still xs by a b e at same grown j i d))
-        (k.tables j i past c.1))
-        (was_apart past_of xs by a b at same j i past there);
-  }
 
 module _ (w : World) (by : ℕ) (a : Actor) (step : Step) (e : Event) (t : Installed) where
   -- the actor before it knows the table
