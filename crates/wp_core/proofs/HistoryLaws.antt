@@ -61,15 +61,19 @@ stands_below : (history : List Entry) (i p : ℕ) → is_prepare (entry_at (take
 stands_below history i zero is = omega arith
 stands_below history i (suc n) is = let k = prepare_there (slice_get (take i history) n) is in let l = taken_within history i n k.0 k.1 in omega arith
 
-position_is : (p : Entry → Bool) (xs : List Entry) (b : Bool) (c : ℕ) → nat_lt (position_or_len p xs) (length xs) ≡ b → option_map suc (cond b (Some (position_or_len p xs)) None) ≡ Some c → (position_or_len p xs < length xs) × (suc (position_or_len p xs) ≡ c)
-position_is p xs true c lt e = (grind (arith, nat_tests), same_some (suc (position_or_len p xs)) c e)
-position_is p xs false c lt e = let no : None ≡ Some c = e in absurd (cc)
+-- where the first entry that passes stands, by its number
+position_is : (test : Entry → Bool) (xs : List Entry) (c : ℕ) → option_map suc (cond (nat_lt (position_or_len test xs) (length xs)) (Some (position_or_len test xs)) None) ≡ Some c → (position_or_len test xs < length xs) × (suc (position_or_len test xs) ≡ c)
+position_is test xs c e = by (nat_lt (position_or_len test xs) (length xs)) refl e
+  where
+    by : (b : Bool) → nat_lt (position_or_len test xs) (length xs) ≡ b → option_map suc (cond b (Some (position_or_len test xs)) None) ≡ Some c → (position_or_len test xs < length xs) × (suc (position_or_len test xs) ≡ c)
+    by true lt h = (grind (arith, nat_tests), same_some (suc (position_or_len test xs)) c h)
+    by false lt h = let no : None ≡ Some c = h in absurd (cc)
 
 decided_in : (history : List Entry) (p c : ℕ) (o : Option Entry) → IsLegal history → decision_in history p o ≡ Some c → p ≤ c
 decided_in history p c (Some (Write batch)) legal e = let q : p ≡ c = cc in omega arith
 decided_in history p c (Some (Undo r batch)) legal e = let q : p ≡ c = cc in omega arith
 decided_in history p c (Some (Prepare name batch)) legal e =
-    let k = position_is (decides p) history (nat_lt (position_or_len (decides p) history) (length history)) c refl e in
+    let k = position_is (decides p) history c e in
     let i : ℕ = position_or_len (decides p) history in
     let f = first_of_them (decides p) history k.0 in
     let open_before = names_before (take i history) p f.entry f.passes (legal.each i f.entry f.there) in
@@ -119,7 +123,7 @@ stays_in : (history more : List Entry) (p c : ℕ) (o : Option Entry) → decisi
 stays_in history more p c (Some (Write batch)) e = e
 stays_in history more p c (Some (Undo r batch)) e = e
 stays_in history more p c (Some (Prepare name batch)) e =
-    let k = position_is (decides p) history (nat_lt (position_or_len (decides p) history) (length history)) c refl e in
+    let k = position_is (decides p) history c e in
     let same = same_first (decides p) history more k.0 in
     first_number (decides p) (history ++ more) (omega (arith, same, k.0, length-append history more)) ∙ (ap (λ n. Some (suc n)) same ∙ ap Some k.1)
 stays_in history more p c (Some (Commit q)) e = e
@@ -130,7 +134,7 @@ was_in : (history more : List Entry) (p c : ℕ) (o : Option Entry) → c ≤ le
 was_in history more p c (Some (Write batch)) within e = e
 was_in history more p c (Some (Undo r batch)) within e = e
 was_in history more p c (Some (Prepare name batch)) within e =
-    let k = position_is (decides p) (history ++ more) (nat_lt (position_or_len (decides p) (history ++ more)) (length (history ++ more))) c refl e in
+    let k = position_is (decides p) (history ++ more) c e in
     let lt : position_or_len (decides p) (history ++ more) < length history = omega (arith, k.1) in
     let same = first_there (decides p) history more lt in
     first_number (decides p) history (omega (arith, same, lt)) ∙ (ap (λ n. Some (suc n)) same ∙ ap Some k.1)
@@ -185,7 +189,7 @@ exclusive_in : (history : List Entry) (p c : ℕ) (o : Option Entry) → decisio
 exclusive_in history p c (Some (Write batch)) e u = true≢false (sym u)
 exclusive_in history p c (Some (Undo r batch)) e u = true≢false (sym u)
 exclusive_in history p c (Some (Prepare name batch)) e u =
-    let k = position_is (decides p) history (nat_lt (position_or_len (decides p) history) (length history)) c refl e in
+    let k = position_is (decides p) history c e in
     true≢false (sym u ∙ ap not (position_any (decides p) history k.0))
 exclusive_in history p c (Some (Commit q)) e u = true≢false (sym u)
 exclusive_in history p c (Some (Close q)) e u = true≢false (sym u)
@@ -201,7 +205,7 @@ within_in : (history : List Entry) (p c : ℕ) (o : Option Entry) → p ≤ leng
 within_in history p c (Some (Write batch)) low e = let q : p ≡ c = cc in omega arith
 within_in history p c (Some (Undo r batch)) low e = let q : p ≡ c = cc in omega arith
 within_in history p c (Some (Prepare name batch)) low e =
-    let k = position_is (decides p) history (nat_lt (position_or_len (decides p) history) (length history)) c refl e in let lt = k.0 in let same = k.1 in omega arith
+    let k = position_is (decides p) history c e in let lt = k.0 in let same = k.1 in omega arith
 within_in history p c (Some (Commit q)) low e = let no : None ≡ Some c = e in absurd (cc)
 within_in history p c (Some (Close q)) low e = let no : None ≡ Some c = e in absurd (cc)
 within_in history p c None low e = let no : None ≡ Some c = e in absurd (cc)
@@ -307,7 +311,7 @@ by_itself history entry x p own e is =
 
 by_last : (history : List Entry) (entry : Entry) (p : ℕ) (o : Option Entry) → decision_in (history ++ entry ∷ []) p o ≡ Some (suc (length history)) → (p ≡ suc (length history) → o ≡ Some entry) → pair_by (suc (length history)) entry ≡ Some (record { number = p; decision = suc (length history) })
 by_last history entry p (Some (Prepare name batch)) e is =
-    let k = position_is (decides p) (history ++ entry ∷ []) (nat_lt (position_or_len (decides p) (history ++ entry ∷ [])) (length (history ++ entry ∷ []))) (suc (length history)) refl e in
+    let k = position_is (decides p) (history ++ entry ∷ []) (suc (length history)) e in
     let at = k.1 in pair_of_decider (suc (length history)) p entry (last_decides history entry p (omega arith))
 by_last history entry p (Some (Write batch)) e is = by_itself history entry (Write batch) p refl e is
 by_last history entry p (Some (Undo r batch)) e is = by_itself history entry (Undo r batch) p refl e is
