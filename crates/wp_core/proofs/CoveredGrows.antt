@@ -23,7 +23,7 @@ use Rattle.wp_history.proofs.Undone.{last_undo}
 use Rattle.wp_core.specs.Entries.{pair_by}
 use Rattle.wp_core.proofs.HistoryGrows.{none_is, before, after, grown_length, committed_old, committed_stays, committed_before_or_now, undecided_before_or_now, version_new, value_old, value_new, value_whole}
 use Rattle.wp_core.proofs.HistoryLaws.{decided_within, next_decides}
-use Rattle.wp_core.proofs.ReaderFacts.{none_some, same_some}
+use Rattle.wp_core.proofs.Tests.{same_some, none_some}
 
 -- what an undo has under a key is the store's value
 restored : {A : Type 0} {x : A} (o : Option A) (v : A) → option_map (λ _. x) o ≡ Some v → x ≡ v

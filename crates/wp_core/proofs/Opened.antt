@@ -29,7 +29,6 @@ use Rattle.wp_core.specs.Views.{Event, Fact, told, heard, stopped, found_flushed
 use Rattle.wp_core.specs.World.{World, Actor, Participant, Transaction, new_actor, new_participant, content_of}
 use Rattle.wp_core.specs.Runs.{IsOpening, AreOpened, named_by}
 use Rattle.wp_core.specs.Sound.Actors.{StartsWith, once, AreHeld, Role, IsParticipantAt}
-use Rattle.wp_core.specs.Sound.History.{logged_part}
 use Rattle.wp_core.specs.Sound.Snapshots.{count_of, HasSeen}
 use Rattle.wp_core.specs.Sound.Store.{IsStored, NoneFlushed}
 use Rattle.wp_core.specs.Sound.Locks.{prepare_holding, Owner, owner_of, IsOwner}
@@ -38,11 +37,11 @@ use Rattle.wp_core.specs.IsSound.{IsSound}
 use Rattle.wp_core.proofs.HistoryLaws.{decision_within, undecided_not_decided}
 use Rattle.wp_core.proofs.HistoryHolders.{holder_holds}
 use Rattle.wp_core.proofs.OneHolder.{found_holder, found_name}
+use Rattle.wp_core.proofs.Tests.{none_some}
+use Rattle.wp_core.proofs.Keyed.{txn_is}
+use Rattle.wp_core.proofs.PendingSteps.{none_logged}
 
 -- ---- what is not there
-
-none_some : {A : Type 0} (o : Option A) (x : A) → o ≡ None → o ≡ Some x → ⊥
-none_some o x n e = let q : None ≡ Some x = sym n ∙ e in absurd (cc)
 
 not_kept : (s p : ℕ) → snaps.is_old_commit finite.empty s p ≡ false
 not_kept s p = ap (λ (o : Option snaps.Snapshot). option_map_or (λ x. finset.contains x.old_commits p) o false) (finite.get-empty nat_cmp s)
@@ -73,10 +72,6 @@ none_in : (numbers : List ℕ) → ((p : ℕ) → list_any (λ k. eqb k p) numbe
 none_in [] h = refl
 none_in (n ∷ numbers) h = absurd (true≢false (sym (ap (λ (b : Bool). b || list_any (λ k. eqb k n) numbers) (eq-eqb n n refl)) ∙ h n))
 
-nothing_logged : (logged : Bool) → logged_part logged [] ≡ []
-nothing_logged true = refl
-nothing_logged false = refl
-
 some_named_by : (o : Option ℕ) → is_some (named_by o) ≡ is_some o
 some_named_by None = refl
 some_named_by (Some p) = refl
@@ -91,10 +86,7 @@ no_client_holds history (Some p) client e = let q : Some (Txn (name_at history p
 
 who_holds : (history : List Entry) (o : Option ℕ) (name : List ℕ) → prepare_holding history o ≡ Some (Txn name) → (p : ℕ) × (o ≡ Some p) × (name_at history p ≡ name)
 who_holds history None name e = let q : None ≡ Some (Txn name) = e in absurd (cc)
-who_holds history (Some p) name e = (p, refl, same (name_at history p) name e)
-  where
-    same : (a b : List ℕ) → Some (Txn a) ≡ Some (Txn b) → a ≡ b
-    same a b q = cc
+who_holds history (Some p) name e = (p, refl, txn_is (name_at history p) name e)
 
 -- ---- the world of an opening, by what openings differ in
 
@@ -175,7 +167,7 @@ module _ (opened : List Entry) (cache : List ℕ) (flag : ℕ) (logged : Bool) (
       legal = legal;
       grown = starts;
       bounded = omega arith;
-      log = sym (ap (λ (entries : List Entry). opened ++ entries) (nothing_logged logged) ∙ append-nil opened);
+      log = sym (ap (λ (entries : List Entry). opened ++ entries) (none_logged logged) ∙ append-nil opened);
       rest = inl refl;
       legal_next = subst IsLegal (sym (append-nil opened)) legal;
       legal_failed = subst IsLegal (sym (append-nil opened)) legal;

@@ -33,15 +33,13 @@ use Rattle.wp_core.proofs.AllParticipants.{mine}
 use Rattle.wp_core.proofs.HistoryGrows.{none_is, grown_length, after, named_is, named_stays, unnamed_stays, free_stays, batch_at_grown, newest_kept, prior_same}
 use Rattle.wp_core.proofs.PendingSteps.{SoPending}
 use Rattle.wp_core.proofs.PublishesLocks.{prepare_of, not_decided, batch_new}
-use Rattle.wp_core.proofs.Quiet.{SoIn}
-use Rattle.wp_core.proofs.StoresFlag.{not_theirs}
+use Rattle.wp_core.proofs.AllParts.{SoIn}
+use Rattle.wp_core.proofs.Keyed.{txn_is}
+use Rattle.wp_core.proofs.Gives.{not_theirs}
 
 never_true : (b : Bool) → (b ≡ true → ⊥) → b ≡ false
 never_true true never = absurd (never refl)
 never_true false never = refl
-
-txn_is : (x y : List ℕ) → Some (Txn x) ≡ Some (Txn y) → x ≡ y
-txn_is x y e = cc
 
 txn_not_client : (x y : List ℕ) → Some (Txn x) ≡ Some (Client y) → ⊥
 txn_not_client x y e = absurd cc
