@@ -1,3 +1,4 @@
+pub mod CrashImages
 pub mod Frames
 pub mod Participants
 pub mod ReaderOrder
