@@ -1,4 +1,5 @@
 pub mod Tests
+pub mod CrashImages
 pub mod Frames
 pub mod Participants
 pub mod ReaderOrder
