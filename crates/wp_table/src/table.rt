@@ -1,0 +1,76 @@
+ghost use Rattle.std.specs.Prelude.{◌≡◌, IfOk, filter};
+ghost use Rattle.std.specs.Ordering.{is_lt, is_le};
+ghost use Rattle.std.specs.Str.{bytes_eq};
+ghost use Rattle.wp_model.specs.Batch.{key_cmp};
+ghost use Rattle.wp_model.specs.Versions.{AreInOrder};
+ghost use Rattle.wp_fields.specs.Reading.{Gives};
+ghost use Rattle.wp_table.specs.Errors.{table_fault};
+ghost use Rattle.wp_table.specs.Reading.{table_at};
+ghost use Rattle.wp_table.specs.Table.{IsTable, table_bytes};
+
+use crate::error::TableError;
+use crate::found::Found;
+use crate::reading::read_table;
+use std::alloc::{AllocError, Global};
+use std::marker::Model;
+use wp_model::{Key, Seq, Version, Versions};
+
+/// A table that was read. Threads may share it.
+#[derive(Drop)]
+pub struct Table {
+    versions: Versions,
+}
+
+impl Model for Table {
+    ghost use Rattle.std.specs.Prelude.{List};
+    ghost use Rattle.wp_model.specs.declared.version.Version.{Version};
+
+    ghost Value = { List Version };
+
+    ghost view = { λ t. t.versions };
+}
+
+/// How many of the versions have a lesser key.
+fn below(versions: &[Version], key: &Key) -> usize {
+    versions.partition_point(
+        |version: &Version| -> bool
+            ensures { result ≡ is_lt (key_cmp version.now.key key.now) }
+        { version.key < *key },
+    )
+}
+
+impl Table {
+    /// The table that the bytes are, in the store with that id, where the entries up to `flushed` were flushed. It
+    /// takes time that grows with the number of bytes.
+    pub fn of(alloc: Global, bytes: Vec<u8>, id: u32, flushed: Seq) -> Result<Table, TableError>
+        ensures { Gives table_fault (λ table. table) result (table_at id flushed bytes.items) }
+    {
+        let versions = read_table(alloc, &bytes, id, flushed)?;
+        Ok(Table {
+            versions: Versions::of(versions),
+        })
+    }
+
+    /// The versions of the key, the newest first. They are found by binary search.
+    pub fn versions(&self, key: &Key) -> Found<'_>
+        ensures found { result ≡ filter (λ v. bytes_eq v.key key.now) self.now }
+        ensures in_order { AreInOrder self.now }
+    {
+        let versions = self.versions.as_slice();
+        let start = below(versions, key);
+        Found::new(versions[start..].iter())
+    }
+
+    /// A copy of all versions.
+    pub fn all(&self, alloc: Global) -> Result<Versions, AllocError>
+        ensures all { IfOk result (λ versions. versions ≡ self.now) }
+        ensures in_order { AreInOrder self.now }
+    {
+        let versions = self.versions.as_slice();
+        let mut list = Vec::with_capacity(alloc, versions.len())?;
+        for version in versions {
+            list.push(version.copy(alloc)?)?;
+        }
+        Ok(Versions::of(list))
+    }
+}

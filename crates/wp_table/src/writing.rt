@@ -1,0 +1,78 @@
+ghost use Rattle.std.specs.Prelude.{◌≡◌, ℕ, ◌≤◌, true, ◌&&◌, ◌++◌, length, OnOk, IfOk};
+ghost use Rattle.std.specs.List.{list_all};
+ghost use Rattle.std.specs.Option.{option_copied};
+ghost use Rattle.wp_table.specs.Table.{stored_bytes, version_bytes, block_bytes, is_numbered, is_flushed, is_stored, has_words, table_bytes, IsTable, head_bytes};
+
+use crate::layout::{BLOCK, DELETION, FORMAT, MAGIC, PUT};
+use std::alloc::{AllocError, Global};
+use wp_encoding::{push_value, push_word};
+use wp_fields::{push_piece, push_u8, push_u16, push_u32, push_u64};
+use wp_model::{Value, Version, Versions};
+
+fn push_head(out: &mut Vec<u8>, id: u32, count: u64) -> Result<(), AllocError>
+    ensures { OnOk result (out.new.items ≡ out.old.items ++ head_bytes id count) }
+{
+    push_piece(out, &MAGIC)?;
+    push_u8(out, FORMAT)?;
+    push_u32(out, id)?;
+    push_u64(out, count)?;
+    push_u64(out, count.div_ceil(BLOCK))
+}
+
+fn push_stored(out: &mut Vec<u8>, value: Option<&Value>) -> Result<(), AllocError>
+    ensures pushed { OnOk result (out.new.items ≡ out.old.items ++ stored_bytes (option_copied value.entry)) }
+    ensures in_range { OnOk result (is_stored (option_copied value.entry) ≡ true) }
+{
+    match value {
+        None => push_u8(out, DELETION),
+        Some(value) => {
+            push_u8(out, PUT)?;
+            push_value(out, value)
+        }
+    }
+}
+
+fn push_version(out: &mut Vec<u8>, version: &Version) -> Result<(), AllocError>
+    requires { is_numbered version.now ≡ true }
+    ensures pushed { OnOk result (out.new.items ≡ out.old.items ++ version_bytes version.now) }
+    ensures in_range { OnOk result (has_words version.now ≡ true) }
+{
+    push_word(out, &version.key)?;
+    push_u32(out, version.number as u32)?;
+    push_stored(out, version.value.as_ref())
+}
+
+fn push_block(out: &mut Vec<u8>, block: &[Version]) -> Result<(), AllocError>
+    requires few { length block.now ≤ BLOCK }
+    requires numbered { list_all is_numbered block.now ≡ true }
+    ensures pushed { OnOk result (out.new.items ≡ out.old.items ++ block_bytes block.now) }
+    ensures in_range { OnOk result (list_all has_words block.now ≡ true) }
+{
+    push_u16(out, block.len() as u16)?;
+    for version in block {
+        push_version(out, version)?;
+    }
+    Ok(())
+}
+
+/// The one spelling of the table that the versions are, for the store with that id.
+pub fn build(alloc: Global, id: u32, versions: &Versions) -> Result<Vec<u8>, AllocError>
+    requires some { 1 ≤ length versions.now }
+    requires numbered { list_all is_numbered versions.now ≡ true }
+    ensures spelling { IfOk result (λ bytes. bytes.items ≡ table_bytes id versions.now) }
+    ensures table { OnOk result ((flushed : ℕ) → list_all (is_flushed flushed) versions.now ≡ true → IsTable id flushed versions.now) }
+{
+    let versions = versions.as_slice();
+    let mut out = Vec::new(alloc);
+    let mut places = Vec::new(alloc);
+    push_head(&mut out, id, versions.len() as u64)?;
+    for block in versions.chunks(BLOCK as usize) {
+        places.push(out.len() as u64)?;
+        push_block(&mut out, block)?;
+    }
+    places.push(out.len() as u64)?;
+    for place in &places {
+        push_u64(&mut out, *place)?;
+    }
+    Ok(out)
+}
