@@ -69,12 +69,15 @@ is_stored (Some value) = is_word 256 value
 abbrev pub has_words : Version → Bool
 has_words v = is_word 64 v.key && is_stored v.value
 
--- The versions are a table of the store with that id, where the entries up to `flushed` were flushed.
+-- the version may be in a table
+abbrev pub is_version : ℕ → Version → Bool
+is_version flushed v = has_words v && (is_numbered v && is_flushed flushed v)
+
+-- The versions are a table of the store with that id, where the entries up to `flushed` were flushed. Its places fit in
+-- eight bytes.
 pub record IsTable (id flushed : ℕ) (versions : List Version) : Type 0 where
   pub some : 1 ≤ length versions
   pub in_order : AreInOrder versions
-  pub words : list_all has_words versions ≡ true
-  pub numbered : list_all is_numbered versions ≡ true
-  pub flushed : list_all (is_flushed flushed) versions ≡ true
+  pub in_range : list_all (is_version flushed) versions ≡ true
   pub id_fits : id < 2 ^ 32
   pub places_fit : 25 + length (flat_map block_bytes (blocks_of versions)) < 2 ^ 64

@@ -1,5 +1,7 @@
-ghost use Rattle.std.specs.Prelude.{◌≡◌, IfOk, filter};
-ghost use Rattle.std.specs.Ordering.{is_lt, is_le};
+ghost use Rattle.std.specs.Prelude.{◌≡◌, ◌≤◌, true, false, length, IfOk, filter};
+ghost use Rattle.std.specs.List.{All};
+ghost use Rattle.std.specs.List.Sorted.{IsPartitionPoint};
+ghost use Rattle.std.specs.Ordering.{is_lt};
 ghost use Rattle.std.specs.Str.{bytes_eq};
 ghost use Rattle.wp_model.specs.Batch.{key_cmp};
 ghost use Rattle.wp_model.specs.Versions.{AreInOrder};
@@ -31,12 +33,22 @@ impl Model for Table {
 }
 
 /// How many of the versions have a lesser key.
-fn below(versions: &[Version], key: &Key) -> usize {
-    versions.partition_point(
-        |version: &Version| -> bool
-            ensures { result ≡ is_lt (key_cmp version.now.key key.now) }
-        { version.key < *key },
-    )
+fn below(versions: &[Version], key: &Key) -> usize
+    requires { AreInOrder versions.now }
+    ensures within { result ≤ length versions.now }
+    ensures point { IsPartitionPoint (λ v. is_lt (key_cmp v.key key.now) ≡ true) (λ v. is_lt (key_cmp v.key key.now) ≡ false) versions.now result }
+{
+    versions.partition_point(|version| version.key < *key)
+}
+
+/// How many of the first versions have the key.
+fn of_key(versions: &[Version], key: &Key) -> usize
+    requires in_order { AreInOrder versions.now }
+    requires not_below { All (λ v. is_lt (key_cmp v.key key.now) ≡ false) versions.now }
+    ensures within { result ≤ length versions.now }
+    ensures point { IsPartitionPoint (λ v. bytes_eq v.key key.now ≡ true) (λ v. bytes_eq v.key key.now ≡ false) versions.now result }
+{
+    versions.partition_point(|version| version.key == *key)
 }
 
 impl Table {
