@@ -1,3 +1,5 @@
 pub mod Order
 pub mod Parts
 pub mod VersionLemmas
+pub mod BlockLemmas
+pub mod Whole

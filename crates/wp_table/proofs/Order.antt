@@ -72,3 +72,18 @@ pub after_last-any_value : (before : List Version) (key : List ℕ) (number : �
 after_last-any_value [] key number x y = refl
 after_last-any_value (last ∷ []) key number x y = refl
 after_last-any_value (first ∷ second ∷ others) key number x y = after_last-any_value (second ∷ others) key number x y
+
+before_front : (v : Version) (vs ws : List Version) → IsBefore v (vs ++ ws) → IsBefore v vs
+before_front v [] ws h = tt
+before_front v (x ∷ vs) ws h = (h.0, before_front v vs ws h.1)
+
+-- versions in order, with others behind and in front of them
+pub in_order_front : (vs ws : List Version) → AreInOrder (vs ++ ws) → AreInOrder vs
+in_order_front [] ws h = in_order_nil
+in_order_front (v ∷ vs) ws h =
+    let parts = in_order_parts v (vs ++ ws) h in
+    in_order_cons v vs (before_front v vs ws parts.0) (in_order_front vs ws parts.1)
+
+pub in_order_back : (vs ws : List Version) → AreInOrder (vs ++ ws) → AreInOrder ws
+in_order_back [] ws h = h
+in_order_back (v ∷ vs) ws h = in_order_back vs ws (in_order_parts v (vs ++ ws) h).1

@@ -1,0 +1,214 @@
+-- A whole table: what is read is spelled so, and what is spelled so is read.
+use Rattle.std.proofs.Common.{◌≡◌, ℕ, suc, ◌+◌, ◌-◌, ◌^◌, ◌<◌, ◌≤◌, true, false, cond, eqb, leb, List, [], ◌∷◌, ◌++◌, length, take, drop, Result, Ok, Err, refl, sym, ap, subst, ◌∙◌, append_assoc, arith}
+use Rattle.std.specs.Prelude.{codes, IfOk}
+use Rattle.std.specs.Global.{Vec}
+use Rattle.std.specs.Int.{w32, w64, to_be_bytes}
+use Rattle.std.specs.List.{AllByRecursion, flat_map, list_all}
+use Rattle.std.specs.Str.{bytes_eq}
+use Rattle.std.proofs.lemmas.Bool.{eqb-true, eq-eqb, leb-true, le-leb, and_parts}
+use Rattle.std.proofs.lemmas.List.{nil_from_length, append-nil, length-append, take_at, drop_at}
+use Rattle.std.proofs.lemmas.Slice.Eq.{bytes_eq-Decides}
+use Rattle.wp_model.specs.declared.version.Version.{Version}
+use Rattle.wp_model.specs.Versions.{AreInOrder}
+use Rattle.wp_fields.specs.Reading.{◌>>=◌, byte_at, number_at, piece_at, Gives}
+use Rattle.wp_fields.proofs.Results.{bind_ok, ok_is}
+use Rattle.wp_fields.proofs.FieldLemmas.{AreBytes, Begins, Begins-then, Begins-piece, byte_takes, piece_takes, piece_there, number_takes, number_again, fields_32}
+use Rattle.wp_table.specs.declared.error.TableError.{TableError}
+use Rattle.wp_table.specs.declared.error.TableError.TheVariants.{Short, Head, Stranger, Count, Index, Extra}
+use Rattle.wp_table.specs.Errors.{table_fault}
+use Rattle.wp_table.specs.Table.{block_bytes, block_count, blocks_in, blocks_of, places_from, head_bytes, table_bytes, IsTable}
+use Rattle.wp_table.specs.Reading.{if_right, after_magic, after_id, count_at, head_at, blocks_after, after_places, table_at}
+use Rattle.wp_table.proofs.Order.{in_order_nil}
+use Rattle.wp_table.proofs.Parts.{was_right, fields_64}
+use Rattle.wp_table.proofs.BlockLemmas.{Found, fewer_blocks, blocks_take_bytes, blocks_take, blocks_again}
+
+-- ---- the head
+
+same_bytes : (xs ys : List ℕ) → bytes_eq xs ys ≡ true → xs ≡ ys
+same_bytes xs ys = (bytes_eq-Decides xs ys).0
+
+equal_bytes : (xs : List ℕ) → bytes_eq xs xs ≡ true
+equal_bytes xs = (bytes_eq-Decides xs xs).1 refl
+
+abbrev format_after : ℕ × List ℕ → Result (List ℕ) TableError
+format_after format = if_right (eqb format.0 1) Head format.1
+
+magic_takes : (bytes rest : List ℕ) → AreBytes bytes → after_magic bytes ≡ Ok rest → Begins bytes (codes "WPTB" ++ 1 ∷ []) rest
+unfolding after_magic
+magic_takes bytes rest h e =
+    let s = bind_ok (piece_at Short 4 bytes) (λ magic. if_right (bytes_eq magic.0 (codes "WPTB")) Head magic.1 >>= λ rest. byte_at Short rest >>= format_after) rest e in
+    let piece = piece_takes Short 4 bytes s.0 s.1 in
+    let t = bind_ok (if_right (bytes_eq s.0.0 (codes "WPTB")) Head s.0.1) (λ rest. byte_at Short rest >>= format_after) rest s.2 in
+    let right = was_right (bytes_eq s.0.0 (codes "WPTB")) Head s.0.1 t.0 t.1 in
+    let f = bind_ok (byte_at Short t.0) format_after rest t.2 in
+    let one = was_right (eqb f.0.0 1) Head f.0.1 rest f.2 in
+    let pair : Begins bytes s.0.0 s.0.1 = rw (← piece.1) (Begins-piece 4 bytes h) in
+    let magic : Begins bytes (codes "WPTB") t.0 = subst (λ (m : List ℕ). Begins bytes m t.0) (same_bytes s.0.0 (codes "WPTB") right.0) (subst (Begins bytes s.0.0) right.1 pair) in
+    let byte = byte_takes Short t.0 f.0 magic.rest_bytes f.1 in
+    let format : Begins t.0 (1 ∷ []) rest = subst (λ (b : ℕ). Begins t.0 (b ∷ []) rest) (eqb-true f.0.0 1 one.0) (subst (Begins t.0 (f.0.0 ∷ [])) one.1 byte) in
+    Begins-then bytes (codes "WPTB") t.0 (1 ∷ []) rest magic format
+
+id_takes : (id : ℕ) (bytes rest : List ℕ) → AreBytes bytes → after_id id bytes ≡ Ok rest → Begins bytes (to_be_bytes w32 id) rest × (id < 2 ^ 32)
+unfolding after_id
+id_takes id bytes rest h e =
+    let s = bind_ok (number_at Short w32 bytes) (λ found. if_right (eqb found.0 id) (Stranger found.0) found.1) rest e in
+    let right = was_right (eqb s.0.0 id) (Stranger s.0.0) s.0.1 rest s.2 in
+    let number = number_takes Short w32 (2 ^ 32) fields_32 bytes s.0 h s.1 in
+    let found : Begins bytes (to_be_bytes w32 id) s.0.1 × (id < 2 ^ 32) = subst (λ (n : ℕ). Begins bytes (to_be_bytes w32 n) s.0.1 × (n < 2 ^ 32)) (eqb-true s.0.0 id right.0) number in
+    subst (λ (r : List ℕ). Begins bytes (to_be_bytes w32 id) r × (id < 2 ^ 32)) right.1 found
+
+abbrev blocks_counted : ℕ → ℕ × List ℕ → Result (ℕ × List ℕ) TableError
+blocks_counted count blocks = if_right (eqb blocks.0 (block_count count)) Count (count, blocks.1)
+
+count_takes : (bytes : List ℕ) (x : ℕ × List ℕ) → AreBytes bytes → count_at bytes ≡ Ok x → Begins bytes (to_be_bytes w64 x.0 ++ to_be_bytes w64 (block_count x.0)) x.1 × (1 ≤ x.0)
+unfolding count_at
+count_takes bytes x h e =
+    let s = bind_ok (number_at Short w64 bytes) (λ count. if_right (leb 1 count.0) Count count.1 >>= λ rest. number_at Short w64 rest >>= blocks_counted count.0) x e in
+    let t = bind_ok (if_right (leb 1 s.0.0) Count s.0.1) (λ rest. number_at Short w64 rest >>= blocks_counted s.0.0) x s.2 in
+    let some = was_right (leb 1 s.0.0) Count s.0.1 t.0 t.1 in
+    let b = bind_ok (number_at Short w64 t.0) (blocks_counted s.0.0) x t.2 in
+    let right = was_right (eqb b.0.0 (block_count s.0.0)) Count (s.0.0, b.0.1) x b.2 in
+    let count : Begins bytes (to_be_bytes w64 s.0.0) t.0 = subst (Begins bytes (to_be_bytes w64 s.0.0)) some.1 (number_takes Short w64 (2 ^ 64) fields_64 bytes s.0 h s.1).0 in
+    let blocks = (number_takes Short w64 (2 ^ 64) fields_64 t.0 b.0 count.rest_bytes b.1).0 in
+    let same : Begins t.0 (to_be_bytes w64 (block_count s.0.0)) b.0.1 = subst (λ (n : ℕ). Begins t.0 (to_be_bytes w64 n) b.0.1) (eqb-true b.0.0 (block_count s.0.0) right.0) blocks in
+    let found : Begins bytes (to_be_bytes w64 s.0.0 ++ to_be_bytes w64 (block_count s.0.0)) b.0.1 × (1 ≤ s.0.0) = (Begins-then bytes (to_be_bytes w64 s.0.0) t.0 (to_be_bytes w64 (block_count s.0.0)) b.0.1 count same, leb-true _ _ some.0) in
+    rw (← right.1) found
+
+record TakesHead (id : ℕ) (bytes : List ℕ) (x : ℕ × List ℕ) : Type 0 where
+  parts : Begins bytes (head_bytes id x.0) x.1
+  some : 1 ≤ x.0
+  id_fits : id < 2 ^ 32
+
+head_takes : (id : ℕ) (bytes : List ℕ) (x : ℕ × List ℕ) → AreBytes bytes → head_at id bytes ≡ Ok x → TakesHead id bytes x
+unfolding head_at
+head_takes id bytes x h e =
+    let s = bind_ok (after_magic bytes) (λ rest. after_id id rest >>= count_at) x e in
+    let magic = magic_takes bytes s.0 h s.1 in
+    let t = bind_ok (after_id id s.0) count_at x s.2 in
+    let store = id_takes id s.0 t.0 magic.rest_bytes t.1 in
+    let count = count_takes t.0 x store.0.rest_bytes t.2 in
+    let counts = to_be_bytes w64 x.0 ++ to_be_bytes w64 (block_count x.0) in
+    let rest = Begins-then s.0 (to_be_bytes w32 id) t.0 counts x.1 store.0 count.0 in
+    let whole : Begins bytes ((codes "WPTB" ++ 1 ∷ []) ++ (to_be_bytes w32 id ++ counts)) x.1 = Begins-then bytes (codes "WPTB" ++ 1 ∷ []) s.0 (to_be_bytes w32 id ++ counts) x.1 magic rest in
+    record { parts = whole; some = count.1; id_fits = store.1 }
+
+magic_again : (rest : List ℕ) → after_magic (codes "WPTB" ++ (1 ∷ rest)) ≡ Ok rest
+unfolding after_magic
+magic_again rest = rw (piece_there Short 4 (codes "WPTB" ++ (1 ∷ rest)) (omega arith)) refl
+
+head_again : (id count : ℕ) (rest : List ℕ) → id < 2 ^ 32 → 1 ≤ count → count < 2 ^ 64 → head_at id (head_bytes id count ++ rest) ≡ Ok (count, rest)
+unfolding head_at after_id count_at
+head_again id count rest id_fits some fits =
+    let blocks = to_be_bytes w64 (block_count count) in
+    let counts = to_be_bytes w64 count ++ blocks in
+    let one : counts ++ rest ≡ to_be_bytes w64 count ++ (blocks ++ rest) = append_assoc (to_be_bytes w64 count) blocks rest in
+    let two : (to_be_bytes w32 id ++ counts) ++ rest ≡ to_be_bytes w32 id ++ (to_be_bytes w64 count ++ (blocks ++ rest)) = append_assoc (to_be_bytes w32 id) counts rest ∙ ap (λ (t : List ℕ). to_be_bytes w32 id ++ t) one in
+    let head : head_bytes id count ++ rest ≡ codes "WPTB" ++ (1 ∷ (to_be_bytes w32 id ++ (to_be_bytes w64 count ++ (blocks ++ rest)))) = ap (λ (t : List ℕ). codes "WPTB" ++ (1 ∷ t)) two in
+    let few : block_count count < 2 ^ 64 = omega (arith, fewer_blocks count) in
+    ap (head_at id) head
+    ∙ rw (magic_again (to_be_bytes w32 id ++ (to_be_bytes w64 count ++ (blocks ++ rest))), number_again Short w32 (2 ^ 32) fields_32 id (to_be_bytes w64 count ++ (blocks ++ rest)) id_fits, eq-eqb id id refl,
+        number_again Short w64 (2 ^ 64) fields_64 count (blocks ++ rest) fits, le-leb _ _ some,
+        number_again Short w64 (2 ^ 64) fields_64 (block_count count) rest few, eq-eqb (block_count count) (block_count count) refl) refl
+
+-- ---- the index and the end
+
+abbrev pub FitsField : ℕ → Type 0
+FitsField place = place < 2 ^ 64
+
+places_take : (places bytes rest : List ℕ) → AreBytes bytes → after_places places bytes ≡ Ok rest → Begins bytes (flat_map (to_be_bytes w64) places) rest × AllByRecursion FitsField places
+unfolding after_places
+places_take [] bytes rest h e =
+    let none : Begins bytes [] bytes × Unit {0} = (record { parts = refl; rest_bytes = h }, tt) in
+    subst (λ (r : List ℕ). Begins bytes [] r × Unit {0}) (ok_is {E = TableError} bytes rest e) none
+places_take (place ∷ places) bytes rest h e =
+    let s = bind_ok (number_at Short w64 bytes) (λ found. if_right (eqb found.0 place) Index found.1 >>= after_places places) rest e in
+    let t = bind_ok (if_right (eqb s.0.0 place) Index s.0.1) (after_places places) rest s.2 in
+    let right = was_right (eqb s.0.0 place) Index s.0.1 t.0 t.1 in
+    let number = number_takes Short w64 (2 ^ 64) fields_64 bytes s.0 h s.1 in
+    let first : Begins bytes (to_be_bytes w64 place) s.0.1 × FitsField place = subst (λ (n : ℕ). Begins bytes (to_be_bytes w64 n) s.0.1 × FitsField n) (eqb-true s.0.0 place right.0) number in
+    let here : Begins bytes (to_be_bytes w64 place) t.0 = subst (Begins bytes (to_be_bytes w64 place)) right.1 first.0 in
+    let others = places_take places t.0 rest here.rest_bytes t.2 in
+    (Begins-then bytes (to_be_bytes w64 place) t.0 (flat_map (to_be_bytes w64) places) rest here others.0, (first.1, others.1))
+
+places_again : (places rest : List ℕ) → AllByRecursion FitsField places → after_places places (flat_map (to_be_bytes w64) places ++ rest) ≡ Ok rest
+unfolding after_places
+places_again [] rest fit = refl
+places_again (place ∷ places) rest fit =
+    let others = flat_map (to_be_bytes w64) places ++ rest in
+    let regrouped : (to_be_bytes w64 place ++ flat_map (to_be_bytes w64) places) ++ rest ≡ to_be_bytes w64 place ++ others = append_assoc (to_be_bytes w64 place) (flat_map (to_be_bytes w64) places) rest in
+    ap (after_places (place ∷ places)) regrouped ∙ rw (number_again Short w64 (2 ^ 64) fields_64 place others fit.0, eq-eqb place place refl) (places_again places rest fit.1)
+
+-- the last place fits where all do, and all where the last does
+end_fits : (place : ℕ) (blocks : List (List Version)) → AllByRecursion FitsField (places_from place blocks) → place + length (flat_map block_bytes blocks) < 2 ^ 64
+end_fits place [] fit = omega (arith, fit.0)
+end_fits place (block ∷ blocks) fit =
+    omega (arith, end_fits (place + length (block_bytes block)) blocks fit.1, length-append (block_bytes block) (flat_map block_bytes blocks))
+
+all_fit : (place : ℕ) (blocks : List (List Version)) → place + length (flat_map block_bytes blocks) < 2 ^ 64 → AllByRecursion FitsField (places_from place blocks)
+all_fit place [] fits = (omega (arith, fits), tt)
+all_fit place (block ∷ blocks) fits =
+    let lengths = length-append (block_bytes block) (flat_map block_bytes blocks) in
+    (omega (arith, fits), all_fit (place + length (block_bytes block)) blocks (omega (arith, fits, lengths)))
+
+-- ---- all of the bytes
+
+abbrev at_end : Found → List ℕ → Result (List Version) TableError
+at_end blocks rest = if_right (eqb (length rest) 0) Extra blocks.0.0
+
+abbrev places_to_end : Found → Result (List Version) TableError
+places_to_end blocks = after_places blocks.0.1 blocks.1 >>= at_end blocks
+
+abbrev blocks_to_end : ℕ → ℕ → ℕ × List ℕ → Result (List Version) TableError
+blocks_to_end size flushed count = blocks_after (block_count count.0) size flushed count.0 [] [] count.1 >>= places_to_end
+
+pub table_takes : (id flushed : ℕ) (bytes : List ℕ) (versions : List Version) → AreBytes bytes → table_at id flushed bytes ≡ Ok versions → IsTable id flushed versions × (bytes ≡ table_bytes id versions)
+unfolding table_at
+table_takes id flushed bytes versions h e =
+    let size = length bytes in
+    let c = bind_ok (head_at id bytes) (blocks_to_end size flushed) versions e in
+    let head = head_takes id bytes c.0 h c.1 in
+    let lengths : size ≡ 25 + length c.0.1 = ap length head.parts.parts ∙ length-append (head_bytes id c.0.0) c.0.1 in
+    let b = bind_ok (blocks_after (block_count c.0.0) size flushed c.0.0 [] [] c.0.1) places_to_end versions c.2 in
+    let blocks = blocks_take (block_count c.0.0) size flushed c.0.0 [] [] c.0.1 b.0 refl (omega (arith, lengths)) head.parts.rest_bytes b.1 in
+    let p = bind_ok (after_places b.0.0.1 b.0.1) (at_end b.0) versions b.2 in
+    let right = was_right (eqb (length p.0) 0) Extra b.0.0.0 versions p.2 in
+    let is : versions ≡ blocks.more = sym right.1 ∙ blocks.appended in
+    let counted : c.0.0 ≡ length versions = sym blocks.counted ∙ ap length (sym is) in
+    let listed : blocks_in (block_count c.0.0) blocks.more ≡ blocks_of versions = ap (λ (n : ℕ). blocks_in (block_count n) blocks.more) counted ∙ ap (λ (vs : List Version). blocks_in (block_count (length versions)) vs) (sym is) in
+    let place : size - length c.0.1 ≡ 25 = omega (arith, lengths) in
+    let placed : b.0.0.1 ≡ places_from 25 (blocks_of versions) = blocks.placed ∙ ap (λ (n : ℕ). places_from n (blocks_in (block_count c.0.0) blocks.more)) place ∙ ap (places_from 25) listed in
+    let index = places_take b.0.0.1 b.0.1 p.0 blocks.parts.rest_bytes p.1 in
+    let none : p.0 ≡ [] = nil_from_length p.0 (eqb-true (length p.0) 0 right.0) in
+    let last : b.0.1 ≡ flat_map (to_be_bytes w64) (places_from 25 (blocks_of versions)) =
+        index.0.parts ∙ ap (λ (t : List ℕ). flat_map (to_be_bytes w64) b.0.0.1 ++ t) none ∙ append-nil (flat_map (to_be_bytes w64) b.0.0.1) ∙ ap (flat_map (to_be_bytes w64)) placed in
+    let middle : c.0.1 ≡ flat_map block_bytes (blocks_of versions) ++ flat_map (to_be_bytes w64) (places_from 25 (blocks_of versions)) =
+        blocks.parts.parts ∙ ap (λ (t : List ℕ). flat_map block_bytes (blocks_in (block_count c.0.0) blocks.more) ++ t) last ∙ ap (λ (bs : List (List Version)). flat_map block_bytes bs ++ flat_map (to_be_bytes w64) (places_from 25 (blocks_of versions))) listed in
+    let table : IsTable id flushed versions = record {
+      some = omega (arith, counted, head.some);
+      in_order = subst AreInOrder right.1 (blocks.in_order in_order_nil);
+      in_range = rw is blocks.in_range;
+      id_fits = head.id_fits;
+      places_fit = end_fits 25 (blocks_of versions) (subst (AllByRecursion FitsField) placed index.1);
+    } in
+    (table, head.parts.parts ∙ ap (λ (t : List ℕ). head_bytes id c.0.0 ++ t) middle ∙ ap (λ (n : ℕ). head_bytes id n ++ (flat_map block_bytes (blocks_of versions) ++ flat_map (to_be_bytes w64) (places_from 25 (blocks_of versions)))) counted)
+
+pub table_again : (id flushed : ℕ) (versions : List Version) → IsTable id flushed versions → table_at id flushed (table_bytes id versions) ≡ Ok versions
+unfolding table_at
+table_again id flushed versions is =
+    let count = length versions in
+    let blocks = flat_map block_bytes (blocks_of versions) in
+    let index = flat_map (to_be_bytes w64) (places_from 25 (blocks_of versions)) in
+    let size = length (table_bytes id versions) in
+    let lengths : size ≡ 25 + length (blocks ++ index) = length-append (head_bytes id count) (blocks ++ index) in
+    let fits : count < 2 ^ 64 = omega (arith, is.places_fit, blocks_take_bytes (block_count count) versions refl) in
+    let place : size - length (blocks ++ index) ≡ 25 = omega (arith, lengths) in
+    let read = blocks_again (block_count count) size flushed versions [] [] index refl (omega (arith, lengths)) is.in_order is.in_range in
+    let read_there : blocks_after (block_count count) size flushed count [] [] (blocks ++ index) ≡ Ok ((versions, places_from 25 (blocks_of versions)), index) =
+        read ∙ ap (λ (n : ℕ). Ok ((versions, places_from n (blocks_of versions)), index)) place in
+    let places : after_places (places_from 25 (blocks_of versions)) index ≡ Ok [] =
+        ap (after_places (places_from 25 (blocks_of versions))) (sym (append-nil index)) ∙ places_again (places_from 25 (blocks_of versions)) [] (all_fit 25 (blocks_of versions) is.places_fit) in
+    rw (head_again id count (blocks ++ index) is.id_fits is.some fits, read_there, places) refl
+
+-- what is read is in order
+pub read_in_order : (id flushed : ℕ) (bytes : List ℕ) (versions : List Version) → AreBytes bytes → table_at id flushed bytes ≡ Ok versions → AreInOrder versions
+read_in_order id flushed bytes versions h e = (table_takes id flushed bytes versions h e).0.in_order
