@@ -5,7 +5,7 @@ use Rattle.std.specs.Global.{Vec}
 use Rattle.std.specs.Int.{w32, w64, to_be_bytes}
 use Rattle.std.specs.List.{AllByRecursion, flat_map, list_all}
 use Rattle.std.specs.Str.{bytes_eq}
-use Rattle.std.proofs.lemmas.Bool.{eqb-true, eq-eqb, leb-true, le-leb, and_parts}
+use Rattle.std.proofs.lemmas.Bool.{eqb-true, eq-eqb, ne_eqb, leb-true, le-leb}
 use Rattle.std.proofs.lemmas.List.{nil_from_length, append-nil, length-append, take_at, drop_at}
 use Rattle.std.proofs.lemmas.Slice.Eq.{bytes_eq-Decides}
 use Rattle.wp_model.specs.declared.version.Version.{Version}
@@ -212,3 +212,17 @@ table_again id flushed versions is =
 -- what is read is in order
 pub read_in_order : (id flushed : ℕ) (bytes : List ℕ) (versions : List Version) → AreBytes bytes → table_at id flushed bytes ≡ Ok versions → AreInOrder versions
 read_in_order id flushed bytes versions h e = (table_takes id flushed bytes versions h e).0.in_order
+
+-- the table of a store is a stranger to another one
+pub other_store : (id other flushed : ℕ) (versions : List Version) → IsTable other flushed versions → (other ≡ id → ⊥) → table_at id flushed (table_bytes other versions) ≡ Err (Stranger other)
+unfolding table_at head_at after_id
+other_store id other flushed versions is differ =
+    let count = length versions in
+    let counts = to_be_bytes w64 count ++ to_be_bytes w64 (block_count count) in
+    let blocks = flat_map block_bytes (blocks_of versions) ++ flat_map (to_be_bytes w64) (places_from 25 (blocks_of versions)) in
+    let store : (to_be_bytes w32 other ++ counts) ++ blocks ≡ to_be_bytes w32 other ++ (counts ++ blocks) = append_assoc (to_be_bytes w32 other) counts blocks in
+    let found : after_id id (to_be_bytes w32 other ++ (counts ++ blocks)) ≡ Err (Stranger other) =
+        rw (number_again Short w32 (2 ^ 32) fields_32 other (counts ++ blocks) is.id_fits, ne_eqb other id differ) refl in
+    let head : head_at id (table_bytes other versions) ≡ Err (Stranger other) =
+        rw (magic_again ((to_be_bytes w32 other ++ counts) ++ blocks)) (ap (λ (t : List ℕ). after_id id t >>= count_at) store ∙ rw found refl) in
+    rw head refl

@@ -7,6 +7,7 @@
 
 mod error;
 mod found;
+mod laws;
 mod layout;
 mod reading;
 mod table;
@@ -14,5 +15,6 @@ mod writing;
 
 pub use error::TableError;
 pub use found::{Found, VersionRef};
+pub use laws::{bytes_have_one_reading, tables_are_read};
 pub use table::Table;
 pub use writing::build;

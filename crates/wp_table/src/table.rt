@@ -1,9 +1,10 @@
-ghost use Rattle.std.specs.Prelude.{◌≡◌, ◌≤◌, true, false, length, IfOk, filter};
+ghost use Rattle.std.specs.Prelude.{◌≡◌, ◌≤◌, true, false, List, length, IfOk, Ok, filter};
 ghost use Rattle.std.specs.List.{All};
 ghost use Rattle.std.specs.List.Sorted.{IsPartitionPoint};
 ghost use Rattle.std.specs.Ordering.{is_lt};
 ghost use Rattle.std.specs.Str.{bytes_eq};
 ghost use Rattle.wp_model.specs.Batch.{key_cmp};
+ghost use Rattle.wp_model.specs.declared.version.Version.{Version};
 ghost use Rattle.wp_model.specs.Versions.{AreInOrder};
 ghost use Rattle.wp_fields.specs.Reading.{Gives};
 ghost use Rattle.wp_table.specs.Errors.{table_fault};
@@ -55,7 +56,13 @@ impl Table {
     /// The table that the bytes are, in the store with that id, where the entries up to `flushed` were flushed. It
     /// takes time that grows with the number of bytes.
     pub fn of(alloc: Global, bytes: Vec<u8>, id: u32, flushed: Seq) -> Result<Table, TableError>
-        ensures { Gives table_fault (λ table. table) result (table_at id flushed bytes.items) }
+        // What is read is a table, and the bytes are its spelling.
+        ensures found { IfOk result (λ table. IsTable id flushed table × (bytes.items ≡ table_bytes id table)) }
+        // What is spelled so is read, unless memory runs out.
+        ensures only { (versions : List Version) → IsTable id flushed versions → bytes.items ≡ table_bytes id versions
+            → Gives table_fault (λ table. table) result (Ok versions) }
+        // What is refused has that first fault, unless memory runs out.
+        ensures exact { Gives table_fault (λ table. table) result (table_at id flushed bytes.items) }
     {
         let versions = read_table(alloc, &bytes, id, flushed)?;
         Ok(Table {
