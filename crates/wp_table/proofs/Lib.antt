@@ -3,3 +3,5 @@ pub mod Parts
 pub mod VersionLemmas
 pub mod BlockLemmas
 pub mod Whole
+pub mod Loop
+pub mod Lookup

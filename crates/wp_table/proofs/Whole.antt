@@ -17,7 +17,7 @@ use Rattle.wp_table.specs.declared.error.TableError.{TableError}
 use Rattle.wp_table.specs.declared.error.TableError.TheVariants.{Short, Head, Stranger, Count, Index, Extra}
 use Rattle.wp_table.specs.Errors.{table_fault}
 use Rattle.wp_table.specs.Table.{block_bytes, block_count, blocks_in, blocks_of, places_from, head_bytes, table_bytes, IsTable}
-use Rattle.wp_table.specs.Reading.{if_right, after_magic, after_id, count_at, head_at, blocks_after, after_places, table_at}
+use Rattle.wp_table.specs.Reading.{if_right, after_magic, after_id, count_at, head_at, blocks_after, after_place, after_places, table_at}
 use Rattle.wp_table.proofs.Order.{in_order_nil}
 use Rattle.wp_table.proofs.Parts.{was_right, fields_64}
 use Rattle.wp_table.proofs.BlockLemmas.{Found, fewer_blocks, blocks_take_bytes, blocks_take, blocks_again}
@@ -115,23 +115,28 @@ head_again id count rest id_fits some fits =
 abbrev pub FitsField : ℕ → Type 0
 FitsField place = place < 2 ^ 64
 
+place_takes : (place : ℕ) (bytes rest : List ℕ) → AreBytes bytes → after_place place bytes ≡ Ok rest → Begins bytes (to_be_bytes w64 place) rest × FitsField place
+unfolding after_place
+place_takes place bytes rest h e =
+    let s = bind_ok (number_at Short w64 bytes) (λ found. if_right (eqb found.0 place) Index found.1) rest e in
+    let right = was_right (eqb s.0.0 place) Index s.0.1 rest s.2 in
+    let number = number_takes Short w64 (2 ^ 64) fields_64 bytes s.0 h s.1 in
+    let found : Begins bytes (to_be_bytes w64 place) s.0.1 × FitsField place = subst (λ (n : ℕ). Begins bytes (to_be_bytes w64 n) s.0.1 × FitsField n) (eqb-true s.0.0 place right.0) number in
+    (subst (Begins bytes (to_be_bytes w64 place)) right.1 found.0, found.1)
+
 places_take : (places bytes rest : List ℕ) → AreBytes bytes → after_places places bytes ≡ Ok rest → Begins bytes (flat_map (to_be_bytes w64) places) rest × AllByRecursion FitsField places
 unfolding after_places
 places_take [] bytes rest h e =
     let none : Begins bytes [] bytes × Unit {0} = (record { parts = refl; rest_bytes = h }, tt) in
     subst (λ (r : List ℕ). Begins bytes [] r × Unit {0}) (ok_is {E = TableError} bytes rest e) none
 places_take (place ∷ places) bytes rest h e =
-    let s = bind_ok (number_at Short w64 bytes) (λ found. if_right (eqb found.0 place) Index found.1 >>= after_places places) rest e in
-    let t = bind_ok (if_right (eqb s.0.0 place) Index s.0.1) (after_places places) rest s.2 in
-    let right = was_right (eqb s.0.0 place) Index s.0.1 t.0 t.1 in
-    let number = number_takes Short w64 (2 ^ 64) fields_64 bytes s.0 h s.1 in
-    let first : Begins bytes (to_be_bytes w64 place) s.0.1 × FitsField place = subst (λ (n : ℕ). Begins bytes (to_be_bytes w64 n) s.0.1 × FitsField n) (eqb-true s.0.0 place right.0) number in
-    let here : Begins bytes (to_be_bytes w64 place) t.0 = subst (Begins bytes (to_be_bytes w64 place)) right.1 first.0 in
-    let others = places_take places t.0 rest here.rest_bytes t.2 in
-    (Begins-then bytes (to_be_bytes w64 place) t.0 (flat_map (to_be_bytes w64) places) rest here others.0, (first.1, others.1))
+    let s = bind_ok (after_place place bytes) (after_places places) rest e in
+    let first = place_takes place bytes s.0 h s.1 in
+    let others = places_take places s.0 rest first.0.rest_bytes s.2 in
+    (Begins-then bytes (to_be_bytes w64 place) s.0 (flat_map (to_be_bytes w64) places) rest first.0 others.0, (first.1, others.1))
 
 places_again : (places rest : List ℕ) → AllByRecursion FitsField places → after_places places (flat_map (to_be_bytes w64) places ++ rest) ≡ Ok rest
-unfolding after_places
+unfolding after_places after_place
 places_again [] rest fit = refl
 places_again (place ∷ places) rest fit =
     let others = flat_map (to_be_bytes w64) places ++ rest in

@@ -110,12 +110,17 @@ blocks_after (suc blocks) size flushed left versions places bytes = do
 
 -- ---- the index and the end
 
--- the bytes after these places
+-- the bytes after the place
+unfoldable pub after_place : ℕ → List ℕ → Result (List ℕ) TableError
+after_place place bytes = do
+  found ← number_at Short w64 bytes
+  if_right (found.0 == place) Index found.1
+
+-- the bytes after all of these places
 unfoldable pub after_places : List ℕ → List ℕ → Result (List ℕ) TableError
 after_places [] bytes = Ok bytes
 after_places (place ∷ places) bytes = do
-  found ← number_at Short w64 bytes
-  rest ← if_right (found.0 == place) Index found.1
+  rest ← after_place place bytes
   after_places places rest
 
 -- ---- all of the bytes

@@ -2,7 +2,7 @@ ghost use Rattle.std.specs.Prelude.{◌≡◌, ◌-◌, ◌≤◌, [], length};
 ghost use Rattle.wp_fields.specs.Reading.{Gives};
 ghost use Rattle.wp_table.specs.Errors.{table_fault};
 ghost use Rattle.wp_table.specs.Table.{block_count};
-ghost use Rattle.wp_table.specs.Reading.{after_magic, after_id, count_at, head_at, flushed_number_at, stored_at, is_after_last, next_place_at, next_version_at, versions_after, block_after, blocks_after, after_places, table_at};
+ghost use Rattle.wp_table.specs.Reading.{after_magic, after_id, count_at, head_at, flushed_number_at, stored_at, is_after_last, next_place_at, next_version_at, versions_after, block_after, blocks_after, after_place, after_places, table_at};
 
 use crate::error::TableError;
 use crate::layout::{BLOCK, DELETION, FORMAT, MAGIC, PUT};
@@ -203,15 +203,23 @@ fn all_blocks(
     Ok((versions, places))
 }
 
+#[tactic(auto, unfolding(crate::specs::Reading::after_place))]
+fn same_place(fields: &mut Fields<'_>, place: u64) -> Result<(), TableError>
+    ensures { Gives table_fault (λ _. fields.new) result (after_place place fields.old) }
+{
+    let found = fields.u64().ok_or(TableError::Short)?;
+    if found != place {
+        return Err(TableError::Index);
+    }
+    Ok(())
+}
+
 /// The index and the end have these places.
 fn same_places(fields: &mut Fields<'_>, places: &[u64]) -> Result<(), TableError>
     ensures { Gives table_fault (λ _. fields.new) result (after_places places.now fields.old) }
 {
     for place in places {
-        let found = fields.u64().ok_or(TableError::Short)?;
-        if found != *place {
-            return Err(TableError::Index);
-        }
+        same_place(fields, *place)?;
     }
     Ok(())
 }

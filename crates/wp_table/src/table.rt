@@ -42,14 +42,24 @@ fn below(versions: &[Version], key: &Key) -> usize
     versions.partition_point(|version| version.key < *key)
 }
 
-/// How many of the first versions have the key.
-fn of_key(versions: &[Version], key: &Key) -> usize
+/// How many of the versions, none of which has a lesser key, have that key.
+fn with_key(versions: &[Version], key: &Key) -> usize
     requires in_order { AreInOrder versions.now }
     requires not_below { All (λ v. is_lt (key_cmp v.key key.now) ≡ false) versions.now }
     ensures within { result ≤ length versions.now }
     ensures point { IsPartitionPoint (λ v. bytes_eq v.key key.now ≡ true) (λ v. bytes_eq v.key key.now ≡ false) versions.now result }
 {
     versions.partition_point(|version| version.key == *key)
+}
+
+/// The versions of the key.
+fn of_key<'a>(versions: &'a [Version], key: &Key) -> &'a [Version]
+    requires { AreInOrder versions.now }
+    ensures { result.now ≡ filter (λ v. bytes_eq v.key key.now) versions.entry.now }
+{
+    let (_, rest) = versions.split_at(below(versions, key));
+    let (found, _) = rest.split_at(with_key(rest, key));
+    found
 }
 
 impl Table {
@@ -75,9 +85,7 @@ impl Table {
         ensures found { result ≡ filter (λ v. bytes_eq v.key key.now) self.now }
         ensures in_order { AreInOrder self.now }
     {
-        let versions = self.versions.as_slice();
-        let start = below(versions, key);
-        Found::new(versions[start..].iter())
+        Found::new(of_key(self.versions.as_slice(), key).iter())
     }
 
     /// A copy of all versions.

@@ -1,7 +1,8 @@
 ghost use Rattle.std.specs.Prelude.{◌≡◌, ℕ, ◌≤◌, true, ◌&&◌, ◌++◌, length, OnOk, IfOk};
-ghost use Rattle.std.specs.List.{list_all};
+ghost use Rattle.std.specs.List.{flat_map, list_all};
+ghost use Rattle.std.specs.Int.{w64, to_be_bytes};
 ghost use Rattle.std.specs.Option.{option_copied};
-ghost use Rattle.wp_table.specs.Table.{stored_bytes, version_bytes, block_bytes, is_numbered, is_flushed, is_stored, has_words, table_bytes, IsTable, head_bytes};
+ghost use Rattle.wp_table.specs.Table.{stored_bytes, version_bytes, block_bytes, is_numbered, is_flushed, is_stored, has_words, blocks_of, places_from, head_bytes, table_bytes, IsTable};
 
 use crate::layout::{BLOCK, DELETION, FORMAT, MAGIC, PUT};
 use std::alloc::{AllocError, Global};
@@ -55,6 +56,34 @@ fn push_block(out: &mut Vec<u8>, block: &[Version]) -> Result<(), AllocError>
     Ok(())
 }
 
+/// Puts the blocks at the end, and where each begins, and at last where they end, behind the other places.
+fn push_blocks(
+    out: &mut Vec<u8>,
+    places: &mut Vec<u64>,
+    versions: &[Version],
+) -> Result<(), AllocError>
+    requires { list_all is_numbered versions.now ≡ true }
+    ensures pushed { OnOk result (out.new.items ≡ out.old.items ++ flat_map block_bytes (blocks_of versions.now)) }
+    ensures placed { OnOk result (places.new.items ≡ places.old.items ++ places_from (length out.old.items) (blocks_of versions.now)) }
+    ensures in_range { OnOk result (list_all has_words versions.now ≡ true) }
+{
+    for block in versions.chunks(BLOCK as usize) {
+        places.push(out.len() as u64)?;
+        push_block(out, block)?;
+    }
+    places.push(out.len() as u64)?;
+    Ok(())
+}
+
+fn push_places(out: &mut Vec<u8>, places: &[u64]) -> Result<(), AllocError>
+    ensures { OnOk result (out.new.items ≡ out.old.items ++ flat_map (to_be_bytes w64) places.now) }
+{
+    for place in places {
+        push_u64(out, *place)?;
+    }
+    Ok(())
+}
+
 /// The one spelling of the table that the versions are, for the store with that id.
 pub fn build(alloc: Global, id: u32, versions: &Versions) -> Result<Vec<u8>, AllocError>
     requires some { 1 ≤ length versions.now }
@@ -66,13 +95,7 @@ pub fn build(alloc: Global, id: u32, versions: &Versions) -> Result<Vec<u8>, All
     let mut out = Vec::new(alloc);
     let mut places = Vec::new(alloc);
     push_head(&mut out, id, versions.len() as u64)?;
-    for block in versions.chunks(BLOCK as usize) {
-        places.push(out.len() as u64)?;
-        push_block(&mut out, block)?;
-    }
-    places.push(out.len() as u64)?;
-    for place in &places {
-        push_u64(&mut out, *place)?;
-    }
+    push_blocks(&mut out, &mut places, versions)?;
+    push_places(&mut out, &places)?;
     Ok(out)
 }
