@@ -5,3 +5,4 @@ pub mod BlockLemmas
 pub mod Whole
 pub mod Loop
 pub mod Lookup
+pub mod NextBlock

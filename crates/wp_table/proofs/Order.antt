@@ -1,10 +1,11 @@
 -- Versions in order, and the one that comes last.
-use Rattle.std.proofs.Common.{◌≡◌, ℕ, suc, ◌-◌, ◌≤◌, true, Less, Equal, Greater, List, [], ◌∷◌, ◌++◌, length, get_or, Option, None, refl, sym, ap, ◌∙◌, arith}
+use Rattle.std.proofs.Common.{◌≡◌, ℕ, suc, ◌-◌, ◌≤◌, true, Less, Equal, Greater, List, [], ◌∷◌, ◌++◌, length, get_or, take, drop, Option, None, refl, sym, ap, subst, ◌∙◌, arith}
 use Rattle.std.specs.declared.cmp.Ordering.{Ordering}
 use Rattle.std.specs.Ordering.{is_lt}
 use Rattle.std.specs.List.{AllByRecursion}
 use Rattle.std.specs.List.Sorted.{IsStrictlySortedBy}
 use Rattle.std.specs.Cmp.{IsTotalOrder}
+use Rattle.std.proofs.lemmas.List.{take-append-drop}
 use Rattle.std.proofs.lemmas.Cmp.{nat_cmp_total, nat_list_cmp_total, on_total, back_total, then_total}
 use Rattle.wp_model.specs.declared.version.Version.{Version}
 use Rattle.wp_model.specs.Versions.{AreInOrder, version_cmp}
@@ -87,3 +88,6 @@ in_order_front (v ∷ vs) ws h =
 pub in_order_back : (vs ws : List Version) → AreInOrder (vs ++ ws) → AreInOrder ws
 in_order_back [] ws h = h
 in_order_back (v ∷ vs) ws h = in_order_back vs ws (in_order_parts v (vs ++ ws) h).1
+
+pub in_order_drop : (n : ℕ) (vs : List Version) → AreInOrder vs → AreInOrder (drop n vs)
+in_order_drop n vs h = in_order_back (take n vs) (drop n vs) (subst AreInOrder (sym (take-append-drop n vs)) h)

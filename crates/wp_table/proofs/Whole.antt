@@ -214,9 +214,9 @@ table_again id flushed versions is =
         ap (after_places (places_from 25 (blocks_of versions))) (sym (append-nil index)) ∙ places_again (places_from 25 (blocks_of versions)) [] (all_fit 25 (blocks_of versions) is.places_fit) in
     rw (head_again id count (blocks ++ index) is.id_fits is.some fits, read_there, places) refl
 
--- what is read is in order
-pub read_in_order : (id flushed : ℕ) (bytes : List ℕ) (versions : List Version) → AreBytes bytes → table_at id flushed bytes ≡ Ok versions → AreInOrder versions
-read_in_order id flushed bytes versions h e = (table_takes id flushed bytes versions h e).0.in_order
+pub found_is_table : (id flushed : ℕ) (bytes : List ℕ) (result : Result (Vec Version) TableError) → AreBytes bytes → Gives table_fault (λ versions. versions.items) result (table_at id flushed bytes) → IfOk result (λ versions. IsTable id flushed versions.items × (bytes ≡ table_bytes id versions.items))
+found_is_table id flushed bytes (Ok versions) h read = table_takes id flushed bytes versions.items h read
+found_is_table id flushed bytes (Err fault) h read = tt
 
 -- the table of a store is a stranger to another one
 pub other_store : (id other flushed : ℕ) (versions : List Version) → IsTable other flushed versions → (other ≡ id → ⊥) → table_at id flushed (table_bytes other versions) ≡ Err (Stranger other)

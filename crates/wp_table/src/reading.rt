@@ -1,7 +1,8 @@
-ghost use Rattle.std.specs.Prelude.{◌≡◌, ◌-◌, ◌≤◌, [], length};
+ghost use Rattle.std.specs.Prelude.{◌≡◌, ◌-◌, [], List, length, IfOk, Ok};
+ghost use Rattle.wp_model.specs.declared.version.Version.{Version};
 ghost use Rattle.wp_fields.specs.Reading.{Gives};
 ghost use Rattle.wp_table.specs.Errors.{table_fault};
-ghost use Rattle.wp_table.specs.Table.{block_count};
+ghost use Rattle.wp_table.specs.Table.{block_count, table_bytes, IsTable};
 ghost use Rattle.wp_table.specs.Reading.{after_magic, after_id, count_at, head_at, flushed_number_at, stored_at, is_after_last, next_place_at, next_version_at, versions_after, block_after, blocks_after, after_place, after_places, table_at};
 
 use crate::error::TableError;
@@ -224,9 +225,8 @@ fn same_places(fields: &mut Fields<'_>, places: &[u64]) -> Result<(), TableError
     Ok(())
 }
 
-/// The versions of the table that the bytes are.
 #[tactic(auto, unfolding(crate::specs::Reading::table_at))]
-pub fn read_table(
+fn table(
     alloc: Global,
     bytes: &[u8],
     id: u32,
@@ -242,4 +242,19 @@ pub fn read_table(
         return Err(TableError::Extra);
     }
     Ok(versions)
+}
+
+/// The versions of the table that the bytes are.
+pub fn read_table(
+    alloc: Global,
+    bytes: &[u8],
+    id: u32,
+    flushed: Seq,
+) -> Result<Vec<Version>, TableError>
+    ensures found { IfOk result (λ versions. IsTable id flushed versions.items × (bytes.now ≡ table_bytes id versions.items)) }
+    ensures only { (written : List Version) → IsTable id flushed written → bytes.now ≡ table_bytes id written
+        → Gives table_fault (λ versions. versions.items) result (Ok written) }
+    ensures exact { Gives table_fault (λ versions. versions.items) result (table_at id flushed bytes.now) }
+{
+    table(alloc, bytes, id, flushed)
 }
