@@ -162,17 +162,17 @@ blocks_again (suc blocks) size flushed more before places rest is long order ran
     let regrouped : (block_bytes block ++ text) ++ rest ≡ block_bytes block ++ (text ++ rest) = append_assoc (block_bytes block) text rest in
     let lengths : length ((block_bytes block ++ text) ++ rest) ≡ length (block_bytes block) + length (text ++ rest) = ap length regrouped ∙ length-append (block_bytes block) (text ++ rest) in
     let one : block_after (min (length more) BLOCK) flushed before ((block_bytes block ++ text) ++ rest) ≡ Ok (before ++ block, text ++ rest) =
-        ap (λ (n : ℕ). block_after n flushed before ((block_bytes block ++ text) ++ rest)) (sym counted) ∙ ap (block_after (length block) flushed before) regrouped
-        ∙ block_again block flushed before (text ++ rest) (omega (arith, counted)) (in_order_front (before ++ block) others whole_order) ranges.0 in
+    ap (λ (n : ℕ). block_after n flushed before ((block_bytes block ++ text) ++ rest)) (sym counted) ∙ ap (block_after (length block) flushed before) regrouped
+    ∙ block_again block flushed before (text ++ rest) (omega (arith, counted)) (in_order_front (before ++ block) others whole_order) ranges.0 in
     let less : blocks ≡ block_count (length others) = blocks_left (length more) blocks is ∙ ap block_count (sym left) in
     let after = blocks_again blocks size flushed others (before ++ block) (places ++ here ∷ []) rest less (omega (arith, lengths, long)) whole_order ranges.1 in
     let next : size - length (text ++ rest) ≡ here + length (block_bytes block) = omega (arith, lengths, long) in
     let placed : (places ++ here ∷ []) ++ places_from (size - length (text ++ rest)) (blocks_in blocks others) ≡ places ++ places_from here (block ∷ blocks_in blocks others) =
-        append_assoc places (here ∷ []) (places_from (size - length (text ++ rest)) (blocks_in blocks others)) ∙ ap (λ (p : ℕ). places ++ here ∷ places_from p (blocks_in blocks others)) next in
+    append_assoc places (here ∷ []) (places_from (size - length (text ++ rest)) (blocks_in blocks others)) ∙ ap (λ (p : ℕ). places ++ here ∷ places_from p (blocks_in blocks others)) next in
     let same : read_blocks blocks (size - length (text ++ rest)) others (before ++ block) (places ++ here ∷ []) rest ≡ read_blocks (suc blocks) here more before places rest =
-        ap (λ (versions : List Version). ((versions, (places ++ here ∷ []) ++ places_from (size - length (text ++ rest)) (blocks_in blocks others)), rest)) all ∙ ap (λ (ps : List ℕ). ((before ++ more, ps), rest)) placed in
+    ap (λ (versions : List Version). ((versions, (places ++ here ∷ []) ++ places_from (size - length (text ++ rest)) (blocks_in blocks others)), rest)) all ∙ ap (λ (ps : List ℕ). ((before ++ more, ps), rest)) placed in
     let go_on : blocks_after blocks size flushed (length more - min (length more) BLOCK) (before ++ block) (places ++ here ∷ []) (text ++ rest) ≡ Ok (read_blocks blocks (size - length (text ++ rest)) others (before ++ block) (places ++ here ∷ []) rest) =
-        ap (λ (n : ℕ). blocks_after blocks size flushed n (before ++ block) (places ++ here ∷ []) (text ++ rest)) (sym left) ∙ after in
+    ap (λ (n : ℕ). blocks_after blocks size flushed n (before ++ block) (places ++ here ∷ []) (text ++ rest)) (sym left) ∙ after in
     rw one (go_on ∙ ap (λ (found : Found). Ok found) same)
 
 -- ---- how many bytes there are
@@ -190,5 +190,12 @@ blocks_take_bytes (suc blocks) versions is =
     let left : length others ≡ length versions - min (length versions) BLOCK = omega (arith, length-drop BLOCK versions) in
     let less : blocks ≡ block_count (length others) = blocks_left (length versions) blocks is ∙ ap block_count (sym left) in
     let text = flat_map block_bytes (blocks_in blocks others) in
-    omega (arith, blocks_take_bytes blocks others less, length-drop BLOCK versions, length-take BLOCK versions, versions_take_bytes block,
-        length-append (to_be_bytes w16 (length block)) (flat_map version_bytes block), length-append (block_bytes block) text)
+    omega (
+      arith,
+      blocks_take_bytes blocks others less,
+      length-drop BLOCK versions,
+      length-take BLOCK versions,
+      versions_take_bytes block,
+      length-append (to_be_bytes w16 (length block)) (flat_map version_bytes block),
+      length-append (block_bytes block) text,
+    )

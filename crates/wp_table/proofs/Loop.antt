@@ -60,7 +60,7 @@ pub block_read : (count i size flushed left : ℕ) (versions : List Version) (pl
     → blocks_after (count - i) size flushed left versions places bytes ≡ total → blocks_after (count - (i + 1)) size flushed (left - min left BLOCK) found.0 (places ++ (size - length bytes) ∷ []) found.1 ≡ total
 block_read count i size flushed left versions places bytes found total lt read so_far =
     let step : blocks_after (count - i) size flushed left versions places bytes ≡ blocks_after (count - (i + 1)) size flushed (left - min left BLOCK) found.0 (places ++ (size - length bytes) ∷ []) found.1 =
-        one_block count i size flushed left versions places bytes lt ∙ rw read refl in
+    one_block count i size flushed left versions places bytes lt ∙ rw read refl in
     sym step ∙ so_far
 
 pub block_fails : (count i size flushed left : ℕ) (versions : List Version) (places bytes : List ℕ) (error : TableError) (total : Blocks) → i < count → Fails table_fault error (block_after (min left BLOCK) flushed versions bytes)

@@ -141,7 +141,7 @@ version_again flushed before v rest next =
     let after : is_after_last before (record { key = v.key; number = v.number; value = None }) ≡ true = after_last-any_value before v.key v.number None v.value ∙ next.after in
     let number = to_be_bytes w32 v.number in
     let regrouped : version_bytes v ++ rest ≡ word_bytes v.key ++ (number ++ (stored_bytes v.value ++ rest)) =
-        append_assoc (word_bytes v.key) (number ++ stored_bytes v.value) rest ∙ ap (λ (t : List ℕ). word_bytes v.key ++ t) (append_assoc number (stored_bytes v.value) rest) in
+    append_assoc (word_bytes v.key) (number ++ stored_bytes v.value) rest ∙ ap (λ (t : List ℕ). word_bytes v.key ++ t) (append_assoc number (stored_bytes v.value) rest) in
     ap (next_version_at flushed before) regrouped ∙ rw (word_again 64 v.key (number ++ (stored_bytes v.value ++ rest)) words.0, flushed_number_again flushed v.number (stored_bytes v.value ++ rest) numbers.0 numbers.1, after, stored_again v.value rest words.1) refl
 
 -- ---- several versions

@@ -106,9 +106,15 @@ head_again id count rest id_fits some fits =
     let head : head_bytes id count ++ rest ≡ codes "WPTB" ++ (1 ∷ (to_be_bytes w32 id ++ (to_be_bytes w64 count ++ (blocks ++ rest)))) = ap (λ (t : List ℕ). codes "WPTB" ++ (1 ∷ t)) two in
     let few : block_count count < 2 ^ 64 = omega (arith, fewer_blocks count) in
     ap (head_at id) head
-    ∙ rw (magic_again (to_be_bytes w32 id ++ (to_be_bytes w64 count ++ (blocks ++ rest))), number_again Short w32 (2 ^ 32) fields_32 id (to_be_bytes w64 count ++ (blocks ++ rest)) id_fits, eq-eqb id id refl,
-        number_again Short w64 (2 ^ 64) fields_64 count (blocks ++ rest) fits, le-leb _ _ some,
-        number_again Short w64 (2 ^ 64) fields_64 (block_count count) rest few, eq-eqb (block_count count) (block_count count) refl) refl
+    ∙ rw (
+      magic_again (to_be_bytes w32 id ++ (to_be_bytes w64 count ++ (blocks ++ rest))),
+      number_again Short w32 (2 ^ 32) fields_32 id (to_be_bytes w64 count ++ (blocks ++ rest)) id_fits,
+      eq-eqb id id refl,
+      number_again Short w64 (2 ^ 64) fields_64 count (blocks ++ rest) fits,
+      le-leb _ _ some,
+      number_again Short w64 (2 ^ 64) fields_64 (block_count count) rest few,
+      eq-eqb (block_count count) (block_count count) refl,
+    ) refl
 
 -- ---- the index and the end
 
@@ -185,9 +191,9 @@ table_takes id flushed bytes versions h e =
     let index = places_take b.0.0.1 b.0.1 p.0 blocks.parts.rest_bytes p.1 in
     let none : p.0 ≡ [] = nil_from_length p.0 (eqb-true (length p.0) 0 right.0) in
     let last : b.0.1 ≡ flat_map (to_be_bytes w64) (places_from 25 (blocks_of versions)) =
-        index.0.parts ∙ ap (λ (t : List ℕ). flat_map (to_be_bytes w64) b.0.0.1 ++ t) none ∙ append-nil (flat_map (to_be_bytes w64) b.0.0.1) ∙ ap (flat_map (to_be_bytes w64)) placed in
+    index.0.parts ∙ ap (λ (t : List ℕ). flat_map (to_be_bytes w64) b.0.0.1 ++ t) none ∙ append-nil (flat_map (to_be_bytes w64) b.0.0.1) ∙ ap (flat_map (to_be_bytes w64)) placed in
     let middle : c.0.1 ≡ flat_map block_bytes (blocks_of versions) ++ flat_map (to_be_bytes w64) (places_from 25 (blocks_of versions)) =
-        blocks.parts.parts ∙ ap (λ (t : List ℕ). flat_map block_bytes (blocks_in (block_count c.0.0) blocks.more) ++ t) last ∙ ap (λ (bs : List (List Version)). flat_map block_bytes bs ++ flat_map (to_be_bytes w64) (places_from 25 (blocks_of versions))) listed in
+    blocks.parts.parts ∙ ap (λ (t : List ℕ). flat_map block_bytes (blocks_in (block_count c.0.0) blocks.more) ++ t) last ∙ ap (λ (bs : List (List Version)). flat_map block_bytes bs ++ flat_map (to_be_bytes w64) (places_from 25 (blocks_of versions))) listed in
     let table : IsTable id flushed versions = record {
       some = omega (arith, counted, head.some);
       in_order = subst AreInOrder right.1 (blocks.in_order in_order_nil);
@@ -209,9 +215,9 @@ table_again id flushed versions is =
     let place : size - length (blocks ++ index) ≡ 25 = omega (arith, lengths) in
     let read = blocks_again (block_count count) size flushed versions [] [] index refl (omega (arith, lengths)) is.in_order is.in_range in
     let read_there : blocks_after (block_count count) size flushed count [] [] (blocks ++ index) ≡ Ok ((versions, places_from 25 (blocks_of versions)), index) =
-        read ∙ ap (λ (n : ℕ). Ok ((versions, places_from n (blocks_of versions)), index)) place in
+    read ∙ ap (λ (n : ℕ). Ok ((versions, places_from n (blocks_of versions)), index)) place in
     let places : after_places (places_from 25 (blocks_of versions)) index ≡ Ok [] =
-        ap (after_places (places_from 25 (blocks_of versions))) (sym (append-nil index)) ∙ places_again (places_from 25 (blocks_of versions)) [] (all_fit 25 (blocks_of versions) is.places_fit) in
+    ap (after_places (places_from 25 (blocks_of versions))) (sym (append-nil index)) ∙ places_again (places_from 25 (blocks_of versions)) [] (all_fit 25 (blocks_of versions) is.places_fit) in
     rw (head_again id count (blocks ++ index) is.id_fits is.some fits, read_there, places) refl
 
 pub found_is_table : (id flushed : ℕ) (bytes : List ℕ) (result : Result (Vec Version) TableError) → AreBytes bytes → Gives table_fault (λ versions. versions.items) result (table_at id flushed bytes) → IfOk result (λ versions. IsTable id flushed versions.items × (bytes ≡ table_bytes id versions.items))
@@ -227,7 +233,7 @@ other_store id other flushed versions is differ =
     let blocks = flat_map block_bytes (blocks_of versions) ++ flat_map (to_be_bytes w64) (places_from 25 (blocks_of versions)) in
     let store : (to_be_bytes w32 other ++ counts) ++ blocks ≡ to_be_bytes w32 other ++ (counts ++ blocks) = append_assoc (to_be_bytes w32 other) counts blocks in
     let found : after_id id (to_be_bytes w32 other ++ (counts ++ blocks)) ≡ Err (Stranger other) =
-        rw (number_again Short w32 (2 ^ 32) fields_32 other (counts ++ blocks) is.id_fits, ne_eqb other id differ) refl in
+    rw (number_again Short w32 (2 ^ 32) fields_32 other (counts ++ blocks) is.id_fits, ne_eqb other id differ) refl in
     let head : head_at id (table_bytes other versions) ≡ Err (Stranger other) =
-        rw (magic_again ((to_be_bytes w32 other ++ counts) ++ blocks)) (ap (λ (t : List ℕ). after_id id t >>= count_at) store ∙ rw found refl) in
+    rw (magic_again ((to_be_bytes w32 other ++ counts) ++ blocks)) (ap (λ (t : List ℕ). after_id id t >>= count_at) store ∙ rw found refl) in
     rw head refl

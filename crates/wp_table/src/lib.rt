@@ -11,6 +11,8 @@ mod laws;
 mod layout;
 mod reading;
 mod table;
+#[cfg(test)]
+mod tests;
 mod writing;
 
 pub use error::TableError;

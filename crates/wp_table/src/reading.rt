@@ -226,12 +226,7 @@ fn same_places(fields: &mut Fields<'_>, places: &[u64]) -> Result<(), TableError
 }
 
 #[tactic(auto, unfolding(crate::specs::Reading::table_at))]
-fn table(
-    alloc: Global,
-    bytes: &[u8],
-    id: u32,
-    flushed: Seq,
-) -> Result<Vec<Version>, TableError>
+fn table(alloc: Global, bytes: &[u8], id: u32, flushed: Seq) -> Result<Vec<Version>, TableError>
     ensures { Gives table_fault (λ versions. versions.items) result (table_at id flushed bytes.now) }
 {
     let mut fields = Fields::of(bytes);

@@ -18,6 +18,6 @@ returns c =
     c.split_at-2.ensures.front
     ∙ ap (take count) rest
     ∙ found_is c.args.versions.now key c.below.result count c.below.ensures.point.0 c.below.ensures.within
-        (subst (λ (vs : List Version). AllWithin (λ v. bytes_eq v.key key ≡ true) vs 0 count) rest c.with_key.ensures.point.0)
-        (subst (λ (vs : List Version). AllWithin (λ v. bytes_eq v.key key ≡ false) vs count (length vs)) rest c.with_key.ensures.point.1)
-        (subst (λ (vs : List Version). count ≤ length vs) rest c.with_key.ensures.within)
+    (subst (λ (vs : List Version). AllWithin (λ v. bytes_eq v.key key ≡ true) vs 0 count) rest c.with_key.ensures.point.0)
+    (subst (λ (vs : List Version). AllWithin (λ v. bytes_eq v.key key ≡ false) vs count (length vs)) rest c.with_key.ensures.point.1)
+    (subst (λ (vs : List Version). count ≤ length vs) rest c.with_key.ensures.within)
