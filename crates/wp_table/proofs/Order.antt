@@ -1,5 +1,5 @@
 -- Versions in order, and the one that comes last.
-use Rattle.std.proofs.Common.{◌≡◌, ℕ, suc, ◌-◌, ◌≤◌, true, Less, Equal, Greater, List, [], ◌∷◌, ◌++◌, length, get_or, take, drop, Option, None, refl, sym, ap, subst, ◌∙◌, arith}
+use Rattle.std.proofs.Common.{◌≡◌, ℕ, suc, ◌-◌, ◌≤◌, true, Less, Equal, Greater, List, [], ◌∷◌, ◌++◌, length, get_or, take, drop, Option, refl, sym, ap, subst, ◌∙◌, arith}
 use Rattle.std.specs.declared.cmp.Ordering.{Ordering}
 use Rattle.std.specs.Ordering.{is_lt}
 use Rattle.std.specs.List.{AllByRecursion}
@@ -35,6 +35,9 @@ pub in_order_nil : AreInOrder []
 unfolding IsStrictlySortedBy
 in_order_nil = tt
 
+pub in_order_one : (v : Version) → AreInOrder (v ∷ [])
+in_order_one v = in_order_cons v [] tt in_order_nil
+
 before_push : (v w : Version) (vs : List Version) → IsBefore v vs → version_cmp v w ≡ Less → IsBefore v (vs ++ w ∷ [])
 before_push v w [] before less = (less, tt)
 before_push v w (x ∷ vs) before less = (before.0, before_push v w vs before.1 less)
@@ -51,7 +54,7 @@ after_rest v [] w after = refl
 after_rest v (x ∷ vs) w after = after
 
 pub in_order_push : (vs : List Version) (w : Version) → AreInOrder vs → is_after_last vs w ≡ true → AreInOrder (vs ++ w ∷ [])
-in_order_push [] w h after = in_order_cons w [] tt in_order_nil
+in_order_push [] w h after = in_order_one w
 in_order_push (v ∷ vs) w h after =
     let parts = in_order_parts v vs h in
     in_order_cons v (vs ++ w ∷ []) (before_push v w vs parts.0 (first_before v vs w h after)) (in_order_push vs w parts.1 (after_rest v vs w after))

@@ -1,4 +1,4 @@
-ghost use Rattle.std.specs.Prelude.{◌≡◌, true, IfOk};
+ghost use Rattle.std.specs.Prelude.{◌≡◌, true, [], ◌∷◌, IfOk};
 ghost use Rattle.wp_table.specs.Table.{is_numbered};
 
 use super::*;
@@ -17,7 +17,9 @@ const TWO: &[u8; 57] = b"WPTB\x01\0\0\0\x01\0\0\0\0\0\0\0\x02\0\0\0\0\0\0\0\x01\
 
 fn is_shared<T: Send + Sync>(_value: &T) {}
 
-fn list_of_one(alloc: Global, version: Version) -> Result<Versions, Fail> {
+fn list_of_one(alloc: Global, version: Version) -> Result<Versions, Fail>
+    ensures { IfOk result (λ list. list ≡ version ∷ []) }
+{
     Ok(Versions::of(vec![in alloc; version]?))
 }
 

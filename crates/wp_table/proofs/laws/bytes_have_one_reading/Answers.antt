@@ -1,4 +1,4 @@
-use Rattle.std.proofs.Common.{List, Err, sym, ap, ◌∙◌, inl, inr}
+use Rattle.std.proofs.Common.{List, sym, ap, ◌∙◌, inl, inr}
 use Rattle.std.proofs.lemmas.Bool.{cases_eq}
 use Rattle.wp_model.specs.declared.version.Version.{Version}
 use Rattle.wp_fields.proofs.Results.{ok_is, err_is, ok_or_err}

@@ -1,4 +1,4 @@
-use Rattle.std.proofs.Common.{◌≡◌, ◌++◌, true, length, sym, ap, ◌∙◌, arith, ◌&&◌}
+use Rattle.std.proofs.Common.{◌≡◌, true, length, sym, ap, ◌∙◌, arith, ◌&&◌}
 use Rattle.std.specs.List.{flat_map, list_all}
 use Rattle.std.proofs.lemmas.List.{length-append}
 use Rattle.wp_table.specs.Table.{head_bytes, block_bytes, blocks_of, is_numbered, is_flushed, has_words}
