@@ -6,3 +6,4 @@ pub mod Whole
 pub mod Loop
 pub mod Lookup
 pub mod NextBlock
+pub mod FieldFaults

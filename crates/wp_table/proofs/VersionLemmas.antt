@@ -26,12 +26,12 @@ use Rattle.wp_table.proofs.Parts.{was_right}
 abbrev number_in : ℕ → ℕ × List ℕ → Result (ℕ × List ℕ) TableError
 number_in flushed number = if_right (leb 1 number.0 && leb number.0 flushed) Number number
 
-record TakesNumber (flushed : ℕ) (bytes : List ℕ) (x : ℕ × List ℕ) : Type 0 where
-  parts : Begins bytes (to_be_bytes w32 x.0) x.1
-  numbered : (leb 1 x.0 && ltb x.0 (2 ^ 32)) ≡ true
-  is_in : leb x.0 flushed ≡ true
+pub record TakesNumber (flushed : ℕ) (bytes : List ℕ) (x : ℕ × List ℕ) : Type 0 where
+  pub parts : Begins bytes (to_be_bytes w32 x.0) x.1
+  pub numbered : (leb 1 x.0 && ltb x.0 (2 ^ 32)) ≡ true
+  pub is_in : leb x.0 flushed ≡ true
 
-flushed_number_takes : (flushed : ℕ) (bytes : List ℕ) (x : ℕ × List ℕ) → AreBytes bytes → flushed_number_at flushed bytes ≡ Ok x → TakesNumber flushed bytes x
+pub flushed_number_takes : (flushed : ℕ) (bytes : List ℕ) (x : ℕ × List ℕ) → AreBytes bytes → flushed_number_at flushed bytes ≡ Ok x → TakesNumber flushed bytes x
 unfolding flushed_number_at
 flushed_number_takes flushed bytes x h e =
     let s = bind_ok (number_at Short w32 bytes) (number_in flushed) x e in
@@ -41,7 +41,7 @@ flushed_number_takes flushed bytes x h e =
     let found : TakesNumber flushed bytes s.0 = record { parts = number.0; numbered = and_from _ _ tests.0 (lt-ltb _ _ number.1); is_in = tests.1 } in
     rw (← right.1) found
 
-flushed_number_again : (flushed n : ℕ) (rest : List ℕ) → (leb 1 n && ltb n (2 ^ 32)) ≡ true → leb n flushed ≡ true → flushed_number_at flushed (to_be_bytes w32 n ++ rest) ≡ Ok (n, rest)
+pub flushed_number_again : (flushed n : ℕ) (rest : List ℕ) → (leb 1 n && ltb n (2 ^ 32)) ≡ true → leb n flushed ≡ true → flushed_number_at flushed (to_be_bytes w32 n ++ rest) ≡ Ok (n, rest)
 unfolding flushed_number_at
 flushed_number_again flushed n rest numbered is_in =
     let tests = and_parts (leb 1 n) (ltb n (2 ^ 32)) numbered in
@@ -49,13 +49,13 @@ flushed_number_again flushed n rest numbered is_in =
 
 -- ---- values
 
-abbrev Stored : Type 0
+abbrev pub Stored : Type 0
 Stored = Option (List ℕ) × List ℕ
 
-abbrev put_value : List ℕ × List ℕ → Result Stored TableError
+abbrev pub put_value : List ℕ × List ℕ → Result Stored TableError
 put_value value = Ok (Some value.0, value.1)
 
-stored_takes : (bytes : List ℕ) (x : Stored) → AreBytes bytes → stored_at bytes ≡ Ok x → Begins bytes (stored_bytes x.0) x.1 × (is_stored x.0 ≡ true)
+pub stored_takes : (bytes : List ℕ) (x : Stored) → AreBytes bytes → stored_at bytes ≡ Ok x → Begins bytes (stored_bytes x.0) x.1 × (is_stored x.0 ≡ true)
 unfolding stored_at
 stored_takes [] x h e = absurd cc
 stored_takes (zero ∷ bytes) x h e =
@@ -83,18 +83,18 @@ pub record IsNext (flushed : ℕ) (before : List Version) (v : Version) : Type 0
   pub in_range : is_version flushed v ≡ true
   pub after : is_after_last before v ≡ true
 
-abbrev place_after : List Version → List ℕ → ℕ × List ℕ → Result (Version × List ℕ) TableError
+abbrev pub place_after : List Version → List ℕ → ℕ × List ℕ → Result (Version × List ℕ) TableError
 place_after before key number =
     let version : Version = record { key = key; number = number.0; value = None } in if_right (is_after_last before version) Order (version, number.1)
 
-record TakesPlace (flushed : ℕ) (before : List Version) (bytes : List ℕ) (x : Version × List ℕ) : Type 0 where
-  parts : Begins bytes (word_bytes x.0.key ++ to_be_bytes w32 x.0.number) x.1
-  word : is_word 64 x.0.key ≡ true
-  numbered : is_numbered x.0 ≡ true
-  is_in : is_flushed flushed x.0 ≡ true
-  after : is_after_last before (record { key = x.0.key; number = x.0.number; value = None }) ≡ true
+pub record TakesPlace (flushed : ℕ) (before : List Version) (bytes : List ℕ) (x : Version × List ℕ) : Type 0 where
+  pub parts : Begins bytes (word_bytes x.0.key ++ to_be_bytes w32 x.0.number) x.1
+  pub word : is_word 64 x.0.key ≡ true
+  pub numbered : is_numbered x.0 ≡ true
+  pub is_in : is_flushed flushed x.0 ≡ true
+  pub after : is_after_last before (record { key = x.0.key; number = x.0.number; value = None }) ≡ true
 
-place_takes : (flushed : ℕ) (before : List Version) (bytes : List ℕ) (x : Version × List ℕ) → AreBytes bytes → next_place_at flushed before bytes ≡ Ok x → TakesPlace flushed before bytes x
+pub place_takes : (flushed : ℕ) (before : List Version) (bytes : List ℕ) (x : Version × List ℕ) → AreBytes bytes → next_place_at flushed before bytes ≡ Ok x → TakesPlace flushed before bytes x
 unfolding next_place_at
 place_takes flushed before bytes x h e =
     let s = bind_ok (map_err table_error (word_field_at 64 bytes)) (λ key. flushed_number_at flushed key.1 >>= place_after before key.0) x e in
@@ -112,7 +112,7 @@ place_takes flushed before bytes x h e =
     } in
     rw (← right.1) found
 
-abbrev with_value : Version → Stored → Result (Version × List ℕ) TableError
+abbrev pub with_value : Version → Stored → Result (Version × List ℕ) TableError
 with_value place value = Ok (record { key = place.key; number = place.number; value = value.0 }, value.1)
 
 pub version_takes : (flushed : ℕ) (before : List Version) (bytes : List ℕ) (x : Version × List ℕ) → AreBytes bytes → next_version_at flushed before bytes ≡ Ok x → Begins bytes (version_bytes x.0) x.1 × IsNext flushed before x.0

@@ -18,6 +18,7 @@ use Rattle.wp_table.specs.declared.error.TableError.TheVariants.{Short, Head, St
 use Rattle.wp_table.specs.Errors.{table_fault}
 use Rattle.wp_table.specs.Table.{block_bytes, block_count, blocks_in, blocks_of, places_from, head_bytes, table_bytes, IsTable}
 use Rattle.wp_table.specs.Reading.{if_right, after_magic, after_id, count_at, head_at, blocks_after, after_place, after_places, table_at}
+use Rattle.wp_table.specs.Faults.{FitsField}
 use Rattle.wp_table.proofs.Order.{in_order_nil}
 use Rattle.wp_table.proofs.Parts.{was_right, fields_64}
 use Rattle.wp_table.proofs.BlockLemmas.{Found, fewer_blocks, blocks_take_bytes, blocks_take, blocks_again}
@@ -117,9 +118,6 @@ head_again id count rest id_fits some fits =
     ) refl
 
 -- ---- the index and the end
-
-abbrev pub FitsField : ℕ → Type 0
-FitsField place = place < 2 ^ 64
 
 place_takes : (place : ℕ) (bytes rest : List ℕ) → AreBytes bytes → after_place place bytes ≡ Ok rest → Begins bytes (to_be_bytes w64 place) rest × FitsField place
 unfolding after_place
