@@ -28,7 +28,7 @@ count_bounds n = div_ceil_times n 16 (lit< tt)
 pub no_blocks : (n : ℕ) → 0 ≡ block_count n → n ≡ 0
 no_blocks n none = omega (arith, (count_bounds n).0, none)
 
-some_left : (n blocks : ℕ) → suc blocks ≡ block_count n → 1 ≤ n
+pub some_left : (n blocks : ℕ) → suc blocks ≡ block_count n → 1 ≤ n
 some_left n blocks some = omega (arith, (count_bounds n).1, some)
 
 pub one_block_less : (n : ℕ) → 1 ≤ n → block_count n ≡ suc (block_count (n - min n BLOCK))
@@ -37,7 +37,7 @@ one_block_less n some =
     let rest = count_bounds (n - min n BLOCK) in
     omega (arith, all.0, all.1, rest.0, rest.1)
 
-blocks_left : (n blocks : ℕ) → suc blocks ≡ block_count n → blocks ≡ block_count (n - min n BLOCK)
+pub blocks_left : (n blocks : ℕ) → suc blocks ≡ block_count n → blocks ≡ block_count (n - min n BLOCK)
 blocks_left n blocks is = omega (arith, is, one_block_less n (some_left n blocks is))
 
 pub fewer_blocks : (n : ℕ) → block_count n ≤ n
@@ -58,7 +58,7 @@ one_block block more left counted others =
 
 -- ---- one block
 
-block_takes : (count flushed : ℕ) (before : List Version) (bytes : List ℕ) (x : List Version × List ℕ) → AreBytes bytes → block_after count flushed before bytes ≡ Ok x
+pub block_takes : (count flushed : ℕ) (before : List Version) (bytes : List ℕ) (x : List Version × List ℕ) → AreBytes bytes → block_after count flushed before bytes ≡ Ok x
     → (middle : List ℕ) × Begins bytes (to_be_bytes w16 count) middle × TakesVersions count flushed before middle x
 unfolding block_after
 block_takes count flushed before bytes x h e =
@@ -70,7 +70,7 @@ block_takes count flushed before bytes x h e =
     let middle : Begins bytes (to_be_bytes w16 count) t.0 = subst (Begins bytes (to_be_bytes w16 count)) right.1 counted in
     (t.0, middle, versions_take count flushed before t.0 x middle.rest_bytes t.2)
 
-block_again : (block : List Version) (flushed : ℕ) (before : List Version) (rest : List ℕ) → length block < 2 ^ 16 → AreInOrder (before ++ block) → list_all (is_version flushed) block ≡ true → block_after (length block) flushed before (block_bytes block ++ rest) ≡ Ok (before ++ block, rest)
+pub block_again : (block : List Version) (flushed : ℕ) (before : List Version) (rest : List ℕ) → length block < 2 ^ 16 → AreInOrder (before ++ block) → list_all (is_version flushed) block ≡ true → block_after (length block) flushed before (block_bytes block ++ rest) ≡ Ok (before ++ block, rest)
 unfolding block_after
 block_again block flushed before rest small order range =
     let count = to_be_bytes w16 (length block) in

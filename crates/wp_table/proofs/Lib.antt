@@ -7,3 +7,4 @@ pub mod Loop
 pub mod Lookup
 pub mod NextBlock
 pub mod FieldFaults
+pub mod TableFaults

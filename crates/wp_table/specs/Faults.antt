@@ -37,10 +37,10 @@ IsMagicFault bytes other = ⊥
 
 -- the magic, the store's id, the number of versions, or that of blocks
 pub data IsHeadFault (id : ℕ) (bytes : List ℕ) (fault : TableError) : Type 0 where
-  magic : IsMagicFault bytes fault → IsHeadFault id bytes fault
-  store_id : (rest : List ℕ) → bytes ≡ magic_bytes ++ rest → IsNumberFault w32 (2 ^ 32) (λ found. found == id) Stranger rest fault → IsHeadFault id bytes fault
-  count : (rest : List ℕ) → bytes ≡ magic_bytes ++ (to_be_bytes w32 id ++ rest) → id < 2 ^ 32 → IsNumberFault w64 (2 ^ 64) (λ count. nat_le 1 count) (λ _. Count) rest fault → IsHeadFault id bytes fault
-  blocks : (count : ℕ) (rest : List ℕ) → bytes ≡ magic_bytes ++ (to_be_bytes w32 id ++ (to_be_bytes w64 count ++ rest)) → id < 2 ^ 32 → 1 ≤ count → count < 2 ^ 64 → IsNumberFault w64 (2 ^ 64) (λ blocks. blocks == block_count count) (λ _. Count) rest fault → IsHeadFault id bytes fault
+  in_magic : IsMagicFault bytes fault → IsHeadFault id bytes fault
+  in_id : (rest : List ℕ) → bytes ≡ magic_bytes ++ rest → IsNumberFault w32 (2 ^ 32) (λ found. found == id) Stranger rest fault → IsHeadFault id bytes fault
+  in_version_count : (rest : List ℕ) → bytes ≡ magic_bytes ++ (to_be_bytes w32 id ++ rest) → id < 2 ^ 32 → IsNumberFault w64 (2 ^ 64) (λ count. nat_le 1 count) (λ _. Count) rest fault → IsHeadFault id bytes fault
+  in_block_count : (count : ℕ) (rest : List ℕ) → bytes ≡ magic_bytes ++ (to_be_bytes w32 id ++ (to_be_bytes w64 count ++ rest)) → id < 2 ^ 32 → 1 ≤ count → count < 2 ^ 64 → IsNumberFault w64 (2 ^ 64) (λ blocks. blocks == block_count count) (λ _. Count) rest fault → IsHeadFault id bytes fault
 
 -- ---- a version
 
@@ -60,17 +60,17 @@ pub record HasPlace (flushed : ℕ) (bytes : List ℕ) (v : Version) (rest : Lis
 
 -- the key, the number, the order, or the value of the version after those before it
 pub data IsVersionFault (flushed : ℕ) (before : List Version) (bytes : List ℕ) (fault : TableError) : Type 0 where
-  key : (field : EncodingError) → IsWordFault 64 bytes field → fault ≡ table_error field → IsVersionFault flushed before bytes fault
-  number : (key rest : List ℕ) → HasKey bytes key rest → IsNumberFault w32 (2 ^ 32) (λ n. nat_le 1 n && nat_le n flushed) (λ _. Number) rest fault → IsVersionFault flushed before bytes fault
-  order : (v : Version) (rest : List ℕ) → HasPlace flushed bytes v rest → is_after_last before v ≡ false → fault ≡ Order → IsVersionFault flushed before bytes fault
-  value : (v : Version) (rest : List ℕ) → HasPlace flushed bytes v rest → is_after_last before v ≡ true → IsStoredFault rest fault → IsVersionFault flushed before bytes fault
+  in_key : (field : EncodingError) → IsWordFault 64 bytes field → fault ≡ table_error field → IsVersionFault flushed before bytes fault
+  in_number : (key rest : List ℕ) → HasKey bytes key rest → IsNumberFault w32 (2 ^ 32) (λ n. nat_le 1 n && nat_le n flushed) (λ _. Number) rest fault → IsVersionFault flushed before bytes fault
+  out_of_order : (v : Version) (rest : List ℕ) → HasPlace flushed bytes v rest → is_after_last before v ≡ false → fault ≡ Order → IsVersionFault flushed before bytes fault
+  in_value : (v : Version) (rest : List ℕ) → HasPlace flushed bytes v rest → is_after_last before v ≡ true → IsStoredFault rest fault → IsVersionFault flushed before bytes fault
 
 -- ---- blocks
 
 -- the count of a block that is to have so many versions, or one of them
 pub data IsBlockFault (count flushed : ℕ) (before : List Version) (bytes : List ℕ) (fault : TableError) : Type 0 where
-  counted : IsNumberFault w16 (2 ^ 16) (λ found. found == count) (λ _. Count) bytes fault → IsBlockFault count flushed before bytes fault
-  version : (versions : List Version) (rest : List ℕ) → bytes ≡ to_be_bytes w16 count ++ (flat_map version_bytes versions ++ rest) → length versions < count → AreInOrder (before ++ versions) → list_all (is_version flushed) versions ≡ true
+  in_count : IsNumberFault w16 (2 ^ 16) (λ found. found == count) (λ _. Count) bytes fault → IsBlockFault count flushed before bytes fault
+  in_versions : (versions : List Version) (rest : List ℕ) → bytes ≡ to_be_bytes w16 count ++ (flat_map version_bytes versions ++ rest) → length versions < count → AreInOrder (before ++ versions) → list_all (is_version flushed) versions ≡ true
       → IsVersionFault flushed (before ++ versions) rest fault → IsBlockFault count flushed before bytes fault
 
 -- fewer blocks than there are to be are right, each with 16 versions, and the next one has the fault
