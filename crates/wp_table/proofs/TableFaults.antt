@@ -5,7 +5,7 @@ use Rattle.std.specs.Int.{w16, w32, w64, to_be_bytes}
 use Rattle.std.specs.List.{AllByRecursion, flat_map, list_all}
 use Rattle.std.specs.Str.{bytes_eq}
 use Rattle.std.proofs.lemmas.Bool.{eqb-true, eq-eqb, leb-true, le-leb, and_parts, and_from}
-use Rattle.std.proofs.lemmas.List.{append-nil, length-append, take_at, drop_at, nil_from_length}
+use Rattle.std.proofs.lemmas.List.{append-nil, length-append, take_at, drop_at, nil_from_length, take-append-drop, length-take, length-drop}
 use Rattle.std.proofs.lemmas.List.Folds.{list_all-append}
 use Rattle.wp_model.specs.declared.version.Version.{Version}
 use Rattle.wp_model.specs.Versions.{AreInOrder}
@@ -22,6 +22,7 @@ use Rattle.wp_table.proofs.Order.{in_order_push, after_from_order, in_order_fron
 use Rattle.wp_table.proofs.Parts.{was_right, fields_64}
 use Rattle.wp_table.proofs.VersionLemmas.{IsNext, version_takes, version_again, versions_take}
 use Rattle.wp_table.proofs.BlockLemmas.{Found, no_blocks, some_left, blocks_left, one_block, block_takes, block_again}
+use Rattle.wp_table.proofs.Whole.{place_takes}
 use Rattle.wp_table.proofs.FieldFaults.{tested_fails, tested_refused, version_fails, version_refused}
 
 -- ---- the versions of a block
@@ -184,3 +185,80 @@ blocks_fail (suc blocks) size flushed left before places bytes fault is h order 
             wrong = subst (λ (n : ℕ). IsBlockFault (min n BLOCK) flushed (before ++ (versions.more ++ after.more)) after.rest fault) left_then (subst (λ (vs : List Version). IsBlockFault (min (left - min left BLOCK - length after.more) BLOCK) flushed vs after.rest fault) all after.wrong);
           }
     ]
+
+blocks_refused : (right : ℕ) (more : List Version) (blocks size flushed left : ℕ) (before : List Version) (places rest : List ℕ) (fault : TableError) → blocks ≡ block_count left → length more ≡ right * BLOCK → length more < left → AreInOrder (before ++ more)
+    → list_all (is_version flushed) more ≡ true → IsBlockFault (min (left - length more) BLOCK) flushed (before ++ more) rest fault → blocks_after blocks size flushed left before places (flat_map block_bytes (blocks_in right more) ++ rest) ≡ Err fault
+unfolding blocks_after
+blocks_refused right more zero size flushed left before places rest fault is full fewer order range wrong = absurd (omega (arith, fewer, no_blocks left is))
+blocks_refused zero more (suc blocks) size flushed left before places rest fault is full fewer order range wrong =
+    let none : more ≡ [] = nil_from_length more (omega (arith, full)) in
+    let all : before ++ more ≡ before = ap (λ (t : List Version). before ++ t) none ∙ append-nil before in
+    let count : min (left - length more) BLOCK ≡ min left BLOCK = omega (arith, full) in
+    let next : IsBlockFault (min left BLOCK) flushed before rest fault =
+        subst (λ (n : ℕ). IsBlockFault n flushed before rest fault) count (subst (λ (vs : List Version). IsBlockFault (min (left - length more) BLOCK) flushed vs rest fault) all wrong) in
+    rw (block_refused (min left BLOCK) flushed before rest fault (omega arith) next) refl
+blocks_refused (suc right) more (suc blocks) size flushed left before places rest fault is full fewer order range wrong =
+    let block = take BLOCK more in
+    let others = drop BLOCK more in
+    let split : more ≡ block ++ others = sym (take-append-drop BLOCK more) in
+    let counted : length block ≡ min left BLOCK = omega (arith, full, fewer, length-take BLOCK more) in
+    let left_over : length others ≡ right * BLOCK = omega (arith, full, length-drop BLOCK more) in
+    let all : before ++ more ≡ (before ++ block) ++ others = ap (λ (t : List Version). before ++ t) split ∙ sym (append_assoc before block others) in
+    let whole_order : AreInOrder ((before ++ block) ++ others) = subst AreInOrder all order in
+    let ranges = and_parts (list_all (is_version flushed) block) (list_all (is_version flushed) others) (sym (list_all-append (is_version flushed) block others) ∙ ap (list_all (is_version flushed)) (sym split) ∙ range) in
+    let text = flat_map block_bytes (blocks_in right others) in
+    let regrouped : (block_bytes block ++ text) ++ rest ≡ block_bytes block ++ (text ++ rest) = append_assoc (block_bytes block) text rest in
+    let one : block_after (min left BLOCK) flushed before ((block_bytes block ++ text) ++ rest) ≡ Ok (before ++ block, text ++ rest) =
+        ap (λ (n : ℕ). block_after n flushed before ((block_bytes block ++ text) ++ rest)) (sym counted) ∙ ap (block_after (length block) flushed before) regrouped
+        ∙ block_again block flushed before (text ++ rest) (omega (arith, counted)) (in_order_front (before ++ block) others whole_order) ranges.0 in
+    let count : min (left - length more) BLOCK ≡ min (left - min left BLOCK - length others) BLOCK = omega (arith, full, fewer, left_over) in
+    let next : IsBlockFault (min (left - min left BLOCK - length others) BLOCK) flushed ((before ++ block) ++ others) rest fault =
+        subst (λ (n : ℕ). IsBlockFault n flushed ((before ++ block) ++ others) rest fault) count (subst (λ (vs : List Version). IsBlockFault (min (left - length more) BLOCK) flushed vs rest fault) all wrong) in
+    let after = blocks_refused right others blocks size flushed (left - min left BLOCK) (before ++ block) (places ++ (size - length ((block_bytes block ++ text) ++ rest)) ∷ []) rest fault (blocks_left left blocks is) left_over (omega (arith, full, fewer, left_over)) whole_order ranges.1 next in
+    rw one after
+
+-- a fault of the blocks, of which none was read before
+pub all_blocks_fail : (count size flushed : ℕ) (bytes : List ℕ) (fault : TableError) → AreBytes bytes → blocks_after (block_count count) size flushed count [] [] bytes ≡ Err fault → IsBlocksFault count flushed bytes fault
+all_blocks_fail count size flushed bytes fault h e =
+    let found = blocks_fail (block_count count) size flushed count [] [] bytes fault refl h in_order_nil e in
+    record { blocks = found.right; versions = found.more; rest = found.rest; full = found.full; fewer = found.fewer; parts = found.parts; in_order = found.in_order; in_range = found.in_range; wrong = found.wrong }
+
+pub all_blocks_refused : (count size flushed : ℕ) (bytes : List ℕ) (fault : TableError) → IsBlocksFault count flushed bytes fault → blocks_after (block_count count) size flushed count [] [] bytes ≡ Err fault
+all_blocks_refused count size flushed bytes fault is =
+    ap (blocks_after (block_count count) size flushed count [] []) is.parts ∙ blocks_refused is.blocks is.versions (block_count count) size flushed count [] [] is.rest fault refl is.full is.fewer is.in_order is.in_range is.wrong
+
+-- ---- the index and the end
+
+pub places_fail : (places bytes : List ℕ) (fault : TableError) → AreBytes bytes → after_places places bytes ≡ Err fault → IsPlacesFault places bytes fault
+unfolding after_places after_place
+places_fail [] bytes fault h e = absurd (ok_or_err bytes fault e)
+places_fail (place ∷ places) bytes fault h e =
+    elim (bind_err (after_place place bytes) (after_places places) fault e) [
+      | inl wrong ↦
+          record { front = []; place = place; others = places; rest = bytes; listed = refl; parts = refl; fit = tt; wrong = tested_fails w64 (2 ^ 64) fields_64 (λ found. eqb found place) (λ _. Index) (λ found. found.1) bytes fault h wrong }
+      | inr there ↦
+          let first = place_takes place bytes there.0 h there.1 in
+          let after = places_fail places there.0 fault first.0.rest_bytes there.2 in
+          record {
+            front = place ∷ after.front;
+            place = after.place;
+            others = after.others;
+            rest = after.rest;
+            listed = ap (λ (ps : List ℕ). place ∷ ps) after.listed;
+            parts = first.0.parts ∙ ap (λ (t : List ℕ). to_be_bytes w64 place ++ t) after.parts ∙ sym (append_assoc (to_be_bytes w64 place) (flat_map (to_be_bytes w64) after.front) after.rest);
+            fit = (first.1, after.fit);
+            wrong = after.wrong;
+          }
+    ]
+
+place_refused : (front others : List ℕ) (place : ℕ) (rest : List ℕ) (fault : TableError) → AllByRecursion FitsField front → IsNumberFault w64 (2 ^ 64) (λ found. eqb found place) (λ _. Index) rest fault → after_places (front ++ (place ∷ others)) (flat_map (to_be_bytes w64) front ++ rest) ≡ Err fault
+unfolding after_places after_place
+place_refused [] others place rest fault fit wrong = rw (tested_refused w64 (2 ^ 64) fields_64 (λ found. eqb found place) (λ _. Index) (λ found. found.1) rest fault wrong) refl
+place_refused (first ∷ front) others place rest fault fit wrong =
+    let text = flat_map (to_be_bytes w64) front ++ rest in
+    let regrouped : (to_be_bytes w64 first ++ flat_map (to_be_bytes w64) front) ++ rest ≡ to_be_bytes w64 first ++ text = append_assoc (to_be_bytes w64 first) (flat_map (to_be_bytes w64) front) rest in
+    ap (after_places (first ∷ (front ++ (place ∷ others)))) regrouped ∙ rw (number_again Short w64 (2 ^ 64) fields_64 first text fit.0, eq-eqb first first refl) (place_refused front others place rest fault fit.1 wrong)
+
+pub places_refused : (places bytes : List ℕ) (fault : TableError) → IsPlacesFault places bytes fault → after_places places bytes ≡ Err fault
+places_refused places bytes fault is =
+    ap (λ (ps : List ℕ). after_places ps bytes) is.listed ∙ ap (after_places (is.front ++ (is.place ∷ is.others))) is.parts ∙ place_refused is.front is.others is.place is.rest fault is.fit is.wrong
