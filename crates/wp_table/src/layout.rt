@@ -1,0 +1,16 @@
+//! The sizes of a table's parts, and the bytes that tell its versions apart.
+
+/// The first bytes of each table.
+pub const MAGIC: [u8; 4] = *b"WPTB";
+
+/// The number of the table format.
+pub const FORMAT: u8 = 1;
+
+/// How many versions each block has. The last one may have fewer.
+pub const BLOCK: u64 = 16;
+
+/// The byte after the number of a version that is a deletion.
+pub const DELETION: u8 = 0;
+
+/// The byte after the number of a version with a value.
+pub const PUT: u8 = 1;
