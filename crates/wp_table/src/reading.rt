@@ -1,7 +1,9 @@
-ghost use Rattle.std.specs.Prelude.{◌≡◌, ◌-◌, [], List, length, IfOk, Ok};
+ghost use Rattle.std.specs.Prelude.{◌≡◌, ◌-◌, [], List, length, IfOk, IfErr, IfSome, Ok, Err};
 ghost use Rattle.wp_model.specs.declared.version.Version.{Version};
 ghost use Rattle.wp_fields.specs.Reading.{Gives};
+ghost use Rattle.wp_table.specs.declared.error.TableError.{TableError};
 ghost use Rattle.wp_table.specs.Errors.{table_fault};
+ghost use Rattle.wp_table.specs.Faults.{IsTableFault};
 ghost use Rattle.wp_table.specs.Table.{block_count, table_bytes, IsTable};
 ghost use Rattle.wp_table.specs.Reading.{after_magic, after_id, count_at, head_at, flushed_number_at, stored_at, is_after_last, next_place_at, next_version_at, versions_after, block_after, blocks_after, after_place, after_places, table_at};
 
@@ -249,6 +251,9 @@ pub fn read_table(
     ensures found { IfOk result (λ versions. IsTable id flushed versions.items × (bytes.now ≡ table_bytes id versions.items)) }
     ensures only { (written : List Version) → IsTable id flushed written → bytes.now ≡ table_bytes id written
         → Gives table_fault (λ versions. versions.items) result (Ok written) }
+    ensures refused { IfErr result (λ error. IfSome (table_fault error) (λ fault. IsTableFault id flushed bytes.now fault)) }
+    ensures each_fault { (fault : TableError) → IsTableFault id flushed bytes.now fault
+        → Gives table_fault (λ versions. versions.items) result (Err fault) }
     ensures exact { Gives table_fault (λ versions. versions.items) result (table_at id flushed bytes.now) }
 {
     table(alloc, bytes, id, flushed)
