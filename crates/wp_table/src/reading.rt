@@ -8,7 +8,7 @@ ghost use Rattle.wp_table.specs.Table.{block_count, table_bytes, IsTable};
 ghost use Rattle.wp_table.specs.Reading.{after_magic, after_id, count_at, head_at, flushed_number_at, stored_at, is_after_last, next_place_at, next_version_at, versions_after, block_after, blocks_after, after_place, after_places, table_at};
 
 use crate::error::TableError;
-use crate::layout::{BLOCK, DELETION, FORMAT, MAGIC, PUT};
+use crate::layout::{BLOCK, DELETION, FORMAT, MAGIC, PUT, blocks_for};
 use std::alloc::Global;
 use wp_encoding::{read_value, read_word};
 use wp_fields::Fields;
@@ -38,13 +38,6 @@ fn store_id(fields: &mut Fields<'_>, id: u32) -> Result<(), TableError>
         return Err(TableError::Stranger(found));
     }
     Ok(())
-}
-
-/// How many blocks so many versions take.
-fn blocks_for(count: u64) -> u64
-    ensures { result ≡ block_count count }
-{
-    count.div_ceil(BLOCK)
 }
 
 /// The number of versions.
