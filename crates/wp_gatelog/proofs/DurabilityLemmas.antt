@@ -56,11 +56,11 @@ module _ (P : List ℕ → Type 0) (step : Moment → Moment) (before : List ℕ
 
   -- the step was made, and then a sync, or not
   pub synced_preserves : {T E : Type 0} (old mid new : List Moment) (result : Result T E) → IsImage (step (synced before)) (step (synced before)).reads → IfKnown old (λ m. m ≡ synced before) → mid ≡ added step old → OnOk result (new ≡ added after_sync mid) → OnErr result (new ≡ mid) → Preserves (Leaves P) old new
-  synced_preserves old mid new (Ok x) reads known adds syncs kept =
+  synced_preserves old mid new (Ok x) reads known adds syncs stays =
       preserves_on (Leaves P) old mid new (stepped_preserves old mid known adds) (sync_preserves P mid new (itself old mid known adds) syncs)
     where
       itself : (old mid : List Moment) → IfKnown old (λ m. m ≡ synced before) → mid ≡ added step old → ReadsItself mid
       itself [] mid known adds = subst ReadsItself (sym adds) tt
       itself (m ∷ past) mid known adds =
           subst ReadsItself (sym adds) (subst (λ (n : Moment). IsImage (step n) (step n).reads) (sym known) reads)
-  synced_preserves old mid new (Err e) reads known adds syncs kept = stepped_preserves old new known (kept ∙ adds)
+  synced_preserves old mid new (Err e) reads known adds syncs stays = stepped_preserves old new known (stays ∙ adds)

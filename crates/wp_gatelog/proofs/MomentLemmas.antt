@@ -104,9 +104,9 @@ module _ (step : Moment → Moment) (before : List ℕ) where
 
   -- the step was made, and then a sync, or not
   pub synced_goes : {T E : Type 0} (old mid new : List Moment) (result : Result T E) → IsImage (step (synced before)) (step (synced before)).reads → IfKnown old (λ m. m ≡ synced before) → mid ≡ added step old → OnOk result (new ≡ added after_sync mid) → OnErr result (new ≡ mid) → Goes (Leaves (IsImage (step (synced before)))) old new
-  synced_goes [] mid new (Ok x) reads known adds syncs kept = subst (λ (l : List Moment). new ≡ added after_sync l) adds syncs
-  synced_goes [] mid new (Err e) reads known adds syncs kept = kept ∙ adds
-  synced_goes (m ∷ past) mid new (Ok x) reads known adds syncs kept =
+  synced_goes [] mid new (Ok x) reads known adds syncs stays = subst (λ (l : List Moment). new ≡ added after_sync l) adds syncs
+  synced_goes [] mid new (Err e) reads known adds syncs stays = stays ∙ adds
+  synced_goes (m ∷ past) mid new (Ok x) reads known adds syncs stays =
       let last : new ≡ synced (step m).reads ∷ step m ∷ m ∷ past = subst (λ (l : List Moment). new ≡ added after_sync l) adds syncs in
       let is : (step m).reads ≡ (step (synced before)).reads = ap (λ (n : Moment). (step n).reads) known in (
         synced (step m).reads ∷ step m ∷ [],
@@ -116,7 +116,7 @@ module _ (step : Moment → Moment) (before : List ℕ) where
           (within_step m known, tt),
         ),
       )
-  synced_goes (m ∷ past) mid new (Err e) reads known adds syncs kept = step_goes (m ∷ past) new known (kept ∙ adds)
+  synced_goes (m ∷ past) mid new (Err e) reads known adds syncs stays = step_goes (m ∷ past) new known (stays ∙ adds)
 
 -- ---- images of a log that is changed
 
@@ -154,11 +154,11 @@ image_of_gate front at gate following image is h =
     any_gate front following rest.0 image rest.1 rest.2
 
 -- a cut leaves what is before it
-pub image_of_cut : (kept rest image : List ℕ) (len : ℕ) → len ≡ length kept → IsImage (after_cut len (synced (kept ++ rest))) image → (d : List ℕ) × (image ≡ kept ++ d)
-image_of_cut kept rest image len is h =
-    let known : take len (map (λ b. Some b) (kept ++ rest)) ≡ map (λ b. Some b) kept ++ [] =
-    take-map (λ b. Some b) len (kept ++ rest) ∙ ap (λ (l : List ℕ). map (λ b. Some b) l) (take_at kept rest len (sym is)) ∙ sym (append-nil (map (λ b. Some b) kept)) in
-    let found = matches_front kept [] image (subst (λ (s : List (Option ℕ)). Matches s image) known h.0) in
+pub image_of_cut : (front rest image : List ℕ) (len : ℕ) → len ≡ length front → IsImage (after_cut len (synced (front ++ rest))) image → (d : List ℕ) × (image ≡ front ++ d)
+image_of_cut front rest image len is h =
+    let known : take len (map (λ b. Some b) (front ++ rest)) ≡ map (λ b. Some b) front ++ [] =
+    take-map (λ b. Some b) len (front ++ rest) ∙ ap (λ (l : List ℕ). map (λ b. Some b) l) (take_at front rest len (sym is)) ∙ sym (append-nil (map (λ b. Some b) front)) in
+    let found = matches_front front [] image (subst (λ (s : List (Option ℕ)). Matches s image) known h.0) in
     (found.0, found.1)
 
 -- ---- what a read gives then

@@ -127,8 +127,8 @@ module _ (magic : List ℕ) (asked : ℕ) (new : List Moment) (result : Result F
 -- by a call that brings the disk somewhere
 pub opens_brings : {T E : Type 0} (magic : List ℕ) (asked : ℕ) (bytes : List ℕ) (P : List ℕ → Type 0) (Q : Moment → Type 0) (old read new : List Moment) (done : Result T E) (result : Result FoundLog LogError)
     → read ≡ old → ((image : List ℕ) → P image → Repairs magic asked bytes image) → IsAnswer magic asked bytes new result → BringsTo magic P Q read new done → Opens magic asked bytes old new result
-opens_brings magic asked bytes P Q old read new done result kept f answered brings =
-    subst (λ (ms : List Moment). Opens magic asked bytes ms new result) kept (record {
+opens_brings magic asked bytes P Q old read new done result same f answered brings =
+    subst (λ (ms : List Moment). Opens magic asked bytes ms new result) same (record {
       passed = goes_map (Leaves P) (Leaves (Repairs magic asked bytes)) (λ m leaves image h. f image (leaves image h)) read new brings.passed;
       durable = brings.durable;
       answered = answered;
@@ -146,7 +146,7 @@ begins magic len bytes gate id four size head = record { magic_size = four; made
 
 -- the same, of a disk that was only read before
 pub opens_read : (magic : List ℕ) (asked : ℕ) (bytes : List ℕ) (old read new : List Moment) (result : Result FoundLog LogError) → read ≡ old → Opens magic asked bytes read new result → Opens magic asked bytes old new result
-opens_read magic asked bytes old read new result kept opens = subst (λ (ms : List Moment). Opens magic asked bytes ms new result) kept opens
+opens_read magic asked bytes old read new result same opens = subst (λ (ms : List Moment). Opens magic asked bytes ms new result) same opens
 
 pub found_none : (magic : List ℕ) (asked : ℕ) (bytes : List ℕ) → IsUnmade bytes → (records : List (List ℕ)) → records ≡ [] → IsFound magic asked bytes asked records
 found_none magic asked bytes unmade records none = record { spelled = inl (unmade, none); unmade = λ _. refl }

@@ -48,7 +48,7 @@ each_but_last (g ∷ before) last each = let rest = each_but_last before last ea
 
 module _ (magic : List ℕ) (id head : ℕ) (gated : List Gated) where
   repaired_cut : (image : List ℕ) → HasFront (log_of magic id head gated) image → IsRepaired magic id head gated image
-  repaired_cut image kept = inl kept
+  repaired_cut image front = inl front
 
   repaired_head : (image : List ℕ) → Reopens [] head ((identity magic id ++ all_gated gated) ++ 0 ∷ []) image → IsRepaired magic id head gated image
   repaired_head image w =

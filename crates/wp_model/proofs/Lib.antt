@@ -1,3 +1,4 @@
 pub mod BatchLemmas
 pub mod Entries
 pub mod VersionLists
+pub mod Found

@@ -28,7 +28,7 @@ use Rattle.wp_session.specs.Plan.{plan, asked_of, next, busy_or, change_plan, re
 use Rattle.wp_session.specs.Due.{Store, logged, reply_to, due, IsReply, logged_entries, taken, client_after}
 use Rattle.wp_session.specs.Moments.{store_at, IsDueFrom, AreDueFrom}
 use Rattle.wp_session.specs.Session.{IsSession}
-use Rattle.wp_session.proofs.Found.{found_holder, found_named}
+use Rattle.wp_model.proofs.Found.{found_holder, found_named}
 use Rattle.wp_model.proofs.Entries.{undecided_within, batch_at_old}
 use Rattle.wp_session.proofs.SaidLemmas.{within_same, within_filter, within_more, number_within}
 use Rattle.wp_session.proofs.Rows.{slice_get_more, snapshots_after}

@@ -23,7 +23,7 @@ use Rattle.wp_session.specs.declared.client.Txn.{Txn}
 use Rattle.wp_session.specs.declared.client.Txn.TheVariants.{Idle, Open, Prepared}
 use Rattle.wp_session.specs.declared.plan.Plan.{Plan}
 use Rattle.wp_session.specs.declared.plan.Plan.TheVariants.{Say, Log}
-use Rattle.wp_session.proofs.Found.{named_is_undecided}
+use Rattle.wp_model.proofs.Found.{named_is_undecided}
 use Rattle.wp_session.specs.Client.{Client, ClientFits, AreWithin, number_of, own_batch, has_no_room}
 use Rattle.wp_session.specs.After.{with_staged}
 use Rattle.wp_session.specs.Due.{client_after}
