@@ -23,7 +23,7 @@ use Rattle.wp_core.specs.Sound.Prepared.{IsCache, AreUndecided}
 use Rattle.wp_core.specs.Sound.Store.{IsStored}
 use Rattle.wp_core.specs.Sound.Views.{IsNowhere}
 use Rattle.wp_core.specs.IsSound.{IsSound}
-use Rattle.wp_history.proofs.Growth.{entry_at_old, prepared_within}
+use Rattle.wp_model.proofs.Entries.{entry_at_old, prepared_within}
 use Rattle.wp_core.proofs.HistoryLaws.{decision_was, decision_within, decided_by_last}
 use Rattle.wp_core.proofs.ReaderFacts.{pair_ordered}
 use Rattle.wp_core.proofs.PendingSteps.{with_pending, pending_changes, none_logged, so_pending}

@@ -17,15 +17,15 @@ use Rattle.wp_model.specs.History.{entry_at, is_prepare, prepared_name, name_at,
 use Rattle.wp_model.specs.Legal.{IsLegal, IsLegalNext, change_that_leaves, prior}
 use Rattle.wp_model.specs.Decision.{decision_of, IsCommittedAt, version_in, entry_version}
 use Rattle.wp_history.specs.Growth.{undecided_after}
-use Rattle.wp_history.proofs.Growth.{entry_at_old, entry_at_next, length_next, after_front, legal_before, decides_undecided}
-use Rattle.wp_history.proofs.Undecided.{undecided_within, undecided_old, undecided_at_next, undecided_next}
-use Rattle.wp_history.proofs.Newest.{batch_at_old, newest_next}
+use Rattle.wp_history.proofs.Growth.{entry_at_next, length_next, after_front, legal_before, decides_undecided}
+use Rattle.wp_model.proofs.Entries.{entry_at_old, undecided_within, batch_at_old}
+use Rattle.wp_history.proofs.Undecided.{undecided_old, undecided_at_next, undecided_next}
+use Rattle.wp_history.proofs.Newest.{newest_next}
 use Rattle.wp_core.specs.Lists.{IsIn}
 use Rattle.wp_core.specs.Entries.{pair_by}
 use Rattle.wp_core.proofs.Frames.{in_filter}
 use Rattle.wp_core.proofs.HistoryLaws.{decided_late, decision_stays, decision_was, decision_within, decided_by_last}
 use Rattle.wp_core.proofs.Tests.{one_not_other}
-use Rattle.wp_core.proofs.HistoryHolders.{found_undecided}
 
 pub none_is : {A : Type 0} (o : Option A) → ((x : A) → o ≡ Some x → ⊥) → o ≡ None
 none_is None never = refl
@@ -78,11 +78,6 @@ swapped : (r p : ℕ) → (r == p) ≡ false → not (p == r) ≡ true
 swapped r p e = dite (ℕ_discrete p r)
     (λ (q : p ≡ r). absurd (true≢false (sym (eq-eqb r p (sym q)) ∙ e)))
     (λ (ne : p ≢ r). ap not (ne_eqb p r ne))
-
--- ---- what the undecided numbers of a name or key are
-
-pub named_is : (history : List Entry) (name : List ℕ) (p : ℕ) → named history name ≡ Some p → (is_undecided history p ≡ true) × (bytes_eq (name_at history p) name ≡ true)
-named_is history name p e = found_undecided history (λ (q : ℕ). bytes_eq (name_at history q) name) p e
 
 module _ (history : List Entry) (entry : Entry) (legal : IsLegal (history ++ entry ∷ [])) where
   abbrev pub grown : List Entry

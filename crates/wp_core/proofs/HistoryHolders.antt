@@ -7,25 +7,6 @@ use Rattle.std.proofs.lemmas.Slice.Eq.{bytes_eq-Decides}
 use Rattle.wp_model.specs.declared.entry.Entry.{Entry}
 use Rattle.wp_model.specs.History.{batch_at, name_at, is_undecided, undecided, is_changed, holder_of, named}
 use Rattle.wp_history.proofs.Undecided.{is_undecided_by_list}
-use Rattle.wp_core.specs.Lists.{IsIn}
-use Rattle.wp_core.proofs.Frames.{in_filter}
-
--- what is found is in the list, and passes the test
-find_is : (f : ℕ → Bool) (xs : List ℕ) (p : ℕ) → find f xs ≡ Some p → IsIn p xs × (f p ≡ true)
-find_is f [] p e = absurd cc
-find_is f (x ∷ xs) p e = by (f x) refl e (find_is f xs p)
-  where
-    by : (b : Bool) → f x ≡ b → cond b (Some x) (find f xs) ≡ Some p → (find f xs ≡ Some p → IsIn p xs × (f p ≡ true)) → IsIn p (x ∷ xs) × (f p ≡ true)
-    by true is h rest = let same : x ≡ p = cc in (inl same, ap f (sym same) ∙ is)
-    by false is h rest = let k = rest h in (inr k.0, k.1)
-
--- an undecided number that is found
-pub found_undecided : (history : List Entry) (test : ℕ → Bool) (p : ℕ) → find test (undecided history) ≡ Some p → (is_undecided history p ≡ true) × (test p ≡ true)
-found_undecided history test p e = let k = find_is test (undecided history) p e in ((in_filter (is_undecided history) p (range_with_len 1 (length history)) k.0).1, k.1)
-
--- the holder of a key is undecided, and changes it
-pub holder_holds : (history : List Entry) (key : List ℕ) (p : ℕ) → holder_of history key ≡ Some p → (is_undecided history p ≡ true) × (is_changed (batch_at history p) key ≡ true)
-holder_holds history key p h = found_undecided history (λ q. is_changed (batch_at history q) key) p h
 
 find_none : (test : ℕ → Bool) (xs : List ℕ) (p : ℕ) → find test xs ≡ None → test p ≡ true → list_any (λ k. eqb k p) xs ≡ true → ⊥
 find_none test [] p none t h = absurd cc

@@ -11,6 +11,7 @@ use Rattle.wp_model.specs.Batch.{key_cmp}
 use Rattle.wp_model.specs.History.{holder_of, name_at}
 use Rattle.wp_model.specs.declared.holder.Holder.TheVariants.{Txn, Client}
 use Rattle.wp_model.specs.LockTables.{LockTables}
+use Rattle.wp_model.proofs.Found.{found_holder}
 use Rattle.wp_core.specs.Views.{Event, locked, Fact, undecided_at, prior_values, unprepared, direct_free}
 use Rattle.wp_core.specs.World.{Transaction, Actor, Participant, World}
 use Rattle.wp_core.specs.Steps.{lock_key}
@@ -24,7 +25,6 @@ use Rattle.wp_core.specs.IsSound.{IsSound, participants}
 use Rattle.wp_core.proofs.Keyed.{same_test, is_word_same, not_same, at_inserted}
 use Rattle.wp_core.proofs.OwnerMoves.{owners_apart, name_kept, direct_kept}
 use Rattle.wp_core.proofs.AllParticipants.{mine, was_apart, each_apart}
-use Rattle.wp_core.proofs.HistoryHolders.{holder_holds}
 use Rattle.wp_core.proofs.PastsGrow.{in_front}
 use Rattle.wp_core.proofs.LocksChange.{SoWith, actor_after, owners_after, LocksParts, locks_change}
 use Rattle.wp_core.proofs.AllParts.{SoIn}
@@ -131,7 +131,7 @@ module _ (w : World) (by : ℕ) (a : Actor) (name : List ℕ) (x0 : Transaction)
   -- no undecided prepare changes the key
   holder_free : (o : Option ℕ) → holder_of w.writes.history key ≡ o → o ≡ None
   holder_free None h = refl
-  holder_free (Some q) h = let k = holder_holds w.writes.history key q h in let f : None ≡ Some (Txn (name_at w.writes.history q)) = sym free ∙ s.locks.prepared_keys q key k.0 k.1 in absurd cc
+  holder_free (Some q) h = let k = found_holder w.writes.history key q h in let f : None ≡ Some (Txn (name_at w.writes.history q)) = sym free ∙ s.locks.prepared_keys q key k.0 k.1 in absurd cc
 
   -- the keys of the transaction were its own, or are held by no undecided prepare
   was_or_free : (c : List ℕ) → words.contains x1.locked c ≡ true → (words.contains x0.locked c ≡ true) ⊎ (holder_of w.writes.history c ≡ None)

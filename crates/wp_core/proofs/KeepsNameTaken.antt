@@ -18,6 +18,7 @@ use Rattle.wp_model.specs.Holder.{is_same}
 use Rattle.wp_model.specs.declared.holder.Holder.{Holder}
 use Rattle.wp_model.specs.declared.holder.Holder.TheVariants.{Txn, Client}
 use Rattle.wp_model.specs.LockTables.{LockTables}
+use Rattle.wp_model.proofs.Words.{same_word}
 use Rattle.wp_core.specs.Views.{took}
 use Rattle.wp_core.specs.World.{Transaction, Actor, World}
 use Rattle.wp_core.specs.Steps.{take_name}
@@ -26,7 +27,6 @@ use Rattle.wp_core.specs.Effects.{done}
 use Rattle.wp_core.specs.Needs.{Needs}
 use Rattle.wp_core.specs.Notes.{forgets}
 use Rattle.wp_core.specs.IsSound.{IsSound}
-use Rattle.wp_core.proofs.Keyed.{same_word}
 use Rattle.wp_core.proofs.LocksChange.{locks_change}
 use Rattle.wp_core.proofs.GainsTransaction.{Gains, p, t, gained_parts}
 use Rattle.wp_core.proofs.Tests.{both}

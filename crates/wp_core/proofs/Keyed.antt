@@ -1,22 +1,13 @@
 -- Finite maps whose keys are words.
-use Rattle.std.proofs.Common.{◌≡◌, ◌⊎◌, inl, inr, ℕ, Bool, true, false, cond, true≢false, Less, Equal, Greater, List, Some, None, refl, sym, ap, ◌∙◌, ⊎_elim, is_some}
+use Rattle.std.proofs.Common.{◌≡◌, ◌⊎◌, inl, inr, ℕ, Bool, true, false, cond, true≢false, List, Some, None, refl, sym, ap, ◌∙◌, ⊎_elim, is_some}
 use Rattle.std.specs.Cmp.{eq_by_cmp_equiv}
-use Rattle.std.specs.declared.cmp.Ordering.{Ordering}
-use Rattle.std.specs.Ordering.{eq_by_cmp, is_eq}
+use Rattle.std.specs.Ordering.{eq_by_cmp}
 use Rattle.std.specs.FinMap.{FinMap, get, insert, remove, get-insert, get-remove}
 use Rattle.std.proofs.lemmas.Cmp.{nat_list_cmp_total}
-use Rattle.std.proofs.lemmas.Map.Lookups.{exact_bytes}
 use Rattle.wp_model.specs.Batch.{key_cmp}
+use Rattle.wp_model.proofs.Words.{same_word}
 use Rattle.wp_core.proofs.Tests.{same_some}
 use Rattle.wp_model.specs.declared.holder.Holder.TheVariants.{Txn}
-
-equal_from_test : (o : Ordering) → is_eq o ≡ true → o ≡ Equal
-equal_from_test Less h = absurd cc
-equal_from_test Equal h = refl
-equal_from_test Greater h = absurd cc
-
-pub same_word : (a b : List ℕ) → eq_by_cmp key_cmp a b ≡ true → a ≡ b
-same_word a b h = exact_bytes a b (equal_from_test (key_cmp a b) h)
 
 pub same_test : (a b : List ℕ) → a ≡ b → eq_by_cmp key_cmp a b ≡ true
 same_test a b e = ap (eq_by_cmp key_cmp a) (sym e) ∙ (eq_by_cmp_equiv nat_list_cmp_total).refl a

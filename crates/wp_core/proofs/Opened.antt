@@ -17,10 +17,11 @@ use Rattle.wp_model.specs.Legal.{IsLegal, undone_last}
 use Rattle.wp_model.specs.Snapshots as snaps
 use Rattle.wp_model.specs.LockTables.{LockTables}
 use Rattle.wp_model.specs.PreparedTables.{PreparedTables, is_prepared}
-use Rattle.wp_history.proofs.Growth.{undecided_prepared}
-use Rattle.wp_history.proofs.Undecided.{is_undecided_by_list, undecided_within}
+use Rattle.wp_model.proofs.Entries.{undecided_prepared, undecided_within}
+use Rattle.wp_history.proofs.Undecided.{is_undecided_by_list}
 use Rattle.wp_judge.specs.Words.{CommitPair, pair_of}
 use Rattle.wp_judge.specs.declared.observed.Observed.{Observed}
+use Rattle.wp_model.proofs.Found.{found_holder}
 use Rattle.wp_core.specs.Lists.{IsIn}
 use Rattle.wp_core.specs.Turns.{Turn, write_turn, prepared_turn, snapshots_turn, store_turn, locks_turn, tables_turn, Holds, all_free}
 use Rattle.wp_core.specs.Tables.{StoreTable, InstalledEdit, Installed, NoneDelayed}
@@ -35,8 +36,7 @@ use Rattle.wp_core.specs.Sound.Locks.{prepare_holding, Owner, owner_of, IsOwner}
 use Rattle.wp_core.specs.Sound.Pasts.{IsPast, tables_due}
 use Rattle.wp_core.specs.IsSound.{IsSound}
 use Rattle.wp_core.proofs.HistoryLaws.{decision_within, undecided_not_decided}
-use Rattle.wp_core.proofs.HistoryHolders.{holder_holds}
-use Rattle.wp_core.proofs.OneHolder.{found_holder, found_name}
+use Rattle.wp_core.proofs.OneHolder.{holder_is, found_name}
 use Rattle.wp_core.proofs.Tests.{none_some}
 use Rattle.wp_core.proofs.Keyed.{txn_is}
 use Rattle.wp_core.proofs.PendingSteps.{none_logged}
@@ -155,7 +155,7 @@ module _ (opened : List Entry) (cache : List ℕ) (flag : ℕ) (logged : Bool) (
   key_live : (key name : List ℕ) → finite.get t.keys key ≡ Some (Txn name) → is_some (finite.get t.names name) ≡ true
   key_live key name e =
       let k = who_holds opened (holder_of opened key) name (sym (locks.keys key) ∙ e) in
-      let h = holder_holds opened key k.0 k.1 in
+      let h = found_holder opened key k.0 k.1 in
       subst (λ (n : List ℕ). is_some (finite.get t.names n) ≡ true) k.2 (is_live k.0 h.0)
 
   starts : StartsWith opened opened
@@ -202,7 +202,7 @@ module _ (opened : List Entry) (cache : List ℕ) (flag : ℕ) (logged : Bool) (
     flushed = λ _ key p le. flushed key p le;
     locks = record {
       prepared_names = is_live;
-      prepared_keys = λ p key u changed. locks.keys key ∙ ap (prepare_holding opened) (found_holder opened legal p key u changed);
+      prepared_keys = λ p key u changed. locks.keys key ∙ ap (prepare_holding opened) (holder_is opened legal p key u changed);
       had = λ j i o at. subst (IsOwner t) (one_participant (owner_of (new_participant client opened)) j i o at)
           record { names = λ name x e. absurd (no_transaction name x e); keys = λ name x key e _. absurd (no_transaction name x e); direct = λ key e. let q : None ≡ Some key = e in absurd (cc) };
       apart = record {

@@ -25,7 +25,7 @@ use Rattle.wp_core.specs.Sound.Prepared.{AreFlags, AreUndecided, AreDelayed}
 use Rattle.wp_core.specs.Sound.Views.{IsApart, IsClearing}
 use Rattle.wp_core.specs.IsSound.{IsSound}
 use Rattle.wp_history.proofs.Growth.{entry_at_next}
-use Rattle.wp_history.proofs.Undecided.{undecided_within}
+use Rattle.wp_model.proofs.Entries.{undecided_within}
 use Rattle.wp_core.proofs.HistoryLaws.{decided_within}
 use Rattle.wp_core.proofs.Numbers.{in_inserted, in_inserted_else, in_removed, in_removed_else}
 use Rattle.wp_core.proofs.Quiet.{Stays, stays_not, notes_by, prepared_changes}

@@ -23,7 +23,7 @@ use Rattle.wp_core.specs.Sound.Prepared.{IsCache, AreUndecided}
 use Rattle.wp_core.specs.Sound.Store.{IsStored}
 use Rattle.wp_core.specs.Sound.Views.{IsSo}
 use Rattle.wp_core.specs.IsSound.{IsSound, participants}
-use Rattle.wp_history.proofs.Growth.{entry_at_old, prepared_within}
+use Rattle.wp_model.proofs.Entries.{entry_at_old, prepared_within}
 use Rattle.wp_core.proofs.Quiet.{idle_after, NotesStay, Stays, stays_not, notes_by, notes_all, noted_after}
 use Rattle.wp_core.proofs.ReaderFacts.{extended_stays}
 use Rattle.wp_core.proofs.AllParts.{SoIn, views_of, readers_still, turns_changed, quiet_step}

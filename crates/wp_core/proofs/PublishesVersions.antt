@@ -13,7 +13,7 @@ use Rattle.wp_model.specs.Decision.{version_in, entry_version}
 use Rattle.wp_model.specs.Snapshots.{Snapshots}
 use Rattle.wp_model.specs.Versions.{version_at}
 use Rattle.wp_history.proofs.Counting.{entry_version_old}
-use Rattle.wp_history.proofs.Growth.{entry_at_past}
+use Rattle.wp_model.proofs.Entries.{entry_at_past}
 use Rattle.wp_core.specs.Entries.{next_of}
 use Rattle.wp_core.specs.Tables.{StoreTable, InstalledEdit, Installed, live_numbers, up_to, all_in}
 use Rattle.wp_core.specs.Sound.Store.{versions_under, versions_after, later_versions, IsEditCovered, IsStored}

@@ -15,8 +15,8 @@ use Rattle.wp_model.specs.History.{entry_at, decides}
 use Rattle.wp_model.specs.Legal.{IsLegal, IsLegalNext}
 use Rattle.wp_model.specs.Decision.{version_in, entry_version, decision_in, IsCommittedAt}
 use Rattle.wp_history.specs.Committed.{counts, committed_version}
-use Rattle.wp_history.proofs.Growth.{entry_at_old, entry_at_past, decides_undecided}
-use Rattle.wp_history.proofs.Undecided.{undecided_within}
+use Rattle.wp_history.proofs.Growth.{decides_undecided}
+use Rattle.wp_model.proofs.Entries.{entry_at_old, entry_at_past, undecided_within}
 
 -- ---- the first place where a test passes
 

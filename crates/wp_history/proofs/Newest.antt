@@ -10,9 +10,8 @@ use Rattle.wp_model.specs.declared.entry.Entry.TheVariants.{Write, Prepare, Comm
 use Rattle.wp_model.specs.Batch.{change_to}
 use Rattle.wp_model.specs.History.{changes_of, value_after, newest}
 use Rattle.wp_model.specs.Legal.{IsLegal, IsLegalNext, NamesUndecided}
-pub use Rattle.wp_model.proofs.Entries.{batch_at_old}
+use Rattle.wp_model.proofs.Entries.{batch_at_old, undecided_within}
 use Rattle.wp_history.proofs.Growth.{by_growth, legal_before}
-use Rattle.wp_history.proofs.Undecided.{undecided_within}
 
 -- an entry makes the same changes, whatever follows
 changes_stay : (history more : List Entry) (entry : Entry) → NamesUndecided history entry → changes_of (history ++ more) entry ≡ changes_of history entry

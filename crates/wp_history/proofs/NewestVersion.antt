@@ -13,10 +13,10 @@ use Rattle.wp_model.specs.History.{entry_at, is_prepare, batch_at, decides, is_u
 use Rattle.wp_model.specs.Legal.{changes_in, IsLegal, IsLegalNext, undone_last, prior}
 use Rattle.wp_model.specs.Decision.{version_in, entry_version, decision_in, IsNewestCommitted, HasNoneCommitted}
 use Rattle.wp_history.specs.Committed.{counts, committed_version}
-use Rattle.wp_history.proofs.Growth.{entry_at_old, entry_at_next, entry_at_past, length_next, by_growth, legal_before, after_front, undecided_prepared, decided_next}
-use Rattle.wp_history.proofs.Undecided.{undecided_within, never_decided}
-use Rattle.wp_history.proofs.Undone.{last_undo}
-use Rattle.wp_history.proofs.Newest.{newest_next, batch_at_old}
+use Rattle.wp_history.proofs.Growth.{entry_at_next, length_next, by_growth, legal_before, after_front, decided_next}
+use Rattle.wp_model.proofs.Entries.{entry_at_old, entry_at_past, undecided_prepared, undecided_within, last_undo, batch_at_old}
+use Rattle.wp_history.proofs.Undecided.{never_decided}
+use Rattle.wp_history.proofs.Newest.{newest_next}
 use Rattle.wp_history.proofs.Counting.{decided_any, counts_within, counts_from, committed_from, entry_version_old}
 use Rattle.wp_history.proofs.Held.{prior_to}
 use Rattle.wp_history.proofs.Above.{Holds, NoneAbove, legal_none_above, none_above, undecided_version, is_changed_from}

@@ -12,8 +12,8 @@ use Rattle.wp_model.specs.History.{entry_at, is_prepare, decides, is_undecided, 
 use Rattle.wp_model.specs.Legal.{IsLegal, IsLegalNext, NamesUndecided, undone_last}
 use Rattle.wp_history.specs.Growth.{without_decided, undecided_after}
 use Rattle.wp_history.specs.History.{IsLegalWith}
-pub use Rattle.wp_model.proofs.Entries.{undecided_within}
-use Rattle.wp_history.proofs.Growth.{entry_at_old, entry_at_next, length_next, legal_next, prepared_within, decides_undecided, decided_next, decided_prepared}
+use Rattle.wp_model.proofs.Entries.{undecided_within, entry_at_old, prepared_within}
+use Rattle.wp_history.proofs.Growth.{entry_at_next, length_next, legal_next, decides_undecided, decided_next, decided_prepared}
 
 -- ---- numbers in a row
 

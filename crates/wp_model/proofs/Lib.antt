@@ -2,3 +2,4 @@ pub mod BatchLemmas
 pub mod Entries
 pub mod VersionLists
 pub mod Found
+pub mod Words

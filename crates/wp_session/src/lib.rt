@@ -13,6 +13,5 @@ mod plan;
 pub use client::{Client, LabelledSnapshot, MOST_SNAPSHOTS, Txn};
 pub use plan::{Plan, plan_of};
 
-
 #[cfg(test)]
 mod tests;
