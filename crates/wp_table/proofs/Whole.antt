@@ -27,9 +27,6 @@ use Rattle.wp_table.proofs.BlockLemmas.{Found, fewer_blocks, blocks_take_bytes, 
 pub same_bytes : (xs ys : List ℕ) → bytes_eq xs ys ≡ true → xs ≡ ys
 same_bytes xs ys = (bytes_eq-Decides xs ys).0
 
-equal_bytes : (xs : List ℕ) → bytes_eq xs xs ≡ true
-equal_bytes xs = (bytes_eq-Decides xs xs).1 refl
-
 abbrev pub format_after : ℕ × List ℕ → Result (List ℕ) TableError
 format_after format = if_right (eqb format.0 1) Head format.1
 
