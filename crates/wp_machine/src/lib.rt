@@ -1,0 +1,28 @@
+//! The core machine as code.
+#![tactic(auto)]
+
+mod actor;
+mod cache;
+mod copies;
+mod reading;
+mod content;
+mod locks;
+mod prepared;
+mod snapshots;
+mod store;
+mod turn;
+mod views;
+mod world;
+mod writes;
+
+pub use actor::{Actor, Participant, Registration, Transaction};
+pub use cache::Cache;
+pub use content::Content;
+pub use locks::LockTables;
+pub use prepared::PreparedTables;
+pub use snapshots::{Snapshot, Snapshots};
+pub use store::{Installed, InstalledEdit, StoreTable};
+pub use turn::{Holders, Turn};
+pub use views::{Account, Event, Fact, Found, Noted};
+pub use world::World;
+pub use writes::WriteTable;

@@ -1,0 +1,50 @@
+use std::marker::Model;
+use wp_model::{Seq, Version};
+
+/// The versions in memory and in tables, and the floor: at each number from it on a reader finds all that it needs.
+#[derive(Drop)]
+pub struct StoreTable {
+    pub(crate) memory: Vec<Version>,
+    pub(crate) tables: Vec<Version>,
+    pub(crate) floor: Seq,
+}
+
+impl Model for StoreTable {
+    ghost use Rattle.wp_core.specs.Tables.{StoreTable};
+
+    ghost Value = { StoreTable };
+
+    ghost view = { λ t. record { memory = t.memory.items; tables = t.tables.items; floor = t.floor } };
+}
+
+/// What an installed edit says: the flushed number, the versions of its tables, and how many tables these are.
+#[derive(Drop)]
+pub struct InstalledEdit {
+    pub(crate) flushed: Seq,
+    pub(crate) versions: Vec<Version>,
+    pub(crate) tables: u64,
+}
+
+impl Model for InstalledEdit {
+    ghost use Rattle.wp_core.specs.Tables.{InstalledEdit};
+
+    ghost Value = { InstalledEdit };
+
+    ghost view = { λ e. record { flushed = e.flushed; versions = e.versions.items; tables = e.tables } };
+}
+
+/// The last edit, the one whose install failed, if one did, and whether the devices of the tables failed.
+#[derive(Drop)]
+pub struct Installed {
+    pub(crate) last: InstalledEdit,
+    pub(crate) failed: Option<InstalledEdit>,
+    pub(crate) halted: bool,
+}
+
+impl Model for Installed {
+    ghost use Rattle.wp_core.specs.Tables.{Installed};
+
+    ghost Value = { Installed };
+
+    ghost view = { λ t. record { last = t.last; failed = t.failed; halted = t.halted } };
+}
