@@ -7,7 +7,6 @@ use crate::copies::copy_entries;
 use std::alloc::{AllocError, Global};
 use crate::content::Content;
 use crate::views::{Event, Fact};
-use std::collections::{BTreeMap, BTreeSet};
 use std::marker::Model;
 use wp_judge::Observed;
 use wp_model::{Batch, Entry, Key, Name, Seq};
@@ -33,7 +32,8 @@ impl Model for Registration {
 #[derive(Drop)]
 pub struct Transaction {
     pub(crate) batch: Batch,
-    pub(crate) locked: BTreeSet<Key>,
+    /// The newest first.
+    pub(crate) locked: Vec<Key>,
 }
 
 impl Model for Transaction {
@@ -45,7 +45,7 @@ impl Model for Transaction {
 
     ghost coded = { transaction_code };
 
-    ghost view = { λ t. record { batch = t.batch; locked = set.from_list t.locked.keys } };
+    ghost view = { λ t. record { batch = t.batch; locked = set.from_list t.locked.items } };
 }
 
 /// What is known of an actor to the end.
@@ -57,7 +57,8 @@ pub struct Participant {
     pub(crate) own: Vec<Seq>,
     pub(crate) past: Vec<Event>,
     pub(crate) registered: Vec<Registration>,
-    pub(crate) transactions: BTreeMap<Name, Transaction>,
+    /// The newest pair first: of two of one name the first counts.
+    pub(crate) transactions: Vec<(Name, Transaction)>,
     pub(crate) direct: Option<Key>,
 }
 
@@ -72,7 +73,7 @@ impl Model for Participant {
 
     ghost coded = { Prim.hlevel (codes, transactions_code) };
 
-    ghost view = { λ p. record { client = client_of p.client; seen = p.seen.items; own = p.own.items; past = p.past.items; registered = p.registered.items; transactions = map.from_entries p.transactions.entries; direct = p.direct } };
+    ghost view = { λ p. record { client = client_of p.client; seen = p.seen.items; own = p.own.items; past = p.past.items; registered = p.registered.items; transactions = map.from_entries p.transactions.items; direct = p.direct } };
 }
 
 /// An actor: a client's seat, or a note.
@@ -113,7 +114,7 @@ impl Participant {
             own: Vec::new(alloc),
             past: Vec::new(alloc),
             registered: Vec::new(alloc),
-            transactions: BTreeMap::new(alloc),
+            transactions: Vec::new(alloc),
             direct: None,
         }
     }

@@ -1,13 +1,16 @@
-use std::collections::{BTreeMap, BTreeSet};
+ghost use Rattle.std.specs.Prelude.{◌≡◌, IfOk};
+
+use std::alloc::{AllocError, Global};
 use std::marker::Model;
 use wp_model::Seq;
 
-/// The prepared heap, the delayed set and the delayed commits.
-#[derive(Clone, Drop)]
+/// The prepared heap, the delayed set and the delayed commits. Each is a list whose newest item comes first: of two pairs
+/// of one number the first counts.
+#[derive(Drop)]
 pub struct PreparedTables {
-    pub(crate) heap: BTreeSet<Seq>,
-    pub(crate) delayed: BTreeSet<Seq>,
-    pub(crate) delayed_commits: BTreeMap<Seq, Seq>,
+    pub(crate) heap: Vec<Seq>,
+    pub(crate) delayed: Vec<Seq>,
+    pub(crate) delayed_commits: Vec<(Seq, Seq)>,
 }
 
 impl Model for PreparedTables {
@@ -19,5 +22,17 @@ impl Model for PreparedTables {
 
     ghost coded = { prepared_tables_code };
 
-    ghost view = { λ t. record { heap = set.from_list t.heap.keys; delayed = set.from_list t.delayed.keys; delayed_commits = map.from_entries t.delayed_commits.entries } };
+    ghost view = { λ t. record { heap = set.from_list t.heap.items; delayed = set.from_list t.delayed.items; delayed_commits = map.from_entries t.delayed_commits.items } };
+}
+
+impl PreparedTables {
+    pub(crate) fn copy(&self, alloc: Global) -> Result<PreparedTables, AllocError>
+        ensures { IfOk result (λ copy. copy ≡ self.now) }
+    {
+        Ok(PreparedTables {
+            heap: Vec::from_slice(alloc, &self.heap)?,
+            delayed: Vec::from_slice(alloc, &self.delayed)?,
+            delayed_commits: Vec::from_slice(alloc, &self.delayed_commits)?,
+        })
+    }
 }

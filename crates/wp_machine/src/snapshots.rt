@@ -1,12 +1,14 @@
-use std::collections::{BTreeMap, BTreeSet};
+ghost use Rattle.std.specs.Prelude.{◌≡◌, IfOk};
+
+use std::alloc::{AllocError, Global};
 use std::marker::Model;
 use wp_model::Seq;
 
 /// A live snapshot: how often it is registered, and the prepare numbers that the old commit map has under it.
-#[derive(Clone, Drop)]
+#[derive(Drop)]
 pub struct Snapshot {
     pub(crate) registrations: u64,
-    pub(crate) old_commits: BTreeSet<Seq>,
+    pub(crate) old_commits: Vec<Seq>,
 }
 
 impl Model for Snapshot {
@@ -17,13 +19,24 @@ impl Model for Snapshot {
 
     ghost coded = { snapshot_code };
 
-    ghost view = { λ s. record { registrations = s.registrations; old_commits = set.from_list s.old_commits.keys } };
+    ghost view = { λ s. record { registrations = s.registrations; old_commits = set.from_list s.old_commits.items } };
 }
 
-/// The live numbers, each with its snapshot.
-#[derive(Clone, Drop)]
+impl Snapshot {
+    pub(crate) fn copy(&self, alloc: Global) -> Result<Snapshot, AllocError>
+        ensures { IfOk result (λ copy. copy ≡ self.now) }
+    {
+        Ok(Snapshot {
+            registrations: self.registrations,
+            old_commits: Vec::from_slice(alloc, &self.old_commits)?,
+        })
+    }
+}
+
+/// The live numbers, each with its snapshot. The newest pair comes first: of two of one number the first counts.
+#[derive(Drop)]
 pub struct Snapshots {
-    pub(crate) live: BTreeMap<Seq, Snapshot>,
+    pub(crate) live: Vec<(Seq, Snapshot)>,
 }
 
 impl Model for Snapshots {
@@ -34,5 +47,25 @@ impl Model for Snapshots {
 
     ghost coded = { snapshots_code };
 
-    ghost view = { λ s. map.from_entries s.live.entries };
+    ghost view = { λ s. map.from_entries s.live.items };
+}
+
+fn copy_pairs(pairs: &[(Seq, Snapshot)], alloc: Global) -> Result<Vec<(Seq, Snapshot)>, AllocError>
+    ensures { IfOk result (λ copy. copy.items ≡ pairs.now) }
+{
+    let mut copy = Vec::with_capacity(alloc, pairs.len())?;
+    for pair in pairs {
+        copy.push((pair.0, pair.1.copy(alloc)?))?;
+    }
+    Ok(copy)
+}
+
+impl Snapshots {
+    pub(crate) fn copy(&self, alloc: Global) -> Result<Snapshots, AllocError>
+        ensures { IfOk result (λ copy. copy ≡ self.now) }
+    {
+        Ok(Snapshots {
+            live: copy_pairs(&self.live, alloc)?,
+        })
+    }
 }

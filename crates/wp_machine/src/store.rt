@@ -1,3 +1,7 @@
+ghost use Rattle.std.specs.Prelude.{◌≡◌, IfOk};
+
+use crate::copies::copy_versions;
+use std::alloc::{AllocError, Global};
 use std::marker::Model;
 use wp_model::{Seq, Version};
 
@@ -47,4 +51,49 @@ impl Model for Installed {
     ghost Value = { Installed };
 
     ghost view = { λ t. record { last = t.last; failed = t.failed; halted = t.halted } };
+}
+
+impl StoreTable {
+    pub(crate) fn copy(&self, alloc: Global) -> Result<StoreTable, AllocError>
+        ensures { IfOk result (λ copy. copy ≡ self.now) }
+    {
+        Ok(StoreTable {
+            memory: copy_versions(&self.memory, alloc)?,
+            tables: copy_versions(&self.tables, alloc)?,
+            floor: self.floor,
+        })
+    }
+}
+
+impl InstalledEdit {
+    pub(crate) fn copy(&self, alloc: Global) -> Result<InstalledEdit, AllocError>
+        ensures { IfOk result (λ copy. copy ≡ self.now) }
+    {
+        Ok(InstalledEdit {
+            flushed: self.flushed,
+            versions: copy_versions(&self.versions, alloc)?,
+            tables: self.tables,
+        })
+    }
+}
+
+fn copy_failed(edit: &Option<InstalledEdit>, alloc: Global) -> Result<Option<InstalledEdit>, AllocError>
+    ensures { IfOk result (λ copy. copy ≡ edit.now) }
+{
+    match edit {
+        Some(edit) => Ok(Some(edit.copy(alloc)?)),
+        None => Ok(None),
+    }
+}
+
+impl Installed {
+    pub(crate) fn copy(&self, alloc: Global) -> Result<Installed, AllocError>
+        ensures { IfOk result (λ copy. copy ≡ self.now) }
+    {
+        Ok(Installed {
+            last: self.last.copy(alloc)?,
+            failed: copy_failed(&self.failed, alloc)?,
+            halted: self.halted,
+        })
+    }
 }
