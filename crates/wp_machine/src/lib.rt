@@ -4,11 +4,12 @@
 mod actor;
 mod cache;
 mod copies;
-mod reading;
 mod content;
+mod effects;
 mod locks;
 mod prepared;
 mod snapshots;
+mod step;
 mod store;
 mod turn;
 mod views;
@@ -21,6 +22,10 @@ pub use content::Content;
 pub use locks::LockTables;
 pub use prepared::PreparedTables;
 pub use snapshots::{Snapshot, Snapshots};
+pub use step::{
+    ActorsStep, Kind, LocksStep, OwnStep, PreparedStep, ReaderStep, SnapshotsStep, Step, StoreStep, TablesStep,
+    TurnStep, WordStep, WriteStep,
+};
 pub use store::{Installed, InstalledEdit, StoreTable};
 pub use turn::{Holders, Turn};
 pub use views::{Account, Event, Fact, Found, Noted};

@@ -1,3 +1,8 @@
+ghost use Rattle.std.specs.Prelude.{◌≡◌};
+ghost use Rattle.wp_core.specs.Turns.{turn_holder, with_holder};
+ghost use Rattle.wp_core.specs.Changes.{turn_index};
+ghost use Rattle.wp_machine.specs.Parts.{turn_of};
+
 use std::marker::Model;
 
 /// One of the six turns. Who holds it reads and changes the table that it guards, and nobody else does.
@@ -36,4 +41,47 @@ impl Model for Holders {
     ghost view = { λ h. record { write = h.write; prepared = h.prepared; snapshots = h.snapshots; store = h.store; locks = h.locks; tables = h.tables } };
 
     ghost inverse = { λ h. record { write = h.write; prepared = h.prepared; snapshots = h.snapshots; store = h.store; locks = h.locks; tables = h.tables } };
+}
+
+impl Turn {
+    pub(crate) fn index(self) -> u8
+        ensures { result ≡ turn_index (turn_of self) }
+    {
+        match self {
+            Turn::Write => 0,
+            Turn::Prepared => 1,
+            Turn::Snapshots => 2,
+            Turn::Store => 3,
+            Turn::Locks => 4,
+            Turn::Tables => 5,
+        }
+    }
+}
+
+impl Holders {
+    pub(crate) fn of(&self, turn: Turn) -> Option<usize>
+        ensures { result ≡ turn_holder self.now (turn_of turn) }
+    {
+        match turn {
+            Turn::Write => self.write,
+            Turn::Prepared => self.prepared,
+            Turn::Snapshots => self.snapshots,
+            Turn::Store => self.store,
+            Turn::Locks => self.locks,
+            Turn::Tables => self.tables,
+        }
+    }
+
+    pub(crate) fn set(&mut self, turn: Turn, holder: Option<usize>)
+        ensures { self.new ≡ with_holder self.old (turn_of turn) holder }
+    {
+        match turn {
+            Turn::Write => self.write = holder,
+            Turn::Prepared => self.prepared = holder,
+            Turn::Snapshots => self.snapshots = holder,
+            Turn::Store => self.store = holder,
+            Turn::Locks => self.locks = holder,
+            Turn::Tables => self.tables = holder,
+        }
+    }
 }

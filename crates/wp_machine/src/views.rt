@@ -1,3 +1,5 @@
+ghost use Rattle.std.specs.Prelude.{◌≡◌};
+
 use std::marker::Model;
 use wp_model::{Batch, Holder, Key, Name, Seq, Version};
 
@@ -43,6 +45,16 @@ impl Model for Event {
     ghost use Rattle.wp_machine.specs.Parts.{event_of};
 
     ghost view = { λ e. event_of e.what };
+}
+
+impl Event {
+    ghost use Rattle.wp_machine.specs.Parts.{event_of};
+
+    pub(crate) fn of(what: Found) -> Event
+        ensures { result ≡ event_of what }
+    {
+        Event { what }
+    }
 }
 
 /// What an actor may note.

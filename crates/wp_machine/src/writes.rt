@@ -1,9 +1,14 @@
-ghost use Rattle.std.specs.Prelude.{◌≡◌, IfOk};
+ghost use Rattle.std.specs.Prelude.{◌≡◌, suc, true, ◌∷◌, ◌++◌, List, length, IfOk, OnOk, option_map};
+ghost use Rattle.wp_model.specs.declared.entry.Entry.{Entry};
+ghost use Rattle.wp_judge.specs.Words.{numbers_of};
+ghost use Rattle.wp_core.specs.Entries.{pair_by, pending_pair};
+ghost use Rattle.wp_core.specs.Effects.{with_entry};
+
 
 use crate::copies::copy_entries;
 use std::alloc::{AllocError, Global};
 use std::marker::Model;
-use wp_model::Entry;
+use wp_model::{Entry, Seq};
 
 /// The history and its log. What is pending is what is left of one record, the entry that comes next first.
 #[derive(Drop)]
@@ -36,5 +41,70 @@ impl WriteTable {
             closed: self.closed,
             failed: copy_entries(&self.failed, alloc)?,
         })
+    }
+}
+
+/// The version that the entry with that number decides, and that number.
+pub(crate) fn pair_by(n: Seq, entry: &Entry) -> Option<(Seq, Seq)>
+    ensures { result ≡ option_map numbers_of (pair_by n entry.now) }
+{
+    match entry {
+        Entry::Write(_) | Entry::Undo(_, _) => Some((n, n)),
+        Entry::Commit(p) | Entry::Close(p) => Some((*p, n)),
+        Entry::Prepare(_, _) => None,
+    }
+}
+
+impl WriteTable {
+    pub(crate) fn published(&self) -> Seq
+        ensures { result ≡ length self.now.history }
+    {
+        self.history.len() as Seq
+    }
+
+    /// The number of the entry that comes next.
+    pub(crate) fn next_number(&self) -> Result<Seq, AllocError>
+        ensures { IfOk result (λ n. n ≡ suc (length self.now.history)) }
+    {
+        self.published().checked_add(1).ok_or(AllocError)
+    }
+
+    pub(crate) fn pending_pair(&self) -> Result<Option<(Seq, Seq)>, AllocError>
+        ensures { IfOk result (λ pair. pair ≡ option_map numbers_of (pending_pair self.now.history self.now.pending)) }
+    {
+        let n = self.next_number()?;
+        Ok(match self.pending.first() {
+            Some(entry) => pair_by(n, entry),
+            None => None,
+        })
+    }
+
+    /// The first of the pending entries joins the history.
+    pub(crate) fn publish(&mut self) -> Result<(), AllocError>
+        ensures { (entry : Entry) (others : List Entry) → self.old.pending ≡ entry ∷ others
+            → OnOk result (self.new ≡ with_entry self.old entry others) }
+    {
+        if !self.pending.is_empty() {
+            let entry = self.pending.remove(0);
+            self.history.push(entry)?;
+        }
+        Ok(())
+    }
+
+    pub(crate) fn log_pending(&mut self, alloc: Global) -> Result<(), AllocError>
+        ensures { OnOk result (self.new ≡ record self.old { logged = true; log = self.old.log ++ self.old.pending }) }
+    {
+        let mut logged = copy_entries(&self.pending, alloc)?;
+        self.log.append(&mut logged)?;
+        self.logged = true;
+        Ok(())
+    }
+
+    pub(crate) fn close_log(&mut self, alloc: Global) -> Result<(), AllocError>
+        ensures { OnOk result (self.new ≡ record self.old { closed = true; failed = self.old.pending }) }
+    {
+        self.failed = copy_entries(&self.pending, alloc)?;
+        self.closed = true;
+        Ok(())
     }
 }
