@@ -1,2 +1,4 @@
 pub mod Maps
 pub mod Held
+pub mod Published
+pub mod Released

@@ -11,6 +11,7 @@ use Rattle.wp_core.specs.Tables.{WriteTable, StoreTable}
 use Rattle.wp_core.specs.Reading.{Registration}
 use Rattle.wp_core.specs.Entries.{pending_pair}
 use Rattle.wp_core.specs.Sound.Store.{versions_under}
+use Rattle.wp_core.specs.Effects.{with_entry}
 use Rattle.wp_core.specs.Steps.{Step}
 use Rattle.wp_core.specs.Steps as step
 use Rattle.wp_core.specs.Needs.{Needs}
@@ -47,6 +48,11 @@ reader_step p (reader.Register least) = Some (step.register least)
 reader_step p (reader.BeginReading version place) = option_map (step.begin_reading version) (slice_get p.registered place)
 reader_step p (reader.Load which) = Some (step.load which)
 reader_step p reader.EndReading = Some step.end_reading
+
+-- once the first of them is published
+abbrev pub with_next : WriteTable → List Entry → WriteTable
+with_next t [] = t
+with_next t (entry ∷ others) = with_entry t entry others
 
 -- the first of the pending entries is published, the others stay pending
 abbrev pub published_step : List Entry → Option Step

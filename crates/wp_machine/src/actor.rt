@@ -1,13 +1,17 @@
 ghost use Rattle.std.specs.Prelude.{◌≡◌, [], ◌∷◌, ◌++◌, None, Some, true, false, OnOk, IfOk, IfSome, ◌==◌, ◌<◌, length, slice_set};
 ghost use Rattle.std.specs.Prelude.{List, take, drop, if◌then◌else◌};
 ghost use Rattle.std.specs.List.{list_any};
-ghost use Rattle.wp_core.specs.Reading.{Registration, snapshot_of};
-ghost use Rattle.wp_core.specs.Changes.{releases, reading_left, is_same_registration};
-ghost use Rattle.wp_model.specs.declared.entry.Entry.{Entry};
-ghost use Rattle.wp_core.specs.Effects.{publishes};
+ghost use Rattle.std.specs.Option.{option_copied};
+ghost use Rattle.std.specs.FinSet as set;
+ghost use Rattle.std.specs.FinMap as finite;
+ghost use Rattle.wp_model.specs.Batch.{key_cmp};
+ghost use Rattle.wp_machine.specs.Pairs.{newest_under};
+ghost use Rattle.wp_core.specs.Reading.{snapshot_of};
+ghost use Rattle.wp_core.specs.Changes.{reading_left, is_same_registration};
+ghost use Rattle.wp_machine.specs.Effect.{has_published, released_number, has_released};
 ghost use Rattle.wp_core.specs.Tables as tables;
 ghost use Rattle.wp_core.specs.World.{new_participant, new_actor};
-ghost use Rattle.wp_core.specs.Changes.{sees, remembers, joined_actor, has_direct, held_with, held_without, registers, has_transaction, turn_index};
+ghost use Rattle.wp_core.specs.Changes.{sees, remembers, joined_actor, has_direct, held_with, held_without, registers, has_transaction, has_no_transaction, turn_index};
 ghost use Rattle.wp_machine.specs.Client.{client_of};
 ghost use Rattle.wp_machine.specs.Parts.{turn_of};
 ghost use Rattle.wp_machine.specs.HeldTables.{place_from};
@@ -130,6 +134,113 @@ impl Participant {
     }
 }
 
+fn transaction_under<'a>(
+    transactions: &'a [(Name, Transaction)],
+    name: &Name,
+) -> Option<&'a Transaction>
+    ensures { option_copied result ≡ newest_under transactions.now name.now }
+{
+    for pair in transactions {
+        if &pair.0 == name {
+            return Some(&pair.1);
+        }
+    }
+    None
+}
+
+impl Participant {
+    #[tactic(auto, using(crate::proofs::Maps::under_is_got))]
+    pub(crate) fn transaction(&self, name: &Name) -> Option<&Transaction>
+        ensures { option_copied result ≡ finite.get self.now.transactions name.now }
+    {
+        transaction_under(&self.transactions, name)
+    }
+
+    /// Its client. One that was joined has none, and makes no step that asks for it: that too is answered as want of
+    /// memory.
+    pub(crate) fn client(&self, alloc: Global) -> Result<Name, AllocError>
+        ensures { IfOk result (λ client. client ≡ self.now.client) }
+    {
+        match &self.client {
+            Some(client) => client.copy(alloc),
+            None => Err(AllocError),
+        }
+    }
+}
+
+fn copy_locked(locked: &[Key], alloc: Global) -> Result<Vec<Key>, AllocError>
+    ensures { IfOk result (λ copy. copy.items ≡ locked.now) }
+{
+    let mut copy = Vec::with_capacity(alloc, locked.len())?;
+    for key in locked {
+        copy.push(key.copy(alloc)?)?;
+    }
+    Ok(copy)
+}
+
+fn take_locked(locked: &mut Vec<Key>, key: &Key)
+    ensures { set.from_list {R = key_cmp} locked.new.items ≡ set.remove (set.from_list locked.old.items) key.now }
+{
+    locked.retain(|other| other != key);
+}
+
+fn take_transaction(transactions: &mut Vec<(Name, Transaction)>, name: &Name)
+    ensures { finite.from_entries {R = key_cmp} transactions.new.items ≡ finite.remove (finite.from_entries transactions.old.items) name.now }
+{
+    transactions.retain(|pair| &pair.0 != name);
+}
+
+impl Transaction {
+    pub(crate) fn new(alloc: Global) -> Transaction
+        ensures { result ≡ record { batch = []; locked = set.empty } }
+    {
+        Transaction {
+            batch: Batch::new(alloc),
+            locked: Vec::new(alloc),
+        }
+    }
+
+    pub(crate) fn with(batch: Batch, locked: Vec<Key>) -> Transaction
+        ensures { result ≡ record { batch = batch; locked = set.from_list locked.items } }
+    {
+        Transaction { batch, locked }
+    }
+
+    /// The same with one key more.
+    pub(crate) fn with_key(&self, key: Key, alloc: Global) -> Result<Transaction, AllocError>
+        ensures { IfOk result (λ changed. changed ≡ record self.now { locked = set.insert self.now.locked key }) }
+    {
+        let mut locked = copy_locked(&self.locked, alloc)?;
+        locked.insert(0, key)?;
+        Ok(Transaction {
+            batch: self.batch.copy(alloc)?,
+            locked,
+        })
+    }
+
+    /// The same without the key.
+    pub(crate) fn without_key(&self, key: &Key, alloc: Global) -> Result<Transaction, AllocError>
+        ensures { IfOk result (λ changed. changed ≡ record self.now { locked = set.remove self.now.locked key.now }) }
+    {
+        let mut locked = copy_locked(&self.locked, alloc)?;
+        take_locked(&mut locked, key);
+        Ok(Transaction {
+            batch: self.batch.copy(alloc)?,
+            locked,
+        })
+    }
+
+    /// The same with another batch.
+    pub(crate) fn with_batch(&self, batch: Batch, alloc: Global) -> Result<Transaction, AllocError>
+        ensures { IfOk result (λ changed. changed ≡ record self.now { batch = batch }) }
+    {
+        Ok(Transaction {
+            batch,
+            locked: copy_locked(&self.locked, alloc)?,
+        })
+    }
+}
+
 /// Whether the snapshot of what is read is registered, if something is read.
 fn is_left(reading: Option<Observed>, registered: &[Registration]) -> bool
     ensures { reading_left reading registered.now ≡ (if result then reading else None) }
@@ -247,8 +358,7 @@ impl Actor {
 
     /// What follows from a store of the published number: the history is one longer, by an entry of the actor's.
     pub(crate) fn publish(&mut self, history: &[Entry], alloc: Global) -> Result<(), AllocError>
-        ensures { (before : List Entry) (entry : Entry) → history.now ≡ before ++ entry ∷ []
-            → OnOk result (self.new ≡ publishes before entry self.old) }
+        ensures { OnOk result (self.new ≡ has_published history.now self.old) }
     {
         self.see(history, alloc)?;
         self.participant.own.push(history.len() as Seq)?;
@@ -257,8 +367,8 @@ impl Actor {
 
     /// Its registration at that place goes, with a reading of it. The number of the registration, if there is one.
     pub(crate) fn release(&mut self, place: usize) -> Option<Seq>
-        ensures released { (r : Registration) (back : List Registration) → drop place self.old.participant.registered ≡ r ∷ back
-            → (result ≡ Some r.number) × (self.new ≡ releases self.old (take place self.old.participant.registered ++ back)) }
+        ensures number { result ≡ released_number (drop place self.old.participant.registered) }
+        ensures left { self.new ≡ has_released self.old (take place self.old.participant.registered) (drop place self.old.participant.registered) }
     {
         if place >= self.participant.registered.len() {
             return None;
@@ -268,6 +378,31 @@ impl Actor {
             self.reading = None;
         }
         Some(released.number)
+    }
+
+    pub(crate) fn note(&mut self, fact: Fact) -> Result<(), AllocError>
+        ensures { OnOk result (self.new ≡ record self.old { notes = fact ∷ self.old.notes }) }
+    {
+        self.notes.insert(0, fact)?;
+        Ok(())
+    }
+
+    pub(crate) fn take_transaction(&mut self, name: &Name)
+        ensures { self.new ≡ has_no_transaction self.old name.now }
+    {
+        take_transaction(&mut self.participant.transactions, name);
+    }
+
+    pub(crate) fn set_direct(&mut self, key: Option<Key>)
+        ensures { self.new ≡ has_direct self.old key }
+    {
+        self.participant.direct = key;
+    }
+
+    pub(crate) fn set_client(&mut self, client: Name)
+        ensures { self.new ≡ record self.old { participant = record self.old.participant { client = client } } }
+    {
+        self.participant.client = Some(client);
     }
 
     /// It has one more table.

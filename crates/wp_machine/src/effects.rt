@@ -1,4 +1,6 @@
 //! What each step makes of a world and of the actor that makes it.
+mod locks;
+mod own;
 mod prepared;
 mod reader;
 mod snapshots;
@@ -8,6 +10,8 @@ mod turn;
 mod word;
 mod write;
 
+pub(crate) use locks::locks;
+pub(crate) use own::own;
 pub(crate) use prepared::prepared;
 pub(crate) use reader::reader;
 pub(crate) use snapshots::snapshots;

@@ -12,6 +12,7 @@ mod snapshots;
 mod step;
 mod store;
 mod turn;
+mod versions;
 mod views;
 mod world;
 mod writes;

@@ -1,4 +1,12 @@
-ghost use Rattle.std.specs.Prelude.{◌≡◌, IfOk};
+ghost use Rattle.std.specs.Prelude.{◌≡◌, not, IfOk, OnOk};
+ghost use Rattle.std.specs.Option.{option_copied};
+ghost use Rattle.std.specs.FinSet as set;
+ghost use Rattle.std.specs.FinMap as finite;
+ghost use Rattle.wp_model.specs.Batch.{key_cmp};
+ghost use Rattle.wp_model.specs.declared.holder.Holder.TheVariants.{Txn};
+ghost use Rattle.wp_core.specs.Changes.{with_name, with_key, without_key, without_transaction, with_label, is_held_by, keys_of_holder};
+ghost use Rattle.wp_machine.specs.Pairs.{newest_under};
+
 
 use std::alloc::{AllocError, Global};
 use std::marker::Model;
@@ -75,5 +83,146 @@ impl LockTables {
             keys: copy_keys(&self.keys, alloc)?,
             labels: copy_labels(&self.labels, alloc)?,
         })
+    }
+}
+
+fn name_under<'a>(names: &'a [(Name, Option<Name>)], name: &Name) -> Option<&'a Option<Name>>
+    ensures { option_copied result ≡ newest_under names.now name.now }
+{
+    for pair in names {
+        if &pair.0 == name {
+            return Some(&pair.1);
+        }
+    }
+    None
+}
+
+fn holder_under<'a>(keys: &'a [(Key, Holder)], key: &Key) -> Option<&'a Holder>
+    ensures { option_copied result ≡ newest_under keys.now key.now }
+{
+    for pair in keys {
+        if &pair.0 == key {
+            return Some(&pair.1);
+        }
+    }
+    None
+}
+
+fn number_under(labels: &[(Name, Seq)], label: &Name) -> Option<Seq>
+    ensures { result ≡ newest_under labels.now label.now }
+{
+    for pair in labels {
+        if &pair.0 == label {
+            return Some(pair.1);
+        }
+    }
+    None
+}
+
+fn take_name(names: &mut Vec<(Name, Option<Name>)>, name: &Name)
+    ensures { finite.from_entries {R = key_cmp} names.new.items ≡ finite.remove (finite.from_entries names.old.items) name.now }
+{
+    names.retain(|pair| &pair.0 != name);
+}
+
+fn take_key(keys: &mut Vec<(Key, Holder)>, key: &Key)
+    ensures { finite.from_entries {R = key_cmp} keys.new.items ≡ finite.remove (finite.from_entries keys.old.items) key.now }
+{
+    keys.retain(|pair| &pair.0 != key);
+}
+
+impl LockTables {
+    /// What a live name has: the client that has it, if one does. None where the name is not live.
+    #[tactic(auto, using(crate::proofs::Maps::under_is_got))]
+    pub(crate) fn name(&self, name: &Name) -> Option<&Option<Name>>
+        ensures { option_copied result ≡ finite.get self.now.names name.now }
+    {
+        name_under(&self.names, name)
+    }
+
+    #[tactic(auto, using(crate::proofs::Maps::under_is_got))]
+    pub(crate) fn holder(&self, key: &Key) -> Option<&Holder>
+        ensures { option_copied result ≡ finite.get self.now.keys key.now }
+    {
+        holder_under(&self.keys, key)
+    }
+
+    /// The number that was told last under the label.
+    #[tactic(auto, using(crate::proofs::Maps::under_is_got))]
+    pub(crate) fn told(&self, label: &Name) -> Option<Seq>
+        ensures { result ≡ finite.get self.now.labels label.now }
+    {
+        number_under(&self.labels, label)
+    }
+
+    pub(crate) fn put_name(&mut self, name: Name, client: Option<Name>) -> Result<(), AllocError>
+        ensures { OnOk result (self.new ≡ with_name self.old name client) }
+    {
+        self.names.insert(0, (name, client))?;
+        Ok(())
+    }
+
+    pub(crate) fn put_key(&mut self, key: Key, holder: Holder) -> Result<(), AllocError>
+        ensures { OnOk result (self.new ≡ with_key self.old key holder) }
+    {
+        self.keys.insert(0, (key, holder))?;
+        Ok(())
+    }
+
+    pub(crate) fn put_label(&mut self, label: Name, n: Seq) -> Result<(), AllocError>
+        ensures { OnOk result (self.new ≡ with_label self.old label n) }
+    {
+        self.labels.insert(0, (label, n))?;
+        Ok(())
+    }
+
+    pub(crate) fn take_key(&mut self, key: &Key)
+        ensures { self.new ≡ without_key self.old key.now }
+    {
+        take_key(&mut self.keys, key);
+    }
+
+    pub(crate) fn is_held_by(&self, holder: &Holder, key: &Key) -> bool
+        ensures { result ≡ is_held_by self.now holder.now key.now }
+    {
+        match self.holder(key) {
+            Some(other) => holder.is_same(other),
+            None => false,
+        }
+    }
+
+    /// The keys that the holder holds, some perhaps twice.
+    pub(crate) fn keys_of(&self, holder: &Holder, alloc: Global) -> Result<Vec<Key>, AllocError>
+        ensures { IfOk result (λ keys. set.from_list keys.items ≡ keys_of_holder self.now holder.now) }
+    {
+        let mut keys = Vec::new(alloc);
+        for pair in &self.keys {
+            if self.is_held_by(holder, &pair.0) {
+                keys.push(pair.0.copy(alloc)?)?;
+            }
+        }
+        Ok(keys)
+    }
+
+    /// The keys with their holders, but for those of this holder.
+    fn keys_but(&self, holder: &Holder, alloc: Global) -> Result<Vec<(Key, Holder)>, AllocError>
+        ensures { IfOk result (λ keys. finite.from_entries keys.items ≡ finite.retain_keys self.now.keys (λ key. not (is_held_by self.now holder.now key))) }
+    {
+        let mut keys = Vec::new(alloc);
+        for pair in &self.keys {
+            if !self.is_held_by(holder, &pair.0) {
+                keys.push((pair.0.copy(alloc)?, pair.1.copy(alloc)?))?;
+            }
+        }
+        Ok(keys)
+    }
+
+    /// The name goes, with each key that is held for it.
+    pub(crate) fn free_transaction(&mut self, name: Name, alloc: Global) -> Result<(), AllocError>
+        ensures { OnOk result (self.new ≡ without_transaction self.old name) }
+    {
+        take_name(&mut self.names, &name);
+        self.keys = self.keys_but(&Holder::Txn(name), alloc)?;
+        Ok(())
     }
 }

@@ -1,5 +1,6 @@
 ghost use Rattle.std.specs.Prelude.{◌≡◌, IfOk, OnOk, Some, ◌<◌};
 ghost use Rattle.std.specs.Option.{option_copied};
+ghost use Rattle.wp_machine.specs.Effect.{with_released_any};
 ghost use Rattle.wp_machine.specs.Pairs.{newest_of};
 ghost use Rattle.std.specs.FinMap as finite;
 ghost use Rattle.wp_model.specs.Snapshots.{is_old_commit, after_register, after_keep, after_release};
@@ -190,5 +191,14 @@ impl Snapshots {
         let less = snapshot.released(alloc)?;
         self.live.insert(0, (s, less))?;
         Ok(())
+    }
+
+    pub(crate) fn release_any(&mut self, number: Option<Seq>, alloc: Global) -> Result<(), AllocError>
+        ensures { OnOk result (self.new ≡ with_released_any self.old number) }
+    {
+        match number {
+            Some(s) => self.release(s, alloc),
+            None => Ok(()),
+        }
     }
 }

@@ -1,14 +1,13 @@
 ghost use Rattle.std.specs.Prelude.{◌≡◌, ◌++◌, IfOk, OnOk};
-ghost use Rattle.wp_model.specs.Legal.{changes_in};
 ghost use Rattle.wp_core.specs.Effects.{with_failed};
-ghost use Rattle.wp_core.specs.Sound.Store.{versions_under};
-ghost use Rattle.wp_machine.specs.Machine.{without_number, versions_of_next};
+ghost use Rattle.wp_machine.specs.Machine.{without_number};
 
 
 use crate::copies::copy_versions;
+use crate::versions::take_number;
 use std::alloc::{AllocError, Global};
 use std::marker::Model;
-use wp_model::{Change, Entry, Seq, Version, copy_value};
+use wp_model::{Seq, Version};
 
 /// The versions in memory and in tables, and the floor: at each number from it on a reader finds all that it needs.
 #[derive(Drop)]
@@ -114,38 +113,6 @@ impl Installed {
     }
 }
 
-/// What the entry with that number leaves under the keys of these changes.
-fn versions_under(n: Seq, changes: &[Change], alloc: Global) -> Result<Vec<Version>, AllocError>
-    ensures { IfOk result (λ versions. versions.items ≡ versions_under n changes.now) }
-{
-    let mut versions = Vec::with_capacity(alloc, changes.len())?;
-    for change in changes {
-        versions.push(Version {
-            key: change.key().copy(alloc)?,
-            number: n,
-            value: copy_value(change.value(), alloc)?,
-        })?;
-    }
-    Ok(versions)
-}
-
-fn versions_of_next(n: Seq, pending: &[Entry], alloc: Global) -> Result<Vec<Version>, AllocError>
-    ensures { IfOk result (λ versions. versions.items ≡ versions_of_next n pending.now) }
-{
-    match pending.first() {
-        Some(Entry::Write(batch) | Entry::Prepare(_, batch) | Entry::Undo(_, batch)) => {
-            versions_under(n, batch.changes(), alloc)
-        }
-        Some(Entry::Commit(_) | Entry::Close(_)) | None => Ok(Vec::new(alloc)),
-    }
-}
-
-fn take_number(versions: &mut Vec<Version>, n: Seq)
-    ensures { versions.new.items ≡ without_number n versions.old.items }
-{
-    versions.retain(|version| version.number != n);
-}
-
 impl StoreTable {
     /// Memory has no versions with that number any more.
     pub(crate) fn take_number(&mut self, n: Seq)
@@ -154,11 +121,11 @@ impl StoreTable {
         take_number(&mut self.memory, n);
     }
 
-    /// Memory has just the versions of the first of these entries under that number.
-    pub(crate) fn add_next(&mut self, pending: &[Entry], n: Seq, alloc: Global) -> Result<(), AllocError>
-        ensures { OnOk result (self.new ≡ record self.old { memory = versions_of_next n pending.now ++ without_number n self.old.memory }) }
+    /// Memory has just these versions under that number.
+    pub(crate) fn add_next(&mut self, versions: Vec<Version>, n: Seq) -> Result<(), AllocError>
+        ensures { OnOk result (self.new ≡ record self.old { memory = versions.items ++ without_number n self.old.memory }) }
     {
-        let mut memory = versions_of_next(n, pending, alloc)?;
+        let mut memory = versions;
         take_number(&mut self.memory, n);
         memory.append(&mut self.memory)?;
         self.memory = memory;

@@ -1,14 +1,15 @@
-ghost use Rattle.std.specs.Prelude.{◌≡◌, suc, true, ◌∷◌, ◌++◌, List, length, IfOk, OnOk, option_map};
-ghost use Rattle.wp_model.specs.declared.entry.Entry.{Entry};
+ghost use Rattle.std.specs.Prelude.{◌≡◌, suc, true, ◌++◌, length, IfOk, OnOk, option_map};
+ghost use Rattle.std.specs.Option.{option_copied};
+ghost use Rattle.wp_model.specs.History.{entry_at, batch_at, prepared_batch};
 ghost use Rattle.wp_judge.specs.Words.{numbers_of};
 ghost use Rattle.wp_core.specs.Entries.{pair_by, pending_pair};
-ghost use Rattle.wp_core.specs.Effects.{with_entry};
+ghost use Rattle.wp_machine.specs.Machine.{with_next};
 
 
 use crate::copies::copy_entries;
 use std::alloc::{AllocError, Global};
 use std::marker::Model;
-use wp_model::{Entry, Seq};
+use wp_model::{Batch, Entry, Seq};
 
 /// The history and its log. What is pending is what is left of one record, the entry that comes next first.
 #[derive(Drop)]
@@ -81,8 +82,7 @@ impl WriteTable {
 
     /// The first of the pending entries joins the history.
     pub(crate) fn publish(&mut self) -> Result<(), AllocError>
-        ensures { (entry : Entry) (others : List Entry) → self.old.pending ≡ entry ∷ others
-            → OnOk result (self.new ≡ with_entry self.old entry others) }
+        ensures { OnOk result (self.new ≡ with_next self.old self.old.pending) }
     {
         if !self.pending.is_empty() {
             let entry = self.pending.remove(0);
@@ -106,5 +106,31 @@ impl WriteTable {
         self.failed = copy_entries(&self.pending, alloc)?;
         self.closed = true;
         Ok(())
+    }
+}
+
+/// The batch of the prepare with that number: an empty one where it is no prepare.
+fn batch_of(entry: Option<&Entry>, alloc: Global) -> Result<Batch, AllocError>
+    ensures { IfOk result (λ batch. batch ≡ prepared_batch (option_copied entry)) }
+{
+    match entry {
+        Some(Entry::Prepare(_, batch)) => batch.copy(alloc),
+        _ => Ok(Batch::new(alloc)),
+    }
+}
+
+/// The entry with that number, if there is one.
+pub(crate) fn entry_at(entries: &[Entry], n: Seq) -> Option<&Entry>
+    ensures { option_copied result ≡ entry_at entries.now n }
+{
+    let before = n.checked_sub(1)?;
+    entries.get(usize::try_from(before).ok()?)
+}
+
+impl WriteTable {
+    pub(crate) fn batch_at(&self, p: Seq, alloc: Global) -> Result<Batch, AllocError>
+        ensures { IfOk result (λ batch. batch ≡ batch_at self.now.history p) }
+    {
+        batch_of(entry_at(&self.history, p), alloc)
     }
 }

@@ -1,9 +1,9 @@
 //! What the stores of words make of a world.
-ghost use Rattle.std.specs.Prelude.{◌≡◌, ℕ, List, ◌∷◌, OnOk, Some};
-ghost use Rattle.wp_model.specs.declared.entry.Entry.{Entry};
+ghost use Rattle.std.specs.Prelude.{◌≡◌, ℕ, OnOk, Some};
+ghost use Rattle.wp_core.specs.Changes.{with_actor};
 ghost use Rattle.wp_core.specs.Steps as step;
 ghost use Rattle.wp_machine.specs.Machine.{word_step};
-ghost use Rattle.wp_machine.specs.Effect.{IsEffect};
+ghost use Rattle.wp_machine.specs.Effect.{IsEffect, published_world};
 
 use crate::actor::Actor;
 use crate::content::Content;
@@ -13,8 +13,7 @@ use std::alloc::AllocError;
 use wp_model::Seq;
 
 fn store_published(world: &mut World, actor: &mut Actor) -> Result<(), AllocError>
-    ensures { (entry : Entry) (others : List Entry) → world.old.writes.pending ≡ entry ∷ others
-        → OnOk result ((by : ℕ) → IsEffect by world.old actor.old (step.store_published entry others) world.new actor.new) }
+    ensures { OnOk result ((by : ℕ) → with_actor world.new by actor.new ≡ published_world world.old actor.old by world.old.writes.pending) }
 {
     let alloc = world.alloc;
     world.writes.publish()?;
@@ -41,7 +40,7 @@ pub(crate) fn word(
         → OnOk result ((by : ℕ) → IsEffect by world.old actor.old s world.new actor.new) }
 {
     match kind {
-        WordStep::StorePublished => store_published(world, actor)?,
+        WordStep::StorePublished => return store_published(world, actor),
         WordStep::StoreMaxEvicted(m) => store_max_evicted(world, actor, m)?,
         WordStep::StoreWord => {
             if let Some((p, c)) = world.writes.pending_pair()? {
