@@ -5,3 +5,4 @@ pub mod Machine
 pub mod Effect
 pub mod Pairs
 pub mod HeldTables
+pub mod Endings

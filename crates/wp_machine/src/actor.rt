@@ -1,6 +1,8 @@
 ghost use Rattle.std.specs.Prelude.{◌≡◌, [], ◌∷◌, ◌++◌, None, Some, true, false, OnOk, IfOk, IfSome, ◌==◌, ◌<◌, length, slice_set};
 ghost use Rattle.std.specs.Prelude.{List, take, drop, if◌then◌else◌};
 ghost use Rattle.std.specs.List.{list_any};
+ghost use Rattle.std.specs.Prelude.{not, filter};
+ghost use Rattle.wp_machine.specs.Endings.{ends_fact};
 ghost use Rattle.std.specs.Option.{option_copied};
 ghost use Rattle.std.specs.FinSet as set;
 ghost use Rattle.std.specs.FinMap as finite;
@@ -19,6 +21,7 @@ ghost use Rattle.wp_machine.specs.HeldTables.{place_from};
 use crate::copies::copy_entries;
 use std::alloc::{AllocError, Global};
 use crate::content::Content;
+use crate::ending::Ending;
 use crate::turn::Turn;
 use crate::views::{Event, Fact};
 use std::marker::Model;
@@ -293,6 +296,12 @@ fn hold(held: &mut Vec<Content>, content: Content)
     }
 }
 
+fn forget(notes: &mut Vec<Fact>, ending: &Ending)
+    ensures { notes.new.items ≡ filter (λ fact. not (ends_fact ending.now fact)) notes.old.items }
+{
+    notes.retain(|fact| !ending.ends(fact));
+}
+
 fn let_go(held: &mut Vec<Content>, turn: Turn)
     ensures { held.new.items ≡ held_without held.old.items (turn_of turn) }
 {
@@ -378,6 +387,13 @@ impl Actor {
             self.reading = None;
         }
         Some(released.number)
+    }
+
+    /// It forgets what the step ends.
+    pub(crate) fn forget(&mut self, ending: &Ending)
+        ensures { self.new ≡ record self.old { notes = filter (λ fact. not (ends_fact ending.now fact)) self.old.notes } }
+    {
+        forget(&mut self.notes, ending);
     }
 
     pub(crate) fn note(&mut self, fact: Fact) -> Result<(), AllocError>

@@ -40,7 +40,7 @@ impl Cache {
         &self.words
     }
 
-    fn place_of(&self, p: Seq) -> usize
+    pub(crate) fn place_of(&self, p: Seq) -> usize
         ensures place { result ≡ cache_place (length self.now) p }
         ensures within { result < length self.now }
     {

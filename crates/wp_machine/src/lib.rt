@@ -6,6 +6,7 @@ mod cache;
 mod copies;
 mod content;
 mod effects;
+mod ending;
 mod locks;
 mod prepared;
 mod snapshots;

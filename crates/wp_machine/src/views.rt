@@ -1,5 +1,6 @@
 ghost use Rattle.std.specs.Prelude.{◌≡◌};
 
+use crate::turn::Turn;
 use std::marker::Model;
 use wp_model::{Batch, Holder, Key, Name, Seq, Version};
 
@@ -98,4 +99,42 @@ impl Model for Fact {
     ghost use Rattle.wp_machine.specs.Parts.{fact_of};
 
     ghost view = { λ f. fact_of f.says };
+}
+
+impl Fact {
+    ghost use Rattle.std.specs.Prelude.{option_map};
+    ghost use Rattle.wp_core.specs.Sound.Views.{guarded_by};
+    ghost use Rattle.wp_machine.specs.Parts.{turn_of, fact_of};
+
+    pub(crate) fn of(says: Noted) -> Fact
+        ensures { result ≡ fact_of says }
+    {
+        Fact { says }
+    }
+
+    /// The turn under which it stays so; none: without a turn.
+    pub(crate) fn guard(&self) -> Option<Turn>
+        ensures { option_map turn_of result ≡ guarded_by self.now }
+    {
+        match &self.says {
+            Noted::UndecidedAt(_, _)
+            | Noted::PriorValues(_, _, _)
+            | Noted::Unprepared(_)
+            | Noted::DirectFree(_)
+            | Noted::LiveListed(_, _) => None,
+            Noted::TablesStay(_, _) | Noted::NothingFlushed | Noted::FrozenStay(_, _) => {
+                Some(Turn::Tables)
+            }
+            Noted::DelayedFlagStays(_) => Some(Turn::Prepared),
+            Noted::OldFlagStays(_) => Some(Turn::Snapshots),
+            Noted::Passed(_, _, _)
+            | Noted::InOldCommits(_, _, _)
+            | Noted::Apart(_, _, _)
+            | Noted::WordsStay(_, _)
+            | Noted::VersionsInMemory
+            | Noted::VersionsNowhere
+            | Noted::NumberInHeap
+            | Noted::NumberNotInHeap => Some(Turn::Write),
+        }
+    }
 }

@@ -111,7 +111,7 @@ impl WriteTable {
 
 /// The batch of the prepare with that number: an empty one where it is no prepare.
 fn batch_of(entry: Option<&Entry>, alloc: Global) -> Result<Batch, AllocError>
-    ensures { IfOk result (λ batch. batch ≡ prepared_batch (option_copied entry)) }
+    ensures { IfOk result (λ batch. batch ≡ prepared_batch (option_copied entry.entry)) }
 {
     match entry {
         Some(Entry::Prepare(_, batch)) => batch.copy(alloc),
