@@ -6,3 +6,4 @@ pub mod Effect
 pub mod Pairs
 pub mod HeldTables
 pub mod Endings
+pub mod Apart

@@ -13,7 +13,7 @@ ghost use Rattle.wp_core.specs.Changes.{reading_left, is_same_registration};
 ghost use Rattle.wp_machine.specs.Effect.{has_published, released_number, has_released};
 ghost use Rattle.wp_core.specs.Tables as tables;
 ghost use Rattle.wp_core.specs.World.{new_participant, new_actor};
-ghost use Rattle.wp_core.specs.Changes.{sees, remembers, joined_actor, has_direct, held_with, held_without, registers, has_transaction, has_no_transaction, turn_index};
+ghost use Rattle.wp_core.specs.Changes.{sees, remembers, joined_actor, has_direct, held_with, held_without, registers, has_transaction, has_no_transaction, turn_index, made_one, joins};
 ghost use Rattle.wp_machine.specs.Client.{client_of};
 ghost use Rattle.wp_machine.specs.Parts.{turn_of};
 ghost use Rattle.wp_machine.specs.HeldTables.{place_from};
@@ -387,6 +387,21 @@ impl Actor {
             self.reading = None;
         }
         Some(released.number)
+    }
+
+    /// One more is made by it.
+    pub(crate) fn count_one(&mut self) -> Result<(), AllocError>
+        ensures { OnOk result (self.new ≡ made_one self.old) }
+    {
+        self.made = self.made.checked_add(1).ok_or(AllocError)?;
+        Ok(())
+    }
+
+    pub(crate) fn join(&mut self, seat: Actor) -> Result<(), AllocError>
+        ensures { OnOk result (self.new ≡ joins self.old seat) }
+    {
+        self.joined.insert(0, seat.participant)?;
+        Ok(())
     }
 
     /// It forgets what the step ends.

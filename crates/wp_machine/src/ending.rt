@@ -175,10 +175,8 @@ pub(crate) fn ending_of(world: &World, kind: &Kind) -> Result<Ending, AllocError
 }
 
 impl Ending {
-    ghost use Rattle.wp_machine.specs.Endings as ends;
-
     fn ends_guard(&self, turn: Turn) -> bool
-        ensures { result ≡ ends.ends_guard self.now (parts.turn_of turn) }
+        ensures { result ≡ endings.ends_guard self.now (parts.turn_of turn) }
     {
         match self {
             Ending::Guard(given) => turn.index() == given.index(),
@@ -187,7 +185,7 @@ impl Ending {
     }
 
     fn ends_place(&self, place: usize) -> bool
-        ensures { result ≡ ends.ends_place self.now place }
+        ensures { result ≡ endings.ends_place self.now place }
     {
         match self {
             Ending::Word(stored) => *stored == place,
@@ -196,19 +194,19 @@ impl Ending {
     }
 
     fn ends_words(&self) -> bool
-        ensures { result ≡ ends.ends_words self.now }
+        ensures { result ≡ endings.ends_words self.now }
     {
         matches!(self, Ending::Word(_) | Ending::Bound)
     }
 
     fn ends_pending(&self) -> bool
-        ensures { result ≡ ends.ends_pending self.now }
+        ensures { result ≡ endings.ends_pending self.now }
     {
         matches!(self, Ending::Published(_) | Ending::Pending)
     }
 
     fn ends_transaction(&self, name: &Name) -> bool
-        ensures { result ≡ ends.ends_transaction self.now name.now }
+        ensures { result ≡ endings.ends_transaction self.now name.now }
     {
         match self {
             Ending::Published(Some(other)) => &other.bytes[..] == name.bytes(),
@@ -219,7 +217,7 @@ impl Ending {
 
     /// What it ends while the turn that guards the fact is held.
     fn ends_itself(&self, fact: &Noted) -> bool
-        ensures { result ≡ ends.ends_itself self.now (parts.fact_of fact.now) }
+        ensures { result ≡ endings.ends_itself self.now (parts.fact_of fact.now) }
     {
         match fact {
             Noted::Passed(place, _, _)
@@ -246,7 +244,7 @@ impl Ending {
     }
 
     pub(crate) fn ends(&self, fact: &Fact) -> bool
-        ensures { result ≡ ends.ends_fact self.now fact.now }
+        ensures { result ≡ endings.ends_fact self.now fact.now }
     {
         match fact.guard() {
             Some(turn) if self.ends_guard(turn) => true,

@@ -2,6 +2,7 @@
 #![tactic(auto)]
 
 mod actor;
+mod apply;
 mod cache;
 mod copies;
 mod content;

@@ -1,4 +1,4 @@
-ghost use Rattle.std.specs.Prelude.{◌≡◌, not, IfOk, OnOk};
+ghost use Rattle.std.specs.Prelude.{◌≡◌, not, filter, map, IfOk, OnOk};
 ghost use Rattle.std.specs.Option.{option_copied};
 ghost use Rattle.std.specs.FinSet as set;
 ghost use Rattle.std.specs.FinMap as finite;
@@ -131,6 +131,42 @@ fn take_key(keys: &mut Vec<(Key, Holder)>, key: &Key)
     keys.retain(|pair| &pair.0 != key);
 }
 
+/// The keys among these that the holder holds by the table.
+fn held_keys(
+    pairs: &[(Key, Holder)],
+    table: &LockTables,
+    holder: &Holder,
+    alloc: Global,
+) -> Result<Vec<Key>, AllocError>
+    ensures { IfOk result (λ keys. keys.items ≡ filter (is_held_by table.now holder.now) (map (λ e. e.0) pairs.now)) }
+{
+    let mut keys = Vec::new(alloc);
+    for pair in pairs {
+        if table.is_held_by(holder, &pair.0) {
+            keys.push(pair.0.copy(alloc)?)?;
+        }
+    }
+    Ok(keys)
+}
+
+/// Those of these whose keys the holder does not hold by the table.
+fn other_keys(
+    pairs: &[(Key, Holder)],
+    table: &LockTables,
+    holder: &Holder,
+    alloc: Global,
+) -> Result<Vec<(Key, Holder)>, AllocError>
+    ensures { IfOk result (λ keys. keys.items ≡ filter (λ e. not (is_held_by table.now holder.now e.0)) pairs.now) }
+{
+    let mut keys = Vec::new(alloc);
+    for pair in pairs {
+        if !table.is_held_by(holder, &pair.0) {
+            keys.push((pair.0.copy(alloc)?, pair.1.copy(alloc)?))?;
+        }
+    }
+    Ok(keys)
+}
+
 impl LockTables {
     /// What a live name has: the client that has it, if one does. None where the name is not live.
     #[tactic(auto, using(crate::proofs::Maps::under_is_got))]
@@ -192,28 +228,18 @@ impl LockTables {
     }
 
     /// The keys that the holder holds, some perhaps twice.
+    #[tactic(auto, using(crate::proofs::NameMaps::keys_filtered))]
     pub(crate) fn keys_of(&self, holder: &Holder, alloc: Global) -> Result<Vec<Key>, AllocError>
         ensures { IfOk result (λ keys. set.from_list keys.items ≡ keys_of_holder self.now holder.now) }
     {
-        let mut keys = Vec::new(alloc);
-        for pair in &self.keys {
-            if self.is_held_by(holder, &pair.0) {
-                keys.push(pair.0.copy(alloc)?)?;
-            }
-        }
-        Ok(keys)
+        held_keys(&self.keys, self, holder, alloc)
     }
 
     /// The keys with their holders, but for those of this holder.
     fn keys_but(&self, holder: &Holder, alloc: Global) -> Result<Vec<(Key, Holder)>, AllocError>
         ensures { IfOk result (λ keys. finite.from_entries keys.items ≡ finite.retain_keys self.now.keys (λ key. not (is_held_by self.now holder.now key))) }
     {
-        let mut keys = Vec::new(alloc);
-        for pair in &self.keys {
-            if !self.is_held_by(holder, &pair.0) {
-                keys.push((pair.0.copy(alloc)?, pair.1.copy(alloc)?))?;
-            }
-        }
+        let keys = other_keys(&self.keys, self, holder, alloc)?;
         Ok(keys)
     }
 

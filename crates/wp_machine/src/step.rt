@@ -146,12 +146,9 @@ pub enum OwnStep {
     SetClient(Name),
 }
 
-/// A step that makes an actor, or joins one.
+/// A step that makes an actor.
 #[derive(Drop)]
 pub enum ActorsStep {
     MakeNote,
     MakeSeat,
-    /// What the note at this place saw.
-    Learn(usize),
-    JoinSeat(usize),
 }

@@ -1,7 +1,6 @@
 //! What the steps with the locks turn make of a world.
-ghost use Rattle.std.specs.Prelude.{◌≡◌, ℕ, OnOk, Some, None};
+ghost use Rattle.std.specs.Prelude.{◌≡◌, ℕ, OnOk, Some, None, option_map};
 ghost use Rattle.std.specs.FinMap as finite;
-ghost use Rattle.wp_core.specs.World.{Transaction};
 ghost use Rattle.wp_core.specs.Tables as tables;
 ghost use Rattle.wp_core.specs.Changes.{held_with};
 ghost use Rattle.wp_core.specs.Steps as step;
@@ -76,8 +75,8 @@ fn lock_key(
     name: Name,
     key: Key,
 ) -> Result<(), AllocError>
-    ensures { (t : Transaction) → finite.get actor.old.participant.transactions name ≡ Some t
-        → OnOk result ((by : ℕ) → IsEffect by world.old actor.old (step.lock_key name t key) world.new actor.new) }
+    ensures { (s : step.Step) → option_map (λ t. step.lock_key name t key) (finite.get actor.old.participant.transactions name) ≡ Some s
+        → OnOk result ((by : ℕ) → IsEffect by world.old actor.old s world.new actor.new) }
 {
     let alloc = world.alloc;
     let Some(transaction) = actor.participant.transaction(&name) else {
@@ -97,8 +96,8 @@ fn free_key(
     name: Name,
     key: Key,
 ) -> Result<(), AllocError>
-    ensures { (t : Transaction) → finite.get actor.old.participant.transactions name ≡ Some t
-        → OnOk result ((by : ℕ) → IsEffect by world.old actor.old (step.free_key name t key) world.new actor.new) }
+    ensures { (s : step.Step) → option_map (λ t. step.free_key name t key) (finite.get actor.old.participant.transactions name) ≡ Some s
+        → OnOk result ((by : ℕ) → IsEffect by world.old actor.old s world.new actor.new) }
 {
     let alloc = world.alloc;
     let Some(transaction) = actor.participant.transaction(&name) else {
@@ -152,8 +151,8 @@ fn tell(world: &mut World, actor: &mut Actor, label: Name) -> Result<(), AllocEr
 }
 
 fn hear(world: &mut World, actor: &mut Actor, label: Name) -> Result<(), AllocError>
-    ensures { (n : ℕ) → finite.get world.old.locks.labels label ≡ Some n
-        → OnOk result ((by : ℕ) → IsEffect by world.old actor.old (step.hear label n) world.new actor.new) }
+    ensures { (s : step.Step) → option_map (step.hear label) (finite.get world.old.locks.labels label) ≡ Some s
+        → OnOk result ((by : ℕ) → IsEffect by world.old actor.old s world.new actor.new) }
 {
     match world.locks.told(&label) {
         Some(n) => actor.remember(Event::of(Found::Heard(label, n))),
