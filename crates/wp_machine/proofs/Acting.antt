@@ -9,6 +9,9 @@ use Rattle.wp_core.specs.Notes.{forgets}
 use Rattle.wp_core.specs.Steps as step
 use Rattle.wp_core.specs.Steps.{Step}
 use Rattle.wp_machine.specs.declared.step.Kind.{Kind}
+use Rattle.wp_machine.specs.declared.step.Kind.TheVariants as kind
+use Rattle.wp_machine.specs.declared.step.ActorsStep.{ActorsStep}
+use Rattle.wp_machine.proofs.StayNoted.{all_stay}
 use Rattle.wp_machine.specs.declared.ending.Ending.{Ending}
 use Rattle.wp_machine.specs.Machine.{step_of}
 use Rattle.wp_machine.specs.Effect.{IsEffect}
@@ -51,10 +54,10 @@ noted next w by a actor note at at2 is n = n ∙ ap (λ z. record w { actors = w
 
 pub seated : (next w we w2 : World) (by : ℕ) (a first actor more seat : Actor) → get_elem? w.actors by ≡ some a → get_elem? w.actors by ≡ some first → get_elem? w.actors by ≡ some actor → seat ≡ new_actor true first.participant.client first.participant.seen → we ≡ with_actor w by joined_actor → more ≡ made_one actor → w2 ≡ with_actor we by more → next ≡ record w2 { actors = w2.actors ++ seat ∷ [] } → next ≡ done w by a step.make_seat
 seated next w we w2 by a first actor more seat at at1 at2 is out one back n =
-    n ∙ ap (λ z. record z { actors = z.actors ++ seat ∷ [] }) (back ∙ ap (λ z. with_actor z by more) out)
+    n ∙ ap (λ (z : World). record z { actors = z.actors ++ seat ∷ [] }) (back ∙ ap (λ (z : World). with_actor z by more) out)
     ∙ ap (λ (zs : List Actor). record w { actors = zs ++ seat ∷ [] }) (set-set w.actors by joined_actor more)
-    ∙ ap (λ z. record w { actors = set w.actors by z ++ seat ∷ [] }) (one ∙ ap made_one (same_actor w by a actor at at2))
-    ∙ ap (λ z. record w { actors = set w.actors by (made_one a) ++ z ∷ [] }) (is ∙ ap (λ z. new_actor true z.participant.client z.participant.seen) (same_actor w by a first at at1))
+    ∙ ap (λ (z : Actor). record w { actors = set w.actors by z ++ seat ∷ [] }) (one ∙ ap made_one (same_actor w by a actor at at2))
+    ∙ ap (λ (z : Actor). record w { actors = set w.actors by (made_one a) ++ z ∷ [] }) (is ∙ ap (λ z. new_actor true z.participant.client z.participant.seen) (same_actor w by a first at at1))
 
 pub acted : (w we w2 next : World) (by : ℕ) (k : Kind) (en : Ending) (a actor left left2 : Actor) (s : Step) (i : IsApart k) → en ≡ ending_of w k → get_elem? w.actors by ≡ some a → get_elem? w.actors by ≡ some actor → we ≡ with_actor w by joined_actor → left ≡ record actor { notes = filter (λ x. not (ends_fact en x)) actor.notes } → step_of w a.participant k ≡ Some s → (step_of we left.participant k ≡ Some s → IsEffect by we left s w2 left2) → next ≡ with_actor w2 by left2 → next ≡ done w by (forgets w.writes.history (length w.cache) s a) s
 acted w we w2 next by k en a actor left left2 s i ends at at2 out forgot e made back =
@@ -63,3 +66,19 @@ acted w we w2 next by k en a actor left left2 s i ends at at2 out forgot e made 
     let here : step_of we left.participant k ≡ Some s = ap (λ z. step_of we z.participant k) forgot ∙ ap (λ z. step_of z actor.participant k) out ∙ step_same w by joined_actor actor.participant k i ∙ first in
     let noted : left ≡ forgets w.writes.history (length w.cache) s actor = forgot ∙ ap (λ z. record actor { notes = filter (λ x. not (ends_fact z x)) actor.notes }) ends ∙ ap (λ xs. record actor { notes = xs }) (left_as w actor.participant k s first actor.notes) in
     back ∙ made here ∙ ap (λ z. done z by left s) out ∙ again w by joined_actor left s (acts w actor.participant k s i first) ∙ ap (λ z. done w by z s) (noted ∙ ap (forgets w.writes.history (length w.cache) s) same)
+
+pub made_actor : (w next : World) (by : ℕ) (k : ActorsStep) (a : Actor) (s : Step) → step_of w a.participant (kind.Actors k) ≡ Some s → next ≡ done w by a s → next ≡ done w by (forgets w.writes.history (length w.cache) s a) s
+made_actor w next by k a s e n = n ∙ ap (λ (z : Actor). done w by z s) (ap (λ xs. record a { notes = xs }) (sym (all_stay a.notes) ∙ left_as w a.participant (kind.Actors k) s e a.notes))
+
+pub apart_unless : (k : Kind) → ((x : ActorsStep) → k ≡ kind.Actors x → ⊥) → IsApart k
+apart_unless (kind.Reader k) not = tt
+apart_unless (kind.Word k) not = tt
+apart_unless (kind.Turn k) not = tt
+apart_unless (kind.Write k) not = tt
+apart_unless (kind.Prepared k) not = tt
+apart_unless (kind.Snapshots k) not = tt
+apart_unless (kind.Store k) not = tt
+apart_unless (kind.Tables k) not = tt
+apart_unless (kind.Locks k) not = tt
+apart_unless (kind.Own k) not = tt
+apart_unless (kind.Actors k) not = not k refl

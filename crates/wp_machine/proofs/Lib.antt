@@ -7,3 +7,4 @@ pub mod Ends
 pub mod Apart
 pub mod StayNoted
 pub mod Acting
+pub mod Opened

@@ -1,8 +1,8 @@
-ghost use Rattle.std.specs.Prelude.{◌≡◌, ◌≤◌, ◌<◌, ◌^◌, length, OnOk, IfOk};
+ghost use Rattle.std.specs.Prelude.{◌≡◌, ◌≤◌, ◌<◌, ◌^◌, ◌∷◌, [], length, OnOk, IfOk};
 ghost use Rattle.wp_core.specs.Cache.{cache_place, cached_word, with_pair};
 ghost use Rattle.wp_judge.specs.Words.{word_of};
 
-use std::alloc::AllocError;
+use std::alloc::{AllocError, Global};
 use std::marker::Model;
 use wp_model::Seq;
 
@@ -62,5 +62,16 @@ impl Cache {
         let place = self.place_of(p);
         self.words[place] = word;
         Ok(())
+    }
+}
+
+impl Cache {
+    /// One empty word.
+    pub(crate) fn one(alloc: Global) -> Result<Cache, AllocError>
+        ensures { IfOk result (λ cache. cache ≡ 0 ∷ []) }
+    {
+        let mut words = Vec::with_capacity(alloc, 1)?;
+        words.push(0)?;
+        Ok(Cache { words })
     }
 }

@@ -2,13 +2,14 @@
 #![tactic(auto)]
 
 mod actor;
-mod apply;
+mod applied;
 mod cache;
 mod copies;
 mod content;
 mod effects;
 mod ending;
 mod locks;
+mod permitted;
 mod prepared;
 mod snapshots;
 mod step;
@@ -20,9 +21,11 @@ mod world;
 mod writes;
 
 pub use actor::{Actor, Participant, Registration, Transaction};
+pub use applied::apply;
 pub use cache::Cache;
 pub use content::Content;
 pub use locks::LockTables;
+pub use permitted::permits;
 pub use prepared::PreparedTables;
 pub use snapshots::{Snapshot, Snapshots};
 pub use step::{

@@ -5,6 +5,7 @@ ghost use Rattle.std.specs.FinMap as finite;
 ghost use Rattle.wp_model.specs.Batch.{key_cmp};
 ghost use Rattle.wp_model.specs.declared.holder.Holder.TheVariants.{Txn};
 ghost use Rattle.wp_core.specs.Changes.{with_name, with_key, without_key, without_transaction, with_label, is_held_by, keys_of_holder};
+ghost use Rattle.wp_model.specs.LockTables.{nothing_locked};
 ghost use Rattle.wp_machine.specs.Pairs.{newest_under};
 
 
@@ -250,5 +251,17 @@ impl LockTables {
         take_name(&mut self.names, &name);
         self.keys = self.keys_but(&Holder::Txn(name), alloc)?;
         Ok(())
+    }
+}
+
+impl LockTables {
+    pub(crate) fn new(alloc: Global) -> LockTables
+        ensures { result ≡ nothing_locked }
+    {
+        LockTables {
+            names: Vec::new(alloc),
+            keys: Vec::new(alloc),
+            labels: Vec::new(alloc),
+        }
     }
 }

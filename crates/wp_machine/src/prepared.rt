@@ -5,7 +5,7 @@ ghost use Rattle.std.specs.Option.{option_copied};
 ghost use Rattle.std.specs.FinSet as set;
 ghost use Rattle.std.specs.FinMap as finite;
 ghost use Rattle.wp_core.specs.Changes.{found_in};
-ghost use Rattle.wp_model.specs.PreparedTables.{is_prepared};
+ghost use Rattle.wp_model.specs.PreparedTables.{is_prepared, nothing_prepared};
 ghost use Rattle.wp_machine.specs.Pairs.{newest_of};
 
 
@@ -157,5 +157,17 @@ impl PreparedTables {
         ensures { OnOk result (self.new ≡ with_moved self.old m) }
     {
         move_up_to(&mut self.heap, &mut self.delayed, m)
+    }
+}
+
+impl PreparedTables {
+    pub(crate) fn new(alloc: Global) -> PreparedTables
+        ensures { result ≡ nothing_prepared }
+    {
+        PreparedTables {
+            heap: Vec::new(alloc),
+            delayed: Vec::new(alloc),
+            delayed_commits: Vec::new(alloc),
+        }
     }
 }

@@ -202,3 +202,13 @@ impl Snapshots {
         }
     }
 }
+
+impl Snapshots {
+    pub(crate) fn new(alloc: Global) -> Snapshots
+        ensures { result ≡ finite.empty }
+    {
+        Snapshots {
+            live: Vec::new(alloc),
+        }
+    }
+}

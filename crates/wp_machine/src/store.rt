@@ -1,4 +1,4 @@
-ghost use Rattle.std.specs.Prelude.{◌≡◌, ◌++◌, IfOk, OnOk};
+ghost use Rattle.std.specs.Prelude.{◌≡◌, ◌++◌, [], None, false, IfOk, OnOk};
 ghost use Rattle.wp_core.specs.Effects.{with_failed};
 ghost use Rattle.wp_machine.specs.Machine.{without_number};
 
@@ -130,5 +130,41 @@ impl StoreTable {
         memory.append(&mut self.memory)?;
         self.memory = memory;
         Ok(())
+    }
+}
+
+impl StoreTable {
+    pub(crate) fn new(alloc: Global) -> StoreTable
+        ensures { result ≡ record { memory = []; tables = []; floor = 0 } }
+    {
+        StoreTable {
+            memory: Vec::new(alloc),
+            tables: Vec::new(alloc),
+            floor: 0,
+        }
+    }
+}
+
+impl InstalledEdit {
+    pub(crate) fn new(alloc: Global) -> InstalledEdit
+        ensures { result ≡ record { flushed = 0; versions = []; tables = 0 } }
+    {
+        InstalledEdit {
+            flushed: 0,
+            versions: Vec::new(alloc),
+            tables: 0,
+        }
+    }
+}
+
+impl Installed {
+    pub(crate) fn new(alloc: Global) -> Installed
+        ensures { result ≡ record { last = record { flushed = 0; versions = []; tables = 0 }; failed = None; halted = false } }
+    {
+        Installed {
+            last: InstalledEdit::new(alloc),
+            failed: None,
+            halted: false,
+        }
     }
 }

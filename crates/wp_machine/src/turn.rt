@@ -1,5 +1,5 @@
-ghost use Rattle.std.specs.Prelude.{◌≡◌};
-ghost use Rattle.wp_core.specs.Turns.{turn_holder, with_holder};
+ghost use Rattle.std.specs.Prelude.{◌≡◌, true};
+ghost use Rattle.wp_core.specs.Turns.{turn_holder, with_holder, Holds, all_free};
 ghost use Rattle.wp_core.specs.Changes.{turn_index};
 ghost use Rattle.wp_machine.specs.Parts.{turn_of};
 
@@ -72,6 +72,12 @@ impl Holders {
         }
     }
 
+    pub(crate) fn holds(&self, turn: Turn, by: usize) -> bool
+        ensures { result ≡ true → Holds self.now (turn_of turn) by }
+    {
+        self.of(turn) == Some(by)
+    }
+
     pub(crate) fn set(&mut self, turn: Turn, holder: Option<usize>)
         ensures { self.new ≡ with_holder self.old (turn_of turn) holder }
     {
@@ -82,6 +88,21 @@ impl Holders {
             Turn::Store => self.store = holder,
             Turn::Locks => self.locks = holder,
             Turn::Tables => self.tables = holder,
+        }
+    }
+}
+
+impl Holders {
+    pub(crate) fn free() -> Holders
+        ensures { result ≡ all_free }
+    {
+        Holders {
+            write: None,
+            prepared: None,
+            snapshots: None,
+            store: None,
+            locks: None,
+            tables: None,
         }
     }
 }

@@ -1,3 +1,6 @@
+ghost use Rattle.std.specs.Prelude.{IfOk};
+ghost use Rattle.wp_core.specs.Runs.{IsOpening};
+
 use crate::actor::Actor;
 use crate::cache::Cache;
 use crate::locks::LockTables;
@@ -6,9 +9,9 @@ use crate::snapshots::Snapshots;
 use crate::store::{Installed, InstalledEdit, StoreTable};
 use crate::turn::Holders;
 use crate::writes::WriteTable;
-use std::alloc::Global;
+use std::alloc::{AllocError, Global};
 use std::marker::Model;
-use wp_model::{Entry, Seq};
+use wp_model::{Entry, Name, Seq};
 
 /// The words, the turns, the tables that they guard, and the actors.
 #[derive(Drop)]
@@ -43,4 +46,32 @@ impl Model for World {
     ghost coded = { Prim.hlevel (codes, prepared_tables_code, snapshots_code, lock_tables_code, transactions_code) };
 
     ghost view = { λ w. record { opened = w.opened.items; max_evicted = w.max_evicted; delayed_flag = w.delayed_flag; old_flag = w.old_flag; cache = w.cache; holders = w.holders; writes = w.writes; prepared = w.prepared; snapshots = w.snapshots; store = w.store; locks = w.locks; installed = w.installed; first_edit = w.first_edit; actors = w.actors.items } };
+}
+
+impl World {
+    /// An opening on the empty history: one client, and a commit cache of one word.
+    #[tactic(auto, using(crate::proofs::Opened::one_word))]
+    pub fn new(alloc: Global, client: Name) -> Result<World, AllocError>
+        ensures { IfOk result IsOpening }
+    {
+        let mut actors = Vec::with_capacity(alloc, 1)?;
+        actors.push(Actor::new(alloc, true, Some(client), Vec::new(alloc)))?;
+        Ok(World {
+            alloc,
+            opened: Vec::new(alloc),
+            max_evicted: 0,
+            delayed_flag: 0,
+            old_flag: 0,
+            cache: Cache::one(alloc)?,
+            holders: Holders::free(),
+            writes: WriteTable::new(alloc),
+            prepared: PreparedTables::new(alloc),
+            snapshots: Snapshots::new(alloc),
+            store: StoreTable::new(alloc),
+            locks: LockTables::new(alloc),
+            installed: Installed::new(alloc),
+            first_edit: InstalledEdit::new(alloc),
+            actors,
+        })
+    }
 }

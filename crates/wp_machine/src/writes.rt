@@ -1,4 +1,4 @@
-ghost use Rattle.std.specs.Prelude.{◌≡◌, suc, true, ◌++◌, length, IfOk, OnOk, option_map};
+ghost use Rattle.std.specs.Prelude.{◌≡◌, suc, true, false, [], ◌++◌, length, IfOk, OnOk, option_map};
 ghost use Rattle.std.specs.Option.{option_copied};
 ghost use Rattle.wp_model.specs.History.{entry_at, batch_at, prepared_batch};
 ghost use Rattle.wp_judge.specs.Words.{numbers_of};
@@ -132,5 +132,21 @@ impl WriteTable {
         ensures { IfOk result (λ batch. batch ≡ batch_at self.now.history p) }
     {
         batch_of(entry_at(&self.history, p), alloc)
+    }
+}
+
+impl WriteTable {
+    /// Of the empty history.
+    pub(crate) fn new(alloc: Global) -> WriteTable
+        ensures { result ≡ record { history = []; pending = []; logged = false; log = []; closed = false; failed = [] } }
+    {
+        WriteTable {
+            history: Vec::new(alloc),
+            pending: Vec::new(alloc),
+            logged: false,
+            log: Vec::new(alloc),
+            closed: false,
+            failed: Vec::new(alloc),
+        }
     }
 }

@@ -41,7 +41,8 @@ fn put_actor(world: &mut World, by: usize, actor: Actor)
     }
 }
 
-fn actor_at(world: &World, by: usize) -> &Actor
+/// The actor at that place.
+pub(crate) fn actor_at(world: &World, by: usize) -> &Actor
     requires { by < length world.now.actors }
     ensures { get_elem? world.now.actors by ≡ some result.now }
 {
@@ -70,7 +71,8 @@ fn make_note(world: &mut World, by: usize) -> Result<(), AllocError>
 {
     let alloc = world.alloc;
     let note = made(actor_at(world, by), false, alloc)?;
-    push_actor(world, note)
+    push_actor(world, note)?;
+    Ok(())
 }
 
 fn make_seat(world: &mut World, by: usize) -> Result<(), AllocError>
@@ -82,7 +84,8 @@ fn make_seat(world: &mut World, by: usize) -> Result<(), AllocError>
     let mut actor = take_actor(world, by);
     actor.count_one()?;
     put_actor(world, by, actor);
-    push_actor(world, seat)
+    push_actor(world, seat)?;
+    Ok(())
 }
 
 /// What a step makes of the world and of its actor.

@@ -2,7 +2,7 @@ use Rattle.std.proofs.Common.{ap, sym, ◌∙◌}
 use mathlib.Core.Option.{some}
 use lib.ListN.{get_elem?}
 use Rattle.wp_machine.proofs.Acting.{at_index}
-use Rattle.wp_machine.proofs.apply.take_actor.Goals as goal
+use Rattle.wp_machine.proofs.applied.take_actor.Goals as goal
 
 pub returns-clause-actor : goal.returns-clause-actor
 returns-clause-actor c =

@@ -1,5 +1,5 @@
 use Rattle.wp_machine.proofs.Acting.{acted}
-use Rattle.wp_machine.proofs.apply.act.Goals as goal
+use Rattle.wp_machine.proofs.applied.act.Goals as goal
 
 pub returns : goal.returns
 returns c a s i at e =

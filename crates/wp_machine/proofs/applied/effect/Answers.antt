@@ -1,7 +1,7 @@
 use Rattle.std.proofs.Common.{ap, sym, ◌∙◌}
 use Rattle.wp_machine.specs.Machine.{step_of}
 use Rattle.wp_machine.proofs.Acting.{at_by}
-use Rattle.wp_machine.proofs.apply.effect.Goals as goal
+use Rattle.wp_machine.proofs.applied.effect.Goals as goal
 
 pub returns-in-Reader : goal.returns-in-Reader
 returns-in-Reader c s i e = at_by c.reader.result _ c.args.by (c.reader.ensures s (ap (λ k. step_of c.args.world.now c.args.actor.now.participant k) (sym c.in-Reader.is) ∙ e))
