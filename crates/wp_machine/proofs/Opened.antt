@@ -1,10 +1,10 @@
--- The empty history is opened with one word and a client.
-use Rattle.std.proofs.Common.{◌≡◌, ℕ, List, [], ◌∷◌, refl}
-use Rattle.wp_core.specs.World.{World, new_actor}
+-- What the code makes is an opening: the empty history with one word and a client.
+use Rattle.std.proofs.Common.{ℕ, List, refl}
 use Rattle.wp_core.specs.Runs.{IsOpening}
-use Rattle.wp_core.proofs.Empty.{empty_world, empty_is_opening}
+use Rattle.wp_core.proofs.Empty.{empty_is_opening}
+use Rattle.wp_machine.specs.Opened.{empty_world}
 
-pub one_word : (client : List ℕ) → IsOpening (record empty_world { actors = new_actor true client [] ∷ [] })
+pub one_word : (client : List ℕ) → IsOpening (empty_world client)
 one_word client =
     let o = empty_is_opening in
     record {

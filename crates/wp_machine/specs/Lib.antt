@@ -8,3 +8,4 @@ pub mod HeldTables
 pub mod Endings
 pub mod Apart
 pub mod Permits
+pub mod Opened

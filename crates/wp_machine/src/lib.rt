@@ -13,6 +13,8 @@ mod permitted;
 mod prepared;
 mod snapshots;
 mod step;
+#[cfg(test)]
+mod tests;
 mod store;
 mod turn;
 mod versions;

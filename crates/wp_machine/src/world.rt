@@ -1,5 +1,6 @@
-ghost use Rattle.std.specs.Prelude.{IfOk};
+ghost use Rattle.std.specs.Prelude.{◌≡◌, IfOk};
 ghost use Rattle.wp_core.specs.Runs.{IsOpening};
+ghost use Rattle.wp_machine.specs.Opened.{empty_world};
 
 use crate::actor::Actor;
 use crate::cache::Cache;
@@ -50,9 +51,14 @@ impl Model for World {
 
 impl World {
     /// An opening on the empty history: one client, and a commit cache of one word.
-    #[tactic(auto, using(crate::proofs::Opened::one_word))]
     pub fn new(alloc: Global, client: Name) -> Result<World, AllocError>
         ensures { IfOk result IsOpening }
+    {
+        World::empty(alloc, client)
+    }
+
+    fn empty(alloc: Global, client: Name) -> Result<World, AllocError>
+        ensures { IfOk result (λ world. world ≡ empty_world client) }
     {
         let mut actors = Vec::with_capacity(alloc, 1)?;
         actors.push(Actor::new(alloc, true, Some(client), Vec::new(alloc)))?;
