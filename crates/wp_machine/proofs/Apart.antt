@@ -41,6 +41,7 @@ use Rattle.wp_machine.specs.declared.step.ActorsStep.{ActorsStep}
 use Rattle.wp_machine.specs.declared.step.ActorsStep.TheVariants as actors
 use Rattle.wp_machine.specs.Apart.{IsApart}
 use Rattle.wp_machine.specs.Machine.{reader_step, published_step, word_step, turn_step, write_step, prepared_step, released_step, snapshots_step, without_number, memory_with, store_step, tables_step, locks_step, own_step, actors_step, step_of}
+
 -- it is a step of an actor that makes and joins none
 abbrev pub Acts : Step → Type 0
 Acts step.make_note = ⊥
@@ -132,7 +133,6 @@ of_own : (p : Participant) (k : OwnStep) (s : Step) → own_step p k ≡ Some s 
 of_own p (own.SetBatch name batch) s e = mapped Acts (λ t. step.set_batch name t batch) (finite.get p.transactions name) _ e (λ x. tt)
 of_own p (own.Note fact) s e = subst Acts (only (step.note fact) _ e) tt
 of_own p (own.SetClient client) s e = subst Acts (only (step.set_client client) _ e) tt
-
 
 pub acts : (w : World) (p : Participant) (k : Kind) (s : Step) → IsApart k → step_of w p k ≡ Some s → Acts s
 acts w p (kind.Reader k) s i e = of_reader p k s e

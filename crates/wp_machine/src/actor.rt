@@ -18,12 +18,12 @@ ghost use Rattle.wp_machine.specs.Client.{client_of};
 ghost use Rattle.wp_machine.specs.Parts.{turn_of};
 ghost use Rattle.wp_machine.specs.HeldTables.{place_from};
 
-use crate::copies::copy_entries;
-use std::alloc::{AllocError, Global};
 use crate::content::Content;
+use crate::copies::copy_entries;
 use crate::ending::Ending;
 use crate::turn::Turn;
 use crate::views::{Event, Fact};
+use std::alloc::{AllocError, Global};
 use std::marker::Model;
 use wp_judge::Observed;
 use wp_model::{Batch, Entry, Key, Name, Seq};
@@ -257,9 +257,7 @@ fn is_left(reading: Option<Observed>, registered: &[Registration]) -> bool
 fn has_snapshot(seen: &Observed, registered: &[Registration]) -> bool
     ensures { result ≡ list_any (is_same_registration (snapshot_of seen.now)) registered.now }
 {
-    registered
-        .iter()
-        .any(|r| seen.snapshot == r.number && seen.smallest == r.smallest)
+    registered.iter().any(|r| seen.snapshot == r.number && seen.smallest == r.smallest)
 }
 
 /// Whether it is the table of that turn.
@@ -358,10 +356,16 @@ impl Actor {
         Ok(())
     }
 
-    pub(crate) fn put_transaction(&mut self, name: Name, transaction: Transaction) -> Result<(), AllocError>
+    pub(crate) fn put_transaction(
+        &mut self,
+        name: Name,
+        transaction: Transaction,
+    ) -> Result<(), AllocError>
         ensures { OnOk result (self.new ≡ has_transaction self.old name transaction) }
     {
-        self.participant.transactions.insert(0, (name, transaction))?;
+        self.participant
+            .transactions
+            .insert(0, (name, transaction))?;
         Ok(())
     }
 

@@ -13,12 +13,12 @@ ghost use Rattle.wp_machine.specs.Effect.{IsEffect};
 ghost use Rattle.wp_machine.specs.Apart.{IsApart};
 
 use crate::actor::Actor;
+use crate::copies::copy_entries;
 use crate::effects;
 use crate::ending::ending_of;
+use crate::locks::copy_client;
 use crate::step::{ActorsStep, Kind, Step};
 use crate::world::World;
-use crate::copies::copy_entries;
-use crate::locks::copy_client;
 use std::alloc::{AllocError, Global};
 use wp_core::laws::steps_keep_sound;
 
@@ -89,12 +89,7 @@ fn make_seat(world: &mut World, by: usize) -> Result<(), AllocError>
 }
 
 /// What a step makes of the world and of its actor.
-fn effect(
-    world: &mut World,
-    by: usize,
-    actor: &mut Actor,
-    kind: Kind,
-) -> Result<(), AllocError>
+fn effect(world: &mut World, by: usize, actor: &mut Actor, kind: Kind) -> Result<(), AllocError>
     ensures { (s : step.Step) → IsApart kind → step_of world.old actor.old.participant kind ≡ Some s
         → OnOk result (IsEffect by world.old actor.old s world.new actor.new) }
 {

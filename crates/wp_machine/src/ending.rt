@@ -12,7 +12,9 @@ ghost use Rattle.wp_machine.specs.Parts as parts;
 ghost use Rattle.wp_machine.specs.Endings as endings;
 
 use crate::actor::{Actor, Participant};
-use crate::step::{Kind, LocksStep, PreparedStep, StoreStep, TablesStep, TurnStep, WordStep, WriteStep};
+use crate::step::{
+    Kind, LocksStep, PreparedStep, StoreStep, TablesStep, TurnStep, WordStep, WriteStep,
+};
 use crate::turn::Turn;
 use crate::views::{Fact, Noted};
 use crate::world::World;
@@ -75,7 +77,11 @@ fn name_of(entry: Option<&Entry>, alloc: Global) -> Result<Bytes, AllocError>
 }
 
 /// The name of the transaction that the entry is of, if it is of one.
-fn transaction_of(history: &[Entry], entry: &Entry, alloc: Global) -> Result<Option<Bytes>, AllocError>
+fn transaction_of(
+    history: &[Entry],
+    entry: &Entry,
+    alloc: Global,
+) -> Result<Option<Bytes>, AllocError>
     ensures { IfOk result (λ name. name ≡ transaction_of history.now entry.now) }
 {
     Ok(match entry {

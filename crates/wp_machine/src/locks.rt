@@ -8,7 +8,6 @@ ghost use Rattle.wp_core.specs.Changes.{with_name, with_key, without_key, withou
 ghost use Rattle.wp_model.specs.LockTables.{nothing_locked};
 ghost use Rattle.wp_machine.specs.Pairs.{newest_under};
 
-
 use std::alloc::{AllocError, Global};
 use std::marker::Model;
 use wp_model::{Holder, Key, Name, Seq};

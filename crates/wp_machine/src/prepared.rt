@@ -8,7 +8,6 @@ ghost use Rattle.wp_core.specs.Changes.{found_in};
 ghost use Rattle.wp_model.specs.PreparedTables.{is_prepared, nothing_prepared};
 ghost use Rattle.wp_machine.specs.Pairs.{newest_of};
 
-
 use std::alloc::{AllocError, Global};
 use std::marker::Model;
 use wp_judge::InPrepared;

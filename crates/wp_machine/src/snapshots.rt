@@ -193,7 +193,11 @@ impl Snapshots {
         Ok(())
     }
 
-    pub(crate) fn release_any(&mut self, number: Option<Seq>, alloc: Global) -> Result<(), AllocError>
+    pub(crate) fn release_any(
+        &mut self,
+        number: Option<Seq>,
+        alloc: Global,
+    ) -> Result<(), AllocError>
         ensures { OnOk result (self.new ≡ with_released_any self.old number) }
     {
         match number {

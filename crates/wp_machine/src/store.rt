@@ -2,7 +2,6 @@ ghost use Rattle.std.specs.Prelude.{◌≡◌, ◌++◌, [], None, false, IfOk, 
 ghost use Rattle.wp_core.specs.Effects.{with_failed};
 ghost use Rattle.wp_machine.specs.Machine.{without_number};
 
-
 use crate::copies::copy_versions;
 use crate::versions::take_number;
 use std::alloc::{AllocError, Global};
@@ -81,7 +80,10 @@ impl InstalledEdit {
     }
 }
 
-fn copy_failed(edit: &Option<InstalledEdit>, alloc: Global) -> Result<Option<InstalledEdit>, AllocError>
+fn copy_failed(
+    edit: &Option<InstalledEdit>,
+    alloc: Global,
+) -> Result<Option<InstalledEdit>, AllocError>
     ensures { IfOk result (λ copy. copy ≡ edit.now) }
 {
     match edit {

@@ -36,9 +36,17 @@ fn a_key_that_is_held_is_not_locked(rt: HostRuntime) -> Result<(), Fail> {
     let mut world = opened(alloc)?;
     world = step(world, 0, Kind::Turn(TurnStep::Take(Turn::Locks)))?;
     let name = Name::read(alloc, b"t")?;
-    world = step(world, 0, Kind::Locks(LocksStep::ClaimName(name.copy(alloc)?)))?;
+    world = step(
+        world,
+        0,
+        Kind::Locks(LocksStep::ClaimName(name.copy(alloc)?)),
+    )?;
     let key = Key::read(alloc, b"k")?;
-    world = step(world, 0, Kind::Locks(LocksStep::LockKey(name, key.copy(alloc)?)))?;
+    world = step(
+        world,
+        0,
+        Kind::Locks(LocksStep::LockKey(name, key.copy(alloc)?)),
+    )?;
     assert!(rt; is_refused(&world, 0, Kind::Locks(LocksStep::LockDirect(key))));
     Ok(())
 }

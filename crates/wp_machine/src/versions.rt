@@ -21,7 +21,11 @@ fn versions_under(n: Seq, changes: &[Change], alloc: Global) -> Result<Vec<Versi
     Ok(versions)
 }
 
-pub(crate) fn versions_of_next(n: Seq, pending: &[Entry], alloc: Global) -> Result<Vec<Version>, AllocError>
+pub(crate) fn versions_of_next(
+    n: Seq,
+    pending: &[Entry],
+    alloc: Global,
+) -> Result<Vec<Version>, AllocError>
     ensures { IfOk result (λ versions. versions.items ≡ versions_of_next n pending.now) }
 {
     match pending.first() {

@@ -5,7 +5,6 @@ ghost use Rattle.wp_judge.specs.Words.{numbers_of};
 ghost use Rattle.wp_core.specs.Entries.{pair_by, pending_pair};
 ghost use Rattle.wp_machine.specs.Machine.{with_next};
 
-
 use crate::copies::copy_entries;
 use std::alloc::{AllocError, Global};
 use std::marker::Model;

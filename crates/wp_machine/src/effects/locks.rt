@@ -56,11 +56,7 @@ fn leave_name(world: &mut World, actor: &mut Actor, name: Name) -> Result<(), Al
     hold_locks(world, actor)
 }
 
-fn free_transaction(
-    world: &mut World,
-    actor: &mut Actor,
-    name: Name,
-) -> Result<(), AllocError>
+fn free_transaction(world: &mut World, actor: &mut Actor, name: Name) -> Result<(), AllocError>
     ensures { OnOk result ((by : ℕ) → IsEffect by world.old actor.old (step.free_transaction name) world.new actor.new) }
 {
     let alloc = world.alloc;
@@ -69,12 +65,7 @@ fn free_transaction(
     hold_locks(world, actor)
 }
 
-fn lock_key(
-    world: &mut World,
-    actor: &mut Actor,
-    name: Name,
-    key: Key,
-) -> Result<(), AllocError>
+fn lock_key(world: &mut World, actor: &mut Actor, name: Name, key: Key) -> Result<(), AllocError>
     ensures { (s : step.Step) → option_map (λ t. step.lock_key name t key) (finite.get actor.old.participant.transactions name) ≡ Some s
         → OnOk result ((by : ℕ) → IsEffect by world.old actor.old s world.new actor.new) }
 {
@@ -90,12 +81,7 @@ fn lock_key(
     hold_locks(world, actor)
 }
 
-fn free_key(
-    world: &mut World,
-    actor: &mut Actor,
-    name: Name,
-    key: Key,
-) -> Result<(), AllocError>
+fn free_key(world: &mut World, actor: &mut Actor, name: Name, key: Key) -> Result<(), AllocError>
     ensures { (s : step.Step) → option_map (λ t. step.free_key name t key) (finite.get actor.old.participant.transactions name) ≡ Some s
         → OnOk result ((by : ℕ) → IsEffect by world.old actor.old s world.new actor.new) }
 {
@@ -160,11 +146,7 @@ fn hear(world: &mut World, actor: &mut Actor, label: Name) -> Result<(), AllocEr
     }
 }
 
-pub(crate) fn locks(
-    world: &mut World,
-    actor: &mut Actor,
-    kind: LocksStep,
-) -> Result<(), AllocError>
+pub(crate) fn locks(world: &mut World, actor: &mut Actor, kind: LocksStep) -> Result<(), AllocError>
     ensures { (s : step.Step) → locks_step world.old actor.old.participant kind ≡ Some s
         → OnOk result ((by : ℕ) → IsEffect by world.old actor.old s world.new actor.new) }
 {

@@ -41,11 +41,7 @@ fn set_client(world: &mut World, actor: &mut Actor, client: Name)
     actor.set_client(client);
 }
 
-pub(crate) fn own(
-    world: &mut World,
-    actor: &mut Actor,
-    kind: OwnStep,
-) -> Result<(), AllocError>
+pub(crate) fn own(world: &mut World, actor: &mut Actor, kind: OwnStep) -> Result<(), AllocError>
     ensures { (s : step.Step) → own_step actor.old.participant kind ≡ Some s
         → OnOk result ((by : ℕ) → IsEffect by world.old actor.old s world.new actor.new) }
 {

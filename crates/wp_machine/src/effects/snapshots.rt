@@ -16,7 +16,10 @@ fn register_again(world: &mut World, actor: &mut Actor, number: Seq) -> Result<(
     ensures { OnOk result ((by : ℕ) → IsEffect by world.old actor.old (step.register_again number) world.new actor.new) }
 {
     let alloc = world.alloc;
-    actor.register(Registration { number, smallest: 1 })?;
+    actor.register(Registration {
+        number,
+        smallest: 1,
+    })?;
     world.snapshots.register(number, alloc)?;
     actor.hold(Content::snapshots(world.snapshots.copy(alloc)?));
     Ok(())

@@ -65,11 +65,7 @@ fn replace_versions(
     hold_store(world, actor)
 }
 
-pub(crate) fn store(
-    world: &mut World,
-    actor: &mut Actor,
-    kind: StoreStep,
-) -> Result<(), AllocError>
+pub(crate) fn store(world: &mut World, actor: &mut Actor, kind: StoreStep) -> Result<(), AllocError>
     ensures { (s : step.Step) → store_step world.old.writes world.old.store kind ≡ Some s
         → OnOk result ((by : ℕ) → IsEffect by world.old actor.old s world.new actor.new) }
 {

@@ -26,11 +26,7 @@ fn install(
     Ok(())
 }
 
-fn halt(
-    world: &mut World,
-    actor: &mut Actor,
-    edit: Option<InstalledEdit>,
-) -> Result<(), AllocError>
+fn halt(world: &mut World, actor: &mut Actor, edit: Option<InstalledEdit>) -> Result<(), AllocError>
     ensures { OnOk result ((by : ℕ) → IsEffect by world.old actor.old (step.halt edit) world.new actor.new) }
 {
     actor.remember(Event::of(Found::TablesFailed))?;

@@ -31,11 +31,7 @@ fn store_max_evicted(world: &mut World, actor: &mut Actor, m: Seq) -> Result<(),
     Ok(())
 }
 
-pub(crate) fn word(
-    world: &mut World,
-    actor: &mut Actor,
-    kind: WordStep,
-) -> Result<(), AllocError>
+pub(crate) fn word(world: &mut World, actor: &mut Actor, kind: WordStep) -> Result<(), AllocError>
     ensures { (s : step.Step) → word_step world.old.writes kind ≡ Some s
         → OnOk result ((by : ℕ) → IsEffect by world.old actor.old s world.new actor.new) }
 {

@@ -21,11 +21,7 @@ fn hold_writes(world: &World, actor: &mut Actor) -> Result<(), AllocError>
     Ok(())
 }
 
-fn make_pending(
-    world: &mut World,
-    actor: &mut Actor,
-    entries: Vec<Entry>,
-) -> Result<(), AllocError>
+fn make_pending(world: &mut World, actor: &mut Actor, entries: Vec<Entry>) -> Result<(), AllocError>
     ensures { OnOk result ((by : ℕ) → IsEffect by world.old actor.old (step.make_pending entries.items) world.new actor.new) }
 {
     world.writes.pending = entries;
@@ -62,11 +58,7 @@ fn drop_pending(world: &mut World, actor: &mut Actor) -> Result<(), AllocError>
     hold_writes(world, actor)
 }
 
-pub(crate) fn write(
-    world: &mut World,
-    actor: &mut Actor,
-    kind: WriteStep,
-) -> Result<(), AllocError>
+pub(crate) fn write(world: &mut World, actor: &mut Actor, kind: WriteStep) -> Result<(), AllocError>
     ensures { (s : step.Step) → write_step kind ≡ Some s
         → OnOk result ((by : ℕ) → IsEffect by world.old actor.old s world.new actor.new) }
 {
