@@ -7,5 +7,4 @@ pub mod Pairs
 pub mod HeldTables
 pub mod Endings
 pub mod Apart
-pub mod Permits
 pub mod Opened

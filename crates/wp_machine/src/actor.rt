@@ -48,9 +48,9 @@ impl Model for Registration {
 /// A transaction that an actor has: its batch, and the keys that it locked, which may be more.
 #[derive(Drop)]
 pub struct Transaction {
-    pub(crate) batch: Batch,
+    pub batch: Batch,
     /// The newest first.
-    pub(crate) locked: Vec<Key>,
+    pub locked: Vec<Key>,
 }
 
 impl Model for Transaction {
@@ -69,14 +69,14 @@ impl Model for Transaction {
 #[derive(Drop)]
 pub struct Participant {
     /// None once the actor was joined.
-    pub(crate) client: Option<Name>,
-    pub(crate) seen: Vec<Entry>,
-    pub(crate) own: Vec<Seq>,
-    pub(crate) past: Vec<Event>,
-    pub(crate) registered: Vec<Registration>,
+    pub client: Option<Name>,
+    pub seen: Vec<Entry>,
+    pub own: Vec<Seq>,
+    pub past: Vec<Event>,
+    pub registered: Vec<Registration>,
     /// The newest pair first: of two of one name the first counts.
-    pub(crate) transactions: Vec<(Name, Transaction)>,
-    pub(crate) direct: Option<Key>,
+    pub transactions: Vec<(Name, Transaction)>,
+    pub direct: Option<Key>,
 }
 
 impl Model for Participant {
@@ -96,14 +96,14 @@ impl Model for Participant {
 /// An actor: a client's seat, or a note.
 #[derive(Drop)]
 pub struct Actor {
-    pub(crate) participant: Participant,
-    pub(crate) learned: Vec<Entry>,
-    pub(crate) held: Vec<Content>,
-    pub(crate) reading: Option<Observed>,
-    pub(crate) notes: Vec<Fact>,
-    pub(crate) live: bool,
-    pub(crate) made: u64,
-    pub(crate) joined: Vec<Participant>,
+    pub participant: Participant,
+    pub learned: Vec<Entry>,
+    pub held: Vec<Content>,
+    pub reading: Option<Observed>,
+    pub notes: Vec<Fact>,
+    pub live: bool,
+    pub made: u64,
+    pub joined: Vec<Participant>,
 }
 
 impl Model for Actor {
@@ -122,7 +122,7 @@ impl Model for Actor {
 }
 
 impl Participant {
-    pub(crate) fn new(alloc: Global, client: Option<Name>, seen: Vec<Entry>) -> Participant
+    pub fn new(alloc: Global, client: Option<Name>, seen: Vec<Entry>) -> Participant
         ensures { result ≡ new_participant (client_of client) seen.items }
     {
         Participant {
@@ -153,7 +153,7 @@ fn transaction_under<'a>(
 
 impl Participant {
     #[tactic(auto, using(crate::proofs::Maps::under_is_got))]
-    pub(crate) fn transaction(&self, name: &Name) -> Option<&Transaction>
+    pub fn transaction(&self, name: &Name) -> Option<&Transaction>
         ensures { option_copied result ≡ finite.get self.now.transactions name.now }
     {
         transaction_under(&self.transactions, name)
@@ -161,7 +161,7 @@ impl Participant {
 
     /// Its client. One that was joined has none, and makes no step that asks for it: that too is answered as want of
     /// memory.
-    pub(crate) fn client(&self, alloc: Global) -> Result<Name, AllocError>
+    pub fn client(&self, alloc: Global) -> Result<Name, AllocError>
         ensures { IfOk result (λ client. client ≡ self.now.client) }
     {
         match &self.client {
@@ -194,7 +194,7 @@ fn take_transaction(transactions: &mut Vec<(Name, Transaction)>, name: &Name)
 }
 
 impl Transaction {
-    pub(crate) fn new(alloc: Global) -> Transaction
+    pub fn new(alloc: Global) -> Transaction
         ensures { result ≡ record { batch = []; locked = set.empty } }
     {
         Transaction {
@@ -203,14 +203,14 @@ impl Transaction {
         }
     }
 
-    pub(crate) fn with(batch: Batch, locked: Vec<Key>) -> Transaction
+    pub fn with(batch: Batch, locked: Vec<Key>) -> Transaction
         ensures { result ≡ record { batch = batch; locked = set.from_list locked.items } }
     {
         Transaction { batch, locked }
     }
 
     /// The same with one key more.
-    pub(crate) fn with_key(&self, key: Key, alloc: Global) -> Result<Transaction, AllocError>
+    pub fn with_key(&self, key: Key, alloc: Global) -> Result<Transaction, AllocError>
         ensures { IfOk result (λ changed. changed ≡ record self.now { locked = set.insert self.now.locked key }) }
     {
         let mut locked = copy_locked(&self.locked, alloc)?;
@@ -222,7 +222,7 @@ impl Transaction {
     }
 
     /// The same without the key.
-    pub(crate) fn without_key(&self, key: &Key, alloc: Global) -> Result<Transaction, AllocError>
+    pub fn without_key(&self, key: &Key, alloc: Global) -> Result<Transaction, AllocError>
         ensures { IfOk result (λ changed. changed ≡ record self.now { locked = set.remove self.now.locked key.now }) }
     {
         let mut locked = copy_locked(&self.locked, alloc)?;
@@ -234,7 +234,7 @@ impl Transaction {
     }
 
     /// The same with another batch.
-    pub(crate) fn with_batch(&self, batch: Batch, alloc: Global) -> Result<Transaction, AllocError>
+    pub fn with_batch(&self, batch: Batch, alloc: Global) -> Result<Transaction, AllocError>
         ensures { IfOk result (λ changed. changed ≡ record self.now { batch = batch }) }
     {
         Ok(Transaction {
@@ -307,7 +307,7 @@ fn let_go(held: &mut Vec<Content>, turn: Turn)
 }
 
 impl Actor {
-    pub(crate) fn new(alloc: Global, live: bool, client: Option<Name>, seen: Vec<Entry>) -> Actor
+    pub fn new(alloc: Global, live: bool, client: Option<Name>, seen: Vec<Entry>) -> Actor
         ensures { result ≡ new_actor live (client_of client) seen.items }
     {
         Actor {
@@ -322,13 +322,13 @@ impl Actor {
         }
     }
 
-    pub(crate) fn joined(alloc: Global) -> Actor
+    pub fn joined(alloc: Global) -> Actor
         ensures { result ≡ joined_actor }
     {
         Actor::new(alloc, false, None, Vec::new(alloc))
     }
 
-    pub(crate) fn see(&mut self, history: &[Entry], alloc: Global) -> Result<(), AllocError>
+    pub fn see(&mut self, history: &[Entry], alloc: Global) -> Result<(), AllocError>
         ensures { OnOk result (self.new ≡ sees history.now self.old) }
     {
         self.participant.seen = copy_entries(history, alloc)?;
@@ -337,26 +337,26 @@ impl Actor {
     }
 
     /// The table of a turn that it holds, as it leaves it.
-    pub(crate) fn hold(&mut self, content: Content)
+    pub fn hold(&mut self, content: Content)
         ensures { self.new ≡ record self.old { held = held_with self.old.held content } }
     {
         hold(&mut self.held, content);
     }
 
-    pub(crate) fn let_go(&mut self, turn: Turn)
+    pub fn let_go(&mut self, turn: Turn)
         ensures { self.new ≡ record self.old { held = held_without self.old.held (turn_of turn) } }
     {
         let_go(&mut self.held, turn);
     }
 
-    pub(crate) fn register(&mut self, registration: Registration) -> Result<(), AllocError>
+    pub fn register(&mut self, registration: Registration) -> Result<(), AllocError>
         ensures { OnOk result (self.new ≡ registers self.old registration) }
     {
         self.participant.registered.push(registration)?;
         Ok(())
     }
 
-    pub(crate) fn put_transaction(
+    pub fn put_transaction(
         &mut self,
         name: Name,
         transaction: Transaction,
@@ -370,7 +370,7 @@ impl Actor {
     }
 
     /// What follows from a store of the published number: the history is one longer, by an entry of the actor's.
-    pub(crate) fn publish(&mut self, history: &[Entry], alloc: Global) -> Result<(), AllocError>
+    pub fn publish(&mut self, history: &[Entry], alloc: Global) -> Result<(), AllocError>
         ensures { OnOk result (self.new ≡ has_published history.now self.old) }
     {
         self.see(history, alloc)?;
@@ -379,7 +379,7 @@ impl Actor {
     }
 
     /// Its registration at that place goes, with a reading of it. The number of the registration, if there is one.
-    pub(crate) fn release(&mut self, place: usize) -> Option<Seq>
+    pub fn release(&mut self, place: usize) -> Option<Seq>
         ensures number { result ≡ released_number (drop place self.old.participant.registered) }
         ensures left { self.new ≡ has_released self.old (take place self.old.participant.registered) (drop place self.old.participant.registered) }
     {
@@ -394,14 +394,14 @@ impl Actor {
     }
 
     /// One more is made by it.
-    pub(crate) fn count_one(&mut self) -> Result<(), AllocError>
+    pub fn count_one(&mut self) -> Result<(), AllocError>
         ensures { OnOk result (self.new ≡ made_one self.old) }
     {
         self.made = self.made.checked_add(1).ok_or(AllocError)?;
         Ok(())
     }
 
-    pub(crate) fn join(&mut self, seat: Actor) -> Result<(), AllocError>
+    pub fn join(&mut self, seat: Actor) -> Result<(), AllocError>
         ensures { OnOk result (self.new ≡ joins self.old seat) }
     {
         self.joined.insert(0, seat.participant)?;
@@ -409,46 +409,46 @@ impl Actor {
     }
 
     /// It forgets what the step ends.
-    pub(crate) fn forget(&mut self, ending: &Ending)
+    pub fn forget(&mut self, ending: &Ending)
         ensures { self.new ≡ record self.old { notes = filter (λ fact. not (ends_fact ending.now fact)) self.old.notes } }
     {
         forget(&mut self.notes, ending);
     }
 
-    pub(crate) fn note(&mut self, fact: Fact) -> Result<(), AllocError>
+    pub fn note(&mut self, fact: Fact) -> Result<(), AllocError>
         ensures { OnOk result (self.new ≡ record self.old { notes = fact ∷ self.old.notes }) }
     {
         self.notes.insert(0, fact)?;
         Ok(())
     }
 
-    pub(crate) fn take_transaction(&mut self, name: &Name)
+    pub fn take_transaction(&mut self, name: &Name)
         ensures { self.new ≡ has_no_transaction self.old name.now }
     {
         take_transaction(&mut self.participant.transactions, name);
     }
 
-    pub(crate) fn set_direct(&mut self, key: Option<Key>)
+    pub fn set_direct(&mut self, key: Option<Key>)
         ensures { self.new ≡ has_direct self.old key }
     {
         self.participant.direct = key;
     }
 
-    pub(crate) fn set_client(&mut self, client: Name)
+    pub fn set_client(&mut self, client: Name)
         ensures { self.new ≡ record self.old { participant = record self.old.participant { client = client } } }
     {
         self.participant.client = Some(client);
     }
 
     /// It has one more table.
-    pub(crate) fn take(&mut self, content: Content) -> Result<(), AllocError>
+    pub fn take(&mut self, content: Content) -> Result<(), AllocError>
         ensures { OnOk result (self.new ≡ record self.old { held = content ∷ self.old.held }) }
     {
         self.held.insert(0, content)?;
         Ok(())
     }
 
-    pub(crate) fn remember(&mut self, event: Event) -> Result<(), AllocError>
+    pub fn remember(&mut self, event: Event) -> Result<(), AllocError>
         ensures { OnOk result (self.new ≡ remembers self.old event) }
     {
         self.participant.past.push(event)?;

@@ -42,7 +42,7 @@ fn put_actor(world: &mut World, by: usize, actor: Actor)
 }
 
 /// The actor at that place.
-pub(crate) fn actor_at(world: &World, by: usize) -> &Actor
+pub fn actor_at(world: &World, by: usize) -> &Actor
     requires { by < length world.now.actors }
     ensures { get_elem? world.now.actors by ≡ some result.now }
 {

@@ -33,14 +33,14 @@ fn word_of(p: Seq, c: Seq) -> Result<u64, AllocError>
 }
 
 impl Cache {
-    pub(crate) fn words(&self) -> &[u64]
+    pub fn words(&self) -> &[u64]
         ensures words { result.now ≡ self.now }
         ensures some { 1 ≤ length self.now }
     {
         &self.words
     }
 
-    pub(crate) fn place_of(&self, p: Seq) -> usize
+    pub fn place_of(&self, p: Seq) -> usize
         ensures place { result ≡ cache_place (length self.now) p }
         ensures within { result < length self.now }
     {
@@ -48,14 +48,14 @@ impl Cache {
     }
 
     /// The word at the place of a version.
-    pub(crate) fn word(&self, p: Seq) -> u64
+    pub fn word(&self, p: Seq) -> u64
         ensures { result ≡ cached_word self.now p }
     {
         self.words[self.place_of(p)]
     }
 
     /// Puts the pair at its place. Its numbers are below 2^32 wherever the machine stores a word; others find no word.
-    pub(crate) fn store(&mut self, p: Seq, c: Seq) -> Result<(), AllocError>
+    pub fn store(&mut self, p: Seq, c: Seq) -> Result<(), AllocError>
         ensures { OnOk result (self.new ≡ with_pair self.old (record { number = p; decision = c })) }
     {
         let word = word_of(p, c)?;
@@ -67,7 +67,7 @@ impl Cache {
 
 impl Cache {
     /// One empty word.
-    pub(crate) fn one(alloc: Global) -> Result<Cache, AllocError>
+    pub fn one(alloc: Global) -> Result<Cache, AllocError>
         ensures { IfOk result (λ cache. cache ≡ 0 ∷ []) }
     {
         let mut words = Vec::with_capacity(alloc, 1)?;

@@ -26,7 +26,7 @@ pub enum Guarded {
 /// The table of one turn, as one that holds it left it.
 #[derive(Drop)]
 pub struct Content {
-    pub(crate) table: Guarded,
+    pub table: Guarded,
 }
 
 impl Model for Content {
@@ -46,7 +46,7 @@ impl Model for Content {
 }
 
 impl Content {
-    pub(crate) fn turn(&self) -> Turn
+    pub fn turn(&self) -> Turn
         ensures { parts.turn_of result ≡ turn_of self.now }
     {
         match &self.table {
@@ -59,7 +59,7 @@ impl Content {
         }
     }
 
-    pub(crate) fn writes(table: WriteTable) -> Content
+    pub fn writes(table: WriteTable) -> Content
         ensures { result ≡ content.writes table }
     {
         Content {
@@ -67,7 +67,7 @@ impl Content {
         }
     }
 
-    pub(crate) fn prepared(table: PreparedTables) -> Content
+    pub fn prepared(table: PreparedTables) -> Content
         ensures { result ≡ content.prepared table }
     {
         Content {
@@ -75,7 +75,7 @@ impl Content {
         }
     }
 
-    pub(crate) fn snapshots(table: Snapshots) -> Content
+    pub fn snapshots(table: Snapshots) -> Content
         ensures { result ≡ content.snapshots table }
     {
         Content {
@@ -83,7 +83,7 @@ impl Content {
         }
     }
 
-    pub(crate) fn store(table: StoreTable) -> Content
+    pub fn store(table: StoreTable) -> Content
         ensures { result ≡ content.store table }
     {
         Content {
@@ -91,7 +91,7 @@ impl Content {
         }
     }
 
-    pub(crate) fn locks(table: LockTables) -> Content
+    pub fn locks(table: LockTables) -> Content
         ensures { result ≡ content.locks table }
     {
         Content {
@@ -99,7 +99,7 @@ impl Content {
         }
     }
 
-    pub(crate) fn installed(table: Installed) -> Content
+    pub fn installed(table: Installed) -> Content
         ensures { result ≡ content.installed table }
     {
         Content {

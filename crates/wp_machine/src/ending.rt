@@ -25,7 +25,7 @@ use wp_model::{Entry, Name};
 
 /// The bytes of a name, or none.
 #[derive(Drop)]
-pub(crate) struct Bytes {
+pub struct Bytes {
     bytes: Vec<u8>,
 }
 
@@ -39,7 +39,7 @@ impl Model for Bytes {
 
 /// What a step may end.
 #[derive(Drop)]
-pub(crate) enum Ending {
+pub enum Ending {
     Nothing,
     /// What this turn guards.
     Guard(Turn),
@@ -165,7 +165,7 @@ fn of_locks(kind: &LocksStep, alloc: Global) -> Result<Ending, AllocError>
 }
 
 /// What the step ends.
-pub(crate) fn ending_of(world: &World, kind: &Kind) -> Result<Ending, AllocError>
+pub fn ending_of(world: &World, kind: &Kind) -> Result<Ending, AllocError>
     ensures { IfOk result (λ e. e ≡ endings.ending_of world.now kind.now) }
 {
     Ok(match kind {
@@ -249,7 +249,7 @@ impl Ending {
         }
     }
 
-    pub(crate) fn ends(&self, fact: &Fact) -> bool
+    pub fn ends(&self, fact: &Fact) -> bool
         ensures { result ≡ endings.ends_fact self.now fact.now }
     {
         match fact.guard() {

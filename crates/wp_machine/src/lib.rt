@@ -8,11 +8,7 @@
 //!
 //! Sets and maps are lists whose newest item comes first, so that a table is copied as it is when an actor takes its turn.
 //!
-//! `permits` is the test that `apply` asks for. Where it says yes, the step may be made. It says no too to steps that it does
-//! not decide: a snapshot with a better smallest than 1, the beginning of a reading, the stores of the published number
-//! and of words of the cache, a flag of 0, a bound with the flag down, a record made pending or dropped, the steps of the
-//! prepared turn, of the snapshots turn and of the store turn, an edit and a halt, a name taken or left, a transaction or
-//! a key of one freed, a holder found, a batch set, and notes. The machine's steps that join another actor are not here.
+//! Whether a step may be made is tested by `wp_permits`.
 #![tactic(auto)]
 
 mod actor;
@@ -23,13 +19,10 @@ mod copies;
 mod effects;
 mod ending;
 mod locks;
-mod permitted;
 mod prepared;
 mod snapshots;
 mod step;
 mod store;
-#[cfg(test)]
-mod tests;
 mod turn;
 mod versions;
 mod views;
@@ -37,11 +30,10 @@ mod world;
 mod writes;
 
 pub use actor::{Actor, Participant, Registration, Transaction};
-pub use applied::apply;
+pub use applied::{actor_at, apply};
 pub use cache::Cache;
 pub use content::Content;
 pub use locks::LockTables;
-pub use permitted::permits;
 pub use prepared::PreparedTables;
 pub use snapshots::{Snapshot, Snapshots};
 pub use step::{

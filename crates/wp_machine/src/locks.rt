@@ -16,9 +16,9 @@ use wp_model::{Holder, Key, Name, Seq};
 /// newest pair comes first: of two pairs of one name the first counts.
 #[derive(Drop)]
 pub struct LockTables {
-    pub(crate) names: Vec<(Name, Option<Name>)>,
-    pub(crate) keys: Vec<(Key, Holder)>,
-    pub(crate) labels: Vec<(Name, Seq)>,
+    pub names: Vec<(Name, Option<Name>)>,
+    pub keys: Vec<(Key, Holder)>,
+    pub labels: Vec<(Name, Seq)>,
 }
 
 impl Model for LockTables {
@@ -32,7 +32,7 @@ impl Model for LockTables {
     ghost view = { λ t. record { names = map.from_entries t.names.items; keys = map.from_entries t.keys.items; labels = map.from_entries t.labels.items } };
 }
 
-pub(crate) fn copy_client(client: &Option<Name>, alloc: Global) -> Result<Option<Name>, AllocError>
+pub fn copy_client(client: &Option<Name>, alloc: Global) -> Result<Option<Name>, AllocError>
     ensures { IfOk result (λ copy. copy ≡ client.now) }
 {
     match client {
@@ -75,7 +75,7 @@ fn copy_labels(labels: &[(Name, Seq)], alloc: Global) -> Result<Vec<(Name, Seq)>
 }
 
 impl LockTables {
-    pub(crate) fn copy(&self, alloc: Global) -> Result<LockTables, AllocError>
+    pub fn copy(&self, alloc: Global) -> Result<LockTables, AllocError>
         ensures { IfOk result (λ copy. copy ≡ self.now) }
     {
         Ok(LockTables {
@@ -170,14 +170,14 @@ fn other_keys(
 impl LockTables {
     /// What a live name has: the client that has it, if one does. None where the name is not live.
     #[tactic(auto, using(crate::proofs::Maps::under_is_got))]
-    pub(crate) fn name(&self, name: &Name) -> Option<&Option<Name>>
+    pub fn name(&self, name: &Name) -> Option<&Option<Name>>
         ensures { option_copied result ≡ finite.get self.now.names name.now }
     {
         name_under(&self.names, name)
     }
 
     #[tactic(auto, using(crate::proofs::Maps::under_is_got))]
-    pub(crate) fn holder(&self, key: &Key) -> Option<&Holder>
+    pub fn holder(&self, key: &Key) -> Option<&Holder>
         ensures { option_copied result ≡ finite.get self.now.keys key.now }
     {
         holder_under(&self.keys, key)
@@ -185,40 +185,40 @@ impl LockTables {
 
     /// The number that was told last under the label.
     #[tactic(auto, using(crate::proofs::Maps::under_is_got))]
-    pub(crate) fn told(&self, label: &Name) -> Option<Seq>
+    pub fn told(&self, label: &Name) -> Option<Seq>
         ensures { result ≡ finite.get self.now.labels label.now }
     {
         number_under(&self.labels, label)
     }
 
-    pub(crate) fn put_name(&mut self, name: Name, client: Option<Name>) -> Result<(), AllocError>
+    pub fn put_name(&mut self, name: Name, client: Option<Name>) -> Result<(), AllocError>
         ensures { OnOk result (self.new ≡ with_name self.old name client) }
     {
         self.names.insert(0, (name, client))?;
         Ok(())
     }
 
-    pub(crate) fn put_key(&mut self, key: Key, holder: Holder) -> Result<(), AllocError>
+    pub fn put_key(&mut self, key: Key, holder: Holder) -> Result<(), AllocError>
         ensures { OnOk result (self.new ≡ with_key self.old key holder) }
     {
         self.keys.insert(0, (key, holder))?;
         Ok(())
     }
 
-    pub(crate) fn put_label(&mut self, label: Name, n: Seq) -> Result<(), AllocError>
+    pub fn put_label(&mut self, label: Name, n: Seq) -> Result<(), AllocError>
         ensures { OnOk result (self.new ≡ with_label self.old label n) }
     {
         self.labels.insert(0, (label, n))?;
         Ok(())
     }
 
-    pub(crate) fn take_key(&mut self, key: &Key)
+    pub fn take_key(&mut self, key: &Key)
         ensures { self.new ≡ without_key self.old key.now }
     {
         take_key(&mut self.keys, key);
     }
 
-    pub(crate) fn is_held_by(&self, holder: &Holder, key: &Key) -> bool
+    pub fn is_held_by(&self, holder: &Holder, key: &Key) -> bool
         ensures { result ≡ is_held_by self.now holder.now key.now }
     {
         match self.holder(key) {
@@ -229,7 +229,7 @@ impl LockTables {
 
     /// The keys that the holder holds, some perhaps twice.
     #[tactic(auto, using(crate::proofs::NameMaps::keys_filtered))]
-    pub(crate) fn keys_of(&self, holder: &Holder, alloc: Global) -> Result<Vec<Key>, AllocError>
+    pub fn keys_of(&self, holder: &Holder, alloc: Global) -> Result<Vec<Key>, AllocError>
         ensures { IfOk result (λ keys. set.from_list keys.items ≡ keys_of_holder self.now holder.now) }
     {
         held_keys(&self.keys, self, holder, alloc)
@@ -244,7 +244,7 @@ impl LockTables {
     }
 
     /// The name goes, with each key that is held for it.
-    pub(crate) fn free_transaction(&mut self, name: Name, alloc: Global) -> Result<(), AllocError>
+    pub fn free_transaction(&mut self, name: Name, alloc: Global) -> Result<(), AllocError>
         ensures { OnOk result (self.new ≡ without_transaction self.old name) }
     {
         take_name(&mut self.names, &name);
@@ -254,7 +254,7 @@ impl LockTables {
 }
 
 impl LockTables {
-    pub(crate) fn new(alloc: Global) -> LockTables
+    pub fn new(alloc: Global) -> LockTables
         ensures { result ≡ nothing_locked }
     {
         LockTables {

@@ -17,9 +17,9 @@ use wp_model::Seq;
 /// of one number the first counts.
 #[derive(Drop)]
 pub struct PreparedTables {
-    pub(crate) heap: Vec<Seq>,
-    pub(crate) delayed: Vec<Seq>,
-    pub(crate) delayed_commits: Vec<(Seq, Seq)>,
+    pub heap: Vec<Seq>,
+    pub delayed: Vec<Seq>,
+    pub delayed_commits: Vec<(Seq, Seq)>,
 }
 
 impl Model for PreparedTables {
@@ -35,7 +35,7 @@ impl Model for PreparedTables {
 }
 
 impl PreparedTables {
-    pub(crate) fn copy(&self, alloc: Global) -> Result<PreparedTables, AllocError>
+    pub fn copy(&self, alloc: Global) -> Result<PreparedTables, AllocError>
         ensures { IfOk result (λ copy. copy ≡ self.now) }
     {
         Ok(PreparedTables {
@@ -59,34 +59,34 @@ fn newest_of(pairs: &[(Seq, Seq)], p: Seq) -> Option<Seq>
 
 impl PreparedTables {
     #[tactic(auto, using(crate::proofs::Maps::newest_is_got))]
-    pub(crate) fn commit_of(&self, p: Seq) -> Option<Seq>
+    pub fn commit_of(&self, p: Seq) -> Option<Seq>
         ensures { result ≡ finite.get self.now.delayed_commits p }
     {
         newest_of(&self.delayed_commits, p)
     }
 
     #[tactic(auto, using(crate::proofs::Maps::contains_number))]
-    pub(crate) fn is_delayed(&self, p: Seq) -> bool
+    pub fn is_delayed(&self, p: Seq) -> bool
         ensures { result ≡ set.contains self.now.delayed p }
     {
         self.delayed.contains(&p)
     }
 
     #[tactic(auto, using(crate::proofs::Maps::contains_number))]
-    pub(crate) fn is_in_heap(&self, p: Seq) -> bool
+    pub fn is_in_heap(&self, p: Seq) -> bool
         ensures { result ≡ set.contains self.now.heap p }
     {
         self.heap.contains(&p)
     }
 
-    pub(crate) fn is_prepared(&self, p: Seq) -> bool
+    pub fn is_prepared(&self, p: Seq) -> bool
         ensures { result ≡ is_prepared self.now p }
     {
         self.is_in_heap(p) || self.is_delayed(p)
     }
 
     /// What a reader of `p` finds.
-    pub(crate) fn found(&self, p: Seq) -> InPrepared
+    pub fn found(&self, p: Seq) -> InPrepared
         ensures { result ≡ found_in (set.contains self.now.delayed p) (finite.get self.now.delayed_commits p) }
     {
         match self.commit_of(p) {
@@ -124,27 +124,27 @@ fn move_up_to(heap: &mut Vec<Seq>, delayed: &mut Vec<Seq>, m: Seq) -> Result<(),
 }
 
 impl PreparedTables {
-    pub(crate) fn add(&mut self, p: Seq) -> Result<(), AllocError>
+    pub fn add(&mut self, p: Seq) -> Result<(), AllocError>
         ensures { OnOk result (self.new ≡ record self.old { heap = set.insert self.old.heap p }) }
     {
         self.heap.insert(0, p)?;
         Ok(())
     }
 
-    pub(crate) fn take_from_heap(&mut self, p: Seq)
+    pub fn take_from_heap(&mut self, p: Seq)
         ensures { self.new ≡ record self.old { heap = set.remove self.old.heap p } }
     {
         take_from(&mut self.heap, p);
     }
 
-    pub(crate) fn commit(&mut self, p: Seq, c: Seq) -> Result<(), AllocError>
+    pub fn commit(&mut self, p: Seq, c: Seq) -> Result<(), AllocError>
         ensures { OnOk result (self.new ≡ record self.old { delayed_commits = finite.insert self.old.delayed_commits p c }) }
     {
         self.delayed_commits.insert(0, (p, c))?;
         Ok(())
     }
 
-    pub(crate) fn take_out(&mut self, p: Seq)
+    pub fn take_out(&mut self, p: Seq)
         ensures { self.new ≡ without_prepared self.old p }
     {
         take_from(&mut self.heap, p);
@@ -152,7 +152,7 @@ impl PreparedTables {
         take_pair(&mut self.delayed_commits, p);
     }
 
-    pub(crate) fn move_up_to(&mut self, m: Seq) -> Result<(), AllocError>
+    pub fn move_up_to(&mut self, m: Seq) -> Result<(), AllocError>
         ensures { OnOk result (self.new ≡ with_moved self.old m) }
     {
         move_up_to(&mut self.heap, &mut self.delayed, m)
@@ -160,7 +160,7 @@ impl PreparedTables {
 }
 
 impl PreparedTables {
-    pub(crate) fn new(alloc: Global) -> PreparedTables
+    pub fn new(alloc: Global) -> PreparedTables
         ensures { result ≡ nothing_prepared }
     {
         PreparedTables {

@@ -15,8 +15,8 @@ use wp_model::Seq;
 /// A live snapshot: how often it is registered, and the prepare numbers that the old commit map has under it.
 #[derive(Drop)]
 pub struct Snapshot {
-    pub(crate) registrations: u64,
-    pub(crate) old_commits: Vec<Seq>,
+    pub registrations: u64,
+    pub old_commits: Vec<Seq>,
 }
 
 impl Model for Snapshot {
@@ -31,7 +31,7 @@ impl Model for Snapshot {
 }
 
 impl Snapshot {
-    pub(crate) fn copy(&self, alloc: Global) -> Result<Snapshot, AllocError>
+    pub fn copy(&self, alloc: Global) -> Result<Snapshot, AllocError>
         ensures { IfOk result (λ copy. copy ≡ self.now) }
     {
         Ok(Snapshot {
@@ -79,7 +79,7 @@ impl Snapshot {
 /// The live numbers, each with its snapshot. The newest pair comes first: of two of one number the first counts.
 #[derive(Drop)]
 pub struct Snapshots {
-    pub(crate) live: Vec<(Seq, Snapshot)>,
+    pub live: Vec<(Seq, Snapshot)>,
 }
 
 impl Model for Snapshots {
@@ -104,7 +104,7 @@ fn copy_pairs(pairs: &[(Seq, Snapshot)], alloc: Global) -> Result<Vec<(Seq, Snap
 }
 
 impl Snapshots {
-    pub(crate) fn copy(&self, alloc: Global) -> Result<Snapshots, AllocError>
+    pub fn copy(&self, alloc: Global) -> Result<Snapshots, AllocError>
         ensures { IfOk result (λ copy. copy ≡ self.now) }
     {
         Ok(Snapshots {
@@ -126,13 +126,13 @@ fn find(pairs: &[(Seq, Snapshot)], s: Seq) -> Option<&Snapshot>
 
 impl Snapshots {
     #[tactic(auto, using(crate::proofs::Maps::newest_is_got))]
-    pub(crate) fn at(&self, s: Seq) -> Option<&Snapshot>
+    pub fn at(&self, s: Seq) -> Option<&Snapshot>
         ensures { option_copied result ≡ finite.get self.now s }
     {
         find(&self.live, s)
     }
 
-    pub(crate) fn is_old_commit(&self, s: Seq, p: Seq) -> bool
+    pub fn is_old_commit(&self, s: Seq, p: Seq) -> bool
         ensures { result ≡ is_old_commit self.now s p }
     {
         match self.at(s) {
@@ -142,7 +142,7 @@ impl Snapshots {
     }
 
     /// One registration more. A count at its type's end can't rise: that too is answered as want of memory.
-    pub(crate) fn register(&mut self, s: Seq, alloc: Global) -> Result<(), AllocError>
+    pub fn register(&mut self, s: Seq, alloc: Global) -> Result<(), AllocError>
         ensures { OnOk result (self.new ≡ with_registered self.old s) }
     {
         let snapshot = match self.at(s) {
@@ -158,7 +158,7 @@ impl Snapshots {
 
     /// `p` under a live number.
     #[tactic(auto, using(crate::proofs::Maps::remove_missing))]
-    pub(crate) fn keep(&mut self, s: Seq, p: Seq, alloc: Global) -> Result<(), AllocError>
+    pub fn keep(&mut self, s: Seq, p: Seq, alloc: Global) -> Result<(), AllocError>
         ensures { OnOk result (self.new ≡ with_old_commit self.old s p) }
     {
         if let Some(snapshot) = self.at(s) {
@@ -178,7 +178,7 @@ fn take_number(pairs: &mut Vec<(Seq, Snapshot)>, s: Seq)
 impl Snapshots {
     /// One registration less. With the last goes what is under the number.
     #[tactic(auto, using(crate::proofs::Maps::remove_missing))]
-    pub(crate) fn release(&mut self, s: Seq, alloc: Global) -> Result<(), AllocError>
+    pub fn release(&mut self, s: Seq, alloc: Global) -> Result<(), AllocError>
         ensures { OnOk result (self.new ≡ with_released self.old s) }
     {
         let Some(snapshot) = self.at(s) else {
@@ -193,7 +193,7 @@ impl Snapshots {
         Ok(())
     }
 
-    pub(crate) fn release_any(
+    pub fn release_any(
         &mut self,
         number: Option<Seq>,
         alloc: Global,
@@ -208,7 +208,7 @@ impl Snapshots {
 }
 
 impl Snapshots {
-    pub(crate) fn new(alloc: Global) -> Snapshots
+    pub fn new(alloc: Global) -> Snapshots
         ensures { result ≡ finite.empty }
     {
         Snapshots {

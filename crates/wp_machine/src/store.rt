@@ -11,9 +11,9 @@ use wp_model::{Seq, Version};
 /// The versions in memory and in tables, and the floor: at each number from it on a reader finds all that it needs.
 #[derive(Drop)]
 pub struct StoreTable {
-    pub(crate) memory: Vec<Version>,
-    pub(crate) tables: Vec<Version>,
-    pub(crate) floor: Seq,
+    pub memory: Vec<Version>,
+    pub tables: Vec<Version>,
+    pub floor: Seq,
 }
 
 impl Model for StoreTable {
@@ -27,9 +27,9 @@ impl Model for StoreTable {
 /// What an installed edit says: the flushed number, the versions of its tables, and how many tables these are.
 #[derive(Drop)]
 pub struct InstalledEdit {
-    pub(crate) flushed: Seq,
-    pub(crate) versions: Vec<Version>,
-    pub(crate) tables: u64,
+    pub flushed: Seq,
+    pub versions: Vec<Version>,
+    pub tables: u64,
 }
 
 impl Model for InstalledEdit {
@@ -43,9 +43,9 @@ impl Model for InstalledEdit {
 /// The last edit, the one whose install failed, if one did, and whether the devices of the tables failed.
 #[derive(Drop)]
 pub struct Installed {
-    pub(crate) last: InstalledEdit,
-    pub(crate) failed: Option<InstalledEdit>,
-    pub(crate) halted: bool,
+    pub last: InstalledEdit,
+    pub failed: Option<InstalledEdit>,
+    pub halted: bool,
 }
 
 impl Model for Installed {
@@ -57,7 +57,7 @@ impl Model for Installed {
 }
 
 impl StoreTable {
-    pub(crate) fn copy(&self, alloc: Global) -> Result<StoreTable, AllocError>
+    pub fn copy(&self, alloc: Global) -> Result<StoreTable, AllocError>
         ensures { IfOk result (λ copy. copy ≡ self.now) }
     {
         Ok(StoreTable {
@@ -69,7 +69,7 @@ impl StoreTable {
 }
 
 impl InstalledEdit {
-    pub(crate) fn copy(&self, alloc: Global) -> Result<InstalledEdit, AllocError>
+    pub fn copy(&self, alloc: Global) -> Result<InstalledEdit, AllocError>
         ensures { IfOk result (λ copy. copy ≡ self.now) }
     {
         Ok(InstalledEdit {
@@ -93,7 +93,7 @@ fn copy_failed(
 }
 
 impl Installed {
-    pub(crate) fn copy(&self, alloc: Global) -> Result<Installed, AllocError>
+    pub fn copy(&self, alloc: Global) -> Result<Installed, AllocError>
         ensures { IfOk result (λ copy. copy ≡ self.now) }
     {
         Ok(Installed {
@@ -105,7 +105,7 @@ impl Installed {
 }
 
 impl Installed {
-    pub(crate) fn halt(&mut self, edit: Option<InstalledEdit>)
+    pub fn halt(&mut self, edit: Option<InstalledEdit>)
         ensures { self.new ≡ with_failed self.old edit }
     {
         if edit.is_some() {
@@ -117,14 +117,14 @@ impl Installed {
 
 impl StoreTable {
     /// Memory has no versions with that number any more.
-    pub(crate) fn take_number(&mut self, n: Seq)
+    pub fn take_number(&mut self, n: Seq)
         ensures { self.new ≡ record self.old { memory = without_number n self.old.memory } }
     {
         take_number(&mut self.memory, n);
     }
 
     /// Memory has just these versions under that number.
-    pub(crate) fn add_next(&mut self, versions: Vec<Version>, n: Seq) -> Result<(), AllocError>
+    pub fn add_next(&mut self, versions: Vec<Version>, n: Seq) -> Result<(), AllocError>
         ensures { OnOk result (self.new ≡ record self.old { memory = versions.items ++ without_number n self.old.memory }) }
     {
         let mut memory = versions;
@@ -136,7 +136,7 @@ impl StoreTable {
 }
 
 impl StoreTable {
-    pub(crate) fn new(alloc: Global) -> StoreTable
+    pub fn new(alloc: Global) -> StoreTable
         ensures { result ≡ record { memory = []; tables = []; floor = 0 } }
     {
         StoreTable {
@@ -148,7 +148,7 @@ impl StoreTable {
 }
 
 impl InstalledEdit {
-    pub(crate) fn new(alloc: Global) -> InstalledEdit
+    pub fn new(alloc: Global) -> InstalledEdit
         ensures { result ≡ record { flushed = 0; versions = []; tables = 0 } }
     {
         InstalledEdit {
@@ -160,7 +160,7 @@ impl InstalledEdit {
 }
 
 impl Installed {
-    pub(crate) fn new(alloc: Global) -> Installed
+    pub fn new(alloc: Global) -> Installed
         ensures { result ≡ record { last = record { flushed = 0; versions = []; tables = 0 }; failed = None; halted = false } }
     {
         Installed {

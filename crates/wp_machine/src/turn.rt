@@ -25,12 +25,12 @@ pub enum Turn {
 /// Of each turn the actor that holds it, if one does.
 #[derive(Clone, Copy)]
 pub struct Holders {
-    pub(crate) write: Option<usize>,
-    pub(crate) prepared: Option<usize>,
-    pub(crate) snapshots: Option<usize>,
-    pub(crate) store: Option<usize>,
-    pub(crate) locks: Option<usize>,
-    pub(crate) tables: Option<usize>,
+    pub write: Option<usize>,
+    pub prepared: Option<usize>,
+    pub snapshots: Option<usize>,
+    pub store: Option<usize>,
+    pub locks: Option<usize>,
+    pub tables: Option<usize>,
 }
 
 impl Model for Holders {
@@ -44,7 +44,7 @@ impl Model for Holders {
 }
 
 impl Turn {
-    pub(crate) fn index(self) -> u8
+    pub fn index(self) -> u8
         ensures { result ≡ turn_index (turn_of self) }
     {
         match self {
@@ -59,7 +59,7 @@ impl Turn {
 }
 
 impl Holders {
-    pub(crate) fn of(&self, turn: Turn) -> Option<usize>
+    pub fn of(&self, turn: Turn) -> Option<usize>
         ensures { result ≡ turn_holder self.now (turn_of turn) }
     {
         match turn {
@@ -72,13 +72,13 @@ impl Holders {
         }
     }
 
-    pub(crate) fn holds(&self, turn: Turn, by: usize) -> bool
+    pub fn holds(&self, turn: Turn, by: usize) -> bool
         ensures { result ≡ true → Holds self.now (turn_of turn) by }
     {
         self.of(turn) == Some(by)
     }
 
-    pub(crate) fn set(&mut self, turn: Turn, holder: Option<usize>)
+    pub fn set(&mut self, turn: Turn, holder: Option<usize>)
         ensures { self.new ≡ with_holder self.old (turn_of turn) holder }
     {
         match turn {
@@ -93,7 +93,7 @@ impl Holders {
 }
 
 impl Holders {
-    pub(crate) fn free() -> Holders
+    pub fn free() -> Holders
         ensures { result ≡ all_free }
     {
         Holders {

@@ -21,7 +21,7 @@ fn versions_under(n: Seq, changes: &[Change], alloc: Global) -> Result<Vec<Versi
     Ok(versions)
 }
 
-pub(crate) fn versions_of_next(
+pub fn versions_of_next(
     n: Seq,
     pending: &[Entry],
     alloc: Global,
@@ -36,7 +36,7 @@ pub(crate) fn versions_of_next(
     }
 }
 
-pub(crate) fn take_number(versions: &mut Vec<Version>, n: Seq)
+pub fn take_number(versions: &mut Vec<Version>, n: Seq)
     ensures { versions.new.items ≡ without_number n versions.old.items }
 {
     versions.retain(|version| version.number != n);

@@ -35,7 +35,7 @@ pub enum Found {
 /// What stays in an actor's past.
 #[derive(Drop)]
 pub struct Event {
-    pub(crate) what: Found,
+    pub what: Found,
 }
 
 impl Model for Event {
@@ -51,7 +51,7 @@ impl Model for Event {
 impl Event {
     ghost use Rattle.wp_machine.specs.Parts.{event_of};
 
-    pub(crate) fn of(what: Found) -> Event
+    pub fn of(what: Found) -> Event
         ensures { result ≡ event_of what }
     {
         Event { what }
@@ -88,7 +88,7 @@ pub enum Noted {
 /// A fact that an actor noted.
 #[derive(Drop)]
 pub struct Fact {
-    pub(crate) says: Noted,
+    pub says: Noted,
 }
 
 impl Model for Fact {
@@ -106,14 +106,14 @@ impl Fact {
     ghost use Rattle.wp_core.specs.Sound.Views.{guarded_by};
     ghost use Rattle.wp_machine.specs.Parts.{turn_of, fact_of};
 
-    pub(crate) fn of(says: Noted) -> Fact
+    pub fn of(says: Noted) -> Fact
         ensures { result ≡ fact_of says }
     {
         Fact { says }
     }
 
     /// The turn under which it stays so; none: without a turn.
-    pub(crate) fn guard(&self) -> Option<Turn>
+    pub fn guard(&self) -> Option<Turn>
         ensures { option_map turn_of result ≡ guarded_by self.now }
     {
         match &self.says {

@@ -17,21 +17,21 @@ use wp_model::{Entry, Name, Seq};
 /// The words, the turns, the tables that they guard, and the actors.
 #[derive(Drop)]
 pub struct World {
-    pub(crate) alloc: Global,
-    pub(crate) opened: Vec<Entry>,
-    pub(crate) max_evicted: Seq,
-    pub(crate) delayed_flag: u64,
-    pub(crate) old_flag: u64,
-    pub(crate) cache: Cache,
-    pub(crate) holders: Holders,
-    pub(crate) writes: WriteTable,
-    pub(crate) prepared: PreparedTables,
-    pub(crate) snapshots: Snapshots,
-    pub(crate) store: StoreTable,
-    pub(crate) locks: LockTables,
-    pub(crate) installed: Installed,
-    pub(crate) first_edit: InstalledEdit,
-    pub(crate) actors: Vec<Actor>,
+    pub alloc: Global,
+    pub opened: Vec<Entry>,
+    pub max_evicted: Seq,
+    pub delayed_flag: u64,
+    pub old_flag: u64,
+    pub cache: Cache,
+    pub holders: Holders,
+    pub writes: WriteTable,
+    pub prepared: PreparedTables,
+    pub snapshots: Snapshots,
+    pub store: StoreTable,
+    pub locks: LockTables,
+    pub installed: Installed,
+    pub first_edit: InstalledEdit,
+    pub actors: Vec<Actor>,
 }
 
 impl Model for World {

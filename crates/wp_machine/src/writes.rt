@@ -13,12 +13,12 @@ use wp_model::{Batch, Entry, Seq};
 /// The history and its log. What is pending is what is left of one record, the entry that comes next first.
 #[derive(Drop)]
 pub struct WriteTable {
-    pub(crate) history: Vec<Entry>,
-    pub(crate) pending: Vec<Entry>,
-    pub(crate) logged: bool,
-    pub(crate) log: Vec<Entry>,
-    pub(crate) closed: bool,
-    pub(crate) failed: Vec<Entry>,
+    pub history: Vec<Entry>,
+    pub pending: Vec<Entry>,
+    pub logged: bool,
+    pub log: Vec<Entry>,
+    pub closed: bool,
+    pub failed: Vec<Entry>,
 }
 
 impl Model for WriteTable {
@@ -30,7 +30,7 @@ impl Model for WriteTable {
 }
 
 impl WriteTable {
-    pub(crate) fn copy(&self, alloc: Global) -> Result<WriteTable, AllocError>
+    pub fn copy(&self, alloc: Global) -> Result<WriteTable, AllocError>
         ensures { IfOk result (λ copy. copy ≡ self.now) }
     {
         Ok(WriteTable {
@@ -45,7 +45,7 @@ impl WriteTable {
 }
 
 /// The version that the entry with that number decides, and that number.
-pub(crate) fn pair_by(n: Seq, entry: &Entry) -> Option<(Seq, Seq)>
+pub fn pair_by(n: Seq, entry: &Entry) -> Option<(Seq, Seq)>
     ensures { result ≡ option_map numbers_of (pair_by n entry.now) }
 {
     match entry {
@@ -56,20 +56,20 @@ pub(crate) fn pair_by(n: Seq, entry: &Entry) -> Option<(Seq, Seq)>
 }
 
 impl WriteTable {
-    pub(crate) fn published(&self) -> Seq
+    pub fn published(&self) -> Seq
         ensures { result ≡ length self.now.history }
     {
         self.history.len() as Seq
     }
 
     /// The number of the entry that comes next.
-    pub(crate) fn next_number(&self) -> Result<Seq, AllocError>
+    pub fn next_number(&self) -> Result<Seq, AllocError>
         ensures { IfOk result (λ n. n ≡ suc (length self.now.history)) }
     {
         self.published().checked_add(1).ok_or(AllocError)
     }
 
-    pub(crate) fn pending_pair(&self) -> Result<Option<(Seq, Seq)>, AllocError>
+    pub fn pending_pair(&self) -> Result<Option<(Seq, Seq)>, AllocError>
         ensures { IfOk result (λ pair. pair ≡ option_map numbers_of (pending_pair self.now.history self.now.pending)) }
     {
         let n = self.next_number()?;
@@ -80,7 +80,7 @@ impl WriteTable {
     }
 
     /// The first of the pending entries joins the history.
-    pub(crate) fn publish(&mut self) -> Result<(), AllocError>
+    pub fn publish(&mut self) -> Result<(), AllocError>
         ensures { OnOk result (self.new ≡ with_next self.old self.old.pending) }
     {
         if !self.pending.is_empty() {
@@ -90,7 +90,7 @@ impl WriteTable {
         Ok(())
     }
 
-    pub(crate) fn log_pending(&mut self, alloc: Global) -> Result<(), AllocError>
+    pub fn log_pending(&mut self, alloc: Global) -> Result<(), AllocError>
         ensures { OnOk result (self.new ≡ record self.old { logged = true; log = self.old.log ++ self.old.pending }) }
     {
         let mut logged = copy_entries(&self.pending, alloc)?;
@@ -99,7 +99,7 @@ impl WriteTable {
         Ok(())
     }
 
-    pub(crate) fn close_log(&mut self, alloc: Global) -> Result<(), AllocError>
+    pub fn close_log(&mut self, alloc: Global) -> Result<(), AllocError>
         ensures { OnOk result (self.new ≡ record self.old { closed = true; failed = self.old.pending }) }
     {
         self.failed = copy_entries(&self.pending, alloc)?;
@@ -119,7 +119,7 @@ fn batch_of(entry: Option<&Entry>, alloc: Global) -> Result<Batch, AllocError>
 }
 
 /// The entry with that number, if there is one.
-pub(crate) fn entry_at(entries: &[Entry], n: Seq) -> Option<&Entry>
+pub fn entry_at(entries: &[Entry], n: Seq) -> Option<&Entry>
     ensures { option_copied result ≡ entry_at entries.now n }
 {
     let before = n.checked_sub(1)?;
@@ -127,7 +127,7 @@ pub(crate) fn entry_at(entries: &[Entry], n: Seq) -> Option<&Entry>
 }
 
 impl WriteTable {
-    pub(crate) fn batch_at(&self, p: Seq, alloc: Global) -> Result<Batch, AllocError>
+    pub fn batch_at(&self, p: Seq, alloc: Global) -> Result<Batch, AllocError>
         ensures { IfOk result (λ batch. batch ≡ batch_at self.now.history p) }
     {
         batch_of(entry_at(&self.history, p), alloc)
@@ -136,7 +136,7 @@ impl WriteTable {
 
 impl WriteTable {
     /// Of the empty history.
-    pub(crate) fn new(alloc: Global) -> WriteTable
+    pub fn new(alloc: Global) -> WriteTable
         ensures { result ≡ record { history = []; pending = []; logged = false; log = []; closed = false; failed = [] } }
     {
         WriteTable {

@@ -2,13 +2,10 @@
 ghost use Rattle.std.specs.Prelude.{◌≡◌, true};
 ghost use Rattle.wp_core.specs.Conditions.{IsNextLoad, MayLook};
 ghost use Rattle.wp_machine.specs.Machine.{reader_step};
-ghost use Rattle.wp_machine.specs.Permits.{IsOffered};
+ghost use Rattle.wp_permits.specs.Permits.{IsOffered};
 
-use crate::actor::Actor;
-use crate::step::ReaderStep;
-use crate::turn::Turn;
-use crate::world::World;
 use wp_judge::{Asked, Load, ask};
+use wp_machine::{Actor, ReaderStep, Turn, World};
 
 /// A look into a table needs its turn.
 fn may_look(world: &World, by: usize, which: Load) -> bool

@@ -3,7 +3,7 @@ ghost use Rattle.std.specs.Prelude.{◌≡◌, true, IfOk};
 ghost use Rattle.std.specs.Prelude.{ℕ};
 ghost use Rattle.wp_core.specs.World.{World, Actor};
 ghost use Rattle.wp_machine.specs.Machine.{MayMake, step_of, own_step, tables_step, actors_step};
-ghost use Rattle.wp_machine.specs.Permits.{IsOffered};
+ghost use Rattle.wp_permits.specs.Permits.{IsOffered};
 
 mod locks;
 mod reader;
@@ -11,11 +11,7 @@ mod turn;
 mod word;
 mod write;
 
-use crate::actor::Actor;
-use crate::applied::actor_at;
-use crate::step::{ActorsStep, Kind, OwnStep, Step, TablesStep};
-use crate::turn::Turn;
-use crate::world::World;
+use wp_machine::{Actor, ActorsStep, Kind, OwnStep, Step, TablesStep, Turn, World, actor_at};
 
 fn own(actor: &Actor, kind: &OwnStep) -> bool
     ensures { result ≡ true → (w : World) (by : ℕ) → IsOffered w by actor.now (own_step actor.now.participant kind.now) }

@@ -1,6 +1,7 @@
-use crate::{Kind, LocksStep, ReaderStep, Step, Turn, TurnStep, WordStep, World, apply, permits};
+use crate::permits;
 use std::alloc::Global;
 use std::test::Fail;
+use wp_machine::{Kind, LocksStep, ReaderStep, Step, Turn, TurnStep, WordStep, World, apply};
 use wp_model::{Key, Name};
 
 fn opened(alloc: Global) -> Result<World, Fail> {

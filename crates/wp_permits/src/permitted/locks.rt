@@ -1,12 +1,9 @@
 //! Whether a step with the locks turn may be made.
 ghost use Rattle.std.specs.Prelude.{◌≡◌, true};
 ghost use Rattle.wp_machine.specs.Machine.{locks_step};
-ghost use Rattle.wp_machine.specs.Permits.{IsOffered};
+ghost use Rattle.wp_permits.specs.Permits.{IsOffered};
 
-use crate::actor::Actor;
-use crate::step::LocksStep;
-use crate::turn::Turn;
-use crate::world::World;
+use wp_machine::{Actor, LocksStep, Turn, World};
 
 pub(super) fn locks(world: &World, by: usize, actor: &Actor, kind: &LocksStep) -> bool
     ensures { result ≡ true → IsOffered world.now by actor.now (locks_step world.now actor.now.participant kind.now) }

@@ -4,11 +4,9 @@ ghost use Rattle.wp_core.specs.World.{Actor};
 ghost use Rattle.wp_core.specs.Needs.{Needs};
 ghost use Rattle.wp_core.specs.Steps as step;
 ghost use Rattle.wp_machine.specs.Machine.{word_step};
-ghost use Rattle.wp_machine.specs.Permits.{IsOffered};
+ghost use Rattle.wp_permits.specs.Permits.{IsOffered};
 
-use crate::step::WordStep;
-use crate::turn::Turn;
-use crate::world::World;
+use wp_machine::{Turn, WordStep, World};
 use wp_model::Seq;
 
 /// The bound may rise so far: with the delayed flag up, or with an empty heap.

@@ -3,11 +3,9 @@ ghost use Rattle.std.specs.Prelude.{◌≡◌, true};
 ghost use Rattle.wp_core.specs.World.{Actor};
 ghost use Rattle.wp_core.specs.Conditions.{MayLog};
 ghost use Rattle.wp_machine.specs.Machine.{write_step};
-ghost use Rattle.wp_machine.specs.Permits.{IsOffered};
+ghost use Rattle.wp_permits.specs.Permits.{IsOffered};
 
-use crate::step::WriteStep;
-use crate::turn::Turn;
-use crate::world::World;
+use wp_machine::{Turn, World, WriteStep};
 
 fn may_log(world: &World, by: usize) -> bool
     ensures { result ≡ true → MayLog world.now by }

@@ -3,12 +3,9 @@ ghost use Rattle.std.specs.Prelude.{◌≡◌, true};
 ghost use Rattle.wp_core.specs.Conditions.{MayGive};
 ghost use Rattle.wp_machine.specs.Parts.{turn_of};
 ghost use Rattle.wp_machine.specs.Machine.{turn_step};
-ghost use Rattle.wp_machine.specs.Permits.{IsOffered};
+ghost use Rattle.wp_permits.specs.Permits.{IsOffered};
 
-use crate::actor::Actor;
-use crate::step::TurnStep;
-use crate::turn::Turn;
-use crate::world::World;
+use wp_machine::{Actor, Turn, TurnStep, World};
 
 fn may_give(world: &World, turn: Turn) -> bool
     ensures { result ≡ true → MayGive world.now (turn_of turn) }

@@ -1,4 +1,4 @@
-use Rattle.wp_machine.proofs.permitted.permits.Goals as goal
+use Rattle.wp_permits.proofs.permitted.permits.Goals as goal
 
 pub returns : goal.returns
 returns c passed =
