@@ -1,13 +1,14 @@
 //! Versions that have to be there, and that have to be of the history.
 ghost use Rattle.std.specs.Prelude.{◌≡◌, ◌↔◌, true};
 ghost use Rattle.std.specs.Option.{option_map, option_copied};
+ghost use Rattle.wp_model.specs.History.{undecided};
 ghost use Rattle.wp_model.specs.Decision.{entry_version};
 ghost use Rattle.wp_model.specs.Versions.{AreInOrder, version_at};
-ghost use Rattle.wp_cover.specs.Present.{ArePart, HasChanges, HasUndecided, HasUndone};
+ghost use Rattle.wp_cover.specs.Present.{ArePart, HasChanges, HasBatches, HasUndone, place_cmp};
 
 use std::cmp::Ordering;
 use wp_history::History;
-use wp_model::{Change, Entry, Key, Seq, Value, Version};
+use wp_model::{Batch, Entry, Key, Seq, Value, Version};
 
 /// The version of the key of the entry with that number.
 fn entry_version<'a>(history: &'a History, p: Seq, key: &Key) -> Option<Option<&'a Value>>
@@ -33,7 +34,9 @@ pub fn are_part(history: &History, versions: &[Version]) -> bool
 }
 
 /// How the version compares to the place of the key and the number.
-fn place_cmp(version: &Version, key: &Key, number: Seq) -> Ordering {
+fn place_cmp(version: &Version, key: &Key, number: Seq) -> Ordering
+    ensures { result ≡ place_cmp key.now number version.now }
+{
     version.key.cmp(key).then(number.cmp(&version.number))
 }
 
@@ -49,11 +52,11 @@ fn version_at<'a>(versions: &'a [Version], key: &Key, number: Seq) -> Option<Opt
 }
 
 /// Whether the version of each change is there, with that number.
-fn has_changes(versions: &[Version], number: Seq, changes: &[Change]) -> bool
+fn has_changes(versions: &[Version], number: Seq, batch: &Batch) -> bool
     requires { AreInOrder versions.now }
-    ensures { (result ≡ true) ↔ HasChanges versions.now number changes.now }
+    ensures { (result ≡ true) ↔ HasChanges versions.now number batch.now }
 {
-    for change in changes {
+    for change in batch.changes() {
         if version_at(versions, change.key(), number) != Some(change.value()) {
             return false;
         }
@@ -64,10 +67,10 @@ fn has_changes(versions: &[Version], number: Seq, changes: &[Change]) -> bool
 /// Whether the versions of the undecided prepares are there.
 pub fn has_undecided(history: &History, versions: &[Version]) -> bool
     requires { AreInOrder versions.now }
-    ensures { (result ≡ true) ↔ HasUndecided history.now.entries versions.now }
+    ensures { (result ≡ true) ↔ HasBatches history.now.entries versions.now (undecided history.now.entries) }
 {
     for p in history.undecided() {
-        if !has_changes(versions, *p, history.batch_at(*p).changes()) {
+        if !has_changes(versions, *p, history.batch_at(*p)) {
             return false;
         }
     }
@@ -80,7 +83,7 @@ pub fn has_undone(history: &History, versions: &[Version]) -> bool
     ensures { (result ≡ true) ↔ HasUndone history.now.entries versions.now }
 {
     match history.entries().last() {
-        Some(Entry::Undo(_, batch)) => has_changes(versions, history.published(), batch.changes()),
+        Some(Entry::Undo(_, batch)) => has_changes(versions, history.published(), batch),
         _ => true,
     }
 }

@@ -2,13 +2,29 @@
 ghost use Rattle.std.specs.Prelude.{◌≡◌, ◌↔◌, ℕ, List, true, IfOk, OnOk};
 ghost use Rattle.wp_model.specs.Covered.{GivesStore};
 ghost use Rattle.wp_cover.specs.Store.{IsStore};
-ghost use Rattle.wp_cover.specs.Shown.{shown};
+ghost use Rattle.wp_cover.specs.Shown.{LeavesCommitted, shown};
 
 use crate::decisions::Decisions;
 use crate::store::{leave, store_at};
 use std::alloc::{AllocError, Global};
 use std::collections::BTreeMap;
 use wp_model::{Key, Seq, Value, Version, Versions};
+
+/// Leaves what the version has under its key, if it is committed at `n`.
+fn leave_committed(
+    alloc: Global,
+    store: &mut BTreeMap<Key, Value>,
+    decisions: &Decisions<'_>,
+    version: &Version,
+    n: Seq,
+) -> Result<(), AllocError>
+    ensures { OnOk result (LeavesCommitted decisions.now n version.now store.old store.new) }
+{
+    if !decisions.is_committed(version.number, n) {
+        return Ok(());
+    }
+    leave(alloc, store, &version.key, version.value.as_ref())
+}
 
 /// What a reader at `n` finds: of each key the first version that is committed there, since the newer ones come first.
 fn shown_at(
@@ -23,10 +39,7 @@ fn shown_at(
     let mut i = versions.len();
     while i > 0 {
         i -= 1;
-        let version = &versions[i];
-        if decisions.is_committed(version.number, n) {
-            leave(alloc, &mut store, &version.key, version.value.as_ref())?;
-        }
+        leave_committed(alloc, &mut store, decisions, &versions[i], n)?;
     }
     Ok(store)
 }

@@ -1,5 +1,6 @@
 //! What the first entries of a history leave in the store, as a map.
 ghost use Rattle.std.specs.Prelude.{◌≡◌, ℕ, List, IfOk, OnOk};
+ghost use Rattle.std.specs.Option.{option_copied};
 ghost use Rattle.wp_model.specs.History.{changes_of, value_at};
 ghost use Rattle.wp_cover.specs.Store.{IsStore, Leaves, LeavesChanges};
 
@@ -15,16 +16,13 @@ pub fn leave(
     key: &Key,
     value: Option<&Value>,
 ) -> Result<(), AllocError>
-    ensures { OnOk result (Leaves key.now value.entry store.old store.new) }
+    ensures { OnOk result (Leaves key.now (option_copied value.entry) store.old store.new) }
 {
-    match value {
-        Some(value) => {
-            store.insert(key.copy(alloc)?, value.copy(alloc)?)?;
-        }
-        None => {
-            store.remove(key);
-        }
-    }
+    let Some(value) = value else {
+        store.remove(key);
+        return Ok(());
+    };
+    store.insert(key.copy(alloc)?, value.copy(alloc)?)?;
     Ok(())
 }
 

@@ -1,0 +1,68 @@
+-- The parts of a covered history together, and number by number.
+use Rattle.std.proofs.Common.{◌≡◌, ℕ, suc, ◌+◌, ◌<◌, ◌≤◌, Bool, true, false, ◌||◌, ◌↔◌, eqb, List, [], ◌∷◌, ◌++◌, length, get_or, take, refl, sym, ap, ◌∙◌, subst, inl, inr, arith}
+use Rattle.std.specs.List.{list_any}
+use Rattle.std.proofs.lemmas.Bool.{cases_lt, or_cases, eqb-true, eq-eqb}
+use Rattle.std.proofs.lemmas.List.{take_more}
+use Rattle.std.proofs.lemmas.List.Folds.{list_any-append, list_any_at}
+use Rattle.wp_model.specs.declared.entry.Entry.{Entry}
+use Rattle.wp_model.specs.declared.version.Version.{Version}
+use Rattle.wp_model.specs.History.{undecided}
+use Rattle.wp_model.specs.Versions.{AreInOrder}
+use Rattle.wp_model.specs.Covered.{GivesStore, IsCovered, is_among}
+use Rattle.wp_cover.specs.Present.{ArePart, HasBatches, HasUndone}
+use Rattle.wp_cover.proofs.Presence.{part_at, part_from, undecided_there, batches_there}
+
+module _ (versions : List Version) (history : List Entry) where
+  abbrev pub GivesAt : ℕ → Type 0
+  GivesAt n = (key : List ℕ) → GivesStore versions history key n
+
+  -- ---- listed numbers
+
+  abbrev pub GivesListed : List ℕ → Type 0
+  GivesListed numbers = (key : List ℕ) (n : ℕ) → is_among numbers n ≡ true → GivesStore versions history key n
+
+  pub listed_more : (numbers : List ℕ) (i here : ℕ) → i < length numbers → here ≡ get_or numbers i here → GivesAt here → GivesListed (take i numbers) → GivesListed (take (i + 1) numbers)
+  listed_more numbers i here lt is gives before key n among =
+      elim (or_cases (is_among (take i numbers) n) (is_among (here ∷ []) n) (sym (list_any-append (λ m. eqb m n) (take i numbers) (here ∷ [])) ∙ ap (λ (ms : List ℕ). is_among ms n) (sym next) ∙ among)) [
+        | inl old ↦ before key n old
+        | inr last ↦ subst (λ (m : ℕ). GivesStore versions history key m) (eqb-true here n (only (eqb here n) last)) (gives key)
+      ]
+    where
+      only : (b : Bool) → (b || false) ≡ true → b ≡ true
+      only true h = refl
+      only false h = h
+
+      next : take (i + 1) numbers ≡ take i numbers ++ here ∷ []
+      next = take_more numbers i here lt ∙ ap (λ (m : ℕ). take i numbers ++ m ∷ []) (sym is)
+
+  pub listed_at : (numbers : List ℕ) (i here : ℕ) → i < length numbers → here ≡ get_or numbers i here → GivesListed numbers → GivesAt here
+  listed_at numbers i here lt is gives key = gives key here (list_any_at (λ m. eqb m here) numbers i here lt (eq-eqb (get_or numbers i here) here (sym is)))
+
+  -- ---- numbers from one on
+
+  abbrev pub GivesBelow : ℕ → ℕ → Type 0
+  GivesBelow from end = (key : List ℕ) (n : ℕ) → from ≤ n → n < end → GivesStore versions history key n
+
+  pub below_more : (from n : ℕ) → GivesAt n → GivesBelow from n → GivesBelow from (n + 1)
+  below_more from n gives before key m le lt =
+      elim (cases_lt m n) [
+        | inl below ↦ before key m le below
+        | inr at ↦ subst (λ (k : ℕ). GivesStore versions history key k) (let e : n ≡ m = omega arith in e) (gives key)
+      ]
+
+  -- ---- together
+
+  pub covered : (numbers : List ℕ) (from : ℕ) → AreInOrder versions → ArePart history versions → HasBatches history versions (undecided history) → HasUndone history versions → GivesListed numbers → ((key : List ℕ) (n : ℕ) → from ≤ n → n ≤ length history → GivesStore versions history key n) → IsCovered versions history numbers from
+  covered numbers from order part batches undone listed later = record {
+    part = part_at history versions part;
+    undecided = undecided_there history versions batches;
+    undone = undone;
+    listed = listed;
+    later = later;
+  }
+
+  pub part_covered : (numbers : List ℕ) (from : ℕ) → AreInOrder versions → IsCovered versions history numbers from → ArePart history versions
+  part_covered numbers from order is = part_from history versions order is.part
+
+  pub batches_covered : (numbers : List ℕ) (from : ℕ) → IsCovered versions history numbers from → HasBatches history versions (undecided history)
+  batches_covered numbers from is = batches_there history versions is.undecided
