@@ -26,7 +26,7 @@ position_from_more test i (x ∷ xs) y = by (test x) (position_from_more test (i
   where
     by : (b : Bool) → position_from test (i + 1) (xs ++ y ∷ []) ≡ option_or (position_from test (i + 1) xs) (cond (test y) (Some (i + 1 + length xs)) None) → cond b (Some i) (position_from test (i + 1) (xs ++ y ∷ [])) ≡ option_or (cond b (Some i) (position_from test (i + 1) xs)) (cond (test y) (Some (i + suc (length xs))) None)
     by true rest = refl
-    by false rest = rest ∙ ap (λ (n : ℕ). option_or (position_from test (i + 1) xs) (cond (test y) (Some n) None)) (omega arith)
+    by false rest = let same : i + 1 + length xs ≡ i + suc (length xs) = omega arith in rest ∙ ap (λ (n : ℕ). option_or (position_from test (i + 1) xs) (cond (test y) (Some n) None)) same
 
 position_more : {X : Type 0} (test : X → Bool) (xs : List X) (y : X) → position test (xs ++ y ∷ []) ≡ option_or (position test xs) (cond (test y) (Some (length xs)) None)
 position_more test xs y =

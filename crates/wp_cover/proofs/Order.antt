@@ -81,8 +81,8 @@ module _ (key : List ℕ) (n : ℕ) where
   equal_here v = sym (tied_then (key_cmp v.key key) (nat_cmp n v.number)) ∙ (λ i. is_eq-slice_cmp v.key key i && nat_equal n v.number i)
 
   index_rises : (v w : Version) → version_cmp v w ≡ Less → (o : Ordering) → place_cmp key n w ≡ o → ordering_index (place_cmp key n v) ≤ ordering_index o
-  index_rises v w less Less e = let first : place_cmp key n v ≡ Less = version_total.trans v w place less e in rw first (omega arith)
-  index_rises v w less Equal e = let first : place_cmp key n v ≡ Less = sym (alike_right version_total w place v e) ∙ less in rw first (omega arith)
+  index_rises v w less Less e = let first : place_cmp key n v ≡ Less = version_total.trans v w place less e in omega (arith, ap ordering_index first)
+  index_rises v w less Equal e = let first : place_cmp key n v ≡ Less = sym (alike_right version_total w place v e) ∙ less in omega (arith, ap ordering_index first)
   index_rises v w less Greater e = at_most (place_cmp key n v)
     where
       at_most : (o : Ordering) → ordering_index o ≤ 2
@@ -105,7 +105,7 @@ module _ (key : List ℕ) (n : ℕ) where
   -- at the version that is equal to the place
   pub found_at : (vs : List Version) (i : ℕ) (d : Version) → AreInOrder vs → i < length vs → place_cmp key n (get_or vs i d) ≡ Equal → version_at vs key n ≡ Some (get_or vs i d).value
   found_at [] i d order lt equal = absurd (omega arith)
-  found_at (v ∷ vs) zero d order lt equal = rw (sym (equal_here v) ∙ ap is_eq equal) refl
+  found_at (v ∷ vs) zero d order lt equal = ap (λ b. cond b (Some v.value) (version_at vs key n)) (sym (equal_here v) ∙ ap is_eq equal)
   found_at (v ∷ vs) (suc i) d order lt equal = by (is_here key n v) refl (found_at vs i d (in_order_parts v vs order).1 (omega arith) equal)
     where
       by : (b : Bool) → is_here key n v ≡ b → version_at vs key n ≡ Some (get_or vs i d).value → cond b (Some v.value) (version_at vs key n) ≡ Some (get_or vs i d).value

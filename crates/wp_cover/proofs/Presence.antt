@@ -37,7 +37,7 @@ module _ (history : List Entry) where
 
   pub part_from : (vs : List Version) → AreInOrder vs → ((key : List ℕ) (p : ℕ) (value : Option (List ℕ)) → version_at vs key p ≡ Some value → entry_version history p key ≡ Some value) → ArePart history vs
   part_from [] order every = tt
-  part_from (v ∷ vs) order every = (every v.key v.number v.value (rw (here_itself v) refl), part_from vs parts.1 (λ key p value e. every key p value (behind key p value (is_here key p v) refl e)))
+  part_from (v ∷ vs) order every = (every v.key v.number v.value (ap (λ b. cond b (Some v.value) (version_at vs v.key v.number)) (here_itself v)), part_from vs parts.1 (λ key p value e. every key p value (behind key p value (is_here key p v) refl e)))
     where
       parts = in_order_parts v vs order
 
@@ -97,7 +97,7 @@ module _ (versions : List Version) (n : ℕ) where
 
   pub there_has : (changes : List Change) → are_ascending changes ≡ true → HasChanges versions n changes → AreThere versions n changes
   there_has [] ascending has = tt
-  there_has (change ∷ changes) ascending has = (has (key_of change) (value_of change) (rw (key_itself (key_of change)) refl), there_has changes (ascending_rest change changes ascending) (λ key value e. has key value (behind key value (bytes_eq (key_of change) key) refl e)))
+  there_has (change ∷ changes) ascending has = (has (key_of change) (value_of change) (ap (λ b. cond b (Some (value_of change)) (change_to changes (key_of change))) (key_itself (key_of change))), there_has changes (ascending_rest change changes ascending) (λ key value e. has key value (behind key value (bytes_eq (key_of change) key) refl e)))
     where
       behind : (key : List ℕ) (value : Option (List ℕ)) (b : Bool) → bytes_eq (key_of change) key ≡ b → change_to changes key ≡ Some value → cond b (Some (value_of change)) (change_to changes key) ≡ Some value
       behind key value false same e = e

@@ -5,7 +5,7 @@ use Rattle.std.specs.Str.{bytes_eq}
 use Rattle.std.specs.Map.{lookup}
 use Rattle.std.specs.BTreeMap.{IsOrdered, is_at}
 use Rattle.std.proofs.Math.Seq.{drop-length}
-use Rattle.std.proofs.lemmas.Bool.{cases_order, eqb-true, eq-eqb, ne_eqb, leb-true, le-leb}
+use Rattle.std.proofs.lemmas.Bool.{cases_order, false≢true, and_from, eq-eqb, ne_eqb, leb-true, le-leb}
 use Rattle.wp_model.specs.declared.entry.Entry.{Entry}
 use Rattle.wp_model.specs.declared.version.Version.{Version}
 use Rattle.wp_model.specs.Batch.{key_cmp}
@@ -78,27 +78,33 @@ module _ (history : List Entry) (n : ℕ) (key : List ℕ) where
   abbrev Shows : List Version → Type 0
   Shows versions = ShowsNewest versions ⊎ ShowsNone versions
 
+  passed_at : (v : Version) (vs : List Version) (q : ℕ) → is_here key q v ≡ false → version_at (v ∷ vs) key q ≡ version_at vs key q
+  passed_at v vs q elsewhere = ap (λ b. cond b (Some v.value) (version_at vs key q)) elsewhere
+
   behind : (v : Version) (vs : List Version) → ((q : ℕ) → is_committed history q n ≡ true → is_here key q v ≡ false) → (bytes_eq v.key key && is_committed history v.number n) ≡ false → Shows vs → Shows (v ∷ vs)
   behind v vs elsewhere passed (inl one) = inl (record {
     number = one.number;
     value = one.value;
-    there = rw (elsewhere one.number one.committed) one.there;
+    there = passed_at v vs one.number (elsewhere one.number one.committed) ∙ one.there;
     committed = one.committed;
-    newest = λ q lt c. rw (elsewhere q c) (one.newest q lt c);
-    shows = rw passed one.shows;
+    newest = λ q lt c. passed_at v vs q (elsewhere q c) ∙ one.newest q lt c;
+    shows = ap (λ b. cond b v.value (shown history n vs key)) passed ∙ one.shows;
   })
-  behind v vs elsewhere passed (inr none) = inr (record { none = λ p c. rw (elsewhere p c) (none.none p c); shows = rw passed none.shows })
+  behind v vs elsewhere passed (inr none) = inr (record { none = λ p c. passed_at v vs p (elsewhere p c) ∙ none.none p c; shows = ap (λ b. cond b v.value (shown history n vs key)) passed ∙ none.shows })
+
+  elsewhere_by : (v : Version) (q : ℕ) → (v.number == q) ≡ false → is_here key q v ≡ false
+  elsewhere_by v q apart = ap (λ b. bytes_eq v.key key && b) apart ∙ and_false (bytes_eq v.key key)
 
   first_shows : (v : Version) (vs : List Version) → AreInOrder (v ∷ vs) → bytes_eq v.key key ≡ true → is_committed history v.number n ≡ true → ShowsNewest (v ∷ vs)
   first_shows v vs order same committed = record {
     number = v.number;
     value = v.value;
-    there = rw (same, eq-eqb v.number v.number refl) refl;
+    there = ap (λ b. cond b (Some v.value) (version_at vs key v.number)) (and_from (bytes_eq v.key key) (v.number == v.number) same (eq-eqb v.number v.number refl));
     committed = committed;
     newest = λ q lt c.
         let apart : (v.number == q) ≡ false = ne_eqb v.number q (λ e. omega arith) in
-        rw (same, apart) (none_behind key q v vs (in_order_parts v vs order).0 same (omega arith));
-    shows = rw (same, committed) refl;
+        passed_at v vs q (elsewhere_by v q apart) ∙ none_behind key q v vs (in_order_parts v vs order).0 same (omega arith);
+    shows = ap (λ b. cond b v.value (shown history n vs key)) (and_from (bytes_eq v.key key) (is_committed history v.number n) same committed);
   }
 
   finds_shown : (versions : List Version) → AreInOrder versions → Shows versions
@@ -107,8 +113,8 @@ module _ (history : List Entry) (n : ℕ) (key : List ℕ) where
     where
       by : (b : Bool) → bytes_eq v.key key ≡ b → (c : Bool) → is_committed history v.number n ≡ c → Shows vs → Shows (v ∷ vs)
       by true same true committed rest = inl (first_shows v vs order same committed)
-      by true same false uncommitted rest = behind v vs (λ q c. rw same (ne_eqb v.number q (λ e. let it = ap (λ (p : ℕ). is_committed history p n) e in absurd cc))) (rw (same, uncommitted) refl) rest
-      by false other c committed rest = behind v vs (λ q c. rw other refl) (rw other refl) rest
+      by true same false uncommitted rest = behind v vs (λ q c. elsewhere_by v q (ne_eqb v.number q (λ e. false≢true (sym uncommitted ∙ ap (λ (p : ℕ). is_committed history p n) e ∙ c)))) (ap (λ b. bytes_eq v.key key && b) uncommitted ∙ and_false (bytes_eq v.key key)) rest
+      by false other c committed rest = behind v vs (λ q c. ap (λ b. b && (v.number == q)) other) (ap (λ b. b && is_committed history v.number n) other) rest
 
   -- ---- and what a reader is to find
 
