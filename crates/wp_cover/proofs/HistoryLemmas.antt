@@ -32,7 +32,7 @@ position_more : {X : Type 0} (test : X → Bool) (xs : List X) (y : X) → posit
 position_more test xs y =
     position_from-zero test (xs ++ y ∷ [])
     ∙ position_from_more test 0 xs y
-    ∙ (λ i. option_or (position_from-zero test xs (~ i)) (cond (test y) (Some (zero_add i)) None))
+    ∙ (λ i. option_or (sym (position_from-zero test xs) i) (cond (test y) (Some (zero_add i)) None))
   where
     zero_add : 0 + length xs ≡ length xs
     zero_add = omega arith
@@ -42,7 +42,7 @@ suc_either None true n = refl
 suc_either None false n = refl
 suc_either (Some m) b n = refl
 
-decider_next : (entries : List Entry) (entry : Entry) (p : ℕ) → decider_of (entries ++ entry ∷ []) p ≡ option_or (decider_of entries p) (cond (decides p entry) (Some (suc (length entries))) None)
+pub decider_next : (entries : List Entry) (entry : Entry) (p : ℕ) → decider_of (entries ++ entry ∷ []) p ≡ option_or (decider_of entries p) (cond (decides p entry) (Some (suc (length entries))) None)
 decider_next entries entry p = ap (option_map suc) (position_more (decides p) entries entry) ∙ suc_either (position (decides p) entries) (decides p entry) (length entries)
 
 -- ---- what the first entries leave

@@ -3,4 +3,4 @@ mod Order
 mod Presence
 mod Stores
 mod Shows
-mod Covers
+mod Together

@@ -1,26 +1,29 @@
 -- Versions that are of a history, and versions that are there.
-use Rattle.std.proofs.Common.{◌≡◌, ℕ, ◌-◌, ◌≤◌, Bool, true, false, ◌==◌, ◌&&◌, ◌||◌, cond, eqb, Less, List, [], ◌∷◌, length, Option, Some, None, refl, sym, ap, ◌∙◌, subst, arith}
+use Rattle.std.proofs.Common.{◌≡◌, ℕ, suc, ◌+◌, ◌-◌, ◌<◌, ◌≤◌, nat_le, get_or, drop, drop-cons, Bool, true, false, ◌==◌, ◌&&◌, ◌||◌, cond, eqb, Less, List, [], ◌∷◌, length, Option, Some, None, refl, sym, ap, ◌∙◌, subst, arith}
 use Rattle.std.specs.Prelude.{slice_get}
 use Rattle.std.specs.declared.cmp.Ordering.{Ordering}
 use Rattle.std.specs.declared.cmp.Ordering.TheVariants.{Equal, Greater}
 use Rattle.std.specs.Ordering.{is_lt}
+use Rattle.std.specs.Bool.{Decides}
 use Rattle.std.specs.Str.{bytes_eq}
 use Rattle.std.specs.List.{filter, list_any, range_with_len}
 use Rattle.std.proofs.lemmas.Bool.{and_parts, eqb-true}
+use Rattle.std.proofs.lemmas.List.{drop_all}
 use Rattle.std.proofs.lemmas.Cmp.{tied_itself, nat_list_cmp_total}
+use Rattle.wp_model.specs.declared.batch.TheConstants.{MOST_KEYS}
 use Rattle.wp_model.specs.declared.change.Change.{Change}
 use Rattle.wp_model.specs.declared.entry.Entry.{Entry}
-use Rattle.wp_model.specs.declared.entry.Entry.TheVariants.{Undo}
+use Rattle.wp_model.specs.declared.entry.Entry.TheVariants.{Write, Prepare, Commit, Undo, Close}
 use Rattle.wp_model.specs.declared.version.Version.{Version}
-use Rattle.wp_model.specs.Batch.{key_cmp, key_of, value_of, change_to, are_ascending}
+use Rattle.wp_model.specs.Batch.{key_cmp, key_of, value_of, change_to, are_ascending, is_batch}
 use Rattle.wp_model.specs.History.{entry_at, batch_at, is_undecided, undecided}
 use Rattle.wp_model.specs.Legal.{undone_last}
 use Rattle.wp_model.specs.Decision.{version_in, entry_version}
 use Rattle.wp_model.specs.Versions.{AreInOrder, version_at}
 use Rattle.wp_history.specs.Growth.{undone_by}
 use Rattle.wp_history.proofs.Undecided.{is_undecided_by_list}
-use Rattle.wp_history.proofs.Undone.{undone_at_last}
-use Rattle.wp_cover.specs.Present.{ArePart, HasChanges, HasBatches, HasUndone}
+use Rattle.wp_history.proofs.Undone.{undone_at_last, none_undone}
+use Rattle.wp_cover.specs.Present.{ArePart, HasChanges, HasBatches, HasUndone, restored}
 use Rattle.wp_cover.proofs.HistoryLemmas.{undecided_version, entry_at_last}
 use Rattle.wp_cover.proofs.Order.{same_key, key_itself, in_order_parts, is_here, at_here, here_itself, none_behind}
 
@@ -33,19 +36,17 @@ module _ (history : List Entry) where
     where
       by : (b : Bool) → is_here key p v ≡ b → cond b (Some v.value) (version_at vs key p) ≡ Some value → (version_at vs key p ≡ Some value → entry_version history p key ≡ Some value) → entry_version history p key ≡ Some value
       by false here is rest = rest is
-      by true here is rest = let at = at_here key p v here in (λ i. entry_version history (at.number_is (~ i)) (at.key_is (~ i))) ∙ part.0 ∙ is
+      by true here is rest = let at = at_here key p v here in (λ i. entry_version history (sym at.number_is i) (sym at.key_is i)) ∙ part.0 ∙ is
 
   pub part_from : (vs : List Version) → AreInOrder vs → ((key : List ℕ) (p : ℕ) (value : Option (List ℕ)) → version_at vs key p ≡ Some value → entry_version history p key ≡ Some value) → ArePart history vs
   part_from [] order every = tt
-  part_from (v ∷ vs) order every = (every v.key v.number v.value (ap (λ b. cond b (Some v.value) (version_at vs v.key v.number)) (here_itself v)), part_from vs parts.1 (λ key p value e. every key p value (behind key p value (is_here key p v) refl e)))
+  part_from (v ∷ vs) order every = let parts = in_order_parts v vs order in (every v.key v.number v.value (ap (λ b. cond b (Some v.value) (version_at vs v.key v.number)) (here_itself v)), part_from vs parts.1 (λ key p value e. every key p value (behind key p value (is_here key p v) refl e)))
     where
-      parts = in_order_parts v vs order
-
       behind : (key : List ℕ) (p : ℕ) (value : Option (List ℕ)) (b : Bool) → is_here key p v ≡ b → version_at vs key p ≡ Some value → cond b (Some v.value) (version_at vs key p) ≡ Some value
       behind key p value false here e = e
       behind key p value true here e =
           let at = at_here key p v here in
-          let none = none_behind key p v vs parts.0 (ap (λ k. bytes_eq k key) at.key_is ∙ key_itself key) (omega (arith, at.number_is)) in
+          let none = none_behind key p v vs (in_order_parts v vs order).0 (ap (λ k. bytes_eq k key) at.key_is ∙ key_itself key) (omega (arith, at.number_is)) in
           absurd cc
 
 -- ---- what changes say
@@ -55,22 +56,21 @@ less_from_test Less h = refl
 less_from_test Equal h = absurd cc
 less_from_test Greater h = absurd cc
 
--- a key below the first is not among ascending ones
-none_below : (key : List ℕ) (first : Change) (others : List Change) → are_ascending (first ∷ others) ≡ true → key_cmp key (key_of first) ≡ Less → change_to (first ∷ others) key ≡ None
-none_below key first others ascending below = by (bytes_eq (key_of first) key) refl (rest others ascending)
+none_first : (key : List ℕ) (first : Change) (others : List Change) → key_cmp key (key_of first) ≡ Less → change_to others key ≡ None → change_to (first ∷ others) key ≡ None
+none_first key first others below none = by (bytes_eq (key_of first) key) refl
   where
-    rest : (others : List Change) → are_ascending (first ∷ others) ≡ true → change_to others key ≡ None
-    rest [] ascending = refl
-    rest (second ∷ more) ascending =
-        let parts = and_parts (is_lt (key_cmp (key_of first) (key_of second))) (are_ascending (second ∷ more)) ascending in
-        none_below key second more parts.1 (nat_list_cmp_total.trans key (key_of first) (key_of second) below (less_from_test _ parts.0))
-
-    by : (b : Bool) → bytes_eq (key_of first) key ≡ b → change_to others key ≡ None → cond b (Some (value_of first)) (change_to others key) ≡ None
-    by false e none = none
-    by true e none =
+    by : (b : Bool) → bytes_eq (key_of first) key ≡ b → cond b (Some (value_of first)) (change_to others key) ≡ None
+    by false e = none
+    by true e =
         let tied = ap (λ k. key_cmp key k) (same_key (key_of first) key e) ∙ tied_itself nat_list_cmp_total key in
         absurd cc
 
+-- a key below the first is not among ascending ones
+none_below : (key : List ℕ) (first : Change) (others : List Change) → are_ascending (first ∷ others) ≡ true → key_cmp key (key_of first) ≡ Less → change_to (first ∷ others) key ≡ None
+none_below key first [] ascending below = none_first key first [] below refl
+none_below key first (second ∷ more) ascending below =
+    let parts = and_parts (is_lt (key_cmp (key_of first) (key_of second))) (are_ascending (second ∷ more)) ascending in
+    none_first key first (second ∷ more) below (none_below key second more parts.1 (nat_list_cmp_total.trans key (key_of first) (key_of second) below (less_from_test _ parts.0)))
 none_after : (key : List ℕ) (first : Change) (others : List Change) → are_ascending (first ∷ others) ≡ true → bytes_eq (key_of first) key ≡ true → change_to others key ≡ None
 none_after key first [] ascending same = refl
 none_after key first (second ∷ more) ascending same =
@@ -103,6 +103,20 @@ module _ (versions : List Version) (n : ℕ) where
       behind key value false same e = e
       behind key value true same e = let none = none_after key change changes ascending same in absurd cc
 
+  there_parts : (changes : List Change) (i : ℕ) (change : Change) → i < length changes → change ≡ get_or changes i change → AreThere versions n (drop i changes) → version_at versions (key_of change) n ≡ Some (value_of change)
+  there_parts changes i change lt is there =
+      let split : drop i changes ≡ change ∷ drop (suc i) changes = drop-cons changes i change lt ∙ ap (λ (c : Change). c ∷ drop (suc i) changes) (sym is) in
+      (subst (AreThere versions n) split there).0
+
+  -- where one of the changes is not there, not all are
+  pub one_missing : (changes items : List Change) (i : ℕ) (change : Change) → is_batch changes ≡ true → items ≡ changes → i < length items → change ≡ get_or items i change → (AreThere versions n changes → AreThere versions n (drop i items)) → HasChanges versions n changes → version_at versions (key_of change) n ≡ Some (value_of change)
+  one_missing changes items i change batch same lt is onward has =
+      let ascending = (and_parts (nat_le (length changes) MOST_KEYS) (are_ascending changes) batch).1 in
+      there_parts items i change lt is (onward (there_has changes ascending has))
+
+  pub none_missing : (changes items : List Change) (i : ℕ) → length items ≤ i → (AreThere versions n (drop i items) → AreThere versions n changes) → HasChanges versions n changes
+  none_missing changes items i le back = has_there changes (back (subst (AreThere versions n) (sym (drop_all i items le)) tt))
+
 -- ---- undecided prepares
 
 module _ (history : List Entry) (versions : List Version) where
@@ -122,6 +136,15 @@ module _ (history : List Entry) (versions : List Version) where
       by false e rest = rest
       by true e rest = (every p e, rest)
 
+  next_batch : (ps : List ℕ) (i : ℕ) → i < length ps → drop i ps ≡ get_or ps i 0 ∷ drop (i + 1) ps
+  next_batch ps i lt = let e : suc i ≡ i + 1 = omega arith in drop-cons ps i 0 lt ∙ ap (λ (k : ℕ). get_or ps i 0 ∷ drop k ps) e
+
+  pub batches_parts : (ps : List ℕ) (i : ℕ) → i < length ps → HasBatches history versions (drop i ps) → HasChanges versions (get_or ps i 0) (batch_at history (get_or ps i 0)) × HasBatches history versions (drop (i + 1) ps)
+  batches_parts ps i lt has = subst (HasBatches history versions) (next_batch ps i lt) has
+
+  pub batches_from : (ps : List ℕ) (i : ℕ) → i < length ps → HasChanges versions (get_or ps i 0) (batch_at history (get_or ps i 0)) → HasBatches history versions (drop (i + 1) ps) → HasBatches history versions (drop i ps)
+  batches_from ps i lt here rest = subst (HasBatches history versions) (sym (next_batch ps i lt)) (here, rest)
+
   -- each version that is undecided is there
   abbrev pub HasUndecided : Type 0
   HasUndecided = (key : List ℕ) (p : ℕ) (value : Option (List ℕ)) → is_undecided history p ≡ true → entry_version history p key ≡ Some value → version_at versions key p ≡ Some value
@@ -134,11 +157,35 @@ module _ (history : List Entry) (versions : List Version) where
 
   -- ---- an undo at the end
 
-  pub undone_there : (q : ℕ) (batch : List Change) → slice_get history (length history - 1) ≡ Some (Undo q batch) → HasChanges versions (length history) batch → HasUndone history versions
-  undone_there q batch at has key p value undone e = has key value (sym (ap (λ (o : Option Entry). version_in o key) (entry_at_last history (Undo q batch) at)) ∙ e)
+  -- the undo of q ends the history
+  ends_with : (q : ℕ) (batch : List Change) (r : Bool) → slice_get history (length history - 1) ≡ Some (Undo q batch) → Decides r (HasChanges versions (length history) batch) → Decides r (HasUndone history versions)
+  ends_with q batch r at has = (
+    λ yes key p value undone e. has.0 yes key value (sym (last key) ∙ e),
+    λ there. has.1 (λ key value e. there key q value (sym (undone_at_last history (Undo q batch) at)) (last key ∙ e)),
+  )
+    where
+      last : (key : List ℕ) → entry_version history (length history) key ≡ change_to batch key
+      last key = ap (λ (o : Option Entry). version_in o key) (entry_at_last history (Undo q batch) at)
 
-  pub there_undone : (q : ℕ) (batch : List Change) → slice_get history (length history - 1) ≡ Some (Undo q batch) → HasUndone history versions → HasChanges versions (length history) batch
-  there_undone q batch at has key value e = has key q value (sym (undone_at_last history (Undo q batch) at)) (ap (λ (o : Option Entry). version_in o key) (entry_at_last history (Undo q batch) at) ∙ e)
+  pub ends_undone : (entry : Entry) (batch : List Change) (r : Bool) → slice_get history (length history - 1) ≡ Some entry → Some batch ≡ restored entry → Decides r (HasChanges versions (length history) batch) → Decides r (HasUndone history versions)
+  ends_undone (Write other) batch r at e has = absurd cc
+  ends_undone (Prepare name other) batch r at e has = absurd cc
+  ends_undone (Commit p) batch r at e has = absurd cc
+  ends_undone (Undo q other) batch r at e has = let same : batch ≡ other = cc in ends_with q other r at (subst (λ (changes : List Change). Decides r (HasChanges versions (length history) changes)) same has)
+  ends_undone (Close p) batch r at e has = absurd cc
 
-  pub none_undone_there : undone_last history ≡ None → HasUndone history versions
-  none_undone_there none key p value undone e = absurd cc
+  nothing_undone : undone_last history ≡ None → Decides true (HasUndone history versions)
+  nothing_undone none = (λ _ key p value undone e. absurd cc, λ _. refl)
+
+  by_none : (entry : Entry) → None ≡ restored entry → undone_by entry ≡ None
+  by_none (Write batch) e = refl
+  by_none (Prepare name batch) e = refl
+  by_none (Commit p) e = refl
+  by_none (Undo p batch) e = absurd cc
+  by_none (Close p) e = refl
+
+  pub ends_otherwise : (entry : Entry) → slice_get history (length history - 1) ≡ Some entry → None ≡ restored entry → Decides true (HasUndone history versions)
+  ends_otherwise entry at e = nothing_undone (sym (undone_at_last history entry at) ∙ by_none entry e)
+
+  pub is_empty : slice_get history (length history - 1) ≡ None → Decides true (HasUndone history versions)
+  is_empty at = nothing_undone (sym (none_undone history at))

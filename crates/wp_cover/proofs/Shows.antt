@@ -21,10 +21,6 @@ use Rattle.wp_cover.proofs.Stores.{as_values, same_stores}
 
 -- ---- the versions, the last one first
 
-pub shown_none : (history : List Entry) (n : ℕ) (versions : List Version) (store : Store) → store.entries ≡ [] → IsOrdered key_cmp store → IsStore (shown history n (drop (length versions) versions)) store
-shown_none history n versions store empty ordered =
-    subst (λ (vs : List Version). IsStore (shown history n vs) store) (sym (drop-length versions)) (record { ordered = ordered; each = λ key. ap (λ (es : List (List ℕ × List ℕ)). lookup (is_at (key_cmp key)) es) empty })
-
 pub shown_more : (history : List Entry) (n : ℕ) (versions : List Version) (i j : ℕ) (v : Version) (store new : Store) → i ≡ j + 1 → j < length versions → v ≡ get_or versions j v → IsStore (shown history n (drop i versions)) store → LeavesCommitted history n v store new → IsStore (shown history n (drop j versions)) new
 shown_more history n versions i j v store new next lt is had left = subst (λ (vs : List Version). IsStore (shown history n vs) new) (sym split) (left (shown history n (drop i versions)) had)
   where
@@ -32,7 +28,7 @@ shown_more history n versions i j v store new next lt is had left = subst (λ (v
     at = omega (arith, next)
 
     split : drop j versions ≡ v ∷ drop i versions
-    split = drop-cons versions j v lt ∙ (λ k. is (~ k) ∷ drop (at k) versions)
+    split = drop-cons versions j v lt ∙ (λ k. sym is k ∷ drop (at k) versions)
 
 and_true : (b : Bool) → (b && true) ≡ b
 and_true true = refl
@@ -44,9 +40,6 @@ and_false false = refl
 
 pub leaves_it : (history : List Entry) (n : ℕ) (v : Version) (old new : Store) → is_committed history v.number n ≡ true → Leaves v.key v.value old new → LeavesCommitted history n v old new
 leaves_it history n v old new committed left values had = as_values _ _ new (λ key. ap (λ (b : Bool). cond b v.value (values key)) (sym (and_true (bytes_eq v.key key)) ∙ ap (λ (b : Bool). bytes_eq v.key key && b) (sym committed))) (left values had)
-
-pub leaves_nothing : (history : List Entry) (n : ℕ) (v : Version) (store : Store) → is_committed history v.number n ≡ false → LeavesCommitted history n v store store
-leaves_nothing history n v store uncommitted values had = as_values _ _ store (λ key. ap (λ (b : Bool). cond b v.value (values key)) (sym (and_false (bytes_eq v.key key)) ∙ ap (λ (b : Bool). bytes_eq v.key key && b) (sym uncommitted))) had
 
 -- ---- what is shown
 

@@ -12,7 +12,7 @@ use Rattle.std.proofs.Math.Seq.{drop-length, take_all}
 use Rattle.std.proofs.lemmas.Bool.{cases_lt, eqb-true}
 use Rattle.std.proofs.lemmas.Bool.Decides.{nat_tests}
 use Rattle.std.proofs.lemmas.Cmp.{nat_list_cmp_total}
-use Rattle.std.proofs.lemmas.List.{take_more, length-take-le}
+use Rattle.std.proofs.lemmas.List.{take_more, length-take-le, length-take, get_or-take}
 use Rattle.std.proofs.lemmas.Map.Lookups.{btree_map_from_get, btree_map_eq-Decides, exact_bytes}
 use Rattle.std.proofs.lemmas.Map.Text.{is_eq-slice_cmp}
 use Rattle.std.proofs.lemmas.Slice.Eq.{bytes_eq-Decides}
@@ -31,13 +31,13 @@ use Rattle.wp_cover.proofs.HistoryLemmas.{decider_next, value_more}
 pub leaves : (key : List ℕ) (value : Option (List ℕ)) (old new : Store) → ((q : List ℕ) → get key_cmp new q ≡ cond (is_at (key_cmp key) q) value (get key_cmp old q)) → IsOrdered key_cmp new → Leaves key value old new
 leaves key value old new updates ordered values had = record { ordered = ordered; each = λ q. updates q ∙ (λ i. cond (is_eq-slice_cmp key q i) value (had.each q i)) }
 
+pub leaves_same : (k key : List ℕ) (w value : Option (List ℕ)) (old new : Store) → k ≡ key → w ≡ value → Leaves k w old new → Leaves key value old new
+leaves_same k key w value old new keys values left = subst (λ (v : Option (List ℕ)). Leaves key v old new) values (subst (λ (q : List ℕ). Leaves q w old new) keys left)
+
 pub as_values : (f g : List ℕ → Option (List ℕ)) (store : Store) → ((key : List ℕ) → f key ≡ g key) → IsStore f store → IsStore g store
 as_values f g store same had = record { ordered = had.ordered; each = λ key. had.each key ∙ same key }
 
 -- ---- the changes of a batch, the last one first
-
-pub leaves_none : (changes : List Change) (store : Store) → LeavesChanges (drop (length changes) changes) store store
-leaves_none changes store = subst (λ (cs : List Change). LeavesChanges cs store store) (sym (drop-length changes)) (λ values had. had)
 
 over : (b : Bool) (v : Option (List ℕ)) (x : Option (Option (List ℕ))) (y : Option (List ℕ)) → cond b v (unwrap_or x y) ≡ unwrap_or (cond b (Some v) x) y
 over true v x y = refl
@@ -48,32 +48,23 @@ leaves_more changes i j change old store new next lt is before one =
     subst (λ (cs : List Change). LeavesChanges cs old new) (sym split) (λ values had. as_values _ _ new (λ key. over (bytes_eq (key_of change) key) (value_of change) (change_to (drop i changes) key) (values key)) (one _ (before values had)))
   where
     split : drop j changes ≡ change ∷ drop i changes
-    split = drop-cons changes j change lt ∙ (λ k. is (~ k) ∷ drop (at k) changes)
+    split = drop-cons changes j change lt ∙ (λ k. sym is k ∷ drop (at k) changes)
       where
         at : suc j ≡ i
         at = omega (arith, next)
 
 -- ---- entry by entry
 
-pub store_none : (history : List Entry) (store : Store) → store.entries ≡ [] → IsOrdered key_cmp store → IsStore (λ key. value_at history key 0) store
-store_none history store empty ordered = record { ordered = ordered; each = λ key. ap (λ (es : List (List ℕ × List ℕ)). lookup (is_at (key_cmp key)) es) empty }
-
 pub store_more : (history : List Entry) (i : ℕ) (here : Entry) (changes : List Change) (store new : Store) → IsLegal history → i < length history → here ≡ get_or history i here → changes ≡ changes_of history here → IsStore (λ key. value_at history key i) store → LeavesChanges changes store new → IsStore (λ key. value_at history key (i + 1)) new
 store_more history i here changes store new legal lt is its had left =
     as_values _ _ new (λ key. ap (λ (cs : List Change). unwrap_or (change_to cs key) (value_at history key i)) its ∙ sym (value_more history key i here legal lt is)) (left _ had)
 
--- past the end nothing more is left
-value_past : (history : List Entry) (key : List ℕ) (n : ℕ) → value_at history key (min n (length history)) ≡ value_at history key n
-value_past history key n =
-    elim (cases_lt n (length history)) [
-      | inl lt ↦ ap (value_at history key) (let e : min n (length history) ≡ n = omega arith in e)
-      | inr le ↦
-          ap (value_at history key) (let e : min n (length history) ≡ length history = omega arith in e)
-          ∙ ap (λ (h : List Entry). newest h key) (take_all (length history) history (omega arith) ∙ sym (take_all n history le))
-    ]
-
-pub store_whole : (history : List Entry) (m n : ℕ) (store : Store) → m ≡ min n (length history) → IsStore (λ key. value_at history key m) store → IsStore (λ key. value_at history key n) store
-store_whole history m n store is had = as_values _ _ store (λ key. ap (value_at history key) is ∙ value_past history key n) had
+-- the same over the first m of the entries
+pub store_next : (history first : List Entry) (m i : ℕ) (here : Entry) (changes : List Change) (store new : Store) → IsLegal history → first ≡ take m history → i < length first → here ≡ get_or first i here → changes ≡ changes_of history here → IsStore (λ key. value_at history key i) store → LeavesChanges changes store new → IsStore (λ key. value_at history key (i + 1)) new
+store_next history first m i here changes store new legal front lt is its had left =
+    let long : length first ≡ min m (length history) = ap (λ (h : List Entry). length h) front ∙ length-take m history in
+    let same : here ≡ get_or history i here = is ∙ ap (λ (h : List Entry). get_or h i here) front ∙ get_or-take m history i here (omega arith) in
+    store_more history i here changes store new legal (omega arith) same its had left
 
 -- ---- two maps
 
@@ -89,61 +80,9 @@ same_stores f g a b r first second e =
 
 -- ---- deciders
 
-eq_by_nat_cmp : (a b : ℕ) → eq_by_cmp nat_cmp a b ≡ (a == b)
-eq_by_nat_cmp a b = grind (arith, nat_tests)
-
-decides_by : (entry : Entry) (q : ℕ) → decided_by entry ≡ Some q → (p : ℕ) → decides p entry ≡ eqb q p
-decides_by (Write batch) q e p = absurd cc
-decides_by (Prepare name batch) q e p = absurd cc
-decides_by (Commit r) q e p = let same : r ≡ q = cc in ap (λ (s : ℕ). eqb s p) same
-decides_by (Undo r batch) q e p = absurd cc
-decides_by (Close r) q e p = let same : r ≡ q = cc in ap (λ (s : ℕ). eqb s p) same
-
-decides_none : (entry : Entry) → decided_by entry ≡ None → (p : ℕ) → decides p entry ≡ false
-decides_none (Write batch) e p = refl
-decides_none (Prepare name batch) e p = refl
-decides_none (Commit r) e p = absurd cc
-decides_none (Undo r batch) e p = refl
-decides_none (Close r) e p = absurd cc
-
-or_nothing : (o : Option ℕ) → option_or o None ≡ o
-or_nothing None = refl
-or_nothing (Some n) = refl
-
 -- what is noted with the entry, which has that number
 abbrev pub Notes : Entry → ℕ → BTreeMap ℕ ℕ → BTreeMap ℕ ℕ → Type 0
 Notes entry number old new = (p : ℕ) → get nat_cmp new p ≡ option_or (get nat_cmp old p) (cond (decides p entry) (Some number) None)
-
-pub notes_none : (entry : Entry) (number : ℕ) (deciders : BTreeMap ℕ ℕ) → decided_by entry ≡ None → Notes entry number deciders deciders
-notes_none entry number deciders e p = sym (or_nothing (get nat_cmp deciders p)) ∙ ap (λ (b : Bool). option_or (get nat_cmp deciders p) (cond b (Some number) None)) (sym (decides_none entry e p))
-
-some_stays : (o : Option ℕ) (b : Bool) (number : ℕ) → is_some o ≡ true → o ≡ option_or o (cond b (Some number) None)
-some_stays None b number h = absurd cc
-some_stays (Some n) b number h = refl
-
--- an earlier one decides it
-pub notes_known : (entry : Entry) (number q : ℕ) (deciders : BTreeMap ℕ ℕ) → decided_by entry ≡ Some q → is_some (get nat_cmp deciders q) ≡ true → Notes entry number deciders deciders
-notes_known entry number q deciders e known p = by (eqb q p) refl
-  where
-    by : (b : Bool) → eqb q p ≡ b → get nat_cmp deciders p ≡ option_or (get nat_cmp deciders p) (cond (decides p entry) (Some number) None)
-    by true same = some_stays (get nat_cmp deciders p) (decides p entry) number (ap (λ (r : ℕ). is_some (get nat_cmp deciders r)) (sym (eqb-true q p same)) ∙ known)
-    by false other = sym (or_nothing (get nat_cmp deciders p)) ∙ ap (λ (b : Bool). option_or (get nat_cmp deciders p) (cond b (Some number) None)) (sym (decides_by entry q e p ∙ other))
-
-none_of : (o : Option ℕ) → is_some o ≡ false → o ≡ None
-none_of None h = refl
-none_of (Some n) h = absurd cc
-
-pub notes_new : (entry : Entry) (number q : ℕ) (old new : BTreeMap ℕ ℕ) → decided_by entry ≡ Some q → is_some (get nat_cmp old q) ≡ false → ((p : ℕ) → get nat_cmp new p ≡ cond (is_at (nat_cmp q) p) (Some number) (get nat_cmp old p)) → Notes entry number old new
-notes_new entry number q old new e unknown updates p = updates p ∙ by (eqb q p) refl
-  where
-    by : (b : Bool) → eqb q p ≡ b → cond (is_at (nat_cmp q) p) (Some number) (get nat_cmp old p) ≡ option_or (get nat_cmp old p) (cond (decides p entry) (Some number) None)
-    by true same =
-        let none : get nat_cmp old p ≡ None = ap (get nat_cmp old) (sym (eqb-true q p same)) ∙ none_of (get nat_cmp old q) unknown in
-        rw (eq_by_nat_cmp q p ∙ same, decides_by entry q e p ∙ same, none) refl
-    by false other = rw (eq_by_nat_cmp q p ∙ other, decides_by entry q e p ∙ other) (sym (or_nothing (get nat_cmp old p)))
-
-pub deciders_none : (entries : List Entry) (deciders : BTreeMap ℕ ℕ) → deciders.entries ≡ [] → HasDeciders (take 0 entries) deciders
-deciders_none entries deciders empty p = ap (λ (es : List (ℕ × ℕ)). lookup (is_at (nat_cmp p)) es) empty
 
 pub deciders_more : (entries : List Entry) (i : ℕ) (here : Entry) (old new : BTreeMap ℕ ℕ) → i < length entries → here ≡ get_or entries i here → HasDeciders (take i entries) old → Notes here (i + 1) old new → HasDeciders (take (i + 1) entries) new
 deciders_more entries i here old new lt is had notes p =

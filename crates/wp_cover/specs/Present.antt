@@ -1,9 +1,10 @@
 -- Which versions have to be there, and which may be.
-use Rattle.std.specs.Prelude.{◌≡◌, ℕ, List, [], ◌∷◌, length, Option, Some}
+use Rattle.std.specs.Prelude.{◌≡◌, ℕ, List, [], ◌∷◌, length, Option, Some, None}
 use Rattle.std.specs.declared.cmp.Ordering.{Ordering}
 use Rattle.std.specs.Ordering.{nat_cmp, ordering_then}
 use Rattle.wp_model.specs.declared.change.Change.{Change}
 use Rattle.wp_model.specs.declared.entry.Entry.{Entry}
+use Rattle.wp_model.specs.declared.entry.Entry.TheVariants.{Undo}
 use Rattle.wp_model.specs.declared.version.Version.{Version}
 use Rattle.wp_model.specs.Batch.{key_cmp, change_to}
 use Rattle.wp_model.specs.History.{batch_at}
@@ -28,6 +29,11 @@ HasChanges versions n changes = (key : List ℕ) (value : Option (List ℕ)) →
 abbrev pub HasBatches : List Entry → List Version → List ℕ → Type 0
 HasBatches history versions [] = Unit {0}
 HasBatches history versions (p ∷ ps) = HasChanges versions p (batch_at history p) × HasBatches history versions ps
+
+-- what an entry restores, if it is an undo
+abbrev pub restored : Entry → Option (List Change)
+restored (Undo p batch) = Some batch
+restored other = None
 
 -- each version of an undo that ends the history is there
 abbrev pub HasUndone : List Entry → List Version → Type 0

@@ -7,9 +7,9 @@
 //! takes a time that grows with the entries' changes and the versions, but for a logarithm.
 #![tactic(auto)]
 
-pub use covers::covers;
+pub use covering::covers;
 
-mod covers;
+mod covering;
 mod decisions;
 mod present;
 mod shown;

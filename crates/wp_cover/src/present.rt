@@ -1,10 +1,10 @@
 //! Versions that have to be there, and that have to be of the history.
-ghost use Rattle.std.specs.Prelude.{◌≡◌, ◌↔◌, true};
+ghost use Rattle.std.specs.Prelude.{◌≡◌, ◌↔◌, true, Some};
 ghost use Rattle.std.specs.Option.{option_map, option_copied};
 ghost use Rattle.wp_model.specs.History.{undecided};
 ghost use Rattle.wp_model.specs.Decision.{entry_version};
 ghost use Rattle.wp_model.specs.Versions.{AreInOrder, version_at};
-ghost use Rattle.wp_cover.specs.Present.{ArePart, HasChanges, HasBatches, HasUndone, place_cmp};
+ghost use Rattle.wp_cover.specs.Present.{ArePart, HasChanges, HasBatches, HasUndone, place_cmp, restored};
 
 use std::cmp::Ordering;
 use wp_history::History;
@@ -20,13 +20,21 @@ fn entry_version<'a>(history: &'a History, p: Seq, key: &Key) -> Option<Option<&
     }
 }
 
+/// Whether a version was found, with this value or as a deletion.
+fn is_found(found: Option<Option<&Value>>, value: Option<&Value>) -> bool
+    ensures { (result ≡ true) ↔ (option_map option_copied found.entry ≡ Some (option_copied value.entry)) }
+{
+    found == Some(value)
+}
+
 /// Whether each of the versions is that of its entry.
 pub fn are_part(history: &History, versions: &[Version]) -> bool
     requires { AreInOrder versions.now }
     ensures { (result ≡ true) ↔ ArePart history.now.entries versions.now }
 {
     for version in versions {
-        if entry_version(history, version.number, &version.key) != Some(version.value.as_ref()) {
+        let found = entry_version(history, version.number, &version.key);
+        if !is_found(found, version.value.as_ref()) {
             return false;
         }
     }
@@ -57,7 +65,7 @@ fn has_changes(versions: &[Version], number: Seq, batch: &Batch) -> bool
     ensures { (result ≡ true) ↔ HasChanges versions.now number batch.now }
 {
     for change in batch.changes() {
-        if version_at(versions, change.key(), number) != Some(change.value()) {
+        if !is_found(version_at(versions, change.key(), number), change.value()) {
             return false;
         }
     }
@@ -77,13 +85,26 @@ pub fn has_undecided(history: &History, versions: &[Version]) -> bool
     true
 }
 
+/// What an undo restores.
+fn restored(entry: &Entry) -> Option<&Batch>
+    ensures { option_copied result ≡ restored entry.now }
+{
+    match entry {
+        Entry::Undo(_, batch) => Some(batch),
+        Entry::Write(_) | Entry::Prepare(_, _) | Entry::Commit(_) | Entry::Close(_) => None,
+    }
+}
+
 /// Whether the versions of an undo that ends the history are there.
 pub fn has_undone(history: &History, versions: &[Version]) -> bool
     requires { AreInOrder versions.now }
     ensures { (result ≡ true) ↔ HasUndone history.now.entries versions.now }
 {
-    match history.entries().last() {
-        Some(Entry::Undo(_, batch)) => has_changes(versions, history.published(), batch),
-        _ => true,
-    }
+    let Some(entry) = history.entries().last() else {
+        return true;
+    };
+    let Some(batch) = restored(entry) else {
+        return true;
+    };
+    has_changes(versions, history.published(), batch)
 }

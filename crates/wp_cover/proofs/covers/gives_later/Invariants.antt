@@ -1,9 +1,0 @@
-use Rattle.std.proofs.Common.{◌+◌, ◌-◌}
-use Rattle.wp_cover.proofs.Covers.{GivesBelow}
-use Rattle.wp_cover.proofs.covers.gives_later.Given as goal
-
-abbrev pub invariant-loop-n : goal.invariant-loop-n
-invariant-loop-n l = GivesBelow l.versions l.decisions l.from l.n
-
-abbrev pub decreases-loop-n : goal.decreases-loop-n
-decreases-loop-n l = l.last + 1 - l.n
