@@ -1,5 +1,6 @@
 -- The parts of a covered history together, and number by number.
 use Rattle.std.proofs.Common.{◌≡◌, ℕ, suc, ◌+◌, ◌<◌, ◌≤◌, Bool, true, false, ◌||◌, ◌↔◌, eqb, List, [], ◌∷◌, ◌++◌, length, get_or, take, refl, sym, ap, ◌∙◌, subst, inl, inr, arith}
+use Rattle.std.specs.Bool.{Decides}
 use Rattle.std.specs.List.{list_any}
 use Rattle.std.proofs.lemmas.Bool.{cases_lt, or_cases, eqb-true, eq-eqb}
 use Rattle.std.proofs.lemmas.List.{take_more}
@@ -50,19 +51,31 @@ module _ (versions : List Version) (history : List Entry) where
         | inr at ↦ subst (λ (k : ℕ). GivesStore versions history key k) (let e : n ≡ m = omega arith in e) (gives key)
       ]
 
-  -- ---- together
+  abbrev pub GivesLater : ℕ → Type 0
+  GivesLater from = (key : List ℕ) (n : ℕ) → from ≤ n → n ≤ length history → GivesStore versions history key n
 
-  pub covered : (numbers : List ℕ) (from : ℕ) → AreInOrder versions → ArePart history versions → HasBatches history versions (undecided history) → HasUndone history versions → GivesListed numbers → ((key : List ℕ) (n : ℕ) → from ≤ n → n ≤ length history → GivesStore versions history key n) → IsCovered versions history numbers from
-  covered numbers from order part batches undone listed later = record {
-    part = part_at history versions part;
-    undecided = undecided_there history versions batches;
-    undone = undone;
-    listed = listed;
-    later = later;
-  }
+-- ---- together
 
-  pub part_covered : (numbers : List ℕ) (from : ℕ) → AreInOrder versions → IsCovered versions history numbers from → ArePart history versions
-  part_covered numbers from order is = part_from history versions order is.part
+-- what was asked of a list and a history that are these
+pub covered : (history decisions : List Entry) (list versions : List Version) (numbers : List ℕ) (from : ℕ) (r : Bool) → decisions ≡ history → list ≡ versions → AreInOrder versions → ArePart history list → HasBatches history list (undecided history) → HasUndone history list → GivesListed versions decisions numbers → Decides r (GivesLater versions decisions from) → Decides r (IsCovered versions history numbers from)
+covered history decisions list versions numbers from r same lists order part batches undone listed later =
+    let ends = subst (λ (h : List Entry). Decides r (GivesLater versions h from)) same later in (
+      λ yes. record {
+        part = part_at history versions (subst (ArePart history) lists part);
+        undecided = undecided_there history versions (subst (λ (vs : List Version). HasBatches history vs (undecided history)) lists batches);
+        undone = subst (HasUndone history) lists undone;
+        listed = subst (λ (h : List Entry). GivesListed versions h numbers) same listed;
+        later = ends.0 yes;
+      },
+      λ is. ends.1 is.later,
+    )
 
-  pub batches_covered : (numbers : List ℕ) (from : ℕ) → IsCovered versions history numbers from → HasBatches history versions (undecided history)
-  batches_covered numbers from is = batches_there history versions is.undecided
+module _ (history : List Entry) (list versions : List Version) (numbers : List ℕ) (from : ℕ) (lists : list ≡ versions) (is : IsCovered versions history numbers from) where
+  pub part_covered : AreInOrder versions → ArePart history list
+  part_covered order = subst (ArePart history) (sym lists) (part_from history versions order is.part)
+
+  pub batches_covered : HasBatches history list (undecided history)
+  batches_covered = subst (λ (vs : List Version). HasBatches history vs (undecided history)) (sym lists) (batches_there history versions is.undecided)
+
+  pub undone_covered : HasUndone history list
+  undone_covered = subst (HasUndone history) (sym lists) is.undone
