@@ -56,26 +56,16 @@ module _ (versions : List Version) (history : List Entry) where
 
 -- ---- together
 
--- what was asked of a list and a history that are these
-pub covered : (history decisions : List Entry) (list versions : List Version) (numbers : List ℕ) (from : ℕ) (r : Bool) → decisions ≡ history → list ≡ versions → AreInOrder versions → ArePart history list → HasBatches history list (undecided history) → HasUndone history list → GivesListed versions decisions numbers → Decides r (GivesLater versions decisions from) → Decides r (IsCovered versions history numbers from)
-covered history decisions list versions numbers from r same lists order part batches undone listed later =
+-- what was asked of a history that is this one
+pub covered : (history decisions : List Entry) (versions : List Version) (numbers : List ℕ) (from : ℕ) (r : Bool) → decisions ≡ history → ArePart history versions → HasBatches history versions (undecided history) → HasUndone history versions → GivesListed versions decisions numbers → Decides r (GivesLater versions decisions from) → Decides r (IsCovered versions history numbers from)
+covered history decisions versions numbers from r same part batches undone listed later =
     let ends = subst (λ (h : List Entry). Decides r (GivesLater versions h from)) same later in (
       λ yes. record {
-        part = part_at history versions (subst (ArePart history) lists part);
-        undecided = undecided_there history versions (subst (λ (vs : List Version). HasBatches history vs (undecided history)) lists batches);
-        undone = subst (HasUndone history) lists undone;
+        part = part_at history versions part;
+        undecided = undecided_there history versions batches;
+        undone = undone;
         listed = subst (λ (h : List Entry). GivesListed versions h numbers) same listed;
         later = ends.0 yes;
       },
       λ is. ends.1 is.later,
     )
-
-module _ (history : List Entry) (list versions : List Version) (numbers : List ℕ) (from : ℕ) (lists : list ≡ versions) (is : IsCovered versions history numbers from) where
-  pub part_covered : AreInOrder versions → ArePart history list
-  part_covered order = subst (ArePart history) (sym lists) (part_from history versions order is.part)
-
-  pub batches_covered : HasBatches history list (undecided history)
-  batches_covered = subst (λ (vs : List Version). HasBatches history vs (undecided history)) (sym lists) (batches_there history versions is.undecided)
-
-  pub undone_covered : HasUndone history list
-  undone_covered = subst (HasUndone history) (sym lists) is.undone

@@ -56,8 +56,10 @@ pub fn covers(
 ) -> Result<bool, AllocError>
     ensures { IfOk result (λ yes. (yes ≡ true) ↔ IsCovered versions.now history.now.entries numbers.now from) }
 {
-    let list = versions.as_slice();
-    if !are_part(history, list) || !has_undecided(history, list) || !has_undone(history, list) {
+    if !are_part(history, versions) || !has_undecided(history, versions) {
+        return Ok(false);
+    }
+    if !has_undone(history, versions) {
         return Ok(false);
     }
     let decisions = Decisions::of(alloc, history)?;

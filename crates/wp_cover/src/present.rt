@@ -8,7 +8,7 @@ ghost use Rattle.wp_cover.specs.Present.{ArePart, HasChanges, HasBatches, HasUnd
 
 use std::cmp::Ordering;
 use wp_history::History;
-use wp_model::{Batch, Entry, Key, Seq, Value, Version};
+use wp_model::{Batch, Entry, Key, Seq, Value, Version, Versions};
 
 /// The version of the key of the entry with that number.
 fn entry_version<'a>(history: &'a History, p: Seq, key: &Key) -> Option<Option<&'a Value>>
@@ -28,11 +28,11 @@ fn is_found(found: Option<Option<&Value>>, value: Option<&Value>) -> bool
 }
 
 /// Whether each of the versions is that of its entry.
-pub fn are_part(history: &History, versions: &[Version]) -> bool
-    requires { AreInOrder versions.now }
-    ensures { (result ≡ true) ↔ ArePart history.now.entries versions.now }
+pub fn are_part(history: &History, versions: &Versions) -> bool
+    ensures part { (result ≡ true) ↔ ArePart history.now.entries versions.now }
+    ensures in_order { AreInOrder versions.now }
 {
-    for version in versions {
+    for version in versions.as_slice() {
         let found = entry_version(history, version.number, &version.key);
         if !is_found(found, version.value.as_ref()) {
             return false;
@@ -49,19 +49,18 @@ fn place_cmp(version: &Version, key: &Key, number: Seq) -> Ordering
 }
 
 /// The version of the key with that number.
-fn version_at<'a>(versions: &'a [Version], key: &Key, number: Seq) -> Option<Option<&'a Value>>
-    requires { AreInOrder versions.now }
+fn version_at<'a>(versions: &'a Versions, key: &Key, number: Seq) -> Option<Option<&'a Value>>
     ensures { option_map option_copied result ≡ version_at versions.now key.now number }
 {
-    match versions.binary_search_by(|version| place_cmp(version, key, number)) {
-        Ok(i) => Some(versions[i].value.as_ref()),
+    let list = versions.as_slice();
+    match list.binary_search_by(|version| place_cmp(version, key, number)) {
+        Ok(i) => Some(list[i].value.as_ref()),
         Err(_) => None,
     }
 }
 
 /// Whether the version of each change is there, with that number.
-fn has_changes(versions: &[Version], number: Seq, batch: &Batch) -> bool
-    requires { AreInOrder versions.now }
+fn has_changes(versions: &Versions, number: Seq, batch: &Batch) -> bool
     ensures { (result ≡ true) ↔ HasChanges versions.now number batch.now }
 {
     for change in batch.changes() {
@@ -73,8 +72,7 @@ fn has_changes(versions: &[Version], number: Seq, batch: &Batch) -> bool
 }
 
 /// Whether the versions of the undecided prepares are there.
-pub fn has_undecided(history: &History, versions: &[Version]) -> bool
-    requires { AreInOrder versions.now }
+pub fn has_undecided(history: &History, versions: &Versions) -> bool
     ensures { (result ≡ true) ↔ HasBatches history.now.entries versions.now (undecided history.now.entries) }
 {
     for p in history.undecided() {
@@ -96,8 +94,7 @@ fn restored(entry: &Entry) -> Option<&Batch>
 }
 
 /// Whether the versions of an undo that ends the history are there.
-pub fn has_undone(history: &History, versions: &[Version]) -> bool
-    requires { AreInOrder versions.now }
+pub fn has_undone(history: &History, versions: &Versions) -> bool
     ensures { (result ≡ true) ↔ HasUndone history.now.entries versions.now }
 {
     let Some(entry) = history.entries().last() else {
