@@ -1,5 +1,5 @@
 -- Versions that are of a history, and versions that are there.
-use Rattle.std.proofs.Common.{◌≡◌, ℕ, suc, ◌+◌, ◌-◌, ◌<◌, ◌≤◌, nat_le, get_or, drop, drop-cons, Bool, true, false, ◌==◌, ◌&&◌, ◌||◌, cond, eqb, Less, List, [], ◌∷◌, length, Option, Some, None, refl, sym, ap, ◌∙◌, subst, arith}
+use Rattle.std.proofs.Common.{◌≡◌, ℕ, suc, ◌+◌, ◌-◌, ◌<◌, ◌≤◌, nat_le, get_or, drop, drop-cons, Bool, true, false, ◌||◌, cond, eqb, Less, List, [], ◌∷◌, length, Option, Some, None, refl, sym, ap, ◌∙◌, subst, arith}
 use Rattle.std.specs.Prelude.{slice_get}
 use Rattle.std.specs.declared.cmp.Ordering.{Ordering}
 use Rattle.std.specs.declared.cmp.Ordering.TheVariants.{Equal, Greater}
@@ -16,7 +16,7 @@ use Rattle.wp_model.specs.declared.entry.Entry.{Entry}
 use Rattle.wp_model.specs.declared.entry.Entry.TheVariants.{Write, Prepare, Commit, Undo, Close}
 use Rattle.wp_model.specs.declared.version.Version.{Version}
 use Rattle.wp_model.specs.Batch.{key_cmp, key_of, value_of, change_to, are_ascending, is_batch}
-use Rattle.wp_model.specs.History.{entry_at, batch_at, is_undecided, undecided}
+use Rattle.wp_model.specs.History.{batch_at, is_undecided, undecided}
 use Rattle.wp_model.specs.Legal.{undone_last}
 use Rattle.wp_model.specs.Decision.{version_in, entry_version}
 use Rattle.wp_model.specs.Versions.{AreInOrder, version_at}

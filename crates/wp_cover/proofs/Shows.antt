@@ -1,23 +1,19 @@
 -- What versions show a reader, against what a reader is to find.
-use Rattle.std.proofs.Common.{◌≡◌, ℕ, suc, ◌+◌, ◌<◌, ◌≤◌, ◌⊎◌, Bool, true, false, ◌==◌, ◌&&◌, ◌↔◌, cond, List, [], ◌∷◌, length, get_or, drop, drop-cons, Option, Some, None, refl, sym, ap, ◌∙◌, subst, inl, inr, arith}
+use Rattle.std.proofs.Common.{◌≡◌, ℕ, suc, ◌+◌, ◌<◌, ◌⊎◌, Bool, true, false, ◌==◌, ◌&&◌, cond, List, [], ◌∷◌, length, get_or, drop, drop-cons, Option, Some, None, refl, sym, ap, ◌∙◌, subst, inl, inr, arith}
 use Rattle.std.specs.Bool.{Decides}
 use Rattle.std.specs.Str.{bytes_eq}
-use Rattle.std.specs.Map.{lookup}
-use Rattle.std.specs.BTreeMap.{IsOrdered, is_at}
-use Rattle.std.proofs.Math.Seq.{drop-length}
 use Rattle.std.proofs.lemmas.Bool.{cases_order, false≢true, and_from, eq-eqb, ne_eqb, leb-true, le-leb}
 use Rattle.wp_model.specs.declared.entry.Entry.{Entry}
 use Rattle.wp_model.specs.declared.version.Version.{Version}
-use Rattle.wp_model.specs.Batch.{key_cmp}
 use Rattle.wp_model.specs.History.{value_at}
 use Rattle.wp_model.specs.Decision.{decision_of, IsCommittedAt}
 use Rattle.wp_model.specs.Versions.{AreInOrder, version_at}
-use Rattle.wp_model.specs.Covered.{GivesNewest, GivesNone, GivesStore}
+use Rattle.wp_model.specs.Covered.{GivesNewest, GivesStore}
 use Rattle.wp_cover.specs.Decisions.{is_by, is_committed}
 use Rattle.wp_cover.specs.Store.{Store, IsStore, Leaves}
 use Rattle.wp_cover.specs.Shown.{LeavesCommitted, shown}
-use Rattle.wp_cover.proofs.Order.{in_order_parts, is_here, at_here, here_itself, none_behind}
-use Rattle.wp_cover.proofs.Stores.{as_values, same_stores}
+use Rattle.wp_cover.proofs.Order.{in_order_parts, is_here, none_behind}
+use Rattle.wp_cover.proofs.Stores.{as_values}
 
 -- ---- the versions, the last one first
 

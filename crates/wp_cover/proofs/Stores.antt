@@ -1,16 +1,13 @@
 -- What is left under keys, and when two maps have the same.
-use Rattle.std.proofs.Common.{◌≡◌, ℕ, suc, ◌+◌, ◌<◌, ◌≤◌, Bool, true, false, ◌&&◌, ◌==◌, ◌↔◌, cond, eqb, min, List, [], ◌∷◌, ◌++◌, length, get_or, take, drop, drop-cons, Option, Some, None, refl, sym, ap, ◌∙◌, subst, inl, inr, arith}
-use Rattle.std.specs.Prelude.{option_map, unwrap_or, is_some}
+use Rattle.std.proofs.Common.{◌≡◌, ℕ, suc, ◌+◌, ◌<◌, Bool, true, false, ◌&&◌, cond, min, List, [], ◌∷◌, ◌++◌, length, get_or, take, drop, drop-cons, Option, Some, None, refl, sym, ap, ◌∙◌, subst, arith}
+use Rattle.std.specs.Prelude.{unwrap_or}
 use Rattle.std.specs.Option.{option_or}
 use Rattle.std.specs.Bool.{Decides}
 use Rattle.std.specs.Str.{bytes_eq}
 use Rattle.std.specs.Cmp.Lexicographic.{pointwise}
-use Rattle.std.specs.Ordering.{nat_cmp, eq_by_cmp}
+use Rattle.std.specs.Ordering.{nat_cmp}
 use Rattle.std.specs.Map.{lookup}
 use Rattle.std.specs.BTreeMap.{BTreeMap, IsOrdered, is_at, get}
-use Rattle.std.proofs.Math.Seq.{drop-length, take_all}
-use Rattle.std.proofs.lemmas.Bool.{cases_lt, eqb-true}
-use Rattle.std.proofs.lemmas.Bool.Decides.{nat_tests}
 use Rattle.std.proofs.lemmas.Cmp.{nat_list_cmp_total}
 use Rattle.std.proofs.lemmas.List.{take_more, length-take-le, length-take, get_or-take}
 use Rattle.std.proofs.lemmas.Map.Lookups.{btree_map_from_get, btree_map_eq-Decides, exact_bytes}
@@ -18,11 +15,10 @@ use Rattle.std.proofs.lemmas.Map.Text.{is_eq-slice_cmp}
 use Rattle.std.proofs.lemmas.Slice.Eq.{bytes_eq-Decides}
 use Rattle.wp_model.specs.declared.change.Change.{Change}
 use Rattle.wp_model.specs.declared.entry.Entry.{Entry}
-use Rattle.wp_model.specs.declared.entry.Entry.TheVariants.{Write, Prepare, Commit, Undo, Close}
 use Rattle.wp_model.specs.Batch.{key_cmp, key_of, value_of, change_to}
-use Rattle.wp_model.specs.History.{changes_of, value_at, newest, decides}
+use Rattle.wp_model.specs.History.{changes_of, value_at, decides}
 use Rattle.wp_model.specs.Legal.{IsLegal}
-use Rattle.wp_cover.specs.Decisions.{decided_by, decider_of, HasDeciders}
+use Rattle.wp_cover.specs.Decisions.{decider_of, HasDeciders}
 use Rattle.wp_cover.specs.Store.{Store, IsStore, Leaves, LeavesChanges}
 use Rattle.wp_cover.proofs.HistoryLemmas.{decider_next, value_more}
 

@@ -1,17 +1,15 @@
 -- The parts of a covered history together, and number by number.
-use Rattle.std.proofs.Common.{◌≡◌, ℕ, suc, ◌+◌, ◌<◌, ◌≤◌, Bool, true, false, ◌||◌, ◌↔◌, eqb, List, [], ◌∷◌, ◌++◌, length, get_or, take, refl, sym, ap, ◌∙◌, subst, inl, inr, arith}
+use Rattle.std.proofs.Common.{◌≡◌, ℕ, ◌+◌, ◌<◌, ◌≤◌, Bool, true, false, ◌||◌, eqb, List, [], ◌∷◌, ◌++◌, length, get_or, take, refl, sym, ap, ◌∙◌, subst, inl, inr, arith}
 use Rattle.std.specs.Bool.{Decides}
-use Rattle.std.specs.List.{list_any}
 use Rattle.std.proofs.lemmas.Bool.{cases_lt, or_cases, eqb-true, eq-eqb}
 use Rattle.std.proofs.lemmas.List.{take_more}
 use Rattle.std.proofs.lemmas.List.Folds.{list_any-append, list_any_at}
 use Rattle.wp_model.specs.declared.entry.Entry.{Entry}
 use Rattle.wp_model.specs.declared.version.Version.{Version}
 use Rattle.wp_model.specs.History.{undecided}
-use Rattle.wp_model.specs.Versions.{AreInOrder}
 use Rattle.wp_model.specs.Covered.{GivesStore, IsCovered, is_among}
 use Rattle.wp_cover.specs.Present.{ArePart, HasBatches, HasUndone}
-use Rattle.wp_cover.proofs.Presence.{part_at, part_from, undecided_there, batches_there}
+use Rattle.wp_cover.proofs.Presence.{part_at, undecided_there}
 
 module _ (versions : List Version) (history : List Entry) where
   abbrev pub GivesAt : ℕ → Type 0

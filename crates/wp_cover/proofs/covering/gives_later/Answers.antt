@@ -1,4 +1,4 @@
-use Rattle.std.proofs.Common.{◌≤◌, ℕ, List, ap, length, sym, ◌∙◌, arith}
+use Rattle.std.proofs.Common.{◌≤◌, List, ap, length, sym, ◌∙◌, arith}
 use Rattle.wp_model.specs.declared.entry.Entry.{Entry}
 use Rattle.wp_cover.proofs.Together.{below_more}
 use Rattle.wp_cover.proofs.covering.gives_later.Goals as goal

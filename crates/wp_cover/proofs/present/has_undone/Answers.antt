@@ -1,9 +1,9 @@
-use Rattle.std.proofs.Common.{◌≡◌, ℕ, ◌-◌, sym, ap, ◌∙◌, length, List, subst}
+use Rattle.std.proofs.Common.{ℕ, ◌-◌, sym, ap, ◌∙◌, length, List, subst}
 use Rattle.std.specs.Prelude.{slice_get}
 use Rattle.std.specs.Bool.{Decides}
 use Rattle.wp_model.specs.declared.entry.Entry.{Entry}
 use Rattle.wp_cover.specs.Present.{HasChanges}
-use Rattle.wp_cover.proofs.Presence.{ends_undone, ends_otherwise, is_empty}
+use Rattle.wp_cover.proofs.Presence.{ends_undone, ends_otherwise}
 use Rattle.wp_cover.proofs.present.has_undone.Goals as goal
 
 pub returns-in_default-restored : goal.returns-in_default-restored

@@ -1,4 +1,4 @@
-use Rattle.std.proofs.Common.{◌≡◌, ℕ, ◌+◌, ◌-◌, ◌<◌, length, drop, sym, subst, arith}
+use Rattle.std.proofs.Common.{◌≡◌, ℕ, ◌+◌, ◌-◌, ◌<◌, length, drop, subst, arith}
 use Rattle.std.specs.Option.{option_copied}
 use Rattle.wp_model.specs.Batch.{key_of, value_of}
 use Rattle.wp_cover.specs.Store.{LeavesChanges}

@@ -1,4 +1,4 @@
-use Rattle.std.proofs.Common.{◌≡◌, List, ap, take, drop, ◌-◌, ◌∙◌, refl}
+use Rattle.std.proofs.Common.{List, ap, take}
 use Rattle.wp_model.specs.declared.entry.Entry.{Entry}
 use Rattle.wp_cover.proofs.Stores.{store_next}
 use Rattle.wp_cover.proofs.store.store_at.Goals as goal
