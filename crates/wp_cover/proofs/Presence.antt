@@ -187,6 +187,3 @@ module _ (history : List Entry) (versions : List Version) where
 
   pub ends_otherwise : (entry : Entry) → slice_get history (length history - 1) ≡ Some entry → None ≡ restored entry → Decides true (HasUndone history versions)
   ends_otherwise entry at e = nothing_undone (sym (undone_at_last history entry at) ∙ by_none entry e)
-
-  pub is_empty : slice_get history (length history - 1) ≡ None → Decides true (HasUndone history versions)
-  is_empty at = nothing_undone (sym (none_undone history at))

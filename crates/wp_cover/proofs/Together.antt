@@ -20,23 +20,6 @@ module _ (versions : List Version) (history : List Entry) where
   abbrev pub GivesListed : List ℕ → Type 0
   GivesListed numbers = (key : List ℕ) (n : ℕ) → is_among numbers n ≡ true → GivesStore versions history key n
 
-  pub listed_more : (numbers : List ℕ) (i here : ℕ) → i < length numbers → here ≡ get_or numbers i here → GivesAt here → GivesListed (take i numbers) → GivesListed (take (i + 1) numbers)
-  listed_more numbers i here lt is gives before key n among =
-      elim (or_cases (is_among (take i numbers) n) (is_among (here ∷ []) n) (sym (list_any-append (λ m. eqb m n) (take i numbers) (here ∷ [])) ∙ ap (λ (ms : List ℕ). is_among ms n) (sym next) ∙ among)) [
-        | inl old ↦ before key n old
-        | inr last ↦ subst (λ (m : ℕ). GivesStore versions history key m) (eqb-true here n (only (eqb here n) last)) (gives key)
-      ]
-    where
-      only : (b : Bool) → (b || false) ≡ true → b ≡ true
-      only true h = refl
-      only false h = h
-
-      next : take (i + 1) numbers ≡ take i numbers ++ here ∷ []
-      next = take_more numbers i here lt ∙ ap (λ (m : ℕ). take i numbers ++ m ∷ []) (sym is)
-
-  pub listed_at : (numbers : List ℕ) (i here : ℕ) → i < length numbers → here ≡ get_or numbers i here → GivesListed numbers → GivesAt here
-  listed_at numbers i here lt is gives key = gives key here (list_any_at (λ m. eqb m here) numbers i here lt (eq-eqb (get_or numbers i here) here (sym is)))
-
   -- ---- numbers from one on
 
   abbrev pub GivesBelow : ℕ → ℕ → Type 0
