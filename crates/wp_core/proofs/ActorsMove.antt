@@ -13,10 +13,10 @@ use Rattle.wp_core.specs.Sound.Views.{AreNoted, noter_of}
 use Rattle.wp_core.specs.IsSound.{IsSound}
 use Rattle.wp_core.proofs.Frames.{kept_map, at_map}
 use Rattle.wp_core.proofs.AllParticipants.{mine}
-use Rattle.wp_core.proofs.Quiet.{SoIn}
 use Rattle.wp_core.proofs.KeepsRemembered.{from_map}
 use Rattle.wp_core.proofs.Persons.{IsPersonAt, Moves}
 use Rattle.wp_core.proofs.PersonsKeep.{seen_moved, owned_moved, registered_moved, viewed_moved, locked_moved, holders_moved, board_moved, faults_moved, edits_moved}
+use Rattle.wp_core.proofs.AllParts.{SoIn, all_parts, tables_of}
 
 -- ---- the parts that speak of actors
 
@@ -31,34 +31,21 @@ pub record ActorParts (w : World) (actors : List Actor) : Type 0 where
   pub idle : AreIdle actors
 
 pub actors_move : (row place : ℕ → ℕ → ℕ) (w : World) (actors : List Actor) (by : ℕ) (a : Actor) → get_elem? w.actors by ≡ some a → Moves row place w.writes.history w.actors actors → ActorParts w actors → IsSound w → IsSound (record w { actors = actors })
-actors_move row place w actors by a at m k s = record {
-  history = s.history;
-  seen = seen_moved row place w.writes.history w.actors actors m s.seen;
-  learned = k.learned;
-  owned = owned_moved row place w.writes.history w.actors actors m w.opened s.owned;
-  cache = s.cache;
-  decided = s.decided;
-  undecided = s.undecided;
-  delayed = s.delayed;
-  registrations = registered_moved row place w.writes.history w.actors actors m w.snapshots s.registrations;
-  flags = s.flags;
-  versions = s.versions;
-  flushed = s.flushed;
-  locks = locked_moved row place w.writes.history w.actors actors m w.locks s.locks;
-  holders = holders_moved row place w.writes.history w.actors actors m w.opened w.locks s.holders;
-  board = board_moved row place w.writes.history w.actors actors m (world.published w) w.locks s.board;
-  faults = faults_moved row place w.writes.history w.actors actors m w.writes w.installed.halted s.faults;
-  edits = edits_moved row place w.writes.history w.actors actors m by a w.first_edit w.installed at (mine past_of w.actors by a a at refl) s.edits;
-  pending = s.pending;
-  held = k.held;
-  have = k.have;
-  readers = k.readers;
-  viewed = viewed_moved row place w.writes.history w.actors actors m s.viewed;
-  judged = k.judged;
-  noted = k.noted;
-  led = k.led;
-  idle = k.idle;
-}
+actors_move row place w actors by a at m k s =
+    all_parts w actors (tables_of w s) (record {
+      seen = seen_moved row place w.writes.history w.actors actors m s.seen;
+      learned = k.learned;
+      owned = owned_moved row place w.writes.history w.actors actors m w.opened s.owned;
+      registrations = registered_moved row place w.writes.history w.actors actors m w.snapshots s.registrations;
+      viewed = viewed_moved row place w.writes.history w.actors actors m s.viewed;
+    })
+    (locked_moved row place w.writes.history w.actors actors m w.locks s.locks) (record {
+      holders = holders_moved row place w.writes.history w.actors actors m w.opened w.locks s.holders;
+      board = board_moved row place w.writes.history w.actors actors m (world.published w) w.locks s.board;
+      faults = faults_moved row place w.writes.history w.actors actors m w.writes w.installed.halted s.faults;
+      edits = edits_moved row place w.writes.history w.actors actors m by a w.first_edit w.installed at (mine past_of w.actors by a a at refl) s.edits;
+    })
+    (record { held = k.held; have = k.have }) (record { readers = k.readers; judged = k.judged }) k.noted k.led k.idle
 
 -- ---- one item more in a list
 

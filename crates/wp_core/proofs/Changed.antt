@@ -81,16 +81,30 @@ new_in : (c e : Content) (held : List Content) → turn_of e ≡ turn_of c → I
 new_in c e [] same there = absurd there
 new_in c e (d ∷ others) same there = one_new c d e others (turn_index (turn_of d) == turn_index (turn_of c)) refl same (new_in c e others same) there
 
+-- ---- who has the tables whose turns they hold
+
+pub own_have : (h : Holders) (by : ℕ) (actors : List Actor) (a : Actor) → get_elem? actors by ≡ some a → HoldersHave h (map held_of actors) → (u : Turn) → Holds h u by → (c : Content) × IsIn c a.held × (turn_of c ≡ u)
+own_have h by actors a at have u holds =
+    let o = have u by holds in
+    let same : o.0 ≡ a.held = some-injective o.0 a.held (sym o.1 ∙ at_map held_of actors by a at) in (o.2, subst (IsIn o.2) same o.3, o.4)
+
+-- the holders and one actor change: it has the tables of its turns, and others hold no turn that they did not hold
+pub have_set : (h g : Holders) (by : ℕ) (actors : List Actor) (a b : Actor) → get_elem? actors by ≡ some a → ((u : Turn) → Holds g u by → (c : Content) × IsIn c b.held × (turn_of c ≡ u)) → ((u : Turn) (j : ℕ) → j ≢ by → Holds g u j → Holds h u j)
+    → HoldersHave h (map held_of actors) → HoldersHave g (map held_of (set actors by b))
+have_set h g by actors a b at own others have u j holds = dite (ℕ_discrete j by)
+    (λ (e : j ≡ by).
+    let c = own u (subst (Holds g u) e holds) in
+    (b.held, ap (get_elem? (map held_of (set actors by b))) e ∙ at_map held_of (set actors by b) by b (here actors by a b at), c.0, c.1, c.2))
+    (λ (ne : j ≢ by).
+    let o = have u j (others u j ne holds) in
+    (o.0, ap (λ (z : List (List Content)). get_elem? z j) (map_set held_of actors by b) ∙ (set_else (map held_of actors) by j b.held ne ∙ o.1), o.2, o.3, o.4))
+
 -- who holds a turn still has the table that it guards
 pub have_changed : (h : Holders) (c : Content) (by : ℕ) (actors : List Actor) (a b : Actor) → get_elem? actors by ≡ some a → b.held ≡ held_with a.held c → HoldersHave h (map held_of actors) → HoldersHave h (map held_of (set actors by b))
-have_changed h c by actors a b at is have u j holds =
-    let o = have u j holds in
-    dite (ℕ_discrete j by)
-    (λ (e : j ≡ by). let mine : get_elem? (map held_of actors) by ≡ some a.held = at_map held_of actors by a at in
-    let same : o.0 ≡ a.held = some-injective o.0 a.held (sym o.1 ∙ (ap (get_elem? (map held_of actors)) e ∙ mine)) in
-    let there : IsIn o.2 a.held = subst (IsIn o.2) same o.3 in
-    let now : get_elem? (map held_of (set actors by b)) j ≡ some (held_with a.held c) = ap (get_elem? (map held_of (set actors by b))) e ∙ (at_map held_of (set actors by b) by b (here actors by a b at) ∙ ap some is) in
+have_changed h c by actors a b at is have = have_set h h by actors a b at
+    (λ u holds.
+    let o = own_have h by actors a at have u holds in
     dite (ℕ_discrete (turn_index u) (turn_index (turn_of c)))
-    (λ (q : turn_index u ≡ turn_index (turn_of c)). let t = same_turn (turn_of c) u q in (held_with a.held c, now, c, new_in c o.2 a.held (o.4 ∙ t) there, sym t))
-    (λ (ne : turn_index u ≢ turn_index (turn_of c)). (held_with a.held c, now, o.2, else_in c o.2 a.held (λ q. ne (ap turn_index (sym o.4 ∙ q))) there, o.4)))
-    (λ (ne : j ≢ by). (o.0, ap (λ (z : List (List Content)). get_elem? z j) (map_set held_of actors by b) ∙ (set_else (map held_of actors) by j b.held ne ∙ o.1), o.2, o.3, o.4))
+    (λ (q : turn_index u ≡ turn_index (turn_of c)). let t = same_turn (turn_of c) u q in (c, subst (IsIn c) (sym is) (new_in c o.0 a.held (o.2 ∙ t) o.1), sym t))
+    (λ (ne : turn_index u ≢ turn_index (turn_of c)). (o.0, subst (IsIn o.0) (sym is) (else_in c o.0 a.held (λ q. ne (ap turn_index (sym o.2 ∙ q))) o.1), o.2)))
+    (λ u j ne holds. holds) have

@@ -15,15 +15,13 @@ use Rattle.wp_model.specs.Versions.{version_at}
 use Rattle.wp_judge.specs.Words.{CommitPair}
 use Rattle.wp_history.proofs.Above.{legal_none_above, none_above, undecided_version, is_changed_from}
 use Rattle.wp_history.proofs.Counting.{entry_version_old}
-use Rattle.wp_history.proofs.Growth.{entry_at_next, entry_at_past, length_next, after_front}
+use Rattle.wp_history.proofs.Growth.{entry_at_next, length_next, after_front}
+use Rattle.wp_model.proofs.Entries.{entry_at_past, batch_at_old, undecided_within, last_undo}
 use Rattle.wp_history.proofs.Held.{prior_to}
-use Rattle.wp_history.proofs.Newest.{batch_at_old}
-use Rattle.wp_history.proofs.Undecided.{undecided_within}
-use Rattle.wp_history.proofs.Undone.{last_undo}
 use Rattle.wp_core.specs.Entries.{pair_by}
 use Rattle.wp_core.proofs.HistoryGrows.{none_is, before, after, grown_length, committed_old, committed_stays, committed_before_or_now, undecided_before_or_now, version_new, value_old, value_new, value_whole}
 use Rattle.wp_core.proofs.HistoryLaws.{decided_within, next_decides}
-use Rattle.wp_core.proofs.ReaderFacts.{none_some, same_some}
+use Rattle.wp_core.proofs.Tests.{same_some, none_some}
 
 -- what an undo has under a key is the store's value
 restored : {A : Type 0} {x : A} (o : Option A) (v : A) → option_map (λ _. x) o ≡ Some v → x ≡ v

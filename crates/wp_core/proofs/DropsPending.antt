@@ -1,5 +1,5 @@
 -- Dropping an entry of which nothing is left keeps a world sound.
-use Rattle.std.proofs.Common.{◌≡◌, ◌≢◌, ⊎_elim, inl, inr, ℕ, suc, ◌≤◌, ◌||◌, eq-eqb, Bool, true, false, true≢false, not, cond, List, [], ◌∷◌, ◌++◌, length, slice_index, refl, sym, subst, ap, ◌∙◌, Option, Some, None, append-nil, length-append, arith}
+use Rattle.std.proofs.Common.{◌≡◌, ◌≢◌, ⊎_elim, inl, inr, ℕ, suc, ◌≤◌, ◌||◌, eq-eqb, Bool, true, false, true≢false, cond, List, [], ◌∷◌, ◌++◌, length, slice_index, refl, sym, subst, ap, ◌∙◌, Some, None, append-nil, length-append, arith}
 use Rattle.std.proofs.lemmas.Bool.{cases_lt}
 use mathlib.Core.Option.{some}
 use lib.ListN.{get_elem?}
@@ -12,23 +12,23 @@ use Rattle.wp_model.specs.Versions.{version_at}
 use Rattle.wp_judge.specs.Words.{CommitPair, decision_if}
 use Rattle.wp_core.specs.Cache.{cache_place, pair_at, cached}
 use Rattle.wp_core.specs.Entries.{extended, pending_pair}
-use Rattle.wp_core.specs.Views.{Fact, versions_in_memory}
-use Rattle.wp_core.specs.World.{Participant, Actor, World}
+use Rattle.wp_core.specs.Turns.{write_turn}
+use Rattle.wp_core.specs.World.{Actor, World}
 use Rattle.wp_core.specs.Steps.{drop_pending}
 use Rattle.wp_core.specs.Effects.{done}
 use Rattle.wp_core.specs.Needs.{Needs}
-use Rattle.wp_core.specs.Notes.{forgets, ends}
+use Rattle.wp_core.specs.Notes.{forgets}
 use Rattle.wp_core.specs.Sound.History.{IsHistory, logged_part}
 use Rattle.wp_core.specs.Sound.Prepared.{IsCache, AreUndecided}
 use Rattle.wp_core.specs.Sound.Store.{IsStored}
 use Rattle.wp_core.specs.Sound.Views.{IsNowhere}
 use Rattle.wp_core.specs.IsSound.{IsSound}
-use Rattle.wp_history.proofs.Growth.{entry_at_old, prepared_within}
+use Rattle.wp_model.proofs.Entries.{entry_at_old, prepared_within}
 use Rattle.wp_core.proofs.HistoryLaws.{decision_was, decision_within, decided_by_last}
 use Rattle.wp_core.proofs.ReaderFacts.{pair_ordered}
-use Rattle.wp_core.proofs.PreparedSteps.{either}
-use Rattle.wp_core.proofs.Quiet.{SoIn}
-use Rattle.wp_core.proofs.PendingSteps.{SoPending, with_pending, pending_changes, others_made}
+use Rattle.wp_core.proofs.PendingSteps.{with_pending, pending_changes, none_logged, so_pending}
+use Rattle.wp_core.proofs.Tests.{either, none_some}
+use Rattle.wp_core.proofs.Quiet.{notes_by}
 
 -- ---- the cache has pairs of the history alone
 
@@ -83,10 +83,6 @@ undecided_dropped w gone s = record {
 
 -- ---- the others
 
-none_logged : (logged : Bool) → logged_part logged [] ≡ []
-none_logged true = refl
-none_logged false = refl
-
 history_dropped : (w : World) → w.writes.logged ≡ false → IsSound w → IsHistory w.opened (with_pending w.writes [] w.writes.logged w.writes.log) w.max_evicted
 history_dropped w not_logged s = record {
   legal = s.history.legal;
@@ -105,22 +101,15 @@ stored_dropped w nowhere s =
     let o = s.versions in record {
       covered = o.covered;
       floor = o.floor;
-      next = λ key p value lt there. let k = o.next key p value lt there in absurd (none_there (version_at w.store.memory key p) value (ap (version_at w.store.memory key) k.0 ∙ nowhere key) there);
+      next = λ key p value lt there. let k = o.next key p value lt there in absurd (none_some (version_at w.store.memory key p) value (ap (version_at w.store.memory key) k.0 ∙ nowhere key) there);
       tables = o.tables;
       last = o.last;
       failed = o.failed;
       in_memory = o.in_memory;
     }
-  where
-    none_there : (x : Option (Option (List ℕ))) (value : Option (List ℕ)) → x ≡ None → x ≡ Some value → ⊥
-    none_there x value none e = let q : None ≡ Some value = sym none ∙ e in absurd (cc)
-
-mine_dropped : (w : World) (p : Participant) (fact : Fact) → not (ends w.writes.history (length w.cache) drop_pending fact) ≡ true → SoIn w p fact → SoPending w (with_pending w.writes [] w.writes.logged w.writes.log) p fact
-mine_dropped w p versions_in_memory left k = absurd (true≢false (sym left))
-mine_dropped w p fact left k = k
 
 pub drops_pending : (w : World) (by : ℕ) (a : Actor) → get_elem? w.actors by ≡ some a → Needs w by a drop_pending → IsSound w → IsSound (done w by (forgets w.writes.history (length w.cache) drop_pending a) drop_pending)
 drops_pending w by a at n s =
     pending_changes w by a drop_pending [] w.writes.logged w.writes.log at n.0 (history_dropped w n.1 s) (cache_dropped w n.2 s) (undecided_dropped w n.4 s) (stored_dropped w n.3 s)
     (record { log = s.faults.log; tables = s.faults.tables; not_logged = λ closed. inl refl; stopped = s.faults.stopped })
-    (record { mine = λ p fact left k. mine_dropped w p fact left k; others = λ j p fact ne guard k. others_made w [] w.writes.log w.writes.logged by j p fact n.0 ne guard k }) s
+    (notes_by w by drop_pending write_turn _ n.0 (so_pending w drop_pending [] w.writes.log w.writes.logged refl)) s

@@ -1,38 +1,32 @@
 -- A step that takes a transaction from the actor that has it, with its name left or gone, keeps a world sound.
-use Rattle.std.proofs.Common.{◌≡◌, ◌≢◌, ◌⊎◌, not, ⊎_elim, inl, ℕ, true, List, length, map, refl, sym, subst, ap, ◌∙◌, Some, None, is_some, arith}
+use Rattle.std.proofs.Common.{◌≡◌, not, ⊎_elim, inl, ℕ, true, List, length, refl, sym, ap, ◌∙◌, Some, None, is_some}
 use mathlib.Core.Option.{some}
 use lib.ListN.{get_elem?}
 use Rattle.std.specs.FinMap as finite
-use Rattle.wp_model.specs.Batch.{key_cmp}
 use Rattle.wp_model.specs.History.{is_undecided, is_changed, name_at, batch_at, named}
 use Rattle.wp_model.specs.declared.holder.Holder.{Holder}
 use Rattle.wp_model.specs.declared.holder.Holder.TheVariants.{Txn, Client}
 use Rattle.wp_model.specs.LockTables.{LockTables}
 use Rattle.wp_core.specs.Views.{Fact, undecided_at, prior_values, unprepared, direct_free}
 use Rattle.wp_core.specs.World.{Transaction, Actor, Participant, World}
-use Rattle.wp_core.specs.World as world
 use Rattle.wp_core.specs.Steps.{Step}
 use Rattle.wp_core.specs.Notes.{ends, ends_transaction}
-use Rattle.wp_core.specs.Sound.Actors.{participants_of, seen_of, learned_of, IsParticipantAt}
-use Rattle.wp_core.specs.Sound.Locks.{Owner, owner_of, Has, IsNameOf, IsDirectOf, IsOwner, AreLocked}
-use Rattle.wp_core.specs.Sound.Pasts.{past_of, AreHolders, IsBoard, AreFaults, AreEdits}
+use Rattle.wp_core.specs.Sound.Locks.{Owner, owner_of, IsNameOf, IsDirectOf, IsOwner, AreLocked}
 use Rattle.wp_core.specs.Sound.Views.{Owns}
 use Rattle.wp_core.specs.IsSound.{IsSound, participants}
-use Rattle.wp_core.proofs.Frames.{at_map}
 use Rattle.wp_core.proofs.Keyed.{is_word_same, else_removed, still_there}
-use Rattle.wp_core.proofs.OwnerMoves.{name_kept, direct_kept, owner_before}
-use Rattle.wp_core.proofs.AllParticipants.{mine, was, was_apart}
-use Rattle.wp_core.proofs.Quiet.{SoIn, kept_part}
-use Rattle.wp_core.proofs.LocksChange.{SoWith, actor_after, actors_after, LocksParts}
+use Rattle.wp_core.proofs.OwnerMoves.{owners_apart, key_known, name_kept, direct_kept}
+use Rattle.wp_core.proofs.AllParticipants.{mine, each_apart}
+use Rattle.wp_core.proofs.LocksChange.{SoWith, actor_after, owners_after, LocksParts, pasts_left}
+use Rattle.wp_core.proofs.AllParts.{SoIn}
+use Rattle.wp_core.proofs.OtherOwners.{KeepsOthers, others_own, others_so}
 
 -- what of names and keys a step leaves that drops a transaction
 pub record Drops (w : World) (name : List ℕ) (t : LockTables) (step : Step) : Type 0 where
   pub labels : t.labels ≡ w.locks.labels
-  pub names : (n : List ℕ) → (n ≡ name → ⊥) → finite.get t.names n ≡ finite.get w.locks.names n
+  pub others : KeepsOthers w name t
   pub nobody : (c : List ℕ) → finite.get t.names name ≡ Some (Some c) → ⊥
   pub left : finite.get t.names name ≡ Some None → is_some (named w.writes.history name) ≡ true
-  pub transactions : (k n : List ℕ) → (n ≡ name → ⊥) → finite.get w.locks.keys k ≡ Some (Txn n) → finite.get t.keys k ≡ Some (Txn n)
-  pub directs : (k c : List ℕ) → finite.get w.locks.keys k ≡ Some (Client c) → finite.get t.keys k ≡ Some (Client c)
   pub transactions_were : (k n : List ℕ) → finite.get t.keys k ≡ Some (Txn n) → finite.get w.locks.keys k ≡ Some (Txn n)
   pub directs_were : (k c : List ℕ) → finite.get t.keys k ≡ Some (Client c) → finite.get w.locks.keys k ≡ Some (Client c)
   pub prepared_names : (q : ℕ) → is_undecided w.writes.history q ≡ true → is_some (finite.get t.names (name_at w.writes.history q)) ≡ true
@@ -46,16 +40,10 @@ module _ (w : World) (by : ℕ) (a : Actor) (name : List ℕ) (x0 : Transaction)
   p = record a.participant { transactions = finite.remove a.participant.transactions name }
 
   abbrev b : Actor
-  b = actor_after w by a step p a.learned t
-
-  abbrev before : List (List Owner)
-  before = participants owner_of w
+  b = actor_after w by a step p t
 
   abbrev after : List (List Owner)
-  after = map (participants_of owner_of) (actors_after w by a step p a.learned t)
-
-  own_before : IsParticipantAt before by 0 (owner_of a.participant)
-  own_before = mine owner_of w.actors by a b at refl
+  after = owners_after w by a step p t
 
   -- what the actor has now it had, under another name
   had_name : (n : List ℕ) (x : Transaction) → finite.get p.transactions n ≡ Some x → (n ≡ name → ⊥) × (finite.get a.participant.transactions n ≡ Some x)
@@ -64,71 +52,41 @@ module _ (w : World) (by : ℕ) (a : Actor) (name : List ℕ) (x0 : Transaction)
   has_still : (n : List ℕ) (y : Transaction) → (n ≡ name → ⊥) → finite.get a.participant.transactions n ≡ Some y → finite.get p.transactions n ≡ Some y
   has_still n y ne h = else_removed a.participant.transactions name n ne ∙ h
 
-  -- nobody else has the transaction
-  not_theirs : (j i : ℕ) (o : Owner) (n : List ℕ) (x : Transaction) → ((j ≢ by) ⊎ (i ≢ 0)) → IsParticipantAt before j i o → Has o n x → n ≡ name → ⊥
-  not_theirs j i o n x elsewhere there h same =
-      let one = s.locks.apart.names j i by 0 o (owner_of a.participant) name x x0 there own_before (subst (λ (z : List ℕ). Has o z x) same h) has in
-      ⊎_elim (λ (ne : j ≢ by). ne one.0) (λ (ne : i ≢ 0). ne one.1) elsewhere
-
-  other_owner : (j i : ℕ) (o : Owner) → ((j ≢ by) ⊎ (i ≢ 0)) → IsParticipantAt before j i o → IsOwner t o
-  other_owner j i o elsewhere there =
-      let k = s.locks.had j i o there in
-      record {
-        names = λ n x h. d.names n (not_theirs j i o n x elsewhere there h) ∙ k.names n x h;
-        keys = λ n x c h held. d.transactions c n (not_theirs j i o n x elsewhere there h) (k.keys n x c h held);
-        direct = λ c h. d.directs c o.client (k.direct c h);
-      }
-
   own_owner : IsOwner t (owner_of p)
   own_owner =
-      let old = s.locks.had by 0 (owner_of a.participant) own_before in
+      let old = s.locks.had by 0 (owner_of a.participant) (mine owner_of w.actors by a a at refl) in
       record {
-        names = λ n x h. let g = had_name n x h in d.names n g.0 ∙ old.names n x g.1;
-        keys = λ n x c h held. let g = had_name n x h in d.transactions c n g.0 (old.keys n x c g.1 held);
-        direct = λ c h. d.directs c a.participant.client (old.direct c h);
+        names = λ n x h. let g = had_name n x h in d.others.names n g.0 ∙ old.names n x g.1;
+        keys = λ n x c h held. let g = had_name n x h in d.others.transactions c n g.0 (old.keys n x c g.1 held);
+        direct = λ c h. d.others.directs c a.participant.client (old.direct c h);
       }
 
-  -- who is there was there, with the same direct write, and had each transaction that it has
-  had : (j i : ℕ) (o : Owner) → IsParticipantAt after j i o → (c : Owner) × IsParticipantAt before j i c × (o.direct ≡ c.direct) × ((n : List ℕ) (x : Transaction) → Has o n x → Has c n x)
-  had j i o k = ⊎_elim
-      (λ (g : (j ≡ by) × (i ≡ 0) × (o ≡ owner_of p)). (owner_of a.participant, owner_before w.actors by a b at refl j i g.0 g.1, ap (λ (z : Owner). z.direct) g.2, λ n x h. (had_name n x (subst (λ (z : Owner). Has z n x) g.2 h)).1))
-      (λ (g : IsParticipantAt before j i o). (o, g, refl, λ n x h. h)) (was owner_of w.actors by a b at refl j i o k)
-
-  name_still : (n c : List ℕ) → (n ≡ name → ⊥) → IsNameOf before n c → IsNameOf after n c
+  name_still : (n c : List ℕ) → (n ≡ name → ⊥) → IsNameOf (participants owner_of w) n c → IsNameOf after n c
   name_still n c ne k = name_kept w.actors by a b at refl refl (λ x k. k) n c (λ y h. (y, has_still n y ne h)) k
 
-  direct_still : (k c : List ℕ) → IsDirectOf before k c → IsDirectOf after k c
+  direct_still : (k c : List ℕ) → IsDirectOf (participants owner_of w) k c → IsDirectOf after k c
   direct_still k c d = direct_kept w.actors by a b at refl refl (λ x k. k) k c (λ h. h) d
 
   names_had : (n c : List ℕ) → finite.get t.names n ≡ Some (Some c) → IsNameOf after n c
   names_had n c h = ⊎_elim
       (λ (q : n ≡ name). absurd (d.nobody c (ap (finite.get t.names) (sym q) ∙ h)))
-      (λ (ne : n ≡ name → ⊥). name_still n c ne (s.locks.names_had n c (sym (d.names n ne) ∙ h))) (is_word_same n name)
+      (λ (ne : n ≡ name → ⊥). name_still n c ne (s.locks.names_had n c (sym (d.others.names n ne) ∙ h))) (is_word_same n name)
 
   names_left : (n : List ℕ) → finite.get t.names n ≡ Some None → is_some (named w.writes.history n) ≡ true
   names_left n h = ⊎_elim
       (λ (q : n ≡ name). ap (λ (z : List ℕ). is_some (named w.writes.history z)) q ∙ d.left (ap (finite.get t.names) (sym q) ∙ h))
-      (λ (ne : n ≡ name → ⊥). s.locks.names_left n (sym (d.names n ne) ∙ h)) (is_word_same n name)
+      (λ (ne : n ≡ name → ⊥). s.locks.names_left n (sym (d.others.names n ne) ∙ h)) (is_word_same n name)
 
   locked_part : AreLocked w.writes.history t after
   locked_part = record {
     prepared_names = d.prepared_names;
     prepared_keys = d.prepared_keys;
-    had = λ j i o there. ⊎_elim
-        (λ (g : (j ≡ by) × (i ≡ 0) × (o ≡ owner_of p)). subst (IsOwner t) (sym g.2) own_owner)
-        (λ (g : ((j ≢ by) ⊎ (i ≢ 0)) × IsParticipantAt before j i o). other_owner j i o g.0 g.1) (was_apart owner_of w.actors by a b at refl j i o there);
-    apart = record {
-      names = λ j i k l o q n x y here there first second.
-          let u = had j i o here in let v = had k l q there in
-          s.locks.apart.names j i k l u.0 v.0 n x y u.1 v.1 (u.3 n x first) (v.3 n y second);
-      direct = λ j i k l o q c here there first second.
-          let u = had j i o here in let v = had k l q there in
-          s.locks.apart.direct j i k l u.0 v.0 c u.1 v.1 (sym u.2 ∙ first) (sym v.2 ∙ second);
-    };
+    had = each_apart owner_of w.actors by a b at refl (IsOwner t) own_owner (others_own w by a name x0 at has s t d.others);
+    apart = owners_apart w.actors by a b at refl (λ n x h. inl (x, (had_name n x h).1)) (λ c h. inl h) s.locks.apart;
     names_had = names_had;
     names_left = names_left;
     keys_live = d.live;
-    keys_known = λ k n h j i o there x first. let u = had j i o there in s.locks.keys_known k n (d.transactions_were k n h) j i u.0 u.1 x (u.3 n x first);
+    keys_known = λ k n h. key_known w.actors by a b at refl (λ m x has_it. (had_name m x has_it).1) k n (s.locks.keys_known k n (d.transactions_were k n h));
     keys_direct = λ k c h. direct_still k c (s.locks.keys_direct k c (d.directs_were k c h));
   }
 
@@ -136,40 +94,15 @@ module _ (w : World) (by : ℕ) (a : Actor) (name : List ℕ) (x0 : Transaction)
   owns_still n ne k = (k.0, has_still n k.0 ne k.1)
 
   mine_still : (fact : Fact) → not (ends w.writes.history (length w.cache) step fact) ≡ true → SoIn w a.participant fact → SoWith w t p fact
-  mine_still (undecided_at n q) left k = let ne = d.ended n left in (owns_still n ne k.0, k.1, d.names n ne ∙ k.2, λ c h. d.transactions c n ne (k.3 c h))
+  mine_still (undecided_at n q) left k = let ne = d.ended n left in (owns_still n ne k.0, k.1, d.others.names n ne ∙ k.2, λ c h. d.others.transactions c n ne (k.3 c h))
   mine_still (prior_values n q batch) left k = (owns_still n (d.ended n left) k.0, k.1, k.2)
   mine_still (unprepared n) left k = (owns_still n (d.ended n left) k.0, k.1, λ x c h. k.2 x c (had_name n x h).1)
-  mine_still (direct_free c) left k = (k.0, d.directs c a.participant.client k.1, k.2)
+  mine_still (direct_free c) left k = (k.0, d.others.directs c a.participant.client k.1, k.2)
   mine_still fact left k = k
-
-  others_still : (j : ℕ) (q : Participant) (fact : Fact) → j ≢ by → IsParticipantAt before j 0 (owner_of q) → SoIn w q fact → SoWith w t q fact
-  others_still j q (undecided_at n m) away there k = let ne = not_theirs j 0 (owner_of q) n k.0.0 (inl away) there k.0.1 in (k.0, k.1, d.names n ne ∙ k.2, λ c h. d.transactions c n ne (k.3 c h))
-  others_still j q (direct_free c) away there k = (k.0, d.directs c q.client k.1, k.2)
-  others_still j q fact away there k = k
 
   were : (k : List ℕ) (holder : Holder) → finite.get t.keys k ≡ Some holder → finite.get w.locks.keys k ≡ Some holder
   were k (Txn n) h = d.transactions_were k n h
   were k (Client c) h = d.directs_were k c h
 
-  pub dropped_parts : LocksParts w by a step p a.learned t
-  dropped_parts = record {
-    seen = s.seen by 0 a.participant.seen (mine seen_of w.actors by a b at refl);
-    learned_part = s.learned by a.learned (at_map learned_of w.actors by a at);
-    grown = omega arith;
-    own = refl;
-    registered = refl;
-    locks_part = locked_part;
-    holders = let k = kept_part w by a b at (participants_of past_of) (AreHolders w.opened w.writes.history w.locks) refl s.holders in record { names = λ n h. k.names n (d.live_were n h); keys = λ c holder h. k.keys c holder (were c holder h); found_keys = k.found_keys; found = k.found };
-    board =
-        let k = kept_part w by a b at (participants_of past_of) (IsBoard (world.published w) w.locks) refl s.board in
-        record {
-          labels = λ label n h. ap (λ (z : finite.FinMap key_cmp ℕ). is_some (finite.get z label)) d.labels ∙ k.labels label n h;
-          numbers = λ label n h. k.numbers label n (ap (λ (z : finite.FinMap key_cmp ℕ). finite.get z label) (sym d.labels) ∙ h);
-          heard = k.heard;
-          told = k.told;
-        };
-    faults = kept_part w by a b at (participants_of past_of) (AreFaults w.writes w.installed.halted) refl s.faults;
-    edits = kept_part w by a b at (participants_of past_of) (AreEdits w.first_edit w.installed) refl s.edits;
-    mine = mine_still;
-    others = others_still;
-  }
+  pub dropped_parts : LocksParts w by a step p t
+  dropped_parts = record { locks_part = locked_part; pasts_part = pasts_left w by a step p t at refl d.labels d.live_were were s; mine = mine_still; others = others_so w by a name x0 at has s t d.others }

@@ -21,10 +21,10 @@ use Rattle.wp_core.proofs.TakesTurn.{takes_turn}
 use Rattle.wp_core.proofs.KeepsGive.{gives}
 use Rattle.wp_core.proofs.PendingSteps.{makes_pending, logs_pending}
 use Rattle.wp_core.proofs.ClosesLog.{closes_log}
-use Rattle.wp_core.proofs.KeepsRemembered.{finds_log_closed, finds_flushed, finds_holder, hears}
+use Rattle.wp_core.proofs.KeepsRemembered.{finds_log_closed, finds_flushed, hears, finds_holder}
 use Rattle.wp_core.proofs.DropsPending.{drops_pending}
 use Rattle.wp_core.proofs.PendingPrepared.{adds_prepared, takes_pending_prepared}
-use Rattle.wp_core.proofs.PreparedSteps.{adds_delayed_commit, takes_out}
+use Rattle.wp_core.proofs.PreparedSteps.{takes_out, adds_delayed_commit}
 use Rattle.wp_core.proofs.OldCommits.{releases_one, notes_old_commit}
 use Rattle.wp_core.proofs.PendingVersions.{adds_versions, takes_versions}
 use Rattle.wp_core.proofs.MovesVersions.{moves_versions, replaces_versions}

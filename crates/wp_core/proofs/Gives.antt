@@ -11,13 +11,13 @@ use Rattle.wp_core.proofs.Frames.{filter_in}
 
 -- ---- holders
 
-pub given : (h : Holders) (t : Turn) → turn_holder (with_holder h t None) t ≡ None
-given h write_turn = refl
-given h prepared_turn = refl
-given h snapshots_turn = refl
-given h store_turn = refl
-given h locks_turn = refl
-given h tables_turn = refl
+pub now_holder : (h : Holders) (t : Turn) (x : Option ℕ) → turn_holder (with_holder h t x) t ≡ x
+now_holder h write_turn x = refl
+now_holder h prepared_turn x = refl
+now_holder h snapshots_turn x = refl
+now_holder h store_turn x = refl
+now_holder h locks_turn x = refl
+now_holder h tables_turn x = refl
 
 pub other_holder : (h : Holders) (t u : Turn) (x : Option ℕ) → turn_index u ≢ turn_index t → turn_holder (with_holder h t x) u ≡ turn_holder h u
 other_holder h write_turn write_turn x n = absurd (n refl)
@@ -47,17 +47,22 @@ still h t u by j mine ne theirs = other_holder h t u None (others_turn h t u by 
 -- who holds a turn after another was given holds another one
 pub was : (h : Holders) (t u : Turn) (j : ℕ) → Holds (with_holder h t None) u j → (turn_index u ≢ turn_index t) × Holds h u j
 was h t u j holds = dite (ℕ_discrete (turn_index u) (turn_index t))
-    (λ (e : turn_index u ≡ turn_index t). let n : turn_holder (with_holder h t None) u ≡ None = ap (turn_holder (with_holder h t None)) (same_turn t u e) ∙ given h t in let q : Some j ≡ None = sym holds ∙ n in absurd (cc))
+    (λ (e : turn_index u ≡ turn_index t). let n : turn_holder (with_holder h t None) u ≡ None = ap (turn_holder (with_holder h t None)) (same_turn t u e) ∙ now_holder h t None in let q : Some j ≡ None = sym holds ∙ n in absurd (cc))
     (λ (ne : turn_index u ≢ turn_index t). (ne, sym (other_holder h t u None ne) ∙ holds))
+
+-- a turn that one actor holds no other holds
+pub not_theirs : (h : Holders) (turn : Turn) (by j : ℕ) → Holds h turn by → j ≢ by → Holds h turn j → ⊥
+not_theirs h turn by j mine ne theirs = let q : Some j ≡ Some by = sym theirs ∙ mine in ne (cc)
+
+-- a turn that somebody holds is not free
+pub not_free : (h : Holders) (turn : Turn) (by : ℕ) → Holds h turn by → turn_holder h turn ≡ None → ⊥
+not_free h turn by mine free = let q : Some by ≡ None = sym mine ∙ free in absurd (cc)
 
 -- ---- what is held
 
 pub still_held : (h : Holders) (contents : Turn → Content) (t : Turn) (by j : ℕ) (held : List Content) → Holds h t by → j ≢ by → AreHeld h contents j held → AreHeld (with_holder h t None) contents j held
 still_held h contents t by j [] mine ne k = tt
 still_held h contents t by j (c ∷ others) mine ne k = (still h t (turn_of c) by j mine ne k.0, k.1, k.2, still_held h contents t by j others mine ne k.3)
-
-is_other : Turn → Content → Bool
-is_other t c = not (turn_index (turn_of c) == turn_index t)
 
 one_after : (t u : Turn) (c : Content) (others : List Content) (b : Bool) → (turn_of c ≢ u) → NoneAfter u (held_without others t) → NoneAfter u (cond b (c ∷ held_without others t) (held_without others t))
 one_after t u c others true ne k = (ne, k)

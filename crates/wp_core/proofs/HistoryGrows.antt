@@ -1,5 +1,5 @@
 -- Laws of a history with one entry more: what it decides, leaves undecided, and has under names and keys.
-use Rattle.std.proofs.Common.{◌≡◌, ◌≢◌, ◌⊎◌, ⊎_elim, inl, inr, ℕ, suc, ◌+◌, ◌≤◌, ◌==◌, ◌&&◌, eq-eqb, ne_eqb, Bool, true, false, not, cond, true≢false, List, [], ◌∷◌, ◌++◌, length, refl, sym, subst, ap, ◌∙◌, Option, Some, None, filter, arith}
+use Rattle.std.proofs.Common.{◌≡◌, ◌≢◌, ◌⊎◌, ⊎_elim, inl, inr, ℕ, suc, ◌+◌, ◌≤◌, ◌==◌, eq-eqb, ne_eqb, Bool, true, false, not, cond, true≢false, List, [], ◌∷◌, ◌++◌, length, refl, sym, subst, ap, ◌∙◌, Option, Some, None, filter, arith}
 use Rattle.std.specs.Prelude.{unwrap_or, is_some}
 use Rattle.std.specs.List.{find, range_with_len}
 use Rattle.std.specs.Str.{bytes_eq}
@@ -17,13 +17,15 @@ use Rattle.wp_model.specs.History.{entry_at, is_prepare, prepared_name, name_at,
 use Rattle.wp_model.specs.Legal.{IsLegal, IsLegalNext, change_that_leaves, prior}
 use Rattle.wp_model.specs.Decision.{decision_of, IsCommittedAt, version_in, entry_version}
 use Rattle.wp_history.specs.Growth.{undecided_after}
-use Rattle.wp_history.proofs.Growth.{entry_at_old, entry_at_next, length_next, after_front, legal_before, decides_undecided}
-use Rattle.wp_history.proofs.Undecided.{undecided_within, undecided_old, undecided_at_next, undecided_next}
-use Rattle.wp_history.proofs.Newest.{batch_at_old, newest_next}
+use Rattle.wp_history.proofs.Growth.{entry_at_next, length_next, after_front, legal_before, decides_undecided}
+use Rattle.wp_model.proofs.Entries.{entry_at_old, undecided_within, batch_at_old}
+use Rattle.wp_history.proofs.Undecided.{undecided_old, undecided_at_next, undecided_next}
+use Rattle.wp_history.proofs.Newest.{newest_next}
 use Rattle.wp_core.specs.Lists.{IsIn}
 use Rattle.wp_core.specs.Entries.{pair_by}
 use Rattle.wp_core.proofs.Frames.{in_filter}
 use Rattle.wp_core.proofs.HistoryLaws.{decided_late, decision_stays, decision_was, decision_within, decided_by_last}
+use Rattle.wp_core.proofs.Tests.{one_not_other}
 
 pub none_is : {A : Type 0} (o : Option A) → ((x : A) → o ≡ Some x → ⊥) → o ≡ None
 none_is None never = refl
@@ -36,14 +38,6 @@ find_same f g [] same = refl
 find_same f g (x ∷ xs) same =
     let rest : find g xs ≡ find f xs = find_same f g xs (λ q k. same q (inr k)) in
     ap (λ (b : Bool). cond b (Some x) (find g xs)) (same x (inl refl)) ∙ ap (λ (o : Option ℕ). cond (f x) (Some x) o) rest
-
-find_is : (f : ℕ → Bool) (xs : List ℕ) (p : ℕ) → find f xs ≡ Some p → IsIn p xs × (f p ≡ true)
-find_is f [] p e = absurd cc
-find_is f (x ∷ xs) p e = by (f x) refl e (find_is f xs p)
-  where
-    by : (b : Bool) → f x ≡ b → cond b (Some x) (find f xs) ≡ Some p → (find f xs ≡ Some p → IsIn p xs × (f p ≡ true)) → IsIn p (x ∷ xs) × (f p ≡ true)
-    by true is h rest = let same : x ≡ p = cc in (inl same, ap f (sym same) ∙ is)
-    by false is h rest = let k = rest h in (inr k.0, k.1)
 
 find_kept : (f keep : ℕ → Bool) (xs : List ℕ) (p : ℕ) → keep p ≡ true → find f xs ≡ Some p → find f (filter keep xs) ≡ Some p
 find_kept f keep [] p k e = e
@@ -84,18 +78,6 @@ swapped : (r p : ℕ) → (r == p) ≡ false → not (p == r) ≡ true
 swapped r p e = dite (ℕ_discrete p r)
     (λ (q : p ≡ r). absurd (true≢false (sym (eq-eqb r p (sym q)) ∙ e)))
     (λ (ne : p ≢ r). ap not (ne_eqb p r ne))
-
-both : (a b : Bool) → (a && not b) ≡ true → (a ≡ true) × (b ≡ false)
-both true false e = (refl, refl)
-both true true e = absurd (true≢false (sym e))
-both false b e = absurd (true≢false (sym e))
-
--- ---- what the undecided numbers of a name or key are
-
-pub named_is : (history : List Entry) (name : List ℕ) (p : ℕ) → named history name ≡ Some p → (is_undecided history p ≡ true) × (bytes_eq (name_at history p) name ≡ true)
-named_is history name p e =
-    let k = find_is (λ (q : ℕ). bytes_eq (name_at history q) name) (undecided history) p e in
-    ((in_filter (is_undecided history) p (range_with_len 1 (length history)) k.0).1, k.1)
 
 module _ (history : List Entry) (entry : Entry) (legal : IsLegal (history ++ entry ∷ [])) where
   abbrev pub grown : List Entry
@@ -161,7 +143,7 @@ module _ (history : List Entry) (entry : Entry) (legal : IsLegal (history ++ ent
         let same : p ≡ length history + 1 = omega (arith, within, l, past) in
         let other : decides (length history + 1) entry ≡ false = ap (λ (x : ℕ). decides x entry) (let q : length history + 1 ≡ suc (length history) = omega arith in q) ∙ not_by_itself in
         inr (omega (arith, same), sym (undecided_at_next history entry before other) ∙ (ap (is_undecided grown) (sym same) ∙ u))
-    | inr le ↦ let k = both (is_undecided history p) (decides p entry) (sym (undecided_old history entry p le) ∙ u) in inl (le, k.0, k.1)
+    | inr le ↦ let k = one_not_other (is_undecided history p) (decides p entry) (sym (undecided_old history entry p le) ∙ u) in inl (le, k.0, k.1)
   ]
 
   -- ---- names and keys of undecided prepares

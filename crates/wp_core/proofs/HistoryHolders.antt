@@ -1,31 +1,12 @@
 -- Who holds a key, and where no undecided prepare has a name.
-use Rattle.std.proofs.Common.{◌≡◌, ℕ, Bool, true, false, cond, eqb, ◌||◌, eq-eqb, true≢false, List, [], ◌∷◌, Some, None, refl, sym, ap, ◌∙◌}
-use Rattle.std.specs.List.{list_any, find}
+use Rattle.std.proofs.Common.{◌≡◌, inl, inr, length, ℕ, Bool, true, false, cond, eqb, ◌||◌, true≢false, List, [], ◌∷◌, Some, None, refl, sym, ap, ◌∙◌}
+use Rattle.std.specs.List.{list_any, find, range_with_len}
 use Rattle.std.specs.Str.{bytes_eq}
 use Rattle.std.proofs.lemmas.Bool.{eqb-true}
 use Rattle.std.proofs.lemmas.Slice.Eq.{bytes_eq-Decides}
 use Rattle.wp_model.specs.declared.entry.Entry.{Entry}
 use Rattle.wp_model.specs.History.{batch_at, name_at, is_undecided, undecided, is_changed, holder_of, named}
 use Rattle.wp_history.proofs.Undecided.{is_undecided_by_list}
-
-or_true : (b : Bool) → (b || true) ≡ true
-or_true true = refl
-or_true false = refl
-
--- what is found passes the test, and is in the list
-find_passes : (test : ℕ → Bool) (xs : List ℕ) (p : ℕ) → find test xs ≡ Some p → (test p ≡ true) × (list_any (λ k. eqb k p) xs ≡ true)
-find_passes test [] p e = absurd cc
-find_passes test (x ∷ xs) p e = by (test x) refl e (find_passes test xs p)
-  where
-    by : (b : Bool) → test x ≡ b → cond b (Some x) (find test xs) ≡ Some p → (find test xs ≡ Some p → (test p ≡ true) × (list_any (λ k. eqb k p) xs ≡ true)) → (test p ≡ true) × (list_any (λ k. eqb k p) (x ∷ xs) ≡ true)
-    by true t h rest = let same : x ≡ p = cc in (ap test (sym same) ∙ t, ap (λ (b : Bool). b || list_any (λ k. eqb k p) xs) (eq-eqb x p same))
-    by false t h rest = let k = rest h in (k.0, ap (λ (b : Bool). eqb x p || b) k.1 ∙ or_true (eqb x p))
-
--- the holder of a key is undecided, and changes it
-pub holder_holds : (history : List Entry) (key : List ℕ) (p : ℕ) → holder_of history key ≡ Some p → (is_undecided history p ≡ true) × (is_changed (batch_at history p) key ≡ true)
-holder_holds history key p h =
-    let k = find_passes (λ q. is_changed (batch_at history q) key) (undecided history) p h in
-    (sym (is_undecided_by_list history p) ∙ k.1, k.0)
 
 find_none : (test : ℕ → Bool) (xs : List ℕ) (p : ℕ) → find test xs ≡ None → test p ≡ true → list_any (λ k. eqb k p) xs ≡ true → ⊥
 find_none test [] p none t h = absurd cc

@@ -9,15 +9,12 @@ use Rattle.wp_model.specs.declared.entry.Entry.TheVariants.{Write, Prepare, Comm
 use Rattle.wp_model.specs.History.{entry_at, is_prepare, decides, is_undecided}
 use Rattle.wp_model.specs.Legal.{IsLegal, IsLegalNext}
 use Rattle.wp_model.specs.Decision.{decision_of, decision_in}
-use Rattle.wp_history.proofs.Growth.{entry_at_old, entry_at_next, entry_at_past, after_front, legal_before}
-use Rattle.wp_history.proofs.Undecided.{undecided_within}
+use Rattle.wp_history.proofs.Growth.{entry_at_next, after_front, legal_before}
+use Rattle.wp_model.proofs.Entries.{entry_at_old, entry_at_past, undecided_within}
 use Rattle.wp_judge.specs.Words.{CommitPair}
 use Rattle.wp_core.specs.Entries.{pair_by}
 use Rattle.wp_core.specs.Sound.Snapshots.{has_versions, has_versions_at}
-
-and_first : (a b : Bool) → (a && b) ≡ true → a ≡ true
-and_first true b e = refl
-and_first false b e = e
+use Rattle.wp_core.proofs.Tests.{both, one_not_other, same_some}
 
 pub is_equal : (q p : ℕ) → (q == p) ≡ true → q ≡ p
 is_equal q p e = grind (arith, nat_tests)
@@ -64,22 +61,23 @@ stands_below : (history : List Entry) (i p : ℕ) → is_prepare (entry_at (take
 stands_below history i zero is = omega arith
 stands_below history i (suc n) is = let k = prepare_there (slice_get (take i history) n) is in let l = taken_within history i n k.0 k.1 in omega arith
 
-position_is : (p : Entry → Bool) (xs : List Entry) (b : Bool) (c : ℕ) → nat_lt (position_or_len p xs) (length xs) ≡ b → option_map suc (cond b (Some (position_or_len p xs)) None) ≡ Some c → (position_or_len p xs < length xs) × (suc (position_or_len p xs) ≡ c)
-position_is p xs true c lt e = (grind (arith, nat_tests), some_is (suc (position_or_len p xs)) c e)
+-- where the first entry that passes stands, by its number
+position_is : (test : Entry → Bool) (xs : List Entry) (c : ℕ) → option_map suc (cond (nat_lt (position_or_len test xs) (length xs)) (Some (position_or_len test xs)) None) ≡ Some c → (position_or_len test xs < length xs) × (suc (position_or_len test xs) ≡ c)
+position_is test xs c e = by (nat_lt (position_or_len test xs) (length xs)) refl e
   where
-    some_is : (n m : ℕ) → Some n ≡ Some m → n ≡ m
-    some_is n m q = cc
-position_is p xs false c lt e = let no : None ≡ Some c = e in absurd (cc)
+    by : (b : Bool) → nat_lt (position_or_len test xs) (length xs) ≡ b → option_map suc (cond b (Some (position_or_len test xs)) None) ≡ Some c → (position_or_len test xs < length xs) × (suc (position_or_len test xs) ≡ c)
+    by true lt h = (grind (arith, nat_tests), same_some (suc (position_or_len test xs)) c h)
+    by false lt h = let no : None ≡ Some c = h in absurd (cc)
 
 decided_in : (history : List Entry) (p c : ℕ) (o : Option Entry) → IsLegal history → decision_in history p o ≡ Some c → p ≤ c
 decided_in history p c (Some (Write batch)) legal e = let q : p ≡ c = cc in omega arith
 decided_in history p c (Some (Undo r batch)) legal e = let q : p ≡ c = cc in omega arith
 decided_in history p c (Some (Prepare name batch)) legal e =
-    let k = position_is (decides p) history (nat_lt (position_or_len (decides p) history) (length history)) c refl e in
+    let k = position_is (decides p) history c e in
     let i : ℕ = position_or_len (decides p) history in
     let f = first_of_them (decides p) history k.0 in
     let open_before = names_before (take i history) p f.entry f.passes (legal.each i f.entry f.there) in
-    let le = stands_below history i p (and_first _ _ open_before) in let same : suc i ≡ c = k.1 in omega arith
+    let le = stands_below history i p (both _ _ open_before).0 in let same : suc i ≡ c = k.1 in omega arith
 decided_in history p c (Some (Commit q)) legal e = let no : None ≡ Some c = e in absurd (cc)
 decided_in history p c (Some (Close q)) legal e = let no : None ≡ Some c = e in absurd (cc)
 decided_in history p c None legal e = let no : None ≡ Some c = e in absurd (cc)
@@ -125,7 +123,7 @@ stays_in : (history more : List Entry) (p c : ℕ) (o : Option Entry) → decisi
 stays_in history more p c (Some (Write batch)) e = e
 stays_in history more p c (Some (Undo r batch)) e = e
 stays_in history more p c (Some (Prepare name batch)) e =
-    let k = position_is (decides p) history (nat_lt (position_or_len (decides p) history) (length history)) c refl e in
+    let k = position_is (decides p) history c e in
     let same = same_first (decides p) history more k.0 in
     first_number (decides p) (history ++ more) (omega (arith, same, k.0, length-append history more)) ∙ (ap (λ n. Some (suc n)) same ∙ ap Some k.1)
 stays_in history more p c (Some (Commit q)) e = e
@@ -136,7 +134,7 @@ was_in : (history more : List Entry) (p c : ℕ) (o : Option Entry) → c ≤ le
 was_in history more p c (Some (Write batch)) within e = e
 was_in history more p c (Some (Undo r batch)) within e = e
 was_in history more p c (Some (Prepare name batch)) within e =
-    let k = position_is (decides p) (history ++ more) (nat_lt (position_or_len (decides p) (history ++ more)) (length (history ++ more))) c refl e in
+    let k = position_is (decides p) (history ++ more) c e in
     let lt : position_or_len (decides p) (history ++ more) < length history = omega (arith, k.1) in
     let same = first_there (decides p) history more lt in
     first_number (decides p) history (omega (arith, same, lt)) ∙ (ap (λ n. Some (suc n)) same ∙ ap Some k.1)
@@ -191,7 +189,7 @@ exclusive_in : (history : List Entry) (p c : ℕ) (o : Option Entry) → decisio
 exclusive_in history p c (Some (Write batch)) e u = true≢false (sym u)
 exclusive_in history p c (Some (Undo r batch)) e u = true≢false (sym u)
 exclusive_in history p c (Some (Prepare name batch)) e u =
-    let k = position_is (decides p) history (nat_lt (position_or_len (decides p) history) (length history)) c refl e in
+    let k = position_is (decides p) history c e in
     true≢false (sym u ∙ ap not (position_any (decides p) history k.0))
 exclusive_in history p c (Some (Commit q)) e u = true≢false (sym u)
 exclusive_in history p c (Some (Close q)) e u = true≢false (sym u)
@@ -207,7 +205,7 @@ within_in : (history : List Entry) (p c : ℕ) (o : Option Entry) → p ≤ leng
 within_in history p c (Some (Write batch)) low e = let q : p ≡ c = cc in omega arith
 within_in history p c (Some (Undo r batch)) low e = let q : p ≡ c = cc in omega arith
 within_in history p c (Some (Prepare name batch)) low e =
-    let k = position_is (decides p) history (nat_lt (position_or_len (decides p) history) (length history)) c refl e in let lt = k.0 in let same = k.1 in omega arith
+    let k = position_is (decides p) history c e in let lt = k.0 in let same = k.1 in omega arith
 within_in history p c (Some (Commit q)) low e = let no : None ≡ Some c = e in absurd (cc)
 within_in history p c (Some (Close q)) low e = let no : None ≡ Some c = e in absurd (cc)
 within_in history p c None low e = let no : None ≡ Some c = e in absurd (cc)
@@ -225,11 +223,6 @@ last_first test (x ∷ xs) y none is =
       | false ↦ λ e. let r = rest e in omega arith
     ] none
 
-parts_true : (a b : Bool) → (a && not b) ≡ true → (a ≡ true) × (b ≡ false)
-parts_true true false e = (refl, refl)
-parts_true true true e = absurd (true≢false (sym e))
-parts_true false b e = absurd (true≢false (sym e))
-
 decided_now : (history : List Entry) (entry : Entry) (p : ℕ) (o : Option Entry) → is_prepare o ≡ true → list_any (decides p) history ≡ false → decides p entry ≡ true → decision_in (history ++ entry ∷ []) p o ≡ Some (suc (length history))
 decided_now history entry p (Some (Prepare name batch)) is none now =
     let at = last_first (decides p) history entry none now in
@@ -243,7 +236,7 @@ decided_now history entry p None is none now = absurd (true≢false (sym is))
 -- the entry that comes next decides an undecided prepare
 pub next_decides_prepare : (history : List Entry) (entry : Entry) (p : ℕ) → is_undecided history p ≡ true → decides p entry ≡ true → decision_of (history ++ entry ∷ []) p ≡ Some (suc (length history))
 next_decides_prepare history entry p u now =
-    let k = parts_true (is_prepare (entry_at history p)) (list_any (decides p) history) u in
+    let k = one_not_other (is_prepare (entry_at history p)) (list_any (decides p) history) u in
     let low = (undecided_within history p u).1 in
     decided_now history entry p (entry_at (history ++ entry ∷ []) p) (ap is_prepare (entry_at_old history (entry ∷ []) p low) ∙ k.0) k.1 now
 
@@ -302,37 +295,26 @@ last_decides history entry p at =
     let f = first_of_them (decides p) (history ++ entry ∷ []) (omega (arith, at, length-append history (entry ∷ []))) in
     let there : slice_get (history ++ entry ∷ []) (length history) ≡ Some f.entry = subst (λ (n : ℕ). slice_get (history ++ entry ∷ []) n ≡ Some f.entry) at f.there in
     let q : Some f.entry ≡ Some entry = sym there ∙ entry_next history entry in
-    ap (decides p) (sym (same f.entry entry q)) ∙ f.passes
+    ap (decides p) (sym (same_some f.entry entry q)) ∙ f.passes
+
+-- an entry that decides itself, as the last one
+by_itself : (history : List Entry) (entry x : Entry) (p : ℕ) → pair_by (suc (length history)) x ≡ Some (record { number = suc (length history); decision = suc (length history) }) → Some p ≡ Some (suc (length history)) → (p ≡ suc (length history) → Some x ≡ Some entry)
+    → pair_by (suc (length history)) entry ≡ Some (record { number = p; decision = suc (length history) })
+by_itself history entry x p own e is =
+    let q : p ≡ suc (length history) = same_some p (suc (length history)) e in
+    let same : Some x ≡ Some entry = is q in
+    ap (λ (o : Option Entry). pair_in (suc (length history)) o) (sym same) ∙ own ∙ ap (λ (n : ℕ). Some (record { number = n; decision = suc (length history) })) (sym q)
   where
-    same : (x y : Entry) → Some x ≡ Some y → x ≡ y
-    same x y q = cc
+    pair_in : ℕ → Option Entry → Option CommitPair
+    pair_in n (Some y) = pair_by n y
+    pair_in n None = None
 
 by_last : (history : List Entry) (entry : Entry) (p : ℕ) (o : Option Entry) → decision_in (history ++ entry ∷ []) p o ≡ Some (suc (length history)) → (p ≡ suc (length history) → o ≡ Some entry) → pair_by (suc (length history)) entry ≡ Some (record { number = p; decision = suc (length history) })
 by_last history entry p (Some (Prepare name batch)) e is =
-    let k = position_is (decides p) (history ++ entry ∷ []) (nat_lt (position_or_len (decides p) (history ++ entry ∷ [])) (length (history ++ entry ∷ []))) (suc (length history)) refl e in
+    let k = position_is (decides p) (history ++ entry ∷ []) (suc (length history)) e in
     let at = k.1 in pair_of_decider (suc (length history)) p entry (last_decides history entry p (omega arith))
-by_last history entry p (Some (Write batch)) e is =
-    let q : p ≡ suc (length history) = number_is p (suc (length history)) e in
-    let same : Some (Write batch) ≡ Some entry = is q in
-    ap (λ (x : Option Entry). pair_in (suc (length history)) x) (sym same) ∙ ap (λ (x : ℕ). Some (record { number = x; decision = suc (length history) })) (sym q)
-  where
-    pair_in : ℕ → Option Entry → Option CommitPair
-    pair_in n (Some x) = pair_by n x
-    pair_in n None = None
-
-    number_is : (x y : ℕ) → Some x ≡ Some y → x ≡ y
-    number_is x y f = cc
-by_last history entry p (Some (Undo r batch)) e is =
-    let q : p ≡ suc (length history) = number_is p (suc (length history)) e in
-    let same : Some (Undo r batch) ≡ Some entry = is q in
-    ap (λ (x : Option Entry). pair_in (suc (length history)) x) (sym same) ∙ ap (λ (x : ℕ). Some (record { number = x; decision = suc (length history) })) (sym q)
-  where
-    pair_in : ℕ → Option Entry → Option CommitPair
-    pair_in n (Some x) = pair_by n x
-    pair_in n None = None
-
-    number_is : (x y : ℕ) → Some x ≡ Some y → x ≡ y
-    number_is x y f = cc
+by_last history entry p (Some (Write batch)) e is = by_itself history entry (Write batch) p refl e is
+by_last history entry p (Some (Undo r batch)) e is = by_itself history entry (Undo r batch) p refl e is
 by_last history entry p (Some (Commit q)) e is = let no : None ≡ Some (suc (length history)) = e in absurd (cc)
 by_last history entry p (Some (Close q)) e is = let no : None ≡ Some (suc (length history)) = e in absurd (cc)
 by_last history entry p None e is = let no : None ≡ Some (suc (length history)) = e in absurd (cc)

@@ -1,10 +1,10 @@
 -- Installing an edit, and the failure of the tables' devices, keep a world sound.
-use Rattle.std.proofs.Common.{◌≡◌, ◌≢◌, ⊎_elim, inl, inr, ℕ, ◌+◌, Bool, true, false, true≢false, not, List, [], ◌∷◌, ◌++◌, length, refl, sym, subst, ap, ◌∙◌, arith, Option, Some, None}
+use Rattle.std.proofs.Common.{◌≡◌, ◌≢◌, ⊎_elim, inl, inr, ℕ, ◌+◌, Bool, true, false, List, [], ◌∷◌, ◌++◌, length, refl, sym, subst, ap, ◌∙◌, arith, Option, Some, None}
 use Rattle.std.proofs.lemmas.List.Sums.{fold-append}
 use mathlib.Core.Option.{some}
 use lib.ListN.{get_elem?}
 use Rattle.wp_core.specs.Lists.{one_if}
-use Rattle.wp_core.specs.Turns.{Holds, tables_turn}
+use Rattle.wp_core.specs.Turns.{tables_turn}
 use Rattle.wp_core.specs.Tables.{InstalledEdit, Installed}
 use Rattle.wp_core.specs.Views.{Event, told, heard, stopped, tables_failed, Fact, nothing_flushed}
 use Rattle.wp_core.specs.Views as event
@@ -12,15 +12,14 @@ use Rattle.wp_core.specs.World.{Actor, Participant, World}
 use Rattle.wp_core.specs.Steps.{install, halt}
 use Rattle.wp_core.specs.Effects.{done, with_failed}
 use Rattle.wp_core.specs.Needs.{Needs}
-use Rattle.wp_core.specs.Notes.{forgets, ends}
+use Rattle.wp_core.specs.Notes.{forgets}
 use Rattle.wp_core.specs.Sound.Pasts.{is_log_fault, is_tables_fault, AreFaults, WasInstalled, due_after, tables_due, AreEdits}
-use Rattle.wp_core.specs.Sound.Views.{IsGuarded}
 use Rattle.wp_core.specs.IsSound.{IsSound}
-use Rattle.wp_core.proofs.PastsGrow.{past_before, past_last, done_last, times_more}
-use Rattle.wp_core.proofs.Quiet.{SoIn}
-use Rattle.wp_core.proofs.Remembers.{installed_still}
-use Rattle.wp_core.proofs.StoresFlag.{not_theirs}
-use Rattle.wp_core.proofs.TablesChange.{SoInstalled, IsOfTables, edits_grown, actor_after, pasts_after, tables_change}
+use Rattle.wp_core.proofs.PastsGrow.{done_last, past_last, past_before, times_more}
+use Rattle.wp_core.proofs.Remembers.{installed_still, edits_grown}
+use Rattle.wp_core.proofs.TablesChange.{SoInstalled, actor_after, pasts_after, tables_change}
+use Rattle.wp_core.proofs.AllParts.{SoIn}
+use Rattle.wp_core.proofs.Quiet.{Stays, stays_not}
 
 -- the tables that are due once one more event is in a past
 due_more : (first : InstalledEdit) (past : List Event) (e : Event) → tables_due first (past ++ e ∷ []) ≡ due_after (tables_due first past) e
@@ -28,25 +27,13 @@ due_more first past e = fold-append due_after first.tables past (e ∷ [])
 
 -- ---- an edit is installed
 
-mine_installed : (w : World) (edit : InstalledEdit) (compacts : Bool) (p : Participant) (fact : Fact) → not (ends w.writes.history (length w.cache) (install edit compacts) fact) ≡ true → SoIn w p fact → SoInstalled w (record w.installed { last = edit }) p fact
-mine_installed w edit compacts p nothing_flushed left k = absurd (true≢false (sym left))
-mine_installed w edit compacts p fact left k = k
-
-others_installed : (w : World) (edit : InstalledEdit) (by j : ℕ) (p : Participant) (fact : Fact) → Holds w.holders tables_turn by → j ≢ by → IsGuarded w.holders fact j → SoIn w p fact → SoInstalled w (record w.installed { last = edit }) p fact
-others_installed w edit by j p nothing_flushed mine ne guard k = absurd (not_theirs w.holders tables_turn by j mine ne (guard tables_turn refl))
-others_installed w edit by j p fact mine ne guard k = k
+so_installed : (w : World) (edit : InstalledEdit) (compacts : Bool) (p : Participant) (fact : Fact) → Stays w (install edit compacts) tables_turn fact → SoIn w p fact → SoInstalled w (record w.installed { last = edit }) p fact
+so_installed w edit compacts p nothing_flushed stays k = absurd (stays_not tables_turn stays)
+so_installed w edit compacts p fact stays k = k
 
 module _ (w : World) (by : ℕ) (a : Actor) (edit : InstalledEdit) (at : get_elem? w.actors by ≡ some a) (s : IsSound w) where
   abbrev t : Installed
   t = record w.installed { last = edit }
-
-  event_installed : (compacts : Bool) → IsOfTables (event.installed edit.flushed edit.tables compacts)
-  event_installed compacts = record {
-    finds_none = λ key holder seen account q. absurd cc;
-    no_label = λ label n q. absurd (⊎_elim (λ (r : event.installed edit.flushed edit.tables compacts ≡ told label n). cc) (λ (r : event.installed edit.flushed edit.tables compacts ≡ heard label n). cc) q);
-    not_stopped = λ n q. absurd cc;
-    finds_no_flushed = λ n q. absurd cc;
-  }
 
   faults_installed : (compacts : Bool) → AreFaults w.writes w.installed.halted (pasts_after w by a (install edit compacts) (event.installed edit.flushed edit.tables compacts) t)
   faults_installed compacts =
@@ -68,7 +55,7 @@ module _ (w : World) (by : ℕ) (a : Actor) (edit : InstalledEdit) (at : get_ele
   edits_flushed more =
       let e : Event = event.installed edit.flushed edit.tables false in
       let b : Actor = actor_after w by a (install edit false) e t in
-      edits_grown w.actors by a b e at refl refl w.first_edit w.installed t (event_installed false) (inr (edit.tables, past_last w.actors by a b e at refl refl))
+      edits_grown w.actors by a b e at refl refl w.first_edit w.installed t (λ n q. absurd cc) (inr (edit.tables, past_last w.actors by a b e at refl refl))
       (λ due. let q = due_more w.first_edit a.participant.past e in omega arith)
       (λ j i past apart due. inl (omega arith)) s.edits
 
@@ -78,7 +65,7 @@ module _ (w : World) (by : ℕ) (a : Actor) (edit : InstalledEdit) (at : get_ele
       let e : Event = event.installed edit.flushed edit.tables true in
       let b : Actor = actor_after w by a (install edit true) e t in
       let last = installed_still w.actors by a b e at refl refl w.first_edit w.installed.last.flushed s.edits.last in
-      edits_grown w.actors by a b e at refl refl w.first_edit w.installed t (event_installed true) (subst (WasInstalled w.first_edit (pasts_after w by a (install edit true) e t)) (sym keeps) last)
+      edits_grown w.actors by a b e at refl refl w.first_edit w.installed t (λ n q. absurd cc) (subst (WasInstalled w.first_edit (pasts_after w by a (install edit true) e t)) (sym keeps) last)
       (λ due. let q = due_more w.first_edit a.participant.past e in omega arith)
       (λ j i past apart due. inr (by, 0, edit.flushed, edit.tables, ⊎_elim (λ (ne : j ≢ by). inl (λ q. ne (sym q))) (λ (ne : i ≢ 0). inr (λ q. ne (sym q))) apart, done_last w.actors by a b e at refl refl)) s.edits
 
@@ -91,12 +78,12 @@ pub installs : (w : World) (by : ℕ) (a : Actor) (edit : InstalledEdit) (compac
     → IsSound (done w by (forgets w.writes.history (length w.cache) (install edit compacts) a) (install edit compacts))
 installs w by a edit compacts at n s =
     tables_change w by a (install edit compacts) (event.installed edit.flushed edit.tables compacts) (record w.installed { last = edit }) at n.0 (record {
-      event = event_installed w by a edit at s compacts;
+      nothing = tt;
+      tells_nothing = tt;
       stored = n.2;
       faults = faults_installed w by a edit at s compacts;
       edits = edits_installed w by a edit at s compacts n.3 n.4;
-      mine_so = λ p fact left k. mine_installed w edit compacts p fact left k;
-      others_so = λ j p fact ne guard k. others_installed w edit by j p fact n.0 ne guard k;
+      so = so_installed w edit compacts;
     }) s
 
 -- ---- the devices of the tables failed
@@ -112,14 +99,6 @@ is_halted t (Some edit) = refl
 so_halted : (w : World) (edit : Option InstalledEdit) (p : Participant) (fact : Fact) → SoIn w p fact → SoInstalled w (with_failed w.installed edit) p fact
 so_halted w None p fact k = k
 so_halted w (Some edit) p fact k = k
-
-event_failed : IsOfTables tables_failed
-event_failed = record {
-  finds_none = λ key holder seen account q. absurd cc;
-  no_label = λ label n q. absurd (⊎_elim (λ (r : tables_failed ≡ told label n). cc) (λ (r : tables_failed ≡ heard label n). cc) q);
-  not_stopped = λ n q. absurd cc;
-  finds_no_flushed = λ n q. absurd cc;
-}
 
 module _ (w : World) (by : ℕ) (a : Actor) (edit : Option InstalledEdit) (at : get_elem? w.actors by ≡ some a) (s : IsSound w) where
   abbrev u : Installed
@@ -146,7 +125,7 @@ module _ (w : World) (by : ℕ) (a : Actor) (edit : Option InstalledEdit) (at : 
       let same : u.last ≡ w.installed.last = still_last w.installed edit in
       let last = installed_still w.actors by a b tables_failed at refl refl w.first_edit w.installed.last.flushed s.edits.last in
       let tables : u.last.tables ≡ w.installed.last.tables = ap (λ (z : InstalledEdit). z.tables) same in
-      edits_grown w.actors by a b tables_failed at refl refl w.first_edit w.installed u event_failed (subst (λ (z : InstalledEdit). WasInstalled w.first_edit (pasts_after w by a (halt edit) tables_failed u) z.flushed) (sym same) last)
+      edits_grown w.actors by a b tables_failed at refl refl w.first_edit w.installed u (λ n q. absurd cc) (subst (λ (z : InstalledEdit). WasInstalled w.first_edit (pasts_after w by a (halt edit) tables_failed u) z.flushed) (sym same) last)
       (λ due. let q = due_more w.first_edit a.participant.past tables_failed in omega arith)
       (λ j i past apart due. inl (omega arith)) s.edits
 
@@ -154,10 +133,10 @@ pub halts : (w : World) (by : ℕ) (a : Actor) (edit : Option InstalledEdit) →
     → IsSound (done w by (forgets w.writes.history (length w.cache) (halt edit) a) (halt edit))
 halts w by a edit at n s =
     tables_change w by a (halt edit) tables_failed (with_failed w.installed edit) at n.0 (record {
-      event = event_failed;
+      nothing = tt;
+      tells_nothing = tt;
       stored = n.2;
       faults = faults_halted w by a edit at s n.1;
       edits = edits_halted w by a edit at s;
-      mine_so = λ p fact left k. so_halted w edit p fact k;
-      others_so = λ j p fact ne guard k. so_halted w edit p fact k;
+      so = λ p fact stays k. so_halted w edit p fact k;
     }) s

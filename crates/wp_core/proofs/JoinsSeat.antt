@@ -1,5 +1,5 @@
 -- Joining a seat keeps a world sound.
-use Rattle.std.proofs.Common.{◌≡◌, ◌≢◌, ◌⊎◌, ⊎_elim, inl, inr, ℕ, zero, suc, ◌+◌, ◌≤◌, Bool, true, not, List, [], ◌∷◌, length, map, set, filter, refl, sym, subst, ap, ◌∙◌, arith}
+use Rattle.std.proofs.Common.{◌≡◌, ◌≢◌, ◌⊎◌, ⊎_elim, inl, inr, ℕ, zero, suc, ◌+◌, ◌≤◌, true, not, List, [], ◌∷◌, length, map, set, refl, sym, subst, ap, ◌∙◌, arith}
 use mathlib.Core.Option.{some, some-injective, some-ne-none}
 use lib.ListN.{get_elem?}
 use Rattle.wp_core.specs.Lists.{one_if, total}
@@ -12,10 +12,10 @@ use Rattle.wp_core.specs.Needs.{Needs}
 use Rattle.wp_core.specs.Notes.{forgets, ends}
 use Rattle.wp_core.specs.Sound.Actors.{Role, AreLed, learned_of, role_of}
 use Rattle.wp_core.specs.IsSound.{IsSound}
-use Rattle.wp_core.proofs.Frames.{each_map_set, at_map, in_filter}
+use Rattle.wp_core.proofs.Frames.{each_map_set, at_map}
 use Rattle.wp_core.proofs.Persons.{IsPersonAt, sum_of, Came, Moves, total_map}
 use Rattle.wp_core.proofs.ActorsMove.{actors_move, total_set, people}
-use Rattle.wp_core.proofs.MakesActors.{StaysAs}
+use Rattle.wp_core.proofs.MakesActors.{StaysAs, stays_but}
 use Rattle.wp_core.proofs.TakesOver.{left, other_there, first_there, else_there, who, idle_person, sums_left, parts_left}
 use Rattle.wp_core.proofs.JoinedPlaces.{Goes, row, place, goes, goes_apart, goes_same}
 use Rattle.wp_core.proofs.JoinedPlaces as going
@@ -112,8 +112,7 @@ pub joins_seat : (w : World) (by : ℕ) (a : Actor) (other : ℕ) (o : Actor) �
     → IsSound (done w by (forgets w.writes.history (length w.cache) (join_seat other o) a) (join_seat other o))
 joins_seat w by a other o at needs s =
     let b : Actor = joins (forgets w.writes.history (length w.cache) (join_seat other o) a) o in
-    let test : Fact → Bool = λ (f : Fact). not (ends w.writes.history (length w.cache) (join_seat other o) f) in
-    let same : StaysAs a b = record { participant = refl; held = refl; reading = refl; live = refl; notes = λ fact h. (in_filter test fact a.notes h).0; no_notes = λ e. ap (filter test) e } in
+    let same : StaysAs a b = stays_but a (λ (f : Fact). not (ends w.writes.history (length w.cache) (join_seat other o) f)) b.learned b.made b.joined in
     let there = needs.2 in
     let alone = (s.led.others other (role_of o) (at_map role_of w.actors other o there) (λ e. needs.1 (e ∙ sym needs.0))).1 in
     actors_move (row by other) (place by other) w (left w by other a b o at there needs.1 same s) by a at (moves w by other a b o at there needs.1 same s refl alone)

@@ -1,5 +1,5 @@
 -- Setting the batch of a transaction keeps every part of a sound world.
-use Rattle.std.proofs.Common.{◌≡◌, ⊎_elim, ℕ, true, false, not, List, length, refl, sym, subst, ap, ◌∙◌, Some, None}
+use Rattle.std.proofs.Common.{◌≡◌, set, ⊎_elim, ℕ, true, false, List, length, refl, sym, subst, ap, ◌∙◌, Some, None}
 use mathlib.Core.Option.{some}
 use lib.ListN.{get_elem?}
 use Rattle.std.specs.FinSet as words
@@ -8,25 +8,18 @@ use Rattle.std.specs.FinMap.{get-empty}
 use Rattle.wp_model.specs.declared.change.Change.{Change}
 use Rattle.wp_model.specs.Batch.{key_cmp}
 use Rattle.wp_model.specs.declared.holder.Holder.TheVariants.{Client}
-use Rattle.wp_core.specs.Lists.{EachAt, IsIn}
 use Rattle.wp_core.specs.Views.{Fact, undecided_at, prior_values, unprepared, direct_free}
-use Rattle.wp_core.specs.World.{Transaction, Actor, Participant, World, content_of}
-use Rattle.wp_core.specs.World as world
+use Rattle.wp_core.specs.World.{Transaction, Actor, Participant, World}
 use Rattle.wp_core.specs.Steps.{set_batch}
 use Rattle.wp_core.specs.Effects.{done}
 use Rattle.wp_core.specs.Needs.{Needs}
-use Rattle.wp_core.specs.Notes.{forgets, ends}
-use Rattle.wp_core.specs.Sound.Actors.{seen_of, own_of, AreSeen, AreLearned, AreOwned, AreHeld, HoldersHave, AreLed, IsIdle, participants_of, learned_of, held_of, role_of, EachParticipant}
-use Rattle.wp_core.specs.Sound.Snapshots.{registered_of, AreRegistered, view_of, HasSeen}
+use Rattle.wp_core.specs.Notes.{forgets}
 use Rattle.wp_core.specs.Sound.Locks.{owner_of}
-use Rattle.wp_core.specs.Sound.Pasts.{past_of, AreHolders, IsBoard, AreFaults, AreEdits}
-use Rattle.wp_core.specs.Sound.Reader.{AreReaders, AreJudged, reader_of}
-use Rattle.wp_core.specs.Sound.Views.{Owns, IsNoted, noter_of}
+use Rattle.wp_core.specs.Sound.Views.{Owns}
 use Rattle.wp_core.specs.IsSound.{IsSound}
-use Rattle.wp_core.proofs.Frames.{each_map_set, each_set, at_map, in_filter}
 use Rattle.wp_core.proofs.Keyed.{is_word_same, at_inserted, else_inserted}
 use Rattle.wp_core.proofs.OwnersStay.{IsSameOwner, locked_still}
-use Rattle.wp_core.proofs.Quiet.{SoIn, kept_part}
+use Rattle.wp_core.proofs.AllParts.{SoIn, all_parts, tables_of, views_still, pasts_still, readers_still, turns_still, notes_stay, idle_set, led_still}
 
 -- what is noted stays so where the participant has the same of names and keys
 module _ (w : World) (a p : Participant) (is : IsSameOwner (owner_of a) (owner_of p)) where
@@ -73,34 +66,7 @@ sets_batch w by a name t batch at needs s =
     let live = owner_lives w by a name t at has s in
     let is = same_owner_after a.participant name t batch has in
     let b : Actor = record (forgets w.writes.history (length w.cache) (set_batch name t batch) a) { participant = after a.participant name t batch has } in
-    record {
-      history = s.history;
-      seen = kept_part w by a b at (participants_of seen_of) (AreSeen w.writes.history) refl s.seen;
-      learned = kept_part w by a b at learned_of (AreLearned w.writes.history) refl s.learned;
-      owned = kept_part w by a b at (participants_of own_of) (AreOwned w.opened w.writes.history) refl s.owned;
-      cache = s.cache;
-      decided = s.decided;
-      undecided = s.undecided;
-      delayed = s.delayed;
-      registrations = kept_part w by a b at (participants_of registered_of) (AreRegistered w.writes.history w.snapshots) refl s.registrations;
-      flags = s.flags;
-      versions = s.versions;
-      flushed = s.flushed;
-      locks = locked_still w.actors by a b at refl is w.writes.history w.locks s.locks;
-      holders = kept_part w by a b at (participants_of past_of) (AreHolders w.opened w.writes.history w.locks) refl s.holders;
-      board = kept_part w by a b at (participants_of past_of) (IsBoard (world.published w) w.locks) refl s.board;
-      faults = kept_part w by a b at (participants_of past_of) (AreFaults w.writes w.installed.halted) refl s.faults;
-      edits = kept_part w by a b at (participants_of past_of) (AreEdits w.first_edit w.installed) refl s.edits;
-      pending = s.pending;
-      held = kept_part w by a b at held_of (EachAt (AreHeld w.holders (content_of w))) refl s.held;
-      have = kept_part w by a b at held_of (HoldersHave w.holders) refl s.have;
-      readers = kept_part w by a b at reader_of (AreReaders w.writes.history w.max_evicted w.cache) refl s.readers;
-      viewed = kept_part w by a b at (participants_of view_of) (EachParticipant HasSeen) refl s.viewed;
-      judged = kept_part w by a b at reader_of (AreJudged w.writes.history) refl s.judged;
-      noted = each_map_set noter_of (λ j x. (fact : Fact) → IsIn fact x.1 → IsNoted w.holders (SoIn w) j x fact) w.actors by b
-          (λ fact there. let k = in_filter (λ (f : Fact). not (ends w.writes.history (length w.cache) (set_batch name t batch) f)) fact a.notes there in let o = s.noted by (noter_of a) (at_map noter_of w.actors by a at) fact k.0 in
-          record { guarded = o.guarded; is_so = so_same w a.participant (after a.participant name t batch has) is fact o.is_so })
-          (λ j x ne there. s.noted j x there);
-      led = kept_part w by a b at role_of AreLed refl s.led;
-      idle = each_set (λ j x. x.live ≡ false → IsIdle x) w.actors by b (λ dead. absurd (live dead)) (λ j x ne there. s.idle j x there);
-    }
+    all_parts w (set w.actors by b) (tables_of w s) (views_still w by a b at refl s) (locked_still w.actors by a b at refl is w.writes.history w.locks s.locks) (pasts_still w by a b at refl s) (turns_still w by a b at refl s)
+    (readers_still w by a b at refl s)
+    (notes_stay w by a b at (set_batch name t batch) w.holders (SoIn w) refl (λ fact left m. record { guarded = m.guarded; is_so = so_same w a.participant (after a.participant name t batch has) is fact m.is_so }) (λ j x fact ne there m. m) s)
+    (led_still w by a b at refl s) (idle_set w by a b at (λ dead. absurd (live dead)) s)

@@ -32,5 +32,5 @@ pub claims_name : (w : World) (by : ℕ) (a : Actor) (name : List ℕ) → get_e
     → IsSound (done w by (forgets w.writes.history (length w.cache) (claim_name name) a) (claim_name name))
 claims_name w by a name at needs s =
     let d = claimed_one w name needs.1 s in
-    locks_change w by a (claim_name name) (p w by a name new_transaction (claimed name) (claim_name name) at d s) a.learned (t w by a name new_transaction (claimed name) (claim_name name) at d s) at needs.0
+    locks_change w by a (claim_name name) (p w by a name new_transaction (claimed name) (claim_name name) at d s) (t w by a name new_transaction (claimed name) (claim_name name) at d s) at needs.0
     (gained_parts w by a name new_transaction (claimed name) (claim_name name) at d s) s

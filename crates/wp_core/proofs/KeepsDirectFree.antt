@@ -1,5 +1,5 @@
 -- Freeing the key of a direct write keeps every part of a sound world.
-use Rattle.std.proofs.Common.{◌≡◌, ◌≢◌, ◌⊎◌, ⊎_elim, inl, ℕ, true, not, true≢false, List, length, map, refl, sym, subst, ap, ◌∙◌, Some, None, arith}
+use Rattle.std.proofs.Common.{◌≡◌, ◌≢◌, ◌⊎◌, ⊎_elim, inl, ℕ, true, not, true≢false, List, length, refl, sym, ap, ◌∙◌, Some, None}
 use mathlib.Core.Option.{some}
 use lib.ListN.{get_elem?}
 use Rattle.std.specs.FinMap as finite
@@ -8,23 +8,20 @@ use Rattle.wp_model.specs.declared.holder.Holder.{Holder}
 use Rattle.wp_model.specs.declared.holder.Holder.TheVariants.{Txn, Client}
 use Rattle.wp_model.specs.LockTables.{LockTables}
 use Rattle.wp_core.specs.Views.{Fact, undecided_at, direct_free}
-use Rattle.wp_core.specs.World.{Transaction, Actor, Participant, World}
-use Rattle.wp_core.specs.World as world
+use Rattle.wp_core.specs.World.{Actor, Participant, World}
 use Rattle.wp_core.specs.Steps.{free_direct}
 use Rattle.wp_core.specs.Changes.{without_key}
 use Rattle.wp_core.specs.Effects.{done}
 use Rattle.wp_core.specs.Needs.{Needs}
 use Rattle.wp_core.specs.Notes.{forgets, ends}
-use Rattle.wp_core.specs.Sound.Actors.{participants_of, seen_of, learned_of, IsParticipantAt}
+use Rattle.wp_core.specs.Sound.Actors.{IsParticipantAt}
 use Rattle.wp_core.specs.Sound.Locks.{Owner, owner_of, IsNameOf, IsDirectOf, IsOwner, AreLocked}
-use Rattle.wp_core.specs.Sound.Pasts.{past_of, AreHolders, IsBoard, AreFaults, AreEdits}
 use Rattle.wp_core.specs.IsSound.{IsSound, participants}
-use Rattle.wp_core.proofs.Frames.{at_map}
 use Rattle.wp_core.proofs.Keyed.{is_word_same, else_removed, still_there}
-use Rattle.wp_core.proofs.OwnerMoves.{name_kept, direct_kept, owner_before}
-use Rattle.wp_core.proofs.AllParticipants.{mine, was, was_apart}
-use Rattle.wp_core.proofs.Quiet.{SoIn, kept_part}
-use Rattle.wp_core.proofs.LocksChange.{SoWith, actor_after, actors_after, LocksParts, locks_change}
+use Rattle.wp_core.proofs.OwnerMoves.{owners_apart, key_known, name_kept, direct_kept}
+use Rattle.wp_core.proofs.AllParticipants.{mine, each_apart}
+use Rattle.wp_core.proofs.LocksChange.{SoWith, actor_after, owners_after, LocksParts, locks_change, pasts_left}
+use Rattle.wp_core.proofs.AllParts.{SoIn}
 
 module _ (w : World) (by : ℕ) (a : Actor) (key : List ℕ) (at : get_elem? w.actors by ≡ some a) (has : a.participant.direct ≡ Some key) (s : IsSound w) where
   abbrev client : List ℕ
@@ -37,20 +34,14 @@ module _ (w : World) (by : ℕ) (a : Actor) (key : List ℕ) (at : get_elem? w.a
   p = record a.participant { direct = None }
 
   abbrev b : Actor
-  b = actor_after w by a (free_direct key) p a.learned t
-
-  abbrev before : List (List Owner)
-  before = participants owner_of w
+  b = actor_after w by a (free_direct key) p t
 
   abbrev after : List (List Owner)
-  after = map (participants_of owner_of) (actors_after w by a (free_direct key) p a.learned t)
-
-  own_before : IsParticipantAt before by 0 (owner_of a.participant)
-  own_before = mine owner_of w.actors by a b at refl
+  after = owners_after w by a (free_direct key) p t
 
   -- the key was held for the actor's direct write
   was_held : finite.get w.locks.keys key ≡ Some (Client client)
-  was_held = (s.locks.had by 0 (owner_of a.participant) own_before).direct key has
+  was_held = (s.locks.had by 0 (owner_of a.participant) (mine owner_of w.actors by a a at refl)).direct key has
 
   -- a key that is held for a transaction stays held
   txn_still : (k n : List ℕ) → finite.get w.locks.keys k ≡ Some (Txn n) → finite.get t.keys k ≡ Some (Txn n)
@@ -63,58 +54,44 @@ module _ (w : World) (by : ℕ) (a : Actor) (key : List ℕ) (at : get_elem? w.a
   held_before k holder h = still_there w.locks.keys key holder k h
 
   -- another one's direct write is of another key
-  not_theirs : (j i : ℕ) (o : Owner) (k : List ℕ) → ((j ≢ by) ⊎ (i ≢ 0)) → IsParticipantAt before j i o → o.direct ≡ Some k → k ≡ key → ⊥
+  not_theirs : (j i : ℕ) (o : Owner) (k : List ℕ) → ((j ≢ by) ⊎ (i ≢ 0)) → IsParticipantAt (participants owner_of w) j i o → o.direct ≡ Some k → k ≡ key → ⊥
   not_theirs j i o k elsewhere there h q =
-      let same = s.locks.apart.direct j i by 0 o (owner_of a.participant) key there own_before (h ∙ ap (λ (z : List ℕ). Some z) q) has in
+      let same = s.locks.apart.direct j i by 0 o (owner_of a.participant) key there (mine owner_of w.actors by a a at refl) (h ∙ ap (λ (z : List ℕ). Some z) q) has in
       ⊎_elim (λ (ne : j ≢ by). ne same.0) (λ (ne : i ≢ 0). ne same.1) elsewhere
 
-  other_owner : (j i : ℕ) (o : Owner) → ((j ≢ by) ⊎ (i ≢ 0)) → IsParticipantAt before j i o → IsOwner t o
+  other_owner : (j i : ℕ) (o : Owner) → ((j ≢ by) ⊎ (i ≢ 0)) → IsParticipantAt (participants owner_of w) j i o → IsOwner t o
   other_owner j i o elsewhere there =
       let k = s.locks.had j i o there in
       record { names = k.names; keys = λ name x c h held. txn_still c name (k.keys name x c h held); direct = λ c h. else_removed w.locks.keys key c (not_theirs j i o c elsewhere there h) ∙ k.direct c h }
 
   own_owner : IsOwner t (owner_of p)
   own_owner =
-      let old = s.locks.had by 0 (owner_of a.participant) own_before in
+      let old = s.locks.had by 0 (owner_of a.participant) (mine owner_of w.actors by a a at refl) in
       record { names = old.names; keys = λ name x c h held. txn_still c name (old.keys name x c h held); direct = λ c h. absurd cc }
 
-  had_names : (j i : ℕ) (o : Owner) → IsParticipantAt after j i o → (c : Owner) × IsParticipantAt before j i c × (o.transactions ≡ c.transactions)
-  had_names j i o k = ⊎_elim
-      (λ (g : (j ≡ by) × (i ≡ 0) × (o ≡ owner_of p)). (owner_of a.participant, owner_before w.actors by a b at refl j i g.0 g.1, ap (λ (z : Owner). z.transactions) g.2))
-      (λ (g : IsParticipantAt before j i o). (o, g, refl)) (was owner_of w.actors by a b at refl j i o k)
+  -- it has no direct write
+  had_direct : (c : List ℕ) → p.direct ≡ Some c → a.participant.direct ≡ Some c
+  had_direct c h = absurd cc
 
-  -- who has a direct write now had it
-  had_direct : (j i : ℕ) (o : Owner) (c : List ℕ) → IsParticipantAt after j i o → o.direct ≡ Some c → IsParticipantAt before j i o
-  had_direct j i o c k h = ⊎_elim
-      (λ (g : (j ≡ by) × (i ≡ 0) × (o ≡ owner_of p)). let f : None ≡ Some c = sym (ap (λ (z : Owner). z.direct) g.2) ∙ h in absurd cc)
-      (λ (g : IsParticipantAt before j i o). g) (was owner_of w.actors by a b at refl j i o k)
-
-  name_still : (n c : List ℕ) → IsNameOf before n c → IsNameOf after n c
+  name_still : (n c : List ℕ) → IsNameOf (participants owner_of w) n c → IsNameOf after n c
   name_still n c k = name_kept w.actors by a b at refl refl (λ x k. k) n c (λ y h. (y, h)) k
 
   other_key : (k : List ℕ) → a.participant.direct ≡ Some k → k ≡ key
   other_key k h = let f : Some k ≡ Some key = sym h ∙ has in cc
 
-  direct_still : (k c : List ℕ) → (k ≡ key → ⊥) → IsDirectOf before k c → IsDirectOf after k c
+  direct_still : (k c : List ℕ) → (k ≡ key → ⊥) → IsDirectOf (participants owner_of w) k c → IsDirectOf after k c
   direct_still k c ne d = direct_kept w.actors by a b at refl refl (λ x k. k) k c (λ h. absurd (ne (other_key k h))) d
 
   locked_part : AreLocked w.writes.history t after
   locked_part = record {
     prepared_names = s.locks.prepared_names;
     prepared_keys = λ q k u h. txn_still k (name_at w.writes.history q) (s.locks.prepared_keys q k u h);
-    had = λ j i o there. ⊎_elim
-        (λ (g : (j ≡ by) × (i ≡ 0) × (o ≡ owner_of p)). subst (IsOwner t) (sym g.2) own_owner)
-        (λ (g : ((j ≢ by) ⊎ (i ≢ 0)) × IsParticipantAt before j i o). other_owner j i o g.0 g.1) (was_apart owner_of w.actors by a b at refl j i o there);
-    apart = record {
-      names = λ j i k l o q n x y here there first second.
-          let u = had_names j i o here in let v = had_names k l q there in
-          s.locks.apart.names j i k l u.0 v.0 n x y u.1 v.1 (ap (λ ts. finite.get ts n) (sym u.2) ∙ first) (ap (λ ts. finite.get ts n) (sym v.2) ∙ second);
-      direct = λ j i k l o q c here there first second. s.locks.apart.direct j i k l o q c (had_direct j i o c here first) (had_direct k l q c there second) first second;
-    };
+    had = each_apart owner_of w.actors by a b at refl (IsOwner t) own_owner other_owner;
+    apart = owners_apart w.actors by a b at refl (λ n x h. inl (x, h)) (λ c h. inl (had_direct c h)) s.locks.apart;
     names_had = λ n c h. name_still n c (s.locks.names_had n c h);
     names_left = s.locks.names_left;
     keys_live = λ k n h. s.locks.keys_live k n (held_before k (Txn n) h).1;
-    keys_known = λ k n h j i o there x has. let u = had_names j i o there in s.locks.keys_known k n (held_before k (Txn n) h).1 j i u.0 u.1 x (ap (λ ts. finite.get ts n) (sym u.2) ∙ has);
+    keys_known = λ k n h. key_known w.actors by a b at refl (λ m x has. has) k n (s.locks.keys_known k n (held_before k (Txn n) h).1);
     keys_direct = λ k c h. let u = held_before k (Client c) h in direct_still k c u.0 (s.locks.keys_direct k c u.1);
   }
 
@@ -123,27 +100,14 @@ module _ (w : World) (by : ℕ) (a : Actor) (key : List ℕ) (at : get_elem? w.a
   mine_still (direct_free c) left k = absurd (true≢false (sym left))
   mine_still fact left k = k
 
-  others_still : (j : ℕ) (q : Participant) (fact : Fact) → j ≢ by → IsParticipantAt before j 0 (owner_of q) → SoIn w q fact → SoWith w t q fact
+  others_still : (j : ℕ) (q : Participant) (fact : Fact) → j ≢ by → IsParticipantAt (participants owner_of w) j 0 (owner_of q) → SoIn w q fact → SoWith w t q fact
   others_still j q (undecided_at n m) ne there k = (k.0, k.1, k.2, λ c h. txn_still c n (k.3 c h))
   others_still j q (direct_free c) ne there k = (k.0, else_removed w.locks.keys key c (not_theirs j 0 (owner_of q) c (inl ne) there k.0) ∙ k.1, k.2)
   others_still j q fact ne there k = k
 
-  parts : LocksParts w by a (free_direct key) p a.learned t
-  parts = record {
-    seen = s.seen by 0 a.participant.seen (mine seen_of w.actors by a b at refl);
-    learned_part = s.learned by a.learned (at_map learned_of w.actors by a at);
-    grown = omega arith;
-    own = refl;
-    registered = refl;
-    locks_part = locked_part;
-    holders = let k = kept_part w by a b at (participants_of past_of) (AreHolders w.opened w.writes.history w.locks) refl s.holders in record { names = k.names; keys = λ c holder h. k.keys c holder (held_before c holder h).1; found_keys = k.found_keys; found = k.found };
-    board = let k = kept_part w by a b at (participants_of past_of) (IsBoard (world.published w) w.locks) refl s.board in record { labels = k.labels; numbers = k.numbers; heard = k.heard; told = k.told };
-    faults = kept_part w by a b at (participants_of past_of) (AreFaults w.writes w.installed.halted) refl s.faults;
-    edits = kept_part w by a b at (participants_of past_of) (AreEdits w.first_edit w.installed) refl s.edits;
-    mine = mine_still;
-    others = others_still;
-  }
+  parts : LocksParts w by a (free_direct key) p t
+  parts = record { locks_part = locked_part; pasts_part = pasts_left w by a (free_direct key) p t at refl refl (λ n live. live) (λ c holder h. (held_before c holder h).1) s; mine = mine_still; others = others_still }
 
 pub frees_direct : (w : World) (by : ℕ) (a : Actor) (key : List ℕ) → get_elem? w.actors by ≡ some a → Needs w by a (free_direct key) → IsSound w
     → IsSound (done w by (forgets w.writes.history (length w.cache) (free_direct key) a) (free_direct key))
-frees_direct w by a key at needs s = locks_change w by a (free_direct key) (p w by a key at needs.1 s) a.learned (t w by a key at needs.1 s) at needs.0 (parts w by a key at needs.1 s) s
+frees_direct w by a key at needs s = locks_change w by a (free_direct key) (p w by a key at needs.1 s) (t w by a key at needs.1 s) at needs.0 (parts w by a key at needs.1 s) s

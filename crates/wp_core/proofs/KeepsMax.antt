@@ -1,24 +1,18 @@
 -- Storing the bound keeps every part of a sound world.
-use Rattle.std.proofs.Common.{◌≡◌, ◌≢◌, ◌⊎◌, ⊎_elim, inl, inr, ℕ, suc, ◌<◌, ◌≤◌, nat_le, le_trans, arith, Bool, true, false, not, ◌||◌, ◌&&◌, true≢false, List, length, filter, refl, sym, ap, ◌∙◌, Some, None}
+use Rattle.std.proofs.Common.{◌≡◌, ◌≢◌, ◌⊎◌, ⊎_elim, inl, inr, ℕ, suc, ◌<◌, ◌≤◌, nat_le, le_trans, arith, Bool, true, false, not, ◌||◌, ◌&&◌, List, length, refl, sym, ap, ◌∙◌, Some, None}
 use mathlib.Core.Option.{some}
 use lib.ListN.{get_elem?}
-use Rattle.wp_model.specs.declared.entry.Entry.{Entry}
-use Rattle.wp_core.specs.Lists.{IsIn}
-use Rattle.wp_core.specs.Turns.{Turn, Holds, write_turn, prepared_turn, Holders}
-use Rattle.wp_core.specs.Tables.{Content}
+use Rattle.wp_core.specs.Turns.{Holds, write_turn, prepared_turn}
 use Rattle.wp_core.specs.Views.{Fact}
-use Rattle.wp_core.specs.World.{Actor, Participant, World, content_of}
+use Rattle.wp_core.specs.World.{Actor, Participant, World}
 use Rattle.wp_core.specs.Steps.{store_max_evicted}
 use Rattle.wp_core.specs.Effects.{done}
 use Rattle.wp_core.specs.Needs.{Needs}
-use Rattle.wp_core.specs.Notes.{forgets, ends}
-use Rattle.wp_core.specs.Sound.Actors.{AreHeld, IsIdle, held_of}
+use Rattle.wp_core.specs.Notes.{forgets}
 use Rattle.wp_core.specs.Sound.Prepared.{AreFlags}
-use Rattle.wp_core.specs.Sound.Reader.{AreReaders, AreJudged, reader_of}
-use Rattle.wp_core.specs.Sound.Views.{IsSo, IsNoted, noter_of, guarded_by}
+use Rattle.wp_core.specs.Sound.Views.{IsSo}
 use Rattle.wp_core.specs.IsSound.{IsSound}
-use Rattle.wp_core.proofs.Quiet.{kept_part, parts_of}
-use Rattle.wp_core.proofs.Frames.{each_map_set, each_set, at_map, in_filter}
+use Rattle.wp_core.proofs.Quiet.{Stays, stays_not, notes_by, bound_changes}
 use Rattle.std.proofs.lemmas.Bool.Decides.{nat_tests}
 use Rattle.std.specs.Ordering.{nat_cmp}
 use Rattle.std.specs.declared.cmp.Ordering.TheVariants.{Equal}
@@ -30,14 +24,12 @@ use Rattle.wp_core.specs.Cache.{cached}
 use Rattle.wp_core.specs.Reading.{Registration}
 use Rattle.wp_judge.specs.declared.observed.Observed.{Observed}
 use Rattle.wp_core.specs.Views.{passed, apart, words_stay, number_in_heap, number_not_in_heap}
-use Rattle.wp_core.specs.Changes.{held_with}
-use Rattle.wp_core.specs.World.{with_content}
 use Rattle.wp_model.specs.PreparedTables.{PreparedTables, is_prepared}
-use Rattle.wp_core.specs.Tables.{NoneDelayed, prepared, with_moved}
+use Rattle.wp_core.specs.Tables.{NoneDelayed, with_moved}
 use Rattle.wp_core.specs.Sound.History.{IsHistory}
 use Rattle.wp_core.specs.Sound.Prepared.{AreDecided, AreUndecided, AreDelayed, IsPassed}
 use Rattle.wp_core.specs.Sound.Reader.{IsPassedBy, IsReader}
-use Rattle.wp_core.proofs.Changed.{others_hold, holds_changed, have_changed}
+use Rattle.wp_core.proofs.Tests.{both, either}
 
 -- ---- the moved numbers
 
@@ -61,14 +53,6 @@ split_or false false l = refl
 -- no number comes or goes
 same_prepared : (t : PreparedTables) (m p : ℕ) → is_prepared (with_moved t m) p ≡ is_prepared t p
 same_prepared t m p = (λ i. in_heap t m p i || in_delayed t m p i) ∙ split_or (finset.contains t.heap p) (finset.contains t.delayed p) (nat_le p m)
-
-both : (a b : Bool) → (a && b) ≡ true → (a ≡ true) × (b ≡ true)
-both true b e = (refl, e)
-both false b e = absurd (true≢false (sym e))
-
-either : (a b : Bool) → (a || b) ≡ true → (a ≡ true) ⊎ (b ≡ true)
-either true b e = inl refl
-either false b e = inr e
 
 not_below : (p m : ℕ) → not (nat_le p m) ≡ true → m < p
 not_below p m e = grind (arith, nat_tests)
@@ -140,71 +124,19 @@ reader_after w m rs r le k = record {
 
 -- ---- notes
 
--- a fact that the store of the bound preserves
-IsPreserved : Fact → Type 0
-IsPreserved (words_stay max cache) = ⊥
-IsPreserved other = Unit {0}
-
-so_after : (w : World) (m : ℕ) (a : Participant) (fact : Fact) → w.max_evicted ≤ m → m ≤ length w.writes.history → IsPreserved fact → IsSo w.delayed_flag w.old_flag w.max_evicted w.cache w.writes w.prepared w.snapshots w.store w.locks w.installed a fact
+so_after : (w : World) (m : ℕ) (a : Participant) (fact : Fact) → w.max_evicted ≤ m → m ≤ length w.writes.history → Stays w (store_max_evicted m) write_turn fact → IsSo w.delayed_flag w.old_flag w.max_evicted w.cache w.writes w.prepared w.snapshots w.store w.locks w.installed a fact
     → IsSo w.delayed_flag w.old_flag m w.cache w.writes (with_moved w.prepared m) w.snapshots w.store w.locks w.installed a fact
-unfolding IsPreserved
 so_after w m a (passed place pair) le low stays k = record { place_within = k.place_within; there = k.there; published_by = k.published_by; so = le_trans k.so le }
 so_after w m a (apart place pair) le low stays k = record { place_within = k.place_within; there = k.there; published_by = k.published_by; so = ⊎_elim (λ (e : is_prepared w.prepared pair.number ≡ false). inl (same_prepared w.prepared m pair.number ∙ e)) (λ (e : finite.get w.prepared.delayed_commits pair.number ≡ Some pair.decision). inr e) k.so }
-so_after w m a (words_stay max cache) le low stays k = absurd stays
+so_after w m a (words_stay max cache) le low stays k = absurd (stays_not write_turn stays)
 so_after w m a number_in_heap le low stays k = let n : ℕ = suc (length w.writes.history) in in_heap w.prepared m n ∙ (λ i. k i && not (above_is n m (omega arith) i))
 so_after w m a number_not_in_heap le low stays k = let n : ℕ = suc (length w.writes.history) in in_heap w.prepared m n ∙ (λ i. k i && not (nat_le n m))
 so_after w m a fact le low stays k = k
-
-mine_preserved : (history : List Entry) (words m : ℕ) (fact : Fact) → not (ends history words (store_max_evicted m) fact) ≡ true → IsPreserved fact
-unfolding IsPreserved
-mine_preserved history words m (words_stay max cache) kept_note = absurd (true≢false (sym kept_note))
-mine_preserved history words m fact kept_note = tt
-
-theirs_preserved : (h : Holders) (by j : ℕ) (fact : Fact) → Holds h write_turn by → j ≢ by → ((turn : Turn) → guarded_by fact ≡ Some turn → Holds h turn j) → IsPreserved fact
-unfolding IsPreserved
-theirs_preserved h by j (words_stay max cache) mine ne guards = let theirs : Holds h write_turn j = guards write_turn refl in let q : Some j ≡ Some by = sym theirs ∙ mine in ne (cc)
-theirs_preserved h by j fact mine ne guards = tt
 
 -- ---- all parts
 
 pub stores_max : (w : World) (by : ℕ) (a : Actor) (m : ℕ) → get_elem? w.actors by ≡ some a → Needs w by a (store_max_evicted m) → IsSound w → IsSound (done w by (forgets w.writes.history (length w.cache) (store_max_evicted m) a) (store_max_evicted m))
 stores_max w by a m at n s =
-    let e : Content = prepared (with_moved w.prepared m) in
-    let c : Actor = forgets w.writes.history (length w.cache) (store_max_evicted m) a in
-    let b : Actor = record c { held = held_with c.held e } in
-    let p = parts_of w by a b at (record { participant = refl; learned = refl; live = refl; made = refl; joined = refl }) s in
-    record {
-      history = history_after w m n.3 s.history;
-      seen = p.seen;
-      learned = p.learned;
-      owned = p.owned;
-      cache = s.cache;
-      decided = decided_after w m n.2 s.decided;
-      undecided = undecided_after w m n.2 s.undecided;
-      delayed = delayed_after w m s.delayed;
-      registrations = p.registrations;
-      flags = flags_after w m by n.1 n.4 s.flags;
-      versions = s.versions;
-      flushed = s.flushed;
-      locks = p.locks;
-      holders = p.holders;
-      board = p.board;
-      faults = p.faults;
-      edits = p.edits;
-      pending = s.pending;
-      held = each_map_set held_of (AreHeld w.holders (content_of (with_content w e))) w.actors by b
-          (holds_changed w e by a.held (s.held by a.held (at_map held_of w.actors by a at)))
-          (λ j x ne there. others_hold w e by j x n.1 ne (s.held j x there));
-      have = have_changed w.holders e by w.actors a b at refl s.have;
-      readers = kept_part w by a b at reader_of (AreReaders w.writes.history m w.cache) refl (λ j x there r is. reader_after w m x.0 r n.2 (s.readers j x there r is));
-      viewed = p.viewed;
-      judged = kept_part w by a b at reader_of (AreJudged w.writes.history) refl s.judged;
-      noted = each_map_set noter_of (λ j x. (fact : Fact) → IsIn fact x.1 → IsNoted w.holders (IsSo w.delayed_flag w.old_flag m w.cache w.writes (with_moved w.prepared m) w.snapshots w.store w.locks w.installed) j x fact) w.actors by b
-          (λ fact there. let k = in_filter (λ (f : Fact). not (ends w.writes.history (length w.cache) (store_max_evicted m) f)) fact a.notes there in let o = s.noted by (noter_of a) (at_map noter_of w.actors by a at) fact k.0 in
-          record { guarded = o.guarded; is_so = so_after w m a.participant fact n.2 n.3 (mine_preserved w.writes.history (length w.cache) m fact k.1) o.is_so })
-          (λ j x ne there fact k. let o = s.noted j x there fact k in record { guarded = o.guarded; is_so = so_after w m x.0 fact n.2 n.3 (theirs_preserved w.holders by j fact n.0 ne o.guarded) o.is_so });
-      led = p.led;
-      idle = each_set (λ j x. x.live ≡ false → IsIdle x) w.actors by b
-          (λ dead. let i = s.idle by a at dead in record { participant = i.participant; held = ap (λ (z : List Content). held_with z e) i.held; reading = i.reading; notes = ap (λ (z : List Fact). filter (λ f. not (ends w.writes.history (length w.cache) (store_max_evicted m) f)) z) i.notes })
-          (λ j x ne there. s.idle j x there);
-    }
+    bound_changes w by a (store_max_evicted m) m (with_moved w.prepared m) at n.1 (history_after w m n.3 s.history) (decided_after w m n.2 s.decided) (undecided_after w m n.2 s.undecided) (delayed_after w m s.delayed)
+    (flags_after w m by n.1 n.4 s.flags) (λ j x there r is. reader_after w m x.0 r n.2 (s.readers j x there r is))
+    (notes_by w by (store_max_evicted m) write_turn _ n.0 (λ p fact stays k. so_after w m p fact n.2 n.3 stays k)) s

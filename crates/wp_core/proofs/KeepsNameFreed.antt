@@ -75,11 +75,9 @@ module _ (w : World) (by : ℕ) (a : Actor) (name : List ℕ) (x0 : Transaction)
   freed_one : Drops w name t (free_transaction name)
   freed_one = record {
     labels = refl;
-    names = λ n ne. else_removed w.locks.names name n ne;
+    others = record { names = λ n ne. else_removed w.locks.names name n ne; transactions = transactions; directs = directs };
     nobody = λ c h. let f : None ≡ Some (Some c) = sym (at_removed w.locks.names name name refl) ∙ h in absurd cc;
     left = λ h. let f : None ≡ Some None = sym (at_removed w.locks.names name name refl) ∙ h in absurd cc;
-    transactions = transactions;
-    directs = directs;
     transactions_were = λ k n h. were k (Txn n) h;
     directs_were = λ k c h. were k (Client c) h;
     prepared_names = λ q u. ap is_some (else_removed w.locks.names name (name_at w.writes.history q) (λ same. none_named w.writes.history name q unprepared u same)) ∙ s.locks.prepared_names q u;
@@ -93,5 +91,5 @@ pub frees_transaction : (w : World) (by : ℕ) (a : Actor) (name : List ℕ) →
     → IsSound (done w by (forgets w.writes.history (length w.cache) (free_transaction name) a) (free_transaction name))
 frees_transaction w by a name at needs s =
     let d = freed_one w by a name needs.1.0 at needs.1.1 needs.2 s in
-    locks_change w by a (free_transaction name) (p w by a name needs.1.0 (without_transaction w.locks name) (free_transaction name) at needs.1.1 d s) a.learned (without_transaction w.locks name) at needs.0
+    locks_change w by a (free_transaction name) (p w by a name needs.1.0 (without_transaction w.locks name) (free_transaction name) at needs.1.1 d s) (without_transaction w.locks name) at needs.0
     (dropped_parts w by a name needs.1.0 (without_transaction w.locks name) (free_transaction name) at needs.1.1 d s) s

@@ -15,7 +15,7 @@ use Rattle.wp_core.specs.Needs.{Needs}
 use Rattle.wp_core.specs.Notes.{forgets}
 use Rattle.wp_core.specs.Sound.Locks.{owner_of}
 use Rattle.wp_core.specs.IsSound.{IsSound}
-use Rattle.wp_core.proofs.Keyed.{is_word_same, at_inserted, else_inserted}
+use Rattle.wp_core.proofs.Keyed.{is_word_same, at_inserted, else_inserted, some_inserted}
 use Rattle.wp_core.proofs.AllParticipants.{mine}
 use Rattle.wp_core.proofs.LocksChange.{locks_change}
 use Rattle.wp_core.proofs.DropsTransaction.{Drops, p, dropped_parts}
@@ -31,11 +31,6 @@ module _ (w : World) (by : ℕ) (a : Actor) (name : List ℕ) (x0 : Transaction)
   was_live : finite.get w.locks.names name ≡ Some (Some a.participant.client)
   was_live = (s.locks.had by 0 (owner_of a.participant) (mine owner_of w.actors by a a at refl)).names name x0 has
 
-  live_still : (n : List ℕ) → is_some (finite.get w.locks.names n) ≡ true → is_some (finite.get t.names n) ≡ true
-  live_still n live = ⊎_elim
-      (λ (q : n ≡ name). ap is_some (at_inserted w.locks.names name None n q))
-      (λ (ne : n ≡ name → ⊥). ap is_some (else_inserted w.locks.names name None n ne) ∙ live) (is_word_same n name)
-
   live_were : (n : List ℕ) → is_some (finite.get t.names n) ≡ true → is_some (finite.get w.locks.names n) ≡ true
   live_were n live = ⊎_elim
       (λ (q : n ≡ name). ap (λ (z : List ℕ). is_some (finite.get w.locks.names z)) q ∙ ap is_some was_live)
@@ -44,16 +39,14 @@ module _ (w : World) (by : ℕ) (a : Actor) (name : List ℕ) (x0 : Transaction)
   left_one : Drops w name t (leave_name name)
   left_one = record {
     labels = refl;
-    names = λ n ne. else_inserted w.locks.names name None n ne;
+    others = record { names = λ n ne. else_inserted w.locks.names name None n ne; transactions = λ k n ne h. h; directs = λ k c h. h };
     nobody = λ c h. let f : Some None ≡ Some (Some c) = sym (at_inserted w.locks.names name None name refl) ∙ h in absurd cc;
     left = λ h. prepared;
-    transactions = λ k n ne h. h;
-    directs = λ k c h. h;
     transactions_were = λ k n h. h;
     directs_were = λ k c h. h;
-    prepared_names = λ q u. live_still (name_at w.writes.history q) (s.locks.prepared_names q u);
+    prepared_names = λ q u. some_inserted w.locks.names name None (name_at w.writes.history q) (s.locks.prepared_names q u);
     prepared_keys = s.locks.prepared_keys;
-    live = λ k n h. live_still n (s.locks.keys_live k n h);
+    live = λ k n h. some_inserted w.locks.names name None n (s.locks.keys_live k n h);
     live_were = live_were;
     ended = λ n h. two_names name n h;
   }
@@ -62,5 +55,5 @@ pub leaves_name : (w : World) (by : ℕ) (a : Actor) (name : List ℕ) → get_e
     → IsSound (done w by (forgets w.writes.history (length w.cache) (leave_name name) a) (leave_name name))
 leaves_name w by a name at needs s =
     let d = left_one w by a name needs.1.0 at needs.1.1 needs.2 s in
-    locks_change w by a (leave_name name) (p w by a name needs.1.0 (with_name w.locks name None) (leave_name name) at needs.1.1 d s) a.learned (with_name w.locks name None) at needs.0
+    locks_change w by a (leave_name name) (p w by a name needs.1.0 (with_name w.locks name None) (leave_name name) at needs.1.1 d s) (with_name w.locks name None) at needs.0
     (dropped_parts w by a name needs.1.0 (with_name w.locks name None) (leave_name name) at needs.1.1 d s) s

@@ -18,6 +18,7 @@ use Rattle.wp_model.specs.Holder.{is_same}
 use Rattle.wp_model.specs.declared.holder.Holder.{Holder}
 use Rattle.wp_model.specs.declared.holder.Holder.TheVariants.{Txn, Client}
 use Rattle.wp_model.specs.LockTables.{LockTables}
+use Rattle.wp_model.proofs.Words.{same_word}
 use Rattle.wp_core.specs.Views.{took}
 use Rattle.wp_core.specs.World.{Transaction, Actor, World}
 use Rattle.wp_core.specs.Steps.{take_name}
@@ -26,9 +27,9 @@ use Rattle.wp_core.specs.Effects.{done}
 use Rattle.wp_core.specs.Needs.{Needs}
 use Rattle.wp_core.specs.Notes.{forgets}
 use Rattle.wp_core.specs.IsSound.{IsSound}
-use Rattle.wp_core.proofs.Keyed.{same_word}
 use Rattle.wp_core.proofs.LocksChange.{locks_change}
 use Rattle.wp_core.proofs.GainsTransaction.{Gains, p, t, gained_parts}
+use Rattle.wp_core.proofs.Tests.{both}
 
 -- ---- the keys that are held for a name
 
@@ -37,17 +38,13 @@ held_by name None h = absurd (true≢false (sym h))
 held_by name (Some (Txn n)) h = ap (λ (z : List ℕ). Some (Txn z)) (sym ((bytes_eq-Decides name n).0 h))
 held_by name (Some (Client c)) h = absurd (true≢false (sym h))
 
-both : (b c : Bool) → (b && c) ≡ true → b ≡ true
-both true c h = refl
-both false c h = absurd (true≢false (sym h))
-
 module _ (l : LockTables) (name : List ℕ) where
   in_set : (k : List ℕ) → words.contains (keys_of_holder l (Txn name)) k ≡ (is_held_by l (Txn name) k && list_any (eq_by_cmp key_cmp k) (finite.keys l.keys))
   in_set k = contains-from_list nat_list_cmp_total (filter (is_held_by l (Txn name)) (finite.keys l.keys)) k
       ∙ any-filter_same (eq_by_cmp key_cmp k) (is_held_by l (Txn name)) (is_held_by l (Txn name) k) (λ q same. ap (is_held_by l (Txn name)) (sym (same_word k q same))) (finite.keys l.keys)
 
   held_in_set : (k : List ℕ) → words.contains (keys_of_holder l (Txn name)) k ≡ true → finite.get l.keys k ≡ Some (Txn name)
-  held_in_set k h = held_by name (finite.get l.keys k) (both (is_held_by l (Txn name) k) (list_any (eq_by_cmp key_cmp k) (finite.keys l.keys)) (sym (in_set k) ∙ h))
+  held_in_set k h = held_by name (finite.get l.keys k) (both (is_held_by l (Txn name) k) (list_any (eq_by_cmp key_cmp k) (finite.keys l.keys)) (sym (in_set k) ∙ h)).0
 
   in_set_if_held : (k : List ℕ) → finite.get l.keys k ≡ Some (Txn name) → words.contains (keys_of_holder l (Txn name)) k ≡ true
   in_set_if_held k h =
@@ -72,5 +69,5 @@ pub takes_name : (w : World) (by : ℕ) (a : Actor) (name : List ℕ) (q : ℕ) 
     → IsSound (done w by (forgets w.writes.history (length w.cache) (take_name name q) a) (take_name name q))
 takes_name w by a name q at needs s =
     let d = taken_one w name q needs.1 in let x = taken_transaction w name q in
-    locks_change w by a (take_name name q) (p w by a name x (took name) (take_name name q) at d s) a.learned (t w by a name x (took name) (take_name name q) at d s) at needs.0
+    locks_change w by a (take_name name q) (p w by a name x (took name) (take_name name q) at d s) (t w by a name x (took name) (take_name name q) at d s) at needs.0
     (gained_parts w by a name x (took name) (take_name name q) at d s) s

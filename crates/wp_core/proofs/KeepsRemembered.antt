@@ -1,5 +1,5 @@
 -- An actor that only remembers what it found keeps every part of a sound world.
-use Rattle.std.proofs.Common.{◌≡◌, ◌⊎◌, ⊎_elim, inl, inr, ℕ, ◌≤◌, true, false, not, List, [], ◌∷◌, ◌++◌, length, length-append, zero, suc, map, set, refl, sym, subst, ap, ◌∙◌, arith, Option, Some, None, is_some, take}
+use Rattle.std.proofs.Common.{◌≡◌, ⊎_elim, inl, inr, ℕ, ◌≤◌, true, false, List, [], ◌∷◌, ◌++◌, length, length-append, zero, suc, map, set, refl, sym, subst, ap, ◌∙◌, arith, Option, Some, None, is_some, take}
 use Rattle.std.proofs.Math.Seq.{take-length}
 use mathlib.Core.Option.{some, some-injective, some-ne-none}
 use lib.ListN.{get_elem?}
@@ -8,7 +8,7 @@ use Rattle.wp_model.specs.declared.entry.Entry.{Entry}
 use Rattle.wp_model.specs.History.{named}
 use Rattle.wp_model.specs.declared.holder.Holder.{Holder}
 use Rattle.wp_model.specs.declared.holder.Holder.TheVariants.{Txn, Client}
-use Rattle.wp_core.specs.Lists.{EachAt, IsIn}
+use Rattle.wp_core.specs.Lists.{IsIn}
 use Rattle.wp_core.specs.Turns.{write_turn, locks_turn, tables_turn}
 use Rattle.wp_core.specs.Views.{Account, own, another, prepare_at, Event, claimed, took, locked, told, heard, stopped, found_flushed, found, Fact}
 use Rattle.wp_core.specs.World.{Actor, Participant, World, content_of}
@@ -18,20 +18,18 @@ use Rattle.wp_core.specs.Changes.{with_actor, remembers}
 use Rattle.wp_core.specs.Effects.{done}
 use Rattle.wp_core.specs.Needs.{Needs}
 use Rattle.wp_core.specs.Conditions.{Accounts, IsHolder, IsSelf}
-use Rattle.wp_core.specs.Notes.{forgets, ends}
-use Rattle.wp_core.specs.Sound.Actors.{seen_of, own_of, AreSeen, AreLearned, AreOwned, AreHeld, HoldersHave, AreLed, IsIdle, participants_of, learned_of, held_of, role_of, IsParticipantAt, EachParticipant}
-use Rattle.wp_core.specs.Sound.Snapshots.{registered_of, AreRegistered, view_of, HasSeen}
+use Rattle.wp_core.specs.Notes.{forgets}
+use Rattle.wp_core.specs.Sound.Actors.{seen_of, participants_of, IsParticipantAt}
 use Rattle.wp_core.specs.Sound.Locks.{Owner, owner_of, Began}
 use Rattle.wp_core.specs.Sound.Pasts.{past_of, IsPast, Makes, HasDone, IsAccounted, WasLocked, WasInstalled}
-use Rattle.wp_core.specs.Sound.Reader.{AreReaders, AreJudged, reader_of}
-use Rattle.wp_core.specs.Sound.Views.{IsNoted, noter_of}
+use Rattle.wp_core.specs.Sound.Views.{noter_of}
 use Rattle.wp_core.specs.IsSound.{IsSound, participants}
-use Rattle.wp_core.proofs.Frames.{kept_map, each_map_set, each_set, at_map, in_filter}
+use Rattle.wp_core.proofs.Frames.{at_map}
 use Rattle.wp_core.proofs.AllParticipants.{mine}
-use Rattle.wp_core.proofs.PastsGrow.{in_front}
-use Rattle.wp_core.proofs.OwnersStay.{same_transactions, locked_still}
-use Rattle.wp_core.proofs.Quiet.{SoIn, holder_lives}
+use Rattle.wp_core.proofs.OwnersStay.{past_locked}
+use Rattle.wp_core.proofs.Quiet.{holder_lives}
 use Rattle.wp_core.proofs.Remembers.{IsQuiet, holders_more, board_more, faults_more, edits_more}
+use Rattle.wp_core.proofs.AllParts.{SoIn, all_parts, tables_of, views_still, readers_still, turns_still, notes_stay, idle_set, led_still}
 
 -- ---- what is noted
 
@@ -41,121 +39,51 @@ so_past w a past fact k = k
 
 -- ---- all parts
 
--- what the event has to meet, by its kind
-pub record MayRemember (w : World) (by : ℕ) (e : Event) : Type 0 where
-  pub quiet : IsQuiet e
-  pub accounted : (key : Option (List ℕ)) (holder : Holder) (seen : ℕ) (account : Account) → e ≡ found key holder seen account → IsAccounted w.writes.history (participants past_of w) by 0 key holder seen account
-  pub locked_for : (key : List ℕ) (holder : Holder) (seen : ℕ) (account : Account) → e ≡ found (Some key) holder seen account → WasLocked w.opened (participants past_of w) key holder
-  pub labelled : (label : List ℕ) (n : ℕ) → (e ≡ told label n) ⊎ (e ≡ heard label n) → is_some (finite.get w.locks.labels label) ≡ true
-  pub was_told : (label : List ℕ) (n : ℕ) → e ≡ heard label n → IsPast (participants past_of w) (told label n)
-  pub not_told : (label : List ℕ) (n : ℕ) → e ≡ told label n → ⊥
-  pub stopped_at : (n : ℕ) → e ≡ stopped n → (w.writes.closed ≡ true) × (n ≡ length w.writes.history)
-  pub was_installed : (n : ℕ) → e ≡ found_flushed n → WasInstalled w.first_edit (participants past_of w) n
+-- what an event has to meet that is only remembered, by its kind
+abbrev pub MayRemember : World → ℕ → Event → Type 0
+MayRemember w by (found key holder seen account) = IsAccounted w.writes.history (participants past_of w) by 0 key holder seen account × ((k : List ℕ) → key ≡ Some k → WasLocked w.opened (participants past_of w) k holder)
+MayRemember w by (heard label n) = (is_some (finite.get w.locks.labels label) ≡ true) × IsPast (participants past_of w) (told label n)
+MayRemember w by (stopped n) = (w.writes.closed ≡ true) × (n ≡ length w.writes.history)
+MayRemember w by (found_flushed n) = WasInstalled w.first_edit (participants past_of w) n
+MayRemember w by e = ⊥
+
+remembered_quietly : (w : World) (by : ℕ) (e : Event) → MayRemember w by e → IsQuiet e
+remembered_quietly w by (found key holder seen account) may = record { log = refl; tables = refl; due = λ m. refl }
+remembered_quietly w by (heard label n) may = record { log = refl; tables = refl; due = λ m. refl }
+remembered_quietly w by (stopped n) may = record { log = refl; tables = refl; due = λ m. refl }
+remembered_quietly w by (found_flushed n) may = record { log = refl; tables = refl; due = λ m. refl }
+remembered_quietly w by e may = absurd may
 
 pub remembering : (w : World) (by : ℕ) (a : Actor) (e : Event) (step : Step) → get_elem? w.actors by ≡ some a → (a.live ≡ false → ⊥) → MayRemember w by e → IsSound w
     → IsSound (with_actor w by (remembers (forgets w.writes.history (length w.cache) step a) e))
 remembering w by a e step at live may s =
     let b : Actor = remembers (forgets w.writes.history (length w.cache) step a) e in
-    let sn : map (participants_of seen_of) (set w.actors by b) ≡ participants seen_of w = kept_map (participants_of seen_of) w.actors by a b at refl in
-    let ow : map (participants_of own_of) (set w.actors by b) ≡ participants own_of w = kept_map (participants_of own_of) w.actors by a b at refl in
-    let vs : map (participants_of view_of) (set w.actors by b) ≡ participants view_of w = kept_map (participants_of view_of) w.actors by a b at refl in
-    let rg : map (participants_of registered_of) (set w.actors by b) ≡ participants registered_of w = kept_map (participants_of registered_of) w.actors by a b at refl in
-    let ts : map learned_of (set w.actors by b) ≡ map learned_of w.actors = kept_map learned_of w.actors by a b at refl in
-    let hs : map held_of (set w.actors by b) ≡ map held_of w.actors = kept_map held_of w.actors by a b at refl in
-    let ss : map role_of (set w.actors by b) ≡ map role_of w.actors = kept_map role_of w.actors by a b at refl in
-    let rs : map reader_of (set w.actors by b) ≡ map reader_of w.actors = kept_map reader_of w.actors by a b at refl in
-    record {
-      history = s.history;
-      seen = subst (AreSeen w.writes.history) (sym sn) s.seen;
-      learned = subst (AreLearned w.writes.history) (sym ts) s.learned;
-      owned = subst (AreOwned w.opened w.writes.history) (sym ow) s.owned;
-      cache = s.cache;
-      decided = s.decided;
-      undecided = s.undecided;
-      delayed = s.delayed;
-      registrations = subst (AreRegistered w.writes.history w.snapshots) (sym rg) s.registrations;
-      flags = s.flags;
-      versions = s.versions;
-      flushed = s.flushed;
-      locks = locked_still w.actors by a b at refl (same_transactions (owner_of a.participant) (a.participant.past ++ e ∷ []) (λ x k. in_front x a.participant.past (e ∷ []) k)) w.writes.history w.locks s.locks;
-      holders = holders_more w.actors by a b e at refl refl w.opened w.writes.history w.locks may.accounted may.locked_for s.holders;
-      board = board_more w.actors by a b e at refl refl (world.published w) w.locks may.labelled may.was_told may.not_told s.board;
-      faults = faults_more w.actors by a b e at refl refl w.writes w.installed.halted may.quiet may.stopped_at s.faults;
-      edits = edits_more w.actors by a b e at refl refl w.first_edit w.installed may.quiet may.was_installed s.edits;
-      pending = s.pending;
-      held = subst (EachAt (AreHeld w.holders (content_of w))) (sym hs) s.held;
-      have = subst (HoldersHave w.holders) (sym hs) s.have;
-      readers = subst (AreReaders w.writes.history w.max_evicted w.cache) (sym rs) s.readers;
-      viewed = subst (EachParticipant HasSeen) (sym vs) s.viewed;
-      judged = subst (AreJudged w.writes.history) (sym rs) s.judged;
-      noted = each_map_set noter_of (λ j x. (fact : Fact) → IsIn fact x.1 → IsNoted w.holders (SoIn w) j x fact) w.actors by b
-          (λ fact there. let k = in_filter (λ (f : Fact). not (ends w.writes.history (length w.cache) step f)) fact a.notes there in let o = s.noted by (noter_of a) (at_map noter_of w.actors by a at) fact k.0 in
-          record { guarded = o.guarded; is_so = so_past w a.participant (a.participant.past ++ e ∷ []) fact o.is_so })
-          (λ j x ne there. s.noted j x there);
-      led = subst AreLed (sym ss) s.led;
-      idle = each_set (λ j x. x.live ≡ false → IsIdle x) w.actors by b (λ dead. absurd (live dead)) (λ j x ne there. s.idle j x there);
-    }
+    let quiet = remembered_quietly w by e may in
+    let is : (x : Event) → e ≡ x → MayRemember w by x = λ x q. subst (MayRemember w by) q may in
+    all_parts w (set w.actors by b) (tables_of w s) (views_still w by a b at refl s) (past_locked w.actors by a b e at refl refl w.writes.history w.locks s.locks) (record {
+      holders = holders_more w.actors by a b e at refl refl w.opened w.writes.history w.locks (λ key holder seen account q. (is (found key holder seen account) q).0) (λ key holder seen account q. (is (found (Some key) holder seen account) q).1 key refl) s.holders;
+      board = board_more w.actors by a b e at refl refl (world.published w) w.locks
+          (λ label n q. ⊎_elim (λ (r : e ≡ told label n). absurd (is (told label n) r)) (λ (r : e ≡ heard label n). (is (heard label n) r).0) q) (λ label n q. (is (heard label n) q).1) (λ label n q. is (told label n) q) s.board;
+      faults = faults_more w.actors by a b e at refl refl w.writes w.installed.halted quiet (λ n q. is (stopped n) q) s.faults;
+      edits = edits_more w.actors by a b e at refl refl w.first_edit w.installed quiet (λ n q. is (found_flushed n) q) s.edits;
+    }) (turns_still w by a b at refl s)
+    (readers_still w by a b at refl s)
+    (notes_stay w by a b at step w.holders (SoIn w) refl (λ fact left m. record { guarded = m.guarded; is_so = so_past w a.participant (a.participant.past ++ e ∷ []) fact m.is_so }) (λ j x fact ne there m. m) s)
+    (led_still w by a b at refl s) (idle_set w by a b at (λ dead. absurd (live dead)) s)
 
 -- ---- the four steps
 
-no_quarrel : (w : World) (by : ℕ) (n : ℕ) → (w.writes.closed ≡ true) × (n ≡ length w.writes.history) → MayRemember w by (stopped n)
-no_quarrel w by n is = record {
-  quiet = record { log = refl; tables = refl; due = λ m. refl };
-  accounted = λ key holder seen account q. absurd cc;
-  locked_for = λ key holder seen account q. absurd cc;
-  labelled = λ label m q. absurd (⊎_elim (λ (r : stopped n ≡ told label m). cc) (λ (r : stopped n ≡ heard label m). cc) q);
-  was_told = λ label m q. absurd cc;
-  not_told = λ label m q. absurd cc;
-  stopped_at = λ m q. let r : n ≡ m = cc in subst (λ (z : ℕ). (w.writes.closed ≡ true) × (z ≡ length w.writes.history)) r is;
-  was_installed = λ m q. absurd cc;
-}
-
 pub finds_log_closed : (w : World) (by : ℕ) (a : Actor) → get_elem? w.actors by ≡ some a → Needs w by a find_log_closed → IsSound w
     → IsSound (done w by (forgets w.writes.history (length w.cache) find_log_closed a) find_log_closed)
-finds_log_closed w by a at n s = remembering w by a (stopped (world.published w)) find_log_closed at (holder_lives w by a write_turn at n.0 s) (no_quarrel w by (world.published w) (n.1, refl)) s
-
--- whether an event is that one, by its kind and what it has
-abbrev pub at_number : Event → ℕ
-at_number (stopped n) = n
-at_number (found_flushed n) = n
-at_number (heard label n) = n
-at_number other = 0
-
-abbrev pub at_label : Event → List ℕ
-at_label (heard label n) = label
-at_label (told label n) = label
-at_label other = []
+finds_log_closed w by a at n s = remembering w by a (stopped (world.published w)) find_log_closed at (holder_lives w by a write_turn at n.0 s) (n.1, refl) s
 
 pub finds_flushed : (w : World) (by : ℕ) (a : Actor) → get_elem? w.actors by ≡ some a → Needs w by a find_flushed → IsSound w
     → IsSound (done w by (forgets w.writes.history (length w.cache) find_flushed a) find_flushed)
-finds_flushed w by a at n s =
-    let e = found_flushed w.installed.last.flushed in
-    remembering w by a e find_flushed at (holder_lives w by a tables_turn at n s) (record {
-      quiet = record { log = refl; tables = refl; due = λ m. refl };
-      accounted = λ key holder seen account q. absurd cc;
-      locked_for = λ key holder seen account q. absurd cc;
-      labelled = λ label m q. absurd (⊎_elim (λ (r : e ≡ told label m). cc) (λ (r : e ≡ heard label m). cc) q);
-      was_told = λ label m q. absurd cc;
-      not_told = λ label m q. absurd cc;
-      stopped_at = λ m q. absurd cc;
-      was_installed = λ m q. subst (WasInstalled w.first_edit (participants past_of w)) (ap at_number q) s.edits.last;
-    }) s
+finds_flushed w by a at n s = remembering w by a (found_flushed w.installed.last.flushed) find_flushed at (holder_lives w by a tables_turn at n s) s.edits.last s
 
 pub hears : (w : World) (by : ℕ) (a : Actor) (label : List ℕ) (n : ℕ) → get_elem? w.actors by ≡ some a → Needs w by a (hear label n) → IsSound w
     → IsSound (done w by (forgets w.writes.history (length w.cache) (hear label n) a) (hear label n))
-hears w by a label n at needs s =
-    remembering w by a (heard label n) (hear label n) at (holder_lives w by a locks_turn at needs.0 s) (record {
-      quiet = record { log = refl; tables = refl; due = λ m. refl };
-      accounted = λ key holder seen account q. absurd cc;
-      locked_for = λ key holder seen account q. absurd cc;
-      labelled = λ other m q. ⊎_elim
-          (λ (r : heard label n ≡ told other m). absurd cc)
-          (λ (r : heard label n ≡ heard other m). let there : is_some (finite.get w.locks.labels label) ≡ true = ap is_some needs.1 in subst (λ (l : List ℕ). is_some (finite.get w.locks.labels l) ≡ true) (ap at_label r) there) q;
-      was_told = λ other m r. subst (λ (l : List ℕ). IsPast (participants past_of w) (told l m)) (ap at_label r) (subst (λ (z : ℕ). IsPast (participants past_of w) (told label z)) (ap at_number r) (s.board.numbers label n needs.1));
-      not_told = λ label m q. absurd cc;
-      stopped_at = λ m q. absurd cc;
-      was_installed = λ m q. absurd cc;
-    }) s
+hears w by a label n at needs s = remembering w by a (heard label n) (hear label n) at (holder_lives w by a locks_turn at needs.0 s) (ap is_some needs.1, s.board.numbers label n needs.1) s
 
 -- ---- who is found
 
@@ -163,6 +91,10 @@ pub from_map : {A B : Type 0} (f : A → B) (xs : List A) (i : ℕ) (y : B) → 
 from_map f [] i y e = absurd (some-ne-none y (sym e))
 from_map f (x ∷ xs) zero y e = (x, refl, some-injective (f x) y e)
 from_map f (x ∷ xs) (suc i) y e = from_map f xs i y e
+
+-- the participant of one that noted something
+pub noter_there : (w : World) (j : ℕ) (x : Participant × List Fact) → get_elem? (map noter_of w.actors) j ≡ some x → IsParticipantAt (participants owner_of w) j 0 (owner_of x.0)
+noter_there w j x there = let b = from_map noter_of w.actors j x there in (participants_of owner_of b.0, at_map (participants_of owner_of) w.actors j b.0 b.1, ap (λ (z : Participant × List Fact). some (owner_of z.0)) b.2)
 
 -- the past of an owner is one of the pasts
 past_there : (xs : List Actor) (j i : ℕ) (o : Owner) → IsParticipantAt (map (participants_of owner_of) xs) j i o → IsParticipantAt (map (participants_of past_of) xs) j i o.past
@@ -211,40 +143,8 @@ accounts w by a key (Txn name) (prepare_at n) at s k =
     (subst (λ (m : ℕ). length a.participant.seen ≤ m) (sym k.0) few, subst (λ (m : ℕ). m ≤ length w.writes.history) (sym k.0) (omega arith), ap (λ (h : List Entry). is_some (named h name)) whole ∙ k.1)
 accounts w by a key (Client client) (prepare_at n) at s k = absurd k
 
-abbrev key_in : Event → Option (List ℕ)
-key_in (found key holder seen account) = key
-key_in other = None
-
-abbrev holder_in : Event → Holder
-holder_in (found key holder seen account) = holder
-holder_in other = Txn []
-
-abbrev account_in : Event → Account
-account_in (found key holder seen account) = account
-account_in other = own
-
-abbrev seen_in : Event → ℕ
-seen_in (found key holder seen account) = seen
-seen_in other = 0
-
-held_key : (w : World) (key : List ℕ) (holder : Holder) → IsSound w → IsHolder w (Some key) holder → WasLocked w.opened (participants past_of w) key holder
-held_key w key holder s h = s.holders.keys key holder h
-
 pub finds_holder : (w : World) (by : ℕ) (a : Actor) (key : Option (List ℕ)) (holder : Holder) (account : Account) → get_elem? w.actors by ≡ some a → Needs w by a (find_holder key holder account) → IsSound w
     → IsSound (done w by (forgets w.writes.history (length w.cache) (find_holder key holder account) a) (find_holder key holder account))
 finds_holder w by a key holder account at needs s =
-    let seen = length a.participant.seen in
-    let e = found key holder seen account in
-    let Is : Option (List ℕ) → Holder → ℕ → Account → Type 0 = IsAccounted w.writes.history (participants past_of w) by 0 in
-    remembering w by a e (find_holder key holder account) at (holder_lives w by a locks_turn at needs.0 s) (record {
-      quiet = record { log = refl; tables = refl; due = λ m. refl };
-      accounted = λ k h n c q.
-          subst (λ (z : Option (List ℕ)). Is z h n c) (ap key_in q) (subst (λ (z : Holder). Is key z n c) (ap holder_in q)
-          (subst (λ (z : ℕ). Is key holder z c) (ap seen_in q) (subst (λ (z : Account). Is key holder seen z) (ap account_in q) (accounts w by a key holder account at s needs.2))));
-      locked_for = λ k h n c q. held_key w k h s (subst (λ (z : Option (List ℕ)). IsHolder w z h) (ap key_in q) (subst (λ (z : Holder). IsHolder w key z) (ap holder_in q) needs.1));
-      labelled = λ label m q. absurd (⊎_elim (λ (r : e ≡ told label m). cc) (λ (r : e ≡ heard label m). cc) q);
-      was_told = λ label m q. absurd cc;
-      not_told = λ label m q. absurd cc;
-      stopped_at = λ m q. absurd cc;
-      was_installed = λ m q. absurd cc;
-    }) s
+    remembering w by a (found key holder (length a.participant.seen) account) (find_holder key holder account) at (holder_lives w by a locks_turn at needs.0 s)
+    (accounts w by a key holder account at s needs.2, λ k q. s.holders.keys k holder (subst (λ (z : Option (List ℕ)). IsHolder w z holder) q needs.1)) s

@@ -1,5 +1,5 @@
 -- Registering, releasing and noting in the old commit map keep a world sound.
-use Rattle.std.proofs.Common.{◌≡◌, ◌≢◌, ◌⊎◌, inl, inr, ⊎_elim, ℕ, zero, suc, ◌+◌, ◌≤◌, ◌==◌, eq-eqb, ne_eqb, Bool, true, false, true≢false, List, [], ◌∷◌, ◌++◌, length, map, set, refl, sym, subst, ap, ◌∙◌, Option, Some, None, IsSome, append-nil, arith}
+use Rattle.std.proofs.Common.{◌≡◌, ◌≢◌, ◌⊎◌, inl, inr, ⊎_elim, ℕ, zero, suc, ◌+◌, ◌≤◌, ◌==◌, eq-eqb, ne_eqb, Bool, true, false, true≢false, List, [], ◌∷◌, ◌++◌, length, map, set, refl, sym, subst, ap, ◌∙◌, Option, Some, None, IsSome, append-nil, arith, ◌<◌}
 use mathlib.Core.Option.{some, some-injective, some-ne-none}
 use mathlib.Core.Logic.{dite}
 use native.Mathlib.Decide.{ℕ_discrete}
@@ -11,8 +11,8 @@ use Rattle.std.specs.FinMap as finite
 use Rattle.wp_model.specs.declared.entry.Entry.{Entry}
 use Rattle.wp_model.specs.Decision.{decision_of}
 use Rattle.wp_model.specs.History.{is_undecided}
-use Rattle.wp_model.specs.Snapshots.{Snapshot, Snapshots, IsLive, is_old_commit, after_register}
-use Rattle.wp_core.proofs.PastsGrow.{in_either}
+use Rattle.wp_model.specs.Snapshots.{Snapshot, Snapshots, IsLive, after_register}
+use Rattle.wp_core.proofs.PastsGrow.{in_front, in_either}
 use Rattle.wp_core.proofs.AllParticipants.{mine}
 use Rattle.wp_core.proofs.KeepsSeen.{shorter}
 use Rattle.wp_core.specs.Lists.{IsIn, one_if, total}
@@ -33,17 +33,17 @@ use Rattle.wp_core.proofs.Frames.{at_map}
 use Rattle.wp_core.proofs.Participants.{each_person_set, total_person_set}
 use Rattle.wp_core.proofs.HistoryLaws.{decided_or_undecided, decision_within}
 use Rattle.wp_core.proofs.Numbers.{get_inserted, get_inserted_else, get_removed, get_removed_else}
-use Rattle.wp_core.proofs.ReaderFacts.{same_some}
-use Rattle.wp_core.proofs.Readings.{in_at}
+use Rattle.wp_core.proofs.Readings.{below_smallest}
 use Rattle.wp_core.proofs.SnapshotsStep.{SnapshotsGrow, ViewsGrow, with_view, snapshots_step}
+use Rattle.wp_core.proofs.Tests.{same_some}
 
 -- ---- one number's snapshot
 
-pub placed_there : (m : Snapshots) (n : ℕ) (o : Option Snapshot) → finite.get (placed m n o) n ≡ o
+placed_there : (m : Snapshots) (n : ℕ) (o : Option Snapshot) → finite.get (placed m n o) n ≡ o
 placed_there m n None = get_removed m n
 placed_there m n (Some x) = get_inserted m n x
 
-pub placed_else : (m : Snapshots) (n : ℕ) (o : Option Snapshot) (t : ℕ) → t ≢ n → finite.get (placed m n o) t ≡ finite.get m t
+placed_else : (m : Snapshots) (n : ℕ) (o : Option Snapshot) (t : ℕ) → t ≢ n → finite.get (placed m n o) t ≡ finite.get m t
 placed_else m n None t ne = get_removed_else m n t ne
 placed_else m n (Some x) t ne = get_inserted_else m n x t ne
 
@@ -63,10 +63,6 @@ pub sum_append : (t : ℕ) (front back : List Registration) → at_number t (fro
 sum_append t [] back = omega arith
 sum_append t (r ∷ rs) back = let k = sum_append t rs back in omega arith
 
-in_append : {X : Type 0} (x : X) (front back : List X) → IsIn x front → IsIn x (front ++ back)
-in_append x [] back there = absurd there
-in_append x (y ∷ ys) back there = ⊎_elim (λ (e : y ≡ x). inl e) (λ (k : IsIn x ys). inr (in_append x ys back k)) there
-
 pub in_with : {X : Type 0} (x y : X) (front back : List X) → IsIn x (front ++ back) → IsIn x (front ++ y ∷ back)
 in_with x y [] back there = inr there
 in_with x y (z ∷ zs) back there = ⊎_elim (λ (e : z ≡ x). inl e) (λ (k : IsIn x (zs ++ back)). inr (in_with x y zs back k)) there
@@ -80,50 +76,57 @@ at_in [] i x e = absurd (some-ne-none x (sym e))
 at_in (y ∷ ys) zero x e = inl (some-injective y x e)
 at_in (y ∷ ys) (suc i) x e = inr (at_in ys i x e)
 
-in_snoc : {X : Type 0} (x y : X) (xs : List X) → IsIn x (xs ++ y ∷ []) → IsIn x xs ⊎ (y ≡ x)
-in_snoc x y [] there = ⊎_elim (λ (e : y ≡ x). inr e) (λ (k : ⊥). absurd k) there
-in_snoc x y (z ∷ zs) there = ⊎_elim (λ (e : z ≡ x). inl (inl e)) (λ (k : IsIn x (zs ++ y ∷ [])). ⊎_elim (λ (l : IsIn x zs). inl (inr l)) (λ (e : y ≡ x). inr e) (in_snoc x y zs k)) there
-
 -- ---- what is below a smallest
-
-pub below_of : (w : World) (by : ℕ) (a : Actor) (r : Registration) → get_elem? w.actors by ≡ some a → IsIn r a.participant.registered → IsSound w → IsBelowCommitted w.writes.history r
-below_of w by a r at there s =
-    let k = in_at r a.participant.registered there in s.registrations.smallest by 0 a.participant.registered (participants_of registered_of a, at_map (participants_of registered_of) w.actors by a at, refl) k.0 r k.1
 
 pub below_all : (history : List Entry) (rs : List Registration) → ((r : Registration) → IsIn r rs → IsBelowCommitted history r) → AreBelowCommitted history rs
 below_all history rs k i r at = k r (at_in rs i r at)
 
+-- ---- one number's snapshot changes
+
+module _ (history : List Entry) (m : Snapshots) (n : ℕ) (o : Option Snapshot) where
+  -- what is so of each number's snapshot, from what is so of this one's and of those that stay
+  at_each : (P : Option Snapshot → Option Snapshot → ℕ → Type 0) → P (finite.get m n) o n → ((t : ℕ) → t ≢ n → P (finite.get m t) (finite.get m t) t) → (t : ℕ) → P (finite.get m t) (finite.get (placed m n o) t) t
+  at_each P changed others t =
+      dite (ℕ_discrete t n)
+      (λ (e : t ≡ n). subst (λ (z : ℕ). P (finite.get m z) (finite.get (placed m n o) z) z) (sym e) (subst (λ (z : Option Snapshot). P (finite.get m n) z n) (sym (placed_there m n o)) changed))
+      (λ (ne : t ≢ n). subst (λ (z : Option Snapshot). P (finite.get m t) z t) (sym (placed_else m n o t ne)) (others t ne))
+
+  pub grows_at : IsLive m n ⊎ (n ≡ length history) → ((p : ℕ) → IsSome o → has_old p (finite.get m n) ≡ true → has_old p o ≡ true)
+      → ((p : ℕ) → has_old p o ≡ true → (has_old p (finite.get m n) ≡ true) ⊎ ((c : ℕ) × (decision_of history p ≡ Some c) × (p ≤ n) × (n < c))) → SnapshotsGrow history m (placed m n o)
+  grows_at known stays came = record {
+    live = at_each (λ old new t. IsSome new → IsSome old ⊎ (t ≡ length history)) (λ live. known) (λ t ne live. inl live);
+    stays = λ t p. at_each (λ old new u. IsSome new → has_old p old ≡ true → has_old p new ≡ true) (stays p) (λ u ne live there. there) t;
+    came = λ t p. at_each (λ old new u. has_old p new ≡ true → (has_old p old ≡ true) ⊎ ((c : ℕ) × (decision_of history p ≡ Some c) × (p ≤ u) × (u < c))) (came p) (λ u ne there. inl there) t;
+  }
+
+  pub none_at : ((p : ℕ) → has_old p (finite.get m n) ≡ false → has_old p o ≡ false) → NoOldCommits m → NoOldCommits (placed m n o)
+  none_at still none t p = at_each (λ old new u. has_old p old ≡ false → has_old p new ≡ false) (still p) (λ u ne k. k) t (none t p)
+
+  pub registered_at : (xs : List Actor) (by : ℕ) (a b : Actor) → get_elem? xs by ≡ some a → b.joined ≡ a.joined → count_of o + at_number n a.participant.registered ≡ count_of (finite.get m n) + at_number n b.participant.registered
+      → ((t : ℕ) → t ≢ n → at_number t b.participant.registered ≡ at_number t a.participant.registered) → ((x : Snapshot) → o ≡ Some x → (1 ≤ x.registrations) × (n ≤ length history)) → AreBelowCommitted history b.participant.registered
+      → AreRegistered history m (map (participants_of registered_of) xs) → AreRegistered history (placed m n o) (map (participants_of registered_of) (set xs by b))
+  registered_at xs by a b at same count apart live below k = record {
+    counted = λ t.
+        let sum = total_person_set registered_of (at_number t) xs by a b at same in
+        let was = k.counted t in
+        let now = at_each (λ old new u. count_of new + at_number u a.participant.registered ≡ count_of old + at_number u b.participant.registered) count (λ u ne. ap (λ (z : ℕ). count_of (finite.get m u) + z) (sym (apart u ne))) t in
+        omega (arith, sum, was, now);
+    live = at_each (λ old new u. (x : Snapshot) → new ≡ Some x → (1 ≤ x.registrations) × (u ≤ length history)) live (λ u ne. k.live u);
+    smallest = each_person_set registered_of (AreBelowCommitted history) xs by a b at below same k.smallest;
+  }
+
 -- ---- one registration more
 
 module _ (w : World) (by : ℕ) (a : Actor) (n least : ℕ) (at : get_elem? w.actors by ≡ some a) (s : IsSound w) (known : IsLive w.snapshots n ⊎ (n ≡ length w.writes.history)) (low : n ≤ length w.writes.history) (below : IsBelowCommitted w.writes.history (record { number = n; smallest = least })) where
-  there_now : finite.get (with_registered w.snapshots n) n ≡ after_register (finite.get w.snapshots n)
-  there_now = placed_there w.snapshots n (after_register (finite.get w.snapshots n))
-
-  else_now : (t : ℕ) → t ≢ n → finite.get (with_registered w.snapshots n) t ≡ finite.get w.snapshots t
-  else_now t ne = placed_else w.snapshots n (after_register (finite.get w.snapshots n)) t ne
+  abbrev r : Registration
+  r = record { number = n; smallest = least }
 
   same_old : (p : ℕ) (o : Option Snapshot) → has_old p (after_register o) ≡ has_old p o
   same_old p None = finset.contains-empty nat_cmp p
   same_old p (Some x) = refl
 
-  old_now : (t p : ℕ) → is_old_commit (with_registered w.snapshots n) t p ≡ is_old_commit w.snapshots t p
-  old_now t p =
-      dite (ℕ_discrete t n)
-      (λ (e : t ≡ n). ap (λ (z : ℕ). is_old_commit (with_registered w.snapshots n) z p) e ∙ (ap (has_old p) there_now ∙ (same_old p (finite.get w.snapshots n) ∙ ap (λ (z : ℕ). is_old_commit w.snapshots z p) (sym e))))
-      (λ (ne : t ≢ n). ap (has_old p) (else_now t ne))
-
   grows_now : SnapshotsGrow w.writes.history w.snapshots (with_registered w.snapshots n)
-  grows_now = record {
-    live = λ t live.
-        dite (ℕ_discrete t n)
-        (λ (e : t ≡ n). ⊎_elim (λ (k : IsLive w.snapshots n). inl (subst (IsLive w.snapshots) (sym e) k)) (λ (k : n ≡ length w.writes.history). inr (e ∙ k)) known)
-        (λ (ne : t ≢ n). inl (subst IsSome (else_now t ne) live));
-    stays = λ t p live there. old_now t p ∙ there;
-    came = λ t p there. inl (sym (old_now t p) ∙ there);
-  }
-
-  none_now : NoOldCommits w.snapshots → NoOldCommits (with_registered w.snapshots n)
-  none_now none t p = old_now t p ∙ none t p
+  grows_now = grows_at w.writes.history w.snapshots n (after_register (finite.get w.snapshots n)) known (λ p live there. same_old p (finite.get w.snapshots n) ∙ there) (λ p there. inl (sym (same_old p (finite.get w.snapshots n)) ∙ there))
 
   one_more : (o : Option Snapshot) → count_of (after_register o) ≡ count_of o + 1
   one_more None = refl
@@ -133,29 +136,12 @@ module _ (w : World) (by : ℕ) (a : Actor) (n least : ℕ) (at : get_elem? w.ac
   found_more None x e = let q = same_some (record { registrations = 1; old_commits = finset.empty }) x e in subst (λ (z : Snapshot). 1 ≤ z.registrations) q (omega arith)
   found_more (Some y) x e = let q = same_some (record y { registrations = y.registrations + 1 }) x e in subst (λ (z : Snapshot). 1 ≤ z.registrations) q (omega arith)
 
-  registered_now : (seen learned : List Entry) → AreRegistered w.writes.history (with_registered w.snapshots n) (map (participants_of registered_of) (set w.actors by (with_view a seen learned (a.participant.registered ++ record { number = n; smallest = least } ∷ []) a.reading)))
-  registered_now seen learned =
-      let r : Registration = record { number = n; smallest = least } in
-      let b : Actor = with_view a seen learned (a.participant.registered ++ r ∷ []) a.reading in record {
-        counted = λ t.
-            let sum = total_person_set registered_of (at_number t) w.actors by a b at refl in
-            let more : at_number t (a.participant.registered ++ r ∷ []) ≡ at_number t a.participant.registered + (one_if (n == t) + 0) = sum_append t a.participant.registered (r ∷ []) in
-            let old = s.registrations.counted t in
-            dite (ℕ_discrete t n)
-            (λ (e : t ≡ n).
-            let count : count_of (finite.get (with_registered w.snapshots n) t) ≡ count_of (finite.get w.snapshots t) + 1 = ap (λ (z : ℕ). count_of (finite.get (with_registered w.snapshots n) z)) e ∙ (ap count_of there_now ∙ (one_more (finite.get w.snapshots n) ∙ ap (λ (z : ℕ). count_of (finite.get w.snapshots z) + 1) (sym e))) in
-            let one : one_if (n == t) ≡ 1 = ap one_if (eq-eqb n t (sym e)) in omega arith)
-            (λ (ne : t ≢ n).
-            let count : count_of (finite.get (with_registered w.snapshots n) t) ≡ count_of (finite.get w.snapshots t) = ap count_of (else_now t ne) in
-            let none : one_if (n == t) ≡ 0 = ap one_if (ne_eqb n t (λ (e : n ≡ t). ne (sym e))) in omega arith);
-        live = λ t x there.
-            dite (ℕ_discrete t n)
-            (λ (e : t ≡ n). (found_more (finite.get w.snapshots n) x (sym there_now ∙ (ap (finite.get (with_registered w.snapshots n)) (sym e) ∙ there)), subst (λ (z : ℕ). z ≤ length w.writes.history) (sym e) low))
-            (λ (ne : t ≢ n). s.registrations.live t x (sym (else_now t ne) ∙ there));
-        smallest = each_person_set registered_of (AreBelowCommitted w.writes.history) w.actors by a b at
-            (below_all w.writes.history (a.participant.registered ++ r ∷ []) (λ q there. ⊎_elim (λ (k : IsIn q a.participant.registered). below_of w by a q at k s) (λ (e : r ≡ q). subst (IsBelowCommitted w.writes.history) e below) (in_snoc q r a.participant.registered there))) refl
-            s.registrations.smallest;
-      }
+  registered_now : (seen learned : List Entry) → AreRegistered w.writes.history (with_registered w.snapshots n) (map (participants_of registered_of) (set w.actors by (with_view a seen learned (a.participant.registered ++ r ∷ []) a.reading)))
+  registered_now seen learned = registered_at w.writes.history w.snapshots n (after_register (finite.get w.snapshots n)) w.actors by a (with_view a seen learned (a.participant.registered ++ r ∷ []) a.reading) at refl
+      (let count = one_more (finite.get w.snapshots n) in let more = sum_append n a.participant.registered (r ∷ []) in let one : one_if (n == n) ≡ 1 = ap one_if (eq-eqb n n refl) in omega (arith, count, more, one))
+      (λ t ne. let more = sum_append t a.participant.registered (r ∷ []) in let none : one_if (n == t) ≡ 0 = ap one_if (ne_eqb n t (λ (e : n ≡ t). ne (sym e))) in omega (arith, more, none))
+      (λ x is. (found_more (finite.get w.snapshots n) x is, low))
+      (below_all w.writes.history (a.participant.registered ++ r ∷ []) (λ q there. ⊎_elim (λ (k : IsIn q a.participant.registered). below_smallest w by a q at k s) (λ (e : r ≡ q). subst (IsBelowCommitted w.writes.history) e below) (in_either q r a.participant.registered there))) s.registrations
 
   reads_now : (seen learned : List Entry) → StartsWith w.writes.history seen → StartsWith w.writes.history learned → length a.participant.seen ≤ length seen → n ≤ length seen → ViewsGrow w a (with_registered w.snapshots n) seen learned (a.participant.registered ++ record { number = n; smallest = least } ∷ []) a.reading
   reads_now seen learned x y more now = record {
@@ -164,8 +150,8 @@ module _ (w : World) (by : ℕ) (a : Actor) (n least : ℕ) (at : get_elem? w.ac
     view_part = λ r there. ⊎_elim
         (λ (k : IsIn r a.participant.registered). let l = s.viewed by 0 (view_of a.participant) (mine view_of w.actors by a a at refl) r k in omega (arith, l, more))
         (λ (k : record { number = n; smallest = least } ≡ r). subst (λ (z : Registration). z.number ≤ length seen) k now) (in_either r (record { number = n; smallest = least }) a.participant.registered there);
-    reads = λ r is. (is, in_append (snapshot_of r) a.participant.registered (record { number = n; smallest = least } ∷ []) (s.readers by (reader_of a) (at_map reader_of w.actors by a at) r is).registered_at);
-    none_kept = λ zero_flag. none_now (s.flags.none_kept zero_flag);
+    reads = λ r is. (is, in_front (snapshot_of r) a.participant.registered (record { number = n; smallest = least } ∷ []) (s.readers by (reader_of a) (at_map reader_of w.actors by a at) r is).registered_at);
+    none_kept = λ zero_flag. none_at w.writes.history w.snapshots n (after_register (finite.get w.snapshots n)) (λ p none. same_old p (finite.get w.snapshots n) ∙ none) (s.flags.none_kept zero_flag);
   }
 
 none_at_zero : (history : List Entry) → has_versions_at history 0 ≡ true → ⊥

@@ -4,7 +4,6 @@ use mathlib.Core.Option.{some}
 use lib.ListN.{get_elem?}
 use Rattle.std.specs.FinMap as finite
 use Rattle.wp_model.specs.LockTables.{LockTables}
-use Rattle.wp_core.proofs.Frames.{at_map}
 use Rattle.wp_core.proofs.AllParticipants.{mine}
 use Rattle.wp_core.proofs.KeepsSeen.{shorter}
 use Rattle.wp_core.specs.Views.{Event, told, heard, Fact}
@@ -15,17 +14,20 @@ use Rattle.wp_core.specs.Changes.{with_label}
 use Rattle.wp_core.specs.Effects.{done}
 use Rattle.wp_core.specs.Needs.{Needs}
 use Rattle.wp_core.specs.Notes.{forgets}
-use Rattle.wp_core.specs.Sound.Actors.{participants_of, seen_of, learned_of}
+use Rattle.wp_core.specs.Sound.Actors.{participants_of, seen_of}
 use Rattle.wp_core.specs.Sound.Locks.{owner_of, AreLocked}
-use Rattle.wp_core.specs.Sound.Pasts.{past_of, IsPast, AreHolders, IsBoard}
+use Rattle.wp_core.specs.Sound.Pasts.{past_of, IsPast, IsBoard}
 use Rattle.wp_core.specs.IsSound.{IsSound, participants}
-use Rattle.wp_core.proofs.Keyed.{is_word_same, at_inserted, else_inserted}
-use Rattle.wp_core.proofs.OwnersStay.{same_transactions, locked_still}
-use Rattle.wp_core.proofs.PastsGrow.{in_front, past_still, past_last, past_before}
-use Rattle.wp_core.proofs.Quiet.{SoIn}
-use Rattle.wp_core.proofs.LocksChange.{SoWith, actor_after, actors_after, LocksParts, locks_change}
-use Rattle.wp_core.proofs.Remembers.{IsQuiet, holders_more, faults_more, edits_more}
-use Rattle.wp_core.proofs.KeepsRemembered.{at_label}
+use Rattle.wp_core.proofs.Keyed.{is_word_same, at_inserted, else_inserted, some_inserted}
+use Rattle.wp_core.proofs.OwnersStay.{past_locked}
+use Rattle.wp_core.proofs.PastsGrow.{past_still, past_last, past_before}
+use Rattle.wp_core.proofs.LocksChange.{SoWith, actor_after, actors_after, LocksParts, locks_change, pasts_grown}
+use Rattle.wp_core.proofs.Remembers.{IsQuiet}
+use Rattle.wp_core.proofs.AllParts.{SoIn}
+
+abbrev at_label : Event → List ℕ
+at_label (told label n) = label
+at_label other = []
 
 module _ (w : World) (by : ℕ) (a : Actor) (label : List ℕ) (at : get_elem? w.actors by ≡ some a) (s : IsSound w) where
   abbrev n : ℕ
@@ -41,15 +43,10 @@ module _ (w : World) (by : ℕ) (a : Actor) (label : List ℕ) (at : get_elem? w
   p = record a.participant { past = a.participant.past ++ e ∷ [] }
 
   abbrev b : Actor
-  b = actor_after w by a (tell label) p a.learned t
+  b = actor_after w by a (tell label) p t
 
   abbrev after : List (List (List Event))
-  after = map (participants_of past_of) (actors_after w by a (tell label) p a.learned t)
-
-  told_label : (l : List ℕ) → is_some (finite.get w.locks.labels l) ≡ true → is_some (finite.get t.labels l) ≡ true
-  told_label l k = ⊎_elim
-      (λ (q : l ≡ label). ap is_some (at_inserted w.locks.labels label n l q))
-      (λ (ne : l ≡ label → ⊥). ap is_some (else_inserted w.locks.labels label n l ne) ∙ k) (is_word_same l label)
+  after = map (participants_of past_of) (actors_after w by a (tell label) p t)
 
   told_new : (l : List ℕ) (m : ℕ) → e ≡ told l m → is_some (finite.get t.labels l) ≡ true
   told_new l m q = ap is_some (at_inserted w.locks.labels label n l (sym (ap at_label q)))
@@ -63,8 +60,8 @@ module _ (w : World) (by : ℕ) (a : Actor) (label : List ℕ) (at : get_elem? w
   board_part : IsBoard (world.published w) t after
   board_part = record {
     labels = λ l m h. ⊎_elim
-        (λ (k : IsPast after (told l m)). ⊎_elim (λ (c : IsPast (participants past_of w) (told l m)). told_label l (s.board.labels l m (inl c))) (λ (q : e ≡ told l m). told_new l m q) (past_before w.actors by a b e at refl refl (told l m) k))
-        (λ (k : IsPast after (heard l m)). ⊎_elim (λ (c : IsPast (participants past_of w) (heard l m)). told_label l (s.board.labels l m (inr c))) (λ (q : e ≡ heard l m). absurd cc) (past_before w.actors by a b e at refl refl (heard l m) k)) h;
+        (λ (k : IsPast after (told l m)). ⊎_elim (λ (c : IsPast (participants past_of w) (told l m)). some_inserted w.locks.labels label n l (s.board.labels l m (inl c))) (λ (q : e ≡ told l m). told_new l m q) (past_before w.actors by a b e at refl refl (told l m) k))
+        (λ (k : IsPast after (heard l m)). ⊎_elim (λ (c : IsPast (participants past_of w) (heard l m)). some_inserted w.locks.labels label n l (s.board.labels l m (inr c))) (λ (q : e ≡ heard l m). absurd cc) (past_before w.actors by a b e at refl refl (heard l m) k)) h;
     numbers = λ l m h. ⊎_elim
         (λ (q : l ≡ label).
         let f : Some n ≡ Some m = sym (at_inserted w.locks.labels label n l q) ∙ h in
@@ -89,30 +86,19 @@ module _ (w : World) (by : ℕ) (a : Actor) (label : List ℕ) (at : get_elem? w
   quiet : IsQuiet e
   quiet = record { log = refl; tables = refl; due = λ m. refl }
 
-  locked_part : AreLocked w.writes.history t (map (participants_of owner_of) (actors_after w by a (tell label) p a.learned t))
+  locked_part : AreLocked w.writes.history t (map (participants_of owner_of) (actors_after w by a (tell label) p t))
   locked_part =
-      let k = locked_still w.actors by a b at refl (same_transactions (owner_of a.participant) (a.participant.past ++ e ∷ []) (λ x c. in_front x a.participant.past (e ∷ []) c)) w.writes.history w.locks s.locks in
+      let k = past_locked w.actors by a b e at refl refl w.writes.history w.locks s.locks in
       record { prepared_names = k.prepared_names; prepared_keys = k.prepared_keys; had = λ j i o there. let c = k.had j i o there in record { names = c.names; keys = c.keys; direct = c.direct }; apart = k.apart; names_had = k.names_had; names_left = k.names_left; keys_live = k.keys_live; keys_known = k.keys_known; keys_direct = k.keys_direct }
 
-  holders_part : AreHolders w.opened w.writes.history t after
-  holders_part = let k = holders_more w.actors by a b e at refl refl w.opened w.writes.history w.locks (λ key holder seen account q. absurd cc) (λ key holder seen account q. absurd cc) s.holders in record { names = k.names; keys = k.keys; found_keys = k.found_keys; found = k.found }
-
-  parts : LocksParts w by a (tell label) p a.learned t
+  parts : LocksParts w by a (tell label) p t
   parts = record {
-    seen = s.seen by 0 a.participant.seen (mine seen_of w.actors by a b at refl);
-    learned_part = s.learned by a.learned (at_map learned_of w.actors by a at);
-    grown = omega arith;
-    own = refl;
-    registered = refl;
     locks_part = locked_part;
-    holders = holders_part;
-    board = board_part;
-    faults = faults_more w.actors by a b e at refl refl w.writes w.installed.halted quiet (λ m q. absurd cc) s.faults;
-    edits = edits_more w.actors by a b e at refl refl w.first_edit w.installed quiet (λ m q. absurd cc) s.edits;
+    pasts_part = pasts_grown w by a (tell label) p t at e refl quiet tt (λ name live. inr live) (λ key holder h. inr h) board_part s;
     mine = λ fact left k. mine_still fact k;
     others = λ j x fact ne there k. others_still x fact k;
   }
 
 pub tells : (w : World) (by : ℕ) (a : Actor) (label : List ℕ) → get_elem? w.actors by ≡ some a → Needs w by a (tell label) → IsSound w
     → IsSound (done w by (forgets w.writes.history (length w.cache) (tell label) a) (tell label))
-tells w by a label at needs s = locks_change w by a (tell label) (p w by a label at s) a.learned (t w by a label at s) at needs (parts w by a label at s) s
+tells w by a label at needs s = locks_change w by a (tell label) (p w by a label at s) (t w by a label at s) at needs (parts w by a label at s) s

@@ -1,5 +1,5 @@
 -- Learning from a note keeps a world sound.
-use Rattle.std.proofs.Common.{◌≡◌, ◌≢◌, ◌⊎◌, ⊎_elim, inl, inr, ℕ, zero, suc, ◌+◌, Bool, false, true≢false, not, List, [], ◌∷◌, length, map, set, filter, refl, sym, subst, ap, ◌∙◌, arith}
+use Rattle.std.proofs.Common.{◌≡◌, ◌≢◌, ◌⊎◌, ⊎_elim, inl, inr, ℕ, zero, suc, ◌+◌, false, true≢false, not, List, [], ◌∷◌, length, map, set, refl, sym, subst, ap, ◌∙◌, arith}
 use mathlib.Core.Option.{some, some-injective, some-ne-none}
 use mathlib.Core.Logic.{dite}
 use native.Mathlib.Decide.{ℕ_discrete}
@@ -14,11 +14,11 @@ use Rattle.wp_core.specs.Needs.{Needs}
 use Rattle.wp_core.specs.Notes.{forgets, ends}
 use Rattle.wp_core.specs.Sound.Actors.{StartsWith, seen_of, AreLed, Role, role_of}
 use Rattle.wp_core.specs.IsSound.{IsSound}
-use Rattle.wp_core.proofs.Frames.{kept_map, at_map, in_filter}
+use Rattle.wp_core.proofs.Frames.{kept_map, at_map}
 use Rattle.wp_core.proofs.AllParticipants.{mine}
 use Rattle.wp_core.proofs.Persons.{IsNone, sum_of, Moves}
 use Rattle.wp_core.proofs.ActorsMove.{actors_move, people}
-use Rattle.wp_core.proofs.MakesActors.{StaysAs}
+use Rattle.wp_core.proofs.MakesActors.{StaysAs, stays_but}
 use Rattle.wp_core.proofs.TakesOver.{left, other_there, first_there, else_there, who, idle_person, sums_left, parts_left}
 
 -- an actor that is not live is not the first
@@ -78,8 +78,7 @@ pub learns : (w : World) (by : ℕ) (a : Actor) (other : ℕ) (o : Actor) → ge
     → IsSound (done w by (forgets w.writes.history (length w.cache) (learn other o) a) (learn other o))
 learns w by a other o at needs s =
     let b : Actor = informed (forgets w.writes.history (length w.cache) (learn other o) a) o in
-    let test : Fact → Bool = λ (f : Fact). not (ends w.writes.history (length w.cache) (learn other o) f) in
-    let same : StaysAs a b = record { participant = refl; held = refl; reading = refl; live = refl; notes = λ fact h. (in_filter test fact a.notes h).0; no_notes = λ e. ap (filter test) e } in
+    let same : StaysAs a b = stays_but a (λ (f : Fact). not (ends w.writes.history (length w.cache) (learn other o) f)) b.learned b.made b.joined in
     let idle = s.idle other o needs.1 needs.2 in
     let led = s.led.others other (role_of o) (at_map role_of w.actors other o needs.1) (not_first w other o s needs.1 needs.2) in
     let role : role_of joined_actor ≡ role_of o = λ i. record { live = sym needs.2 i; made = sym led.0 i; joined = sym led.1 i } in

@@ -1,3 +1,5 @@
+pub mod Tests
+pub mod CrashImages
 pub mod Frames
 pub mod Participants
 pub mod ReaderOrder
@@ -11,6 +13,8 @@ pub mod Gives
 pub mod KeepsGive
 pub mod HistoryLaws
 pub mod Changed
+pub mod AllParts
+pub mod HoldersChange
 pub mod Quiet
 pub mod TakesTurn
 pub mod StoresFlag
@@ -35,6 +39,9 @@ pub mod Remembers
 pub mod KeepsRemembered
 pub mod Keyed
 pub mod LocksChange
+pub mod KeyLocked
+pub mod OtherOwners
+pub mod OtherKeys
 pub mod GainsTransaction
 pub mod KeepsClaimed
 pub mod KeepsTold

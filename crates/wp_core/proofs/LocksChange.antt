@@ -1,41 +1,38 @@
--- A step of who holds the locks turn: it changes names, keys and labels, and of its own participant all but snapshots and
--- published numbers.
-use Rattle.std.proofs.Common.{◌≡◌, ◌≢◌, ℕ, true, not, List, ◌∷◌, length, map, set, refl, ap, ◌≤◌, arith, subst}
+-- A step of who holds the locks turn: it changes names, keys and labels, and of its own participant the transactions, the
+-- direct write and the past.
+use Rattle.std.proofs.Common.{◌≡◌, ◌≢◌, ℕ, true, not, List, ◌∷◌, length, map, set, refl, ap, subst, is_some, ◌++◌, [], ◌⊎◌, Some, ◌∙◌, sym}
 use mathlib.Core.Option.{some}
+use Rattle.std.specs.FinMap as finite
 use lib.ListN.{get_elem?}
-use Rattle.wp_model.specs.declared.entry.Entry.{Entry}
+use Rattle.wp_model.specs.declared.holder.Holder.{Holder}
+use Rattle.wp_model.specs.Batch.{key_cmp}
 use Rattle.wp_model.specs.LockTables.{LockTables}
-use Rattle.wp_core.proofs.AllParticipants.{mine}
-use Rattle.wp_core.specs.Lists.{IsIn}
 use Rattle.wp_core.specs.Turns.{Holds, locks_turn}
 use Rattle.wp_core.specs.Tables.{Content, locks}
-use Rattle.wp_core.specs.Views.{Fact}
+use Rattle.wp_core.specs.Views.{Fact, Event, claimed, took, locked}
 use Rattle.wp_core.specs.World.{Actor, Participant, World, content_of, with_content}
 use Rattle.wp_core.specs.World as world
 use Rattle.wp_core.specs.Steps.{Step}
 use Rattle.wp_core.specs.Changes.{change, held_with}
 use Rattle.wp_core.specs.Notes.{forgets, ends}
-use Rattle.wp_core.specs.Sound.Actors.{seen_of, own_of, StartsWith, AreOwned, AreHeld, AreLed, participants_of, learned_of, held_of, role_of, IsParticipantAt}
-use Rattle.wp_core.specs.Sound.Snapshots.{registered_of, AreRegistered, view_of, HasSeen}
-use Rattle.wp_core.specs.Sound.Locks.{owner_of, AreLocked}
-use Rattle.wp_core.specs.Sound.Pasts.{past_of, AreHolders, IsBoard, AreFaults, AreEdits}
-use Rattle.wp_core.specs.Sound.Reader.{AreReaders, AreJudged, reader_of}
-use Rattle.wp_core.specs.Sound.Views.{IsSo, IsNoted, noter_of}
+use Rattle.wp_core.specs.Sound.Actors.{participants_of, IsParticipantAt}
+use Rattle.wp_core.specs.Sound.Locks.{owner_of, AreLocked, Owner}
+use Rattle.wp_core.specs.Sound.Pasts.{past_of, IsBoard}
+use Rattle.wp_core.specs.Sound.Views.{IsSo}
 use Rattle.wp_core.specs.IsSound.{IsSound, participants}
-use Rattle.wp_core.proofs.Frames.{each_map_set, at_map, in_filter}
-use Rattle.wp_core.proofs.Participants.{each_person_set}
-use Rattle.wp_core.proofs.Changed.{others_hold, holds_changed, have_changed}
-use Rattle.wp_core.proofs.Quiet.{SoIn, kept_part, idle_after}
-use Rattle.wp_core.proofs.KeepsRemembered.{from_map}
+use Rattle.wp_core.proofs.Quiet.{idle_after}
+use Rattle.wp_core.proofs.KeepsRemembered.{noter_there}
+use Rattle.wp_core.proofs.AllParts.{PastParts, SoIn, all_parts, tables_of, views_still, pasts_still, readers_still, turns_changed, notes_stay, led_still}
+use Rattle.wp_core.proofs.Remembers.{IsQuiet, FindsNothing, TellsNothing, holders_new, board_still, faults_more, edits_more}
 
 -- what is noted, with this table in place of the world's
 abbrev pub SoWith : World → LockTables → Participant → Fact → Type 0
 SoWith w t = IsSo w.delayed_flag w.old_flag w.max_evicted w.cache w.writes w.prepared w.snapshots w.store t w.installed
 
-module _ (w : World) (by : ℕ) (a : Actor) (step : Step) (p : Participant) (learned : List Entry) (t : LockTables) where
+module _ (w : World) (by : ℕ) (a : Actor) (step : Step) (p : Participant) (t : LockTables) where
   -- the actor before it knows the table
   abbrev pub actor_then : Actor
-  actor_then = record (forgets w.writes.history (length w.cache) step a) { participant = p; learned = learned }
+  actor_then = record (forgets w.writes.history (length w.cache) step a) { participant = record a.participant { transactions = p.transactions; direct = p.direct; past = p.past } }
 
   abbrev pub actor_after : Actor
   actor_after = record actor_then { held = held_with actor_then.held (locks t) }
@@ -43,55 +40,57 @@ module _ (w : World) (by : ℕ) (a : Actor) (step : Step) (p : Participant) (lea
   abbrev pub actors_after : List Actor
   actors_after = set w.actors by actor_after
 
+  abbrev pub owners_after : List (List Owner)
+  owners_after = map (participants_of owner_of) actors_after
+
   pub record LocksParts : Type 0 where
-    pub seen : StartsWith w.writes.history p.seen
-    pub learned_part : StartsWith w.writes.history learned
-    pub grown : length a.participant.seen ≤ length p.seen
-    pub own : p.own ≡ a.participant.own
-    pub registered : p.registered ≡ a.participant.registered
-    pub locks_part : AreLocked w.writes.history t (map (participants_of owner_of) actors_after)
-    pub holders : AreHolders w.opened w.writes.history t (map (participants_of past_of) actors_after)
-    pub board : IsBoard (world.published w) t (map (participants_of past_of) actors_after)
-    pub faults : AreFaults w.writes w.installed.halted (map (participants_of past_of) actors_after)
-    pub edits : AreEdits w.first_edit w.installed (map (participants_of past_of) actors_after)
-    pub mine : (fact : Fact) → not (ends w.writes.history (length w.cache) step fact) ≡ true → SoIn w a.participant fact → SoWith w t p fact
+    pub locks_part : AreLocked w.writes.history t owners_after
+    pub pasts_part : PastParts w.opened w.writes t w.first_edit w.installed actors_after
+    pub mine : (fact : Fact) → not (ends w.writes.history (length w.cache) step fact) ≡ true → SoIn w a.participant fact → SoWith w t (record a.participant { transactions = p.transactions; direct = p.direct; past = p.past }) fact
     pub others : (j : ℕ) (q : Participant) (fact : Fact) → j ≢ by → IsParticipantAt (participants owner_of w) j 0 (owner_of q) → SoIn w q fact → SoWith w t q fact
 
-  noter_there : (j : ℕ) (x : Participant × List Fact) → get_elem? (map noter_of w.actors) j ≡ some x → IsParticipantAt (participants owner_of w) j 0 (owner_of x.0)
-  noter_there j x there = let b = from_map noter_of w.actors j x there in (participants_of owner_of b.0, at_map (participants_of owner_of) w.actors j b.0 b.1, ap (λ (z : Participant × List Fact). some (owner_of z.0)) b.2)
+  module _ (at : get_elem? w.actors by ≡ some a) where
+    pub locks_change : Holds w.holders locks_turn by → LocksParts → IsSound w → IsSound (change w by actor_then (locks t))
+    locks_change holds k s =
+        let b : Actor = actor_after in
+        let e : Content = locks t in
+        all_parts (with_content w e) actors_after (tables_of w s) (views_still w by a b at refl s) k.locks_part k.pasts_part (turns_changed w by a b at e holds refl s) (readers_still w by a b at refl s)
+        (notes_stay w by a b at step w.holders (SoWith w t) refl (λ fact left m. record { guarded = m.guarded; is_so = k.mine fact left m.is_so }) (λ j x fact ne there m. record { guarded = m.guarded; is_so = k.others j x.0 fact ne (noter_there w j x there) m.is_so }) s)
+        (led_still w by a b at refl s) (idle_after w by a b locks_turn at holds s refl)
 
-  pub locks_change : get_elem? w.actors by ≡ some a → Holds w.holders locks_turn by → LocksParts → IsSound w → IsSound (change w by actor_then (locks t))
-  locks_change at holds k s =
-      let b : Actor = actor_after in
-      let e : Content = locks t in
-      record {
-        history = s.history;
-        seen = each_person_set seen_of (StartsWith w.writes.history) w.actors by a b at k.seen refl s.seen;
-        learned = each_map_set learned_of (λ j x. StartsWith w.writes.history x) w.actors by b k.learned_part (λ j x ne there. s.learned j x there);
-        owned = kept_part w by a b at (participants_of own_of) (AreOwned w.opened w.writes.history) (λ i. k.own i ∷ map own_of a.joined) s.owned;
-        cache = s.cache;
-        decided = s.decided;
-        undecided = s.undecided;
-        delayed = s.delayed;
-        registrations = kept_part w by a b at (participants_of registered_of) (AreRegistered w.writes.history w.snapshots) (λ i. k.registered i ∷ map registered_of a.joined) s.registrations;
-        flags = s.flags;
-        versions = s.versions;
-        flushed = s.flushed;
-        locks = k.locks_part;
-        holders = k.holders;
-        board = k.board;
-        faults = k.faults;
-        edits = k.edits;
-        pending = s.pending;
-        held = each_map_set held_of (AreHeld w.holders (content_of (with_content w e))) w.actors by b (holds_changed w e by a.held (s.held by a.held (at_map held_of w.actors by a at)))
-            (λ j x ne there. others_hold w e by j x holds ne (s.held j x there));
-        have = have_changed w.holders e by w.actors a b at refl s.have;
-        readers = kept_part w by a b at reader_of (AreReaders w.writes.history w.max_evicted w.cache) (λ i. (k.registered i, a.reading)) s.readers;
-        viewed = each_person_set view_of HasSeen w.actors by a b at (λ r h. let l = s.viewed by 0 (view_of a.participant) (mine view_of w.actors by a a at refl) r (subst (IsIn r) k.registered h) in let m = k.grown in omega (arith, l, m)) refl s.viewed;
-        judged = kept_part w by a b at reader_of (AreJudged w.writes.history) (λ i. (k.registered i, a.reading)) s.judged;
-        noted = each_map_set noter_of (λ j x. (fact : Fact) → IsIn fact x.1 → IsNoted w.holders (SoWith w t) j x fact) w.actors by b
-            (λ fact there. let left = in_filter (λ (f : Fact). not (ends w.writes.history (length w.cache) step f)) fact a.notes there in let m = s.noted by (noter_of a) (at_map noter_of w.actors by a at) fact left.0 in record { guarded = m.guarded; is_so = k.mine fact left.1 m.is_so })
-            (λ j x ne there fact h. let m = s.noted j x there fact h in record { guarded = m.guarded; is_so = k.others j x.0 fact ne (noter_there j x there) m.is_so });
-        led = kept_part w by a b at role_of AreLed refl s.led;
-        idle = idle_after w by a b locks_turn at holds s refl;
-      }
+    -- the pasts, where the actor remembers an event, and names and keys that were not before are that event's
+    pub pasts_grown : (e : Event) → p.past ≡ a.participant.past ++ e ∷ [] → IsQuiet e → FindsNothing e
+        → ((name : List ℕ) → is_some (finite.get t.names name) ≡ true → ((e ≡ claimed name) ⊎ (e ≡ took name)) ⊎ (is_some (finite.get w.locks.names name) ≡ true))
+        → ((key : List ℕ) (holder : Holder) → finite.get t.keys key ≡ Some holder → (e ≡ locked key holder) ⊎ (finite.get w.locks.keys key ≡ Some holder))
+        → IsBoard (world.published w) t (map (participants_of past_of) actors_after) → IsSound w → PastParts w.opened w.writes t w.first_edit w.installed actors_after
+    pasts_grown e grown quiet nothing names keys board s = record {
+      holders = holders_new w.actors by a actor_after e at refl grown w.opened w.writes.history w.locks t nothing names keys s.holders;
+      board = board;
+      faults = faults_more w.actors by a actor_after e at refl grown w.writes w.installed.halted quiet (λ n q. absurd (subst FindsNothing q nothing)) s.faults;
+      edits = edits_more w.actors by a actor_after e at refl grown w.first_edit w.installed quiet (λ n q. absurd (subst FindsNothing q nothing)) s.edits;
+    }
+
+    -- the board hangs on the labels of a table alone
+    same_board : (actors : List Actor) → t.labels ≡ w.locks.labels → IsBoard (world.published w) w.locks (map (participants_of past_of) actors) → IsBoard (world.published w) t (map (participants_of past_of) actors)
+    same_board actors labels k = record {
+      labels = λ label n h. ap (λ (z : finite.FinMap key_cmp ℕ). is_some (finite.get z label)) labels ∙ k.labels label n h;
+      numbers = λ label n h. k.numbers label n (ap (λ (z : finite.FinMap key_cmp ℕ). finite.get z label) (sym labels) ∙ h);
+      heard = k.heard;
+      told = k.told;
+    }
+
+    pub board_grown : (e : Event) → p.past ≡ a.participant.past ++ e ∷ [] → TellsNothing e → t.labels ≡ w.locks.labels → IsSound w → IsBoard (world.published w) t (map (participants_of past_of) actors_after)
+    board_grown e grown nothing labels s = same_board actors_after labels (board_still w.actors by a actor_after e at refl grown (world.published w) w.locks nothing s.board)
+
+    -- the pasts, where none grows: what is live was live, and what is held was held
+    pub pasts_left : p.past ≡ a.participant.past → t.labels ≡ w.locks.labels → ((name : List ℕ) → is_some (finite.get t.names name) ≡ true → is_some (finite.get w.locks.names name) ≡ true)
+        → ((key : List ℕ) (holder : Holder) → finite.get t.keys key ≡ Some holder → finite.get w.locks.keys key ≡ Some holder) → IsSound w → PastParts w.opened w.writes t w.first_edit w.installed actors_after
+    pasts_left same labels names keys s =
+        let k = pasts_still w by a actor_after at (λ i. same i ∷ map past_of a.joined) s in
+        let o = k.holders in
+        record {
+          holders = record { names = λ name live. o.names name (names name live); keys = λ key holder h. o.keys key holder (keys key holder h); found_keys = o.found_keys; found = o.found };
+          board = same_board actors_after labels k.board;
+          faults = k.faults;
+          edits = k.edits;
+        }

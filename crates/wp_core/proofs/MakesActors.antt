@@ -2,6 +2,7 @@
 use Rattle.std.proofs.Common.{◌≡◌, ◌≢◌, ⊎_elim, inl, inr, ℕ, zero, suc, ◌+◌, Bool, true, false, not, List, [], ◌∷◌, ◌++◌, length, map, set, filter, refl, sym, subst, ap, ◌∙◌, arith}
 use mathlib.Core.Option.{some, some-injective, some-ne-none}
 use lib.ListN.{get_elem?}
+use Rattle.wp_model.specs.declared.entry.Entry.{Entry}
 use Rattle.wp_core.specs.Lists.{EachAt, IsIn, one_if, total}
 use Rattle.wp_core.specs.Views.{Fact}
 use Rattle.wp_core.specs.World.{Actor, Participant, World, new_actor, content_of}
@@ -17,9 +18,9 @@ use Rattle.wp_core.specs.IsSound.{IsSound}
 use Rattle.wp_core.proofs.Frames.{each_map_set, each_set, at_map, in_filter, here}
 use Rattle.wp_core.proofs.AllParticipants.{mine}
 use Rattle.wp_core.proofs.PastsGrow.{total_more}
-use Rattle.wp_core.proofs.Quiet.{SoIn, kept_part}
 use Rattle.wp_core.proofs.Persons.{IsNone, sum_of, Moves, total_map}
 use Rattle.wp_core.proofs.ActorsMove.{ActorParts, actors_move, at_front, front_or_last, each_more, each_map_more, at_map_more, have_more, total_set, set_same, people, person_still, person_was}
+use Rattle.wp_core.proofs.AllParts.{SoIn, kept_part}
 
 -- it stays as it was, but for whom it made and joined and what it learned, and may have fewer notes
 pub record StaysAs (a b : Actor) : Type 0 where
@@ -29,6 +30,10 @@ pub record StaysAs (a b : Actor) : Type 0 where
   pub live : b.live ≡ a.live
   pub notes : (fact : Fact) → IsIn fact b.notes → IsIn fact a.notes
   pub no_notes : a.notes ≡ [] → b.notes ≡ []
+
+-- an actor that learns, makes or joins another stays as it is, but for the notes that its step ends
+pub stays_but : (a : Actor) (test : Fact → Bool) (learned : List Entry) (made : ℕ) (joined : List Participant) → StaysAs a (record a { notes = filter test a.notes; learned = learned; made = made; joined = joined })
+stays_but a test learned made joined = record { participant = refl; held = refl; reading = refl; live = refl; notes = λ fact h. (in_filter test fact a.notes h).0; no_notes = λ e. ap (filter test) e }
 
 pub idle_still : (a b : Actor) → StaysAs a b → IsIdle a → IsIdle b
 idle_still a b same k = record {
@@ -156,8 +161,7 @@ pub makes_seat : (w : World) (by : ℕ) (a : Actor) → get_elem? w.actors by �
 makes_seat w by a at needs s =
     let b : Actor = made_one (forgets w.writes.history (length w.cache) make_seat a) in
     let c : Actor = new_actor true a.participant.client a.participant.seen in
-    let test : Fact → Bool = λ (f : Fact). not (ends w.writes.history (length w.cache) make_seat f) in
-    let same : StaysAs a b = record { participant = refl; held = refl; reading = refl; live = refl; notes = λ fact h. (in_filter test fact a.notes h).0; no_notes = λ e. ap (filter test) e } in
+    let same : StaysAs a b = stays_but a (λ (f : Fact). not (ends w.writes.history (length w.cache) make_seat f)) b.learned b.made b.joined in
     let at_first : get_elem? w.actors 0 ≡ some a = subst (λ (n : ℕ). get_elem? w.actors n ≡ some a) needs at in
     makes_actor w by a b true at same refl refl s
     (subst (λ (n : ℕ). AreLed (map role_of (set w.actors n b ++ c ∷ []))) (sym needs) (led_seat w.actors a b c at_first refl refl refl refl refl refl s.led))

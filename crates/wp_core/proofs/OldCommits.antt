@@ -9,7 +9,7 @@ use Rattle.std.specs.List.{list_any}
 use Rattle.std.specs.FinSet as finset
 use Rattle.std.specs.FinMap as finite
 use Rattle.wp_model.specs.Decision.{decision_of}
-use Rattle.wp_model.specs.Snapshots.{Snapshot, IsLive, is_old_commit, after_release, after_keep}
+use Rattle.wp_model.specs.Snapshots.{Snapshot, after_release, after_keep}
 use Rattle.wp_judge.specs.declared.observed.Observed.{Observed}
 use Rattle.wp_core.proofs.AllParticipants.{mine}
 use Rattle.wp_core.specs.Lists.{IsIn, one_if}
@@ -21,72 +21,48 @@ use Rattle.wp_core.specs.Effects.{done}
 use Rattle.wp_core.specs.Needs.{Needs}
 use Rattle.wp_core.specs.Notes.{forgets}
 use Rattle.wp_core.specs.Sound.Actors.{seen_of, participants_of, learned_of}
-use Rattle.wp_core.specs.Sound.Snapshots.{registered_of, AreRegistered, AreBelowCommitted, count_of, view_of}
+use Rattle.wp_core.specs.Sound.Snapshots.{registered_of, AreRegistered, count_of, view_of}
 use Rattle.wp_core.specs.Sound.Reader.{reader_of}
-use Rattle.wp_core.specs.IsSound.{IsSound, participants}
-use Rattle.wp_core.proofs.Frames.{at_map, kept_map}
-use Rattle.wp_core.proofs.Participants.{each_person_set, total_person_set}
+use Rattle.wp_core.specs.IsSound.{IsSound}
+use Rattle.wp_core.proofs.Frames.{at_map}
 use Rattle.wp_core.proofs.Numbers.{in_inserted, in_inserted_else}
-use Rattle.wp_core.proofs.ReaderFacts.{same_some}
 use Rattle.wp_core.proofs.Registered.{registered_there}
-use Rattle.wp_core.proofs.KeepsSnapshots.{placed_there, placed_else, has_old, live_there, at_number, sum_append, in_with, in_middle, below_of, below_all}
+use Rattle.wp_core.proofs.KeepsSnapshots.{has_old, live_there, at_number, sum_append, in_with, in_middle, below_all, grows_at, none_at, registered_at}
 use Rattle.wp_core.proofs.SnapshotsStep.{SnapshotsGrow, with_view, snapshots_step}
+use Rattle.wp_core.proofs.Readings.{below_smallest}
+use Rattle.wp_core.proofs.Tests.{same_some}
 
 -- ---- a version is noted
 
 module _ (w : World) (n p c : ℕ) (x : Snapshot) (there : finite.get w.snapshots n ≡ Some x) (decided : decision_of w.writes.history p ≡ Some c) (from : p ≤ n) (below : n < c) where
-  noted : Snapshot
-  noted = record x { old_commits = finset.insert x.old_commits p }
+  kept_there : (q : ℕ) → q ≡ p → (o : Option Snapshot) → IsSome (after_keep p o) → has_old q (after_keep p o) ≡ true
+  kept_there q e None live = absurd (true≢false (sym live))
+  kept_there q e (Some y) live = ap (finset.contains (finset.insert y.old_commits p)) e ∙ in_inserted y.old_commits p
 
-  noted_there : finite.get (with_old_commit w.snapshots n p) n ≡ Some (record x { old_commits = finset.insert x.old_commits p })
-  noted_there = placed_there w.snapshots n (after_keep p (finite.get w.snapshots n)) ∙ ap (after_keep p) there
-
-  noted_else : (t : ℕ) → t ≢ n → finite.get (with_old_commit w.snapshots n p) t ≡ finite.get w.snapshots t
-  noted_else t ne = placed_else w.snapshots n (after_keep p (finite.get w.snapshots n)) t ne
-
-  old_else : (t q : ℕ) → t ≢ n → is_old_commit (with_old_commit w.snapshots n p) t q ≡ is_old_commit w.snapshots t q
-  old_else t q ne = ap (has_old q) (noted_else t ne)
-
-  old_there : (t q : ℕ) → t ≡ n → is_old_commit (with_old_commit w.snapshots n p) t q ≡ finset.contains (finset.insert x.old_commits p) q
-  old_there t q e = ap (λ (z : ℕ). is_old_commit (with_old_commit w.snapshots n p) z q) e ∙ ap (has_old q) noted_there
-
-  old_before : (t q : ℕ) → t ≡ n → is_old_commit w.snapshots t q ≡ finset.contains x.old_commits q
-  old_before t q e = ap (λ (z : ℕ). is_old_commit w.snapshots z q) e ∙ ap (has_old q) there
+  kept_else : (q : ℕ) → q ≢ p → (o : Option Snapshot) → has_old q (after_keep p o) ≡ has_old q o
+  kept_else q ne None = refl
+  kept_else q ne (Some y) = in_inserted_else y.old_commits p q ne
 
   grows_noted : SnapshotsGrow w.writes.history w.snapshots (with_old_commit w.snapshots n p)
-  grows_noted = record {
-    live = λ t live. dite (ℕ_discrete t n) (λ (e : t ≡ n). inl (subst (IsLive w.snapshots) (sym e) (subst IsSome (sym there) refl))) (λ (ne : t ≢ n). inl (subst IsSome (noted_else t ne) live));
-    stays = λ t q live old.
-        dite (ℕ_discrete t n)
-        (λ (e : t ≡ n).
-        dite (ℕ_discrete q p)
-        (λ (f : q ≡ p). old_there t q e ∙ (ap (finset.contains (finset.insert x.old_commits p)) f ∙ in_inserted x.old_commits p))
-        (λ (ne : q ≢ p). old_there t q e ∙ (in_inserted_else x.old_commits p q ne ∙ (sym (old_before t q e) ∙ old))))
-        (λ (ne : t ≢ n). old_else t q ne ∙ old);
-    came = λ t q old.
-        dite (ℕ_discrete t n)
-        (λ (e : t ≡ n).
-        dite (ℕ_discrete q p)
-        (λ (f : q ≡ p). inr (c, ap (decision_of w.writes.history) f ∙ decided, subst (λ (z : ℕ × ℕ). z.0 ≤ z.1) (λ i. (sym f i, sym e i)) from, subst (λ (z : ℕ). z < c) (sym e) below))
-        (λ (ne : q ≢ p). inl (old_before t q e ∙ (sym (in_inserted_else x.old_commits p q ne) ∙ (sym (old_there t q e) ∙ old)))))
-        (λ (ne : t ≢ n). inl (sym (old_else t q ne) ∙ old));
-  }
+  grows_noted = grows_at w.writes.history w.snapshots n (after_keep p (finite.get w.snapshots n)) (inl (subst IsSome (sym there) refl))
+      (λ q live old. dite (ℕ_discrete q p) (λ (e : q ≡ p). kept_there q e (finite.get w.snapshots n) live) (λ (ne : q ≢ p). kept_else q ne (finite.get w.snapshots n) ∙ old))
+      (λ q old. dite (ℕ_discrete q p)
+      (λ (e : q ≡ p). inr (c, ap (decision_of w.writes.history) e ∙ decided, subst (λ (z : ℕ). z ≤ n) (sym e) from, below))
+      (λ (ne : q ≢ p). inl (sym (kept_else q ne (finite.get w.snapshots n)) ∙ old)))
 
-  registered_noted : AreRegistered w.writes.history w.snapshots (participants registered_of w) → AreRegistered w.writes.history (with_old_commit w.snapshots n p) (participants registered_of w)
-  registered_noted k = record {
-    counted = λ t.
-        dite (ℕ_discrete t n)
-        (λ (e : t ≡ n). ap (λ (z : ℕ). count_of (finite.get (with_old_commit w.snapshots n p) z)) e ∙ (ap count_of noted_there ∙ (sym (ap (λ (z : ℕ). count_of (finite.get w.snapshots z)) e ∙ ap count_of there) ∙ k.counted t)))
-        (λ (ne : t ≢ n). ap count_of (noted_else t ne) ∙ k.counted t);
-    live = λ t y at.
-        dite (ℕ_discrete t n)
-        (λ (e : t ≡ n).
-        let o = k.live n x there in
-        let same : record x { old_commits = finset.insert x.old_commits p } ≡ y = same_some (record x { old_commits = finset.insert x.old_commits p }) y (sym noted_there ∙ (ap (finite.get (with_old_commit w.snapshots n p)) (sym e) ∙ at)) in
-        (subst (λ (z : Snapshot). 1 ≤ z.registrations) same o.0, subst (λ (z : ℕ). z ≤ length w.writes.history) (sym e) o.1))
-        (λ (ne : t ≢ n). k.live t y (sym (noted_else t ne) ∙ at));
-    smallest = k.smallest;
-  }
+  same_count : (o : Option Snapshot) → count_of (after_keep p o) ≡ count_of o
+  same_count None = refl
+  same_count (Some y) = refl
+
+  still_registered : (o : Option Snapshot) (y : Snapshot) → after_keep p o ≡ Some y → (z : Snapshot) × (o ≡ Some z) × (z.registrations ≡ y.registrations)
+  still_registered None y e = let no : None ≡ Some y = e in absurd (cc)
+  still_registered (Some z) y e = (z, refl, ap (λ (v : Snapshot). v.registrations) (same_some (record z { old_commits = finset.insert z.old_commits p }) y e))
+
+  registered_noted : (by : ℕ) (a : Actor) → get_elem? w.actors by ≡ some a → IsSound w → AreRegistered w.writes.history (with_old_commit w.snapshots n p) (map (participants_of registered_of) (set w.actors by (with_view a a.participant.seen a.learned a.participant.registered a.reading)))
+  registered_noted by a at s = registered_at w.writes.history w.snapshots n (after_keep p (finite.get w.snapshots n)) w.actors by a (with_view a a.participant.seen a.learned a.participant.registered a.reading) at refl
+      (ap (λ (z : ℕ). z + at_number n a.participant.registered) (same_count (finite.get w.snapshots n))) (λ t ne. refl)
+      (λ y is. let o = still_registered (finite.get w.snapshots n) y is in let k = s.registrations.live n o.0 o.1 in (subst (λ (z : ℕ). 1 ≤ z) o.2 k.0, k.1))
+      (s.registrations.smallest by 0 a.participant.registered (mine registered_of w.actors by a a at refl)) s.registrations
 
 pub notes_old_commit : (w : World) (by : ℕ) (a : Actor) (n p : ℕ) → get_elem? w.actors by ≡ some a → Needs w by a (add_old_commit n p) → IsSound w → IsSound (done w by (forgets w.writes.history (length w.cache) (add_old_commit n p) a) (add_old_commit n p))
 notes_old_commit w by a n p at k s =
@@ -100,7 +76,7 @@ notes_old_commit w by a n p at k s =
       reads = λ r is. (is, (s.readers by (reader_of a) (at_map reader_of w.actors by a at) r is).registered_at);
       none_kept = λ zero_flag. absurd (k.2 zero_flag);
     })
-    (subst (AreRegistered w.writes.history (with_old_commit w.snapshots n p)) (sym (kept_map (participants_of registered_of) w.actors by a (with_view a a.participant.seen a.learned a.participant.registered a.reading) at refl)) (registered_noted w n p c x.0 x.1 decided from below s.registrations)) s
+    (registered_noted w n p c x.0 x.1 decided from below by a at s) s
 
 -- ---- a registration is released
 
@@ -135,15 +111,6 @@ still_reads (Some q) left r e = by_test (list_any (is_same_registration (snapsho
     by_test false is f = let no : None ≡ Some r = f in absurd (cc)
 
 module _ (w : World) (by : ℕ) (a : Actor) (front back : List Registration) (r : Registration) (x : Snapshot) (at : get_elem? w.actors by ≡ some a) (s : IsSound w) (mine : a.participant.registered ≡ front ++ r ∷ back) (there : finite.get w.snapshots r.number ≡ Some x) where
-  released_there : finite.get (with_released w.snapshots r.number) r.number ≡ after_release (Some x)
-  released_there = placed_there w.snapshots r.number (after_release (finite.get w.snapshots r.number)) ∙ ap after_release there
-
-  released_else : (t : ℕ) → t ≢ r.number → finite.get (with_released w.snapshots r.number) t ≡ finite.get w.snapshots t
-  released_else t ne = placed_else w.snapshots r.number (after_release (finite.get w.snapshots r.number)) t ne
-
-  live_before : (t : ℕ) → t ≡ r.number → IsLive w.snapshots t
-  live_before t e = subst (IsLive w.snapshots) (sym e) (subst IsSome (sym there) refl)
-
   old_released : (q : ℕ) (b : Bool) → has_old q (cond b None (Some (record x { registrations = x.registrations - 1 }))) ≡ true → finset.contains x.old_commits q ≡ true
   old_released q true e = absurd (true≢false (sym e))
   old_released q false e = e
@@ -152,33 +119,20 @@ module _ (w : World) (by : ℕ) (a : Actor) (front back : List Registration) (r 
   old_stays q true live e = absurd (true≢false (sym live))
   old_stays q false live e = e
 
-  is_now : (t q : ℕ) → t ≡ r.number → is_old_commit (with_released w.snapshots r.number) t q ≡ has_old q (after_release (Some x))
-  is_now t q e = ap (λ (z : ℕ). is_old_commit (with_released w.snapshots r.number) z q) e ∙ ap (has_old q) released_there
+  -- what is under the number it was under, and it stays while the number is live
+  was_old : (q : ℕ) → has_old q (after_release (finite.get w.snapshots r.number)) ≡ true → has_old q (finite.get w.snapshots r.number) ≡ true
+  was_old q old = ap (has_old q) there ∙ old_released q (nat_le x.registrations 1) (sym (ap (λ (z : Option Snapshot). has_old q (after_release z)) there) ∙ old)
 
-  was : (t q : ℕ) → t ≡ r.number → is_old_commit w.snapshots t q ≡ finset.contains x.old_commits q
-  was t q e = ap (λ (z : ℕ). is_old_commit w.snapshots z q) e ∙ ap (has_old q) there
+  still_old : (q : ℕ) → IsSome (after_release (finite.get w.snapshots r.number)) → has_old q (finite.get w.snapshots r.number) ≡ true → has_old q (after_release (finite.get w.snapshots r.number)) ≡ true
+  still_old q live old =
+      ap (λ (z : Option Snapshot). has_old q (after_release z)) there ∙ old_stays q (nat_le x.registrations 1) (subst (λ (z : Option Snapshot). IsSome (after_release z)) there live) (sym (ap (has_old q) there) ∙ old)
 
-  came_from : (t q : ℕ) → is_old_commit (with_released w.snapshots r.number) t q ≡ true → is_old_commit w.snapshots t q ≡ true
-  came_from t q old =
-      dite (ℕ_discrete t r.number)
-      (λ (e : t ≡ r.number). was t q e ∙ old_released q (nat_le x.registrations 1) (sym (is_now t q e) ∙ old))
-      (λ (ne : t ≢ r.number). sym (ap (has_old q) (released_else t ne)) ∙ old)
-
-  none_released : (t q : ℕ) (b : Bool) → is_old_commit (with_released w.snapshots r.number) t q ≡ b → is_old_commit w.snapshots t q ≡ false → b ≡ false
-  none_released t q true is none = absurd (true≢false (sym (came_from t q is) ∙ none))
-  none_released t q false is none = refl
+  none_old : (q : ℕ) (b : Bool) → has_old q (after_release (finite.get w.snapshots r.number)) ≡ b → has_old q (finite.get w.snapshots r.number) ≡ false → b ≡ false
+  none_old q true is none = absurd (true≢false (sym (was_old q is) ∙ none))
+  none_old q false is none = refl
 
   grows_released : SnapshotsGrow w.writes.history w.snapshots (with_released w.snapshots r.number)
-  grows_released = record {
-    live = λ t live. dite (ℕ_discrete t r.number) (λ (e : t ≡ r.number). inl (live_before t e)) (λ (ne : t ≢ r.number). inl (subst IsSome (released_else t ne) live));
-    stays = λ t q live old.
-        dite (ℕ_discrete t r.number)
-        (λ (e : t ≡ r.number).
-        let now : IsSome (after_release (Some x)) = subst IsSome released_there (subst (IsLive (with_released w.snapshots r.number)) e live) in
-        is_now t q e ∙ old_stays q (nat_le x.registrations 1) now (sym (was t q e) ∙ old))
-        (λ (ne : t ≢ r.number). ap (has_old q) (released_else t ne) ∙ old);
-    came = λ t q old. inl (came_from t q old);
-  }
+  grows_released = grows_at w.writes.history w.snapshots r.number (after_release (finite.get w.snapshots r.number)) (inl (subst IsSome (sym there) refl)) still_old (λ q old. inl (was_old q old))
 
   count_less : (b : Bool) → nat_le x.registrations 1 ≡ b → 1 ≤ x.registrations → count_of (cond b None (Some (record x { registrations = x.registrations - 1 }))) + 1 ≡ x.registrations
   count_less true le some_left = let n : ℕ = x.registrations in let low : n ≤ 1 = grind (arith, nat_tests) in omega arith
@@ -192,33 +146,17 @@ module _ (w : World) (by : ℕ) (a : Actor) (front back : List Registration) (r 
 
   registered_released : AreRegistered w.writes.history (with_released w.snapshots r.number) (map (participants_of registered_of) (set w.actors by (with_view a a.participant.seen a.learned (front ++ back) (reading_left a.reading (front ++ back)))))
   registered_released =
-      let b : Actor = with_view a a.participant.seen a.learned (front ++ back) (reading_left a.reading (front ++ back)) in record {
-        counted = λ t.
-            let sum = total_person_set registered_of (at_number t) w.actors by a b at refl in
-            let full : at_number t a.participant.registered ≡ at_number t front + (one_if (r.number == t) + at_number t back) = ap (at_number t) mine ∙ sum_append t front (r ∷ back) in
-            let left : at_number t (front ++ back) ≡ at_number t front + at_number t back = sum_append t front back in
-            let old = s.registrations.counted t in
-            dite (ℕ_discrete t r.number)
-            (λ (e : t ≡ r.number).
-            let before : count_of (finite.get w.snapshots t) ≡ x.registrations = ap (λ (z : ℕ). count_of (finite.get w.snapshots z)) e ∙ ap count_of there in
-            let now : count_of (finite.get (with_released w.snapshots r.number) t) ≡ count_of (after_release (Some x)) = ap (λ (z : ℕ). count_of (finite.get (with_released w.snapshots r.number) z)) e ∙ ap count_of released_there in
-            let less : count_of (after_release (Some x)) + 1 ≡ x.registrations = count_less (nat_le x.registrations 1) refl (s.registrations.live r.number x there).0 in
-            let one : one_if (r.number == t) ≡ 1 = ap one_if (eq-eqb r.number t (sym e)) in omega arith)
-            (λ (ne : t ≢ r.number).
-            let now : count_of (finite.get (with_released w.snapshots r.number) t) ≡ count_of (finite.get w.snapshots t) = ap count_of (released_else t ne) in
-            let none : one_if (r.number == t) ≡ 0 = ap one_if (ne_eqb r.number t (λ (e : r.number ≡ t). ne (sym e))) in omega arith);
-        live = λ t y found.
-            dite (ℕ_discrete t r.number)
-            (λ (e : t ≡ r.number). (still_some (nat_le x.registrations 1) y refl (sym released_there ∙ (ap (finite.get (with_released w.snapshots r.number)) (sym e) ∙ found)), subst (λ (z : ℕ). z ≤ length w.writes.history) (sym e) (s.registrations.live r.number x there).1))
-            (λ (ne : t ≢ r.number). s.registrations.live t y (sym (released_else t ne) ∙ found));
-        smallest = each_person_set registered_of (AreBelowCommitted w.writes.history) w.actors by a b at (below_all w.writes.history (front ++ back) (λ q k. below_of w by a q at (subst (IsIn q) (sym mine) (in_with q r front back k)) s)) refl s.registrations.smallest;
-      }
-
--- what is left is of the whole
-in_whole : {X : Type 0} (x : X) (front back : List X) (r : X) → IsIn x (front ++ back) → IsIn x (front ++ r ∷ back)
-in_whole x [] back r k = inr k
-in_whole x (y ∷ front) back r (inl e) = inl e
-in_whole x (y ∷ front) back r (inr k) = inr (in_whole x front back r k)
+      let full : (t : ℕ) → at_number t a.participant.registered ≡ at_number t front + (one_if (r.number == t) + at_number t back) = λ t. ap (at_number t) mine ∙ sum_append t front (r ∷ back) in
+      registered_at w.writes.history w.snapshots r.number (after_release (finite.get w.snapshots r.number)) w.actors by a (with_view a a.participant.seen a.learned (front ++ back) (reading_left a.reading (front ++ back))) at refl
+      (let left = sum_append r.number front back in
+      let all = full r.number in
+      let now : count_of (after_release (finite.get w.snapshots r.number)) ≡ count_of (after_release (Some x)) = ap (λ (z : Option Snapshot). count_of (after_release z)) there in
+      let before : count_of (finite.get w.snapshots r.number) ≡ x.registrations = ap count_of there in
+      let less : count_of (after_release (Some x)) + 1 ≡ x.registrations = count_less (nat_le x.registrations 1) refl (s.registrations.live r.number x there).0 in
+      let one : one_if (r.number == r.number) ≡ 1 = ap one_if (eq-eqb r.number r.number refl) in omega (arith, left, all, now, before, less, one))
+      (λ t ne. let left = sum_append t front back in let all = full t in let none : one_if (r.number == t) ≡ 0 = ap one_if (ne_eqb r.number t (λ (e : r.number ≡ t). ne (sym e))) in omega (arith, left, all, none))
+      (λ y is. (still_some (nat_le x.registrations 1) y refl (sym (ap after_release there) ∙ is), (s.registrations.live r.number x there).1))
+      (below_all w.writes.history (front ++ back) (λ q k. below_smallest w by a q at (subst (IsIn q) (sym mine) (in_with q r front back k)) s)) s.registrations
 
 pub releases_one : (w : World) (by : ℕ) (a : Actor) (front back : List Registration) (r : Registration) → get_elem? w.actors by ≡ some a → Needs w by a (release front r back) → IsSound w → IsSound (done w by (forgets w.writes.history (length w.cache) (release front r back) a) (release front r back))
 releases_one w by a front back r at n s =
@@ -227,8 +165,8 @@ releases_one w by a front back r at n s =
     (record {
       seen_part = s.seen by 0 a.participant.seen (participants_of seen_of a, at_map (participants_of seen_of) w.actors by a at, refl);
       learned_part = s.learned by a.learned (at_map learned_of w.actors by a at);
-      view_part = λ q there. s.viewed by 0 (view_of a.participant) (mine view_of w.actors by a a at refl) q (subst (IsIn q) (sym n.1) (in_whole q front back r there));
+      view_part = λ q there. s.viewed by 0 (view_of a.participant) (mine view_of w.actors by a a at refl) q (subst (IsIn q) (sym n.1) (in_with q r front back there));
       reads = λ q is. still_reads a.reading (front ++ back) q is;
-      none_kept = λ zero_flag t q. none_released w by a front back r x.0 at s n.1 x.1 t q _ refl (s.flags.none_kept zero_flag t q);
+      none_kept = λ zero_flag. none_at w.writes.history w.snapshots r.number (after_release (finite.get w.snapshots r.number)) (λ q none. none_old w by a front back r x.0 at s n.1 x.1 q _ refl none) (s.flags.none_kept zero_flag);
     })
     (registered_released w by a front back r x.0 at s n.1 x.1) s

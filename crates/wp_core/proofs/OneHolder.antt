@@ -1,23 +1,21 @@
 -- In a legal history no two undecided prepares have the same key, so who is found to hold one is the only one.
-use Rattle.std.proofs.Common.{◌≡◌, ◌⊎◌, inl, inr, ⊎_elim, ℕ, ◌+◌, ◌<◌, ◌≤◌, ◌&&◌, Bool, true, false, true≢false, List, [], ◌∷◌, ◌++◌, length, refl, sym, subst, ap, ◌∙◌, Option, Some, None, is_some, length-append, arith}
+use Rattle.std.proofs.Common.{◌≡◌, ◌⊎◌, inl, inr, ⊎_elim, ℕ, ◌+◌, ◌<◌, ◌≤◌, true, true≢false, List, [], ◌∷◌, ◌++◌, length, refl, sym, subst, ap, ◌∙◌, Option, Some, None, is_some, length-append, arith}
 use Rattle.std.proofs.lemmas.Bool.{cases_lt}
 use Rattle.wp_model.specs.declared.entry.Entry.{Entry}
 use Rattle.wp_model.specs.declared.entry.Entry.TheVariants.{Write, Prepare, Commit, Undo, Close}
 use Rattle.wp_model.specs.History.{is_prepare, prepared_batch, batch_at, name_at, is_undecided, is_changed, holder_of, named}
 use Rattle.wp_model.specs.Legal.{IsLegal, IsLegalNext}
-use Rattle.wp_history.proofs.Growth.{entry_at_next, by_growth, undecided_prepared}
-use Rattle.wp_history.proofs.Undecided.{undecided_old, undecided_within}
-use Rattle.wp_history.proofs.Newest.{batch_at_old}
+use Rattle.wp_history.proofs.Growth.{entry_at_next, by_growth}
+use Rattle.wp_model.proofs.Entries.{undecided_prepared, undecided_within, batch_at_old}
+use Rattle.wp_history.proofs.Undecided.{undecided_old}
 use Rattle.wp_history.proofs.Held.{not_free, free_key}
-use Rattle.wp_core.proofs.HistoryHolders.{holder_holds, none_named}
+use Rattle.wp_model.proofs.Found.{found_holder}
+use Rattle.wp_core.proofs.HistoryHolders.{none_named}
+use Rattle.wp_core.proofs.Tests.{both}
 
 -- the prepare is undecided, and changes the key
 abbrev Holding : List Entry → ℕ → List ℕ → Type 0
 Holding history p key = (is_undecided history p ≡ true) × (is_changed (batch_at history p) key ≡ true)
-
-and_first : (a b : Bool) → (a && b) ≡ true → a ≡ true
-and_first true b e = refl
-and_first false b e = e
 
 module _ (history : List Entry) (entry : Entry) (next : IsLegalNext history entry) where
   abbrev grown : List Entry
@@ -25,7 +23,7 @@ module _ (history : List Entry) (entry : Entry) (next : IsLegalNext history entr
 
   held_before : (p : ℕ) (key : List ℕ) → p ≤ length history → Holding grown p key → Holding history p key
   held_before p key le h =
-      (and_first _ _ (sym (undecided_old history entry p le) ∙ h.0), ap (λ batch. is_changed batch key) (sym (batch_at_old history (entry ∷ []) p le)) ∙ h.1)
+      ((both _ _ (sym (undecided_old history entry p le) ∙ h.0)).0, ap (λ batch. is_changed batch key) (sym (batch_at_old history (entry ∷ []) p le)) ∙ h.1)
 
   free_of : (e : Entry) (key : List ℕ) → IsLegalNext history e → is_prepare (Some e) ≡ true → is_changed (prepared_batch (Some e)) key ≡ true → holder_of history key ≡ None
   free_of (Write batch) key n is changed = absurd (true≢false (sym is))
@@ -65,12 +63,12 @@ one_holder history legal = by_growth (λ h. (p q : ℕ) (key : List ℕ) → Hol
     nothing_within p low high = omega (arith, low, high)
 
 -- who is found to hold the key is it
-pub found_holder : (history : List Entry) → IsLegal history → (p : ℕ) (key : List ℕ) → is_undecided history p ≡ true → is_changed (batch_at history p) key ≡ true → holder_of history key ≡ Some p
-found_holder history legal p key u changed = by (holder_of history key) refl
+pub holder_is : (history : List Entry) → IsLegal history → (p : ℕ) (key : List ℕ) → is_undecided history p ≡ true → is_changed (batch_at history p) key ≡ true → holder_of history key ≡ Some p
+holder_is history legal p key u changed = by (holder_of history key) refl
   where
     by : (o : Option ℕ) → holder_of history key ≡ o → holder_of history key ≡ Some p
     by None e = absurd (not_free history key p u changed e)
-    by (Some q) e = let k = holder_holds history key q e in e ∙ ap Some (one_holder history legal q p key k (u, changed))
+    by (Some q) e = let k = found_holder history key q e in e ∙ ap Some (one_holder history legal q p key k (u, changed))
 
 -- the name of an undecided prepare is found
 pub found_name : (history : List Entry) (p : ℕ) → is_undecided history p ≡ true → is_some (named history (name_at history p)) ≡ true

@@ -17,10 +17,11 @@ use Rattle.wp_model.specs.Legal.{IsLegal, undone_last}
 use Rattle.wp_model.specs.Snapshots as snaps
 use Rattle.wp_model.specs.LockTables.{LockTables}
 use Rattle.wp_model.specs.PreparedTables.{PreparedTables, is_prepared}
-use Rattle.wp_history.proofs.Growth.{undecided_prepared}
-use Rattle.wp_history.proofs.Undecided.{is_undecided_by_list, undecided_within}
+use Rattle.wp_model.proofs.Entries.{undecided_prepared, undecided_within}
+use Rattle.wp_history.proofs.Undecided.{is_undecided_by_list}
 use Rattle.wp_judge.specs.Words.{CommitPair, pair_of}
 use Rattle.wp_judge.specs.declared.observed.Observed.{Observed}
+use Rattle.wp_model.proofs.Found.{found_holder}
 use Rattle.wp_core.specs.Lists.{IsIn}
 use Rattle.wp_core.specs.Turns.{Turn, write_turn, prepared_turn, snapshots_turn, store_turn, locks_turn, tables_turn, Holds, all_free}
 use Rattle.wp_core.specs.Tables.{StoreTable, InstalledEdit, Installed, NoneDelayed}
@@ -29,20 +30,18 @@ use Rattle.wp_core.specs.Views.{Event, Fact, told, heard, stopped, found_flushed
 use Rattle.wp_core.specs.World.{World, Actor, Participant, Transaction, new_actor, new_participant, content_of}
 use Rattle.wp_core.specs.Runs.{IsOpening, AreOpened, named_by}
 use Rattle.wp_core.specs.Sound.Actors.{StartsWith, once, AreHeld, Role, IsParticipantAt}
-use Rattle.wp_core.specs.Sound.History.{logged_part}
 use Rattle.wp_core.specs.Sound.Snapshots.{count_of, HasSeen}
 use Rattle.wp_core.specs.Sound.Store.{IsStored, NoneFlushed}
 use Rattle.wp_core.specs.Sound.Locks.{prepare_holding, Owner, owner_of, IsOwner}
 use Rattle.wp_core.specs.Sound.Pasts.{IsPast, tables_due}
 use Rattle.wp_core.specs.IsSound.{IsSound}
 use Rattle.wp_core.proofs.HistoryLaws.{decision_within, undecided_not_decided}
-use Rattle.wp_core.proofs.HistoryHolders.{holder_holds}
-use Rattle.wp_core.proofs.OneHolder.{found_holder, found_name}
+use Rattle.wp_core.proofs.OneHolder.{holder_is, found_name}
+use Rattle.wp_core.proofs.Tests.{none_some}
+use Rattle.wp_core.proofs.Keyed.{txn_is}
+use Rattle.wp_core.proofs.PendingSteps.{none_logged}
 
 -- ---- what is not there
-
-none_some : {A : Type 0} (o : Option A) (x : A) → o ≡ None → o ≡ Some x → ⊥
-none_some o x n e = let q : None ≡ Some x = sym n ∙ e in absurd (cc)
 
 not_kept : (s p : ℕ) → snaps.is_old_commit finite.empty s p ≡ false
 not_kept s p = ap (λ (o : Option snaps.Snapshot). option_map_or (λ x. finset.contains x.old_commits p) o false) (finite.get-empty nat_cmp s)
@@ -73,10 +72,6 @@ none_in : (numbers : List ℕ) → ((p : ℕ) → list_any (λ k. eqb k p) numbe
 none_in [] h = refl
 none_in (n ∷ numbers) h = absurd (true≢false (sym (ap (λ (b : Bool). b || list_any (λ k. eqb k n) numbers) (eq-eqb n n refl)) ∙ h n))
 
-nothing_logged : (logged : Bool) → logged_part logged [] ≡ []
-nothing_logged true = refl
-nothing_logged false = refl
-
 some_named_by : (o : Option ℕ) → is_some (named_by o) ≡ is_some o
 some_named_by None = refl
 some_named_by (Some p) = refl
@@ -91,10 +86,7 @@ no_client_holds history (Some p) client e = let q : Some (Txn (name_at history p
 
 who_holds : (history : List Entry) (o : Option ℕ) (name : List ℕ) → prepare_holding history o ≡ Some (Txn name) → (p : ℕ) × (o ≡ Some p) × (name_at history p ≡ name)
 who_holds history None name e = let q : None ≡ Some (Txn name) = e in absurd (cc)
-who_holds history (Some p) name e = (p, refl, same (name_at history p) name e)
-  where
-    same : (a b : List ℕ) → Some (Txn a) ≡ Some (Txn b) → a ≡ b
-    same a b q = cc
+who_holds history (Some p) name e = (p, refl, txn_is (name_at history p) name e)
 
 -- ---- the world of an opening, by what openings differ in
 
@@ -163,7 +155,7 @@ module _ (opened : List Entry) (cache : List ℕ) (flag : ℕ) (logged : Bool) (
   key_live : (key name : List ℕ) → finite.get t.keys key ≡ Some (Txn name) → is_some (finite.get t.names name) ≡ true
   key_live key name e =
       let k = who_holds opened (holder_of opened key) name (sym (locks.keys key) ∙ e) in
-      let h = holder_holds opened key k.0 k.1 in
+      let h = found_holder opened key k.0 k.1 in
       subst (λ (n : List ℕ). is_some (finite.get t.names n) ≡ true) k.2 (is_live k.0 h.0)
 
   starts : StartsWith opened opened
@@ -175,7 +167,7 @@ module _ (opened : List Entry) (cache : List ℕ) (flag : ℕ) (logged : Bool) (
       legal = legal;
       grown = starts;
       bounded = omega arith;
-      log = sym (ap (λ (entries : List Entry). opened ++ entries) (nothing_logged logged) ∙ append-nil opened);
+      log = sym (ap (λ (entries : List Entry). opened ++ entries) (none_logged logged) ∙ append-nil opened);
       rest = inl refl;
       legal_next = subst IsLegal (sym (append-nil opened)) legal;
       legal_failed = subst IsLegal (sym (append-nil opened)) legal;
@@ -210,7 +202,7 @@ module _ (opened : List Entry) (cache : List ℕ) (flag : ℕ) (logged : Bool) (
     flushed = λ _ key p le. flushed key p le;
     locks = record {
       prepared_names = is_live;
-      prepared_keys = λ p key u changed. locks.keys key ∙ ap (prepare_holding opened) (found_holder opened legal p key u changed);
+      prepared_keys = λ p key u changed. locks.keys key ∙ ap (prepare_holding opened) (holder_is opened legal p key u changed);
       had = λ j i o at. subst (IsOwner t) (one_participant (owner_of (new_participant client opened)) j i o at)
           record { names = λ name x e. absurd (no_transaction name x e); keys = λ name x key e _. absurd (no_transaction name x e); direct = λ key e. let q : None ≡ Some key = e in absurd (cc) };
       apart = record {

@@ -1,14 +1,15 @@
 -- Whose names and direct writes they stay, where one actor's own participant changed and its past grew.
-use Rattle.std.proofs.Common.{◌≡◌, ⊎_elim, inl, inr, ℕ, List, map, set, sym, subst, ap, ◌∙◌, Some}
+use Rattle.std.proofs.Common.{◌≡◌, ⊎_elim, inl, inr, ℕ, List, map, set, sym, subst, ap, ◌∙◌, Some, true, ◌⊎◌}
 use mathlib.Core.Option.{some}
 use lib.ListN.{get_elem?}
+use Rattle.std.specs.FinSet as words
 use Rattle.wp_model.specs.declared.holder.Holder.TheVariants.{Client}
 use Rattle.wp_core.specs.Lists.{IsIn}
 use Rattle.wp_core.specs.Views.{Event, claimed, took, locked}
 use Rattle.wp_core.specs.World.{Transaction, Actor}
-use Rattle.wp_core.specs.Sound.Actors.{participants_of, IsParticipantAt}
-use Rattle.wp_core.specs.Sound.Locks.{Owner, owner_of, Has, Began, IsNameOf, IsDirectOf}
-use Rattle.wp_core.proofs.AllParticipants.{mine, mine_now, still}
+use Rattle.wp_core.specs.Sound.Actors.{participants_of, IsParticipantAt, EachParticipant}
+use Rattle.wp_core.specs.Sound.Locks.{Owner, owner_of, Has, Began, IsNameOf, IsDirectOf, AreApart}
+use Rattle.wp_core.proofs.AllParticipants.{still, at_after, who_was, still_apart}
 
 module _ (xs : List Actor) (by : ℕ) (a b : Actor) (at : get_elem? xs by ≡ some a) (same : b.joined ≡ a.joined) where
   abbrev before : List (List Owner)
@@ -17,12 +18,24 @@ module _ (xs : List Actor) (by : ℕ) (a b : Actor) (at : get_elem? xs by ≡ so
   abbrev after : List (List Owner)
   after = map (participants_of owner_of) (set xs by b)
 
-  -- the changed one, at its place as it is written
-  pub owner_before : (j i : ℕ) → j ≡ by → i ≡ 0 → IsParticipantAt before j i (owner_of a.participant)
-  owner_before j i q f = subst (λ (n : ℕ). IsParticipantAt before n i (owner_of a.participant)) (sym q) (subst (λ (n : ℕ). IsParticipantAt before by n (owner_of a.participant)) (sym f) (mine owner_of xs by a b at same))
+  -- no two have the same transaction or direct write, where the changed one has none but what it had, or what nobody had
+  pub owners_apart : ((n : List ℕ) (x : Transaction) → Has (owner_of b.participant) n x → ((y : Transaction) × Has (owner_of a.participant) n y) ⊎ ((j i : ℕ) (o : Owner) (y : Transaction) → IsParticipantAt before j i o → Has o n y → ⊥))
+      → ((key : List ℕ) → b.participant.direct ≡ Some key → (a.participant.direct ≡ Some key) ⊎ ((j i : ℕ) (o : Owner) → IsParticipantAt before j i o → o.direct ≡ Some key → ⊥)) → AreApart before → AreApart after
+  owners_apart names direct k = record {
+    names = λ j i l m o q n x y here there first second.
+        still_apart owner_of xs by a b at same (λ c. (z : Transaction) × Has c n z)
+        (λ h. ⊎_elim (λ (had : (z : Transaction) × Has (owner_of a.participant) n z). inl had) (λ none. inr (λ u v c old has. none u v c has.0 old has.1)) (names n h.0 h.1))
+        (λ u v d e c r old also has his. k.names u v d e c r n has.0 his.0 old also has.1 his.1) j i l m o q here there (x, first) (y, second);
+    direct = λ j i l m o q key here there first second.
+        still_apart owner_of xs by a b at same (λ c. c.direct ≡ Some key) (direct key) (λ u v d e c r old also has his. k.direct u v d e c r key old also has his) j i l m o q here there first second;
+  }
 
-  owner_after : (j i : ℕ) → j ≡ by → i ≡ 0 → IsParticipantAt after j i (owner_of b.participant)
-  owner_after j i q f = subst (λ (n : ℕ). IsParticipantAt after n i (owner_of b.participant)) (sym q) (subst (λ (n : ℕ). IsParticipantAt after by n (owner_of b.participant)) (sym f) (mine_now owner_of xs by a b at same))
+  -- a held key is known to who has its transaction, where the changed one has no other transactions than it had
+  pub key_known : ((n : List ℕ) (x : Transaction) → Has (owner_of b.participant) n x → Has (owner_of a.participant) n x) → (key n : List ℕ) → EachParticipant (λ o. (x : Transaction) → Has o n x → words.contains x.locked key ≡ true) before
+      → EachParticipant (λ o. (x : Transaction) → Has o n x → words.contains x.locked key ≡ true) after
+  key_known had key n k j i o there x has =
+      let u = who_was owner_of xs by a b at same (λ c d. (v : List ℕ) (z : Transaction) → Has c v z → Has d v z) (λ c v z h. h) had j i o there in
+      k j i u.0 u.1 x (u.2 n x has)
 
   module _ (client : b.participant.client ≡ a.participant.client) (past : (e : Event) → IsIn e a.participant.past → IsIn e b.participant.past) where
     began_still : (n : List ℕ) → Began a.participant.past n → Began b.participant.past n
@@ -39,7 +52,7 @@ module _ (xs : List Actor) (by : ℕ) (a b : Actor) (at : get_elem? xs by ≡ so
           place = k.place;
           owner = owner_of b.participant;
           transaction = h.0;
-          there = owner_after k.at k.place g.0 g.1;
+          there = at_after owner_of xs by a b at same k.at k.place g.0 g.1;
           client_is = client ∙ ap (λ (z : Owner). z.client) (sym g.2) ∙ k.client_is;
           has = h.1;
           began = began_still n (subst (λ (z : Owner). Began z.past n) g.2 k.began);
@@ -54,7 +67,7 @@ module _ (xs : List Actor) (by : ℕ) (a b : Actor) (at : get_elem? xs by ≡ so
           at = d.at;
           place = d.place;
           owner = owner_of b.participant;
-          there = owner_after d.at d.place g.0 g.1;
+          there = at_after owner_of xs by a b at same d.at d.place g.0 g.1;
           client_is = client ∙ ap (λ (z : Owner). z.client) (sym g.2) ∙ d.client_is;
           has = has (ap (λ (z : Owner). z.direct) (sym g.2) ∙ d.has);
           began = past (locked k (Client c)) (subst (λ (z : Owner). IsIn (locked k (Client c)) z.past) g.2 d.began);

@@ -7,7 +7,7 @@ use Rattle.wp_core.specs.Views.{Event}
 use Rattle.wp_core.specs.World.{Actor}
 use Rattle.wp_core.specs.Sound.Actors.{participants_of, IsParticipantAt}
 use Rattle.wp_core.specs.Sound.Pasts.{past_of, HasDone, IsPast, times_past}
-use Rattle.wp_core.proofs.AllParticipants.{mine, mine_now, was, still}
+use Rattle.wp_core.proofs.AllParticipants.{mine_now, was, at_before, who_is}
 use Rattle.wp_core.proofs.Participants.{total_person_set}
 
 pub in_front : {X : Type 0} (x : X) (xs ys : List X) → IsIn x xs → IsIn x (xs ++ ys)
@@ -40,17 +40,15 @@ module _ (xs : List Actor) (by : ℕ) (a b : Actor) (e : Event) (at : get_elem? 
   done_last = (b.participant.past, mine_now past_of xs by a b at same, subst (IsIn e) (sym grown) (in_last e a.participant.past))
 
   pub done_still : (j i : ℕ) (x : Event) → HasDone before j i x → HasDone after j i x
-  done_still j i x (past, there, k) = ⊎_elim
-      (λ (t : (j ≡ by) × (i ≡ 0) × (past ≡ a.participant.past)).
-      let more : IsIn x b.participant.past = subst (IsIn x) (sym grown) (in_front x a.participant.past (e ∷ []) (subst (IsIn x) t.2 k)) in
-      (b.participant.past, subst (λ (n : ℕ). IsParticipantAt after n i b.participant.past) (sym t.0) (subst (λ (n : ℕ). IsParticipantAt after by n b.participant.past) (sym t.1) (mine_now past_of xs by a b at same)), more))
-      (λ (t : IsParticipantAt after j i past). (past, t, k))
-      (still past_of xs by a b at same j i past there)
+  done_still j i x (past, there, k) =
+      let R : List Event → List Event → Type 0 = λ p q. (y : Event) → IsIn y p → IsIn y q in
+      let u = who_is past_of xs by a b at same R (λ p y h. h) (λ y h. subst (IsIn y) (sym grown) (in_front y a.participant.past (e ∷ []) h)) j i past there in
+      (u.0, u.1, u.2 x k)
 
   pub done_before : (j i : ℕ) (x : Event) → HasDone after j i x → HasDone before j i x ⊎ ((j ≡ by) × (i ≡ 0) × (e ≡ x))
   done_before j i x (past, there, k) = ⊎_elim
       (λ (t : (j ≡ by) × (i ≡ 0) × (past ≡ b.participant.past)). ⊎_elim
-      (λ (u : IsIn x a.participant.past). inl (a.participant.past, subst (λ (n : ℕ). IsParticipantAt before n i a.participant.past) (sym t.0) (subst (λ (n : ℕ). IsParticipantAt before by n a.participant.past) (sym t.1) (mine past_of xs by a b at same)), u))
+      (λ (u : IsIn x a.participant.past). inl (a.participant.past, at_before past_of xs by a b at same j i t.0 t.1, u))
       (λ (u : e ≡ x). inr (t.0, t.1, u))
       (in_either x e a.participant.past (subst (IsIn x) (t.2 ∙ grown) k)))
       (λ (t : IsParticipantAt before j i past). inl (past, t, k))

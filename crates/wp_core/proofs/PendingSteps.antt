@@ -1,5 +1,5 @@
 -- Making an entry pending, logging it and dropping it keep a world sound.
-use Rattle.std.proofs.Common.{◌≡◌, ◌≢◌, inl, inr, ℕ, suc, Bool, true, false, true≢false, not, List, [], ◌∷◌, ◌++◌, length, refl, sym, ap, ◌∙◌, Option, Some, None, append-nil, arith}
+use Rattle.std.proofs.Common.{◌≡◌, inl, inr, ℕ, suc, Bool, true, false, true≢false, not, List, [], ◌∷◌, ◌++◌, length, refl, sym, ap, ◌∙◌, append-nil, arith, ⊎_elim, Some}
 use mathlib.Core.Option.{some}
 use lib.ListN.{get_elem?}
 use Rattle.wp_model.specs.declared.entry.Entry.{Entry}
@@ -8,29 +8,27 @@ use Rattle.wp_model.specs.Decision.{version_in, decision_of}
 use Rattle.wp_model.specs.History.{entry_at, is_prepare}
 use Rattle.wp_model.specs.Legal.{IsLegal}
 use Rattle.wp_core.specs.Entries.{next_of, extended, IsOneRecord}
-use Rattle.wp_core.specs.Tables.{Content, WriteTable, writes}
+use Rattle.wp_core.specs.Tables.{WriteTable, writes}
 use Rattle.wp_core.specs.Turns.{Holds, write_turn}
 use Rattle.wp_core.specs.Views.{Fact, versions_in_memory}
-use Rattle.wp_core.specs.World.{Participant, Actor, World, content_of, with_content}
+use Rattle.wp_core.specs.World.{Participant, Actor, World, with_content}
 use Rattle.wp_core.specs.Steps.{Step, make_pending, log_pending}
 use Rattle.wp_core.specs.Changes.{held_with, change}
 use Rattle.wp_core.specs.Effects.{done}
 use Rattle.wp_core.specs.Needs.{Needs}
 use Rattle.wp_core.specs.Notes.{forgets, ends}
-use Rattle.wp_core.specs.Sound.Actors.{AreHeld, participants_of, held_of}
 use Rattle.wp_core.specs.Sound.History.{IsHistory, logged_part}
 use Rattle.wp_core.specs.Sound.Pasts.{past_of, AreFaults}
 use Rattle.wp_core.specs.Sound.Prepared.{IsCache, AreUndecided}
-use Rattle.wp_core.specs.Sound.Reader.{AreReaders, AreJudged, reader_of}
 use Rattle.wp_core.specs.Sound.Store.{IsStored}
-use Rattle.wp_core.specs.Sound.Views.{IsSo, IsGuarded}
+use Rattle.wp_core.specs.Sound.Views.{IsSo}
 use Rattle.wp_core.specs.IsSound.{IsSound, participants}
-use Rattle.wp_history.proofs.Growth.{entry_at_old, prepared_within}
-use Rattle.wp_core.proofs.Frames.{each_map_set, at_map}
-use Rattle.wp_core.proofs.Changed.{others_hold, holds_changed, have_changed}
-use Rattle.wp_core.proofs.Quiet.{SoIn, NotesStay, parts_of, kept_part, idle_after, noted_after}
+use Rattle.wp_model.proofs.Entries.{entry_at_old, prepared_within}
+use Rattle.wp_core.proofs.Quiet.{idle_after, NotesStay, Stays, stays_not, notes_by, notes_all, noted_after}
 use Rattle.wp_core.proofs.ReaderFacts.{extended_stays}
-use Rattle.wp_core.proofs.StoresFlag.{not_theirs, not_free}
+use Rattle.wp_core.proofs.AllParts.{SoIn, views_of, readers_still, turns_changed, quiet_step}
+use Rattle.wp_core.proofs.Tests.{none_some}
+use Rattle.wp_core.proofs.Gives.{not_free}
 
 -- the write table with what is pending, whether that is logged, and the log
 abbrev pub with_pending : WriteTable → List Entry → Bool → List Entry → WriteTable
@@ -46,43 +44,17 @@ pub pending_changes : (w : World) (by : ℕ) (a : Actor) (step : Step) (pending 
     → IsSound (change w by (forgets w.writes.history (length w.cache) step a) (writes (with_pending w.writes pending logged log)))
 pending_changes w by a step pending logged log at holds history cache undecided stored faults notes s =
     let d : WriteTable = with_pending w.writes pending logged log in
-    let e : Content = writes d in
     let c : Actor = forgets w.writes.history (length w.cache) step a in
-    let b : Actor = record c { held = held_with c.held e } in
-    let p = parts_of w by a b at (record { participant = refl; learned = refl; live = refl; made = refl; joined = refl }) s in
-    record {
-      history = history;
-      seen = p.seen;
-      learned = p.learned;
-      owned = p.owned;
-      cache = cache;
-      decided = s.decided;
-      undecided = undecided;
-      delayed = s.delayed;
-      registrations = p.registrations;
-      flags = s.flags;
-      versions = stored;
-      flushed = s.flushed;
-      locks = p.locks;
-      holders = p.holders;
-      board = p.board;
-      faults = kept_part w by a b at (participants_of past_of) (AreFaults d w.installed.halted) refl faults;
-      edits = p.edits;
-      pending = λ free. absurd (not_free w.holders write_turn by holds free);
-      held = each_map_set held_of (AreHeld w.holders (content_of (with_content w e))) w.actors by b (holds_changed w e by a.held (s.held by a.held (at_map held_of w.actors by a at)))
-          (λ j x ne there. others_hold w e by j x holds ne (s.held j x there));
-      have = have_changed w.holders e by w.actors a b at refl s.have;
-      readers = kept_part w by a b at reader_of (AreReaders w.writes.history w.max_evicted w.cache) refl s.readers;
-      viewed = p.viewed;
-      judged = kept_part w by a b at reader_of (AreJudged w.writes.history) refl s.judged;
-      noted = noted_after w by a b step (SoPending w d) at refl refl notes s;
-      led = p.led;
-      idle = idle_after w by a b write_turn at holds s refl;
-    }
+    let b : Actor = record c { held = held_with c.held (writes d) } in
+    quiet_step w (with_content w (writes d)) by a b at refl
+    (record { history = history; cache = cache; decided = s.decided; undecided = undecided; delayed = s.delayed; flags = s.flags; versions = stored; flushed = s.flushed; pending = λ free. absurd (not_free w.holders write_turn by holds free) })
+    (views_of w s) s.locks (record { holders = s.holders; board = s.board; faults = faults; edits = s.edits })
+    (turns_changed w by a b at (writes d) holds refl s) (readers_still w by a b at refl s)
+    (noted_after w by a b step (SoPending w d) at refl refl notes s) (idle_after w by a b write_turn at holds s refl) s
 
 -- ---- a record is made pending
 
-none_logged : (logged : Bool) → logged_part logged [] ≡ []
+pub none_logged : (logged : Bool) → logged_part logged [] ≡ []
 none_logged true = refl
 none_logged false = refl
 
@@ -126,35 +98,30 @@ undecided_made w entries none s = record {
   known = λ p there. prepare_stays w.writes.history entries p (ap (λ (z : List Entry). is_prepare (entry_at (extended w.writes.history z) p)) (sym none) ∙ s.undecided.known p there);
 }
 
-none_next : (o : Option (Option (List ℕ))) (value : Option (List ℕ)) → o ≡ None → o ≡ Some value → ⊥
-none_next o value none e = let q : None ≡ Some value = sym none ∙ e in absurd (cc)
-
 stored_made : (w : World) (entries : List Entry) → w.writes.pending ≡ [] → IsSound w → IsStored w.writes.history entries w.snapshots w.store w.installed
 stored_made w entries none s =
     let o = s.versions in record {
       covered = o.covered;
       floor = o.floor;
       next = λ key p value lt there. let k = o.next key p value lt there in
-          absurd (none_next (version_in (next_of w.writes.pending) key) value (ap (λ (z : List Entry). version_in (next_of z) key) none) k.1);
+          absurd (none_some (version_in (next_of w.writes.pending) key) value (ap (λ (z : List Entry). version_in (next_of z) key) none) k.1);
       tables = o.tables;
       last = o.last;
       failed = o.failed;
       in_memory = o.in_memory;
     }
 
-mine_made : (w : World) (entries log : List Entry) (logged : Bool) (p : Participant) (fact : Fact) → not (ends w.writes.history (length w.cache) (make_pending entries) fact) ≡ true → SoIn w p fact → SoPending w (with_pending w.writes entries logged log) p fact
-mine_made w entries log logged p versions_in_memory left k = absurd (true≢false (sym left))
-mine_made w entries log logged p fact left k = k
-
-pub others_made : (w : World) (pending log : List Entry) (logged : Bool) (by j : ℕ) (p : Participant) (fact : Fact) → Holds w.holders write_turn by → j ≢ by → IsGuarded w.holders fact j → SoIn w p fact → SoPending w (with_pending w.writes pending logged log) p fact
-others_made w pending log logged by j p versions_in_memory mine ne guard k = absurd (not_theirs w.holders write_turn by j mine ne (guard write_turn refl))
-others_made w pending log logged by j p fact mine ne guard k = k
+-- what stays where another record is pending: only that the pending one is in memory does not
+pub so_pending : (w : World) (step : Step) (pending log : List Entry) (logged : Bool) → ends w.writes.history (length w.cache) step versions_in_memory ≡ true → (p : Participant) (fact : Fact) → Stays w step write_turn fact → SoIn w p fact
+    → SoPending w (with_pending w.writes pending logged log) p fact
+so_pending w step pending log logged ended p versions_in_memory stays k = absurd (stays_not write_turn (⊎_elim (λ (left : not (ends w.writes.history (length w.cache) step versions_in_memory) ≡ true). inl (sym (ap not ended) ∙ left)) (λ (free : Some write_turn ≡ Some write_turn → ⊥). inr free) stays))
+so_pending w step pending log logged ended p fact stays k = k
 
 pub makes_pending : (w : World) (by : ℕ) (a : Actor) (entries : List Entry) → get_elem? w.actors by ≡ some a → Needs w by a (make_pending entries) → IsSound w → IsSound (done w by (forgets w.writes.history (length w.cache) (make_pending entries) a) (make_pending entries))
 makes_pending w by a entries at n s =
     pending_changes w by a (make_pending entries) entries false w.writes.log at n.0 (history_made w entries n.1 n.2 n.3 s) (cache_made w entries n.1 s) (undecided_made w entries n.1 s) (stored_made w entries n.1 s)
     (record { log = s.faults.log; tables = s.faults.tables; not_logged = λ closed. inr refl; stopped = s.faults.stopped })
-    (record { mine = λ p fact left k. mine_made w entries w.writes.log false p fact left k; others = λ j p fact ne guard k. others_made w entries w.writes.log false by j p fact n.0 ne guard k }) s
+    (notes_by w by (make_pending entries) write_turn _ n.0 (so_pending w (make_pending entries) entries w.writes.log false refl)) s
 
 -- ---- it is logged
 
@@ -178,4 +145,4 @@ pub logs_pending : (w : World) (by : ℕ) (a : Actor) → get_elem? w.actors by 
 logs_pending w by a at n s =
     pending_changes w by a log_pending w.writes.pending true (w.writes.log ++ w.writes.pending) at n.0 (history_logged w n.2 s) s.cache s.undecided s.versions
     (record { log = s.faults.log; tables = s.faults.tables; not_logged = λ closed. absurd (true≢false (sym closed ∙ n.3)); stopped = s.faults.stopped })
-    (record { mine = λ p fact left k. so_logged w p fact k; others = λ j p fact ne guard k. so_logged w p fact k }) s
+    (notes_all w by log_pending _ (so_logged w)) s

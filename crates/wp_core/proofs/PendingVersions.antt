@@ -1,5 +1,5 @@
 -- The versions of the pending entry come into memory, and go out of it, soundly.
-use Rattle.std.proofs.Common.{◌≡◌, ◌≢◌, inl, inr, ℕ, suc, ◌≤◌, nat_le, ◌==◌, ◌&&◌, eq-eqb, ne_eqb, Bool, true, false, true≢false, not, cond, List, [], ◌∷◌, ◌++◌, length, refl, sym, ap, ◌∙◌, Option, Some, None, le_trans, arith}
+use Rattle.std.proofs.Common.{◌≡◌, ◌≢◌, inl, inr, ℕ, suc, ◌≤◌, nat_le, ◌==◌, ◌&&◌, eq-eqb, ne_eqb, Bool, true, false, cond, List, [], ◌∷◌, ◌++◌, length, refl, sym, ap, ◌∙◌, Option, Some, None, le_trans, arith}
 use Rattle.std.proofs.lemmas.Bool.{cases_lt}
 use Rattle.std.proofs.lemmas.Bool.Decides.{nat_tests}
 use Rattle.std.specs.Str.{bytes_eq}
@@ -13,25 +13,22 @@ use Rattle.wp_model.specs.Covered.{IsCovered, GivesStore}
 use Rattle.wp_model.specs.Decision.{version_in, entry_version}
 use Rattle.wp_model.specs.Versions.{version_at}
 use Rattle.wp_core.specs.Entries.{next_of, HasVersionsAt}
-use Rattle.wp_core.specs.Tables.{Content, StoreTable, store, up_to}
+use Rattle.wp_core.specs.Tables.{StoreTable, store, up_to}
 use Rattle.wp_core.specs.Turns.{Holds, write_turn, store_turn}
 use Rattle.wp_core.specs.Views.{Fact, versions_in_memory, versions_nowhere, nothing_flushed, frozen_stay}
-use Rattle.wp_core.specs.World.{Participant, Actor, World, content_of, with_content}
+use Rattle.wp_core.specs.World.{Participant, Actor, World, with_content}
 use Rattle.wp_core.specs.Steps.{Step, add_versions, take_versions}
 use Rattle.wp_core.specs.Changes.{held_with, change}
 use Rattle.wp_core.specs.Effects.{done}
 use Rattle.wp_core.specs.Needs.{Needs}
-use Rattle.wp_core.specs.Notes.{forgets, ends}
-use Rattle.wp_core.specs.Sound.Actors.{AreHeld, held_of}
-use Rattle.wp_core.specs.Sound.Reader.{AreReaders, AreJudged, reader_of}
-use Rattle.wp_core.specs.Sound.Store.{IsStored, IsFlushedGone}
-use Rattle.wp_core.specs.Sound.Views.{IsSo, IsGuarded}
+use Rattle.wp_core.specs.Notes.{forgets}
+use Rattle.wp_core.specs.Sound.Store.{IsStored, IsFlushedGone, NoneFlushed}
+use Rattle.wp_core.specs.Sound.Views.{IsSo}
 use Rattle.wp_core.specs.IsSound.{IsSound}
-use Rattle.wp_history.proofs.Growth.{entry_at_past}
-use Rattle.wp_core.proofs.Frames.{each_map_set, at_map}
-use Rattle.wp_core.proofs.Changed.{others_hold, holds_changed, have_changed}
-use Rattle.wp_core.proofs.Quiet.{SoIn, NotesStay, parts_of, kept_part, idle_after, noted_after}
-use Rattle.wp_core.proofs.StoresFlag.{not_theirs}
+use Rattle.wp_model.proofs.Entries.{entry_at_past}
+use Rattle.wp_core.proofs.AllParts.{SoIn, views_of, pasts_of, readers_still, turns_changed, quiet_step}
+use Rattle.wp_core.proofs.Quiet.{idle_after, NotesStay, Stays, stays_not, notes_by, noted_after}
+use Rattle.wp_core.proofs.Tests.{both, none_either}
 
 -- ---- look-ups
 
@@ -56,19 +53,11 @@ one_up_to v F key p true false c x is tie rest = ap (λ (t : Bool). cond t (Some
 one_up_to v F key p false true c x is tie rest = rest ∙ (ap (λ (t : Bool). cond t x None) (sym (tie refl)) ∙ ap (λ (t : Bool). cond t (Some v.value) None) (tie refl))
 one_up_to v F key p false false c x is tie rest = rest
 
-second_test : (a b : Bool) → (a && b) ≡ true → b ≡ true
-second_test true b e = e
-second_test false b e = absurd (true≢false (sym e))
-
-none_either : (c : Bool) → ◌≡◌ {A = Option (Option (List ℕ))} None (cond c None None)
-none_either true = refl
-none_either false = refl
-
 pub at_up_to : (n : ℕ) (vs : List Version) (key : List ℕ) (p : ℕ) → version_at (up_to n vs) key p ≡ cond (nat_le p n) (version_at vs key p) None
 at_up_to n [] key p = none_either (nat_le p n)
 at_up_to n (v ∷ vs) key p =
     one_up_to v (up_to n vs) key p (nat_le v.number n) (bytes_eq v.key key && (v.number == p)) (nat_le p n) (version_at vs key p) refl
-    (λ e. let m : ℕ = v.number in let q : (m == p) ≡ true = second_test (bytes_eq v.key key) (v.number == p) e in let same : m ≡ p = grind (arith, nat_tests) in ap (λ (k : ℕ). nat_le k n) same) (at_up_to n vs key p)
+    (λ e. let m : ℕ = v.number in let q : (m == p) ≡ true = (both (bytes_eq v.key key) (v.number == p) e).1 in let same : m ≡ p = grind (arith, nat_tests) in ap (λ (k : ℕ). nat_le k n) same) (at_up_to n vs key p)
 
 pub gives_same : (xs ys : List Version) (history : List Entry) (key : List ℕ) (n : ℕ) → ((p : ℕ) → version_at ys key p ≡ version_at xs key p) → GivesStore xs history key n → GivesStore ys history key n
 gives_same xs ys history key n same (inl k) = inl record { number = k.number; value = k.value; there = same k.number ∙ k.there; committed = k.committed; newest = λ q lt is. same q ∙ k.newest q lt is; stored = k.stored }
@@ -85,6 +74,13 @@ covers_same xs ys history numbers from same k = record {
 }
 
 -- ---- the memory of a store changes at the next number alone
+
+abbrev pub SoStored : World → StoreTable → Participant → Fact → Type 0
+SoStored w t = IsSo w.delayed_flag w.old_flag w.max_evicted w.cache w.writes w.prepared w.snapshots t w.locks w.installed
+
+-- what is so of frozen versions
+abbrev IsFrozen : List Entry → List Version → ℕ → List Version → Type 0
+IsFrozen history memory n versions = (n ≤ length history) × ((key : List ℕ) (p : ℕ) → p ≤ n → version_at memory key p ≡ version_at versions key p)
 
 module _ (w : World) (memory : List Version) (s : IsSound w) (next : Option Entry) (has : HasVersionsAt next (suc (length w.writes.history)) w.store.memory memory) (is_next : (key : List ℕ) (value : Option (List ℕ)) → version_in next key ≡ Some value → version_in (next_of w.writes.pending) key ≡ Some value) where
   at_else : (key : List ℕ) (p : ℕ) → p ≢ suc (length w.writes.history) → version_at memory key p ≡ version_at w.store.memory key p
@@ -126,72 +122,41 @@ module _ (w : World) (memory : List Version) (s : IsSound w) (next : Option Entr
         in_memory = λ key p value lt there. at_old key p (is_within key p value there) ∙ o.in_memory key p value lt there;
       }
 
-  flushed_now : IsFlushedGone w.holders.tables w.store.memory w.installed.last.flushed → IsFlushedGone w.holders.tables memory w.installed.last.flushed
-  flushed_now k free key p low = at_old key p (le_trans low s.versions.last.flushed) ∙ k free key p low
+  none_flushed_now : NoneFlushed w.store.memory w.installed.last.flushed → NoneFlushed memory w.installed.last.flushed
+  none_flushed_now k key p low = at_old key p (le_trans low s.versions.last.flushed) ∙ k key p low
 
-abbrev pub SoStored : World → StoreTable → Participant → Fact → Type 0
-SoStored w t = IsSo w.delayed_flag w.old_flag w.max_evicted w.cache w.writes w.prepared w.snapshots t w.locks w.installed
+  flushed_now : IsFlushedGone w.holders.tables w.store.memory w.installed.last.flushed → IsFlushedGone w.holders.tables memory w.installed.last.flushed
+  flushed_now k free = none_flushed_now (k free)
+
+  frozen_now : (n : ℕ) (versions : List Version) → IsFrozen w.writes.history w.store.memory n versions → IsFrozen w.writes.history memory n versions
+  frozen_now n versions k = (k.0, λ key p low. at_old key p (le_trans low k.0) ∙ k.1 key p low)
 
 -- a step of who holds the store turn
 pub store_changes : (w : World) (by : ℕ) (a : Actor) (step : Step) (t : StoreTable) → get_elem? w.actors by ≡ some a → Holds w.holders store_turn by → IsStored w.writes.history w.writes.pending w.snapshots t w.installed
     → IsFlushedGone w.holders.tables t.memory w.installed.last.flushed → NotesStay w by step (SoStored w t) → IsSound w
     → IsSound (change w by (forgets w.writes.history (length w.cache) step a) (store t))
 store_changes w by a step t at holds stored flushed notes s =
-    let e : Content = store t in
     let c : Actor = forgets w.writes.history (length w.cache) step a in
-    let b : Actor = record c { held = held_with c.held e } in
-    let p = parts_of w by a b at (record { participant = refl; learned = refl; live = refl; made = refl; joined = refl }) s in
-    record {
-      history = s.history;
-      seen = p.seen;
-      learned = p.learned;
-      owned = p.owned;
-      cache = s.cache;
-      decided = s.decided;
-      undecided = s.undecided;
-      delayed = s.delayed;
-      registrations = p.registrations;
-      flags = s.flags;
-      versions = stored;
-      flushed = flushed;
-      locks = p.locks;
-      holders = p.holders;
-      board = p.board;
-      faults = p.faults;
-      edits = p.edits;
-      pending = s.pending;
-      held = each_map_set held_of (AreHeld w.holders (content_of (with_content w e))) w.actors by b (holds_changed w e by a.held (s.held by a.held (at_map held_of w.actors by a at)))
-          (λ j x ne there. others_hold w e by j x holds ne (s.held j x there));
-      have = have_changed w.holders e by w.actors a b at refl s.have;
-      readers = kept_part w by a b at reader_of (AreReaders w.writes.history w.max_evicted w.cache) refl s.readers;
-      viewed = p.viewed;
-      judged = kept_part w by a b at reader_of (AreJudged w.writes.history) refl s.judged;
-      noted = noted_after w by a b step (SoStored w t) at refl refl notes s;
-      led = p.led;
-      idle = idle_after w by a b store_turn at holds s refl;
-    }
+    let b : Actor = record c { held = held_with c.held (store t) } in
+    quiet_step w (with_content w (store t)) by a b at refl
+    (record { history = s.history; cache = s.cache; decided = s.decided; undecided = s.undecided; delayed = s.delayed; flags = s.flags; versions = stored; flushed = flushed; pending = s.pending })
+    (views_of w s) s.locks (pasts_of w s) (turns_changed w by a b at (store t) holds refl s) (readers_still w by a b at refl s)
+    (noted_after w by a b step (SoStored w t) at refl refl notes s) (idle_after w by a b store_turn at holds s refl) s
 
 -- ---- they come
 
 module _ (w : World) (memory : List Version) (s : IsSound w) (has : HasVersionsAt (next_of w.writes.pending) (suc (length w.writes.history)) w.store.memory memory) where
-  mine_added : (p : Participant) (fact : Fact) → not (ends w.writes.history (length w.cache) (add_versions memory) fact) ≡ true → SoIn w p fact → SoStored w (record w.store { memory = memory }) p fact
-  mine_added p versions_in_memory left k = λ key value e. at_next w memory s (next_of w.writes.pending) has (λ _ _ f. f) key ∙ e
-  mine_added p versions_nowhere left k = absurd (true≢false (sym left))
-  mine_added p nothing_flushed left k = λ key q low. at_old w memory s (next_of w.writes.pending) has (λ _ _ f. f) key q (le_trans low s.versions.last.flushed) ∙ k key q low
-  mine_added p (frozen_stay n versions) left k = (k.0, λ key q low. at_old w memory s (next_of w.writes.pending) has (λ _ _ f. f) key q (le_trans low k.0) ∙ k.1 key q low)
-  mine_added p fact left k = k
-
-  others_added : (by j : ℕ) (p : Participant) (fact : Fact) → Holds w.holders write_turn by → j ≢ by → IsGuarded w.holders fact j → SoIn w p fact → SoStored w (record w.store { memory = memory }) p fact
-  others_added by j p versions_in_memory mine ne guard k = absurd (not_theirs w.holders write_turn by j mine ne (guard write_turn refl))
-  others_added by j p versions_nowhere mine ne guard k = absurd (not_theirs w.holders write_turn by j mine ne (guard write_turn refl))
-  others_added by j p nothing_flushed mine ne guard k = λ key q low. at_old w memory s (next_of w.writes.pending) has (λ _ _ f. f) key q (le_trans low s.versions.last.flushed) ∙ k key q low
-  others_added by j p (frozen_stay n versions) mine ne guard k = (k.0, λ key q low. at_old w memory s (next_of w.writes.pending) has (λ _ _ f. f) key q (le_trans low k.0) ∙ k.1 key q low)
-  others_added by j p fact mine ne guard k = k
+  so_added : (p : Participant) (fact : Fact) → Stays w (add_versions memory) write_turn fact → SoIn w p fact → SoStored w (record w.store { memory = memory }) p fact
+  so_added p versions_in_memory stays k = λ key value e. at_next w memory s (next_of w.writes.pending) has (λ _ _ f. f) key ∙ e
+  so_added p versions_nowhere stays k = absurd (stays_not write_turn stays)
+  so_added p nothing_flushed stays k = none_flushed_now w memory s (next_of w.writes.pending) has (λ _ _ f. f) k
+  so_added p (frozen_stay n versions) stays k = frozen_now w memory s (next_of w.writes.pending) has (λ _ _ f. f) n versions k
+  so_added p fact stays k = k
 
 pub adds_versions : (w : World) (by : ℕ) (a : Actor) (memory : List Version) → get_elem? w.actors by ≡ some a → Needs w by a (add_versions memory) → IsSound w → IsSound (done w by (forgets w.writes.history (length w.cache) (add_versions memory) a) (add_versions memory))
 adds_versions w by a memory at n s =
     store_changes w by a (add_versions memory) (record w.store { memory = memory }) at n.1 (stored_now w memory s (next_of w.writes.pending) n.2 (λ _ _ f. f)) (flushed_now w memory s (next_of w.writes.pending) n.2 (λ _ _ f. f) s.flushed)
-    (record { mine = λ p fact left k. mine_added w memory s n.2 p fact left k; others = λ j p fact ne guard k. others_added w memory s n.2 by j p fact n.0 ne guard k }) s
+    (notes_by w by (add_versions memory) write_turn _ n.0 (so_added w memory s n.2)) s
 
 -- ---- they go
 
@@ -199,21 +164,14 @@ not_in_none : (key : List ℕ) (value : Option (List ℕ)) (C : Type 0) → vers
 not_in_none key value C e = let q : ◌≡◌ {A = Option (Option (List ℕ))} None (Some value) = e in absurd (cc)
 
 module _ (w : World) (memory : List Version) (s : IsSound w) (has : HasVersionsAt None (suc (length w.writes.history)) w.store.memory memory) where
-  mine_taken : (p : Participant) (fact : Fact) → not (ends w.writes.history (length w.cache) (take_versions memory) fact) ≡ true → SoIn w p fact → SoStored w (record w.store { memory = memory }) p fact
-  mine_taken p versions_in_memory left k = absurd (true≢false (sym left))
-  mine_taken p versions_nowhere left k = λ key. at_next w memory s None has (λ y v f. not_in_none y v _ f) key
-  mine_taken p nothing_flushed left k = λ key q low. at_old w memory s None has (λ y v f. not_in_none y v _ f) key q (le_trans low s.versions.last.flushed) ∙ k key q low
-  mine_taken p (frozen_stay n versions) left k = (k.0, λ key q low. at_old w memory s None has (λ y v f. not_in_none y v _ f) key q (le_trans low k.0) ∙ k.1 key q low)
-  mine_taken p fact left k = k
-
-  others_taken : (by j : ℕ) (p : Participant) (fact : Fact) → Holds w.holders write_turn by → j ≢ by → IsGuarded w.holders fact j → SoIn w p fact → SoStored w (record w.store { memory = memory }) p fact
-  others_taken by j p versions_in_memory mine ne guard k = absurd (not_theirs w.holders write_turn by j mine ne (guard write_turn refl))
-  others_taken by j p versions_nowhere mine ne guard k = absurd (not_theirs w.holders write_turn by j mine ne (guard write_turn refl))
-  others_taken by j p nothing_flushed mine ne guard k = λ key q low. at_old w memory s None has (λ y v f. not_in_none y v _ f) key q (le_trans low s.versions.last.flushed) ∙ k key q low
-  others_taken by j p (frozen_stay n versions) mine ne guard k = (k.0, λ key q low. at_old w memory s None has (λ y v f. not_in_none y v _ f) key q (le_trans low k.0) ∙ k.1 key q low)
-  others_taken by j p fact mine ne guard k = k
+  so_taken : (p : Participant) (fact : Fact) → Stays w (take_versions memory) write_turn fact → SoIn w p fact → SoStored w (record w.store { memory = memory }) p fact
+  so_taken p versions_in_memory stays k = absurd (stays_not write_turn stays)
+  so_taken p versions_nowhere stays k = λ key. at_next w memory s None has (λ y v f. not_in_none y v _ f) key
+  so_taken p nothing_flushed stays k = none_flushed_now w memory s None has (λ y v f. not_in_none y v _ f) k
+  so_taken p (frozen_stay n versions) stays k = frozen_now w memory s None has (λ y v f. not_in_none y v _ f) n versions k
+  so_taken p fact stays k = k
 
 pub takes_versions : (w : World) (by : ℕ) (a : Actor) (memory : List Version) → get_elem? w.actors by ≡ some a → Needs w by a (take_versions memory) → IsSound w → IsSound (done w by (forgets w.writes.history (length w.cache) (take_versions memory) a) (take_versions memory))
 takes_versions w by a memory at n s =
     store_changes w by a (take_versions memory) (record w.store { memory = memory }) at n.1 (stored_now w memory s None n.2 (λ y v f. not_in_none y v _ f)) (flushed_now w memory s None n.2 (λ y v f. not_in_none y v _ f) s.flushed)
-    (record { mine = λ p fact left k. mine_taken w memory s n.2 p fact left k; others = λ j p fact ne guard k. others_taken w memory s n.2 by j p fact n.0 ne guard k }) s
+    (notes_by w by (take_versions memory) write_turn _ n.0 (so_taken w memory s n.2)) s

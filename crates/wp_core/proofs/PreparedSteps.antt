@@ -25,9 +25,11 @@ use Rattle.wp_core.specs.Sound.Views.{IsSo, IsApart, IsClearing}
 use Rattle.wp_core.specs.IsSound.{IsSound}
 use Rattle.wp_core.proofs.HistoryLaws.{decided_within, undecided_not_decided}
 use Rattle.wp_core.proofs.Numbers.{in_removed, in_removed_else, get_inserted, get_inserted_else, get_removed, get_removed_else}
-use Rattle.wp_core.proofs.Quiet.{SoIn, prepared_changes}
-use Rattle.wp_core.proofs.StoresFlag.{not_free}
-use Rattle.wp_core.proofs.ReaderFacts.{same_some, none_some, extended_was, pair_ordered}
+use Rattle.wp_core.proofs.Quiet.{notes_all, prepared_changes}
+use Rattle.wp_core.proofs.ReaderFacts.{pair_ordered, extended_was}
+use Rattle.wp_core.proofs.AllParts.{SoIn}
+use Rattle.wp_core.proofs.Tests.{same_some, none_some}
+use Rattle.wp_core.proofs.Gives.{not_free}
 
 -- what is noted with these prepared tables in place of the world's
 abbrev pub SoWith : World → PreparedTables → Participant → Fact → Type 0
@@ -40,10 +42,6 @@ clearing_decided w place pair why s k =
     let ordered = pair_ordered (slice_index w.cache place) pair k.there in
     let published = k.published_by in let low = ordered.1 in
     extended_was w.writes.history w.writes.pending pair.number pair.decision (omega arith) published at.decided
-
-pub either : (a b : Bool) → (a || b) ≡ true → (a ≡ true) ⊎ (b ≡ true)
-either true b e = inl refl
-either false b e = inr e
 
 pub in_either : (a b : Bool) → (a ≡ true) ⊎ (b ≡ true) → (a || b) ≡ true
 in_either true b k = refl
@@ -121,7 +119,7 @@ pub takes_out : (w : World) (by : ℕ) (a : Actor) (p : ℕ) → get_elem? w.act
 takes_out w by a p at n s =
     let c = n.1.0 in let decided = n.1.1 in
     prepared_changes w by a (take_out p) (without_prepared w.prepared p) at n.0 (out_undecided w p c s decided) (out_delayed w p c s decided) (out_flags w p c s decided by n.0)
-    (record { mine = λ q fact left k. out_so w p c s decided q fact k; others = λ j q fact ne guard k. out_so w p c s decided q fact k }) s
+    (notes_all w by (take_out p) _ (out_so w p c s decided)) s
 
 -- ---- a delayed commit comes
 
@@ -169,4 +167,4 @@ unfolding with_commit
 adds_delayed_commit w by a pair at n s =
     let decided = n.2 in
     prepared_changes w by a (add_delayed_commit pair) (with_commit w pair s decided) at n.0 (commit_undecided w pair s decided) (commit_delayed w pair s decided) (commit_flags w pair s decided by n.0 n.1)
-    (record { mine = λ q fact left k. commit_so w pair s decided q fact k; others = λ j q fact ne guard k. commit_so w pair s decided q fact k }) s
+    (notes_all w by (add_delayed_commit pair) _ (commit_so w pair s decided)) s

@@ -18,7 +18,7 @@ use Rattle.wp_core.specs.Sound.Actors.{StartsWith, own_of, times, AreOwned, part
 use Rattle.wp_core.specs.Sound.History.{IsHistory, IsRest, logged_part}
 use Rattle.wp_core.proofs.Participants.{total_person_set}
 use Rattle.wp_core.proofs.PastsGrow.{total_more}
-use Rattle.wp_core.proofs.ReaderFacts.{same_some}
+use Rattle.wp_core.proofs.Tests.{same_some}
 
 -- ---- what is left of the record
 
@@ -81,9 +81,6 @@ history_part opened t max entry others is logged open_log legal k =
 
 pub seen_grows : (history : List Entry) (entry : Entry) (seen : List Entry) → StartsWith history seen → StartsWith (history ++ entry ∷ []) seen
 seen_grows history entry seen (rest, e) = (rest ++ entry ∷ [], ap (λ (x : List Entry). x ++ entry ∷ []) e ∙ append_assoc seen rest (entry ∷ []))
-
-pub seen_whole : (history : List Entry) → StartsWith history history
-seen_whole history = ([], sym (append-nil history))
 
 -- ---- who published what
 

@@ -12,6 +12,7 @@ use Rattle.wp_model.specs.declared.holder.Holder.TheVariants.{Txn, Client}
 use Rattle.wp_model.specs.History.{is_prepare, prepared_name, prepared_batch, name_at, batch_at, decides, is_changed, named}
 use Rattle.wp_model.specs.Legal.{IsLegal}
 use Rattle.wp_model.specs.LockTables.{LockTables}
+use Rattle.wp_model.proofs.Found.{found_named}
 use Rattle.wp_core.specs.Entries.{transaction_of}
 use Rattle.wp_core.specs.Tables.{WriteTable}
 use Rattle.wp_core.specs.Views.{Account, own, another, prepare_at, Event}
@@ -19,7 +20,7 @@ use Rattle.wp_core.specs.Effects.{with_entry}
 use Rattle.wp_core.specs.Sound.Locks.{Owner, AreLocked}
 use Rattle.wp_core.specs.Sound.Pasts.{IsAccounted, AreHolders, IsBoard, AreFaults}
 use Rattle.wp_core.proofs.HistoryLaws.{is_equal}
-use Rattle.wp_core.proofs.HistoryGrows.{at_next, grown_length, named_is, named_stays, name_at_old, batch_at_grown, undecided_before_or_now}
+use Rattle.wp_core.proofs.HistoryGrows.{at_next, grown_length, named_stays, name_at_old, batch_at_grown, undecided_before_or_now}
 
 -- the Prepare that an entry is
 pub record IsPrepareOf (entry : Entry) : Type 0 where
@@ -52,7 +53,7 @@ not_decided history entry name p is other = by (decides p entry) refl
   where
     by : (b : Bool) → decides p entry ≡ b → b ≡ false
     by false e = refl
-    by true e = absurd (other (decider_of history p entry e ∙ ap (λ (x : List ℕ). Some x) ((bytes_eq-Decides (name_at history p) name).0 (named_is history name p is).1)))
+    by true e = absurd (other (decider_of history p entry e ∙ ap (λ (x : List ℕ). Some x) ((bytes_eq-Decides (name_at history p) name).0 (found_named history name p is).1)))
 
 module _ (history : List Entry) (entry : Entry) (legal : IsLegal (history ++ entry ∷ [])) where
   abbrev grown : List Entry

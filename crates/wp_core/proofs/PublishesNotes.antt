@@ -15,7 +15,8 @@ use Rattle.wp_model.specs.Legal.{IsLegalNext, prior}
 use Rattle.wp_judge.specs.Words.{CommitPair}
 use Rattle.wp_history.proofs.Above.{is_changed_from}
 use Rattle.wp_history.proofs.Held.{not_free, free_key}
-use Rattle.wp_history.proofs.Undecided.{undecided_within}
+use Rattle.wp_model.proofs.Entries.{undecided_within}
+use Rattle.wp_model.proofs.Found.{found_named}
 use Rattle.wp_core.specs.Conditions.{MayPublish}
 use Rattle.wp_core.specs.Entries.{transaction_of, changes_under}
 use Rattle.wp_core.specs.Turns.{write_turn}
@@ -30,18 +31,16 @@ use Rattle.wp_core.specs.Sound.Locks.{owner_of, IsOwner}
 use Rattle.wp_core.specs.Sound.Views.{IsClearing, Owns, IsGuarded}
 use Rattle.wp_core.specs.IsSound.{IsSound, participants}
 use Rattle.wp_core.proofs.AllParticipants.{mine}
-use Rattle.wp_core.proofs.HistoryGrows.{none_is, grown_length, after, named_is, named_stays, unnamed_stays, free_stays, batch_at_grown, newest_kept, prior_same}
+use Rattle.wp_core.proofs.HistoryGrows.{none_is, grown_length, after, named_stays, unnamed_stays, free_stays, batch_at_grown, newest_kept, prior_same}
 use Rattle.wp_core.proofs.PendingSteps.{SoPending}
 use Rattle.wp_core.proofs.PublishesLocks.{prepare_of, not_decided, batch_new}
-use Rattle.wp_core.proofs.Quiet.{SoIn}
-use Rattle.wp_core.proofs.StoresFlag.{not_theirs}
+use Rattle.wp_core.proofs.AllParts.{SoIn}
+use Rattle.wp_core.proofs.Keyed.{txn_is}
+use Rattle.wp_core.proofs.Gives.{not_theirs}
 
 never_true : (b : Bool) → (b ≡ true → ⊥) → b ≡ false
 never_true true never = absurd (never refl)
 never_true false never = refl
-
-txn_is : (x y : List ℕ) → Some (Txn x) ≡ Some (Txn y) → x ≡ y
-txn_is x y e = cc
 
 txn_not_client : (x y : List ℕ) → Some (Txn x) ≡ Some (Client y) → ⊥
 txn_not_client x y e = absurd cc
@@ -87,12 +86,12 @@ module _ (w : World) (by : ℕ) (a : Actor) (entry : Entry) (others : List Entry
   module _ (q : Participant) (owner : IsOwner w.locks (owner_of q)) where
     undecided_grows : (name : List ℕ) (p : ℕ) → (transaction_of history entry ≡ Some name → ⊥) → SoIn w q (undecided_at name p) → SoPending w d q (undecided_at name p)
     undecided_grows name p other k =
-        let low = (undecided_within history p (named_is history name p k.1).0).1 in
+        let low = (undecided_within history p (found_named history name p k.1).0).1 in
         (k.0, named_stays history entry n.legal name p k.1 (not_decided history entry name p k.1 other), k.2, λ key changed. k.3 key (ap (λ (x : List Change). is_changed x key) (sym (batch_at_grown history entry n.legal p low)) ∙ changed))
 
     prior_grows : (name : List ℕ) (p : ℕ) (batch : List Change) → (transaction_of history entry ≡ Some name → ⊥) → SoIn w q (prior_values name p batch) → SoPending w d q (prior_values name p batch)
     prior_grows name p batch other k =
-        let is = named_is history name p k.1 in
+        let is = found_named history name p k.1 in
         let low = (undecided_within history p is.0).1 in
         let same : name_at history p ≡ name = (bytes_eq-Decides (name_at history p) name).0 is.1 in (
           k.0,

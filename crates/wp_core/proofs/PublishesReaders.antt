@@ -6,7 +6,7 @@ use Rattle.wp_model.specs.declared.entry.Entry.{Entry}
 use Rattle.wp_model.specs.Legal.{IsLegal}
 use Rattle.wp_model.specs.Snapshots.{Snapshots}
 use Rattle.wp_judge.specs.declared.observed.Observed.{Observed}
-use Rattle.wp_history.proofs.Growth.{entry_at_old}
+use Rattle.wp_model.proofs.Entries.{entry_at_old}
 use Rattle.wp_core.specs.Lists.{IsIn, one_if, total}
 use Rattle.wp_core.specs.Reading.{Registration, snapshot_of}
 use Rattle.wp_core.specs.World.{Actor}

@@ -13,14 +13,14 @@ use Rattle.wp_model.specs.Decision.{version_in, entry_version}
 use Rattle.wp_model.specs.Snapshots.{Snapshots}
 use Rattle.wp_model.specs.Versions.{version_at}
 use Rattle.wp_history.proofs.Counting.{entry_version_old}
-use Rattle.wp_history.proofs.Growth.{entry_at_past}
+use Rattle.wp_model.proofs.Entries.{entry_at_past}
 use Rattle.wp_core.specs.Entries.{next_of}
 use Rattle.wp_core.specs.Tables.{StoreTable, InstalledEdit, Installed, live_numbers, up_to, all_in}
 use Rattle.wp_core.specs.Sound.Store.{versions_under, versions_after, later_versions, IsEditCovered, IsStored}
 use Rattle.wp_core.proofs.CoveredGrows.{version_within, covered_grows}
 use Rattle.wp_core.proofs.HistoryGrows.{none_is, grown_length, version_new}
 use Rattle.wp_core.proofs.PendingVersions.{at_up_to}
-use Rattle.wp_core.proofs.ReaderFacts.{none_some}
+use Rattle.wp_core.proofs.Tests.{none_some, none_either}
 
 -- ---- look-ups in two lists
 
@@ -53,12 +53,8 @@ one_under true false v x = refl
 one_under false true v x = refl
 one_under false false v x = refl
 
-none_by : (b : Bool) → ◌≡◌ {A = Option (Option (List ℕ))} None (cond b None None)
-none_by true = refl
-none_by false = refl
-
 pub at_under : (m : ℕ) (changes : List Change) (key : List ℕ) (p : ℕ) → version_at (versions_under m changes) key p ≡ cond (m == p) (change_to changes key) None
-at_under m [] key p = none_by (m == p)
+at_under m [] key p = none_either (m == p)
 at_under m (c ∷ changes) key p = ap (cond (bytes_eq (key_of c) key && (m == p)) (Some (value_of c))) (at_under m changes key p) ∙ one_under (bytes_eq (key_of c) key) (m == p) (value_of c) (change_to changes key)
 
 after_more : (m n : ℕ) (es : List Entry) (entry : Entry) → n ≡ suc (m + length es) → versions_after m (es ++ entry ∷ []) ≡ versions_after m es ++ versions_under n (changes_in entry)

@@ -15,12 +15,7 @@ use Rattle.wp_core.specs.Sound.Prepared.{IsCache, AreDecided, AreUndecided, AreD
 use Rattle.wp_core.specs.Sound.Snapshots.{has_versions_at}
 use Rattle.wp_core.specs.Sound.Reader.{IsPassedBy, IsRight}
 use Rattle.wp_core.proofs.HistoryLaws.{decision_stays, decision_was, decided_or_undecided}
-
-pub same_some : {A : Type 0} (x y : A) → Some x ≡ Some y → x ≡ y
-same_some x y e = cc
-
-pub none_some : {A : Type 0} (o : Option A) (x : A) → o ≡ None → o ≡ Some x → ⊥
-none_some o x none there = let q : None ≡ Some x = sym none ∙ there in absurd (cc)
+use Rattle.wp_core.proofs.Tests.{same_some, none_some}
 
 ordered_if : (p c : ℕ) (pair : CommitPair) (a b : Bool) → nat_le 1 p ≡ a → nat_le p c ≡ b → cond (a && b) (Some (record { number = p; decision = c })) None ≡ Some pair → (1 ≤ pair.number) × (pair.number ≤ pair.decision)
 ordered_if p c pair true true low high e =

@@ -1,5 +1,5 @@
 -- A reader begins and ends soundly.
-use Rattle.std.proofs.Common.{◌≡◌, ℕ, ◌≤◌, true, length, refl, subst, ap, ◌∙◌, Option, Some, None, Bool, ⊎_elim, ◌<◌, suc, nat_lt, false, not, cond, List, [], ◌∷◌, filter, arith}
+use Rattle.std.proofs.Common.{◌≡◌, ℕ, ◌≤◌, true, length, refl, subst, ap, ◌∙◌, Some, None, Bool, ⊎_elim, ◌<◌, suc, nat_lt, false, not, cond, List, [], ◌∷◌, filter, arith, sym}
 use mathlib.Core.Option.{some}
 use lib.ListN.{get_elem?}
 use Rattle.wp_judge.specs.declared.observed.Observed.{Observed}
@@ -21,17 +21,17 @@ use Rattle.wp_judge.specs.declared.observed.Load.TheVariants.{FirstWord}
 use Rattle.wp_judge.specs.declared.observed.Asked.TheVariants.{Load, Answer}
 use Rattle.wp_judge.specs.Order.{answer_of}
 use Rattle.std.proofs.lemmas.Bool.Decides.{nat_tests}
-use Rattle.wp_core.proofs.Frames.{at_map, in_filter}
+use Rattle.wp_core.proofs.Frames.{at_map}
 use Rattle.wp_core.proofs.HistoryLaws.{decided_late}
-use Rattle.wp_core.proofs.ReaderFacts.{same_some}
-use Rattle.wp_core.proofs.Looks.{LeavesMost, looks}
+use Rattle.wp_core.proofs.Looks.{leaves_most, looks}
+use Rattle.wp_core.proofs.Tests.{same_some, some_none}
 
 pub in_at : {X : Type 0} (x : X) (xs : List X) → IsIn x xs → (i : ℕ) × (get_elem? xs i ≡ some x)
 in_at x [] there = absurd there
 in_at x (y ∷ ys) there = ⊎_elim (λ (e : y ≡ x). (0, ap some e)) (λ (k : IsIn x ys). let t = in_at x ys k in (suc t.0, t.1)) there
 
 -- what is below a snapshot's smallest is committed there
-below_smallest : (w : World) (by : ℕ) (a : Actor) (r : Registration) → get_elem? w.actors by ≡ some a → IsIn r a.participant.registered → IsSound w → IsBelowCommitted w.writes.history r
+pub below_smallest : (w : World) (by : ℕ) (a : Actor) (r : Registration) → get_elem? w.actors by ≡ some a → IsIn r a.participant.registered → IsSound w → IsBelowCommitted w.writes.history r
 below_smallest w by a r at there s =
     let k = in_at r a.participant.registered there in
     s.registrations.smallest by 0 a.participant.registered (participants_of registered_of a, at_map (participants_of registered_of) w.actors by a at, refl) k.0 r k.1
@@ -52,17 +52,11 @@ by_snapshot w by a p r visible false at there has s above e =
     let below : p < r.smallest = grind (arith, nat_tests) in
     subst (IsRight w.writes.history p r.number) k.1 (below_smallest w by a r at there s p below low (has low))
 
-leaves : (w : World) (a : Actor) (o : Option Observed) (test : Fact → Bool) → LeavesMost a (record a { reading = o; notes = filter test a.notes })
-leaves w a o test = record { participant = refl; learned = refl; held = refl; live = refl; made = refl; joined = refl; fewer = λ fact there. (in_filter test fact a.notes there).0 }
-
-none_read : {A : Type 0} (r : A) (C : Type 0) → None ≡ Some r → C
-none_read r C e = absurd (cc)
-
 pub begins_reading : (w : World) (by : ℕ) (a : Actor) (p : ℕ) (snapshot : Registration) → get_elem? w.actors by ≡ some a → Needs w by a (begin_reading p snapshot) → IsSound w → IsSound (done w by (forgets w.writes.history (length w.cache) (begin_reading p snapshot) a) (begin_reading p snapshot))
 begins_reading w by a p snapshot at n s =
     let test : Fact → Bool = λ f. not (ends w.writes.history (length w.cache) (begin_reading p snapshot) f) in
     let b : Actor = record a { reading = Some (reads p snapshot); notes = filter test a.notes } in
-    looks w by a b at (leaves w a (Some (reads p snapshot)) test)
+    looks w by a b at (leaves_most w a (Some (reads p snapshot)) test)
     record {
       knows = λ r e. subst (IsReader w.writes.history w.max_evicted w.cache a.participant.registered) (same_some (reads p snapshot) r e)
           record {
@@ -70,11 +64,11 @@ begins_reading w by a p snapshot at n s =
             in_order = record { first_max = λ _. refl; delayed_flag = λ _. refl; in_prepared = λ _. refl; second_word = λ _. refl; looked = λ flag is raised none. refl; second_max = λ _. refl; old_flag = λ _. refl; is_old_commit = λ _. refl };
             knows = λ low. record {
               version = n.1 low;
-              first_word = λ word is another committed. none_read word _ is;
-              first_max = λ m is. none_read m _ is;
-              not_in_prepared = λ k. none_read k.bound _ k.loaded;
-              second_word = λ word is another. none_read word _ is;
-              second_max = λ m is. none_read m _ is;
+              first_word = λ word is another committed. absurd (some_none word (sym is));
+              first_max = λ m is. absurd (some_none m (sym is));
+              not_in_prepared = λ k. absurd (some_none k.bound (sym k.loaded));
+              second_word = λ word is another. absurd (some_none word (sym is));
+              second_max = λ m is. absurd (some_none m (sym is));
             };
           };
       right = λ r visible e judged. let same = same_some (reads p snapshot) r e in
@@ -86,9 +80,9 @@ pub ends_reading : (w : World) (by : ℕ) (a : Actor) → get_elem? w.actors by 
 ends_reading w by a at s =
     let test : Fact → Bool = λ f. not (ends w.writes.history (length w.cache) end_reading f) in
     let b : Actor = record a { reading = None; notes = filter test a.notes } in
-    looks w by a b at (leaves w a None test)
+    looks w by a b at (leaves_most w a None test)
     record {
-      knows = λ r e. none_read r _ e;
-      right = λ r visible e judged. none_read r _ e;
+      knows = λ r e. absurd (some_none r (sym e));
+      right = λ r visible e judged. absurd (some_none r (sym e));
       idle = λ dead. let i = s.idle by a at dead in record { participant = i.participant; held = i.held; reading = refl; notes = ap (λ (z : List Fact). filter test z) i.notes };
     } s

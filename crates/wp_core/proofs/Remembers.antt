@@ -1,5 +1,5 @@
 -- What is so of all pasts, once one actor's past has an event more that installs nothing and is no fault.
-use Rattle.std.proofs.Common.{◌≡◌, ◌⊎◌, ⊎_elim, inl, inr, ℕ, ◌≤◌, Bool, true, false, List, [], ◌∷◌, ◌++◌, length, map, set, sym, subst, ap, ◌∙◌, arith, Option, is_some, Some}
+use Rattle.std.proofs.Common.{◌≡◌, ◌⊎◌, ⊎_elim, inl, inr, ℕ, ◌≤◌, Bool, true, false, List, [], ◌∷◌, ◌++◌, length, map, set, sym, subst, ap, ◌∙◌, arith, Option, is_some, Some, ◌≢◌}
 use Rattle.std.proofs.lemmas.List.Sums.{fold-append}
 use mathlib.Core.Option.{some}
 use lib.ListN.{get_elem?}
@@ -9,18 +9,31 @@ use Rattle.wp_model.specs.declared.holder.Holder.{Holder}
 use Rattle.wp_model.specs.declared.holder.Holder.TheVariants.{Txn, Client}
 use Rattle.wp_model.specs.LockTables.{LockTables}
 use Rattle.wp_core.specs.Tables.{WriteTable, InstalledEdit, Installed}
-use Rattle.wp_core.specs.Views.{Account, own, another, prepare_at, Event, locked, told, heard, stopped, found_flushed, found}
+use Rattle.wp_core.specs.Views.{Account, own, another, prepare_at, Event, claimed, took, locked, told, heard, stopped, found_flushed, found}
 use Rattle.wp_core.specs.World.{Actor}
 use Rattle.wp_core.specs.Sound.Actors.{participants_of, IsParticipantAt}
 use Rattle.wp_core.specs.Sound.Pasts.{past_of, IsPast, IsAccounted, WasLocked, AreHolders, IsBoard, is_log_fault, is_tables_fault, AreFaults, WasInstalled, due_after, tables_due, OtherCompacts, AreEdits}
-use Rattle.wp_core.proofs.AllParticipants.{mine, was}
-use Rattle.wp_core.proofs.PastsGrow.{done_still, done_before, past_still, past_before, times_more}
+use Rattle.wp_core.proofs.AllParticipants.{mine, was_apart}
+use Rattle.wp_core.proofs.PastsGrow.{done_still, done_before, past_still, past_last, past_before, times_more}
 
 -- it installs nothing, and is no fault
 pub record IsQuiet (e : Event) : Type 0 where
   pub log : is_log_fault e ≡ false
   pub tables : is_tables_fault e ≡ false
   pub due : (n : ℕ) → due_after n e ≡ n
+
+-- it finds no holder, no closed log and no flush
+abbrev pub FindsNothing : Event → Type 0
+FindsNothing (found key holder seen account) = ⊥
+FindsNothing (stopped n) = ⊥
+FindsNothing (found_flushed n) = ⊥
+FindsNothing e = Unit {0}
+
+-- it tells and hears nothing
+abbrev pub TellsNothing : Event → Type 0
+TellsNothing (told label n) = ⊥
+TellsNothing (heard label n) = ⊥
+TellsNothing e = Unit {0}
 
 module _ (xs : List Actor) (by : ℕ) (a b : Actor) (e : Event) (at : get_elem? xs by ≡ some a) (same : b.joined ≡ a.joined) (grown : b.participant.past ≡ a.participant.past ++ e ∷ []) where
   abbrev before : List (List (List Event))
@@ -56,6 +69,25 @@ module _ (xs : List Actor) (by : ℕ) (a b : Actor) (e : Event) (at : get_elem? 
         (done_before xs by a b e at same grown j i (found key holder seen account) h);
   }
 
+  -- where it finds nothing, and names and keys that are not of before are its own
+  pub holders_new : (opened history : List Entry) (t u : LockTables) → FindsNothing e
+      → ((name : List ℕ) → is_some (finite.get u.names name) ≡ true → ((e ≡ claimed name) ⊎ (e ≡ took name)) ⊎ (is_some (finite.get t.names name) ≡ true))
+      → ((key : List ℕ) (holder : Holder) → finite.get u.keys key ≡ Some holder → (e ≡ locked key holder) ⊎ (finite.get t.keys key ≡ Some holder))
+      → AreHolders opened history t before → AreHolders opened history u after
+  holders_new opened history t u nothing names keys s =
+      let k = holders_more opened history t (λ key holder seen account q. absurd (subst FindsNothing q nothing)) (λ key holder seen account q. absurd (subst FindsNothing q nothing)) s in
+      record {
+        names = λ name live. ⊎_elim
+            (λ c. inl (⊎_elim (λ q. inl (subst (IsPast after) q (past_last xs by a b e at same grown))) (λ q. inr (subst (IsPast after) q (past_last xs by a b e at same grown))) c))
+            (λ c. k.names name c) (names name live);
+        keys = λ key holder h. ⊎_elim (λ q. inl (subst (IsPast after) q (past_last xs by a b e at same grown))) (λ c. k.keys key holder c) (keys key holder h);
+        found_keys = k.found_keys;
+        found = k.found;
+      }
+
+  pub holders_still : (opened history : List Entry) (t : LockTables) → FindsNothing e → AreHolders opened history t before → AreHolders opened history t after
+  holders_still opened history t nothing k = holders_new opened history t t nothing (λ name live. inr live) (λ key holder h. inr h) k
+
   pub board_more : (published : ℕ) (t : LockTables) → ((label : List ℕ) (n : ℕ) → (e ≡ told label n) ⊎ (e ≡ heard label n) → is_some (finite.get t.labels label) ≡ true)
       → ((label : List ℕ) (n : ℕ) → e ≡ heard label n → IsPast before (told label n)) → ((label : List ℕ) (n : ℕ) → e ≡ told label n → ⊥) → IsBoard published t before → IsBoard published t after
   board_more published t new was_told not_told k = record {
@@ -66,6 +98,9 @@ module _ (xs : List Actor) (by : ℕ) (a b : Actor) (e : Event) (at : get_elem? 
     heard = λ label n h. past_still xs by a b e at same grown (told label n) (⊎_elim (λ c. k.heard label n c) (λ c. was_told label n c) (past_before xs by a b e at same grown (heard label n) h));
     told = λ label n h. ⊎_elim (λ c. k.told label n c) (λ c. absurd (not_told label n c)) (past_before xs by a b e at same grown (told label n) h);
   }
+
+  pub board_still : (published : ℕ) (t : LockTables) → TellsNothing e → IsBoard published t before → IsBoard published t after
+  board_still published t nothing k = board_more published t (λ label n q. absurd (⊎_elim (λ (r : e ≡ told label n). subst TellsNothing r nothing) (λ (r : e ≡ heard label n). subst TellsNothing r nothing) q)) (λ label n q. absurd (subst TellsNothing q nothing)) (λ label n q. subst TellsNothing q nothing) k
 
   pub faults_more : (writes : WriteTable) (halted : Bool) → IsQuiet e → ((n : ℕ) → e ≡ stopped n → (writes.closed ≡ true) × (n ≡ length writes.history))
       → AreFaults writes halted before → AreFaults writes halted after
@@ -86,26 +121,32 @@ module _ (xs : List Actor) (by : ℕ) (a b : Actor) (e : Event) (at : get_elem? 
   due_same : (first : InstalledEdit) → ((n : ℕ) → due_after n e ≡ n) → tables_due first b.participant.past ≡ tables_due first a.participant.past
   due_same first due = ap (tables_due first) grown ∙ fold-append due_after first.tables a.participant.past (e ∷ []) ∙ due (tables_due first a.participant.past)
 
-  -- the same where the event installs nothing, a fault or not
-  pub edits_still : (first : InstalledEdit) (t : Installed) → ((n : ℕ) → due_after n e ≡ n) → ((n : ℕ) → e ≡ found_flushed n → WasInstalled first before n)
-      → AreEdits first t before → AreEdits first t after
-  edits_still first t due new k = record {
-    last = installed_still first t.last.flushed k.last;
+  -- the edits, where the last one may be another and the tables that are due may be more
+  pub edits_grown : (first : InstalledEdit) (t u : Installed) → ((n : ℕ) → e ≡ found_flushed n → WasInstalled first before n) → WasInstalled first after u.last.flushed
+      → (tables_due first a.participant.past ≤ t.last.tables → tables_due first b.participant.past ≤ u.last.tables)
+      → ((j i : ℕ) (past : List Event) → (j ≢ by) ⊎ (i ≢ 0) → tables_due first past ≤ t.last.tables → (tables_due first past ≤ u.last.tables) ⊎ OtherCompacts after j i)
+      → AreEdits first t before → AreEdits first u after
+  edits_grown first t u new last its theirs k = record {
+    last = last;
     found = λ n h. installed_still first n (⊎_elim (λ c. k.found n c) (λ c. new n c) (past_before xs by a b e at same grown (found_flushed n) h));
     tables = λ j i past there. ⊎_elim
         (λ (c : (j ≡ by) × (i ≡ 0) × (past ≡ b.participant.past)).
-        let mine = k.tables by 0 a.participant.past (own_there) in
-        let same_due : tables_due first past ≡ tables_due first a.participant.past = ap (tables_due first) c.2 ∙ due_same first due in
         ⊎_elim
-        (λ (d : tables_due first a.participant.past ≤ t.last.tables). inl (subst (λ (n : ℕ). n ≤ t.last.tables) (sym same_due) d))
+        (λ (d : tables_due first a.participant.past ≤ t.last.tables). inl (subst (λ (p : List Event). tables_due first p ≤ u.last.tables) (sym c.2) (its d)))
         (λ (d : OtherCompacts before by 0). inr (subst (λ (n : ℕ). OtherCompacts after n i) (sym c.0) (subst (λ (n : ℕ). OtherCompacts after by n) (sym c.1) (compacts_still by 0 d))))
-        mine)
-        (λ c. ⊎_elim (λ d. inl d) (λ d. inr (compacts_still j i d)) (k.tables j i past c))
-        (was past_of xs by a b at same j i past there);
+        (k.tables by 0 a.participant.past (mine past_of xs by a b at same)))
+        (λ (c : ((j ≢ by) ⊎ (i ≢ 0)) × IsParticipantAt before j i past).
+        ⊎_elim
+        (λ (d : tables_due first past ≤ t.last.tables). theirs j i past c.0 d)
+        (λ (d : OtherCompacts before j i). inr (compacts_still j i d))
+        (k.tables j i past c.1))
+        (was_apart past_of xs by a b at same j i past there);
   }
-    where
-      own_there : IsParticipantAt before by 0 a.participant.past
-      own_there = mine past_of xs by a b at same
+
+  -- the same where the event installs nothing, a fault or not
+  pub edits_still : (first : InstalledEdit) (t : Installed) → ((n : ℕ) → due_after n e ≡ n) → ((n : ℕ) → e ≡ found_flushed n → WasInstalled first before n)
+      → AreEdits first t before → AreEdits first t after
+  edits_still first t due new k = edits_grown first t t new (installed_still first t.last.flushed k.last) (λ le. subst (λ (n : ℕ). n ≤ t.last.tables) (sym (due_same first due)) le) (λ j i past elsewhere le. inl le) k
 
   pub edits_more : (first : InstalledEdit) (t : Installed) → IsQuiet e → ((n : ℕ) → e ≡ found_flushed n → WasInstalled first before n)
       → AreEdits first t before → AreEdits first t after

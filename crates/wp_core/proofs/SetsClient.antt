@@ -1,29 +1,23 @@
 -- Giving a seat that has no transaction and no direct write to a client keeps a world sound.
-use Rattle.std.proofs.Common.{◌≡◌, ⊎_elim, ℕ, false, true≢false, not, List, length, map, set, refl, sym, subst, ap, ◌∙◌, Option, Some, None}
+use Rattle.std.proofs.Common.{◌≡◌, ⊎_elim, ℕ, true≢false, List, length, map, set, refl, sym, subst, ap, ◌∙◌, Option, Some, None}
 use mathlib.Core.Option.{some}
 use lib.ListN.{get_elem?}
 use Rattle.std.specs.FinMap as finite
 use Rattle.wp_model.specs.Batch.{key_cmp}
 use Rattle.wp_model.specs.declared.entry.Entry.{Entry}
 use Rattle.wp_model.specs.LockTables.{LockTables}
-use Rattle.wp_core.specs.Lists.{EachAt, IsIn}
 use Rattle.wp_core.specs.Views.{Fact, undecided_at, direct_free}
-use Rattle.wp_core.specs.World.{Transaction, Transactions, Actor, Participant, World, content_of}
-use Rattle.wp_core.specs.World as world
+use Rattle.wp_core.specs.World.{Transaction, Transactions, Actor, Participant, World}
 use Rattle.wp_core.specs.Steps.{set_client}
 use Rattle.wp_core.specs.Effects.{done}
 use Rattle.wp_core.specs.Needs.{Needs}
-use Rattle.wp_core.specs.Notes.{forgets, ends}
-use Rattle.wp_core.specs.Sound.Actors.{seen_of, own_of, AreSeen, AreLearned, AreOwned, AreHeld, HoldersHave, AreLed, IsIdle, participants_of, learned_of, held_of, role_of, IsParticipantAt, EachParticipant}
-use Rattle.wp_core.specs.Sound.Snapshots.{registered_of, AreRegistered, view_of, HasSeen}
+use Rattle.wp_core.specs.Notes.{forgets}
+use Rattle.wp_core.specs.Sound.Actors.{participants_of, IsParticipantAt}
 use Rattle.wp_core.specs.Sound.Locks.{Owner, owner_of, Has, IsOwner, AreLocked}
-use Rattle.wp_core.specs.Sound.Pasts.{past_of, AreHolders, IsBoard, AreFaults, AreEdits}
-use Rattle.wp_core.specs.Sound.Reader.{AreReaders, AreJudged, reader_of}
-use Rattle.wp_core.specs.Sound.Views.{IsNoted, noter_of}
 use Rattle.wp_core.specs.IsSound.{IsSound}
-use Rattle.wp_core.proofs.Frames.{each_map_set, each_set, at_map, in_filter}
-use Rattle.wp_core.proofs.AllParticipants.{was, still}
-use Rattle.wp_core.proofs.Quiet.{SoIn, kept_part}
+use Rattle.wp_core.proofs.AllParticipants.{still, each_apart}
+use Rattle.wp_core.proofs.AllParts.{SoIn, all_parts, tables_of, views_still, pasts_still, readers_still, turns_still, notes_stay, idle_set, led_still}
+use Rattle.wp_core.proofs.OwnerMoves.{owners_apart, key_known}
 
 -- it has no transaction and no direct write
 pub record HasNothing (transactions : Transactions) (direct : Option (List ℕ)) : Type 0 where
@@ -44,23 +38,11 @@ module _ (xs : List Actor) (by : ℕ) (a b : Actor) (at : get_elem? xs by ≡ so
   abbrev after : List (List Owner)
   after = map (participants_of owner_of) (set xs by b)
 
-  abbrev IsNow : ℕ → ℕ → Owner → Type 0
-  IsNow j i o = (j ≡ by) × (i ≡ 0) × (o ≡ owner_of b.participant)
-
-  abbrev WasIt : ℕ → ℕ → Owner → Type 0
-  WasIt j i o = (j ≡ by) × (i ≡ 0) × (o ≡ owner_of a.participant)
-
   none_now : (o : Owner) (name : List ℕ) (x : Transaction) → o ≡ owner_of b.participant → Has o name x → ⊥
   none_now o name x e h = no_transaction b.participant.transactions b.participant.direct name x after_none (subst (λ (z : Owner). Has z name x) e h)
 
   none_writes : (o : Owner) (key : List ℕ) → o ≡ owner_of b.participant → o.direct ≡ Some key → ⊥
   none_writes o key e h = no_direct b.participant.transactions b.participant.direct key after_none (subst (λ (z : Owner). z.direct ≡ Some key) e h)
-
-  who_has : (j i : ℕ) (o : Owner) (name : List ℕ) (x : Transaction) → IsParticipantAt after j i o → Has o name x → IsParticipantAt before j i o
-  who_has j i o name x there h = ⊎_elim (λ (t : IsNow j i o). absurd (none_now o name x t.2 h)) (λ (t : IsParticipantAt before j i o). t) (was owner_of xs by a b at same j i o there)
-
-  who_writes : (j i : ℕ) (o : Owner) (key : List ℕ) → IsParticipantAt after j i o → o.direct ≡ Some key → IsParticipantAt before j i o
-  who_writes j i o key there h = ⊎_elim (λ (t : IsNow j i o). absurd (none_writes o key t.2 h)) (λ (t : IsParticipantAt before j i o). t) (was owner_of xs by a b at same j i o there)
 
   none_owner : (t : LockTables) → IsOwner t (owner_of b.participant)
   none_owner t = record {
@@ -73,26 +55,21 @@ module _ (xs : List Actor) (by : ℕ) (a b : Actor) (at : get_elem? xs by ≡ so
   locked_none history t k = record {
     prepared_names = k.prepared_names;
     prepared_keys = k.prepared_keys;
-    had = λ j i o there. ⊎_elim
-        (λ (c : IsNow j i o). subst (IsOwner t) (sym c.2) (none_owner t))
-        (λ (c : IsParticipantAt before j i o). k.had j i o c) (was owner_of xs by a b at same j i o there);
-    apart = record {
-      names = λ j i l m o p name x y here there first second. k.apart.names j i l m o p name x y (who_has j i o name x here first) (who_has l m p name y there second) first second;
-      direct = λ j i l m o p key here there first second. k.apart.direct j i l m o p key (who_writes j i o key here first) (who_writes l m p key there second) first second;
-    };
+    had = each_apart owner_of xs by a b at same (IsOwner t) (none_owner t) (λ j i o elsewhere there. k.had j i o there);
+    apart = owners_apart xs by a b at same (λ name x h. absurd (none_now (owner_of b.participant) name x refl h)) (λ key h. absurd (none_writes (owner_of b.participant) key refl h)) k.apart;
     names_had = λ name client h.
         let o = k.names_had name client h in
         ⊎_elim
-        (λ (c : WasIt o.at o.place o.owner). absurd (no_transaction a.participant.transactions a.participant.direct name o.transaction before_none (subst (λ (z : Owner). Has z name o.transaction) c.2 o.has)))
+        (λ (c : (o.at ≡ by) × (o.place ≡ 0) × (o.owner ≡ owner_of a.participant)). absurd (no_transaction a.participant.transactions a.participant.direct name o.transaction before_none (subst (λ (z : Owner). Has z name o.transaction) c.2 o.has)))
         (λ (c : IsParticipantAt after o.at o.place o.owner). record { at = o.at; place = o.place; owner = o.owner; transaction = o.transaction; there = c; client_is = o.client_is; has = o.has; began = o.began })
         (still owner_of xs by a b at same o.at o.place o.owner o.there);
     names_left = k.names_left;
     keys_live = k.keys_live;
-    keys_known = λ key name h j i o there x has. k.keys_known key name h j i o (who_has j i o name x there has) x has;
+    keys_known = λ key name h. key_known xs by a b at same (λ n x has. absurd (none_now (owner_of b.participant) n x refl has)) key name (k.keys_known key name h);
     keys_direct = λ key client h.
         let o = k.keys_direct key client h in
         ⊎_elim
-        (λ (c : WasIt o.at o.place o.owner). absurd (no_direct a.participant.transactions a.participant.direct key before_none (subst (λ (z : Owner). z.direct ≡ Some key) c.2 o.has)))
+        (λ (c : (o.at ≡ by) × (o.place ≡ 0) × (o.owner ≡ owner_of a.participant)). absurd (no_direct a.participant.transactions a.participant.direct key before_none (subst (λ (z : Owner). z.direct ≡ Some key) c.2 o.has)))
         (λ (c : IsParticipantAt after o.at o.place o.owner). record { at = o.at; place = o.place; owner = o.owner; there = c; client_is = o.client_is; has = o.has; began = o.began })
         (still owner_of xs by a b at same o.at o.place o.owner o.there);
   }
@@ -109,34 +86,7 @@ sets_client w by a client at needs s =
     let c : Actor = forgets w.writes.history (length w.cache) (set_client client) a in
     let b : Actor = record c { participant = record c.participant { client = client } } in
     let nothing : HasNothing a.participant.transactions a.participant.direct = record { none = needs.1; not_writing = needs.2 } in
-    record {
-      history = s.history;
-      seen = kept_part w by a b at (participants_of seen_of) (AreSeen w.writes.history) refl s.seen;
-      learned = kept_part w by a b at learned_of (AreLearned w.writes.history) refl s.learned;
-      owned = kept_part w by a b at (participants_of own_of) (AreOwned w.opened w.writes.history) refl s.owned;
-      cache = s.cache;
-      decided = s.decided;
-      undecided = s.undecided;
-      delayed = s.delayed;
-      registrations = kept_part w by a b at (participants_of registered_of) (AreRegistered w.writes.history w.snapshots) refl s.registrations;
-      flags = s.flags;
-      versions = s.versions;
-      flushed = s.flushed;
-      locks = locked_none w.actors by a b at refl nothing nothing w.writes.history w.locks s.locks;
-      holders = kept_part w by a b at (participants_of past_of) (AreHolders w.opened w.writes.history w.locks) refl s.holders;
-      board = kept_part w by a b at (participants_of past_of) (IsBoard (world.published w) w.locks) refl s.board;
-      faults = kept_part w by a b at (participants_of past_of) (AreFaults w.writes w.installed.halted) refl s.faults;
-      edits = kept_part w by a b at (participants_of past_of) (AreEdits w.first_edit w.installed) refl s.edits;
-      pending = s.pending;
-      held = kept_part w by a b at held_of (EachAt (AreHeld w.holders (content_of w))) refl s.held;
-      have = kept_part w by a b at held_of (HoldersHave w.holders) refl s.have;
-      readers = kept_part w by a b at reader_of (AreReaders w.writes.history w.max_evicted w.cache) refl s.readers;
-      viewed = kept_part w by a b at (participants_of view_of) (EachParticipant HasSeen) refl s.viewed;
-      judged = kept_part w by a b at reader_of (AreJudged w.writes.history) refl s.judged;
-      noted = each_map_set noter_of (λ j x. (fact : Fact) → IsIn fact x.1 → IsNoted w.holders (SoIn w) j x fact) w.actors by b
-          (λ fact h. let k = in_filter (λ (f : Fact). not (ends w.writes.history (length w.cache) (set_client client) f)) fact a.notes h in let o = s.noted by (noter_of a) (at_map noter_of w.actors by a at) fact k.0 in
-          record { guarded = o.guarded; is_so = so_client w a.participant client fact nothing o.is_so })
-          (λ j x ne there. s.noted j x there);
-      led = kept_part w by a b at role_of AreLed refl s.led;
-      idle = each_set (λ j x. x.live ≡ false → IsIdle x) w.actors by b (λ dead. absurd (true≢false (sym needs.0 ∙ dead))) (λ j x ne there. s.idle j x there);
-    }
+    all_parts w (set w.actors by b) (tables_of w s) (views_still w by a b at refl s) (locked_none w.actors by a b at refl nothing nothing w.writes.history w.locks s.locks) (pasts_still w by a b at refl s) (turns_still w by a b at refl s)
+    (readers_still w by a b at refl s)
+    (notes_stay w by a b at (set_client client) w.holders (SoIn w) refl (λ fact left m. record { guarded = m.guarded; is_so = so_client w a.participant client fact nothing m.is_so }) (λ j x fact ne there m. m) s)
+    (led_still w by a b at refl s) (idle_set w by a b at (λ dead. absurd (true≢false (sym needs.0 ∙ dead))) s)

@@ -1,6 +1,6 @@
 -- A step that changes the live snapshots, and of its actor what it saw, registered and reads, keeps a world sound, where no
 -- old commit is lost at a live number and what is new is so.
-use Rattle.std.proofs.Common.{◌≡◌, ◌≢◌, ◌⊎◌, inl, inr, ⊎_elim, ℕ, ◌<◌, ◌≤◌, ◌==◌, ◌||◌, eq-eqb, ne_eqb, Bool, true, not, List, [], ◌∷◌, length, map, set, refl, sym, subst, ap, ◌∙◌, Option, Some, is_some, arith}
+use Rattle.std.proofs.Common.{◌≡◌, ◌≢◌, ◌⊎◌, inl, inr, ⊎_elim, ℕ, ◌<◌, ◌≤◌, ◌==◌, ◌||◌, eq-eqb, ne_eqb, Bool, true, List, [], ◌∷◌, length, map, set, refl, sym, subst, ap, ◌∙◌, Option, Some, is_some, arith}
 use mathlib.Core.Option.{some}
 use mathlib.Core.Logic.{dite}
 use native.Mathlib.Decide.{ℕ_discrete}
@@ -22,26 +22,23 @@ use Rattle.wp_core.specs.Reading.{Registration, snapshot_of}
 use Rattle.wp_core.specs.Turns.{Holds, snapshots_turn}
 use Rattle.wp_core.specs.Tables.{Content, snapshots, live_numbers, NoOldCommits}
 use Rattle.wp_core.specs.Views.{Fact, in_old_commits, live_listed}
-use Rattle.wp_core.specs.World.{Participant, Actor, World, content_of, with_content}
-use Rattle.wp_core.specs.World as world
+use Rattle.wp_core.specs.World.{Participant, Actor, World, with_content}
 use Rattle.wp_core.specs.Steps.{Step}
 use Rattle.wp_core.specs.Changes.{held_with, change}
-use Rattle.wp_core.specs.Notes.{forgets, ends}
-use Rattle.wp_core.specs.Sound.Actors.{StartsWith, seen_of, own_of, AreOwned, AreHeld, AreLed, participants_of, learned_of, held_of, role_of}
+use Rattle.wp_core.specs.Notes.{forgets}
+use Rattle.wp_core.specs.Sound.Actors.{StartsWith, seen_of, own_of, AreOwned, participants_of, learned_of}
 use Rattle.wp_core.specs.Sound.Prepared.{AreDecided, IsPassed}
 use Rattle.wp_core.specs.Sound.Snapshots.{registered_of, AreRegistered, view_of, HasSeen}
 use Rattle.wp_core.specs.Sound.Store.{IsStored}
-use Rattle.wp_core.specs.Sound.Locks.{owner_of, AreLocked}
-use Rattle.wp_core.specs.Sound.Pasts.{past_of, AreHolders, IsBoard, AreFaults, AreEdits}
 use Rattle.wp_core.specs.Sound.Reader.{IsReader, IsRight, reader_of}
-use Rattle.wp_core.specs.Sound.Views.{IsSo, IsNoted, noter_of}
+use Rattle.wp_core.specs.Sound.Views.{IsSo}
 use Rattle.wp_core.specs.IsSound.{IsSound}
-use Rattle.wp_core.proofs.Frames.{map_set, each_map_set, at_map, in_filter}
+use Rattle.wp_core.proofs.Frames.{map_set, each_map_set, at_map}
 use Rattle.wp_core.proofs.Participants.{each_person_set}
-use Rattle.wp_core.proofs.Changed.{others_hold, holds_changed, have_changed}
 use Rattle.wp_core.proofs.HistoryLaws.{decision_within}
-use Rattle.wp_core.proofs.Quiet.{SoIn, kept_part, idle_after}
-use Rattle.wp_core.proofs.StoresFlag.{not_free}
+use Rattle.wp_core.proofs.Quiet.{idle_after}
+use Rattle.wp_core.proofs.AllParts.{SoIn, all_parts, kept_part, locks_still, pasts_still, turns_changed, notes_stay, led_still}
+use Rattle.wp_core.proofs.Gives.{not_free}
 
 -- ---- live numbers
 
@@ -124,37 +121,30 @@ snapshots_step w by a step m seen learned registered reading at holds grows view
     let reader = s.readers by (reader_of a) (at_map reader_of w.actors by a at) in
     let judged = s.judged by (reader_of a) (at_map reader_of w.actors by a at) in
     let so : Participant → Fact → Type 0 = IsSo w.delayed_flag w.old_flag w.max_evicted w.cache w.writes w.prepared m w.store w.locks w.installed in
-    record {
+    all_parts (with_content w e) (set w.actors by b) (record {
       history = s.history;
-      seen = each_person_set seen_of (StartsWith w.writes.history) w.actors by a b at views.seen_part refl s.seen;
-      learned = each_map_set learned_of (λ j entries. StartsWith w.writes.history entries) w.actors by b views.learned_part (λ j x ne there. s.learned j x there);
-      owned = kept_part w by a b at (participants_of own_of) (AreOwned w.opened w.writes.history) refl s.owned;
       cache = s.cache;
       decided = decided_grows w m s grows;
       undecided = s.undecided;
       delayed = s.delayed;
-      registrations = subst (AreRegistered w.writes.history m) (map_set (participants_of registered_of) w.actors by (with_view a seen learned registered reading) ∙ sym (map_set (participants_of registered_of) w.actors by b)) counted;
       flags = record { none_delayed = s.flags.none_delayed; none_kept = views.none_kept; delayed_free = s.flags.delayed_free; old_free = λ free. absurd (not_free w.holders snapshots_turn by holds free) };
       versions = stored_grows w m s grows;
       flushed = s.flushed;
-      locks = kept_part w by a b at (participants_of owner_of) (AreLocked w.writes.history w.locks) refl s.locks;
-      holders = kept_part w by a b at (participants_of past_of) (AreHolders w.opened w.writes.history w.locks) refl s.holders;
-      board = kept_part w by a b at (participants_of past_of) (IsBoard (world.published w) w.locks) refl s.board;
-      faults = kept_part w by a b at (participants_of past_of) (AreFaults w.writes w.installed.halted) refl s.faults;
-      edits = kept_part w by a b at (participants_of past_of) (AreEdits w.first_edit w.installed) refl s.edits;
       pending = s.pending;
-      held = each_map_set held_of (AreHeld w.holders (content_of (with_content w e))) w.actors by b (holds_changed w e by a.held (s.held by a.held (at_map held_of w.actors by a at)))
-          (λ j x ne there. others_hold w e by j x holds ne (s.held j x there));
-      have = have_changed w.holders e by w.actors a b at refl s.have;
+    })
+    (record {
+      seen = each_person_set seen_of (StartsWith w.writes.history) w.actors by a b at views.seen_part refl s.seen;
+      learned = each_map_set learned_of (λ j entries. StartsWith w.writes.history entries) w.actors by b views.learned_part (λ j x ne there. s.learned j x there);
+      owned = kept_part w by a b at (participants_of own_of) (AreOwned w.opened w.writes.history) refl s.owned;
+      registrations = subst (AreRegistered w.writes.history m) (map_set (participants_of registered_of) w.actors by (with_view a seen learned registered reading) ∙ sym (map_set (participants_of registered_of) w.actors by b)) counted;
+      viewed = each_person_set view_of HasSeen w.actors by a b at views.view_part refl s.viewed;
+    })
+    (locks_still w by a b at refl s) (pasts_still w by a b at refl s) (turns_changed w by a b at e holds refl s)
+    (record {
       readers = each_map_set reader_of (λ j x. (r : Observed) → x.1 ≡ Some r → IsReader w.writes.history w.max_evicted w.cache x.0 r) w.actors by b
           (λ r is. let v = views.reads r is in let o = reader r v.0 in record { registered_at = v.1; in_order = o.in_order; knows = o.knows }) (λ j x ne there. s.readers j x there);
-      viewed = each_person_set view_of HasSeen w.actors by a b at views.view_part refl s.viewed;
       judged = each_map_set reader_of (λ j x. (r : Observed) (visible : Bool) → x.1 ≡ Some r → judgement r ≡ Some visible → IsRight w.writes.history r.version r.snapshot visible) w.actors by b
           (λ r visible is. judged r visible (views.reads r is).0) (λ j x ne there. s.judged j x there);
-      noted = each_map_set noter_of (λ j x. (fact : Fact) → IsIn fact x.1 → IsNoted w.holders so j x fact) w.actors by b
-          (λ fact there. let left = in_filter (λ (f : Fact). not (ends w.writes.history (length w.cache) step f)) fact a.notes there in let o = s.noted by (noter_of a) (at_map noter_of w.actors by a at) fact left.0 in
-          record { guarded = o.guarded; is_so = so_grows w m s grows a.participant seen registered fact o.is_so })
-          (λ j x ne there fact h. let o = s.noted j x there fact h in record { guarded = o.guarded; is_so = so_grows w m s grows x.0 x.0.seen x.0.registered fact o.is_so });
-      led = kept_part w by a b at role_of AreLed refl s.led;
-      idle = idle_after w by a b snapshots_turn at holds s refl;
-    }
+    })
+    (notes_stay w by a b at step w.holders so refl (λ fact left o. record { guarded = o.guarded; is_so = so_grows w m s grows a.participant seen registered fact o.is_so }) (λ j x fact ne there o. record { guarded = o.guarded; is_so = so_grows w m s grows x.0 x.0.seen x.0.registered fact o.is_so }) s)
+    (led_still w by a b at refl s) (idle_after w by a b snapshots_turn at holds s refl)

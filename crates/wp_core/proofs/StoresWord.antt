@@ -30,9 +30,11 @@ use Rattle.wp_core.specs.Sound.Reader.{IsPassedBy, IsReader}
 use Rattle.wp_core.specs.Sound.Views.{IsSo, IsGuarded, IsClearing}
 use Rattle.wp_core.specs.IsSound.{IsSound}
 use Rattle.wp_core.proofs.HistoryLaws.{IsDecidedNext, next_decides, first_legal, decision_within}
-use Rattle.wp_core.proofs.ReaderFacts.{same_some, none_some, extended_stays}
-use Rattle.wp_core.proofs.Quiet.{SoIn, words_change}
-use Rattle.wp_core.proofs.StoresFlag.{not_theirs}
+use Rattle.wp_core.proofs.ReaderFacts.{extended_stays}
+use Rattle.wp_core.proofs.Quiet.{words_change}
+use Rattle.wp_core.proofs.AllParts.{SoIn}
+use Rattle.wp_core.proofs.Tests.{same_some, none_some}
+use Rattle.wp_core.proofs.Gives.{not_theirs}
 
 -- ---- pairs and words
 

@@ -1,73 +1,29 @@
 -- A step of who holds the tables turn: it changes what is installed, and the actor remembers it.
-use Rattle.std.proofs.Common.{◌≡◌, ◌≢◌, ◌⊎◌, ⊎_elim, inl, inr, ℕ, ◌≤◌, not, true, List, [], ◌∷◌, ◌++◌, length, map, set, refl, sym, subst, Option, Some}
+use Rattle.std.proofs.Common.{◌≡◌, inl, inr, ℕ, List, [], ◌∷◌, ◌++◌, length, map, set, refl}
 use mathlib.Core.Option.{some}
 use lib.ListN.{get_elem?}
-use Rattle.wp_model.specs.declared.holder.Holder.{Holder}
-use Rattle.wp_core.specs.Lists.{IsIn}
 use Rattle.wp_core.specs.Turns.{Holds, tables_turn}
-use Rattle.wp_core.specs.Tables.{Content, InstalledEdit, Installed, installed}
-use Rattle.wp_core.specs.Views.{Account, Event, told, heard, stopped, found_flushed, found, Fact}
+use Rattle.wp_core.specs.Tables.{Content, Installed, installed}
+use Rattle.wp_core.specs.Views.{Event, Fact}
 use Rattle.wp_core.specs.World.{Actor, Participant, World, content_of, with_content}
 use Rattle.wp_core.specs.World as world
 use Rattle.wp_core.specs.Steps.{Step}
 use Rattle.wp_core.specs.Changes.{change, held_with, remembers}
-use Rattle.wp_core.specs.Notes.{forgets, ends}
-use Rattle.wp_core.specs.Sound.Actors.{seen_of, own_of, AreSeen, AreLearned, AreOwned, AreHeld, AreLed, participants_of, learned_of, held_of, role_of, IsParticipantAt, EachParticipant}
-use Rattle.wp_core.specs.Sound.Snapshots.{registered_of, AreRegistered, view_of, HasSeen}
+use Rattle.wp_core.specs.Notes.{forgets}
+use Rattle.wp_core.specs.Sound.Actors.{participants_of}
 use Rattle.wp_core.specs.Sound.Store.{IsStored}
-use Rattle.wp_core.specs.Sound.Locks.{owner_of}
-use Rattle.wp_core.specs.Sound.Pasts.{past_of, AreFaults, WasInstalled, tables_due, OtherCompacts, AreEdits}
-use Rattle.wp_core.specs.Sound.Reader.{AreReaders, AreJudged, reader_of}
-use Rattle.wp_core.specs.Sound.Views.{IsSo, IsGuarded, IsNoted, noter_of}
+use Rattle.wp_core.specs.Sound.Pasts.{past_of, AreFaults, AreEdits}
+use Rattle.wp_core.specs.Sound.Views.{IsSo}
 use Rattle.wp_core.specs.IsSound.{IsSound}
-use Rattle.wp_core.proofs.Frames.{each_map_set, at_map, in_filter}
-use Rattle.wp_core.proofs.Changed.{others_hold, holds_changed, have_changed}
-use Rattle.wp_core.proofs.AllParticipants.{mine, was_apart}
-use Rattle.wp_core.proofs.OwnersStay.{same_transactions, locked_still}
-use Rattle.wp_core.proofs.PastsGrow.{in_front, past_before}
-use Rattle.wp_core.proofs.Quiet.{SoIn, kept_part, idle_after}
-use Rattle.wp_core.proofs.Remembers.{holders_more, board_more, installed_still, compacts_still}
-use Rattle.wp_core.proofs.StoresFlag.{not_free}
+use Rattle.wp_core.proofs.OwnersStay.{past_locked}
+use Rattle.wp_core.proofs.Quiet.{idle_after, Stays}
+use Rattle.wp_core.proofs.Remembers.{FindsNothing, TellsNothing, holders_still, board_still}
+use Rattle.wp_core.proofs.AllParts.{SoIn, all_parts, views_still, readers_still, turns_changed, notes_stay, led_still}
+use Rattle.wp_core.proofs.Gives.{not_theirs, not_free}
 
 -- what is noted, with this in place of what the world has installed
 abbrev pub SoInstalled : World → Installed → Participant → Fact → Type 0
 SoInstalled w t = IsSo w.delayed_flag w.old_flag w.max_evicted w.cache w.writes w.prepared w.snapshots w.store w.locks t
-
--- it finds nothing, and tells nothing
-pub record IsOfTables (e : Event) : Type 0 where
-  pub finds_none : (key : Option (List ℕ)) (holder : Holder) (seen : ℕ) (account : Account) → e ≡ found key holder seen account → ⊥
-  pub no_label : (label : List ℕ) (n : ℕ) → (e ≡ told label n) ⊎ (e ≡ heard label n) → ⊥
-  pub not_stopped : (n : ℕ) → e ≡ stopped n → ⊥
-  pub finds_no_flushed : (n : ℕ) → e ≡ found_flushed n → ⊥
-
--- the edits, once an actor remembers an event of the tables
-module _ (xs : List Actor) (by : ℕ) (a b : Actor) (e : Event) (at : get_elem? xs by ≡ some a) (same : b.joined ≡ a.joined) (grown : b.participant.past ≡ a.participant.past ++ e ∷ []) where
-  abbrev before : List (List (List Event))
-  before = map (participants_of past_of) xs
-
-  abbrev after : List (List (List Event))
-  after = map (participants_of past_of) (set xs by b)
-
-  pub edits_grown : (first : InstalledEdit) (t u : Installed) → IsOfTables e → WasInstalled first after u.last.flushed
-      → (tables_due first a.participant.past ≤ t.last.tables → tables_due first b.participant.past ≤ u.last.tables)
-      → ((j i : ℕ) (past : List Event) → (j ≢ by) ⊎ (i ≢ 0) → tables_due first past ≤ t.last.tables → (tables_due first past ≤ u.last.tables) ⊎ OtherCompacts after j i)
-      → AreEdits first t before → AreEdits first u after
-  edits_grown first t u is last own others k = record {
-    last = last;
-    found = λ n h. installed_still xs by a b e at same grown first n (⊎_elim (λ c. k.found n c) (λ c. absurd (is.finds_no_flushed n c)) (past_before xs by a b e at same grown (found_flushed n) h));
-    tables = λ j i past there. ⊎_elim
-        (λ (c : (j ≡ by) × (i ≡ 0) × (past ≡ b.participant.past)).
-        ⊎_elim
-        (λ (d : tables_due first a.participant.past ≤ t.last.tables). inl (subst (λ (p : List Event). tables_due first p ≤ u.last.tables) (sym c.2) (own d)))
-        (λ (d : OtherCompacts before by 0). inr (subst (λ (n : ℕ). OtherCompacts after n i) (sym c.0) (subst (λ (n : ℕ). OtherCompacts after by n) (sym c.1) (compacts_still xs by a b e at same grown by 0 d))))
-        (k.tables by 0 a.participant.past (mine past_of xs by a b at same)))
-        (λ (c : ((j ≢ by) ⊎ (i ≢ 0)) × IsParticipantAt before j i past).
-        ⊎_elim
-        (λ (d : tables_due first past ≤ t.last.tables). others j i past c.0 d)
-        (λ (d : OtherCompacts before j i). inr (compacts_still xs by a b e at same grown j i d))
-        (k.tables j i past c.1))
-        (was_apart past_of xs by a b at same j i past there);
-  }
 
 module _ (w : World) (by : ℕ) (a : Actor) (step : Step) (e : Event) (t : Installed) where
   -- the actor before it knows the table
@@ -81,12 +37,12 @@ module _ (w : World) (by : ℕ) (a : Actor) (step : Step) (e : Event) (t : Insta
   pasts_after = map (participants_of past_of) (set w.actors by actor_after)
 
   pub record TablesParts : Type 0 where
-    pub event : IsOfTables e
+    pub nothing : FindsNothing e
+    pub tells_nothing : TellsNothing e
     pub stored : IsStored w.writes.history w.writes.pending w.snapshots w.store t
     pub faults : AreFaults w.writes t.halted pasts_after
     pub edits : AreEdits w.first_edit t pasts_after
-    pub mine_so : (p : Participant) (fact : Fact) → not (ends w.writes.history (length w.cache) step fact) ≡ true → SoIn w p fact → SoInstalled w t p fact
-    pub others_so : (j : ℕ) (p : Participant) (fact : Fact) → j ≢ by → IsGuarded w.holders fact j → SoIn w p fact → SoInstalled w t p fact
+    pub so : (p : Participant) (fact : Fact) → Stays w step tables_turn fact → SoIn w p fact → SoInstalled w t p fact
 
   -- no fact speaks of a past
   so_past : (p : Participant) (past : List Event) (fact : Fact) → SoInstalled w t p fact → SoInstalled w t (record p { past = past }) fact
@@ -96,35 +52,16 @@ module _ (w : World) (by : ℕ) (a : Actor) (step : Step) (e : Event) (t : Insta
   tables_change at holds k s =
       let b : Actor = actor_after in
       let c : Content = installed t in
-      record {
-        history = s.history;
-        seen = kept_part w by a b at (participants_of seen_of) (AreSeen w.writes.history) refl s.seen;
-        learned = kept_part w by a b at learned_of (AreLearned w.writes.history) refl s.learned;
-        owned = kept_part w by a b at (participants_of own_of) (AreOwned w.opened w.writes.history) refl s.owned;
-        cache = s.cache;
-        decided = s.decided;
-        undecided = s.undecided;
-        delayed = s.delayed;
-        registrations = kept_part w by a b at (participants_of registered_of) (AreRegistered w.writes.history w.snapshots) refl s.registrations;
-        flags = s.flags;
-        versions = k.stored;
-        flushed = λ free. absurd (not_free w.holders tables_turn by holds free);
-        locks = locked_still w.actors by a b at refl (same_transactions (owner_of a.participant) (a.participant.past ++ e ∷ []) (λ x there. in_front x a.participant.past (e ∷ []) there)) w.writes.history w.locks s.locks;
-        holders = holders_more w.actors by a b e at refl refl w.opened w.writes.history w.locks (λ key holder seen account q. absurd (k.event.finds_none key holder seen account q)) (λ key holder seen account q. absurd (k.event.finds_none (Some key) holder seen account q)) s.holders;
-        board = board_more w.actors by a b e at refl refl (world.published w) w.locks (λ label n q. absurd (k.event.no_label label n q)) (λ label n q. absurd (k.event.no_label label n (inr q))) (λ label n q. k.event.no_label label n (inl q)) s.board;
+      all_parts (with_content w c) (set w.actors by b)
+      (record { history = s.history; cache = s.cache; decided = s.decided; undecided = s.undecided; delayed = s.delayed; flags = s.flags; versions = k.stored; flushed = λ free. absurd (not_free w.holders tables_turn by holds free); pending = s.pending })
+      (views_still w by a b at refl s) (past_locked w.actors by a b e at refl refl w.writes.history w.locks s.locks) (record {
+        holders = holders_still w.actors by a b e at refl refl w.opened w.writes.history w.locks k.nothing s.holders;
+        board = board_still w.actors by a b e at refl refl (world.published w) w.locks k.tells_nothing s.board;
         faults = k.faults;
         edits = k.edits;
-        pending = s.pending;
-        held = each_map_set held_of (AreHeld w.holders (content_of (with_content w c))) w.actors by b (holds_changed w c by a.held (s.held by a.held (at_map held_of w.actors by a at)))
-            (λ j x ne there. others_hold w c by j x holds ne (s.held j x there));
-        have = have_changed w.holders c by w.actors a b at refl s.have;
-        readers = kept_part w by a b at reader_of (AreReaders w.writes.history w.max_evicted w.cache) refl s.readers;
-        viewed = kept_part w by a b at (participants_of view_of) (EachParticipant HasSeen) refl s.viewed;
-        judged = kept_part w by a b at reader_of (AreJudged w.writes.history) refl s.judged;
-        noted = each_map_set noter_of (λ j x. (fact : Fact) → IsIn fact x.1 → IsNoted w.holders (SoInstalled w t) j x fact) w.actors by b
-            (λ fact there. let left = in_filter (λ (f : Fact). not (ends w.writes.history (length w.cache) step f)) fact a.notes there in let m = s.noted by (noter_of a) (at_map noter_of w.actors by a at) fact left.0 in
-            record { guarded = m.guarded; is_so = so_past a.participant (a.participant.past ++ e ∷ []) fact (k.mine_so a.participant fact left.1 m.is_so) })
-            (λ j x ne there fact h. let m = s.noted j x there fact h in record { guarded = m.guarded; is_so = k.others_so j x.0 fact ne m.guarded m.is_so });
-        led = kept_part w by a b at role_of AreLed refl s.led;
-        idle = idle_after w by a b tables_turn at holds s refl;
-      }
+      }) (turns_changed w by a b at c holds refl s)
+      (readers_still w by a b at refl s)
+      (notes_stay w by a b at step w.holders (SoInstalled w t) refl
+      (λ fact left m. record { guarded = m.guarded; is_so = so_past a.participant (a.participant.past ++ e ∷ []) fact (k.so a.participant fact (inl left) m.is_so) })
+      (λ j x fact ne there m. record { guarded = m.guarded; is_so = k.so x.0 fact (inr (λ q. not_theirs w.holders tables_turn by j holds ne (m.guarded tables_turn q))) m.is_so }) s)
+      (led_still w by a b at refl s) (idle_after w by a b tables_turn at holds s refl)

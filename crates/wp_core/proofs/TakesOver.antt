@@ -14,10 +14,10 @@ use Rattle.wp_core.specs.Sound.Reader.{IsReader, reader_of}
 use Rattle.wp_core.specs.Sound.Views.{IsNoted, noter_of}
 use Rattle.wp_core.specs.IsSound.{IsSound}
 use Rattle.wp_core.proofs.Frames.{kept_map, map_set, each_map_set, each_set, at_map, at_set, set_else, here}
-use Rattle.wp_core.proofs.Quiet.{SoIn}
 use Rattle.wp_core.proofs.Persons.{IsNone}
 use Rattle.wp_core.proofs.ActorsMove.{ActorParts, total_set, people}
 use Rattle.wp_core.proofs.MakesActors.{StaysAs, idle_still}
+use Rattle.wp_core.proofs.AllParts.{SoIn}
 
 -- each item, once two of them changed
 each_two : {A X : Type 0} (f : A → X) (P : ℕ → X → Type 0) (xs : List A) (by other : ℕ) (b c : A) → P other (f c) → P by (f b) → EachAt P (map f xs) → EachAt P (map f (set (set xs by b) other c))

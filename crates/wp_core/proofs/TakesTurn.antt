@@ -1,37 +1,26 @@
 -- Taking a turn keeps a world sound.
-use Rattle.std.proofs.Common.{◌≡◌, ◌≢◌, inl, inr, ℕ, false, true≢false, not, List, [], ◌∷◌, length, map, set, refl, sym, subst, ap, ◌∙◌, Some, None}
-use mathlib.Core.Option.{some, some-injective}
+use Rattle.std.proofs.Common.{◌≡◌, ◌≢◌, inl, inr, ℕ, true≢false, List, [], ◌∷◌, length, map, set, refl, sym, subst, ap, ◌∙◌, Some, None}
+use mathlib.Core.Option.{some}
 use mathlib.Core.Logic.{dite}
 use native.Mathlib.Decide.{ℕ_discrete}
 use lib.ListN.{get_elem?}
 use Rattle.wp_core.specs.Lists.{IsIn}
 use Rattle.wp_core.specs.Turns.{Turn, write_turn, prepared_turn, snapshots_turn, store_turn, locks_turn, tables_turn, Holders, Holds, turn_holder, with_holder}
 use Rattle.wp_core.specs.Tables.{Content, turn_of}
-use Rattle.wp_core.specs.Views.{Fact}
 use Rattle.wp_core.specs.World.{Actor, World, content_of}
 use Rattle.wp_core.specs.Steps.{take_turn}
 use Rattle.wp_core.specs.Changes.{turn_index}
 use Rattle.wp_core.specs.Effects.{done}
 use Rattle.wp_core.specs.Needs.{Needs}
-use Rattle.wp_core.specs.Notes.{forgets, ends}
-use Rattle.wp_core.specs.Sound.Actors.{AreHeld, HoldersHave, NoneAfter, IsIdle, held_of}
-use Rattle.wp_core.specs.Sound.History.{IsPendingHeld}
-use Rattle.wp_core.specs.Sound.Prepared.{AreFlags}
-use Rattle.wp_core.specs.Sound.Store.{IsFlushedGone}
-use Rattle.wp_core.specs.Sound.Reader.{AreReaders, AreJudged, reader_of}
-use Rattle.wp_core.specs.Sound.Views.{IsNoted, noter_of}
+use Rattle.wp_core.specs.Notes.{forgets}
+use Rattle.wp_core.specs.Sound.Actors.{AreHeld, HoldersHave, NoneAfter, held_of}
 use Rattle.wp_core.specs.IsSound.{IsSound}
-use Rattle.wp_core.proofs.Frames.{map_set, here, set_else, each_map_set, each_set, at_map, in_filter}
-use Rattle.wp_core.proofs.Gives.{other_holder, same_turn}
-use Rattle.wp_core.proofs.Quiet.{SoIn, parts_of, kept_part}
-
-taken : (h : Holders) (t : Turn) (by : ℕ) → turn_holder (with_holder h t (Some by)) t ≡ Some by
-taken h write_turn by = refl
-taken h prepared_turn by = refl
-taken h snapshots_turn by = refl
-taken h store_turn by = refl
-taken h locks_turn by = refl
-taken h tables_turn by = refl
+use Rattle.wp_core.proofs.Frames.{each_map_set, at_map}
+use Rattle.wp_core.proofs.Gives.{now_holder, other_holder, same_turn}
+use Rattle.wp_core.proofs.AllParts.{idle_set}
+use Rattle.wp_core.proofs.HoldersChange.{holder_changes}
+use Rattle.wp_core.proofs.Tests.{same_some}
+use Rattle.wp_core.proofs.Changed.{own_have, have_set}
 
 table_of : (w : World) (t : Turn) → turn_of (content_of w t) ≡ t
 table_of w write_turn = refl
@@ -48,33 +37,6 @@ held_else h t u j free holds e = let q : Some j ≡ None = sym holds ∙ (ap (tu
 still_holds : (h : Holders) (t u : Turn) (by j : ℕ) → turn_holder h t ≡ None → Holds h u j → Holds (with_holder h t (Some by)) u j
 still_holds h t u by j free holds = other_holder h t u (Some by) (held_else h t u j free holds) ∙ holds
 
--- ---- the parts that speak of holders
-
-flags_after : (w : World) (t : Turn) (by : ℕ) → AreFlags w.delayed_flag w.old_flag w.prepared w.snapshots w.holders.prepared w.holders.snapshots
-    → AreFlags w.delayed_flag w.old_flag w.prepared w.snapshots (with_holder w.holders t (Some by)).prepared (with_holder w.holders t (Some by)).snapshots
-flags_after w prepared_turn by f = record { none_delayed = f.none_delayed; none_kept = f.none_kept; delayed_free = λ free. let q : Some by ≡ None = free in absurd (cc); old_free = f.old_free }
-flags_after w snapshots_turn by f = record { none_delayed = f.none_delayed; none_kept = f.none_kept; delayed_free = f.delayed_free; old_free = λ free. let q : Some by ≡ None = free in absurd (cc) }
-flags_after w write_turn by f = f
-flags_after w store_turn by f = f
-flags_after w locks_turn by f = f
-flags_after w tables_turn by f = f
-
-flushed_after : (w : World) (t : Turn) (by : ℕ) → IsFlushedGone w.holders.tables w.store.memory w.installed.last.flushed → IsFlushedGone (with_holder w.holders t (Some by)).tables w.store.memory w.installed.last.flushed
-flushed_after w tables_turn by f = λ free. let q : Some by ≡ None = free in absurd (cc)
-flushed_after w write_turn by f = f
-flushed_after w prepared_turn by f = f
-flushed_after w snapshots_turn by f = f
-flushed_after w store_turn by f = f
-flushed_after w locks_turn by f = f
-
-pending_after : (w : World) (t : Turn) (by : ℕ) → IsPendingHeld w.holders.write w.writes.pending → IsPendingHeld (with_holder w.holders t (Some by)).write w.writes.pending
-pending_after w write_turn by f = λ free. let q : Some by ≡ None = free in absurd (cc)
-pending_after w prepared_turn by f = f
-pending_after w snapshots_turn by f = f
-pending_after w store_turn by f = f
-pending_after w locks_turn by f = f
-pending_after w tables_turn by f = f
-
 -- ---- what is held
 
 still_held : (h : Holders) (contents : Turn → Content) (t : Turn) (by j : ℕ) (held : List Content) → turn_holder h t ≡ None → AreHeld h contents j held → AreHeld (with_holder h t (Some by)) contents j held
@@ -88,65 +50,34 @@ none_yet h contents t j (c ∷ others) free k = ((λ e. held_else h t (turn_of c
 now_held : (w : World) (t : Turn) (by : ℕ) (held : List Content) → turn_holder w.holders t ≡ None → AreHeld w.holders (content_of w) by held → AreHeld (with_holder w.holders t (Some by)) (content_of w) by (content_of w t ∷ held)
 now_held w t by held free k =
     let is = table_of w t in (
-      subst (λ (u : Turn). Holds (with_holder w.holders t (Some by)) u by) (sym is) (taken w.holders t by),
+      subst (λ (u : Turn). Holds (with_holder w.holders t (Some by)) u by) (sym is) (now_holder w.holders t (Some by)),
       ap (content_of w) is,
       subst (λ (u : Turn). NoneAfter u held) (sym is) (none_yet w.holders (content_of w) t by held free k),
       still_held w.holders (content_of w) t by by held free k,
     )
 
 have_after : (w : World) (t : Turn) (by : ℕ) (a b : Actor) → get_elem? w.actors by ≡ some a → b.held ≡ content_of w t ∷ a.held → HoldersHave w.holders (map held_of w.actors) → HoldersHave (with_holder w.holders t (Some by)) (map held_of (set w.actors by b))
-have_after w t by a b at is have u j holds =
-    let mine : get_elem? (map held_of (set w.actors by b)) by ≡ some (content_of w t ∷ a.held) = at_map held_of (set w.actors by b) by b (here w.actors by a b at) ∙ ap some is in
-    dite (ℕ_discrete (turn_index u) (turn_index t))
-    (λ (e : turn_index u ≡ turn_index t).
-    let same : u ≡ t = same_turn t u e in
-    let q : Some by ≡ Some j = sym (taken w.holders t by) ∙ (ap (turn_holder (with_holder w.holders t (Some by))) (sym same) ∙ holds) in
-    let who : by ≡ j = cc in
-    (content_of w t ∷ a.held, subst (λ (i : ℕ). get_elem? (map held_of (set w.actors by b)) i ≡ some (content_of w t ∷ a.held)) who mine, content_of w t, inl refl, table_of w t ∙ sym same))
+have_after w t by a b at is have = have_set w.holders (with_holder w.holders t (Some by)) by w.actors a b at
+    (λ u holds. dite (ℕ_discrete (turn_index u) (turn_index t))
+    (λ (e : turn_index u ≡ turn_index t). (content_of w t, subst (IsIn (content_of w t)) (sym is) (inl refl), table_of w t ∙ sym (same_turn t u e)))
     (λ (ne : turn_index u ≢ turn_index t).
-    let o = have u j (sym (other_holder w.holders t u (Some by) ne) ∙ holds) in
-    dite (ℕ_discrete j by)
-    (λ (e : j ≡ by).
-    let was : o.0 ≡ a.held = some-injective o.0 a.held (sym o.1 ∙ (ap (get_elem? (map held_of w.actors)) e ∙ at_map held_of w.actors by a at)) in
-    (content_of w t ∷ a.held, ap (get_elem? (map held_of (set w.actors by b))) e ∙ mine, o.2, inr (subst (IsIn o.2) was o.3), o.4))
-    (λ (apart : j ≢ by). (o.0, ap (λ (z : List (List Content)). get_elem? z j) (map_set held_of w.actors by b) ∙ (set_else (map held_of w.actors) by j b.held apart ∙ o.1), o.2, o.3, o.4)))
+    let o = own_have w.holders by w.actors a at have u (sym (other_holder w.holders t u (Some by) ne) ∙ holds) in
+    (o.0, subst (IsIn o.0) (sym is) (inr o.1), o.2)))
+    (λ u j apart holds. dite (ℕ_discrete (turn_index u) (turn_index t))
+    (λ (e : turn_index u ≡ turn_index t).
+    let q : Some by ≡ Some j = sym (now_holder w.holders t (Some by)) ∙ (ap (turn_holder (with_holder w.holders t (Some by))) (sym (same_turn t u e)) ∙ holds) in
+    absurd (apart (sym (same_some by j q))))
+    (λ (ne : turn_index u ≢ turn_index t). sym (other_holder w.holders t u (Some by) ne) ∙ holds)) have
 
 -- ---- all parts
 
 pub takes_turn : (w : World) (by : ℕ) (a : Actor) (t : Turn) → get_elem? w.actors by ≡ some a → Needs w by a (take_turn t) → IsSound w → IsSound (done w by (forgets w.writes.history (length w.cache) (take_turn t) a) (take_turn t))
 takes_turn w by a t at n s =
-    let c : Actor = forgets w.writes.history (length w.cache) (take_turn t) a in
-    let b : Actor = record c { held = content_of w t ∷ c.held } in
-    let p = parts_of w by a b at (record { participant = refl; learned = refl; live = refl; made = refl; joined = refl }) s in
-    record {
-      history = s.history;
-      seen = p.seen;
-      learned = p.learned;
-      owned = p.owned;
-      cache = s.cache;
-      decided = s.decided;
-      undecided = s.undecided;
-      delayed = s.delayed;
-      registrations = p.registrations;
-      flags = flags_after w t by s.flags;
-      versions = s.versions;
-      flushed = flushed_after w t by s.flushed;
-      locks = p.locks;
-      holders = p.holders;
-      board = p.board;
-      faults = p.faults;
-      edits = p.edits;
-      pending = pending_after w t by s.pending;
+    let b : Actor = record (forgets w.writes.history (length w.cache) (take_turn t) a) { held = content_of w t ∷ a.held } in
+    holder_changes w (Some by) by a (take_turn t) t b.held at (λ free. absurd cc)
+    (record {
       held = each_map_set held_of (AreHeld (with_holder w.holders t (Some by)) (content_of w)) w.actors by b (now_held w t by a.held n.0 (s.held by a.held (at_map held_of w.actors by a at)))
           (λ j x ne there. still_held w.holders (content_of w) t by j x n.0 (s.held j x there));
       have = have_after w t by a b at refl s.have;
-      readers = kept_part w by a b at reader_of (AreReaders w.writes.history w.max_evicted w.cache) refl s.readers;
-      viewed = p.viewed;
-      judged = kept_part w by a b at reader_of (AreJudged w.writes.history) refl s.judged;
-      noted = each_map_set noter_of (λ j x. (fact : Fact) → IsIn fact x.1 → IsNoted (with_holder w.holders t (Some by)) (SoIn w) j x fact) w.actors by b
-          (λ fact there. let k = in_filter (λ (f : Fact). not (ends w.writes.history (length w.cache) (take_turn t) f)) fact a.notes there in let m = s.noted by (noter_of a) (at_map noter_of w.actors by a at) fact k.0 in
-          record { guarded = λ u is. still_holds w.holders t u by by n.0 (m.guarded u is); is_so = m.is_so })
-          (λ j x ne there fact k. let m = s.noted j x there fact k in record { guarded = λ u is. still_holds w.holders t u by j n.0 (m.guarded u is); is_so = m.is_so });
-      led = p.led;
-      idle = each_set (λ j x. x.live ≡ false → IsIdle x) w.actors by b (λ dead. absurd (true≢false (sym n.1 ∙ dead))) (λ j x ne there. s.idle j x there);
-    }
+    })
+    (λ fact u left is. still_holds w.holders t u by by n.0) (λ j u ne. still_holds w.holders t u by j n.0) (idle_set w by a b at (λ dead. absurd (true≢false (sym n.1 ∙ dead))) s) s

@@ -13,5 +13,6 @@ pub mod Sound
 pub mod Notes
 pub mod Conditions
 pub mod Needs
+pub mod Images
 pub mod IsSound
 pub mod Runs

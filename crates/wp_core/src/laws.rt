@@ -3,6 +3,7 @@ ghost use mathlib.Core.Option.{some};
 ghost use lib.ListN.{get_elem?};
 ghost use Rattle.std.specs.Prelude.{◌≡◌, ℕ, Bool, true, List, [], ◌∷◌, Some};
 ghost use Rattle.wp_model.specs.declared.change.Change.{Change};
+ghost use Rattle.wp_model.specs.declared.entry.Entry.{Entry};
 ghost use Rattle.wp_model.specs.declared.entry.Entry.TheVariants.{Write};
 ghost use Rattle.wp_model.specs.Batch.{is_batch};
 ghost use Rattle.wp_model.specs.Legal.{IsLegal};
@@ -11,9 +12,12 @@ ghost use Rattle.wp_judge.specs.Order.{judgement};
 ghost use Rattle.wp_core.specs.World.{World, Actor, history};
 ghost use Rattle.wp_core.specs.Steps.{Step};
 ghost use Rattle.wp_core.specs.Runs.{IsStep, IsOpening, ReachesFrom, Reaches};
+ghost use Rattle.wp_core.specs.Images.{MaySpell, MayName};
 ghost use Rattle.wp_core.specs.IsSound.{IsSound};
 ghost use Rattle.wp_core.specs.Sound.Actors.{StartsWith};
 ghost use Rattle.wp_core.specs.Sound.Reader.{IsRight};
+ghost use Rattle.wp_core.specs.Sound.Store.{IsEditCovered};
+ghost use Rattle.wp_core.specs.Tables.{InstalledEdit};
 
 /// What an opening is does not contradict itself.
 pub fn there_is_an_opening()
@@ -39,6 +43,17 @@ pub fn reached_worlds_are_sound()
 pub fn histories_grow()
     ensures { (w : World) → Reaches w → (later : World) → ReachesFrom w later
         → StartsWith (history later) (history w) × IsLegal (history later) }
+{}
+
+/// What a crash leaves of the log in a reached world is a legal history that begins with all that is published.
+pub fn crashes_leave_the_history()
+    ensures { (w : World) → Reaches w → (entries : List Entry) → MaySpell w.writes entries
+        → StartsWith entries (history w) × IsLegal entries }
+{}
+
+/// Whichever edit a crash leaves in a reached world, its tables with the later entries answer as the history does.
+pub fn crashes_leave_an_edit_that_covers()
+    ensures { (w : World) → Reaches w → (edit : InstalledEdit) → MayName w.installed edit → IsEditCovered (history w) edit }
 {}
 
 /// Where a reader has loaded what it needs, however the steps of others fell between its loads, its judgement is whether the

@@ -18,4 +18,7 @@
 //! and what each reader knows by its loads so far.
 #![tactic(auto)]
 
+mod holds;
 pub mod laws;
+
+pub use holds::{HoldsEdit, HoldsLocks, HoldsLog, HoldsPrepared, HoldsSnaps, HoldsVersions};

@@ -3,10 +3,11 @@ use Rattle.std.proofs.Common.{◌≡◌, ℕ, zero, suc, ◌<◌, true, false, c
 use Rattle.std.specs.List.{flat_map, list_all}
 use Rattle.std.proofs.lemmas.Bool.{ltb-true, ltb-false, lt-ltb, le-ltb, leb-true, le-leb, and_parts, and_from}
 use Rattle.std.proofs.lemmas.List.{append-nil}
+use Rattle.wp_model.specs.declared.word.TheConstants.{MOST_KEY_BYTES}
 use Rattle.wp_model.specs.declared.batch.TheConstants.{MOST_KEYS}
 use Rattle.wp_model.specs.declared.change.Change.{Change}
 use Rattle.wp_model.specs.declared.change.Change.TheVariants.{Put, Del}
-use Rattle.wp_model.specs.Word.{is_word}
+use Rattle.wp_model.specs.Word.{is_key, is_value}
 use Rattle.wp_model.specs.Batch.{key_of, are_ascending, is_batch}
 use Rattle.wp_fields.specs.Reading.{◌>>=◌, byte_at}
 use Rattle.wp_fields.proofs.Results.{bind_ok, bind_err, chosen, ok_is, err_is, ok_or_err}
@@ -24,26 +25,26 @@ use Rattle.wp_encoding.proofs.WordLemmas.{word_takes, word_again, word_fails, wo
 abbrev in_order : List Change → List ℕ × List ℕ → Result (List ℕ × List ℕ) EncodingError
 in_order batch key = cond (is_above_last batch key.0) (Ok key) (Err Word)
 
-key_takes : (batch : List Change) (bytes : List ℕ) (x : List ℕ × List ℕ) → AreBytes bytes → next_key_at batch bytes ≡ Ok x → Begins bytes (word_bytes x.0) x.1 × (is_word 64 x.0 ≡ true) × (is_above_last batch x.0 ≡ true)
+key_takes : (batch : List Change) (bytes : List ℕ) (x : List ℕ × List ℕ) → AreBytes bytes → next_key_at batch bytes ≡ Ok x → Begins bytes (word_bytes x.0) x.1 × (is_key x.0 ≡ true) × (is_above_last batch x.0 ≡ true)
 unfolding next_key_at
 key_takes batch bytes x h e =
-    let s = bind_ok (word_field_at 64 bytes) (in_order batch) x e in
-    let word = word_takes 64 bytes s.0 h s.1 in
+    let s = bind_ok (word_field_at MOST_KEY_BYTES bytes) (in_order batch) x e in
+    let word = word_takes MOST_KEY_BYTES bytes s.0 h s.1 in
     let above = test_met (is_above_last batch s.0.0) Word (Ok s.0) x s.2 in
-    let found : Begins bytes (word_bytes s.0.0) s.0.1 × (is_word 64 s.0.0 ≡ true) × (is_above_last batch s.0.0 ≡ true) = (word.0, word.1, above.0) in
+    let found : Begins bytes (word_bytes s.0.0) s.0.1 × (is_key s.0.0 ≡ true) × (is_above_last batch s.0.0 ≡ true) = (word.0, word.1, above.0) in
     rw (← ok_is {E = EncodingError} s.0 x above.1) found
 
-key_again : (batch : List Change) (key rest : List ℕ) → is_word 64 key ≡ true → is_above_last batch key ≡ true → next_key_at batch (word_bytes key ++ rest) ≡ Ok (key, rest)
+key_again : (batch : List Change) (key rest : List ℕ) → is_key key ≡ true → is_above_last batch key ≡ true → next_key_at batch (word_bytes key ++ rest) ≡ Ok (key, rest)
 unfolding next_key_at
-key_again batch key rest is above = rw (word_again 64 key rest is, above) refl
+key_again batch key rest is above = rw (word_again MOST_KEY_BYTES key rest is, above) refl
 
 key_fails : (batch : List Change) (bytes : List ℕ) (fault : EncodingError) → AreBytes bytes → next_key_at batch bytes ≡ Err fault → IsKeyFault batch bytes fault
 unfolding next_key_at
 key_fails batch bytes fault h e =
-    elim (bind_err (word_field_at 64 bytes) (in_order batch) fault e) [
-      | inl wrong ↦ inl (word_fails 64 bytes fault wrong)
+    elim (bind_err (word_field_at MOST_KEY_BYTES bytes) (in_order batch) fault e) [
+      | inl wrong ↦ inl (word_fails MOST_KEY_BYTES bytes fault wrong)
       | inr there ↦
-          let word = word_takes 64 bytes there.0 h there.1 in
+          let word = word_takes MOST_KEY_BYTES bytes there.0 h there.1 in
           elim (chosen (is_above_last batch there.0.0) (Ok there.0) (Err Word) (Err fault) there.2) [
             | inl above ↦ absurd (ok_or_err there.0 fault above.1)
             | inr below ↦ inr (there.0.0, there.0.1, record { parts = word.0.parts; in_range = word.1 }, below.0, sym (err_is {A = List ℕ × List ℕ} Word fault below.1))
@@ -52,9 +53,9 @@ key_fails batch bytes fault h e =
 
 key_refused : (batch : List Change) (bytes : List ℕ) (fault : EncodingError) → IsKeyFault batch bytes fault → next_key_at batch bytes ≡ Err fault
 unfolding next_key_at
-key_refused batch bytes fault (inl wrong) = rw (word_refused 64 bytes fault wrong) refl
+key_refused batch bytes fault (inl wrong) = rw (word_refused MOST_KEY_BYTES bytes fault wrong) refl
 key_refused batch bytes fault (inr (key, rest, has, below, is)) =
-    ap (next_key_at batch) has.parts ∙ rw (word_again 64 key rest has.in_range, below, is) refl
+    ap (next_key_at batch) has.parts ∙ rw (word_again MOST_KEY_BYTES key rest has.in_range, below, is) refl
 
 -- ---- changes
 
@@ -88,7 +89,7 @@ change_again : (batch : List Change) (change : Change) (rest : List ℕ) → is_
 unfolding next_change_at
 change_again batch (Del key) rest is above = rw (key_again batch key rest is above) refl
 change_again batch (Put key value) rest is above =
-    let parts = and_parts (is_word 64 key) (is_word 256 value) is in
+    let parts = and_parts (is_key key) (is_value value) is in
     let regrouped : (word_bytes key ++ value_bytes value) ++ rest ≡ word_bytes key ++ (value_bytes value ++ rest) = append_assoc (word_bytes key) (value_bytes value) rest in
     ap (λ (t : List ℕ). next_change_at batch (1 ∷ t)) regrouped ∙ rw (key_again batch key (value_bytes value ++ rest) parts.0 above, value_again value rest parts.1) refl
 
@@ -282,7 +283,7 @@ no_memory_in_value bytes (inl short) = cc
 no_memory_in_value bytes (inr is) = is.wrong
 
 no_memory_in_key : (batch : List Change) (bytes : List ℕ) → IsKeyFault batch bytes Memory → ⊥
-no_memory_in_key batch bytes (inl wrong) = no_memory_in_word 64 bytes wrong
+no_memory_in_key batch bytes (inl wrong) = no_memory_in_word MOST_KEY_BYTES bytes wrong
 no_memory_in_key batch bytes (inr (key, rest, has, below, is)) = cc
 
 no_memory_in_change : (batch : List Change) (bytes : List ℕ) → IsChangeFault batch bytes Memory → ⊥

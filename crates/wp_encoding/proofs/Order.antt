@@ -1,18 +1,13 @@
 -- A change to a key above all others comes last.
 use Rattle.std.proofs.Common.{◌≡◌, ℕ, suc, ◌-◌, ◌≤◌, true, List, [], ◌∷◌, ◌++◌, length, get_or, refl, sym, ap, ◌∙◌, arith}
-use Rattle.std.specs.declared.cmp.Ordering.{Ordering}
-use Rattle.std.specs.declared.cmp.Ordering.TheVariants.{Less, Equal, Greater}
+use Rattle.std.specs.declared.cmp.Ordering.TheVariants.{Less, Greater}
 use Rattle.std.specs.Ordering.{is_lt, ordering_reverse}
 use Rattle.std.proofs.lemmas.Bool.{and_parts, and_from}
 use Rattle.std.proofs.lemmas.Cmp.{nat_list_cmp_total}
 use Rattle.wp_model.specs.declared.change.Change.{Change}
 use Rattle.wp_model.specs.Batch.{key_cmp, key_of, with_change, are_ascending}
+use Rattle.wp_model.proofs.BatchLemmas.{less_from_test}
 use Rattle.wp_encoding.specs.Reading.{is_above_last}
-
-less_from_test : (o : Ordering) → is_lt o ≡ true → o ≡ Less
-less_from_test Less h = refl
-less_from_test Equal h = absurd cc
-less_from_test Greater h = absurd cc
 
 above_from_below : (a b : List ℕ) → key_cmp a b ≡ Less → key_cmp b a ≡ Greater
 above_from_below a b e = nat_list_cmp_total.antisymm b a ∙ ap ordering_reverse e

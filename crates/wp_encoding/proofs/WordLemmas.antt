@@ -4,7 +4,8 @@ use Rattle.std.specs.Int.{w16, to_be_bytes}
 use Rattle.std.specs.List.{list_all}
 use Rattle.std.proofs.lemmas.Bool.{ltb-true, ltb-false, lt-ltb, le-ltb, leb-true, eqb-true, and_parts, or_from, ne_eqb}
 use Rattle.std.proofs.lemmas.List.{take_at, drop_at, length-append, length-take-le}
-use Rattle.wp_model.specs.Word.{is_word, is_word_byte}
+use Rattle.wp_model.specs.declared.word.TheConstants.{MOST_VALUE_BYTES}
+use Rattle.wp_model.specs.Word.{is_word, is_word_byte, is_value}
 use Rattle.wp_fields.specs.Reading.{◌>>=◌, byte_at, number_at, piece_at}
 use Rattle.wp_fields.proofs.Results.{bind_ok, bind_err, chosen, either, ok_is, err_is, ok_or_err}
 use Rattle.wp_fields.proofs.FieldLemmas.{AreBytes, Begins, Begins-then, Begins-piece, refusal_missed, test_met, byte_takes, piece_takes, piece_fails, piece_there, piece_short, number_takes, number_fails, number_again, number_short, fields_16}
@@ -128,35 +129,35 @@ word_refused most (len ∷ bytes) fault is = text_refused most len bytes fault i
 
 -- ---- values
 
-pub value_takes : (bytes : List ℕ) (x : List ℕ × List ℕ) → AreBytes bytes → value_field_at bytes ≡ Ok x → Begins bytes (value_bytes x.0) x.1 × (is_word 256 x.0 ≡ true)
+pub value_takes : (bytes : List ℕ) (x : List ℕ × List ℕ) → AreBytes bytes → value_field_at bytes ≡ Ok x → Begins bytes (value_bytes x.0) x.1 × (is_value x.0 ≡ true)
 unfolding value_field_at
 value_takes bytes x h e =
-    let s = bind_ok (number_at Short w16 bytes) (λ len. text_at 256 len.0 len.1) x e in
+    let s = bind_ok (number_at Short w16 bytes) (λ len. text_at MOST_VALUE_BYTES len.0 len.1) x e in
     let len = number_takes Short w16 (2 ^ 16) fields_16 bytes s.0 h s.1 in
-    let word = text_takes 256 s.0.0 s.0.1 x len.0.rest_bytes s.2 in
+    let word = text_takes MOST_VALUE_BYTES s.0.0 s.0.1 x len.0.rest_bytes s.2 in
     (rw word.1 (Begins-then bytes (to_be_bytes w16 s.0.0) s.0.1 x.0 x.1 len.0 word.0), word.2)
 
-pub value_again : (value rest : List ℕ) → is_word 256 value ≡ true → value_field_at (value_bytes value ++ rest) ≡ Ok (value, rest)
+pub value_again : (value rest : List ℕ) → is_value value ≡ true → value_field_at (value_bytes value ++ rest) ≡ Ok (value, rest)
 unfolding value_field_at
 value_again value rest is =
-    let range = length_of_word 256 value is in
+    let range = length_of_word MOST_VALUE_BYTES value is in
     let regrouped : value_bytes value ++ rest ≡ to_be_bytes w16 (length value) ++ (value ++ rest) = append_assoc (to_be_bytes w16 (length value)) value rest in
-    ap value_field_at regrouped ∙ rw (number_again Short w16 (2 ^ 16) fields_16 (length value) (value ++ rest) (omega arith)) (text_again 256 value rest is)
+    ap value_field_at regrouped ∙ rw (number_again Short w16 (2 ^ 16) fields_16 (length value) (value ++ rest) (omega arith)) (text_again MOST_VALUE_BYTES value rest is)
 
 pub value_fails : (bytes : List ℕ) (fault : EncodingError) → AreBytes bytes → value_field_at bytes ≡ Err fault → IsValueFault bytes fault
 unfolding value_field_at
 value_fails bytes fault h e =
-    elim (bind_err (number_at Short w16 bytes) (λ len. text_at 256 len.0 len.1) fault e) [
+    elim (bind_err (number_at Short w16 bytes) (λ len. text_at MOST_VALUE_BYTES len.0 len.1) fault e) [
       | inl short ↦
           let number = number_fails Short w16 bytes fault short in
           inl (number.0, sym number.1)
       | inr there ↦
           let len = number_takes Short w16 (2 ^ 16) fields_16 bytes there.0 h there.1 in
-          inr (record { len = there.0.0; text = there.0.1; parts = len.0.parts; small = len.1; wrong = text_fails 256 there.0.0 there.0.1 fault there.2 })
+          inr (record { len = there.0.0; text = there.0.1; parts = len.0.parts; small = len.1; wrong = text_fails MOST_VALUE_BYTES there.0.0 there.0.1 fault there.2 })
     ]
 
 pub value_refused : (bytes : List ℕ) (fault : EncodingError) → IsValueFault bytes fault → value_field_at bytes ≡ Err fault
 unfolding value_field_at
 value_refused bytes fault (inl short) = rw (number_short Short w16 bytes short.0, short.1) refl
 value_refused bytes fault (inr is) =
-    ap value_field_at is.parts ∙ rw (number_again Short w16 (2 ^ 16) fields_16 is.len is.text is.small) (text_refused 256 is.len is.text fault is.wrong)
+    ap value_field_at is.parts ∙ rw (number_again Short w16 (2 ^ 16) fields_16 is.len is.text is.small) (text_refused MOST_VALUE_BYTES is.len is.text fault is.wrong)

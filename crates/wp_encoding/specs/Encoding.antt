@@ -4,7 +4,7 @@ use Rattle.std.specs.Int.{w16, to_be_bytes}
 use Rattle.std.specs.List.{flat_map, list_all}
 use Rattle.wp_model.specs.declared.change.Change.{Change}
 use Rattle.wp_model.specs.declared.change.Change.TheVariants.{Put, Del}
-use Rattle.wp_model.specs.Word.{is_word}
+use Rattle.wp_model.specs.Word.{is_key, is_value}
 use Rattle.wp_model.specs.Batch.{is_batch}
 
 -- a key or a name: one byte length, and that many bytes
@@ -26,8 +26,8 @@ batch_bytes batch = length batch ∷ flat_map change_bytes batch
 
 -- the words of a change are in range
 abbrev pub is_change : Change → Bool
-is_change (Del key) = is_word 64 key
-is_change (Put key value) = is_word 64 key && is_word 256 value
+is_change (Del key) = is_key key
+is_change (Put key value) = is_key key && is_value value
 
 -- the changes are a batch, and their words are in range
 abbrev pub are_changes : List Change → Bool

@@ -2,9 +2,10 @@
 use Rattle.std.specs.Prelude.{◌≡◌, ℕ, zero, suc, ◌^◌, ◌<◌, ◌≤◌, true, false, List, [], ◌∷◌, ◌++◌, length, take, ◌⊎◌}
 use Rattle.std.specs.Int.{w16, to_be_bytes}
 use Rattle.std.specs.List.{flat_map}
+use Rattle.wp_model.specs.declared.word.TheConstants.{MOST_KEY_BYTES, MOST_VALUE_BYTES}
 use Rattle.wp_model.specs.declared.batch.TheConstants.{MOST_KEYS}
 use Rattle.wp_model.specs.declared.change.Change.{Change}
-use Rattle.wp_model.specs.Word.{is_word}
+use Rattle.wp_model.specs.Word.{is_word, is_key}
 use Rattle.wp_encoding.specs.declared.error.EncodingError.{EncodingError}
 use Rattle.wp_encoding.specs.declared.error.EncodingError.TheVariants.{Short, Kind, Word}
 use Rattle.wp_encoding.specs.Encoding.{word_bytes, change_bytes, are_changes}
@@ -28,7 +29,7 @@ pub record IsValueTextFault (bytes : List ℕ) (fault : EncodingError) : Type 0 
   pub text : List ℕ
   pub parts : bytes ≡ to_be_bytes w16 len ++ text
   pub small : len < 2 ^ 16
-  pub wrong : IsTextFault 256 len text fault
+  pub wrong : IsTextFault MOST_VALUE_BYTES len text fault
 
 -- a value: there is no length, or the fault is that of its text
 abbrev pub IsValueFault : List ℕ → EncodingError → Type 0
@@ -37,11 +38,11 @@ IsValueFault bytes fault = ((length bytes < 2) × (fault ≡ Short)) ⊎ IsValue
 -- a key is there, and bytes after it
 pub record HasKey (bytes key rest : List ℕ) : Type 0 where
   pub parts : bytes ≡ word_bytes key ++ rest
-  pub in_range : is_word 64 key ≡ true
+  pub in_range : is_key key ≡ true
 
 -- the key of the change after those of a batch is no word, or not above the last of theirs
 abbrev pub IsKeyFault : List Change → List ℕ → EncodingError → Type 0
-IsKeyFault batch bytes fault = IsWordFault 64 bytes fault ⊎ ((key rest : List ℕ) × HasKey bytes key rest × (is_above_last batch key ≡ false) × (fault ≡ Word))
+IsKeyFault batch bytes fault = IsWordFault MOST_KEY_BYTES bytes fault ⊎ ((key rest : List ℕ) × HasKey bytes key rest × (is_above_last batch key ≡ false) × (fault ≡ Word))
 
 -- The change after those of a batch: the byte before it is not there or is neither 00 nor 01, or its key or its value
 -- has the fault.

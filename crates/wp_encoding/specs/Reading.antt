@@ -2,6 +2,7 @@
 use Rattle.std.specs.Prelude.{ℕ, zero, suc, Bool, true, ◌||◌, List, [], ◌∷◌, ◌++◌, Result, Ok, Err, nat_lt, ◌==◌, if◌then◌else◌}
 use Rattle.std.specs.Int.{w16}
 use Rattle.std.specs.Ordering.{is_lt}
+use Rattle.wp_model.specs.declared.word.TheConstants.{MOST_KEY_BYTES, MOST_VALUE_BYTES}
 use Rattle.wp_model.specs.declared.batch.TheConstants.{MOST_KEYS}
 use Rattle.wp_model.specs.declared.change.Change.{Change}
 use Rattle.wp_model.specs.declared.change.Change.TheVariants.{Put, Del}
@@ -26,7 +27,7 @@ word_field_at most bytes = do
 unfoldable pub value_field_at : List ℕ → Result (List ℕ × List ℕ) EncodingError
 value_field_at bytes = do
   len ← number_at Short w16 bytes
-  text_at 256 len.0 len.1
+  text_at MOST_VALUE_BYTES len.0 len.1
 
 -- the key is above that of the last change, if there is one
 abbrev pub is_above_last : List Change → List ℕ → Bool
@@ -37,7 +38,7 @@ is_above_last (first ∷ second ∷ others) key = is_above_last (second ∷ othe
 -- the key of the change after those of the batch
 unfoldable pub next_key_at : List Change → List ℕ → Result (List ℕ × List ℕ) EncodingError
 next_key_at batch bytes = do
-  key ← word_field_at 64 bytes
+  key ← word_field_at MOST_KEY_BYTES bytes
   if is_above_last batch key.0 then Ok key else Err Word
 
 -- the change after those of the batch

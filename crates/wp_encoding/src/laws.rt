@@ -2,7 +2,7 @@
 
 ghost use Rattle.std.specs.Prelude.{◌≡◌, ◌↔◌, true, ◌++◌, ℕ, ◌<◌, ◌≤◌, List, Ok, Err, slice_index};
 ghost use Rattle.wp_model.specs.declared.change.Change.{Change};
-ghost use Rattle.wp_model.specs.Word.{is_word};
+ghost use Rattle.wp_model.specs.Word.{is_word, is_value};
 ghost use Rattle.wp_encoding.specs.declared.error.EncodingError.{EncodingError};
 ghost use Rattle.wp_encoding.specs.Encoding.{word_bytes, value_bytes, batch_bytes, are_changes};
 ghost use Rattle.wp_encoding.specs.Reading.{word_field_at, value_field_at, batch_field_at};
@@ -20,10 +20,10 @@ pub fn words_are_read()
 
 /// A value.
 pub fn values_are_read()
-    ensures spelled { (value rest : List ℕ) → is_word 256 value ≡ true
+    ensures spelled { (value rest : List ℕ) → is_value value ≡ true
         → value_field_at (value_bytes value ++ rest) ≡ Ok (value, rest) }
     ensures only { (bytes value rest : List ℕ) → ((i : ℕ) → slice_index bytes i < 256)
-        → value_field_at bytes ≡ Ok (value, rest) → (is_word 256 value ≡ true) × (bytes ≡ value_bytes value ++ rest) }
+        → value_field_at bytes ≡ Ok (value, rest) → (is_value value ≡ true) × (bytes ≡ value_bytes value ++ rest) }
     ensures refused { (bytes : List ℕ) (fault : EncodingError) → ((i : ℕ) → slice_index bytes i < 256)
         → (value_field_at bytes ≡ Err fault) ↔ IsValueFault bytes fault }
 {}

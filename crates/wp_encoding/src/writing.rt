@@ -1,5 +1,6 @@
 ghost use Rattle.std.specs.Prelude.{◌≡◌, ◌≤◌, true, ◌++◌, OnOk};
-ghost use Rattle.wp_model.specs.Word.{is_word};
+ghost use Rattle.wp_model.specs.declared.word.TheConstants.{MOST_KEY_BYTES};
+ghost use Rattle.wp_model.specs.Word.{is_word, is_value};
 ghost use Rattle.wp_encoding.specs.Encoding.{word_bytes, value_bytes, change_bytes, batch_bytes, is_change, are_changes};
 
 use crate::layout::{DELETION, PUT};
@@ -9,7 +10,7 @@ use wp_model::{Batch, Change, Value, Word};
 
 /// Puts a key or a name at the end.
 pub fn push_word<const MOST: usize>(out: &mut Vec<u8>, word: &Word<MOST>) -> Result<(), AllocError>
-    requires { MOST ≤ 64 }
+    requires { MOST ≤ MOST_KEY_BYTES }
     ensures pushed { OnOk result (out.new.items ≡ out.old.items ++ word_bytes word.now) }
     ensures in_range { is_word MOST word.now ≡ true }
 {
@@ -21,7 +22,7 @@ pub fn push_word<const MOST: usize>(out: &mut Vec<u8>, word: &Word<MOST>) -> Res
 /// Puts the value at the end.
 pub fn push_value(out: &mut Vec<u8>, value: &Value) -> Result<(), AllocError>
     ensures pushed { OnOk result (out.new.items ≡ out.old.items ++ value_bytes value.now) }
-    ensures in_range { is_word 256 value.now ≡ true }
+    ensures in_range { is_value value.now ≡ true }
 {
     let bytes = value.bytes();
     push_u16(out, bytes.len() as u16)?;

@@ -4,6 +4,7 @@ use Rattle.std.specs.Prelude.{IfErr, IfSome}
 use Rattle.std.specs.Global.{Vec}
 use Rattle.std.specs.Int.{w32, to_be_bytes}
 use Rattle.std.proofs.lemmas.Bool.{eqb-true, eqb-false, ne_eqb, eq-eqb, leb-true, leb-false, le-leb, lt-leb, or_left, or_right}
+use Rattle.wp_model.specs.declared.word.TheConstants.{MOST_NAME_BYTES}
 use Rattle.wp_model.specs.declared.entry.Entry.{Entry}
 use Rattle.wp_model.specs.declared.entry.Entry.TheVariants.{Write, Prepare, Commit, Undo, Close}
 use Rattle.wp_fields.specs.Reading.{◌>>=◌, byte_at, number_at, Gives}
@@ -78,8 +79,8 @@ unfolding prepare_at
 prepare_fails due kind bytes fault h is e =
     elim (bind_err (name_in_record bytes) prepared_with fault e) [
       | inl wrong ↦
-          let d = map_failed record_error (encoding.word_field_at 32 bytes) fault wrong in
-          record { field_fault = d.0; named = d.2; wrong = prepare_name is (word_fails 32 bytes d.0 d.1) }
+          let d = map_failed record_error (encoding.word_field_at MOST_NAME_BYTES bytes) fault wrong in
+          record { field_fault = d.0; named = d.2; wrong = prepare_name is (word_fails MOST_NAME_BYTES bytes d.0 d.1) }
       | inr there ↦
           let name = name_takes bytes there.0 h there.1 in
           elim (bind_err (batch_in_record there.0.1) (λ batch. Ok (Prepare there.0.0 batch.0 ∷ [], batch.1)) fault there.2) [
@@ -164,7 +165,7 @@ entries_fail due kind bytes fault h e =
 
 no_memory_in_entries : (due kind : ℕ) (bytes : List ℕ) → IsEntriesFault due kind bytes encoding_error.Memory → ⊥
 no_memory_in_entries due kind bytes (write_batch is wrong) = no_memory_in_batch bytes wrong
-no_memory_in_entries due kind bytes (prepare_name is wrong) = no_memory_in_word 32 bytes wrong
+no_memory_in_entries due kind bytes (prepare_name is wrong) = no_memory_in_word MOST_NAME_BYTES bytes wrong
 no_memory_in_entries due kind bytes (prepare_batch name rest is has wrong) = no_memory_in_batch rest wrong
 no_memory_in_entries due kind bytes (commit_number is wrong) = wrong
 no_memory_in_entries due kind bytes (no_number_for_close is none same) = cc
@@ -251,9 +252,9 @@ earlier_refused due bytes (encoding_error.Kind byte) wrong = absurd wrong
 entries_refused : (due kind : ℕ) (bytes : List ℕ) (fault : EncodingError) → IsEntriesFault due kind bytes fault → entries_at due kind bytes ≡ Err (record_error fault)
 unfolding entries_at write_at prepare_at commit_at rollback_at
 entries_refused due kind bytes fault (write_batch is wrong) = rw (is, batch_refused bytes fault wrong) refl
-entries_refused due kind bytes fault (prepare_name is wrong) = rw (is, word_refused 32 bytes fault wrong) refl
+entries_refused due kind bytes fault (prepare_name is wrong) = rw (is, word_refused MOST_NAME_BYTES bytes fault wrong) refl
 entries_refused due kind bytes fault (prepare_batch name rest is has wrong) =
-    ap (entries_at due kind) has.parts ∙ rw (is, word_again 32 name rest has.in_range, batch_refused rest fault wrong) refl
+    ap (entries_at due kind) has.parts ∙ rw (is, word_again MOST_NAME_BYTES name rest has.in_range, batch_refused rest fault wrong) refl
 entries_refused due kind bytes fault (commit_number is wrong) = rw (is, earlier_refused due bytes fault wrong) refl
 entries_refused due kind bytes fault (no_number_for_close is none same) =
     let last : leb LAST_NUMBER due ≡ true = le-leb _ _ (omega (arith, none)) in

@@ -5,10 +5,11 @@ use Rattle.std.specs.Global.{Vec}
 use Rattle.std.specs.Int.{w32, to_be_bytes}
 use Rattle.std.proofs.lemmas.Bool.{eqb-true, eqb-false, leb-false, and_from, or_parts}
 use Rattle.std.proofs.lemmas.List.{append-nil, nil_from_length}
+use Rattle.wp_model.specs.declared.word.TheConstants.{MOST_NAME_BYTES}
 use Rattle.wp_model.specs.declared.change.Change.{Change}
 use Rattle.wp_model.specs.declared.entry.Entry.{Entry}
 use Rattle.wp_model.specs.declared.entry.Entry.TheVariants.{Write, Prepare, Commit, Undo, Close}
-use Rattle.wp_model.specs.Word.{is_word}
+use Rattle.wp_model.specs.Word.{is_name}
 use Rattle.wp_fields.specs.Reading.{◌>>=◌, byte_at, number_at, Gives}
 use Rattle.wp_fields.proofs.Results.{bind_ok, ok_is, map_ok}
 use Rattle.wp_fields.proofs.FieldLemmas.{AreBytes, Begins, Begins-then, refusal_missed, test_met, byte_takes, number_takes, fields_32}
@@ -25,8 +26,8 @@ use Rattle.wp_entry.specs.Reading.{name_in_record, batch_in_record, after_number
 
 -- ---- names and batches
 
-pub name_takes : (bytes : List ℕ) (x : List ℕ × List ℕ) → AreBytes bytes → name_in_record bytes ≡ Ok x → Begins bytes (word_bytes x.0) x.1 × (is_word 32 x.0 ≡ true)
-name_takes bytes x h e = word_takes 32 bytes x h (map_ok record_error (encoding.word_field_at 32 bytes) x e)
+pub name_takes : (bytes : List ℕ) (x : List ℕ × List ℕ) → AreBytes bytes → name_in_record bytes ≡ Ok x → Begins bytes (word_bytes x.0) x.1 × (is_name x.0 ≡ true)
+name_takes bytes x h e = word_takes MOST_NAME_BYTES bytes x h (map_ok record_error (encoding.word_field_at MOST_NAME_BYTES bytes) x e)
 
 pub batch_takes : (bytes : List ℕ) (x : List Change × List ℕ) → AreBytes bytes → batch_in_record bytes ≡ Ok x → Begins bytes (batch_bytes x.0) x.1 × (are_changes x.0 ≡ true)
 batch_takes bytes x h e = encoded.batch_takes bytes x h (map_ok record_error (encoding.batch_field_at bytes) x e)

@@ -3,9 +3,10 @@ use Rattle.std.proofs.Common.{◌≡◌, ℕ, ◌^◌, ◌<◌, true, false, leb
 use Rattle.std.specs.Int.{w32, to_be_bytes}
 use Rattle.std.proofs.lemmas.Bool.{ne_eqb, eq-eqb, lt-leb, and_parts, or_from}
 use Rattle.std.proofs.lemmas.List.{append-nil}
+use Rattle.wp_model.specs.declared.word.TheConstants.{MOST_NAME_BYTES}
 use Rattle.wp_model.specs.declared.entry.Entry.{Entry}
 use Rattle.wp_model.specs.declared.entry.Entry.TheVariants.{Write, Prepare, Commit, Undo, Close}
-use Rattle.wp_model.specs.Word.{is_word}
+use Rattle.wp_model.specs.Word.{is_name}
 use Rattle.wp_fields.proofs.FieldLemmas.{number_again, fields_32}
 use Rattle.wp_encoding.specs.Encoding.{word_bytes, batch_bytes, are_changes}
 use Rattle.wp_encoding.proofs.WordLemmas.{word_again}
@@ -48,9 +49,9 @@ entries_again first (Write batch ∷ []) rest is =
     let entry = (and_parts (are_changes batch) true is.in_range).0 in
     record { kind = 1; fields = batch_bytes batch; spelled = refl; read = rw (batch_again batch rest entry) refl; small = is.form }
 entries_again first (Prepare name batch ∷ []) rest is =
-    let entry = and_parts (is_word 32 name) (are_changes batch) (and_parts (is_word 32 name && are_changes batch) true is.in_range).0 in
+    let entry = and_parts (is_name name) (are_changes batch) (and_parts (is_name name && are_changes batch) true is.in_range).0 in
     let regrouped : (word_bytes name ++ batch_bytes batch) ++ rest ≡ word_bytes name ++ (batch_bytes batch ++ rest) = append_assoc (word_bytes name) (batch_bytes batch) rest in
-    let read : prepare_at (word_bytes name ++ (batch_bytes batch ++ rest)) ≡ Ok (Prepare name batch ∷ [], rest) = rw (word_again 32 name (batch_bytes batch ++ rest) entry.0, batch_again batch rest entry.1) refl in
+    let read : prepare_at (word_bytes name ++ (batch_bytes batch ++ rest)) ≡ Ok (Prepare name batch ∷ [], rest) = rw (word_again MOST_NAME_BYTES name (batch_bytes batch ++ rest) entry.0, batch_again batch rest entry.1) refl in
     record { kind = 2; fields = word_bytes name ++ batch_bytes batch; spelled = refl; read = ap prepare_at regrouped ∙ read; small = is.form }
 entries_again first (Commit p ∷ []) rest is =
     record { kind = 3; fields = to_be_bytes w32 p; spelled = refl; read = rw (earlier_again first p rest is.form.1 is.form.0) refl; small = is.form.1 }

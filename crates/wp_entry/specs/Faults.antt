@@ -1,8 +1,9 @@
 -- Where in the bytes the first fault of a record is, and which it is.
 use Rattle.std.specs.Prelude.{◌≡◌, ◌≢◌, ℕ, ◌+◌, ◌^◌, ◌<◌, ◌≤◌, true, List, [], ◌∷◌, ◌++◌, length, ◌⊎◌}
 use Rattle.std.specs.Int.{w32, to_be_bytes}
+use Rattle.wp_model.specs.declared.word.TheConstants.{MOST_NAME_BYTES}
 use Rattle.wp_model.specs.declared.entry.Entry.{Entry}
-use Rattle.wp_model.specs.Word.{is_word}
+use Rattle.wp_model.specs.Word.{is_name}
 use Rattle.wp_encoding.specs.declared.error.EncodingError.{EncodingError}
 use Rattle.wp_encoding.specs.declared.error.EncodingError.TheVariants as encoding
 use Rattle.wp_encoding.specs.Encoding.{word_bytes}
@@ -19,7 +20,7 @@ pub record HasNumberField (bytes : List ℕ) (number : ℕ) (rest : List ℕ) : 
 -- a name is there, and bytes after it
 pub record HasName (bytes name rest : List ℕ) : Type 0 where
   pub parts : bytes ≡ word_bytes name ++ rest
-  pub in_range : is_word 32 name ≡ true
+  pub in_range : is_name name ≡ true
 
 -- the number of an earlier entry: fewer than four bytes are there, or no earlier entry has the number
 abbrev pub IsEarlierFault : ℕ → List ℕ → EncodingError → Type 0
@@ -30,7 +31,7 @@ IsEarlierFault due bytes other = ⊥
 -- The bytes after a kind have the fault: in the one field that comes, or in the batch after it.
 pub data IsEntriesFault (due kind : ℕ) (bytes : List ℕ) (fault : EncodingError) : Type 0 where
   write_batch : kind ≡ 1 → IsBatchFault bytes fault → IsEntriesFault due kind bytes fault
-  prepare_name : kind ≡ 2 → IsWordFault 32 bytes fault → IsEntriesFault due kind bytes fault
+  prepare_name : kind ≡ 2 → IsWordFault MOST_NAME_BYTES bytes fault → IsEntriesFault due kind bytes fault
   prepare_batch : (name rest : List ℕ) → kind ≡ 2 → HasName bytes name rest → IsBatchFault rest fault → IsEntriesFault due kind bytes fault
   commit_number : kind ≡ 3 → IsEarlierFault due bytes fault → IsEntriesFault due kind bytes fault
   no_number_for_close : kind ≡ 4 → 2 ^ 32 ≤ due + 1 → fault ≡ encoding.Word → IsEntriesFault due kind bytes fault

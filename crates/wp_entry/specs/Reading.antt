@@ -1,6 +1,7 @@
 -- Reading a record from left to right, with the first fault that is met.
 use Rattle.std.specs.Prelude.{ℕ, ◌||◌, List, [], ◌∷◌, length, Result, Ok, Err, nat_le, ◌==◌, if◌then◌else◌}
 use Rattle.std.specs.Int.{w32}
+use Rattle.wp_model.specs.declared.word.TheConstants.{MOST_NAME_BYTES}
 use Rattle.wp_model.specs.declared.change.Change.{Change}
 use Rattle.wp_model.specs.declared.entry.Entry.{Entry}
 use Rattle.wp_model.specs.declared.entry.Entry.TheVariants.{Write, Prepare, Commit, Undo, Close}
@@ -19,7 +20,7 @@ after_number due bytes = do
 
 -- a name, and a batch, in a record
 abbrev pub name_in_record : List ℕ → Result (List ℕ × List ℕ) RecordError
-name_in_record bytes = map_err record_error (encoding.word_field_at 32 bytes)
+name_in_record bytes = map_err record_error (encoding.word_field_at MOST_NAME_BYTES bytes)
 
 abbrev pub batch_in_record : List ℕ → Result (List Change × List ℕ) RecordError
 batch_in_record bytes = map_err record_error (encoding.batch_field_at bytes)

@@ -4,7 +4,7 @@ use Rattle.std.specs.Int.{w32, to_be_bytes}
 use Rattle.std.specs.List.{list_all}
 use Rattle.wp_model.specs.declared.entry.Entry.{Entry}
 use Rattle.wp_model.specs.declared.entry.Entry.TheVariants.{Write, Prepare, Commit, Undo, Close}
-use Rattle.wp_model.specs.Word.{is_word}
+use Rattle.wp_model.specs.Word.{is_name}
 use Rattle.wp_encoding.specs.Encoding.{word_bytes, batch_bytes, are_changes}
 
 -- ---- the spelling
@@ -28,7 +28,7 @@ record_bytes first entries = to_be_bytes w32 first ++ entries_bytes entries
 -- what it holds is in range
 abbrev pub is_entry : Entry → Bool
 is_entry (Write batch) = are_changes batch
-is_entry (Prepare name batch) = is_word 32 name && are_changes batch
+is_entry (Prepare name batch) = is_name name && are_changes batch
 is_entry (Commit p) = true
 is_entry (Undo p batch) = are_changes batch
 is_entry (Close p) = true

@@ -2,6 +2,7 @@
 use Rattle.std.proofs.Common.{◌≡◌, ◌≢◌, inl, inr, ℕ, ◌+◌, List, [], ◌∷◌, ◌++◌, length, refl, sym, ◌∙◌, ap, subst, arith, length-append}
 use Rattle.std.proofs.lemmas.List.{append-nil, append_assoc, map-append}
 use Rattle.wp_outside.specs.Disk.{Moment, IsImage, IfKnown, synced, after_write, Each, Passes}
+use Rattle.wp_outside.proofs.Moments.{image_of_synced}
 use Rattle.wp_gatelog.specs.Durability.{HasAcknowledged, Spares, LosesNoRecord}
 use Rattle.wp_gatelog.specs.Log.{IsAcknowledged, IsAtRest, last_gate}
 use Rattle.wp_gatelog.specs.Repair.{HasFront, Reopens}
@@ -10,7 +11,7 @@ use Rattle.wp_gatelog.specs.Spelling.{Gated, IsOpen, framed, identity, all_gated
 use Rattle.wp_gatelog.proofs.DurabilityLemmas.{preserves_passes}
 use Rattle.wp_gatelog.proofs.LawLemmas.{made}
 use Rattle.wp_gatelog.proofs.AppendLemmas.{log_longer}
-use Rattle.wp_gatelog.proofs.MomentLemmas.{image_of_synced, image_after, image_of_gate, known_map}
+use Rattle.wp_gatelog.proofs.MomentLemmas.{image_after, image_of_gate, known_map}
 use Rattle.wp_gatelog.proofs.ParseLemmas.{same_parts, same_framed, first_split, length-identities}
 
 -- ---- the front of a log

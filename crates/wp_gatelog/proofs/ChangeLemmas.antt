@@ -26,9 +26,9 @@ module _ (step : Moment → Moment) (before : List ℕ) where
 
   pub synced_steps : {T E : Type 0} (old mid new : List Moment) (result : Result T E) → IsImage (step (synced before)) (step (synced before)).reads → IsSynced before old → mid ≡ added step old
       → OnOk result (new ≡ added after_sync mid) → OnErr result (new ≡ mid) → Steps step before old new result
-  synced_steps old mid new result reads known adds syncs kept = record {
-    passed = synced_goes step before old mid new result reads known adds syncs kept;
-    durable = λ magic id records spares. synced_preserves (HasAcknowledged magic id records) step before spares old mid new result reads known adds syncs kept;
+  synced_steps old mid new result reads known adds syncs stays = record {
+    passed = synced_goes step before old mid new result reads known adds syncs stays;
+    durable = λ magic id records spares. synced_preserves (HasAcknowledged magic id records) step before spares old mid new result reads known adds syncs stays;
     done = on_ok_weaker result (stepped_synced old mid new known adds) syncs;
   }
 

@@ -2,9 +2,10 @@
 use Rattle.std.proofs.Common.{◌≡◌, inl, inr, ℕ, List, [], ◌∷◌, ◌++◌, Result, Ok, Err, OnOk, OnErr, sym, ◌∙◌, subst, arith}
 use Rattle.std.proofs.lemmas.List.{append_assoc}
 use Rattle.wp_outside.specs.Disk.{Moment, IsImage, synced, after_sync, IfKnown, added, Tears, Each, Passes, ReadsItself}
+use Rattle.wp_outside.specs.Images.{matches_itself}
+use Rattle.wp_outside.proofs.Moments.{image_of_synced}
 use Rattle.wp_gatelog.specs.Durability.{PassedOn, Preserves}
 use Rattle.wp_gatelog.specs.Moments.{Leaves}
-use Rattle.wp_gatelog.proofs.MomentLemmas.{matches_self, image_of_synced}
 
 -- ---- moments, one after another
 
@@ -40,7 +41,7 @@ sync_preserves P (m ∷ past) new itself syncs =
 module _ (P : List ℕ → Type 0) (step : Moment → Moment) (before : List ℕ) (spares : P before → (image : List ℕ) → IsImage (step (synced before)) image → P image) where
   step_preserves : (m : Moment) → m ≡ synced before → Leaves P m → Leaves P (step m)
   step_preserves m is has image h =
-      spares (has before (subst (λ (n : Moment). IsImage n before) (sym is) (matches_self before, omega arith))) image (subst (λ (n : Moment). IsImage (step n) image) is h)
+      spares (has before (subst (λ (n : Moment). IsImage n before) (sym is) (matches_itself before, omega arith))) image (subst (λ (n : Moment). IsImage (step n) image) is h)
 
   pub torn_preserves : (old new : List Moment) → IfKnown old (λ m. m ≡ synced before) → Tears step old new → Preserves (Leaves P) old new
   torn_preserves [] new known torn = elim torn [ inl same ↦ ([], same, tt) | inr w ↦ ([], w.1, tt) ]
@@ -55,11 +56,11 @@ module _ (P : List ℕ → Type 0) (step : Moment → Moment) (before : List ℕ
 
   -- the step was made, and then a sync, or not
   pub synced_preserves : {T E : Type 0} (old mid new : List Moment) (result : Result T E) → IsImage (step (synced before)) (step (synced before)).reads → IfKnown old (λ m. m ≡ synced before) → mid ≡ added step old → OnOk result (new ≡ added after_sync mid) → OnErr result (new ≡ mid) → Preserves (Leaves P) old new
-  synced_preserves old mid new (Ok x) reads known adds syncs kept =
+  synced_preserves old mid new (Ok x) reads known adds syncs stays =
       preserves_on (Leaves P) old mid new (stepped_preserves old mid known adds) (sync_preserves P mid new (itself old mid known adds) syncs)
     where
       itself : (old mid : List Moment) → IfKnown old (λ m. m ≡ synced before) → mid ≡ added step old → ReadsItself mid
       itself [] mid known adds = subst ReadsItself (sym adds) tt
       itself (m ∷ past) mid known adds =
           subst ReadsItself (sym adds) (subst (λ (n : Moment). IsImage (step n) (step n).reads) (sym known) reads)
-  synced_preserves old mid new (Err e) reads known adds syncs kept = stepped_preserves old new known (kept ∙ adds)
+  synced_preserves old mid new (Err e) reads known adds syncs stays = stepped_preserves old new known (stays ∙ adds)

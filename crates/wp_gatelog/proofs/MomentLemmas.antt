@@ -2,6 +2,8 @@
 use Rattle.std.proofs.Common.{◌≡◌, inl, inr, ℕ, zero, suc, ◌+◌, ◌≤◌, max, List, [], ◌∷◌, ◌++◌, map, length, take, drop, Option, None, Some, Result, Ok, Err, OnOk, OnErr, refl, sym, ◌∙◌, ap, subst, arith, length-append, length-drop, length-take}
 use Rattle.std.proofs.lemmas.List.{append-nil, append_assoc, drop_all, take-map, take_at, length-map}
 use Rattle.wp_outside.specs.Disk.{Moment, Matches, IsImage, synced, put, hide, hide_at, after_write, after_cut, after_sync, IfKnown, added, Tears, Each, Passes, images}
+use Rattle.wp_outside.specs.Images.{matches_itself}
+use Rattle.wp_outside.proofs.Moments.{image_of_synced}
 use Rattle.wp_gatelog.specs.Moments.{Leaves, Goes}
 
 -- ---- moments, one after another
@@ -51,10 +53,6 @@ known_as ms x y is known = subst (λ (z : List ℕ). IfKnown ms (λ m. m ≡ syn
 
 -- ---- bytes of which all are sure
 
-pub matches_self : (xs : List ℕ) → Matches (map (λ b. Some b) xs) xs
-matches_self [] = tt
-matches_self (x ∷ xs) = (refl, matches_self xs)
-
 -- an image begins with what is sure, and its rest matches the rest
 matches_front : (xs : List ℕ) (sure : List (Option ℕ)) (c : List ℕ) → Matches (map (λ b. Some b) xs ++ sure) c → (d : List ℕ) × (c ≡ xs ++ d) × Matches sure d
 matches_front [] sure c h = (c, refl, h)
@@ -63,14 +61,8 @@ matches_front (x ∷ xs) sure (b ∷ c) h =
     let rest = matches_front xs sure c h.1 in
     (rest.0, (λ i. h.0 i ∷ rest.1 i), rest.2)
 
-pub image_of_synced : (xs c : List ℕ) → IsImage (synced xs) c → c ≡ xs
-image_of_synced [] [] h = refl
-image_of_synced [] (b ∷ c) h = absurd (omega (arith, h.1))
-image_of_synced (x ∷ xs) [] h = absurd h.0
-image_of_synced (x ∷ xs) (b ∷ c) h = λ i. h.0.0 i ∷ image_of_synced xs c (h.0.1, omega (arith, h.1)) i
-
 hide_front : (bytes old : List ℕ) → Matches (hide (length bytes) (map (λ b. Some b) old)) (bytes ++ drop (length bytes) old)
-hide_front [] old = matches_self old
+hide_front [] old = matches_itself old
 hide_front (b ∷ bytes) [] = tt
 hide_front (b ∷ bytes) (x ∷ old) = hide_front bytes old
 
@@ -86,12 +78,12 @@ length-put (suc at) bytes (x ∷ old) = omega (arith, length-put at bytes old)
 
 -- what a read gives after a write or a cut is one of the images
 pub write_reads_image : (at : ℕ) (bytes before : List ℕ) → IsImage (after_write at bytes (synced before)) (after_write at bytes (synced before)).reads
-write_reads_image at [] before = (matches_self before, omega arith)
+write_reads_image at [] before = (matches_itself before, omega arith)
 write_reads_image at (b ∷ bytes) before = (hide_put at (b ∷ bytes) before, length-put at (b ∷ bytes) before)
 
 pub cut_reads_image : (len : ℕ) (before : List ℕ) → IsImage (after_cut len (synced before)) (after_cut len (synced before)).reads
 cut_reads_image len before =
-    (subst (λ (s : List (Option ℕ)). Matches s (take len before)) (sym (take-map (λ b. Some b) len before)) (matches_self (take len before)), omega (arith, length-take len before))
+    (subst (λ (s : List (Option ℕ)). Matches s (take len before)) (sym (take-map (λ b. Some b) len before)) (matches_itself (take len before)), omega (arith, length-take len before))
 
 -- ---- one step and its sync, from a disk that has all of its bytes for good
 
@@ -112,9 +104,9 @@ module _ (step : Moment → Moment) (before : List ℕ) where
 
   -- the step was made, and then a sync, or not
   pub synced_goes : {T E : Type 0} (old mid new : List Moment) (result : Result T E) → IsImage (step (synced before)) (step (synced before)).reads → IfKnown old (λ m. m ≡ synced before) → mid ≡ added step old → OnOk result (new ≡ added after_sync mid) → OnErr result (new ≡ mid) → Goes (Leaves (IsImage (step (synced before)))) old new
-  synced_goes [] mid new (Ok x) reads known adds syncs kept = subst (λ (l : List Moment). new ≡ added after_sync l) adds syncs
-  synced_goes [] mid new (Err e) reads known adds syncs kept = kept ∙ adds
-  synced_goes (m ∷ past) mid new (Ok x) reads known adds syncs kept =
+  synced_goes [] mid new (Ok x) reads known adds syncs stays = subst (λ (l : List Moment). new ≡ added after_sync l) adds syncs
+  synced_goes [] mid new (Err e) reads known adds syncs stays = stays ∙ adds
+  synced_goes (m ∷ past) mid new (Ok x) reads known adds syncs stays =
       let last : new ≡ synced (step m).reads ∷ step m ∷ m ∷ past = subst (λ (l : List Moment). new ≡ added after_sync l) adds syncs in
       let is : (step m).reads ≡ (step (synced before)).reads = ap (λ (n : Moment). (step n).reads) known in (
         synced (step m).reads ∷ step m ∷ [],
@@ -124,7 +116,7 @@ module _ (step : Moment → Moment) (before : List ℕ) where
           (within_step m known, tt),
         ),
       )
-  synced_goes (m ∷ past) mid new (Err e) reads known adds syncs kept = step_goes (m ∷ past) new known (kept ∙ adds)
+  synced_goes (m ∷ past) mid new (Err e) reads known adds syncs stays = step_goes (m ∷ past) new known (stays ∙ adds)
 
 -- ---- images of a log that is changed
 
@@ -162,11 +154,11 @@ image_of_gate front at gate following image is h =
     any_gate front following rest.0 image rest.1 rest.2
 
 -- a cut leaves what is before it
-pub image_of_cut : (kept rest image : List ℕ) (len : ℕ) → len ≡ length kept → IsImage (after_cut len (synced (kept ++ rest))) image → (d : List ℕ) × (image ≡ kept ++ d)
-image_of_cut kept rest image len is h =
-    let known : take len (map (λ b. Some b) (kept ++ rest)) ≡ map (λ b. Some b) kept ++ [] =
-    take-map (λ b. Some b) len (kept ++ rest) ∙ ap (λ (l : List ℕ). map (λ b. Some b) l) (take_at kept rest len (sym is)) ∙ sym (append-nil (map (λ b. Some b) kept)) in
-    let found = matches_front kept [] image (subst (λ (s : List (Option ℕ)). Matches s image) known h.0) in
+pub image_of_cut : (front rest image : List ℕ) (len : ℕ) → len ≡ length front → IsImage (after_cut len (synced (front ++ rest))) image → (d : List ℕ) × (image ≡ front ++ d)
+image_of_cut front rest image len is h =
+    let known : take len (map (λ b. Some b) (front ++ rest)) ≡ map (λ b. Some b) front ++ [] =
+    take-map (λ b. Some b) len (front ++ rest) ∙ ap (λ (l : List ℕ). map (λ b. Some b) l) (take_at front rest len (sym is)) ∙ sym (append-nil (map (λ b. Some b) front)) in
+    let found = matches_front front [] image (subst (λ (s : List (Option ℕ)). Matches s image) known h.0) in
     (found.0, found.1)
 
 -- ---- what a read gives then

@@ -2,12 +2,13 @@
 use Rattle.std.proofs.Common.{◌≡◌, inl, inr, ℕ, ◌<◌, List, [], ◌∷◌, ◌++◌, length, drop, Option, Result, Ok, Err, refl, sym, ◌∙◌, ap, subst, arith, length-append}
 use Rattle.std.proofs.lemmas.List.{append_assoc, drop_at}
 use Rattle.wp_outside.specs.Disk.{Moment, synced, IfKnown, added, after_sync, ReadsItself}
+use Rattle.wp_outside.proofs.Moments.{image_of_synced}
 use Rattle.wp_gatelog.specs.declared.error.LogError.{LogError}
 use Rattle.wp_gatelog.specs.declared.error.LogError.TheVariants.{Memory, DiskFault, BadHead, Cut}
 use Rattle.wp_gatelog.specs.declared.gate.GateByte.{GateByte}
-use Rattle.wp_gatelog.specs.declared.open.Found.{Found}
+use Rattle.wp_gatelog.specs.declared.open.FoundLog.{FoundLog}
 use Rattle.wp_gatelog.specs.declared.head.Head.TheVariants.{Made}
-use Rattle.wp_gatelog.specs.Answers.{Answers, Opens}
+use Rattle.wp_gatelog.specs.Opens.{IsAnswer, Opens}
 use Rattle.wp_gatelog.specs.Changes.{BringsTo}
 use Rattle.wp_gatelog.specs.Durability.{HasAcknowledged, LosesNoRecord}
 use Rattle.wp_gatelog.specs.Heads.{BeginsLog, IsHead, SpellsNone}
@@ -19,7 +20,7 @@ use Rattle.wp_gatelog.specs.Scanning.{HasRead, IsReadFault}
 use Rattle.wp_gatelog.specs.Spelling.{Gated, identity, all_gated, log_of, IsUnmade}
 use Rattle.wp_gatelog.proofs.DurabilityLemmas.{preserves_on, sync_preserves}
 use Rattle.wp_gatelog.proofs.HeadLemmas.{length-identity}
-use Rattle.wp_gatelog.proofs.MomentLemmas.{goes_on, goes_map, image_of_synced}
+use Rattle.wp_gatelog.proofs.MomentLemmas.{goes_on, goes_map}
 
 -- ---- a disk that is known
 
@@ -108,7 +109,7 @@ opens_refused magic asked bytes why old new same refused = record {
     none (m ∷ past) = ([], refl, tt)
 
 -- by cases on whether the disk is known
-module _ (magic : List ℕ) (asked : ℕ) (new : List Moment) (result : Result Found LogError) where
+module _ (magic : List ℕ) (asked : ℕ) (new : List Moment) (result : Result FoundLog LogError) where
   pub made_cases : (id head len : ℕ) (old : List Moment) → ((past : List Moment) (m : Moment) → old ≡ m ∷ past → m ≡ synced m.reads → BeginsLog magic id head len m.reads → Opens magic asked m.reads old new result)
       → IfKnown old (λ m. m ≡ synced m.reads → BeginsLog magic id head len m.reads → Opens magic asked m.reads old new result)
   made_cases id head len [] f = tt
@@ -124,10 +125,10 @@ module _ (magic : List ℕ) (asked : ℕ) (new : List Moment) (result : Result F
   found_cases (m ∷ past) f = f past m refl
 
 -- by a call that brings the disk somewhere
-pub opens_brings : {T E : Type 0} (magic : List ℕ) (asked : ℕ) (bytes : List ℕ) (P : List ℕ → Type 0) (Q : Moment → Type 0) (old read new : List Moment) (done : Result T E) (result : Result Found LogError)
-    → read ≡ old → ((image : List ℕ) → P image → Repairs magic asked bytes image) → Answers magic asked bytes new result → BringsTo magic P Q read new done → Opens magic asked bytes old new result
-opens_brings magic asked bytes P Q old read new done result kept f answered brings =
-    subst (λ (ms : List Moment). Opens magic asked bytes ms new result) kept (record {
+pub opens_brings : {T E : Type 0} (magic : List ℕ) (asked : ℕ) (bytes : List ℕ) (P : List ℕ → Type 0) (Q : Moment → Type 0) (old read new : List Moment) (done : Result T E) (result : Result FoundLog LogError)
+    → read ≡ old → ((image : List ℕ) → P image → Repairs magic asked bytes image) → IsAnswer magic asked bytes new result → BringsTo magic P Q read new done → Opens magic asked bytes old new result
+opens_brings magic asked bytes P Q old read new done result same f answered brings =
+    subst (λ (ms : List Moment). Opens magic asked bytes ms new result) same (record {
       passed = goes_map (Leaves P) (Leaves (Repairs magic asked bytes)) (λ m leaves image h. f image (leaves image h)) read new brings.passed;
       durable = brings.durable;
       answered = answered;
@@ -144,8 +145,8 @@ pub begins : (magic : List ℕ) (len : ℕ) (bytes : List ℕ) (gate id : ℕ) �
 begins magic len bytes gate id four size head = record { magic_size = four; made = head; size = size }
 
 -- the same, of a disk that was only read before
-pub opens_read : (magic : List ℕ) (asked : ℕ) (bytes : List ℕ) (old read new : List Moment) (result : Result Found LogError) → read ≡ old → Opens magic asked bytes read new result → Opens magic asked bytes old new result
-opens_read magic asked bytes old read new result kept opens = subst (λ (ms : List Moment). Opens magic asked bytes ms new result) kept opens
+pub opens_read : (magic : List ℕ) (asked : ℕ) (bytes : List ℕ) (old read new : List Moment) (result : Result FoundLog LogError) → read ≡ old → Opens magic asked bytes read new result → Opens magic asked bytes old new result
+opens_read magic asked bytes old read new result same opens = subst (λ (ms : List Moment). Opens magic asked bytes ms new result) same opens
 
 pub found_none : (magic : List ℕ) (asked : ℕ) (bytes : List ℕ) → IsUnmade bytes → (records : List (List ℕ)) → records ≡ [] → IsFound magic asked bytes asked records
 found_none magic asked bytes unmade records none = record { spelled = inl (unmade, none); unmade = λ _. refl }
@@ -159,7 +160,7 @@ made_rests magic id records four none m on = record {
 }
 
 -- after the first sync
-pub opens_synced : (magic : List ℕ) (asked : ℕ) (result : Result Found LogError) (old mid new past : List Moment) (m : Moment) → old ≡ m ∷ past → ReadsItself old → mid ≡ added after_sync old
+pub opens_synced : (magic : List ℕ) (asked : ℕ) (result : Result FoundLog LogError) (old mid new past : List Moment) (m : Moment) → old ≡ m ∷ past → ReadsItself old → mid ≡ added after_sync old
     → IfKnown mid (λ n. n ≡ synced n.reads → Opens magic asked n.reads mid new result) → Opens magic asked m.reads old new result
 opens_synced magic asked result old mid new past m is itself by_sync opens =
     let P : List ℕ → Type 0 = Repairs magic asked m.reads in
@@ -175,19 +176,19 @@ opens_synced magic asked result old mid new past m is itself by_sync opens =
 -- ---- what is known of a disk before and after
 
 module _ (magic : List ℕ) (asked : ℕ) where
-  pub opens_passed : (result : Result Found LogError) (old new : List Moment) → IfKnown old (λ m. Opens magic asked m.reads old new result) → IfKnown old (λ m. Goes (Leaves (Repairs magic asked m.reads)) old new)
+  pub opens_passed : (result : Result FoundLog LogError) (old new : List Moment) → IfKnown old (λ m. Opens magic asked m.reads old new result) → IfKnown old (λ m. Goes (Leaves (Repairs magic asked m.reads)) old new)
   opens_passed result [] new opens = tt
   opens_passed result (m ∷ past) new opens = opens.passed
 
-  pub opens_durable : (result : Result Found LogError) (old new : List Moment) → (old ≡ [] → new ≡ []) → IfKnown old (λ m. Opens magic asked m.reads old new result) → LosesNoRecord magic old new
+  pub opens_durable : (result : Result FoundLog LogError) (old new : List Moment) → (old ≡ [] → new ≡ []) → IfKnown old (λ m. Opens magic asked m.reads old new result) → LosesNoRecord magic old new
   opens_durable result [] new unknown opens = λ id records. ([], unknown refl, tt)
   opens_durable result (m ∷ past) new unknown opens = opens.durable
 
-  pub opens_found : (found : Found) (old new : List Moment) → IfKnown old (λ m. Opens magic asked m.reads old new (Ok found)) → IfKnown old (λ m. IsFound magic asked m.reads found.id found.records.items)
+  pub opens_found : (found : FoundLog) (old new : List Moment) → IfKnown old (λ m. Opens magic asked m.reads old new (Ok found)) → IfKnown old (λ m. IsFound magic asked m.reads found.id found.records.items)
   opens_found found [] new opens = tt
   opens_found found (m ∷ past) new opens = opens.answered.0
 
-  pub opens_rests : (found : Found) (old new : List Moment) → (old ≡ [] → new ≡ []) → IfKnown old (λ m. Opens magic asked m.reads old new (Ok found)) → IfKnown new (IsAtRest magic found.id found.end found.records.items)
+  pub opens_rests : (found : FoundLog) (old new : List Moment) → (old ≡ [] → new ≡ []) → IfKnown old (λ m. Opens magic asked m.reads old new (Ok found)) → IfKnown new (IsAtRest magic found.id found.end found.records.items)
   opens_rests found [] new unknown opens = subst (λ (ms : List Moment). IfKnown ms (IsAtRest magic found.id found.end found.records.items)) (sym (unknown refl)) tt
   opens_rests found (m ∷ past) new unknown opens = opens.answered.1
 

@@ -3,10 +3,10 @@ use Rattle.std.proofs.Common.{◌≡◌, ◌⊎◌, inl, inr, ℕ, ◌<◌, ◌^
 use Rattle.std.proofs.lemmas.List.{append_assoc, take_at, drop_at}
 use Rattle.std.specs.Int.{w32, w64, to_be_bytes}
 use Rattle.wp_outside.specs.Disk.{Each}
-use Rattle.wp_gatelog.specs.Damage.{IsShort, counted}
+use Rattle.wp_gatelog.specs.Damage.{IsShort, stated_length}
 use Rattle.wp_gatelog.specs.Spelling.{Gated, IsOpen, framed, identity, all_gated, log_of}
 use Rattle.wp_gatelog.proofs.AppendLemmas.{length-framed}
-use Rattle.wp_gatelog.proofs.ScanLemmas.{counted_is}
+use Rattle.wp_gatelog.proofs.ScanLemmas.{stated_length_is}
 
 -- lists of equal lengths
 pub same_parts : {A : Type 0} (a b x y : List A) → length a ≡ length b → a ++ x ≡ b ++ y → (a ≡ b) × (x ≡ y)
@@ -15,10 +15,10 @@ same_parts a b x y size is = (
   sym (drop_at a x (length b) size) ∙ ap (λ (l : List _). drop (length b) l) is ∙ drop_at b y (length b) refl,
 )
 
-counted_framed : (bytes rest : List ℕ) → length bytes < 2 ^ 64 → counted (framed bytes ++ rest) ≡ length bytes
+stated_length_framed : (bytes rest : List ℕ) → length bytes < 2 ^ 64 → stated_length (framed bytes ++ rest) ≡ length bytes
 unfolding framed
-counted_framed bytes rest fits =
-    ap counted (append_assoc (to_be_bytes w64 (length bytes)) bytes rest) ∙ counted_is (length bytes) (bytes ++ rest) fits
+stated_length_framed bytes rest fits =
+    ap stated_length (append_assoc (to_be_bytes w64 (length bytes)) bytes rest) ∙ stated_length_is (length bytes) (bytes ++ rest) fits
 
 split_framed : (bytes rest : List ℕ) → drop 8 (framed bytes ++ rest) ≡ bytes ++ rest
 unfolding framed
@@ -27,7 +27,7 @@ split_framed bytes rest =
 
 pub same_framed : (a b x y : List ℕ) → length a < 2 ^ 64 → length b < 2 ^ 64 → framed a ++ x ≡ framed b ++ y → (a ≡ b) × (x ≡ y)
 same_framed a b x y fits_a fits_b is =
-    let size : length a ≡ length b = sym (counted_framed a x fits_a) ∙ ap counted is ∙ counted_framed b y fits_b in
+    let size : length a ≡ length b = sym (stated_length_framed a x fits_a) ∙ ap stated_length is ∙ stated_length_framed b y fits_b in
     same_parts a b x y size (sym (split_framed a x) ∙ ap (λ (l : List ℕ). drop 8 l) is ∙ split_framed b y)
 
 -- no record can be read there: the gate is closed, or there is no whole record after it
@@ -42,7 +42,7 @@ stops_some (gate ∷ following) h = omega arith
 whole_goes_on : (g : Gated) (rest : List ℕ) → IsOpen g → 0 < length rest → Stops (g.gate ∷ (framed g.bytes ++ rest)) → ⊥
 whole_goes_on g rest opened some stops = elim stops [
   | inl shut ↦ opened.gate shut
-  | inr short ↦ omega (arith, short, counted_framed g.bytes rest opened.length_fits, length-append (framed g.bytes) rest, length-framed g.bytes)
+  | inr short ↦ omega (arith, short, stated_length_framed g.bytes rest opened.length_fits, length-append (framed g.bytes) rest, length-framed g.bytes)
 ]
 
 pub first_split : (g : Gated) (gs : List Gated) (rest : List ℕ) → all_gated (g ∷ gs) ++ rest ≡ g.gate ∷ (framed g.bytes ++ (all_gated gs ++ rest))

@@ -5,14 +5,15 @@ use Rattle.wp_outside.specs.Disk.{Moment, IsImage, synced, after_write, after_cu
 use Rattle.wp_gatelog.specs.declared.gate.GateByte.{GateByte}
 use Rattle.wp_gatelog.specs.Changes.{Changes, BringsTo}
 use Rattle.wp_gatelog.specs.Log.{IsAtRest, last_gate}
+use Rattle.wp_gatelog.specs.Moments.{IsSynced}
 use Rattle.wp_gatelog.specs.Repair.{IsReadLog, HasFront, Reopens, IsRepaired}
 use Rattle.wp_gatelog.specs.Scanning.{IsLast}
 use Rattle.wp_gatelog.specs.Spelling.{Gated, IsOpen, framed, identity, all_gated, log_of, records_of}
 use Rattle.wp_gatelog.proofs.AppendLemmas.{records_more, last_gate_more, log_more, log_longer}
 use Rattle.wp_gatelog.proofs.AcknowledgedLemmas.{spares_cut, spares_head, spares_last}
-use Rattle.wp_gatelog.proofs.ChangeLemmas.{brings_of}
+use Rattle.wp_gatelog.proofs.ChangeLemmas.{brings_of, brings_on}
 use Rattle.wp_gatelog.proofs.HeadLemmas.{length-identity}
-use Rattle.wp_gatelog.proofs.MomentLemmas.{image_of_cut, image_of_gate, known_map}
+use Rattle.wp_gatelog.proofs.MomentLemmas.{image_of_cut, image_of_gate, known_as, known_map}
 
 -- ---- one step
 
@@ -47,7 +48,7 @@ each_but_last (g ∷ before) last each = let rest = each_but_last before last ea
 
 module _ (magic : List ℕ) (id head : ℕ) (gated : List Gated) where
   repaired_cut : (image : List ℕ) → HasFront (log_of magic id head gated) image → IsRepaired magic id head gated image
-  repaired_cut image kept = inl kept
+  repaired_cut image front = inl front
 
   repaired_head : (image : List ℕ) → Reopens [] head ((identity magic id ++ all_gated gated) ++ 0 ∷ []) image → IsRepaired magic id head gated image
   repaired_head image w =
@@ -104,20 +105,34 @@ module _ (magic : List ℕ) (id head : ℕ) (records : List (List ℕ)) (found :
 
   -- ---- call by call
 
-  pub brings_cut : {T E : Type 0} (old new : List Moment) (result : Result T E) → Changes (HasFront (log_of magic id head log.gated)) (log_of magic id head log.gated ++ 0 ∷ log.has_log.rest) (log_of magic id head log.gated ++ 0 ∷ []) old new result
-      → BringsTo magic (IsRepaired magic id head log.gated) (λ m. m ≡ synced (log_of magic id head log.gated ++ 0 ∷ [])) old new result
-  brings_cut old new result changes =
+  -- what a cut behind the closed gate makes of this log's bytes, and what opening its head's gate wholly makes of the rest
+  abbrev pub Cuts : {T E : Type 0} → List Moment → List Moment → Result T E → Type 0
+  Cuts old new result = (front following : List ℕ) → end ≡ length front → len ≡ length (front ++ 0 ∷ following) → IsSynced (front ++ 0 ∷ following) old → Changes (HasFront front) (front ++ 0 ∷ following) (front ++ 0 ∷ []) old new result
+
+  abbrev pub OpensHead : {T E : Type 0} → List Moment → List Moment → Result T E → Type 0
+  OpensHead old new result = (front following : List ℕ) → 0 ≡ length front → IsSynced (front ++ head ∷ following) old → Changes (Reopens front head following) (front ++ head ∷ following) (front ++ 1 ∷ following) old new result
+
+  -- once the rest is cut, and once the head's gate is open wholly too
+  abbrev pub BringsCut : {T E : Type 0} → List Moment → List Moment → Result T E → Type 0
+  BringsCut = BringsTo magic (IsRepaired magic id head log.gated) (λ m. m ≡ synced (log_of magic id head log.gated ++ 0 ∷ []))
+
+  abbrev pub BringsHead : {T E : Type 0} → List Moment → List Moment → Result T E → Type 0
+  BringsHead = BringsTo magic (IsRepaired magic id head log.gated) (λ m. m ≡ synced (log_of magic id 1 log.gated ++ 0 ∷ []))
+
+  pub brings_cut : {T E : Type 0} (old new : List Moment) (result : Result T E) → Cuts old new result → IsSynced bytes old → BringsCut old new result
+  brings_cut old new result cuts known =
       let front : List ℕ = log_of magic id head log.gated in
+      let changes = cuts front log.has_log.rest log.place (log.size ∙ ap length log.has_log.spelling) (known_as _ _ _ log.has_log.spelling known) in
       brings_of magic (HasFront front) (IsRepaired magic id head log.gated) (λ m. m ≡ synced (front ++ 0 ∷ [])) (front ++ 0 ∷ log.has_log.rest) (front ++ 0 ∷ []) old new result
       (λ other others. spares_cut magic other id head others log.gated log.has_log.rest log.has_log.gates_open) (repaired_cut magic id head log.gated) (λ m on. on) changes
 
-  pub brings_head : {T E : Type 0} (old new : List Moment) (result : Result T E)
-      → Changes (Reopens [] head ((identity magic id ++ all_gated log.gated) ++ 0 ∷ [])) (log_of magic id head log.gated ++ 0 ∷ []) (log_of magic id 1 log.gated ++ 0 ∷ []) old new result
-      → BringsTo magic (IsRepaired magic id head log.gated) (λ m. m ≡ synced (log_of magic id 1 log.gated ++ 0 ∷ [])) old new result
-  brings_head old new result changes =
+  pub brings_head : {T U E : Type 0} (x : T) (old mid new : List Moment) (result : Result U E) → BringsCut {T = T} {E = E} old mid (Ok x) → OpensHead mid new result → BringsHead old new result
+  brings_head x old mid new result cut opens =
       let tail : List ℕ = (identity magic id ++ all_gated log.gated) ++ 0 ∷ [] in
-      brings_of magic (Reopens [] head tail) (IsRepaired magic id head log.gated) (λ m. m ≡ synced (1 ∷ tail)) (head ∷ tail) (1 ∷ tail) old new result
-      (λ other others. spares_head magic other head others tail) (repaired_head magic id head log.gated) (λ m on. on) changes
+      let P = IsRepaired magic id head log.gated in
+      brings_on magic P (λ m. m ≡ synced (head ∷ tail)) (λ m. m ≡ synced (1 ∷ tail)) old mid new (Ok x) result cut
+      (brings_of magic (Reopens [] head tail) P (λ m. m ≡ synced (1 ∷ tail)) (head ∷ tail) (1 ∷ tail) mid new result
+      (λ other others. spares_head magic other head others tail) (repaired_head magic id head log.gated) (λ m on. on) (opens [] tail refl cut.done))
 
   pub brings_last : {T E : Type 0} (gate : GateByte) (last : IsLast (Some gate) log.gated) (old new : List Moment) (result : Result T E)
       → Changes (Reopens (log_of magic id 1 last.0) gate.byte (framed last.1 ++ 0 ∷ [])) (log_of magic id 1 last.0 ++ gate.byte ∷ (framed last.1 ++ 0 ∷ [])) (log_of magic id 1 last.0 ++ 1 ∷ (framed last.1 ++ 0 ∷ [])) old new result

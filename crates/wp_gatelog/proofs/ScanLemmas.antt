@@ -8,7 +8,7 @@ use Rattle.wp_gatelog.specs.declared.gate.GateByte.{GateByte}
 use Rattle.wp_gatelog.specs.declared.scan.Next.TheVariants as next
 use Rattle.wp_gatelog.specs.declared.scan.Start.{Start}
 use Rattle.wp_gatelog.specs.declared.scan.Start.TheVariants as start
-use Rattle.wp_gatelog.specs.Damage.{counted}
+use Rattle.wp_gatelog.specs.Damage.{stated_length}
 use Rattle.wp_gatelog.specs.Scanning.{IsStart, IsNext, HasRead}
 use Rattle.wp_gatelog.specs.Spelling.{Gated, framed, all_gated}
 use Rattle.wp_gatelog.proofs.AppendLemmas.{length-framed, records_more, all_gated_more}
@@ -36,9 +36,9 @@ start_split bytes gate len h =
     let front : take 9 bytes ≡ gate ∷ to_be_bytes w64 len = h.3 ∙ ap (λ (l : List ℕ). gate ∷ (to_be_bytes w64 len ++ l)) none ∙ ap (λ (l : List ℕ). gate ∷ l) (append-nil (to_be_bytes w64 len)) in
     sym (take-append-drop 9 bytes) ∙ ap (λ (l : List ℕ). l ++ drop 9 bytes) front
 
-pub counted_is : (len : ℕ) (bytes : List ℕ) → len < 2 ^ 64 → counted (to_be_bytes w64 len ++ bytes) ≡ len
-unfolding counted
-counted_is len bytes fits = ap (λ (l : List ℕ). from_be_bytes w64 l) (take_at (to_be_bytes w64 len) bytes 8 refl) ∙ from_be_bytes-to_be_bytes_8 len fits
+pub stated_length_is : (len : ℕ) (bytes : List ℕ) → len < 2 ^ 64 → stated_length (to_be_bytes w64 len ++ bytes) ≡ len
+unfolding stated_length
+stated_length_is len bytes fits = ap (λ (l : List ℕ). from_be_bytes w64 l) (take_at (to_be_bytes w64 len) bytes 8 refl) ∙ from_be_bytes-to_be_bytes_8 len fits
 
 pub next_cut : (bytes : List ℕ) (gate len : ℕ) → length bytes - 9 ≤ len → IsStart (take 9 bytes) (start.Open gate len) → IsNext bytes next.Cut
 next_cut bytes gate len short h = (
@@ -46,7 +46,7 @@ next_cut bytes gate len short h = (
   to_be_bytes w64 len ++ drop 9 bytes,
   h.1,
   start_split bytes gate len h,
-  omega (arith, counted_is len (drop 9 bytes) h.2, length-append (to_be_bytes w64 len) (drop 9 bytes), length-drop 9 bytes),
+  omega (arith, stated_length_is len (drop 9 bytes) h.2, length-append (to_be_bytes w64 len) (drop 9 bytes), length-drop 9 bytes),
 )
 
 pub next_open : (bytes : List ℕ) (gate len : ℕ) (found : List ℕ) → len < length bytes - 9 → IsStart (take 9 bytes) (start.Open gate len) → found ≡ take len (drop 9 bytes) → IsNext bytes (next.Open gate found)

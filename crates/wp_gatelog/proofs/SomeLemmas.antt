@@ -5,7 +5,7 @@ use Rattle.std.proofs.lemmas.List.{append_assoc, take-append-drop, drop-drop, dr
 use Rattle.std.proofs.lemmas.Nat.{be_bytes_4, be_bytes_8}
 use Rattle.std.specs.Int.{w32, w64, to_be_bytes, from_be_bytes}
 use Rattle.wp_outside.specs.Disk.{Each}
-use Rattle.wp_gatelog.specs.Damage.{IsBadHead, IsCut, IsShort, counted}
+use Rattle.wp_gatelog.specs.Damage.{IsBadHead, IsCut, IsShort, stated_length}
 use Rattle.wp_gatelog.specs.Spelling.{Gated, IsOpen, framed, identity, all_gated, log_of, records_of, IsUnmade, Spells}
 use Rattle.wp_gatelog.proofs.HeadLemmas.{identity_spelled}
 
@@ -34,21 +34,21 @@ record Reads (bytes : List ℕ) : Type 0 where
   spelling : bytes ≡ all_gated gated ++ tail
   ends : Ends tail
 
-counted_fits : (following : List ℕ) → 8 ≤ length following → AreBytes following → counted following < 2 ^ 64
-unfolding counted
-counted_fits following within small =
+stated_length_fits : (following : List ℕ) → 8 ≤ length following → AreBytes following → stated_length following < 2 ^ 64
+unfolding stated_length
+stated_length_fits following within small =
     let b = take_bytes 8 following within small in
     omega (arith, b 0, b 1, b 2, b 3, b 4, b 5, b 6, b 7)
 
-number_spelled : (following : List ℕ) → 8 ≤ length following → AreBytes following → to_be_bytes w64 (counted following) ≡ take 8 following
-unfolding counted
+number_spelled : (following : List ℕ) → 8 ≤ length following → AreBytes following → to_be_bytes w64 (stated_length following) ≡ take 8 following
+unfolding stated_length
 number_spelled following within small = be_bytes_8 (take 8 following) (from_be_bytes w64 (take 8 following)) (length-take-le 8 following within) (take_bytes 8 following within small) refl
 
-whole_split : (following : List ℕ) → 9 + counted following ≤ length following → AreBytes following
-    → (length (take (counted following) (drop 8 following)) ≡ counted following) × (following ≡ framed (take (counted following) (drop 8 following)) ++ drop (counted following) (drop 8 following))
+whole_split : (following : List ℕ) → 9 + stated_length following ≤ length following → AreBytes following
+    → (length (take (stated_length following) (drop 8 following)) ≡ stated_length following) × (following ≡ framed (take (stated_length following) (drop 8 following)) ++ drop (stated_length following) (drop 8 following))
 unfolding framed
 whole_split following whole small =
-    let len : ℕ = counted following in
+    let len : ℕ = stated_length following in
     let found : List ℕ = take len (drop 8 following) in
     let rest : List ℕ = drop len (drop 8 following) in
     let size : length found ≡ len = length-take-le len (drop 8 following) (omega (arith, whole, length-drop 8 following)) in
@@ -72,16 +72,16 @@ reads_some zero bytes within some small = absurd (omega arith)
 reads_some (suc n) [] within some small = absurd (omega arith)
 reads_some (suc n) (gate ∷ following) within some small = elim (cases_eq gate 0) [
   | inl shut ↦ record { gated = []; tail = gate ∷ following; gates_open = tt; spelling = refl; ends = inl (following, λ i. shut i ∷ following) }
-  | inr opens ↦ elim (cases_lt (length following) (9 + counted following)) [
+  | inr opens ↦ elim (cases_lt (length following) (9 + stated_length following)) [
     | inl short ↦ record { gated = []; tail = gate ∷ following; gates_open = tt; spelling = refl; ends = inr (gate, following, opens, short, refl) }
     | inr whole ↦
         let bytes : AreBytes following = λ i. small (suc i) in
         let split = whole_split following whole bytes in
-        let rest : List ℕ = drop (counted following) (drop 8 following) in
-        let size : length rest ≡ length following - 8 - counted following = length-drop (counted following) (drop 8 following) ∙ ap (λ (k : ℕ). k - counted following) (length-drop 8 following) in
-        let fits = counted_fits following (omega (arith, whole)) bytes in
-        reads_more gate (take (counted following) (drop 8 following)) rest following (record { gate = opens; length_fits = omega (arith, split.0, fits) }) split.1
-        (reads_some n rest (omega (arith, size, whole, within)) (omega (arith, size, whole)) (drop_bytes (counted following) (drop 8 following) (drop_bytes 8 following bytes)))
+        let rest : List ℕ = drop (stated_length following) (drop 8 following) in
+        let size : length rest ≡ length following - 8 - stated_length following = length-drop (stated_length following) (drop 8 following) ∙ ap (λ (k : ℕ). k - stated_length following) (length-drop 8 following) in
+        let fits = stated_length_fits following (omega (arith, whole)) bytes in
+        reads_more gate (take (stated_length following) (drop 8 following)) rest following (record { gate = opens; length_fits = omega (arith, split.0, fits) }) split.1
+        (reads_some n rest (omega (arith, size, whole, within)) (omega (arith, size, whole)) (drop_bytes (stated_length following) (drop 8 following) (drop_bytes 8 following bytes)))
   ]
 ]
 

@@ -3,6 +3,7 @@ use Rattle.std.proofs.Common.{◌≡◌, ◌≢◌, inl, inr, ℕ, List, [], ◌
 use Rattle.std.proofs.lemmas.Bool.{cases_eq}
 use Rattle.std.proofs.lemmas.List.{append_assoc, map_push}
 use Rattle.wp_outside.specs.Disk.{Moment, IfKnown, IsImage, images, Each, Passes}
+use Rattle.wp_outside.proofs.Moments.{image_of_synced}
 use Rattle.wp_gatelog.specs.Log.{IsAcknowledged, IsAtRest, BeforeOrAfter, Grows}
 use Rattle.wp_gatelog.specs.Repair.{HasFront, IsRepaired}
 use Rattle.wp_gatelog.specs.Moments.{Leaves, Goes}
@@ -10,7 +11,7 @@ use Rattle.wp_gatelog.specs.Opening.{HasMost, Survives, Repairs, SurvivesThrough
 use Rattle.wp_gatelog.specs.Spelling.{Gated, IsOpen, framed, identity, all_gated, log_of, records_of, IsUnmade, Spells}
 use Rattle.wp_gatelog.proofs.AppendLemmas.{records_more, log_more, log_longer}
 use Rattle.wp_gatelog.proofs.RepairLemmas.{each_but_last}
-use Rattle.wp_gatelog.proofs.MomentLemmas.{goes_map, left_now, image_of_synced}
+use Rattle.wp_gatelog.proofs.MomentLemmas.{goes_map, left_now}
 
 -- ---- gates of any byte
 
@@ -19,16 +20,16 @@ shut_unmade [] gate shut = tt
 shut_unmade (b ∷ tail) gate shut = shut
 
 spells_log : (magic : List ℕ) (id head : ℕ) (gated : List Gated) (image : List ℕ) → head ≢ 0 → Each IsOpen gated → HasFront (log_of magic id head gated) image → Spells image magic id (records_of gated)
-spells_log magic id head gated image opened each kept =
-    inr (head, gated, record { rest = kept.0; spelling = kept.1; head_open = opened; gates_open = each }, refl)
+spells_log magic id head gated image opened each more =
+    inr (head, gated, record { rest = more.0; spelling = more.1; head_open = opened; gates_open = each }, refl)
 
 -- a log whose last record's gate is closed ends before that record
 front_closed : (magic : List ℕ) (id head : ℕ) (before : List Gated) (found : List ℕ) (gate : ℕ) (image : List ℕ) → gate ≡ 0 → HasFront (log_of magic id head (before ++ record { gate = gate; bytes = found } ∷ [])) image → HasFront (log_of magic id head before) image
-front_closed magic id head before found gate image shut kept = (
-  framed found ++ 0 ∷ kept.0,
-  kept.1 ∙ ap (λ (l : List ℕ). l ++ 0 ∷ kept.0) (log_more magic id head before gate found)
-      ∙ append_assoc (log_of magic id head before) (gate ∷ framed found) (0 ∷ kept.0)
-      ∙ ap (λ (g : ℕ). log_of magic id head before ++ g ∷ (framed found ++ 0 ∷ kept.0)) shut,
+front_closed magic id head before found gate image shut more = (
+  framed found ++ 0 ∷ more.0,
+  more.1 ∙ ap (λ (l : List ℕ). l ++ 0 ∷ more.0) (log_more magic id head before gate found)
+      ∙ append_assoc (log_of magic id head before) (gate ∷ framed found) (0 ∷ more.0)
+      ∙ ap (λ (g : ℕ). log_of magic id head before ++ g ∷ (framed found ++ 0 ∷ more.0)) shut,
 )
 
 records_push : (before : List Gated) (gate other : ℕ) (found : List ℕ) → records_of (before ++ record { gate = gate; bytes = found } ∷ []) ≡ records_of (before ++ record { gate = other; bytes = found } ∷ [])
@@ -39,7 +40,7 @@ one_open : ◌≡◌ {A = ℕ} 1 0 → ⊥
 one_open e = cc e
 
 repaired_most : (magic : List ℕ) (id head : ℕ) (gated : List Gated) (image : List ℕ) → head ≢ 0 → Each IsOpen gated → IsRepaired magic id head gated image → HasMost magic id head gated image
-repaired_most magic id head gated image opened each (inl kept) = inl (spells_log magic id head gated image opened each kept)
+repaired_most magic id head gated image opened each (inl more) = inl (spells_log magic id head gated image opened each more)
 repaired_most magic id head gated image opened each (inr (inl w)) = elim (cases_eq w.1 0) [
   | inl shut ↦ inr (inl (w.0, inl (subst IsUnmade (sym w.2.1) (shut_unmade ((identity magic id ++ all_gated gated) ++ 0 ∷ w.2.0) w.1 shut), refl)))
   | inr opens ↦ inl (spells_log magic id w.1 gated image opens each w.2)

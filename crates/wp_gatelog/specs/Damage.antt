@@ -9,13 +9,13 @@ pub record IsBadHead (magic bytes : List ℕ) : Type 0 where
   pub made : IsUnmade bytes → ⊥
   pub wrong : (length bytes < 11) ⊎ (take 4 (drop 1 bytes) ≢ magic) ⊎ (slice_index bytes 5 ≢ 1)
 
--- the number in the first eight bytes
-unfoldable pub counted : List ℕ → ℕ
-counted bytes = from_be_bytes w64 (take 8 bytes)
+-- the length that the first eight bytes state
+unfoldable pub stated_length : List ℕ → ℕ
+stated_length bytes = from_be_bytes w64 (take 8 bytes)
 
--- fewer bytes than a length of eight bytes, the bytes that it counts and the next gate
+-- fewer bytes than a length of eight bytes, so many bytes and the next gate
 abbrev pub IsShort : List ℕ → Type 0
-IsShort following = length following < 9 + counted following
+IsShort following = length following < 9 + stated_length following
 
 -- so many whole records follow open gates, and then an open gate comes without a whole record after it
 pub record IsCut (magic : List ℕ) (index : ℕ) (bytes : List ℕ) : Type 0 where

@@ -1,4 +1,4 @@
-pub mod Answers
+pub mod Opens
 pub mod Append
 pub mod Changes
 pub mod Damage
@@ -11,3 +11,4 @@ pub mod Moments
 pub mod Opening
 pub mod Scanning
 pub mod Spelling
+pub mod Left

@@ -1,6 +1,6 @@
 -- What an opening finds, and what it leaves.
 use Rattle.std.specs.Prelude.{◌≡◌, ◌≢◌, ◌⊎◌, ℕ, List, [], ◌∷◌, ◌++◌, ⊤}
-use Rattle.wp_outside.specs.Disk.{Moment, IfKnown, Passes, added, after_sync}
+use Rattle.wp_outside.specs.Disk.{Moment, IfKnown, Passes}
 use Rattle.wp_gatelog.specs.declared.error.LogError.{LogError}
 use Rattle.wp_gatelog.specs.declared.error.LogError.TheVariants.{Memory, DiskFault, BadHead, Cut}
 use Rattle.wp_gatelog.specs.Damage.{IsBadHead, IsCut}
@@ -26,13 +26,6 @@ IsUntouched old new Memory = new ≡ old
 IsUntouched old new DiskFault = ⊤
 IsUntouched old new BadHead = new ≡ old
 IsUntouched old new (Cut index id) = new ≡ old
-
--- the refusal comes after nothing but a sync, but where the disk failed
-abbrev pub IsOnlySynced : List Moment → List Moment → LogError → Type 0
-IsOnlySynced old new Memory = new ≡ added after_sync old
-IsOnlySynced old new DiskFault = ⊤
-IsOnlySynced old new BadHead = new ≡ added after_sync old
-IsOnlySynced old new (Cut index id) = new ≡ added after_sync old
 
 -- While a log is repaired, a crash leaves its records. Where its head's gate was not 01, it may leave none, and where the
 -- last record's was not, it may leave all but that record.

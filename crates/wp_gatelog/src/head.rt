@@ -26,7 +26,7 @@ pub enum Head {
 pub fn read_head<D: Disk>(disk: &mut D, magic: &[u8]) -> Result<Head, Failed>
     requires { length magic.now ≡ 4 }
     ensures found { IfOk result (λ head. IfKnown (D.moments disk.old) (λ m. IsHead magic.now m.reads head)) }
-    ensures kept { D.moments disk.new ≡ D.moments disk.old }
+    ensures unchanged { D.moments disk.new ≡ D.moments disk.old }
     ensures cause { HasCause (D.faults disk.old) (D.faults disk.new) result }
 {
     let mut bytes = [0; 11];

@@ -9,13 +9,13 @@ ghost use Rattle.wp_gatelog.specs.Errors.{FaultRose};
 ghost use Rattle.wp_gatelog.specs.Durability.{HasAcknowledged, LosesNoRecord};
 ghost use Rattle.wp_gatelog.specs.Log.{BeforeOrAfter, IsAtRest, IsFrame, Rests};
 ghost use Rattle.wp_gatelog.specs.Moments.{Leaves};
-ghost use Rattle.wp_gatelog.specs.Opening.{IsFound, IsRefused, IsOnlySynced, SurvivesThrough};
+ghost use Rattle.wp_gatelog.specs.Opening.{IsFound, IsRefused, IsUntouched, SurvivesThrough};
 ghost use Rattle.wp_gatelog.specs.Spelling.{Spells, frame_of};
 
 use crate::device::write_synced;
 use crate::error::{DiskRefused, LogError};
 use crate::gate::OPEN;
-use crate::open::{Found, find};
+use crate::open::{FoundLog, find};
 use crate::record::Record;
 use std::alloc::Global;
 use std::marker::Model;
@@ -80,7 +80,7 @@ impl<D: Disk> GateLog<D> {
         // Each refusal of the bytes comes where they are so.
         ensures refused { IfErr result (λ refused. IfKnown (D.moments disk) (λ m. IsRefused magic m.reads refused.why)) }
         ensures untouched { IfErr result (λ refused.
-            IsOnlySynced (D.moments disk) (D.moments refused.disk) refused.why) }
+            IsUntouched (added after_sync (D.moments disk)) (D.moments refused.disk) refused.why) }
 
         // At each moment since its beginning a crash leaves the bytes as they were found, or a log of their records; but
         // where the head's gate was not 01 it may leave none, and where the last record's was not, all but that one.
@@ -97,7 +97,7 @@ impl<D: Disk> GateLog<D> {
             (λ refused. D.faults disk ≤ D.faults refused.disk) }
     {
         match find(alloc, &mut disk, magic, id) {
-            Ok(Found { id, records, end }) => {
+            Ok(FoundLog { id, records, end }) => {
                 let count = records.len() as u64;
                 let log = GateLog {
                     disk,

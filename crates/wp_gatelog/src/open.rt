@@ -1,11 +1,11 @@
 //! Opening a log.
 
 ghost use Rattle.std.specs.Prelude.{◌≡◌, ℕ, ◌≤◌, ◌^◌, [], List, length, vec_len, IfOk, IfErr};
-ghost use Rattle.wp_outside.specs.Disk.{IfKnown, synced};
-ghost use Rattle.wp_gatelog.specs.Answers.{Opens};
+ghost use Rattle.wp_outside.specs.Disk.{IfKnown, added, after_sync, synced};
+ghost use Rattle.wp_gatelog.specs.Opens.{Opens, HasPlaces};
 ghost use Rattle.wp_gatelog.specs.Errors.{HasLogCause};
 ghost use Rattle.wp_gatelog.specs.Heads.{BeginsLog};
-ghost use Rattle.wp_gatelog.specs.Opening.{IsUntouched, IsOnlySynced};
+ghost use Rattle.wp_gatelog.specs.Opening.{IsUntouched};
 
 use crate::error::LogError;
 use crate::head::{HEAD_LEN, Head, read_head};
@@ -18,7 +18,7 @@ use wp_outside::Disk;
 
 /// What an opening found.
 #[derive(Drop)]
-pub struct Found {
+pub struct FoundLog {
     pub id: u32,
     pub records: Vec<Record>,
     pub end: u64,
@@ -30,12 +30,12 @@ pub fn find<D: Disk>(
     disk: &mut D,
     magic: [u8; 4],
     id: u32,
-) -> Result<Found, LogError>
+) -> Result<FoundLog, LogError>
     requires { length magic ≡ 4 }
     ensures opens { IfKnown (D.moments disk.old)
         (λ m. Opens magic id m.reads (D.moments disk.old) (D.moments disk.new) result) }
-    ensures untouched { IfErr result (IsOnlySynced (D.moments disk.old) (D.moments disk.new)) }
-    ensures places { IfOk result (λ found. (vec_len found.records ≤ found.end) × (found.end ≤ 2 ^ 62)) }
+    ensures untouched { IfErr result (IsUntouched (added after_sync (D.moments disk.old)) (D.moments disk.new)) }
+    ensures places { IfOk result HasPlaces }
     ensures unknown { D.moments disk.old ≡ [] → D.moments disk.new ≡ [] }
     ensures cause { HasLogCause (D.faults disk.old) (D.faults disk.new) result }
 {
@@ -49,12 +49,12 @@ pub fn open_synced<D: Disk>(
     disk: &mut D,
     magic: [u8; 4],
     id: u32,
-) -> Result<Found, LogError>
+) -> Result<FoundLog, LogError>
     requires { length magic ≡ 4 }
     ensures opens { IfKnown (D.moments disk.old) (λ m. m ≡ synced m.reads
         → Opens magic id m.reads (D.moments disk.old) (D.moments disk.new) result) }
     ensures untouched { IfErr result (IsUntouched (D.moments disk.old) (D.moments disk.new)) }
-    ensures places { IfOk result (λ found. (vec_len found.records ≤ found.end) × (found.end ≤ 2 ^ 62)) }
+    ensures places { IfOk result HasPlaces }
     ensures unknown { D.moments disk.old ≡ [] → D.moments disk.new ≡ [] }
     ensures cause { HasLogCause (D.faults disk.old) (D.faults disk.new) result }
 {
@@ -62,7 +62,7 @@ pub fn open_synced<D: Disk>(
     match read_head(disk, &magic)? {
         Head::Unmade => {
             make(disk, len, magic, id)?;
-            Ok(Found {
+            Ok(FoundLog {
                 id,
                 records: Vec::new(alloc),
                 end: HEAD_LEN,
@@ -80,13 +80,13 @@ pub fn open_made<D: Disk>(
     len: u64,
     head: u8,
     id: u32,
-) -> Result<Found, LogError>
+) -> Result<FoundLog, LogError>
     requires { len ≤ 2 ^ 62 }
     ensures opens { (magic : List ℕ) (asked : ℕ) → IfKnown (D.moments disk.old) (λ m. m ≡ synced m.reads
         → BeginsLog magic id head len m.reads
         → Opens magic asked m.reads (D.moments disk.old) (D.moments disk.new) result) }
     ensures untouched { IfErr result (IsUntouched (D.moments disk.old) (D.moments disk.new)) }
-    ensures places { IfOk result (λ found. (vec_len found.records ≤ found.end) × (found.end ≤ 2 ^ 62)) }
+    ensures places { IfOk result HasPlaces }
     ensures unknown { D.moments disk.old ≡ [] → D.moments disk.new ≡ [] }
     ensures cause { HasLogCause (D.faults disk.old) (D.faults disk.new) result }
 {
@@ -95,7 +95,7 @@ pub fn open_made<D: Disk>(
     }
     let scan = read_records(alloc, disk, len, id)?;
     repair(disk, len, head, &scan)?;
-    Ok(Found {
+    Ok(FoundLog {
         id,
         records: scan.records,
         end: scan.end,

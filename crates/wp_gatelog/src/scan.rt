@@ -57,7 +57,7 @@ pub fn read_records<D: Disk>(
     ensures refused { IfErr result (λ why. IfKnown (D.moments disk.old) (λ m. len ≡ length m.reads
         → IsReadFault id (drop 10 m.reads) why)) }
     ensures places { IfOk result (λ scan. (vec_len scan.records ≤ scan.end) × (scan.end < len)) }
-    ensures kept { D.moments disk.new ≡ D.moments disk.old }
+    ensures unchanged { D.moments disk.new ≡ D.moments disk.old }
     ensures fault { IfErr result (FaultRose (D.faults disk.old) (D.faults disk.new)) }
     ensures later { D.faults disk.old ≤ D.faults disk.new }
 {
@@ -90,7 +90,7 @@ fn read_next<D: Disk>(alloc: Global, disk: &mut D, at: u64, len: u64) -> Result<
     ensures found { IfOk result (λ next. IfKnown (D.moments disk.old) (λ m. len ≡ length m.reads
         → IsNext (drop at m.reads) next)) }
     ensures within { IfOk result (EndsWithin at len) }
-    ensures kept { D.moments disk.new ≡ D.moments disk.old }
+    ensures unchanged { D.moments disk.new ≡ D.moments disk.old }
     ensures refused { IfErr result (IsOutside (D.faults disk.old) (D.faults disk.new)) }
     ensures later { D.faults disk.old ≤ D.faults disk.new }
 {
@@ -145,7 +145,7 @@ fn read_bytes<D: Disk>(
     ensures found { IfOk result (λ found. IfKnown (D.moments disk.old) (λ m. at + len ≤ length m.reads
         → IsSomeAnd found (λ bytes. bytes.items ≡ take len (drop at m.reads)))) }
     ensures size { IfOk result (λ found. IfSome found (λ bytes. vec_len bytes ≡ len)) }
-    ensures kept { D.moments disk.new ≡ D.moments disk.old }
+    ensures unchanged { D.moments disk.new ≡ D.moments disk.old }
     ensures refused { IfErr result (IsOutside (D.faults disk.old) (D.faults disk.new)) }
     ensures later { D.faults disk.old ≤ D.faults disk.new }
 {

@@ -10,10 +10,10 @@ use Rattle.wp_model.specs.History.{entry_at, is_prepare, prepared_batch, batch_a
 use Rattle.wp_model.specs.Legal.{changes_in, IsLegal, IsLegalNext, UndoIsClosed, undone_last, prior}
 use Rattle.wp_model.specs.Decision.{version_in, entry_version}
 use Rattle.wp_history.specs.Growth.{undone_by}
-use Rattle.wp_history.proofs.Growth.{entry_at_next, entry_at_past, length_next, by_growth, undecided_prepared}
-use Rattle.wp_history.proofs.Undecided.{undecided_within, undecided_old}
+use Rattle.wp_history.proofs.Growth.{entry_at_next, length_next, by_growth}
+use Rattle.wp_model.proofs.Entries.{entry_at_past, undecided_prepared, undecided_within, batch_at_old}
+use Rattle.wp_history.proofs.Undecided.{undecided_old}
 use Rattle.wp_history.proofs.Undone.{undone_next}
-use Rattle.wp_history.proofs.Newest.{batch_at_old}
 use Rattle.wp_history.proofs.Counting.{entry_version_old}
 use Rattle.wp_history.proofs.Held.{not_free, free_key, prior_to}
 

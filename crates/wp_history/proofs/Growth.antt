@@ -1,38 +1,22 @@
 -- How legal histories grow by an entry, and what is at the old numbers.
-use Rattle.std.proofs.Common.{◌≡◌, ℕ, zero, suc, ◌+◌, ◌^◌, ◌<◌, ◌≤◌, Bool, true, false, ◌||◌, not, List, [], ◌∷◌, ◌++◌, length, take, Some, None, refl, sym, ap, ◌∙◌, subst, ⊎_elim, inl, inr, append_assoc, add-one, length-append, arith}
+use Rattle.std.proofs.Common.{◌≡◌, ℕ, ◌+◌, ◌^◌, ◌<◌, Bool, true, false, ◌||◌, List, [], ◌∷◌, ◌++◌, length, take, Some, refl, sym, ap, ◌∙◌, subst, ⊎_elim, inl, inr, append_assoc, add-one, length-append, arith}
 use Rattle.std.specs.Prelude.{slice_get}
 use Rattle.std.specs.List.{list_any}
 use Rattle.std.proofs.Math.Seq.{take-append_seam}
-use Rattle.std.proofs.lemmas.Bool.{cases_lt, or_cases, and_parts, eqb-true}
+use Rattle.std.proofs.lemmas.Bool.{cases_lt, or_cases, eqb-true}
 use Rattle.std.proofs.lemmas.List.{append-nil, take-append-le}
 use Rattle.std.proofs.lemmas.List.Folds.{list_any-append}
-use Rattle.std.proofs.lemmas.Option.{slice_get_past, slice_get_within}
+use Rattle.std.proofs.lemmas.Option.{slice_get_within}
 use Rattle.wp_model.specs.declared.entry.Entry.{Entry}
 use Rattle.wp_model.specs.declared.entry.Entry.TheVariants.{Write, Prepare, Commit, Undo, Close}
 use Rattle.wp_model.specs.History.{entry_at, is_prepare, decides, is_undecided}
 use Rattle.wp_model.specs.Legal.{IsLegal, IsLegalNext, NamesUndecided}
+use Rattle.wp_model.proofs.Entries.{entry_at_old, entry_at_past, prepared_within, undecided_prepared, slice_get_old, slice_get_next}
 
 -- ---- what is at a number
 
-slice_get_old : (history more : List Entry) (n : ℕ) → n < length history → slice_get (history ++ more) n ≡ slice_get history n
-slice_get_old [] more n lt = absurd (omega arith)
-slice_get_old (first ∷ others) more zero lt = refl
-slice_get_old (first ∷ others) more (suc n) lt = slice_get_old others more n (omega arith)
-
-slice_get_next : (history : List Entry) (entry : Entry) (more : List Entry) → slice_get (history ++ entry ∷ more) (length history) ≡ Some entry
-slice_get_next [] entry more = refl
-slice_get_next (first ∷ others) entry more = slice_get_next others entry more
-
-pub entry_at_old : (history more : List Entry) (p : ℕ) → p ≤ length history → entry_at (history ++ more) p ≡ entry_at history p
-entry_at_old history more zero le = refl
-entry_at_old history more (suc n) le = slice_get_old history more n (omega arith)
-
 pub entry_at_next : (history : List Entry) (entry : Entry) → entry_at (history ++ entry ∷ []) (length history + 1) ≡ Some entry
 entry_at_next history entry = rw add-one (slice_get_next history entry [])
-
-pub entry_at_past : (history : List Entry) (p : ℕ) → length history < p → entry_at history p ≡ None
-entry_at_past history zero lt = absurd (omega arith)
-entry_at_past history (suc n) lt = slice_get_past history n (omega arith)
 
 pub length_next : (history : List Entry) (entry : Entry) → length (history ++ entry ∷ []) ≡ length history + 1
 length_next history entry = length-append history (entry ∷ [])
@@ -91,14 +75,6 @@ by_growth P base step history legal = grow P step [] history legal base
 
 -- ---- decisions
 
-pub prepared_within : (history : List Entry) (p : ℕ) → is_prepare (entry_at history p) ≡ true → (1 ≤ p) × (p ≤ length history)
-prepared_within history zero h = absurd cc
-prepared_within history (suc n) h =
-    elim (cases_lt n (length history)) [
-      | inl lt ↦ (omega arith, omega arith)
-      | inr le ↦ let none : slice_get history n ≡ None = slice_get_past history n le in absurd cc
-    ]
-
 -- what decides a prepare names it, and so finds it undecided
 pub decides_undecided : (history : List Entry) (entry : Entry) (p : ℕ) → NamesUndecided history entry → decides p entry ≡ true → is_undecided history p ≡ true
 decides_undecided history (Write batch) p names h = absurd cc
@@ -106,9 +82,6 @@ decides_undecided history (Prepare name batch) p names h = absurd cc
 decides_undecided history (Commit q) p names h = subst (λ (r : ℕ). is_undecided history r ≡ true) (eqb-true q p h) names
 decides_undecided history (Undo q batch) p names h = absurd cc
 decides_undecided history (Close q) p names h = subst (λ (r : ℕ). is_undecided history r ≡ true) (eqb-true q p h) names
-
-pub undecided_prepared : (history : List Entry) (p : ℕ) → is_undecided history p ≡ true → is_prepare (entry_at history p) ≡ true
-undecided_prepared history p h = (and_parts (is_prepare (entry_at history p)) (not (list_any (decides p) history)) h).0
 
 or_false : (b : Bool) → (b || false) ≡ b
 or_false true = refl

@@ -10,12 +10,10 @@ use Rattle.wp_model.specs.declared.entry.Entry.{Entry}
 use Rattle.wp_model.specs.Batch.{key_of, value_of, change_to}
 use Rattle.wp_model.specs.History.{batch_at, is_undecided, undecided, is_changed, holder_of, newest}
 use Rattle.wp_model.specs.Legal.{AreFree, change_that_leaves, prior}
+use Rattle.wp_model.proofs.Entries.{left_key}
 use Rattle.wp_history.proofs.Undecided.{is_undecided_by_list}
 
 -- ---- free keys
-
-same_bytes : (xs ys : List ℕ) → bytes_eq xs ys ≡ true → xs ≡ ys
-same_bytes xs ys h = (bytes_eq-Decides xs ys).0 h
 
 find_none : (test : ℕ → Bool) (numbers : List ℕ) (p : ℕ) → find test numbers ≡ None → list_any (λ k. eqb k p) numbers ≡ true → test p ≡ false
 find_none test [] p none h = absurd cc
@@ -38,15 +36,11 @@ free_key history [] key free h = absurd cc
 free_key history (first ∷ others) key free h =
     let rest : is_changed others key ≡ true → holder_of history key ≡ None = free_key history others key free.1 in
     elim (bytes_eq (key_of first) key) as (λ b. bytes_eq (key_of first) key ≡ b → is_some (if b then Some (value_of first) else change_to others key) ≡ true → holder_of history key ≡ None) [
-      | true ↦ λ same _. ap (holder_of history) (sym (same_bytes (key_of first) key same)) ∙ free.0
+      | true ↦ λ same _. ap (holder_of history) (sym ((bytes_eq-Decides (key_of first) key).0 same)) ∙ free.0
       | false ↦ λ _ e. rest e
     ] refl h
 
 -- ---- what an undo holds
-
-left_key : (key : List ℕ) (value : Option (List ℕ)) → key_of (change_that_leaves key value) ≡ key
-left_key key (Some value) = refl
-left_key key None = refl
 
 left_value : (key : List ℕ) (value : Option (List ℕ)) → value_of (change_that_leaves key value) ≡ value
 left_value key (Some value) = refl
@@ -59,7 +53,7 @@ prior_to history (first ∷ others) key =
     let rest = prior_to history others key in
     let R : Bool → Type 0 = λ b. (if b then Some (value_of (change_that_leaves (key_of first) value)) else change_to (prior history others) key) ≡ option_map (λ _. newest history key) (if b then Some (value_of first) else change_to others key) in
     let by_key : (b : Bool) → bytes_eq (key_of first) key ≡ b → R b = λ b. elim b as (λ c. bytes_eq (key_of first) key ≡ c → R c) [
-      | true ↦ λ same. ap (λ (v : Option (List ℕ)). Some v) (left_value (key_of first) value ∙ ap (newest history) (same_bytes (key_of first) key same))
+      | true ↦ λ same. ap (λ (v : Option (List ℕ)). Some v) (left_value (key_of first) value ∙ ap (newest history) ((bytes_eq-Decides (key_of first) key).0 same))
       | false ↦ λ _. rest
     ] in
     rw (left_key (key_of first) value) (by_key (bytes_eq (key_of first) key) refl)

@@ -1,5 +1,5 @@
 -- What the store has under a key, entry by entry.
-use Rattle.std.proofs.Common.{◌≡◌, ℕ, ◌+◌, ◌<◌, ◌≤◌, List, [], ◌∷◌, ◌++◌, length, get_or, take, drop, Option, Some, None, refl, sym, ap, ◌∙◌, subst, append_assoc}
+use Rattle.std.proofs.Common.{◌≡◌, ℕ, ◌+◌, ◌<◌, List, [], ◌∷◌, ◌++◌, length, get_or, take, drop, Option, Some, None, refl, sym, ap, ◌∙◌, subst, append_assoc}
 use Rattle.std.specs.Prelude.{fold, unwrap_or}
 use Rattle.std.proofs.lemmas.List.{take-append-drop, take_more}
 use Rattle.std.proofs.lemmas.Option.{slice_get-get_or}
@@ -8,13 +8,10 @@ use Rattle.wp_model.specs.declared.change.Change.{Change}
 use Rattle.wp_model.specs.declared.entry.Entry.{Entry}
 use Rattle.wp_model.specs.declared.entry.Entry.TheVariants.{Write, Prepare, Commit, Undo, Close}
 use Rattle.wp_model.specs.Batch.{change_to}
-use Rattle.wp_model.specs.History.{prepared_batch, batch_at, changes_of, value_after, newest}
+use Rattle.wp_model.specs.History.{changes_of, value_after, newest}
 use Rattle.wp_model.specs.Legal.{IsLegal, IsLegalNext, NamesUndecided}
-use Rattle.wp_history.proofs.Growth.{entry_at_old, by_growth, legal_before}
-use Rattle.wp_history.proofs.Undecided.{undecided_within}
-
-pub batch_at_old : (history more : List Entry) (p : ℕ) → p ≤ length history → batch_at (history ++ more) p ≡ batch_at history p
-batch_at_old history more p le = ap prepared_batch (entry_at_old history more p le)
+use Rattle.wp_model.proofs.Entries.{batch_at_old, undecided_within}
+use Rattle.wp_history.proofs.Growth.{by_growth, legal_before}
 
 -- an entry makes the same changes, whatever follows
 changes_stay : (history more : List Entry) (entry : Entry) → NamesUndecided history entry → changes_of (history ++ more) entry ≡ changes_of history entry

@@ -1,6 +1,6 @@
 -- The newest committed version of a key is the store's value.
 use Rattle.std.proofs.Common.{◌≡◌, ℕ, zero, suc, ◌+◌, ◌<◌, ◌≤◌, Bool, true, false, ◌||◌, cond, List, [], ◌∷◌, ◌++◌, length, take, drop, Option, Some, None, refl, sym, ap, ◌∙◌, subst, inl, inr, arith}
-use Rattle.std.specs.Prelude.{option_map, unwrap_or}
+use Rattle.std.specs.Prelude.{option_map, unwrap_or, is_some}
 use Rattle.std.specs.List.{list_any}
 use Rattle.std.proofs.Math.Seq.{take-append_seam}
 use Rattle.std.proofs.lemmas.List.{take-append-drop, length-take-le}
@@ -11,20 +11,20 @@ use Rattle.wp_model.specs.declared.entry.Entry.TheVariants.{Write, Prepare, Comm
 use Rattle.wp_model.specs.Batch.{change_to}
 use Rattle.wp_model.specs.History.{entry_at, is_prepare, batch_at, decides, is_undecided, newest, value_at}
 use Rattle.wp_model.specs.Legal.{changes_in, IsLegal, IsLegalNext, undone_last, prior}
-use Rattle.wp_model.specs.Decision.{version_in, entry_version, IsNewestCommitted, HasNoneCommitted}
-use Rattle.wp_history.specs.Committed.{counts_in, counts, committed_version}
-use Rattle.wp_history.proofs.Growth.{entry_at_old, entry_at_next, entry_at_past, length_next, by_growth, legal_before, after_front, undecided_prepared, decided_next}
-use Rattle.wp_history.proofs.Undecided.{undecided_within, never_decided}
-use Rattle.wp_history.proofs.Undone.{last_undo}
-use Rattle.wp_history.proofs.Newest.{newest_next, batch_at_old}
-use Rattle.wp_history.proofs.Counting.{counts_within, counts_from, committed_from, entry_version_old}
+use Rattle.wp_model.specs.Decision.{version_in, entry_version, decision_in, IsNewestCommitted, HasNoneCommitted}
+use Rattle.wp_history.specs.Committed.{counts, committed_version}
+use Rattle.wp_history.proofs.Growth.{entry_at_next, length_next, by_growth, legal_before, after_front, decided_next}
+use Rattle.wp_model.proofs.Entries.{entry_at_old, entry_at_past, undecided_prepared, undecided_within, last_undo, batch_at_old}
+use Rattle.wp_history.proofs.Undecided.{never_decided}
+use Rattle.wp_history.proofs.Newest.{newest_next}
+use Rattle.wp_history.proofs.Counting.{decided_any, counts_within, counts_from, committed_from, entry_version_old}
 use Rattle.wp_history.proofs.Held.{prior_to}
 use Rattle.wp_history.proofs.Above.{Holds, NoneAbove, legal_none_above, none_above, undecided_version, is_changed_from}
 
 -- ---- what is committed, with an entry more
 
 none_counts_past : (history : List Entry) (q : ℕ) (key : List ℕ) → length history < q → committed_version history q key ≡ None
-none_counts_past history q key past = ap (λ (at : Option Entry). cond (counts_in history q at) (version_in at key) None) (entry_at_past history q past)
+none_counts_past history q key past = ap (λ (at : Option Entry). cond (is_some (decision_in history q at)) (version_in at key) None) (entry_at_past history q past)
 
 no_version_counts : (history : List Entry) (q : ℕ) (key : List ℕ) → entry_version history q key ≡ None → committed_version history q key ≡ None
 no_version_counts history q key none =
@@ -37,23 +37,23 @@ or_false : (a b : Bool) → b ≡ false → (a || b) ≡ a
 or_false true b e = refl
 or_false false b e = e
 
-counts_as_before : (history : List Entry) (entry : Entry) (q : ℕ) (at : Option Entry) → decides q entry ≡ false → counts_in (history ++ entry ∷ []) q at ≡ counts_in history q at
+counts_as_before : (history : List Entry) (entry : Entry) (q : ℕ) (at : Option Entry) → decides q entry ≡ false → is_some (decision_in (history ++ entry ∷ []) q at) ≡ is_some (decision_in history q at)
 counts_as_before history entry q None other = refl
 counts_as_before history entry q (Some (Write batch)) other = refl
-counts_as_before history entry q (Some (Prepare name batch)) other = decided_next history entry q ∙ or_false (list_any (decides q) history) (decides q entry) other
+counts_as_before history entry q (Some (Prepare name batch)) other = decided_any (history ++ entry ∷ []) q ∙ decided_next history entry q ∙ or_false (list_any (decides q) history) (decides q entry) other ∙ sym (decided_any history q)
 counts_as_before history entry q (Some (Commit p)) other = refl
 counts_as_before history entry q (Some (Undo p batch)) other = refl
 counts_as_before history entry q (Some (Close p)) other = refl
 
 version_stays : (history : List Entry) (entry : Entry) (q : ℕ) (key : List ℕ) → q ≤ length history → decides q entry ≡ false → committed_version (history ++ entry ∷ []) q key ≡ committed_version history q key
 version_stays history entry q key le other =
-    ap (λ (at : Option Entry). cond (counts_in (history ++ entry ∷ []) q at) (version_in at key) None) (entry_at_old history (entry ∷ []) q le)
+    ap (λ (at : Option Entry). cond (is_some (decision_in (history ++ entry ∷ []) q at)) (version_in at key) None) (entry_at_old history (entry ∷ []) q le)
     ∙ ap (λ (b : Bool). cond b (entry_version history q key) None) (counts_as_before history entry q (entry_at history q) other)
 
-counts_decided : (history : List Entry) (p : ℕ) (at : Option Entry) → is_prepare at ≡ true → list_any (decides p) history ≡ true → counts_in history p at ≡ true
+counts_decided : (history : List Entry) (p : ℕ) (at : Option Entry) → is_prepare at ≡ true → list_any (decides p) history ≡ true → is_some (decision_in history p at) ≡ true
 counts_decided history p None prepared decided = absurd cc
 counts_decided history p (Some (Write batch)) prepared decided = absurd cc
-counts_decided history p (Some (Prepare name batch)) prepared decided = decided
+counts_decided history p (Some (Prepare name batch)) prepared decided = decided_any history p ∙ decided
 counts_decided history p (Some (Commit q)) prepared decided = absurd cc
 counts_decided history p (Some (Undo q batch)) prepared decided = absurd cc
 counts_decided history p (Some (Close q)) prepared decided = absurd cc
@@ -63,11 +63,11 @@ decided_version : (history : List Entry) (entry : Entry) (p : ℕ) (key : List �
 decided_version history entry p key undecided it =
     let le = (undecided_within history p undecided).1 in
     let decided : list_any (decides p) (history ++ entry ∷ []) ≡ true = decided_next history entry p ∙ or_right (list_any (decides p) history) (decides p entry) it in
-    ap (λ (at : Option Entry). cond (counts_in (history ++ entry ∷ []) p at) (version_in at key) None) (entry_at_old history (entry ∷ []) p le)
+    ap (λ (at : Option Entry). cond (is_some (decision_in (history ++ entry ∷ []) p at)) (version_in at key) None) (entry_at_old history (entry ∷ []) p le)
     ∙ ap (λ (b : Bool). cond b (entry_version history p key) None) (counts_decided (history ++ entry ∷ []) p (entry_at history p) (undecided_prepared history p undecided) decided)
 
-next_version : (history : List Entry) (entry : Entry) (key : List ℕ) → committed_version (history ++ entry ∷ []) (length history + 1) key ≡ cond (counts_in (history ++ entry ∷ []) (length history + 1) (Some entry)) (change_to (changes_in entry) key) None
-next_version history entry key = ap (λ (at : Option Entry). cond (counts_in (history ++ entry ∷ []) (length history + 1) at) (version_in at key) None) (entry_at_next history entry)
+next_version : (history : List Entry) (entry : Entry) (key : List ℕ) → committed_version (history ++ entry ∷ []) (length history + 1) key ≡ cond (is_some (decision_in (history ++ entry ∷ []) (length history + 1) (Some entry))) (change_to (changes_in entry) key) None
+next_version history entry key = ap (λ (at : Option Entry). cond (is_some (decision_in (history ++ entry ∷ []) (length history + 1) at)) (version_in at key) None) (entry_at_next history entry)
 
 -- ---- the law at one key
 
@@ -215,7 +215,7 @@ close_lawful history p key legal after lawful =
 
 prepare_version : (history : List Entry) (name : List ℕ) (batch : List Change) (key : List ℕ) → IsLegal history → committed_version (history ++ Prepare name batch ∷ []) (length history + 1) key ≡ None
 prepare_version history name batch key legal =
-    let decided : list_any (decides (length history + 1)) (history ++ Prepare name batch ∷ []) ≡ false = decided_next history (Prepare name batch) (length history + 1) ∙ or_false _ false refl ∙ never_decided history legal in
+    let decided : is_some (decision_in (history ++ Prepare name batch ∷ []) (length history + 1) (Some (Prepare name batch))) ≡ false = decided_any (history ++ Prepare name batch ∷ []) (length history + 1) ∙ decided_next history (Prepare name batch) (length history + 1) ∙ or_false _ false refl ∙ never_decided history legal in
     next_version history (Prepare name batch) key ∙ ap (λ (b : Bool). cond b (change_to batch key) None) decided
 
 lawful_next : (history : List Entry) (entry : Entry) (key : List ℕ) → IsLegal history → IsLegalNext history entry → IsLawful history key → IsLawful (history ++ entry ∷ []) key

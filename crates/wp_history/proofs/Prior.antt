@@ -1,8 +1,7 @@
 -- What the keys of a batch have in the store: the batch of an undo.
-use Rattle.std.proofs.Common.{arith, ◌≡◌, ℕ, ◌+◌, ◌<◌, Bool, true, false, ◌&&◌, List, [], ◌∷◌, ◌++◌, length, get_or, take, drop, Option, Some, None, refl, sym, ap, ◌∙◌}
+use Rattle.std.proofs.Common.{arith, ◌≡◌, ℕ, ◌+◌, ◌<◌, Bool, true, false, ◌&&◌, List, [], ◌∷◌, ◌++◌, length, get_or, take, drop, Some, None, refl, sym, ap, ◌∙◌}
 use Rattle.std.specs.Prelude.{◌==◌, nat_le}
-use Rattle.std.specs.declared.cmp.Ordering.{Ordering}
-use Rattle.std.specs.declared.cmp.Ordering.TheVariants.{Less, Equal, Greater}
+use Rattle.std.specs.declared.cmp.Ordering.TheVariants.{Less, Greater}
 use Rattle.std.specs.Ordering.{is_lt, ordering_reverse}
 use Rattle.std.specs.Cmp.Lexicographic.{pointwise, told_text}
 use Rattle.std.proofs.Math.Seq.{take-length}
@@ -16,6 +15,8 @@ use Rattle.wp_model.specs.declared.entry.Entry.{Entry}
 use Rattle.wp_model.specs.Batch.{key_cmp, key_of, with_change, are_ascending, is_batch}
 use Rattle.wp_model.specs.History.{newest, value_at}
 use Rattle.wp_model.specs.Legal.{change_that_leaves, prior}
+use Rattle.wp_model.proofs.BatchLemmas.{less_from_test, ascending_rest}
+use Rattle.wp_model.proofs.Entries.{left_key}
 
 -- ---- one change
 
@@ -48,17 +49,8 @@ del_restores history key other n change r whole found del keys =
 
 -- ---- ascending changes
 
-less_from_test : (o : Ordering) → is_lt o ≡ true → o ≡ Less
-less_from_test Less h = refl
-less_from_test Equal h = absurd cc
-less_from_test Greater h = absurd cc
-
 ascending_parts : (first second : Change) (others : List Change) → are_ascending (first ∷ second ∷ others) ≡ true → (is_lt (key_cmp (key_of first) (key_of second)) ≡ true) × (are_ascending (second ∷ others) ≡ true)
 ascending_parts first second others h = and_parts (is_lt (key_cmp (key_of first) (key_of second))) (are_ascending (second ∷ others)) h
-
-ascending_rest : (first : Change) (others : List Change) → are_ascending (first ∷ others) ≡ true → are_ascending others ≡ true
-ascending_rest first [] h = refl
-ascending_rest first (second ∷ others) h = (ascending_parts first second others h).1
 
 ascending_front : (changes more : List Change) → are_ascending (changes ++ more) ≡ true → are_ascending changes ≡ true
 ascending_front [] more h = refl
@@ -81,10 +73,6 @@ with_change_last (first ∷ others) last h =
 
 -- ---- change by change
 
-key_stays : (key : List ℕ) (value : Option (List ℕ)) → key_of (change_that_leaves key value) ≡ key
-key_stays key (Some value) = refl
-key_stays key None = refl
-
 abbrev restored : List Entry → Change → Change
 restored history change = change_that_leaves (key_of change) (newest history (key_of change))
 
@@ -93,8 +81,8 @@ prior_ascending history [] = refl
 prior_ascending history (first ∷ []) = refl
 prior_ascending history (first ∷ second ∷ others) =
     let Q : List ℕ → List ℕ → Bool → Bool = λ a b rest. is_lt (key_cmp a b) && rest in
-    ap (λ (a : List ℕ). Q a (key_of (restored history second)) (are_ascending (prior history (second ∷ others)))) (key_stays (key_of first) (newest history (key_of first)))
-    ∙ ap (λ (b : List ℕ). Q (key_of first) b (are_ascending (prior history (second ∷ others)))) (key_stays (key_of second) (newest history (key_of second)))
+    ap (λ (a : List ℕ). Q a (key_of (restored history second)) (are_ascending (prior history (second ∷ others)))) (left_key (key_of first) (newest history (key_of first)))
+    ∙ ap (λ (b : List ℕ). Q (key_of first) b (are_ascending (prior history (second ∷ others)))) (left_key (key_of second) (newest history (key_of second)))
     ∙ ap (Q (key_of first) (key_of second)) (prior_ascending history (second ∷ others))
 
 prior_take : (history : List Entry) (changes : List Change) (i : ℕ) (here : Change) → i < length changes → here ≡ get_or changes i here → prior history (take (i + 1) changes) ≡ prior history (take i changes) ++ restored history here ∷ []

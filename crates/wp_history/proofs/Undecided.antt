@@ -12,7 +12,8 @@ use Rattle.wp_model.specs.History.{entry_at, is_prepare, decides, is_undecided, 
 use Rattle.wp_model.specs.Legal.{IsLegal, IsLegalNext, NamesUndecided, undone_last}
 use Rattle.wp_history.specs.Growth.{without_decided, undecided_after}
 use Rattle.wp_history.specs.History.{IsLegalWith}
-use Rattle.wp_history.proofs.Growth.{entry_at_old, entry_at_next, length_next, legal_next, prepared_within, decides_undecided, decided_next, decided_prepared, undecided_prepared}
+use Rattle.wp_model.proofs.Entries.{undecided_within, entry_at_old, prepared_within}
+use Rattle.wp_history.proofs.Growth.{entry_at_next, length_next, legal_next, decides_undecided, decided_next, decided_prepared}
 
 -- ---- numbers in a row
 
@@ -44,9 +45,6 @@ any_in_range a (suc n) p le lt =
     ]
 
 -- ---- the test by the list
-
-pub undecided_within : (history : List Entry) (p : ℕ) → is_undecided history p ≡ true → (1 ≤ p) × (p ≤ length history)
-undecided_within history p h = prepared_within history p (undecided_prepared history p h)
 
 among_undecided : (history : List Entry) (p : ℕ) (b : Bool) → is_undecided history p ≡ b → (b && list_any (λ k. eqb k p) (range_with_len 1 (length history))) ≡ b
 among_undecided history p true e = let within = undecided_within history p e in any_in_range 1 (length history) p within.0 (omega (arith, within.1))

@@ -1,8 +1,9 @@
 -- What an entry more leaves undecided, and what it undoes.
-use Rattle.std.specs.Prelude.{ℕ, ◌==◌, not, List, [], ◌∷◌, ◌++◌, Option, Some, None}
+use Rattle.std.specs.Prelude.{ℕ, ◌==◌, not, List, [], ◌∷◌, ◌++◌, Option}
 use Rattle.std.specs.List.{filter}
 use Rattle.wp_model.specs.declared.entry.Entry.{Entry}
 use Rattle.wp_model.specs.declared.entry.Entry.TheVariants.{Write, Prepare, Commit, Undo, Close}
+use Rattle.wp_model.specs.Legal.{undone_last}
 
 -- the numbers but for this one
 abbrev pub without_decided : List ℕ → ℕ → List ℕ
@@ -19,5 +20,4 @@ undecided_after numbers n (Close p) = without_decided numbers p
 
 -- the prepare that an entry undoes, if it undoes one
 abbrev pub undone_by : Entry → Option ℕ
-undone_by (Undo p batch) = Some p
-undone_by other = None
+undone_by entry = undone_last (entry ∷ [])

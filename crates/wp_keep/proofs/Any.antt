@@ -1,12 +1,14 @@
 -- Which versions of a key pass a test, of those before a version and of those after it.
 use Rattle.std.proofs.Common.{◌≡◌, ℕ, Bool, true, false, ◌&&◌, ◌||◌, Less, List, [], ◌∷◌, ◌++◌, nat_le, nat_lt, refl, sym, ap, ◌∙◌, arith}
-use Rattle.std.specs.List.{list_any}
+use Rattle.std.specs.List.{AllByRecursion, list_any}
 use Rattle.std.specs.Str.{bytes_eq}
 use Rattle.std.proofs.lemmas.Bool.{false≢true, lt-ltb, le-ltb, le-leb, lt-leb, or_from}
 use Rattle.std.proofs.lemmas.List.Folds.{list_any-append}
+use Rattle.std.proofs.lemmas.Slice.Eq.{bytes_eq-Decides}
 use Rattle.wp_model.specs.declared.version.Version.{Version}
 use Rattle.wp_model.specs.Versions.{version_cmp}
-use Rattle.wp_keep.proofs.Order.{IsAfter, IsBefore, IsPlaced, same_version_key, bytes_eq-same, newer_number, between}
+use Rattle.wp_model.proofs.VersionLists.{IsBefore}
+use Rattle.wp_keep.proofs.Order.{IsAfter, IsPlaced, bytes_eq-same, newer_number, between}
 
 -- a version of the key is among them that passes the test
 abbrev pub any_of : List ℕ → (Version → Bool) → List Version → Bool
@@ -28,7 +30,7 @@ and_false true b c h = ap (λ x. x && c) (h refl)
 and_false false b c h = refl
 
 other_way : (a b : List ℕ) → bytes_eq a b ≡ true → bytes_eq b a ≡ true
-other_way a b h = ap (λ k. bytes_eq k a) (sym (same_version_key a b h)) ∙ bytes_eq-same a
+other_way a b h = ap (λ k. bytes_eq k a) (sym ((bytes_eq-Decides a b).0 h)) ∙ bytes_eq-same a
 
 module _ (g : Version → Bool) where
   abbrev newer_passes : Version → Version → Bool
@@ -70,24 +72,25 @@ module _ (g : Version → Bool) where
       list_any-append (older_passes v) front (v ∷ back)
       ∙ or_with _ _ _ _ (older_front v front place.after) (or_with _ _ _ _ here (older_back v back place.before))
 
+  none_of_key : (v u : Version) (vs : List Version) → AllByRecursion (λ w. w.key ≡ u.key → v.key ≡ u.key) vs → bytes_eq v.key u.key ≡ false → any_of u.key g vs ≡ false
+  none_of_key v u [] h other = refl
+  none_of_key v u (w ∷ ws) h other = or_from (bytes_eq w.key u.key && g w) (any_of u.key g ws) (by (bytes_eq w.key u.key) refl) (none_of_key v u ws h.1 other)
+    where
+      by : (b : Bool) → bytes_eq w.key u.key ≡ b → (b && g w) ≡ false
+      by false e = refl
+      by true e = absurd (false≢true (sym other ∙ (bytes_eq-Decides v.key u.key).1 (h.0 ((bytes_eq-Decides w.key u.key).0 e))))
+
   -- none of another key is beyond a version that is not of that key
   pub none_passed : (v u : Version) (front : List Version) → IsAfter v front → version_cmp v u ≡ Less → bytes_eq v.key u.key ≡ false → any_of u.key g front ≡ false
-  none_passed v u [] h less other = refl
-  none_passed v u (w ∷ ws) h less other = or_from (bytes_eq w.key u.key && g w) (any_of u.key g ws) (by (bytes_eq w.key u.key) refl) (none_passed v u ws h.1 less other)
+  none_passed v u front h less other = none_of_key v u front (each front h) other
     where
-      by : (b : Bool) → bytes_eq w.key u.key ≡ b → (b && g w) ≡ false
-      by false e = refl
-      by true e =
-          let same = same_version_key w.key u.key e in
-          let keys : v.key ≡ u.key = between w v u h.0 less same ∙ same in
-          absurd (false≢true (sym other ∙ ap (λ k. bytes_eq k u.key) keys ∙ bytes_eq-same u.key))
+      each : (ws : List Version) → IsAfter v ws → AllByRecursion (λ w. w.key ≡ u.key → v.key ≡ u.key) ws
+      each [] h = tt
+      each (w ∷ ws) h = (λ same. between w v u h.0 less same ∙ same, each ws h.1)
 
   pub none_ahead : (v u : Version) (back : List Version) → IsBefore v back → version_cmp u v ≡ Less → bytes_eq v.key u.key ≡ false → any_of u.key g back ≡ false
-  none_ahead v u [] h less other = refl
-  none_ahead v u (w ∷ ws) h less other = or_from (bytes_eq w.key u.key && g w) (any_of u.key g ws) (by (bytes_eq w.key u.key) refl) (none_ahead v u ws h.1 less other)
+  none_ahead v u back h less other = none_of_key v u back (each back h) other
     where
-      by : (b : Bool) → bytes_eq w.key u.key ≡ b → (b && g w) ≡ false
-      by false e = refl
-      by true e =
-          let keys : v.key ≡ u.key = between u v w less h.0 (sym (same_version_key w.key u.key e)) in
-          absurd (false≢true (sym other ∙ ap (λ k. bytes_eq k u.key) keys ∙ bytes_eq-same u.key))
+      each : (ws : List Version) → IsBefore v ws → AllByRecursion (λ w. w.key ≡ u.key → v.key ≡ u.key) ws
+      each [] h = tt
+      each (w ∷ ws) h = (λ same. between u v w less h.0 (sym same), each ws h.1)

@@ -4,18 +4,16 @@ use Rattle.std.specs.Option.{option_or}
 use Rattle.std.specs.List.{filter, list_any}
 use Rattle.std.specs.Str.{bytes_eq}
 use Rattle.std.proofs.lemmas.Bool.{and_parts, or_left, or_right, eqb-true, eq-eqb}
+use Rattle.std.proofs.lemmas.Slice.Eq.{bytes_eq-Decides}
 use Rattle.wp_model.specs.declared.version.Version.{Version}
 use Rattle.wp_model.specs.Versions.{AreInOrder, version_at}
-use Rattle.wp_keep.proofs.Order.{IsBefore, in_order_parts, same_version_key, bytes_eq-same, newer_number}
+use Rattle.wp_model.proofs.VersionLists.{IsBefore, in_order_parts, or_cond}
+use Rattle.wp_keep.proofs.Order.{bytes_eq-same, newer_number}
 
 abbrev pub version : List ℕ → ℕ → Option (List ℕ) → Version
 version key p value = record { key = key; number = p; value = value }
 
 -- ---- two lists
-
-or_cond : (b : Bool) (v : Option (List ℕ)) (x y : Option (Option (List ℕ))) → cond b (Some v) (option_or x y) ≡ option_or (cond b (Some v) x) y
-or_cond true v x y = refl
-or_cond false v x y = refl
 
 pub at_both : (xs ys : List Version) (key : List ℕ) (p : ℕ) → version_at (xs ++ ys) key p ≡ option_or (version_at xs key p) (version_at ys key p)
 at_both [] ys key p = refl
@@ -38,7 +36,7 @@ module _ (key : List ℕ) (p : ℕ) where
   is_version : (v : Version) (value : Option (List ℕ)) → is_here v ≡ true → Some v.value ≡ Some value → v ≡ version key p value
   is_version v value h e =
       let parts = and_parts (bytes_eq v.key key) (v.number == p) h in
-      let keys : v.key ≡ key = same_version_key v.key key parts.0 in
+      let keys : v.key ≡ key = (bytes_eq-Decides v.key key).0 parts.0 in
       let numbers : v.number ≡ p = eqb-true v.number p parts.1 in
       let values : v.value ≡ value = cc in
       λ i. record { key = keys i; number = numbers i; value = values i }
@@ -86,7 +84,7 @@ module _ (key : List ℕ) (p : ℕ) where
       by true there rest =
           let first = and_parts (bytes_eq v.key key) (v.number == p) here in
           let second = and_parts (bytes_eq w.key key) (w.number == p) there in
-          let keys : v.key ≡ w.key = same_version_key v.key key first.0 ∙ sym (same_version_key w.key key second.0) in
+          let keys : v.key ≡ w.key = (bytes_eq-Decides v.key key).0 first.0 ∙ sym ((bytes_eq-Decides w.key key).0 second.0) in
           let less : w.number < v.number = newer_number v w before.0 (ap (λ k. bytes_eq v.key k) (sym keys) ∙ bytes_eq-same v.key) in
           let a : v.number ≡ p = eqb-true v.number p first.1 in
           let b : w.number ≡ p = eqb-true w.number p second.1 in

@@ -7,11 +7,12 @@ use Rattle.std.specs.Ordering.{nat_cmp}
 use Rattle.std.specs.FinMap as map
 use Rattle.std.proofs.lemmas.List.Folds.{list_any-append}
 use Rattle.std.proofs.lemmas.List.Elements.{filter-append}
+use Rattle.std.proofs.lemmas.Slice.Eq.{bytes_eq-Decides}
 use Rattle.wp_model.specs.declared.version.Version.{Version}
 use Rattle.wp_model.specs.Versions.{AreInOrder, version_cmp}
 use Rattle.wp_keep.specs.Keep.{is_by, by_commits, has_newer, is_needed, stays}
 use Rattle.wp_keep.specs.Newer.{is_above}
-use Rattle.wp_keep.proofs.Order.{IsAfter, placed_version, after_parts, same_version_key}
+use Rattle.wp_keep.proofs.Order.{IsAfter, placed_version, after_parts}
 use Rattle.wp_keep.proofs.Any.{any_of, any_newer, none_passed}
 
 abbrev pub Commits : Type 0
@@ -58,7 +59,7 @@ noted_more commits front v noted next commit is note after had = record { each =
           where
             at_key : (b : Bool) → bytes_eq v.key u.key ≡ b → (b && (is_above noted v.key n || is_by commit n)) ≡ (any_of u.key (λ w. by_commits commits w.number n) front || ((b && by_commits commits v.number n) || false))
             at_key true same =
-                let keys = same_version_key v.key u.key same in
+                let keys = (bytes_eq-Decides v.key u.key).0 same in
                 (λ i. had.each v after n i || is_by (is i) n)
                 ∙ ap (λ k. any_of k (λ w. by_commits commits w.number n) front || by_commits commits v.number n) keys
                 ∙ or_last (any_of u.key (λ w. by_commits commits w.number n) front) (by_commits commits v.number n)
@@ -92,14 +93,14 @@ noted_at commits all i v noted next commit order within is own note had =
     subst (λ vs. HasNoted commits vs next) (sym (take_next all i v within is)) (noted_more commits (take i all) v noted next commit own note place.after had)
 
 -- the versions so far, and this one where it is needed
-pub kept_at : (commits : Commits) (all : List Version) (i : ℕ) (v : Version) (snapshots : List ℕ) (floor : ℕ) (noted : Option (List ℕ × ℕ)) (commit above : Option ℕ) (needed : Bool) (kept next : List Version) → AreInOrder all → i < length all → v ≡ get_or all i v → HasNoted commits (take i all) noted → commit ≡ map.get commits v.number → ((n : ℕ) → is_by above n ≡ is_above noted v.key n) → needed ≡ is_needed (is_by commit) (is_by above) snapshots floor → kept ≡ filter (stays (by_commits commits) all snapshots floor) (take i all) → next ≡ cond needed (kept ++ v ∷ []) kept → next ≡ filter (stays (by_commits commits) all snapshots floor) (take (i + 1) all)
-kept_at commits all i v snapshots floor noted commit above needed kept next order within is had own tells test before pushed =
+pub retained_at : (commits : Commits) (all : List Version) (i : ℕ) (v : Version) (snapshots : List ℕ) (floor : ℕ) (noted : Option (List ℕ × ℕ)) (commit above : Option ℕ) (needed : Bool) (retained next : List Version) → AreInOrder all → i < length all → v ≡ get_or all i v → HasNoted commits (take i all) noted → commit ≡ map.get commits v.number → ((n : ℕ) → is_by above n ≡ is_above noted v.key n) → needed ≡ is_needed (is_by commit) (is_by above) snapshots floor → retained ≡ filter (stays (by_commits commits) all snapshots floor) (take i all) → next ≡ cond needed (retained ++ v ∷ []) retained → next ≡ filter (stays (by_commits commits) all snapshots floor) (take (i + 1) all)
+retained_at commits all i v snapshots floor noted commit above needed retained next order within is had own tells test before pushed =
     pushed
     ∙ by needed (test ∙ stays_by commits all (take i all) v (drop (suc i) all) snapshots floor noted commit above (split_at all i v within is) order had own tells)
     ∙ ap (λ vs. vs ++ filter (stays (by_commits commits) all snapshots floor) (v ∷ [])) before
     ∙ sym (filter-append (stays (by_commits commits) all snapshots floor) (take i all) (v ∷ []))
     ∙ ap (filter (stays (by_commits commits) all snapshots floor)) (sym (take_next all i v within is))
   where
-    by : (b : Bool) → b ≡ stays (by_commits commits) all snapshots floor v → cond b (kept ++ v ∷ []) kept ≡ kept ++ cond (stays (by_commits commits) all snapshots floor v) (v ∷ []) []
-    by true e = ap (λ c. kept ++ cond c (v ∷ []) []) e
-    by false e = sym (append-nil kept) ∙ ap (λ c. kept ++ cond c (v ∷ []) []) e
+    by : (b : Bool) → b ≡ stays (by_commits commits) all snapshots floor v → cond b (retained ++ v ∷ []) retained ≡ retained ++ cond (stays (by_commits commits) all snapshots floor v) (v ∷ []) []
+    by true e = ap (λ c. retained ++ cond c (v ∷ []) []) e
+    by false e = sym (append-nil retained) ∙ ap (λ c. retained ++ cond c (v ∷ []) []) e

@@ -1,37 +1,28 @@
 -- What the order of versions says of two and of three of them.
 use Rattle.std.proofs.Common.{◌≡◌, ℕ, ◌<◌, Bool, true, false, cond, Less, Equal, Greater, List, [], ◌∷◌, ◌++◌, refl, sym, ap, ◌∙◌}
 use Rattle.std.specs.declared.cmp.Ordering.{Ordering}
-use Rattle.std.specs.Ordering.{nat_cmp, ordering_then, is_eq}
+use Rattle.std.specs.Ordering.{nat_cmp, ordering_then}
 use Rattle.std.specs.Str.{bytes_eq}
 use Rattle.std.specs.List.{AllByRecursion, filter}
-use Rattle.std.specs.List.Sorted.{IsStrictlySortedBy}
 use Rattle.std.proofs.lemmas.Map.Lookups.{exact_bytes}
 use Rattle.std.proofs.lemmas.Map.Text.{is_eq-slice_cmp}
 use Rattle.std.proofs.lemmas.Cmp.{ranked, tied_itself, nat_list_cmp_total}
+use Rattle.std.specs.Cmp.{Equal-is}
+use Rattle.std.proofs.lemmas.Slice.Eq.{bytes_eq-Decides}
 use Rattle.wp_model.specs.Batch.{key_cmp}
 use Rattle.wp_model.specs.declared.version.Version.{Version}
 use Rattle.wp_model.specs.Versions.{AreInOrder, version_cmp}
-
-equal_from_test : (o : Ordering) → is_eq o ≡ true → o ≡ Equal
-equal_from_test Less h = absurd cc
-equal_from_test Equal h = refl
-equal_from_test Greater h = absurd cc
-
-tied_keys : (a b : List ℕ) → bytes_eq a b ≡ true → key_cmp a b ≡ Equal
-tied_keys a b h = equal_from_test (key_cmp a b) (is_eq-slice_cmp a b ∙ h)
-
-pub same_version_key : (a b : List ℕ) → bytes_eq a b ≡ true → a ≡ b
-same_version_key a b h = exact_bytes a b (tied_keys a b h)
+use Rattle.wp_model.proofs.VersionLists.{IsBefore, in_order_parts, in_order_cons}
 
 pub bytes_eq-same : (a : List ℕ) → bytes_eq a a ≡ true
-bytes_eq-same a = sym (is_eq-slice_cmp a a) ∙ ap is_eq (tied_itself nat_list_cmp_total a)
+bytes_eq-same a = (bytes_eq-Decides a a).1 refl
 
 -- ---- two versions
 
 -- of two versions of a key the one that is first has the greater number
 pub newer_number : (w v : Version) → version_cmp w v ≡ Less → bytes_eq w.key v.key ≡ true → v.number < w.number
 newer_number w v less same =
-    let numbers : nat_cmp v.number w.number ≡ Less = sym (ap (λ o. ordering_then o (nat_cmp v.number w.number)) (tied_keys w.key v.key same)) ∙ less in
+    let numbers : nat_cmp v.number w.number ≡ Less = sym (ap (λ o. ordering_then o (nat_cmp v.number w.number)) ((Equal-is _).0 (is_eq-slice_cmp w.key v.key ∙ same))) ∙ less in
     ranked v.number w.number Less (sym numbers)
 
 -- ---- three versions
@@ -64,21 +55,9 @@ between u v w first second same = by (key_cmp u.key v.key) refl
 abbrev pub IsAfter : Version → List Version → Type 0
 IsAfter v versions = AllByRecursion (λ w. version_cmp w v ≡ Less) versions
 
--- all of these are after v
-abbrev pub IsBefore : Version → List Version → Type 0
-IsBefore v versions = AllByRecursion (λ w. version_cmp v w ≡ Less) versions
-
 pub record IsPlaced (front : List Version) (v : Version) (back : List Version) : Type 0 where
   pub after : IsAfter v front
   pub before : IsBefore v back
-
-pub in_order_parts : (v : Version) (vs : List Version) → AreInOrder (v ∷ vs) → IsBefore v vs × AreInOrder vs
-unfolding IsStrictlySortedBy
-in_order_parts v vs h = h
-
-pub in_order_cons : (v : Version) (vs : List Version) → IsBefore v vs → AreInOrder vs → AreInOrder (v ∷ vs)
-unfolding IsStrictlySortedBy
-in_order_cons v vs before rest = (before, rest)
 
 before_at : (w : Version) (front : List Version) (v : Version) (back : List Version) → IsBefore w (front ++ v ∷ back) → version_cmp w v ≡ Less
 before_at w [] v back h = h.0

@@ -1,19 +1,19 @@
 -- What an undo that ends a legal history undoes, and what is undecided.
-use Rattle.std.proofs.Common.{◌≡◌, ℕ, zero, suc, ◌<◌, ◌≤◌, Bool, true, false, not, cond, List, [], ◌∷◌, ◌++◌, length, Option, Some, None, refl, sym, ap, ◌∙◌, subst, arith, length-append}
-use Rattle.std.specs.Prelude.{slice_get, option_map}
+use Rattle.std.proofs.Common.{◌≡◌, ℕ, suc, ◌<◌, ◌≤◌, Bool, true, false, not, cond, List, [], ◌∷◌, ◌++◌, length, Option, Some, None, refl, sym, ap, ◌∙◌, subst, arith, length-append}
+use Rattle.std.specs.Prelude.{option_map}
 use Rattle.std.specs.List.{list_any, position}
 use Rattle.std.specs.Str.{bytes_eq}
 use Rattle.std.proofs.Math.Seq.{take-append_seam}
 use Rattle.std.proofs.lemmas.Bool.{and_parts, and_from, not-true, or_from, not_from_false}
 use Rattle.std.proofs.lemmas.List.Folds.{list_any-append, list_any_at}
 use Rattle.std.proofs.lemmas.List.Quantifiers.{position-Some}
-use Rattle.std.proofs.lemmas.Option.{slice_get_past, slice_get_within}
 use Rattle.wp_model.specs.declared.change.Change.{Change}
 use Rattle.wp_model.specs.declared.entry.Entry.{Entry}
 use Rattle.wp_model.specs.declared.entry.Entry.TheVariants.{Write, Prepare, Commit, Undo, Close}
 use Rattle.wp_model.specs.Batch.{key_of, value_of, change_to}
 use Rattle.wp_model.specs.History.{entry_at, is_prepare, batch_at, prepared_batch, decides, is_undecided, newest}
 use Rattle.wp_model.specs.Legal.{IsLegal, IsLegalNext, undone_last, change_that_leaves, prior}
+use Rattle.wp_model.proofs.Entries.{slice_get_next, entry_at_old, prepared_within, left_key, last_undo}
 use Rattle.wp_model.specs.Decision.{version_in, entry_version, decision_in, IsCommittedAt}
 
 -- ---- undecided
@@ -40,65 +40,7 @@ undecided_uncommitted history p n undecided committed =
 
 -- ---- what is at a number
 
-slice_get_old : (history more : List Entry) (n : ℕ) → n < length history → slice_get (history ++ more) n ≡ slice_get history n
-slice_get_old [] more n lt = absurd (omega arith)
-slice_get_old (first ∷ others) more zero lt = refl
-slice_get_old (first ∷ others) more (suc n) lt = slice_get_old others more n (omega arith)
-
-slice_get_next : (history : List Entry) (entry : Entry) → slice_get (history ++ entry ∷ []) (length history) ≡ Some entry
-slice_get_next [] entry = refl
-slice_get_next (first ∷ others) entry = slice_get_next others entry
-
-pub entry_past : (history : List Entry) (p : ℕ) → length history < p → entry_at history p ≡ None
-entry_past history zero lt = absurd (omega arith)
-entry_past history (suc n) lt = slice_get_past history n (omega arith)
-
-prepare_within : (history : List Entry) (p : ℕ) → is_prepare (entry_at history p) ≡ true → p ≤ length history
-prepare_within history zero h = omega arith
-prepare_within history (suc n) h = by (slice_get history n) refl h
-  where
-    by : (o : Option Entry) → slice_get history n ≡ o → is_prepare o ≡ true → suc n ≤ length history
-    by None is e = absurd cc
-    by (Some entry) is e = let lt = slice_get_within history n entry is in omega arith
-
-entry_old : (history more : List Entry) (p : ℕ) → p ≤ length history → entry_at (history ++ more) p ≡ entry_at history p
-entry_old history more zero le = refl
-entry_old history more (suc n) le = slice_get_old history more n (omega arith)
-
--- ---- the last undo
-
--- the undo of p ends the history
-record EndsWith (history : List Entry) (p : ℕ) : Type 0 where
-  pub front : List Entry
-  pub batch : List Change
-  pub is : history ≡ front ++ Undo p batch ∷ []
-
-ends_alone : (entry : Entry) (p : ℕ) → undone_last (entry ∷ []) ≡ Some p → EndsWith (entry ∷ []) p
-ends_alone (Write batch) p undone = absurd cc
-ends_alone (Prepare name batch) p undone = absurd cc
-ends_alone (Commit q) p undone = absurd cc
-ends_alone (Undo q batch) p undone = let same : q ≡ p = cc in record { front = []; batch = batch; is = ap (λ (r : ℕ). Undo r batch ∷ []) same }
-ends_alone (Close q) p undone = absurd cc
-
-undone_after : (first second : Entry) (others : List Entry) → undone_last (first ∷ second ∷ others) ≡ undone_last (second ∷ others)
-undone_after (Write batch) second others = refl
-undone_after (Prepare name batch) second others = refl
-undone_after (Commit p) second others = refl
-undone_after (Undo p batch) second others = refl
-undone_after (Close p) second others = refl
-
-ends_with : (history : List Entry) (p : ℕ) → undone_last history ≡ Some p → EndsWith history p
-ends_with [] p undone = absurd cc
-ends_with (first ∷ []) p undone = ends_alone first p undone
-ends_with (first ∷ second ∷ others) p undone =
-    let rest = ends_with (second ∷ others) p (sym (undone_after first second others) ∙ undone) in
-    record { front = first ∷ rest.front; batch = rest.batch; is = ap (λ (h : List Entry). first ∷ h) rest.is }
-
 -- ---- what it undoes
-
-left_key : (key : List ℕ) (value : Option (List ℕ)) → key_of (change_that_leaves key value) ≡ key
-left_key key (Some value) = refl
-left_key key None = refl
 
 changed_before : (history : List Entry) (batch : List Change) (key : List ℕ) (value : Option (List ℕ)) → change_to (prior history batch) key ≡ Some value → (old : Option (List ℕ)) × (change_to batch key ≡ Some old)
 changed_before history [] key value e = absurd cc
@@ -127,13 +69,13 @@ held_by (Some (Close q)) key value prepare e = absurd cc
 undoes_at : (front : List Entry) (p : ℕ) (batch : List Change) (key : List ℕ) (value : Option (List ℕ)) → IsLegal (front ++ Undo p batch ∷ []) → entry_version (front ++ Undo p batch ∷ []) (length (front ++ Undo p batch ∷ [])) key ≡ Some value → UndoesLast (front ++ Undo p batch ∷ []) key p
 undoes_at front p batch key value legal there =
     let long : length (front ++ Undo p batch ∷ []) ≡ suc (length front) = omega (arith, length-append front (Undo p batch ∷ [])) in
-    let last : change_to batch key ≡ Some value = sym (ap (λ (at : Option Entry). version_in at key) (slice_get_next front (Undo p batch))) ∙ sym (ap (λ n. entry_version (front ++ Undo p batch ∷ []) n key) long) ∙ there in
+    let last : change_to batch key ≡ Some value = sym (ap (λ (at : Option Entry). version_in at key) (slice_get_next front (Undo p batch) [])) ∙ sym (ap (λ n. entry_version (front ++ Undo p batch ∷ []) n key) long) ∙ there in
     let P : List Entry → Type 0 = λ before. IsLegalNext before (Undo p batch) in
-    let after : IsLegalNext front (Undo p batch) = subst P (take-append_seam front (Undo p batch ∷ [])) (legal.each (length front) (Undo p batch) (slice_get_next front (Undo p batch))) in
+    let after : IsLegalNext front (Undo p batch) = subst P (take-append_seam front (Undo p batch ∷ [])) (legal.each (length front) (Undo p batch) (slice_get_next front (Undo p batch) [])) in
     let parts = and_parts (is_prepare (entry_at front p)) (not (list_any (decides p) front)) after.names_undecided in
-    let within : p ≤ length front = prepare_within front p parts.0 in
+    let within : p ≤ length front = (prepared_within front p parts.0).1 in
     let old = changed_before front (batch_at front p) key value (ap (λ (b : List Change). change_to b key) (sym after.restores_prior) ∙ last) in
-    let same = entry_old front (Undo p batch ∷ []) p within in
+    let same = entry_at_old front (Undo p batch ∷ []) p within in
     record {
       below = omega arith;
       undecided = and_from _ _ (ap is_prepare same ∙ parts.0) (not_from_false _ (list_any-append (decides p) front (Undo p batch ∷ []) ∙ or_from _ _ (not-true (list_any (decides p) front) parts.1) refl));
@@ -143,6 +85,6 @@ undoes_at front p batch key value legal there =
 
 pub undoes_last : (history : List Entry) (key : List ℕ) (p : ℕ) (value : Option (List ℕ)) → IsLegal history → undone_last history ≡ Some p → entry_version history (length history) key ≡ Some value → UndoesLast history key p
 undoes_last history key p value legal undone there =
-    let ends = ends_with history p undone in
+    let ends = last_undo history p undone in
     let P : List Entry → Type 0 = λ h. IsLegal h → entry_version h (length h) key ≡ Some value → UndoesLast h key p in
     subst P (sym ends.is) (undoes_at ends.front p ends.batch key value) legal there

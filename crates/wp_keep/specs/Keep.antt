@@ -52,5 +52,5 @@ abbrev pub remaining : (ℕ → ℕ → Bool) → List Version → ℕ → List 
 remaining committed versions floor = filter (remains committed versions floor) versions
 
 -- the versions that stay, in their order, where `committed p n` says whether the number p is committed at n
-abbrev pub kept_of : (ℕ → ℕ → Bool) → List Version → List ℕ → ℕ → List Version
-kept_of committed versions snapshots floor = remaining committed (staying committed versions snapshots floor) floor
+abbrev pub retained_of : (ℕ → ℕ → Bool) → List Version → List ℕ → ℕ → List Version
+retained_of committed versions snapshots floor = remaining committed (staying committed versions snapshots floor) floor

@@ -4,7 +4,7 @@ ghost use Rattle.wp_model.specs.declared.entry.Entry.{Entry};
 ghost use Rattle.wp_model.specs.Legal.{IsLegal};
 ghost use Rattle.wp_model.specs.declared.version.Version.{Version};
 ghost use Rattle.wp_keep.specs.declared.pair.Pair.{Pair};
-ghost use Rattle.wp_keep.specs.Keep.{is_committed, kept_of};
+ghost use Rattle.wp_keep.specs.Keep.{is_committed, retained_of};
 ghost use Rattle.wp_keep.specs.MayGo.{MayGo};
 ghost use Rattle.wp_model.specs.Covered.{IsCovered};
 
@@ -13,5 +13,5 @@ pub fn keep_covers()
     ensures { (history : List Entry) (newer versions : List Version) (committed : List Pair) (snapshots : List ℕ) (floor from : ℕ)
         → IsLegal history → from ≤ floor → MayGo (is_committed committed) history newer versions snapshots floor
         → IsCovered (newer ++ versions) history snapshots from
-        → IsCovered (newer ++ kept_of (is_committed committed) versions snapshots floor) history snapshots floor }
+        → IsCovered (newer ++ retained_of (is_committed committed) versions snapshots floor) history snapshots floor }
 {}

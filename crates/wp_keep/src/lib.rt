@@ -7,15 +7,15 @@
 //! is committed. A second pass, from the oldest on, leaves the deletions out.
 #![tactic(auto)]
 
-pub use kept::keep;
 pub use pair::Pair;
+pub use retained::keep;
 
 mod commits;
-mod kept;
 pub mod laws;
 mod newer;
 mod pair;
 mod remaining;
+mod retained;
 mod staying;
 #[cfg(test)]
 mod tests;

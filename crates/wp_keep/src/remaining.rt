@@ -31,17 +31,17 @@ fn ends_with_key(versions: &[Version], key: &Key) -> bool
 
 /// Puts a version after those that remain, the last of which is next to it, where it remains too.
 fn push_lasting(
-    kept: &mut Vec<Version>,
+    retained: &mut Vec<Version>,
     version: Version,
     commits: &Commits,
     floor: Seq,
 ) -> Result<(), AllocError>
-    ensures { OnOk result (kept.new.items ≡ (if not (is_settled_deletion (by_commits commits.now) floor version) || starts_with_key (reverse kept.old.items) version.key then kept.old.items ++ version ∷ [] else kept.old.items)) }
+    ensures { OnOk result (retained.new.items ≡ (if not (is_settled_deletion (by_commits commits.now) floor version) || starts_with_key (reverse retained.old.items) version.key then retained.old.items ++ version ∷ [] else retained.old.items)) }
 {
-    if is_settled_deletion(&version, commits, floor) && !ends_with_key(kept, &version.key) {
+    if is_settled_deletion(&version, commits, floor) && !ends_with_key(retained, &version.key) {
         return Ok(());
     }
-    kept.push(version)?;
+    retained.push(version)?;
     Ok(())
 }
 
@@ -53,12 +53,12 @@ pub fn remaining(
     floor: Seq,
 ) -> Result<Vec<Version>, AllocError>
     requires { AreInOrder versions.items }
-    ensures { IfOk result (λ kept. kept.items ≡ remaining (by_commits commits.now) versions.items floor) }
+    ensures { IfOk result (λ retained. retained.items ≡ remaining (by_commits commits.now) versions.items floor) }
 {
-    let mut kept = Vec::with_capacity(alloc, versions.len())?;
+    let mut retained = Vec::with_capacity(alloc, versions.len())?;
     while let Some(version) = versions.pop() {
-        push_lasting(&mut kept, version, commits, floor)?;
+        push_lasting(&mut retained, version, commits, floor)?;
     }
-    kept.reverse();
-    Ok(kept)
+    retained.reverse();
+    Ok(retained)
 }

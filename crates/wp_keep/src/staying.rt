@@ -52,17 +52,17 @@ pub fn staying(
     floor: Seq,
 ) -> Result<Vec<Version>, AllocError>
     requires { AreInOrder versions.now }
-    ensures { IfOk result (λ kept. kept.items ≡ staying (by_commits commits.now) versions.now snapshots.now floor) }
+    ensures { IfOk result (λ retained. retained.items ≡ staying (by_commits commits.now) versions.now snapshots.now floor) }
 {
-    let mut kept = Vec::new(alloc);
+    let mut retained = Vec::new(alloc);
     let mut newer = None;
     for version in versions {
         let commit = commits.commit_of(version.number);
         let above = commit_above(&newer, &version.key);
         if is_needed(commit, above, snapshots, floor) {
-            kept.push(version.copy(alloc)?)?;
+            retained.push(version.copy(alloc)?)?;
         }
         newer = note(newer, &version.key, commit);
     }
-    Ok(kept)
+    Ok(retained)
 }

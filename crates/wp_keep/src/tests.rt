@@ -26,7 +26,7 @@ fn written(alloc: Global, entries: &[(Seq, Of)]) -> Result<Versions, Fail> {
 }
 
 /// The numbers of the versions that stay, where each of the committed ones is committed by itself.
-fn kept(
+fn retained(
     alloc: Global,
     entries: &[(Seq, Of)],
     committed: &[Seq],
@@ -52,11 +52,11 @@ fn a_snapshot_keeps_its_version(rt: HostRuntime) -> Result<(), Fail> {
     let alloc = rt.alloc();
     let two = [(2, Of::Put), (1, Of::Put)];
     assert_eq!(rt;
-        kept(alloc, &two, &[1, 2], &[1], 2)?.as_slice(),
+        retained(alloc, &two, &[1, 2], &[1], 2)?.as_slice(),
         [2, 1].as_slice()
     );
     assert_eq!(rt;
-        kept(alloc, &two, &[1, 2], &[], 2)?.as_slice(),
+        retained(alloc, &two, &[1, 2], &[], 2)?.as_slice(),
         [2].as_slice()
     );
     Ok(())
@@ -66,10 +66,10 @@ fn a_snapshot_keeps_its_version(rt: HostRuntime) -> Result<(), Fail> {
 fn an_oldest_deletion_goes(rt: HostRuntime) -> Result<(), Fail> {
     let alloc = rt.alloc();
     let deleted = [(3, Of::Delete), (2, Of::Put), (1, Of::Put)];
-    assert_eq!(rt; kept(alloc, &deleted, &[1, 2, 3], &[], 3)?.len(), 0);
+    assert_eq!(rt; retained(alloc, &deleted, &[1, 2, 3], &[], 3)?.len(), 0);
     let undecided = [(4, Of::Put), (1, Of::Delete)];
     assert_eq!(rt;
-        kept(alloc, &undecided, &[1], &[], 5)?.as_slice(),
+        retained(alloc, &undecided, &[1], &[], 5)?.as_slice(),
         [4].as_slice()
     );
     Ok(())

@@ -1,25 +1,16 @@
 -- The finite map that a tree's entries stand for.
-use Rattle.std.proofs.Common.{◌≡◌, ℕ, Bool, true, false, cond, Less, Equal, Greater, List, [], ◌∷◌, Option, Some, None, is_some, refl, sym, ap, ◌∙◌}
+use Rattle.std.proofs.Common.{◌≡◌, ℕ, Bool, true, false, cond, List, [], ◌∷◌, Option, Some, None, is_some, refl, sym, ap, ◌∙◌}
 use Rattle.std.specs.Cmp.{eq_by_cmp_equiv}
-use Rattle.std.specs.declared.cmp.Ordering.{Ordering}
-use Rattle.std.specs.Ordering.{eq_by_cmp, is_eq}
+use Rattle.std.specs.Ordering.{eq_by_cmp}
 use Rattle.std.specs.Map.{lookup}
 use Rattle.std.specs.BTreeMap.{is_at}
 use Rattle.std.specs.FinMap.{FinMap, from_entries, get, find, insert, remove, get-from_entries, get-insert, get-remove, same_map, nat_cmp-IsAntisymmetric, slice_cmp-IsAntisymmetric}
 use Rattle.std.proofs.lemmas.Cmp.{nat_list_cmp_total}
-use Rattle.std.proofs.lemmas.Map.Lookups.{exact_bytes}
 use Rattle.wp_model.specs.Batch.{key_cmp}
+use Rattle.wp_model.proofs.Words.{same_word}
 
 same_either_way : (a b : List ℕ) → eq_by_cmp key_cmp a b ≡ eq_by_cmp key_cmp b a
 same_either_way a b = (eq_by_cmp_equiv nat_list_cmp_total).symm a b
-
-pub equal_from_test : (o : Ordering) → is_eq o ≡ true → o ≡ Equal
-equal_from_test Less h = absurd cc
-equal_from_test Equal h = refl
-equal_from_test Greater h = absurd cc
-
-pub same_key : (a b : List ℕ) → eq_by_cmp key_cmp a b ≡ true → a ≡ b
-same_key a b h = exact_bytes a b (equal_from_test (key_cmp a b) h)
 
 module _ {X : Type 0} where
   -- what the entries have at q
@@ -69,9 +60,9 @@ module _ {X : Type 0} where
 
   -- with what is there already a map is as it was
   pub insert_same : (m : FinMap key_cmp X) (k : List ℕ) (v : X) → get m k ≡ Some v → insert m k v ≡ m
-  insert_same m k v stood =
+  insert_same m k v had =
       same_map nat_list_cmp_total (slice_cmp-IsAntisymmetric nat_cmp-IsAntisymmetric) _ _ (λ q. get-insert nat_list_cmp_total m k v q ∙ by q (eq_by_cmp key_cmp q k) refl)
     where
       by : (q : List ℕ) (b : Bool) → eq_by_cmp key_cmp q k ≡ b → cond b (Some v) (get m q) ≡ get m q
-      by q true is = sym stood ∙ ap (get m) (sym (same_key q k is))
+      by q true is = sym had ∙ ap (get m) (sym (same_word q k is))
       by q false is = refl

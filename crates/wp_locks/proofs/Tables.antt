@@ -16,7 +16,8 @@ use Rattle.wp_locks.specs.declared.error.LockError.TheVariants.{Unknown, InUse}
 use Rattle.wp_model.specs.Holder.{is_same, is_same_txn}
 use Rattle.wp_locks.specs.Locks.{RefusesTake, names_left, but, FreesAllOf}
 use Rattle.wp_model.specs.LockTables.{LockTables, Keys}
-use Rattle.wp_locks.proofs.Maps.{value_at, map_of, get-map_of, map_of_inserted, UpdatedAt, same_key, insert_same}
+use Rattle.wp_locks.proofs.Maps.{value_at, map_of, get-map_of, map_of_inserted, UpdatedAt, insert_same}
+use Rattle.wp_model.proofs.Words.{same_word}
 
 -- ---- names
 
@@ -39,7 +40,7 @@ refuses_used found (Some client) name is used = subst (λ o. RefusesTake o name 
 -- ---- keys
 
 same_txn : (a b : Holder) → is_same_txn a b ≡ true → a ≡ b
-same_txn (Txn a) (Txn b) h = ap Txn (same_key a b (is_eq-slice_cmp a b ∙ h))
+same_txn (Txn a) (Txn b) h = ap Txn (same_word a b (is_eq-slice_cmp a b ∙ h))
 same_txn (Txn a) (Client b) h = absurd cc
 same_txn (Client a) b h = absurd cc
 

@@ -21,7 +21,7 @@ Claims old name client (Err (Busy holder)) new = ⊥
 abbrev pub names_left : Names → List ℕ → Names
 names_left names name = if is_some (map.get names name) then map.insert names name None else names
 
--- why `take_name` refused, where this stood under the name
+-- why `take_name` refused, where the name had this
 abbrev pub RefusesTake : Option (Option (List ℕ)) → List ℕ → LockError → Type 0
 RefusesTake None name (Unknown unknown) = unknown ≡ name
 RefusesTake (Some (Some client)) name (InUse used) = used ≡ name

@@ -162,7 +162,7 @@ module _ (n : ℕ) where
   found_nowhere es is = ap is_some (lookup-none (nat_eq n) es (subst (NonePasses (nat_eq n)) (sym is) (none_is es)))
 
   -- with n taken out, or with room, there is room
-  pub room_left : (stood : Bool) (found : Bool) (old new : ℕ) → stood ≡ found → (found || nat_lt 0 old) ≡ true → old + cond stood 1 0 ≤ new → 0 < new
+  pub room_left : (had : Bool) (found : Bool) (old new : ℕ) → had ≡ found → (found || nat_lt 0 old) ≡ true → old + cond had 1 0 ≤ new → 0 < new
   room_left true found old new is place room = omega arith
   room_left false true old new is place room = absurd (false≢true is)
   room_left false false old new is place room = omega (arith, ltb-true 0 old place)

@@ -4,7 +4,7 @@ use Rattle.std.specs.Option.{option_or, option_and_then}
 use Rattle.std.specs.Ordering.{nat_cmp, is_eq, ordering_then, match_ordering}
 use Rattle.std.specs.declared.cmp.Ordering.{Ordering}
 use Rattle.std.specs.Str.{bytes_eq}
-use Rattle.std.specs.Cmp.{eq_by_cmp_equiv, nat_eq_equiv}
+use Rattle.std.specs.Cmp.{Equal-is, eq_by_cmp_equiv, nat_eq_equiv}
 use Rattle.std.specs.List.{AllByRecursion}
 use Rattle.std.specs.List.Sorted.{IsStrictlySortedBy}
 use Rattle.std.specs.Map.{lookup, keys_of, set_value}
@@ -20,10 +20,12 @@ use Rattle.std.proofs.lemmas.Map.Entries.{none_past_head}
 use Rattle.std.proofs.lemmas.Map.Keys.{IsDistinct-from_sorted, sorted_head, sorted_tail}
 use Rattle.std.proofs.lemmas.Map.Lookups.{exact_bytes}
 use Rattle.std.proofs.lemmas.Map.Text.{is_eq-slice_cmp}
+use Rattle.std.proofs.lemmas.Slice.Eq.{bytes_eq-Decides}
 use Rattle.wp_model.specs.declared.change.Change.{Change}
 use Rattle.wp_model.specs.Batch.{key_cmp, key_of, value_of, change_to}
 use Rattle.wp_model.specs.declared.version.Version.{Version}
-use Rattle.wp_model.specs.Versions.{AreInOrder, version_cmp, version_at}
+use Rattle.wp_model.specs.Versions.{AreInOrder, version_at}
+use Rattle.wp_model.proofs.VersionLists.{IsBefore, in_order_nil, in_order_cons, or_cond}
 use Rattle.wp_memtable.specs.KeyVersions.{Numbered, RoomyVersions, newest_cmp, AreNewestFirst}
 use Rattle.wp_memtable.specs.Memtable.{Places, HavePlaces, under, versions_in, AllNewestFirst, AreWellOrdered, without_number, numbered_of, place_at}
 
@@ -31,14 +33,6 @@ use Rattle.wp_memtable.specs.Memtable.{Places, HavePlaces, under, versions_in, A
 
 bytes_eq-back : (a b : List ℕ) → bytes_eq a b ≡ bytes_eq b a
 bytes_eq-back a b = sym (is_eq-slice_cmp a b) ∙ (eq_by_cmp_equiv nat_list_cmp_total).symm a b ∙ is_eq-slice_cmp b a
-
-equal_from_test : (o : Ordering) → is_eq o ≡ true → o ≡ Equal
-equal_from_test Less h = absurd cc
-equal_from_test Equal h = refl
-equal_from_test Greater h = absurd cc
-
-bytes_eq-same : (a : List ℕ) → bytes_eq a a ≡ true
-bytes_eq-same a = sym (is_eq-slice_cmp a a) ∙ ap is_eq (tied_itself nat_list_cmp_total a)
 
 at_key : (key k : List ℕ) → is_at (key_cmp key) k ≡ bytes_eq k key
 at_key key k = is_eq-slice_cmp key k ∙ bytes_eq-back key k
@@ -48,10 +42,6 @@ at_key key k = is_eq-slice_cmp key k ∙ bytes_eq-back key k
 -- what the places have under the key and the number
 abbrev pub found_at : Places → List ℕ → ℕ → Option (Option (List ℕ))
 found_at es key m = option_and_then (λ r. lookup (nat_eq m) r.versions) (lookup (is_at (key_cmp key)) es)
-
-or_cond : (b : Bool) (v : Option (List ℕ)) (x y : Option (Option (List ℕ))) → cond b (Some v) (option_or x y) ≡ option_or (cond b (Some v) x) y
-or_cond true v x y = refl
-or_cond false v x y = refl
 
 version_at-under : (k : List ℕ) (ps : Numbered) (rest : List Version) (key : List ℕ) (m : ℕ) (b : Bool) → bytes_eq k key ≡ b → version_at (under k ps ++ rest) key m ≡ cond b (option_or (lookup (nat_eq m) ps) (version_at rest key m)) (version_at rest key m)
 version_at-under k [] rest key m true is = refl
@@ -82,14 +72,6 @@ version_at-versions_in (e ∷ es) key m sorted = by (is_at (key_cmp key) e.0) re
 
 -- ---- their order
 
-sorted_nil : AreInOrder []
-unfolding IsStrictlySortedBy
-sorted_nil = tt
-
--- every version of ys is after v
-abbrev IsBefore : Version → List Version → Type 0
-IsBefore v ys = AllByRecursion (λ w. version_cmp v w ≡ Less) ys
-
 before_append : (v : Version) (xs ys : List Version) → IsBefore v xs → IsBefore v ys → IsBefore v (xs ++ ys)
 before_append v [] ys first second = second
 before_append v (x ∷ xs) ys first second = (first.0, before_append v xs ys first.1 second)
@@ -106,10 +88,6 @@ before_all : (k : List ℕ) (n : ℕ) (v : Option (List ℕ)) (es : Places) → 
 before_all k n v [] below = tt
 before_all k n v (e ∷ es) below = before_append (record { key = k; number = n; value = v }) (under e.0 e.1.versions) (versions_in es) (before_other k n v e.0 e.1.versions below.0) (before_all k n v es below.1)
 
-in_order_cons : (v : Version) (ys : List Version) → IsBefore v ys → AreInOrder ys → AreInOrder (v ∷ ys)
-unfolding IsStrictlySortedBy
-in_order_cons v ys before rest = (before, rest)
-
 in_order-under : (k : List ℕ) (ps : Numbered) (es : Places) → AreNewestFirst ps → AllByRecursion (λ l. key_cmp k l ≡ Less) (keys_of es) → AreInOrder (versions_in es) → AreInOrder (under k ps ++ versions_in es)
 in_order-under k [] es newest below rest = rest
 in_order-under k (p ∷ ps) es newest below rest =
@@ -118,7 +96,7 @@ in_order-under k (p ∷ ps) es newest below rest =
     (in_order-under k ps es (sorted_tail newest_cmp p.0 (keys_of ps) newest) below rest)
 
 pub in_order-versions_in : (es : Places) → AreWellOrdered es → AreInOrder (versions_in es)
-in_order-versions_in [] ordered = sorted_nil
+in_order-versions_in [] ordered = in_order_nil
 in_order-versions_in (e ∷ es) ordered =
     in_order-under e.0 e.1.versions es ordered.newest_first.0 (sorted_head key_cmp e.0 (keys_of es) ordered.keys)
     (in_order-versions_in es (record { keys = sorted_tail key_cmp e.0 (keys_of es) ordered.keys; newest_first = ordered.newest_first.1 }))
@@ -233,7 +211,7 @@ version_at-put k n v es ns r w old new found put updated key m =
   where
     by : (b : Bool) → b ≡ is_at (key_cmp k) key → option_and_then (λ r. lookup (nat_eq m) r.versions) (cond (is_at (key_cmp k) key) (Some w) (lookup (is_at (key_cmp key)) es)) ≡ cond (b && (m == n)) (Some v) (found_at es key m)
     by true is =
-        let same : k ≡ key = exact_bytes k key (equal_from_test (key_cmp k key) (sym is)) in
+        let same : k ≡ key = exact_bytes k key ((Equal-is _).0 (sym is)) in
         let here = ap (λ q. lookup (is_at (key_cmp q)) es) (sym same) ∙ found in
         rw (← is, here) (put m ∙ ap (λ b. cond b (Some v) (lookup (nat_eq m) r.versions)) (nat_eq_equiv.symm n m))
     by false is = rw (← is) refl
@@ -245,12 +223,9 @@ length-versions_in e es = length-append (under e.0 e.1.versions) (versions_in es
 
 -- ---- the keys that changes change
 
-same_key : (k key : List ℕ) → bytes_eq k key ≡ true → k ≡ key
-same_key k key h = exact_bytes k key (equal_from_test (key_cmp k key) (is_eq-slice_cmp k key ∙ h))
-
 pub is_change_to : (changes : List Change) (i : ℕ) (c : Change) → i < length changes → c ≡ get_or changes i c → is_some (change_to changes (key_of c)) ≡ true
 is_change_to [] i c within is = absurd (omega arith)
-is_change_to (x ∷ xs) zero c within is = rw (ap (λ (k : List ℕ). bytes_eq k (key_of c)) (ap key_of (sym is)) ∙ bytes_eq-same (key_of c)) refl
+is_change_to (x ∷ xs) zero c within is = rw (ap (λ (k : List ℕ). bytes_eq k (key_of c)) (ap key_of (sym is)) ∙ (bytes_eq-Decides (key_of c) (key_of c)).1 refl) refl
 is_change_to (x ∷ xs) (suc i) c within is = by (bytes_eq (key_of x) (key_of c)) (is_change_to xs i c (omega arith) is)
   where
     by : (b : Bool) → is_some (change_to xs (key_of c)) ≡ true → is_some (cond b (Some (value_of x)) (change_to xs (key_of c))) ≡ true
@@ -261,7 +236,7 @@ change_of_last : (xs : List Change) (c : Change) (key : List ℕ) → is_some (c
 change_of_last [] c key some = by (bytes_eq (key_of c) key) refl some
   where
     by : (b : Bool) → bytes_eq (key_of c) key ≡ b → is_some (cond b (Some (value_of c)) None) ≡ true → (false ≡ true) ⊎ (key_of c ≡ key)
-    by true is h = inr (same_key (key_of c) key is)
+    by true is h = inr ((bytes_eq-Decides (key_of c) key).0 is)
     by false is h = absurd (false≢true h)
 change_of_last (x ∷ xs) c key some = by (bytes_eq (key_of x) key) (change_of_last xs c key) some
   where

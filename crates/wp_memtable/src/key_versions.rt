@@ -76,15 +76,15 @@ impl KeyVersions {
         ensures most { result ≤ 1 }
         ensures newest_first { AreNewestFirst self.new.versions }
     {
-        let stood = self.remove(n);
+        let had = self.remove(n);
         let place = newer_than(&self.newest_first, n);
         self.newest_first.insert(place, (n, value)).unwrap();
-        if stood { 0 } else { 1 }
+        if had { 0 } else { 1 }
     }
 
     /// Takes the version under `n` out. Returns whether there was one.
     pub fn remove(&mut self, n: Seq) -> bool
-        ensures stood { result ≡ is_some (lookup (nat_eq n) self.old.versions) }
+        ensures had { result ≡ is_some (lookup (nat_eq n) self.old.versions) }
         ensures versions { self.new.versions ≡ filter (λ e. not (e.0 == n)) self.old.versions }
         ensures count { length self.new.versions + (if result then 1 else 0) ≡ length self.old.versions }
         ensures room { self.old.room + (if result then 1 else 0) ≤ self.new.room }

@@ -2,27 +2,21 @@
 use Rattle.std.proofs.Common.{◌≡◌, ℕ, Bool, true, false, cond, ◌&&◌, ◌==◌, Less, Equal, Greater, List, [], ◌∷◌, ◌++◌, Option, Some, None, refl, sym, ap, ◌∙◌}
 use Rattle.std.specs.Option.{option_or}
 use Rattle.std.specs.declared.cmp.Ordering.{Ordering}
-use Rattle.std.specs.Ordering.{nat_cmp, ordering_then, ordering_reverse, is_eq}
+use Rattle.std.specs.Ordering.{nat_cmp, ordering_then, ordering_reverse}
 use Rattle.std.specs.Str.{bytes_eq}
 use Rattle.std.specs.Cmp.{IsTotalOrder}
-use Rattle.std.specs.List.{AllByRecursion}
-use Rattle.std.specs.List.Sorted.{IsStrictlySortedBy}
 use Rattle.std.proofs.lemmas.Bool.{false≢true, and_parts, eqb-true}
 use Rattle.std.proofs.lemmas.Map.Lookups.{exact_bytes}
-use Rattle.std.proofs.lemmas.Map.Text.{is_eq-slice_cmp}
 use Rattle.std.proofs.lemmas.Cmp.{ranked, tied_itself, nat_cmp_total, nat_list_cmp_total, on_total, back_total, then_total}
+use Rattle.std.proofs.lemmas.Slice.Eq.{bytes_eq-Decides}
 use Rattle.wp_model.specs.Batch.{key_cmp}
 use Rattle.wp_model.specs.declared.version.Version.{Version}
 use Rattle.wp_model.specs.Versions.{AreInOrder, version_cmp, version_at}
+use Rattle.wp_model.proofs.VersionLists.{IsBefore, in_order_parts, in_order_cons, or_cond}
 use Rattle.wp_merge.specs.Merge.{first_at, choose_by_order, weave, merge_of}
 
 version_total : IsTotalOrder version_cmp
 version_total = then_total (on_total (λ (v : Version). v.key) nat_list_cmp_total) (on_total (λ (v : Version). v.number) (back_total nat_cmp_total))
-
-equal_from_test : (o : Ordering) → is_eq o ≡ true → o ≡ Equal
-equal_from_test Less h = absurd cc
-equal_from_test Equal h = refl
-equal_from_test Greater h = absurd cc
 
 less_not_equal : Less ≡ Equal → ⊥
 less_not_equal h = absurd cc
@@ -31,22 +25,6 @@ both_equal : (o p : Ordering) → ordering_then o p ≡ Equal → (o ≡ Equal) 
 both_equal Less p h = absurd cc
 both_equal Equal p h = (refl, h)
 both_equal Greater p h = absurd cc
-
--- every version of ys is after v
-abbrev IsBefore : Version → List Version → Type 0
-IsBefore v ys = AllByRecursion (λ w. version_cmp v w ≡ Less) ys
-
-in_order_parts : (v : Version) (ys : List Version) → AreInOrder (v ∷ ys) → IsBefore v ys × AreInOrder ys
-unfolding IsStrictlySortedBy
-in_order_parts v ys h = h
-
-in_order_cons : (v : Version) (ys : List Version) → IsBefore v ys → AreInOrder ys → AreInOrder (v ∷ ys)
-unfolding IsStrictlySortedBy
-in_order_cons v ys before rest = (before, rest)
-
-pub in_order_nil : AreInOrder []
-unfolding IsStrictlySortedBy
-in_order_nil = tt
 
 before_more : (v w : Version) (ys : List Version) → version_cmp v w ≡ Less → IsBefore w ys → IsBefore v ys
 before_more v w [] less before = tt
@@ -98,7 +76,7 @@ module _ (key : List ℕ) (n : ℕ) where
   place_of : (v : Version) → is_here v ≡ true → (v.key ≡ key) × (v.number ≡ n)
   place_of v h =
       let parts = and_parts (bytes_eq v.key key) (v.number == n) h in
-      (exact_bytes v.key key (equal_from_test (key_cmp v.key key) (is_eq-slice_cmp v.key key ∙ parts.0)), eqb-true v.number n parts.1)
+      ((bytes_eq-Decides v.key key).0 parts.0, eqb-true v.number n parts.1)
 
   -- a version of the place is before all others of it
   apart : (y w : Version) → version_cmp y w ≡ Less → is_here y ≡ true → is_here w ≡ false
@@ -142,10 +120,6 @@ module _ (key : List ℕ) (n : ℕ) where
           ahead : (b : Bool) → is_here y ≡ b → version_cmp y x ≡ Less → cond b (Some y.value) (cond (is_here x) (Some x.value) (option_or (version_at xs key n) (version_at ys key n))) ≡ cond (is_here x) (Some x.value) (option_or (version_at xs key n) (cond b (Some y.value) (version_at ys key n)))
           ahead false here less = refl
           ahead true here less = rw (apart y x less here, missing y xs (before_more y x xs less before) here) refl
-
-  or_cond : (b : Bool) (v : Option (List ℕ)) (x y : Option (Option (List ℕ))) → cond b (Some v) (option_or x y) ≡ option_or (cond b (Some v) x) y
-  or_cond true v x y = refl
-  or_cond false v x y = refl
 
   at_merge : (xs ys : List Version) → AreInOrder xs → version_at (merge_of xs ys) key n ≡ option_or (version_at xs key n) (version_at ys key n)
   at_merge [] ys h = refl

@@ -33,14 +33,14 @@ differ_if_below a b e = sym (is_eq-slice_cmp b a) ∙ ap is_eq (nat_list_cmp_tot
 same_if_equal : (a b : List ℕ) → key_cmp a b ≡ Equal → bytes_eq b a ≡ true
 same_if_equal a b e = sym (is_eq-slice_cmp b a) ∙ ap is_eq (nat_list_cmp_total.antisymm b a ∙ ap ordering_reverse e)
 
-less_from_test : (o : Ordering) → is_lt o ≡ true → o ≡ Less
+pub less_from_test : (o : Ordering) → is_lt o ≡ true → o ≡ Less
 less_from_test Less h = refl
 less_from_test Equal h = absurd cc
 less_from_test Greater h = absurd cc
 
 -- ---- ascending changes
 
-ascending_rest : (first : Change) (others : List Change) → are_ascending (first ∷ others) ≡ true → are_ascending others ≡ true
+pub ascending_rest : (first : Change) (others : List Change) → are_ascending (first ∷ others) ≡ true → are_ascending others ≡ true
 ascending_rest first [] h = refl
 ascending_rest first (second ∷ others) h = (and_parts (is_lt (key_cmp (key_of first) (key_of second))) (are_ascending (second ∷ others)) h).1
 

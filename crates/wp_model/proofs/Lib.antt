@@ -1,1 +1,5 @@
 pub mod BatchLemmas
+pub mod Entries
+pub mod VersionLists
+pub mod Found
+pub mod Words

@@ -22,7 +22,9 @@ pub use entry::Entry;
 pub use holder::Holder;
 pub use version::{Version, copy_value};
 pub use versions::Versions;
-pub use word::{Key, Name, Value, Word, WordError};
+pub use word::{
+    Key, MOST_KEY_BYTES, MOST_NAME_BYTES, MOST_VALUE_BYTES, Name, Value, Word, WordError,
+};
 
 /// The number of an entry, from 1 on. 0 stands for the empty history.
 pub type Seq = u64;

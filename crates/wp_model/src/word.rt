@@ -35,14 +35,23 @@ pub struct Word<const MOST: usize> {
     bytes: Vec<u8>,
 }
 
-/// A key: a word of 1 to 64 bytes.
-pub type Key = Word<64>;
+/// How many bytes a key has at most.
+pub const MOST_KEY_BYTES: usize = 64;
 
-/// A value: a word of 1 to 256 bytes.
-pub type Value = Word<256>;
+/// How many bytes a value has at most.
+pub const MOST_VALUE_BYTES: usize = 256;
 
-/// The name of a transaction, a client, a snapshot or a label: a word of 1 to 32 bytes.
-pub type Name = Word<32>;
+/// How many bytes a name has at most.
+pub const MOST_NAME_BYTES: usize = 32;
+
+/// A key.
+pub type Key = Word<MOST_KEY_BYTES>;
+
+/// A value.
+pub type Value = Word<MOST_VALUE_BYTES>;
+
+/// The name of a transaction, a client, a snapshot or a label.
+pub type Name = Word<MOST_NAME_BYTES>;
 
 impl<const MOST: usize> Model for Word<MOST> {
     ghost use Rattle.std.specs.Prelude.{◌≡◌, ℕ, List, true};

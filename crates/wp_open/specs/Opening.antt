@@ -5,7 +5,8 @@ use Rattle.wp_outside.specs.Disk.{Moment, IfKnown, added, after_sync}
 use Rattle.wp_gatelog.specs.Damage.{IsBadHead}
 use Rattle.wp_wal.specs.declared.error.WalError.{WalError}
 use Rattle.wp_wal.specs.declared.error.WalError.TheVariants as wal_error
-use Rattle.wp_wal.specs.Opening.{IsBadLog, IsIllegalLog, IsSyncedOrAtRest, IsLeftAtRest}
+use Rattle.wp_gatelog.specs.Left.{IsSyncedOrAtRest, IsLeftAtRest}
+use Rattle.wp_wal.specs.Opening.{IsBadLog, IsIllegalLog}
 use Rattle.wp_wal.specs.Spelling.{MAGIC}
 use Rattle.wp_open.specs.declared.bad.Bad.{Bad}
 use Rattle.wp_open.specs.declared.bad.Bad.TheVariants as bad
@@ -24,8 +25,8 @@ IsDamaged bytes (bad.Illegal number) = IsIllegalLog bytes number
 -- the log at rest with these.
 abbrev pub IsLeftBy : List Moment → List Moment → Bad → Type 0
 IsLeftBy before after (bad.BadHead d) = after ≡ added after_sync before
-IsLeftBy before after (bad.BadRecord index why) = IsSyncedOrAtRest before after
-IsLeftBy before after (bad.Illegal number) = IsLeftAtRest before after
+IsLeftBy before after (bad.BadRecord index why) = IsSyncedOrAtRest MAGIC before after
+IsLeftBy before after (bad.Illegal number) = IsLeftAtRest MAGIC before after
 
 -- the same of a log that was not opened
 abbrev pub IsLeftWhere : List Moment → List Moment → OpenError → Type 0

@@ -8,7 +8,7 @@ use Rattle.wp_outside.specs.declared.mem_disk.MemDisk.TheInside.{Inside}
 use Rattle.wp_outside.specs.Disk.{Moment, IfKnown, synced, added}
 use Rattle.wp_outside.specs.Faults.{risen}
 use Rattle.wp_outside.specs.MemDisk.{Effect, Wrote, Shortened, Synced, DiskState, after, contents, now_of, moments_of, bytes_of_effect}
-use Rattle.wp_outside.specs.Replay.{effects_of, bytes_of_change, state_of, IsReplayed}
+use Rattle.wp_outside.specs.Replay.{effects_of, bytes_of_change, disk_state, IsReplayed}
 
 -- as many bytes as were written
 pub written_again : (past : List Change) (written : List ℕ) → sum_by bytes_of_change past ≤ length written → sum_by bytes_of_effect (effects_of past written) ≡ sum_by bytes_of_change past
@@ -79,7 +79,7 @@ moments_of-more d effect = fold-append (λ moments effect. added (after effect) 
 -- a change was done and noted
 pub record IsNoted (change : Change) (piece : List ℕ) (d new : Inside) : Type 0 where
   pub start : new.start ≡ d.start
-  pub bytes : (after (effect_of change piece) (now_of (state_of d))).reads ≡ new.bytes.items
+  pub bytes : (after (effect_of change piece) (now_of (disk_state d))).reads ≡ new.bytes.items
   pub past : new.past.items ≡ d.past.items ++ change ∷ []
   pub written : new.written.items ≡ d.written.items ++ piece
   pub size : bytes_of_change change ≡ length piece
@@ -98,7 +98,7 @@ noted_effects {change} {piece} {d} {new} replayed n =
     ∙ ap (λ written. effects_of (d.past.items ++ change ∷ []) written) n.written
     ∙ effects_of-more d.past.items d.written.items change piece n.size replayed.written
 
-noted_bytes : {change : Change} {piece : List ℕ} {d new : Inside} → IsReplayed d → IsNoted change piece d new → contents (state_of new) ≡ new.bytes.items
+noted_bytes : {change : Change} {piece : List ℕ} {d new : Inside} → IsReplayed d → IsNoted change piece d new → contents (disk_state new) ≡ new.bytes.items
 noted_bytes {change} {piece} {d} {new} replayed n =
     let start : synced new.start.items ≡ synced d.start.items = ap (λ (v : Vec ℕ Global). synced v.items) n.start in
     ap (λ m. (fold (λ m effect. after effect m) m (effects_of new.past.items new.written.items)).reads) start

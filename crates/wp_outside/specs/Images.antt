@@ -6,7 +6,7 @@ use Rattle.std.proofs.lemmas.List.{length-take}
 use Rattle.wp_outside.specs.Disk.{Moment, Matches, IsImage, ReadsItself, synced, put, hide, hide_at, added}
 use Rattle.wp_outside.specs.MemDisk.{Effect, Wrote, Shortened, Synced, DiskState, after, moments_of}
 
-matches_itself : (bytes : List ℕ) → Matches (map (λ b. Some b) bytes) bytes
+pub matches_itself : (bytes : List ℕ) → Matches (map (λ b. Some b) bytes) bytes
 matches_itself [] = tt
 matches_itself (b ∷ bytes) = (refl, matches_itself bytes)
 

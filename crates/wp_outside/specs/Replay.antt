@@ -16,8 +16,8 @@ abbrev pub bytes_of_change : Change → ℕ
 bytes_of_change (Write at len) = len
 bytes_of_change change = 0
 
-abbrev pub state_of : Inside → DiskState
-state_of d = record {
+abbrev pub disk_state : Inside → DiskState
+disk_state d = record {
   start = d.start.items;
   effects = effects_of d.past.items d.written.items;
   room = d.room;
@@ -27,7 +27,7 @@ state_of d = record {
 
 -- the bytes are what the record makes of those at the start, and there is room for all that may come
 pub record IsReplayed (d : Inside) : Type 0 where
-  pub bytes : contents (state_of d) ≡ d.bytes.items
+  pub bytes : contents (disk_state d) ≡ d.bytes.items
   pub written : sum_by bytes_of_change d.past.items ≡ length d.written.items
   pub past : length d.past.items ≤ d.counter.made
   pub most : d.most < 2 ^ 64

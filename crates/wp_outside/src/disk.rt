@@ -19,7 +19,7 @@ pub trait Disk {
     fn len(&mut self) -> Result<u64, Failed>
         ensures bounded { IfOk result (λ n. n ≤ 2 ^ 62) }
         ensures length { IfOk result (λ n. IfKnown (moments self.old) (λ m. n ≡ length m.reads)) }
-        ensures kept { moments self.new ≡ moments self.old }
+        ensures unchanged { moments self.new ≡ moments self.old }
         ensures cause { HasCause (faults self.old) (faults self.new) result };
 
     /// Reads from `at` on into the front of `buf`, and says how many bytes: none past the end. The rest of `buf` may
@@ -28,7 +28,7 @@ pub trait Disk {
         requires { at + length buf.old ≤ 2 ^ 63 - 1 }
         ensures count { IfOk result (λ n. n ≤ length buf.new) }
         ensures bytes { IfOk result (λ n. IfKnown (moments self.old) (λ m. IsRead m.reads at buf.new n)) }
-        ensures kept { moments self.new ≡ moments self.old }
+        ensures unchanged { moments self.new ≡ moments self.old }
         ensures cause { HasCause (faults self.old) (faults self.new) result };
 
     /// Writes over what is from `at` on, and past the end. A write that would end past 2^62 fails.
@@ -48,7 +48,7 @@ pub trait Disk {
     fn sync(&mut self) -> Result<(), Failed>
         ensures done { OnOk result (moments self.new ≡ added after_sync (moments self.old)) }
         ensures durable { OnOk result ((image : List ℕ) → images (moments self.new) image → IfKnown (moments self.old) (λ m. image ≡ m.reads)) }
-        ensures kept { OnErr result (moments self.new ≡ moments self.old) }
+        ensures unchanged { OnErr result (moments self.new ≡ moments self.old) }
         ensures cause { HasCause (faults self.old) (faults self.new) result };
 
     /// As it reads, it is one of its images.

@@ -40,9 +40,9 @@ impl Model for MemDisk {
 
     ghost Value = { DiskState };
 
-    ghost use Rattle.wp_outside.specs.Replay.{state_of, IsReplayed};
+    ghost use Rattle.wp_outside.specs.Replay.{disk_state, IsReplayed};
 
-    ghost view = { state_of };
+    ghost view = { disk_state };
 
     ghost invariant = { IsReplayed };
 }
@@ -163,7 +163,7 @@ impl Disk for MemDisk {
     fn len(&mut self) -> Result<u64, Failed>
         ensures bounded { IfOk result (λ n. n ≤ 2 ^ 62) }
         ensures length { IfOk result (λ n. IfKnown (moments_of self.old) (λ m. n ≡ length m.reads)) }
-        ensures kept { moments_of self.new ≡ moments_of self.old }
+        ensures unchanged { moments_of self.new ≡ moments_of self.old }
         ensures cause { HasCause self.old.calls.faults self.new.calls.faults result }
         ensures exact { is_err result ≡ refuses self.old (length (contents self.old)) 0 }
         ensures after { self.new ≡ record self.old { calls = counted result self.old.calls } }
@@ -178,7 +178,7 @@ impl Disk for MemDisk {
         requires { at + length buf.old ≤ 2 ^ 63 - 1 }
         ensures count { IfOk result (λ n. n ≤ length buf.new) }
         ensures bytes { IfOk result (λ n. IfKnown (moments_of self.old) (λ m. IsRead m.reads at buf.new n)) }
-        ensures kept { moments_of self.new ≡ moments_of self.old }
+        ensures unchanged { moments_of self.new ≡ moments_of self.old }
         ensures cause { HasCause self.old.calls.faults self.new.calls.faults result }
         ensures rest { IfOk result (λ n. drop n buf.new ≡ drop n buf.old) }
         ensures refused { OnErr result (buf.new ≡ buf.old) }
@@ -225,7 +225,7 @@ impl Disk for MemDisk {
     fn sync(&mut self) -> Result<(), Failed>
         ensures done { OnOk result (moments_of self.new ≡ added after_sync (moments_of self.old)) }
         ensures durable { OnOk result ((image : List ℕ) → images (moments_of self.new) image → IfKnown (moments_of self.old) (λ m. image ≡ m.reads)) }
-        ensures kept { OnErr result (moments_of self.new ≡ moments_of self.old) }
+        ensures unchanged { OnErr result (moments_of self.new ≡ moments_of self.old) }
         ensures cause { HasCause self.old.calls.faults self.new.calls.faults result }
         ensures exact { is_err result ≡ refuses self.old (length (contents self.old)) 0 }
         ensures after { self.new ≡ after_call result Synced self.old }

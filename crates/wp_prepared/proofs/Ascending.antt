@@ -66,7 +66,7 @@ rising-insert xs p i place rising k fits =
 pub set_of-insert : (xs : List ℕ) (p i : ℕ) → set_of_numbers (insert xs i p) ≡ set.insert (set_of_numbers xs) p
 set_of-insert xs p i = from_list_same (insert xs i p) _ (λ q. sym (list_any-IsPermutation (eq_by_cmp nat_cmp q) (p ∷ xs) (insert xs i p) (IsPermutation-insert xs i p)) ∙ sym (contains-from_list nat_cmp_total (p ∷ xs) q))
 
--- where p stood and is taken out, the set lacks it
+-- where p was and is taken out, the set lacks it
 pub set_of-remove : (xs : List ℕ) (p i : ℕ) → IsStrictlyIncreasing xs → IsPlace xs p (Ok i) → set_of_numbers (remove xs i) ≡ set.remove (set_of_numbers xs) p
 set_of-remove xs p i rising place =
     let rest = remove xs i in

@@ -107,7 +107,7 @@ impl Prepared {
         self.delayed.contains(p)
     }
 
-    /// The commit number of the pair of `p` that was evicted while `p` stood here.
+    /// The commit number of the pair of `p` that was evicted while `p` was here.
     pub fn commit_of(&self, p: Seq) -> Option<Seq>
         ensures { result ≡ map.get self.now.tables.delayed_commits p }
     {

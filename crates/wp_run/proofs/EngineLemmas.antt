@@ -12,7 +12,7 @@ use Rattle.wp_run.specs.Engine.{fault_count}
 use Rattle.wp_run.specs.Stored.{IsLogOrOneMore, CrashLeaves, IsConsistent}
 use Rattle.wp_session.specs.Next.{AreLegalNext, AreNext}
 use Rattle.wp_wal.specs.Wal.{LosesNothing}
-use Rattle.wp_session.proofs.PlanLemmas.{LastIs}
+use Rattle.wp_model.proofs.Entries.{undone_after}
 use Rattle.wp_run.proofs.StepLemmas.{false_is_true}
 
 -- ---- what records spell ends closed
@@ -24,26 +24,26 @@ form_closed first (entry.Commit p ∷ []) form = refl
 form_closed first (entry.Undo p batch ∷ entry.Close q ∷ []) form = refl
 form_closed first others form = absurd form
 
-closed_after : LastIs → (front rest : List Entry) → undone_last front ≡ None → undone_last rest ≡ None → undone_last (front ++ rest) ≡ None
-closed_after last front [] closed rest_closed = ap undone_last (append-nil front) ∙ closed
-closed_after last front (e ∷ rest) closed rest_closed = last front rest e ∙ rest_closed
+closed_after : (front rest : List Entry) → undone_last front ≡ None → undone_last rest ≡ None → undone_last (front ++ rest) ≡ None
+closed_after front [] closed rest_closed = ap undone_last (append-nil front) ∙ closed
+closed_after front (e ∷ rest) closed rest_closed = undone_after front rest e ∙ rest_closed
 
-pub records_closed : LastIs → (first : ℕ) (records : List (List ℕ)) (entries : List Entry) → AreEntries first records entries → undone_last entries ≡ None
-records_closed last first [] entries is = ap undone_last is
-records_closed last first (r ∷ records) entries (front, rest, parts, is, bytes, more) =
-    ap undone_last parts ∙ closed_after last front rest (form_closed first front is.form) (records_closed last (first + length front) records rest more)
+pub records_closed : (first : ℕ) (records : List (List ℕ)) (entries : List Entry) → AreEntries first records entries → undone_last entries ≡ None
+records_closed first [] entries is = ap undone_last is
+records_closed first (r ∷ records) entries (front, rest, parts, is, bytes, more) =
+    ap undone_last parts ∙ closed_after front rest (form_closed first front is.form) (records_closed (first + length front) records rest more)
 
 -- ---- a store
 
-pub new_consistent : LastIs → (wal : WalState) (entries : List Entry) (limit : ℕ) → StoresHistory wal entries [] → IsLegal entries → wal.closed ≡ false → limit < 2 ^ 32 → IsConsistent wal entries false limit
-new_consistent last wal entries limit stores legal running small = record {
+pub new_consistent : (wal : WalState) (entries : List Entry) (limit : ℕ) → StoresHistory wal entries [] → IsLegal entries → wal.closed ≡ false → limit < 2 ^ 32 → IsConsistent wal entries false limit
+new_consistent wal entries limit stores legal running small = record {
   failed = [];
   stores = stores;
   legal = subst IsLegal (sym (append-nil entries)) legal;
   none = λ e. refl;
   whole = λ e. absurd cc;
   state = running;
-  closed = records_closed last 1 stores.records entries stores.spelled;
+  closed = records_closed 1 stores.records entries stores.spelled;
   numbers = small;
 }
 

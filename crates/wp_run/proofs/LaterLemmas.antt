@@ -1,11 +1,11 @@
 -- The store later on.
-use Rattle.std.proofs.Common.{◌≡◌, ℕ, ◌≤◌, Bool, true, false, List, [], ◌∷◌, ◌++◌, refl, sym, ap, ◌∙◌, subst, append_assoc, arith, inl, inr, if◌then◌else◌}
+use Rattle.std.proofs.Common.{◌≡◌, ℕ, ◌≤◌, Bool, true, false, List, [], ◌++◌, refl, sym, ap, ◌∙◌, subst, append_assoc, arith, inl, inr, if◌then◌else◌}
 use Rattle.std.proofs.lemmas.Bool.{cases_Bool}
 use Rattle.std.proofs.lemmas.List.{append-nil}
 use Rattle.wp_model.specs.declared.entry.Entry.{Entry}
-use Rattle.wp_outside.specs.Disk.{Moment, IfKnown}
+use Rattle.wp_outside.specs.Disk.{Moment}
 use Rattle.wp_outside.specs.Faults.{Rose}
-use Rattle.wp_gatelog.specs.Durability.{HasAcknowledged, Preserves, PassedOn}
+use Rattle.wp_gatelog.specs.Durability.{HasAcknowledged}
 use Rattle.wp_gatelog.specs.Moments.{Leaves}
 use Rattle.wp_text.specs.declared.script.Command.{Command}
 use Rattle.wp_text.specs.declared.reply.Reply.{Reply}
@@ -13,6 +13,7 @@ use Rattle.wp_session.specs.Client.{Client}
 use Rattle.wp_session.specs.Kind.{is_fault}
 use Rattle.wp_session.specs.Due.{logged_entries}
 use Rattle.wp_wal.specs.Spelling.{MAGIC}
+use Rattle.wp_gatelog.proofs.DurabilityLemmas.{preserves_on}
 use Rattle.wp_run.specs.Engine.{EngineState, store_of, Later, IsCommandStep}
 use Rattle.wp_wal.specs.Wal.{LosesNothing}
 use Rattle.wp_run.proofs.StepLemmas.{false_is_true}
@@ -21,15 +22,6 @@ use Rattle.wp_run.proofs.StepLemmas.{false_is_true}
 
 pub durable_same : (ms : List Moment) → LosesNothing ms ms
 durable_same ms = λ id records. ([], refl, tt)
-
-passed_on : (P : Moment → Type 0) (old more later : List Moment) → PassedOn P old more → PassedOn P (more ++ old) later → PassedOn P old (later ++ more)
-passed_on P old more [] first rest = first
-passed_on P old more (m ∷ later) first rest =
-    ((λ known. rest.0 (subst (λ (xs : List Moment). IfKnown xs P) (append_assoc later more old) known)), passed_on P old more later first rest.1)
-
-preserves_on : (P : Moment → Type 0) (old mid new : List Moment) → Preserves P old mid → Preserves P mid new → Preserves P old new
-preserves_on P old mid new (more, is, first) (later, new_is, rest) =
-    (later ++ more, new_is ∙ ap (λ (xs : List Moment). later ++ xs) is ∙ sym (append_assoc later more old), passed_on P old more later first (subst (λ (xs : List Moment). PassedOn P xs later) is rest))
 
 pub durable_trans : (old mid new : List Moment) → LosesNothing old mid → LosesNothing mid new → LosesNothing old new
 durable_trans old mid new a b = λ id records. preserves_on (Leaves (HasAcknowledged MAGIC id records)) old mid new (a id records) (b id records)

@@ -85,38 +85,38 @@ takes_steps old new was now c entries success asks takes is =
     let added_is : logged_entries (store_of old) was c success ≡ entries = rw (asks.logs.logged, asks.asked) refl in
     let longer : new.entries ≡ old.entries ++ entries = ap (λ (s : EngineState). s.entries) takes.changed in
     record {
-      replied = inl (sym (asks.replies ∙ logged_takes (store_of old) (length entries) success takes.running takes.fits));
+      replied = inl (sym (asks.replies ∙ logged_takes (store_of old) (length entries) success takes.called.running takes.called.fits));
       entries = longer ∙ ap (λ (xs : List Entry). old.entries ++ xs) (sym added_is);
       stopped = ap (λ (s : EngineState). s.stopped) takes.changed ∙ rw (faultless success asks.logs.logged) refl;
       client = is ∙ sym (settles old.entries was c success asks.logs.logged);
       rose = λ f. false_is_true (is_fault success) (faultless success asks.logs.logged) f;
-      counted = takes.counted;
+      counted = takes.called.counted;
       limited = ap (λ (s : EngineState). s.limit) takes.changed;
       named = ap (λ (s : EngineState). s.id) takes.changed;
-      durable = takes.durable;
+      durable = takes.called.durable;
       numbers = asks.logs.numbers ∙ ap (λ (xs : List Entry). range_with_len (length old.entries + 1) (length xs)) (sym added_is);
       fresh = rw (longer, length-append old.entries entries) (fresh_if_numbered (λ n. (length old.entries ≤ n) × (n ≤ length old.entries + length entries)) c success asks.logs.fresh);
       running = λ f. false_is_true (is_fault success) (faultless success asks.logs.logged) f;
       stopped_before = λ t. false_is_true (is_stopped success) (not_stopped success asks.logs.logged) t;
-      stays = λ s. false_is_true old.stopped takes.running s;
+      stays = λ s. false_is_true old.stopped takes.called.running s;
     }
 
 fails_steps : (old new : EngineState) (was : Client) (c : Command) (entries : List Entry) (success : Reply) → Asks old was c entries success → HasFailed old new entries → IsCommandStep old was c reply.FaultLog new was
 fails_steps old new was c entries success asks fails = record {
-  replied = inr (refl, ap is_logged (asks.replies ∙ logged_takes (store_of old) (length entries) success fails.running fails.fits) ∙ asks.logs.logged);
+  replied = inr (refl, ap is_logged (asks.replies ∙ logged_takes (store_of old) (length entries) success fails.called.running fails.called.fits) ∙ asks.logs.logged);
   entries = ap (λ (s : EngineState). s.entries) fails.changed ∙ sym (append-nil old.entries);
   stopped = ap (λ (s : EngineState). s.stopped) fails.changed;
   client = refl;
   rose = λ f. fails.rose;
-  counted = fails.counted;
+  counted = fails.called.counted;
   limited = ap (λ (s : EngineState). s.limit) fails.changed;
   named = ap (λ (s : EngineState). s.id) fails.changed;
-  durable = fails.durable;
+  durable = fails.called.durable;
   numbers = refl;
   fresh = fresh_if_numbered _ c reply.FaultLog tt;
-  running = λ f. fails.running;
+  running = λ f. fails.called.running;
   stopped_before = λ t. absurd cc;
-  stays = λ s. false_is_true old.stopped fails.running s;
+  stays = λ s. false_is_true old.stopped fails.called.running s;
 }
 
 -- a reply without the log changes nothing of the store

@@ -12,22 +12,23 @@ use Rattle.wp_session.specs.After.{after_decision}
 use Rattle.wp_run.specs.Engine.{EngineState}
 use Rattle.wp_wal.specs.Wal.{LosesNothing}
 
--- the entries are in the log and in the history
-pub record HasLogged (old new : EngineState) (entries : List Entry) : Type 0 where
+-- the log was called for the entries
+pub record CallsLog (old new : EngineState) (entries : List Entry) : Type 0 where
   pub running : old.stopped ≡ false
   pub fits : length old.entries + length entries ≤ old.limit
-  pub changed : new ≡ record old { entries = old.entries ++ entries; faults = new.faults; moments = new.moments }
   pub counted : old.faults ≤ new.faults
   pub durable : LosesNothing old.moments new.moments
 
+-- the entries are in the log and in the history
+pub record HasLogged (old new : EngineState) (entries : List Entry) : Type 0 where
+  pub called : CallsLog old new entries
+  pub changed : new ≡ record old { entries = old.entries ++ entries; faults = new.faults; moments = new.moments }
+
 -- the log failed as it took them
 pub record HasFailed (old new : EngineState) (entries : List Entry) : Type 0 where
-  pub running : old.stopped ≡ false
-  pub fits : length old.entries + length entries ≤ old.limit
+  pub called : CallsLog old new entries
   pub changed : new ≡ record old { stopped = true; faults = new.faults; moments = new.moments }
   pub rose : Rose old.faults new.faults
-  pub counted : old.faults ≤ new.faults
-  pub durable : LosesNothing old.moments new.moments
 
 -- there are too few numbers for them, of which those given are the last one used and the greatest one
 pub record IsFull (old new : EngineState) (entries : List Entry) (published limit : ℕ) : Type 0 where

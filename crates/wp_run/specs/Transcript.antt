@@ -10,7 +10,7 @@ use Rattle.wp_text.specs.Lines.{client_line, reply_line, entry_lines, end_line, 
 use Rattle.wp_session.specs.Client.{new_client}
 use Rattle.wp_session.specs.Kind.{acknowledged, is_fault, is_stopped}
 use Rattle.wp_session.specs.Session.{IsSession}
-use Rattle.wp_session.specs.Replies.{IsKnown, one_at_a_time}
+use Rattle.wp_session.specs.Replies.{one_at_a_time}
 use Rattle.wp_session.specs.Current.{RunsAlone}
 
 -- each part has one session, which begins with the opening history
@@ -18,7 +18,7 @@ abbrev pub AreSessions : List Entry → ℕ → ℕ → List Part → List (List
 AreSessions history limit opened [] [] = Unit {0}
 AreSessions history limit opened [] (answers ∷ others) = ⊥
 AreSessions history limit opened (part ∷ parts) [] = ⊥
-AreSessions history limit opened (part ∷ parts) (answers ∷ others) = IsSession history limit (IsKnown (one_at_a_time history)) opened new_client part.commands answers × AreSessions history limit opened parts others
+AreSessions history limit opened (part ∷ parts) (answers ∷ others) = IsSession (one_at_a_time history limit) opened new_client part.commands answers × AreSessions history limit opened parts others
 
 -- with one client, nobody else changes the store
 abbrev pub IsExact : ℕ → List Entry → List Part → List (List Reply) → Type 0

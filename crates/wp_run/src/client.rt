@@ -12,7 +12,7 @@ use std::marker::Model;
 use wp_history::laws;
 use wp_model::Entry;
 use wp_outside::Disk;
-use wp_session::{Plan, Session, plan_of};
+use wp_session::{Client, Plan, plan_of};
 use wp_text::{Command, Reply};
 
 /// What a client was answered: the replies to its commands, or, where memory was wanting, to the first of them.
@@ -59,17 +59,17 @@ fn refusal_of(error: WriteError) -> Result<Reply, AllocError>
 /// Logs the entries, which the reply acknowledges.
 fn log_for<D: Disk>(
     engine: &mut Engine<D>,
-    session: &mut Session,
+    client: &mut Client,
     entries: Vec<Entry>,
     reply: Reply,
 ) -> Result<Reply, AllocError>
     requires next { AreNext engine.old.entries entries.items }
-    ensures answered { IfOk result (λ answer. IsLogAnswer engine.old session.old entries.items reply answer engine.new session.new) }
+    ensures answered { IfOk result (λ answer. IsLogAnswer engine.old client.old entries.items reply answer engine.new client.new) }
     ensures err { OnErr result (engine.new ≡ engine.old) }
 {
     match engine.log(entries) {
         Ok(()) => {
-            session.decide(&reply);
+            client.decide(&reply);
             Ok(reply)
         }
         Err(error) => refusal_of(error),
@@ -92,31 +92,30 @@ fn changes_are_a_batch(entry: &Entry)
 fn answer<D: Disk>(
     alloc: Global,
     engine: &mut Engine<D>,
-    session: &mut Session,
+    client: &mut Client,
     command: &Command,
 ) -> Result<Reply, AllocError>
-    requires fits { ClientFits engine.old.entries session.old }
-    ensures steps { IfOk result (λ reply. IsCommandStep engine.old session.old command.now reply engine.new session.new) }
-    ensures fits { OnOk result (ClientFits engine.new.entries session.new) }
+    requires fits { ClientFits engine.old.entries client.old }
+    ensures steps { IfOk result (λ reply. IsCommandStep engine.old client.old command.now reply engine.new client.new) }
+    ensures fits { OnOk result (ClientFits engine.new.entries client.new) }
     ensures err { OnErr result (engine.new ≡ engine.old) }
 {
-    laws::last_entry_undoes();
     laws::undecided_grows();
     laws::undo_is_followed_by_its_close();
-    match plan_of(alloc, engine.history(), session, command)? {
+    match plan_of(alloc, engine.history(), client, command)? {
         Plan::Say(reply) => {
-            session.take(alloc, engine.history(), command, &reply)?;
+            client.take(alloc, engine.history(), command, &reply)?;
             Ok(reply)
         }
         Plan::Log(entry, reply) => {
             changes_are_a_batch(&entry);
             let entries = vec![in alloc; entry]?;
-            log_for(engine, session, entries, reply)
+            log_for(engine, client, entries, reply)
         }
         Plan::RollBack(p, batch, reply) => {
             batch.changes();
             let entries = vec![in alloc; Entry::Undo(p, batch), Entry::Close(p)]?;
-            log_for(engine, session, entries, reply)
+            log_for(engine, client, entries, reply)
         }
     }
 }
@@ -131,7 +130,7 @@ pub(crate) fn run_session<D: Disk>(
 ) -> Answers
     ensures { IsRunSoFar engine.old commands.now result engine.new }
 {
-    let mut session = Session::new(alloc);
+    let mut client = Client::new(alloc);
     let Ok(mut replies) = Vec::with_capacity(alloc, commands.len()) else {
         return Answers {
             replies: Vec::new(alloc),
@@ -139,7 +138,7 @@ pub(crate) fn run_session<D: Disk>(
         };
     };
     for command in commands {
-        match answer(alloc, engine, &mut session, command) {
+        match answer(alloc, engine, &mut client, command) {
             Ok(reply) => replies.push_reserved(reply),
             Err(AllocError) => {
                 return Answers {

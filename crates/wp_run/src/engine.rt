@@ -78,7 +78,6 @@ impl<D: Disk> Engine<D> {
         requires limit { limit < 2 ^ 32 }
         ensures { result ≡ record { entries = history.entries; stopped = false; limit = limit; id = wal.id; faults = wal.faults; moments = wal.moments } }
     {
-        laws::last_entry_undoes();
         history.entries();
         Engine {
             wal,

@@ -2,6 +2,7 @@ ghost use Rattle.std.specs.Prelude.{◌≡◌, ◌≤◌, ◌<◌, ◌^◌, IfOk
 ghost use Rattle.wp_wal.specs.Wal.{LosesNothing};
 ghost use Rattle.wp_run.specs.Engine.{Later};
 ghost use Rattle.wp_run.specs.Status.{IsStatusOf, IsBeforeSink, stage_of};
+ghost use Rattle.wp_run.specs.Use.{disk_use, sink_use};
 ghost use Rattle.wp_run.specs.Serving.{IsTextOf, HasRun, IsWritten, Finishes, Serves};
 
 use crate::clients::{are_whole, run_all};
@@ -41,12 +42,7 @@ fn answer_all<D: Disk>(
 }
 
 fn write_text<K: Sink>(sink: &mut K, text: &[u8], stopped: bool) -> Status
-    ensures written { IsWritten stopped (record {
-      before = K.contents sink.old;
-      after = K.contents sink.new;
-      faults_before = K.faults sink.old;
-      faults_after = K.faults sink.new;
-    }) text.now result }
+    ensures written { IsWritten stopped (sink_use (K.contents sink.old) (K.contents sink.new) (K.faults sink.old) (K.faults sink.new)) text.now result }
     ensures later { K.faults sink.old ≤ K.faults sink.new }
 {
     match write_all(sink, text) {
@@ -63,17 +59,7 @@ fn finish<D: Disk, K: Sink>(
     parts: &[Part],
     sink: &mut K,
 ) -> Served<D>
-    ensures finishes { Finishes engine parts.now (record {
-      before = engine.moments;
-      after = D.moments result.disk;
-      faults_before = engine.faults;
-      faults_after = D.faults result.disk;
-    }) (record {
-      before = K.contents sink.old;
-      after = K.contents sink.new;
-      faults_before = K.faults sink.old;
-      faults_after = K.faults sink.new;
-    }) result.status }
+    ensures finishes { Finishes engine parts.now (disk_use engine.moments (D.moments result.disk) engine.faults (D.faults result.disk)) (sink_use (K.contents sink.old) (K.contents sink.new) (K.faults sink.old) (K.faults sink.new)) result.status }
     ensures silent { IsBeforeSink (stage_of result.status) → sink.new ≡ sink.old }
     ensures sink_later { K.faults sink.old ≤ K.faults sink.new }
     ensures durable { LosesNothing engine.moments (D.moments result.disk) }
@@ -119,18 +105,8 @@ pub(crate) fn serve<D: Disk, K: Sink>(
       limit = limit;
       id = id;
       script = parts.now;
-      log = record {
-        before = D.moments disk;
-        after = D.moments result.disk;
-        faults_before = D.faults disk;
-        faults_after = D.faults result.disk;
-      };
-      sink = record {
-        before = K.contents sink.old;
-        after = K.contents sink.new;
-        faults_before = K.faults sink.old;
-        faults_after = K.faults sink.new;
-      };
+      log = disk_use (D.moments disk) (D.moments result.disk) (D.faults disk) (D.faults result.disk);
+      sink = sink_use (K.contents sink.old) (K.contents sink.new) (K.faults sink.old) (K.faults sink.new);
     }) result.status }
     ensures silent { IsBeforeSink (stage_of result.status) → sink.new ≡ sink.old }
     ensures sink_later { K.faults sink.old ≤ K.faults sink.new }

@@ -2,6 +2,7 @@ ghost use Rattle.std.specs.Prelude.{◌≡◌, ◌≤◌, map};
 ghost use Rattle.std.specs.String.{string_bytes};
 ghost use Rattle.wp_wal.specs.Wal.{LosesNothing};
 ghost use Rattle.wp_run.specs.Run.{Call, Ends, IsChosen, IsReadAs};
+ghost use Rattle.wp_run.specs.Use.{disk_use, source_use, sink_use};
 ghost use Rattle.wp_run.specs.Status.{LeavesUncalled, stage_of};
 
 use crate::serve::{Served, serve};
@@ -22,13 +23,7 @@ pub struct Ended<D> {
 
 /// The script that the source holds.
 fn script_in<S: Source>(alloc: Global, source: &mut S) -> Result<Script, Status>
-    ensures read { IsReadAs Action.Run (record {
-      before = S.left source.old;
-      after = S.left source.new;
-      faults_before = S.faults source.old;
-      faults_after = S.faults source.new;
-      uncalled = source.new ≡ source.old;
-    }) result }
+    ensures read { IsReadAs Action.Run (source_use (S.left source.old) (S.left source.new) (S.faults source.old) (S.faults source.new) (source.new ≡ source.old)) result }
     ensures later { S.faults source.old ≤ S.faults source.new }
 {
     match read_all(alloc, source, MOST_BYTES + 1) {
@@ -44,13 +39,7 @@ fn script_in<S: Source>(alloc: Global, source: &mut S) -> Result<Script, Status>
 
 /// The script that is to be run. To show a store is to run none, and the source is not called.
 fn script_of<S: Source>(alloc: Global, action: Action, source: &mut S) -> Result<Script, Status>
-    ensures read { IsReadAs action (record {
-      before = S.left source.old;
-      after = S.left source.new;
-      faults_before = S.faults source.old;
-      faults_after = S.faults source.new;
-      uncalled = source.new ≡ source.old;
-    }) result }
+    ensures read { IsReadAs action (source_use (S.left source.old) (S.left source.new) (S.faults source.old) (S.faults source.new) (source.new ≡ source.old)) result }
     ensures later { S.faults source.old ≤ S.faults source.new }
 {
     match action {
@@ -73,25 +62,9 @@ pub fn run<R: Threads + Wait + Sync, D: Disk + Send, S: Source, K: Sink, G: Gate
     // How the call ended and why, what was written and what the log stores, by the status.
     ensures ends { Ends (record {
       words = map string_bytes words.now;
-      source = record {
-        before = S.left source.old;
-        after = S.left source.new;
-        faults_before = S.faults source.old;
-        faults_after = S.faults source.new;
-        uncalled = source.new ≡ source.old;
-      };
-      log = record {
-        before = D.moments disks.log;
-        after = D.moments result.disks.log;
-        faults_before = D.faults disks.log;
-        faults_after = D.faults result.disks.log;
-      };
-      sink = record {
-        before = K.contents sink.old;
-        after = K.contents sink.new;
-        faults_before = K.faults sink.old;
-        faults_after = K.faults sink.new;
-      };
+      source = source_use (S.left source.old) (S.left source.new) (S.faults source.old) (S.faults source.new) (source.new ≡ source.old);
+      log = disk_use (D.moments disks.log) (D.moments result.disks.log) (D.faults disks.log) (D.faults result.disks.log);
+      sink = sink_use (K.contents sink.old) (K.contents sink.new) (K.faults sink.old) (K.faults sink.new);
     }) result.status }
     // However it ended, no crash takes what each crash would have left acknowledged before.
     ensures durable { LosesNothing (D.moments disks.log) (D.moments result.disks.log) }

@@ -2,7 +2,6 @@
 use Rattle.std.proofs.Common.{◌≡◌, ℕ, zero, suc, ◌+◌, ◌-◌, ◌≤◌, ◌<◌, ◌⊎◌, true, false, List, [], ◌∷◌, ◌++◌, length, take, drop, Option, Some, None, refl, sym, ap, ◌∙◌, subst, append_assoc, length-append, arith, inl, inr}
 use Rattle.std.specs.Prelude.{IfSome, slice_get, is_some, nat_le, nat_lt, unwrap_or}
 use Rattle.std.proofs.lemmas.Bool.{cases_Bool, eq-eqb, ltb-true}
-use Rattle.std.specs.Str.{bytes_eq}
 use Rattle.std.proofs.lemmas.Slice.Eq.{bytes_eq-Decides}
 use Rattle.std.proofs.lemmas.List.{take-append-drop}
 use Rattle.wp_model.specs.declared.change.Change.{Change}
@@ -16,23 +15,23 @@ use Rattle.wp_text.specs.declared.script.Command.{Command}
 use Rattle.wp_text.specs.declared.script.Command.TheVariants as command
 use Rattle.wp_text.specs.declared.reply.Reply.{Reply}
 use Rattle.wp_text.specs.declared.reply.Reply.TheVariants as reply
-use Rattle.wp_session.specs.declared.session.TheConstants.{MOST_SNAPSHOTS}
-use Rattle.wp_session.specs.declared.session.Txn.{Txn}
-use Rattle.wp_session.specs.declared.session.Txn.TheVariants.{Idle, Open, Prepared}
+use Rattle.wp_session.specs.declared.client.TheConstants.{MOST_SNAPSHOTS}
+use Rattle.wp_session.specs.declared.client.Txn.{Txn}
+use Rattle.wp_session.specs.declared.client.Txn.TheVariants.{Idle, Open, Prepared}
 use Rattle.wp_session.specs.declared.plan.Plan.{Plan}
 use Rattle.wp_session.specs.declared.plan.Plan.TheVariants.{Say, Log, RollBack}
 use Rattle.wp_session.specs.Client.{Client, AreWithin, number_of, own_batch, has_no_room}
-use Rattle.wp_session.specs.After.{with_held, labels_after}
+use Rattle.wp_session.specs.After.{with_staged, labels_after}
 use Rattle.wp_session.specs.Kind.{is_logged, fresh_in, last_after}
-use Rattle.wp_session.specs.Replies.{IsKnown, one_at_a_time, refusal_of, refuses_change, IsFresh, IsLoggedAt, WasUndecided, IsBusy, TxnIsOpen, TxnIsWithin, OwnSays, needed, unless_labelled, unless_idle, unless_open, if_idle, unless_prepared, PreparesAt, CommitsAt, RollsBackAt, Row, UnlessRefused, Allows}
+use Rattle.wp_session.specs.Replies.{one_at_a_time, refusal_of, refuses_change, IsFresh, IsLoggedAt, WasUndecided, IsBusy, TxnIsOpen, TxnIsWithin, OwnSays, needed, unless_labelled, unless_idle, unless_open, if_idle, unless_prepared, PreparesAt, CommitsAt, RollsBackAt, Row, UnlessRefused, Allows}
 use Rattle.wp_session.specs.Plan.{plan, asked_of, next, busy_or, change_plan, read_reply, get_reply, get_at_reply, free_reply, begin_reply, begin_plan, prepare_plan, commit_plan, rollback_plan, leave_plan, take_reply, take_plan}
 use Rattle.wp_session.specs.Due.{Store, logged, reply_to, due, IsReply, logged_entries, taken, client_after}
 use Rattle.wp_session.specs.Moments.{store_at, IsDueFrom, AreDueFrom}
 use Rattle.wp_session.specs.Session.{IsSession}
-use Rattle.wp_session.proofs.Found.{found_holder, found_named}
-use Rattle.wp_session.proofs.PlanLemmas.{undecided_within}
+use Rattle.wp_model.proofs.Found.{found_holder, found_named}
+use Rattle.wp_model.proofs.Entries.{undecided_within, batch_at_old}
 use Rattle.wp_session.proofs.SaidLemmas.{within_same, within_filter, within_more, number_within}
-use Rattle.wp_session.proofs.Rows.{slice_get_more, batch_old, snapshots_after}
+use Rattle.wp_session.proofs.Rows.{slice_get_more, snapshots_after}
 
 -- ---- the history at a moment
 
@@ -88,10 +87,10 @@ store_in s = store_at s.h s.limit s.given.stopped s.given.before
 
 -- a reply's row
 abbrev pub RowOf : {client : Client} {c : Command} {answer : Reply} → Scene client c answer → Reply → Type 0
-RowOf {client = client} {c = c} s made = Row s.h s.limit (IsKnown (one_at_a_time s.h)) s.last client (taken (front s) c) c made
+RowOf {client = client} {c = c} s made = Row (one_at_a_time s.h s.limit) s.last client (taken (front s) c) c made
 
 abbrev pub IsAllowed : {client : Client} {c : Command} {answer : Reply} → Scene client c answer → Type 0
-IsAllowed {client = client} {c = c} {answer = answer} s = Allows s.h s.limit (IsKnown (one_at_a_time s.h)) s.last client (taken (front s) c) c answer
+IsAllowed {client = client} {c = c} {answer = answer} s = Allows (one_at_a_time s.h s.limit) s.last client (taken (front s) c) c answer
 
 front_size : {client : Client} {c : Command} {answer : Reply} (s : Scene client c answer) → length (front s) ≡ s.given.before
 front_size s = size s.h s.given.before (omega (arith, s.given.grows, s.given.within))
@@ -165,7 +164,7 @@ one_allowed s e made is logs free needs row =
 
 -- ---- put, del
 
-busy_in : {client : Client} {c : Command} {answer : Reply} (s : Scene client c answer) (key : List ℕ) (p : ℕ) → holder_of (front s) key ≡ Some p → IsBusy s.h (IsKnown (one_at_a_time s.h)) s.last key (name_at (front s) p)
+busy_in : {client : Client} {c : Command} {answer : Reply} (s : Scene client c answer) (key : List ℕ) (p : ℕ) → holder_of (front s) key ≡ Some p → IsBusy (one_at_a_time s.h s.limit) s.last key (name_at (front s) p)
 busy_in s key p is =
     let found = found_holder (front s) key p is in
     let fresh = front_fresh s in
@@ -178,7 +177,7 @@ option_cases (Some a) = inr (a, refl)
 change_allowed : {client : Client} {c : Command} {answer : Reply} (s : Scene client c answer) (change : Change) (made : Reply)
     → plan (front s) client c ≡ change_plan (front s) client.txn change made → refusal_of client c ≡ refuses_change client.txn (key_of change) → (client.txn ≡ Idle → needed client.txn c ≡ 1) → is_logged made ≡ true
     → (client.txn ≡ Idle → IsLoggedAt s.h s.last (next (front s)) (entry.Write (change ∷ [])) → RowOf s made)
-    → ((name : List ℕ) → IsBusy s.h (IsKnown (one_at_a_time s.h)) s.last (key_of change) name → RowOf s (reply.Busy name))
+    → ((name : List ℕ) → IsBusy (one_at_a_time s.h s.limit) s.last (key_of change) name → RowOf s (reply.Busy name))
     → (TxnIsOpen client.txn → RowOf s reply.Held) → IsAllowed s
 change_allowed {client = client} {c = c} s change made plan_is refusal_is needs logs row busy held = by client.txn refl
   where
@@ -216,7 +215,7 @@ own_in {client = client} s key = by client.txn s.txn
     by (Open name batch) within = (tt, refl)
     by (Prepared p) within =
         let published : p ≤ length (front s) = omega (arith, front_size s, within, s.given.earlier) in
-        let same : batch_at s.h p ≡ batch_at (front s) p = subst (λ (xs : List Entry). batch_at xs p ≡ batch_at (front s) p) (take-append-drop s.given.before s.h) (batch_old (front s) (drop s.given.before s.h) p published) in
+        let same : batch_at s.h p ≡ batch_at (front s) p = subst (λ (xs : List Entry). batch_at xs p ≡ batch_at (front s) p) (take-append-drop s.given.before s.h) (batch_at_old (front s) (drop s.given.before s.h) p published) in
         (omega (arith, within, s.given.earlier, s.given.grows, s.given.within), ap (λ (b : List Change). change_to b key) same)
 
 get_allowed : {client : Client} {answer : Reply} (key : List ℕ) (s : Scene client (command.Get key) answer) → IsAllowed s
@@ -272,14 +271,11 @@ free_allowed {client = client} label s = by (number_of client.snapshots label) r
 
 -- ---- transactions
 
-same_bytes : (xs ys : List ℕ) → bytes_eq xs ys ≡ true → xs ≡ ys
-same_bytes xs ys is = (bytes_eq-Decides xs ys).0 is
-
 was_in : {client : Client} {c : Command} {answer : Reply} (s : Scene client c answer) (name : List ℕ) (p : ℕ) → named (front s) name ≡ Some p → WasUndecided s.h s.last name p
 was_in s name p is =
     let found = found_named (front s) name p is in
     let fresh = front_fresh s in
-    record { at = s.given.before; fresh = (omega (arith, fresh.0, front_size s), omega (arith, fresh.1, front_size s)); undecided = found.0; named = same_bytes _ _ found.1 }
+    record { at = s.given.before; fresh = (omega (arith, fresh.0, front_size s), omega (arith, fresh.1, front_size s)); undecided = found.0; named = (bytes_eq-Decides _ _).0 found.1 }
 
 begin_allowed : {client : Client} {answer : Reply} (name : List ℕ) (s : Scene client (command.Begin name) answer) → IsAllowed s
 begin_allowed {client = client} name s = by client.txn refl
@@ -369,10 +365,10 @@ due_allowed client (command.Take name) answer s = take_allowed name s
 
 -- ---- what the reply leaves
 
-held_within : (n : ℕ) (txn : Txn) (change : Change) → TxnIsWithin n txn → TxnIsWithin n (with_held txn change)
-held_within n Idle change within = within
-held_within n (Open name batch) change within = within
-held_within n (Prepared p) change within = within
+staged_within : (n : ℕ) (txn : Txn) (change : Change) → TxnIsWithin n txn → TxnIsWithin n (with_staged txn change)
+staged_within n Idle change within = within
+staged_within n (Open name batch) change within = within
+staged_within n (Prepared p) change within = within
 
 txn_more : (n m : ℕ) (txn : Txn) → n ≤ m → TxnIsWithin n txn → TxnIsWithin m txn
 txn_more n m Idle le within = tt
@@ -396,8 +392,8 @@ prepared_fresh client (command.GetAt key label) n s allowed = absurd (by (number
 prepared_fresh client other n s allowed = refl
 
 txn_within : (client : Client) (c : Command) (answer : Reply) (s : Scene client c answer) → IsAllowed s → TxnIsWithin s.given.after client.txn → TxnIsWithin s.given.after (client_after (front s) client c answer).txn
-txn_within client (command.Put key value) reply.Held s allowed within = held_within s.given.after client.txn (change.Put key value) within
-txn_within client (command.Del key) reply.Held s allowed within = held_within s.given.after client.txn (change.Del key) within
+txn_within client (command.Put key value) reply.Held s allowed within = staged_within s.given.after client.txn (change.Put key value) within
+txn_within client (command.Del key) reply.Held s allowed within = staged_within s.given.after client.txn (change.Del key) within
 txn_within client (command.Begin name) reply.Begun s allowed within = tt
 txn_within client (command.Take name) reply.Took s allowed within = omega (arith, taken_within (front s) (command.Take name), front_size s, s.given.grows)
 txn_within client c (reply.Prepared n) s allowed within = (subst (λ (o : Option ℕ). IfSome o (λ m. (s.given.before ≤ m) × (m ≤ s.given.after))) (prepared_fresh client c n s allowed) s.given.fresh).1
@@ -416,7 +412,7 @@ last_within : (last before after : ℕ) (number : Option ℕ) → last ≤ befor
 last_within last before after (Some n) low grows fresh = fresh.1
 last_within last before after None low grows fresh = omega (arith, low, grows)
 
-pub due_session : (h : List Entry) (limit from last : ℕ) (client : Client) (cs : List Command) (rs : List Reply) → last ≤ from → TxnIsWithin from client.txn → AreWithin from client.snapshots → AreDueFrom h limit from client cs rs → IsSession h limit (IsKnown (one_at_a_time h)) last client cs rs
+pub due_session : (h : List Entry) (limit from last : ℕ) (client : Client) (cs : List Command) (rs : List Reply) → last ≤ from → TxnIsWithin from client.txn → AreWithin from client.snapshots → AreDueFrom h limit from client cs rs → IsSession (one_at_a_time h limit) last client cs rs
 due_session h limit from last client [] [] low txn snapshots due = tt
 due_session h limit from last client [] (r ∷ rs) low txn snapshots due = absurd due
 due_session h limit from last client (c ∷ cs) [] low txn snapshots due = absurd due

@@ -1,4 +1,3 @@
-pub mod Found
 pub mod PlanLemmas
 pub mod SaidLemmas
 pub mod Rows

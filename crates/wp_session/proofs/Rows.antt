@@ -1,20 +1,21 @@
 -- The rows of the table stay true as the history grows, and as more is known of the other clients.
-use Rattle.std.proofs.Common.{◌≡◌, ℕ, zero, suc, ◌-◌, ◌≤◌, true, List, [], ◌∷◌, ◌++◌, length, take, Option, Some, None, refl, sym, ap, ◌∙◌, subst, arith, length-append, inl, inr}
+use Rattle.std.proofs.Common.{◌≡◌, ℕ, zero, suc, ◌-◌, ◌≤◌, Bool, true, List, [], ◌∷◌, ◌++◌, length, take, Option, Some, None, refl, sym, ap, ◌∙◌, subst, arith, length-append, inl, inr}
 use Rattle.std.specs.Prelude.{slice_get}
 use Rattle.std.proofs.lemmas.List.{take-append-le}
 use Rattle.wp_model.specs.declared.entry.Entry.{Entry}
 use Rattle.wp_model.specs.Batch.{change_to}
-use Rattle.wp_model.specs.History.{entry_at, prepared_batch, name_at, batch_at, is_undecided, is_changed, named, newest}
+use Rattle.wp_model.specs.History.{entry_at, name_at, batch_at, is_undecided, is_changed, named, newest}
+use Rattle.wp_model.proofs.Entries.{batch_at_old}
 use Rattle.wp_text.specs.declared.script.Command.{Command}
 use Rattle.wp_text.specs.declared.script.Command.TheVariants as command
 use Rattle.wp_text.specs.declared.reply.Reply.{Reply}
 use Rattle.wp_text.specs.declared.reply.Reply.TheVariants as reply
-use Rattle.wp_session.specs.declared.session.Txn.{Txn}
-use Rattle.wp_session.specs.declared.session.Txn.TheVariants.{Idle, Open, Prepared}
+use Rattle.wp_session.specs.declared.client.Txn.{Txn}
+use Rattle.wp_session.specs.declared.client.Txn.TheVariants.{Idle, Open, Prepared}
 use Rattle.wp_session.specs.Client.{Client}
 use Rattle.wp_session.specs.After.{labels_after, after_reply}
 use Rattle.wp_session.specs.Kind.{last_after}
-use Rattle.wp_session.specs.Replies.{Claim, HasName, HasKey, LogFailed, refusal_of, IsFresh, IsLoggedAt, WasUndecided, IsBusy, IsNameTaken, OwnSays, PreparesAt, CommitsAt, RollsBackAt, Row, UnlessRefused}
+use Rattle.wp_session.specs.Replies.{Claim, Evidence, IsKnown, HasName, HasKey, LogFailed, refusal_of, IsFresh, IsLoggedAt, WasUndecided, IsBusy, IsNameTaken, OwnSays, PreparesAt, CommitsAt, RollsBackAt, Row, UnlessRefused}
 use Rattle.wp_session.specs.Session.{IsSession}
 
 -- ---- entries
@@ -27,18 +28,6 @@ slice_get_more (y ∷ xs) ys (suc k) x e = slice_get_more xs ys k x e
 entry_more : (h more : List Entry) (n : ℕ) (e : Entry) → entry_at h n ≡ Some e → entry_at (h ++ more) n ≡ Some e
 entry_more h more zero e is = absurd cc
 entry_more h more (suc n) e is = slice_get_more h more n e is
-
-slice_get_old : (xs ys : List Entry) (k : ℕ) → suc k ≤ length xs → slice_get (xs ++ ys) k ≡ slice_get xs k
-slice_get_old [] ys k le = absurd (omega arith)
-slice_get_old (x ∷ xs) ys zero le = refl
-slice_get_old (x ∷ xs) ys (suc k) le = slice_get_old xs ys k (omega arith)
-
-entry_old : (h more : List Entry) (p : ℕ) → p ≤ length h → entry_at (h ++ more) p ≡ entry_at h p
-entry_old h more zero le = refl
-entry_old h more (suc p) le = slice_get_old h more p le
-
-pub batch_old : (h more : List Entry) (p : ℕ) → p ≤ length h → batch_at (h ++ more) p ≡ batch_at h p
-batch_old h more p le = ap prepared_batch (entry_old h more p le)
 
 longer : (h more : List Entry) (n : ℕ) → n ≤ length h → n ≤ length (h ++ more)
 longer h more n le = omega (arith, le, length-append h more)
@@ -63,19 +52,26 @@ was_more h more last name p w = record {
   named = front_more (λ f. name_at f p ≡ name) h more w.at w.fresh.1 w.named;
 }
 
-busy_more : (h more : List Entry) (P Q : Claim → Type 0) → ((claim : Claim) → P claim → Q claim) → (last : ℕ) (key name : List ℕ) → IsBusy h P last key name → IsBusy (h ++ more) Q last key name
-unfolding was_more
-busy_more h more P Q f last key name (inl (p, was, changed)) = inl (p, was_more h more last name p was, front_more (λ f. is_changed (batch_at f p) key ≡ true) h more was.at was.fresh.1 changed)
-busy_more h more P Q f last key name (inr claim) = inr (f (HasKey name key) claim)
+-- the history with more entries, and with more known of the others
+abbrev grown : Evidence → List Entry → (Claim → Bool) → Evidence
+grown e more later = record e { history = e.history ++ more; known = later }
 
-taken_more : (h more : List Entry) (P Q : Claim → Type 0) → ((claim : Claim) → P claim → Q claim) → (last : ℕ) (name : List ℕ) → IsNameTaken h P last name → IsNameTaken (h ++ more) Q last name
-taken_more h more P Q f last name (inl (p, was)) = inl (p, was_more h more last name p was)
-taken_more h more P Q f last name (inr claim) = inr (f (HasName name) claim)
+abbrev KnowsMore : Evidence → (Claim → Bool) → Type 0
+KnowsMore e later = (claim : Claim) → IsKnown e claim → later claim ≡ true
+
+busy_more : (e : Evidence) (more : List Entry) (later : Claim → Bool) → KnowsMore e later → (last : ℕ) (key name : List ℕ) → IsBusy e last key name → IsBusy (grown e more later) last key name
+unfolding was_more
+busy_more e more later f last key name (inl (p, was, changed)) = inl (p, was_more e.history more last name p was, front_more (λ f. is_changed (batch_at f p) key ≡ true) e.history more was.at was.fresh.1 changed)
+busy_more e more later f last key name (inr claim) = inr (f (HasKey name key) claim)
+
+taken_more : (e : Evidence) (more : List Entry) (later : Claim → Bool) → KnowsMore e later → (last : ℕ) (name : List ℕ) → IsNameTaken e last name → IsNameTaken (grown e more later) last name
+taken_more e more later f last name (inl (p, was)) = inl (p, was_more e.history more last name p was)
+taken_more e more later f last name (inr claim) = inr (f (HasName name) claim)
 
 own_more : (h more : List Entry) (txn : Txn) (key : List ℕ) (said : Option (Option (List ℕ))) → OwnSays h txn key said → OwnSays (h ++ more) txn key said
 own_more h more Idle key said s = s
 own_more h more (Open name batch) key said s = s
-own_more h more (Prepared p) key said s = (longer h more p s.0, ap (λ b. change_to b key) (batch_old h more p s.0) ∙ s.1)
+own_more h more (Prepared p) key said s = (longer h more p s.0, ap (λ b. change_to b key) (batch_at_old h more p s.0) ∙ s.1)
 
 value_more : (h more : List Entry) (key : List ℕ) (n : ℕ) (value : Option (List ℕ)) → n ≤ length h → newest (take n h) key ≡ value → newest (take n (h ++ more)) key ≡ value
 value_more h more key n value le is = front_more (λ f. newest f key ≡ value) h more n le is
@@ -108,43 +104,43 @@ snapshots_after p client c r = refl
 
 -- ---- the rows
 
-row_more : (h more : List Entry) (limit : ℕ) (P Q : Claim → Type 0) → ((claim : Claim) → P claim → Q claim) → (last : ℕ) (client : Client) (p : ℕ) (c : Command) (r : Reply) → Row h limit P last client p c r → Row (h ++ more) limit Q last client p c r
-row_more h more limit P Q f last client p c (reply.Full published most) k = (k.0, fresh_more h more last published k.1, k.2, k.3)
-row_more h more limit P Q f last client p c reply.FaultLog k = k
-row_more h more limit P Q f last client p c (reply.Stopped n) k = (k.0, fresh_more h more last n k.1, f (LogFailed n) k.2)
-row_more h more limit P Q f last client p (command.Put key value) (reply.Put n) k = (k.0, logged_more h more last n _ k.1)
-row_more h more limit P Q f last client p (command.Put key value) reply.Held k = k
-row_more h more limit P Q f last client p (command.Put key value) (reply.Busy name) k = busy_more h more P Q f last key name k
-row_more h more limit P Q f last client p (command.Del key) (reply.Del n) k = (k.0, logged_more h more last n _ k.1)
-row_more h more limit P Q f last client p (command.Del key) reply.Held k = k
-row_more h more limit P Q f last client p (command.Del key) (reply.Busy name) k = busy_more h more P Q f last key name k
-row_more h more limit P Q f last client p (command.Get key) (reply.Got value n) k = (own_more h more client.txn key _ k.0, fresh_more h more last n k.1, value_more h more key n _ k.1.1 k.2)
-row_more h more limit P Q f last client p (command.Get key) (reply.Missing n) k = (own_more h more client.txn key _ k.0, fresh_more h more last n k.1, value_more h more key n _ k.1.1 k.2)
-row_more h more limit P Q f last client p (command.Get key) (reply.GotOwn value) k = own_more h more client.txn key _ k
-row_more h more limit P Q f last client p (command.Get key) reply.MissingOwn k = own_more h more client.txn key _ k
-row_more h more limit P Q f last client p (command.GetAt key label) (reply.Got value n) k = ((k.0.0, longer h more n k.0.1), value_more h more key n _ k.0.1 k.1)
-row_more h more limit P Q f last client p (command.GetAt key label) (reply.Missing n) k = ((k.0.0, longer h more n k.0.1), value_more h more key n _ k.0.1 k.1)
-row_more h more limit P Q f last client p (command.Snap label) (reply.Snapped n) k = fresh_more h more last n k
-row_more h more limit P Q f last client p (command.Free label) reply.Freed k = k
-row_more h more limit P Q f last client p (command.Begin name) reply.Begun k = k
-row_more h more limit P Q f last client p (command.Begin name) (reply.Taken other) k = (k.0, taken_more h more P Q f last name k.1)
-row_more h more limit P Q f last client p command.Prepare (reply.Prepared n) k = prepares_more h more last client.txn n k
-row_more h more limit P Q f last client p command.Commit (reply.Committed n) k = commits_more h more last client.txn n k
-row_more h more limit P Q f last client p command.Rollback reply.Dropped k = k
-row_more h more limit P Q f last client p command.Rollback (reply.RolledBack n) k = rolls_more h more last client.txn n k
-row_more h more limit P Q f last client p command.Leave reply.Left k = k
-row_more h more limit P Q f last client p (command.Take name) reply.Took k = was_more h more last name p k
-row_more h more limit P Q f last client p (command.Take name) (reply.Unknown other n) k = (k.0, fresh_more h more last n k.1, front_more (λ f. named f name ≡ None) h more n k.1.1 k.2)
-row_more h more limit P Q f last client p c r k = absurd k
+row_more : (e : Evidence) (more : List Entry) (later : Claim → Bool) → KnowsMore e later → (last : ℕ) (client : Client) (p : ℕ) (c : Command) (r : Reply) → Row e last client p c r → Row (grown e more later) last client p c r
+row_more e more later f last client p c (reply.Full published most) k = (k.0, fresh_more e.history more last published k.1, k.2, k.3)
+row_more e more later f last client p c reply.FaultLog k = k
+row_more e more later f last client p c (reply.Stopped n) k = (k.0, fresh_more e.history more last n k.1, f (LogFailed n) k.2)
+row_more e more later f last client p (command.Put key value) (reply.Put n) k = (k.0, logged_more e.history more last n _ k.1)
+row_more e more later f last client p (command.Put key value) reply.Held k = k
+row_more e more later f last client p (command.Put key value) (reply.Busy name) k = busy_more e more later f last key name k
+row_more e more later f last client p (command.Del key) (reply.Del n) k = (k.0, logged_more e.history more last n _ k.1)
+row_more e more later f last client p (command.Del key) reply.Held k = k
+row_more e more later f last client p (command.Del key) (reply.Busy name) k = busy_more e more later f last key name k
+row_more e more later f last client p (command.Get key) (reply.Got value n) k = (own_more e.history more client.txn key _ k.0, fresh_more e.history more last n k.1, value_more e.history more key n _ k.1.1 k.2)
+row_more e more later f last client p (command.Get key) (reply.Missing n) k = (own_more e.history more client.txn key _ k.0, fresh_more e.history more last n k.1, value_more e.history more key n _ k.1.1 k.2)
+row_more e more later f last client p (command.Get key) (reply.GotOwn value) k = own_more e.history more client.txn key _ k
+row_more e more later f last client p (command.Get key) reply.MissingOwn k = own_more e.history more client.txn key _ k
+row_more e more later f last client p (command.GetAt key label) (reply.Got value n) k = ((k.0.0, longer e.history more n k.0.1), value_more e.history more key n _ k.0.1 k.1)
+row_more e more later f last client p (command.GetAt key label) (reply.Missing n) k = ((k.0.0, longer e.history more n k.0.1), value_more e.history more key n _ k.0.1 k.1)
+row_more e more later f last client p (command.Snap label) (reply.Snapped n) k = fresh_more e.history more last n k
+row_more e more later f last client p (command.Free label) reply.Freed k = k
+row_more e more later f last client p (command.Begin name) reply.Begun k = k
+row_more e more later f last client p (command.Begin name) (reply.Taken other) k = (k.0, taken_more e more later f last name k.1)
+row_more e more later f last client p command.Prepare (reply.Prepared n) k = prepares_more e.history more last client.txn n k
+row_more e more later f last client p command.Commit (reply.Committed n) k = commits_more e.history more last client.txn n k
+row_more e more later f last client p command.Rollback reply.Dropped k = k
+row_more e more later f last client p command.Rollback (reply.RolledBack n) k = rolls_more e.history more last client.txn n k
+row_more e more later f last client p command.Leave reply.Left k = k
+row_more e more later f last client p (command.Take name) reply.Took k = was_more e.history more last name p k
+row_more e more later f last client p (command.Take name) (reply.Unknown other n) k = (k.0, fresh_more e.history more last n k.1, front_more (λ f. named f name ≡ None) e.history more n k.1.1 k.2)
+row_more e more later f last client p c r k = absurd k
 
 unless_refused_more : (refusal : Option Reply) (r : Reply) (A B : Type 0) → (A → B) → UnlessRefused refusal r A → UnlessRefused refusal r B
 unless_refused_more None r A B f a = f a
 unless_refused_more (Some refusal) r A B f is = is
 
 -- a session over a history that grows, with more known of the others
-pub session_more : (h more : List Entry) (limit : ℕ) (P Q : Claim → Type 0) → ((claim : Claim) → P claim → Q claim) → (last : ℕ) (client : Client) (cs : List Command) (rs : List Reply) → IsSession h limit P last client cs rs → IsSession (h ++ more) limit Q last client cs rs
-session_more h more limit P Q f last client [] [] s = tt
-session_more h more limit P Q f last client [] (r ∷ rs) s = absurd s
-session_more h more limit P Q f last client (c ∷ cs) [] s = absurd s
-session_more h more limit P Q f last client (c ∷ cs) (r ∷ rs) (p, allowed, rest) =
-    (p, unless_refused_more (refusal_of client c) r _ _ (row_more h more limit P Q f last client p c r) allowed, session_more h more limit P Q f (last_after last c r) (after_reply p client c r) cs rs rest)
+pub session_more : (e : Evidence) (more : List Entry) (later : Claim → Bool) → KnowsMore e later → (last : ℕ) (client : Client) (cs : List Command) (rs : List Reply) → IsSession e last client cs rs → IsSession (grown e more later) last client cs rs
+session_more e more later f last client [] [] s = tt
+session_more e more later f last client [] (r ∷ rs) s = absurd s
+session_more e more later f last client (c ∷ cs) [] s = absurd s
+session_more e more later f last client (c ∷ cs) (r ∷ rs) (p, allowed, rest) =
+    (p, unless_refused_more (refusal_of client c) r _ _ (row_more e more later f last client p c r) allowed, session_more e more later f (last_after last c r) (after_reply p client c r) cs rs rest)

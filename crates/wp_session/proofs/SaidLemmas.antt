@@ -17,15 +17,15 @@ use Rattle.wp_text.specs.declared.script.Command.{Command}
 use Rattle.wp_text.specs.declared.script.Command.TheVariants as command
 use Rattle.wp_text.specs.declared.reply.Reply.{Reply}
 use Rattle.wp_text.specs.declared.reply.Reply.TheVariants as reply
-use Rattle.wp_session.specs.declared.session.TheConstants.{MOST_SNAPSHOTS}
-use Rattle.wp_session.specs.declared.session.Snapshot.{Snapshot}
-use Rattle.wp_session.specs.declared.session.Txn.{Txn}
-use Rattle.wp_session.specs.declared.session.Txn.TheVariants.{Idle, Open, Prepared}
+use Rattle.wp_session.specs.declared.client.TheConstants.{MOST_SNAPSHOTS}
+use Rattle.wp_session.specs.declared.client.LabelledSnapshot.{LabelledSnapshot}
+use Rattle.wp_session.specs.declared.client.Txn.{Txn}
+use Rattle.wp_session.specs.declared.client.Txn.TheVariants.{Idle, Open, Prepared}
 use Rattle.wp_session.specs.declared.plan.Plan.{Plan}
 use Rattle.wp_session.specs.declared.plan.Plan.TheVariants.{Say, Log}
-use Rattle.wp_session.proofs.Found.{named_is_undecided}
+use Rattle.wp_model.proofs.Found.{named_is_undecided}
 use Rattle.wp_session.specs.Client.{Client, ClientFits, AreWithin, number_of, own_batch, has_no_room}
-use Rattle.wp_session.specs.After.{with_held}
+use Rattle.wp_session.specs.After.{with_staged}
 use Rattle.wp_session.specs.Due.{client_after}
 use Rattle.wp_session.specs.Kind.{acknowledged, is_logged, is_fault, is_stopped, number_in, fresh_in}
 use Rattle.wp_session.specs.Plan.{plan, busy_or, change_plan, begin_reply, begin_plan, prepare_plan, commit_plan, rollback_plan, leave_plan, take_reply, take_plan, read_reply, get_reply, get_at_reply, snap_reply, free_reply}
@@ -89,7 +89,7 @@ get_at_is_plain : (h : List Entry) (number : Option ℕ) (key label : List ℕ) 
 get_at_is_plain h (Some n) key label = read_at_is_plain h key label (value_at h key n) n
 get_at_is_plain h None key label = record { none = refl; unlogged = refl; faultless = refl; running = refl; current = tt }
 
-snap_is_plain : (h : List Entry) (snapshots : List Snapshot) (label : List ℕ) → IsPlain h (command.Snap label) (snap_reply h snapshots label)
+snap_is_plain : (h : List Entry) (snapshots : List LabelledSnapshot) (label : List ℕ) → IsPlain h (command.Snap label) (snap_reply h snapshots label)
 snap_is_plain h snapshots label =
     elim (cases_Bool (is_some (number_of snapshots label))) [
       | inl taken ↦ rw taken (record { none = refl; unlogged = refl; faultless = refl; running = refl; current = tt })
@@ -160,11 +160,11 @@ plan_says h client (command.Take name) answer is = take_says h client.txn name a
 
 -- ---- the client
 
-pub within_same : (n : ℕ) (front back : List Snapshot) → AreWithin n front → AreWithin n back → AreWithin n (front ++ back)
+pub within_same : (n : ℕ) (front back : List LabelledSnapshot) → AreWithin n front → AreWithin n back → AreWithin n (front ++ back)
 within_same n [] back f b = b
 within_same n (s ∷ front) back f b = (f.0, within_same n front back f.1 b)
 
-pub within_filter : (n : ℕ) (keeps : Snapshot → Bool) (snapshots : List Snapshot) → AreWithin n snapshots → AreWithin n (filter keeps snapshots)
+pub within_filter : (n : ℕ) (keeps : LabelledSnapshot → Bool) (snapshots : List LabelledSnapshot) → AreWithin n snapshots → AreWithin n (filter keeps snapshots)
 within_filter n keeps [] w = tt
 within_filter n keeps (s ∷ snapshots) w =
     elim (cases_Bool (keeps s)) [
@@ -172,11 +172,11 @@ within_filter n keeps (s ∷ snapshots) w =
       | inr dropped ↦ rw dropped (within_filter n keeps snapshots w.1)
     ]
 
-pub within_more : (n m : ℕ) (snapshots : List Snapshot) → n ≤ m → AreWithin n snapshots → AreWithin m snapshots
+pub within_more : (n m : ℕ) (snapshots : List LabelledSnapshot) → n ≤ m → AreWithin n snapshots → AreWithin m snapshots
 within_more n m [] le w = tt
 within_more n m (s ∷ snapshots) le w = (omega (arith, w.0), within_more n m snapshots le w.1)
 
-pub number_within : (n : ℕ) (snapshots : List Snapshot) (label : List ℕ) → AreWithin n snapshots → IfSome (number_of snapshots label) (λ m. m ≤ n)
+pub number_within : (n : ℕ) (snapshots : List LabelledSnapshot) (label : List ℕ) → AreWithin n snapshots → IfSome (number_of snapshots label) (λ m. m ≤ n)
 number_within n [] label w = tt
 number_within n (s ∷ snapshots) label w =
     elim (cases_Bool (bytes_eq s.label label)) [
@@ -195,7 +195,7 @@ free_with_change h (first ∷ others) c free new =
     free_by_order (key_cmp (key_of c) (key_of first)) h (c ∷ first ∷ others) (c ∷ others) (first ∷ with_change others c) (new, free) (new, free.1) (free.0, free_with_change h others c free.1 new)
 
 change_fits : (h : List Entry) (client : Client) (c : Command) (change : Change) (made answer : Reply) → ClientFits h client
-    → client_after h client c reply.Held ≡ record client { txn = with_held client.txn change }
+    → client_after h client c reply.Held ≡ record client { txn = with_staged client.txn change }
     → change_plan h client.txn change made ≡ Say answer → ClientFits h (client_after h client c answer)
 change_fits h client c change made answer fits held is =
     change_answers (λ (r : Reply). ClientFits h (client_after h client c r)) h client.txn change made answer fits (λ name. fits) fits

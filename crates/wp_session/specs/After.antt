@@ -7,20 +7,20 @@ use Rattle.wp_text.specs.declared.script.Command.{Command}
 use Rattle.wp_text.specs.declared.script.Command.TheVariants as command
 use Rattle.wp_text.specs.declared.reply.Reply.{Reply}
 use Rattle.wp_text.specs.declared.reply.Reply.TheVariants as reply
-use Rattle.wp_session.specs.declared.session.Snapshot.{Snapshot}
-use Rattle.wp_session.specs.declared.session.Txn.{Txn}
-use Rattle.wp_session.specs.declared.session.Txn.TheVariants.{Idle, Open, Prepared}
+use Rattle.wp_session.specs.declared.client.LabelledSnapshot.{LabelledSnapshot}
+use Rattle.wp_session.specs.declared.client.Txn.{Txn}
+use Rattle.wp_session.specs.declared.client.Txn.TheVariants.{Idle, Open, Prepared}
 use Rattle.wp_session.specs.Client.{Client, without_label}
 
 -- an open transaction with one change more
-abbrev pub with_held : Txn → Change → Txn
-with_held (Open name batch) change = Open name (with_change batch change)
-with_held other change = other
+abbrev pub with_staged : Txn → Change → Txn
+with_staged (Open name batch) change = Open name (with_change batch change)
+with_staged other change = other
 
-abbrev pub after_held : Client → Command → Client
-after_held client (command.Put key value) = record client { txn = with_held client.txn (change.Put key value) }
-after_held client (command.Del key) = record client { txn = with_held client.txn (change.Del key) }
-after_held client other = client
+abbrev pub after_staged : Client → Command → Client
+after_staged client (command.Put key value) = record client { txn = with_staged client.txn (change.Put key value) }
+after_staged client (command.Del key) = record client { txn = with_staged client.txn (change.Del key) }
+after_staged client other = client
 
 abbrev pub after_begun : Client → Command → Client
 after_begun client (command.Begin name) = record client { txn = Open name [] }
@@ -40,7 +40,7 @@ after_decision client reply.Left = record client { txn = Idle }
 after_decision client other = client
 
 -- the snapshots once the client has the reply
-abbrev pub labels_after : List Snapshot → Command → Reply → List Snapshot
+abbrev pub labels_after : List LabelledSnapshot → Command → Reply → List LabelledSnapshot
 labels_after snapshots (command.Snap label) (reply.Snapped n) = snapshots ++ record { label = label; number = n } ∷ []
 labels_after snapshots (command.Free label) reply.Freed = without_label snapshots label
 labels_after snapshots other answer = snapshots
@@ -50,7 +50,7 @@ with_labels_after client command answer = record client { snapshots = labels_aft
 
 -- the client once it has the reply; `took` gives it the prepare with the number p
 abbrev pub after_reply : ℕ → Client → Command → Reply → Client
-after_reply p client command reply.Held = after_held client command
+after_reply p client command reply.Held = after_staged client command
 after_reply p client command (reply.Snapped n) = with_labels_after client command (reply.Snapped n)
 after_reply p client command reply.Freed = with_labels_after client command reply.Freed
 after_reply p client command reply.Begun = after_begun client command

@@ -8,24 +8,24 @@ use Rattle.wp_model.specs.declared.change.Change.{Change}
 use Rattle.wp_model.specs.declared.entry.Entry.{Entry}
 use Rattle.wp_model.specs.History.{is_undecided, is_changed, named, batch_at}
 use Rattle.wp_model.specs.Legal.{AreFree}
-use Rattle.wp_session.specs.declared.session.Snapshot.{Snapshot}
-use Rattle.wp_session.specs.declared.session.Txn.{Txn}
-use Rattle.wp_session.specs.declared.session.Txn.TheVariants.{Idle, Open, Prepared}
+use Rattle.wp_session.specs.declared.client.LabelledSnapshot.{LabelledSnapshot}
+use Rattle.wp_session.specs.declared.client.Txn.{Txn}
+use Rattle.wp_session.specs.declared.client.Txn.TheVariants.{Idle, Open, Prepared}
 
 pub record Client : Type 0 where
   pub txn : Txn
-  pub snapshots : List Snapshot
+  pub snapshots : List LabelledSnapshot
 
 -- as each session begins
 abbrev pub new_client : Client
 new_client = record { txn = Idle; snapshots = [] }
 
 -- the number of the snapshot with that label
-abbrev pub number_of : List Snapshot → List ℕ → Option ℕ
+abbrev pub number_of : List LabelledSnapshot → List ℕ → Option ℕ
 number_of snapshots label = option_map (λ s. s.number) (find (λ s. bytes_eq s.label label) snapshots)
 
 -- the snapshots but the one with that label
-abbrev pub without_label : List Snapshot → List ℕ → List Snapshot
+abbrev pub without_label : List LabelledSnapshot → List ℕ → List LabelledSnapshot
 without_label snapshots label = filter (λ s. not (bytes_eq s.label label)) snapshots
 
 -- what the client's own transaction has changed so far
@@ -46,7 +46,7 @@ TxnFits history (Open name batch) = AreFree history batch × (named history name
 TxnFits history (Prepared p) = is_undecided history p ≡ true
 
 -- each number is one of the history's
-abbrev pub AreWithin : ℕ → List Snapshot → Type 0
+abbrev pub AreWithin : ℕ → List LabelledSnapshot → Type 0
 AreWithin published [] = Unit {0}
 AreWithin published (first ∷ others) = (first.number ≤ published) × AreWithin published others
 

@@ -29,8 +29,8 @@ logged store needed answer =
 
 abbrev pub reply_to : Store → Plan → Reply
 reply_to store (Say answer) = answer
-reply_to store (Log entry answer) = logged store 1 answer
-reply_to store (RollBack p batch answer) = logged store 2 answer
+reply_to store (Log entry answer) = logged store (length (asked_of (Log entry answer))) answer
+reply_to store (RollBack p batch answer) = logged store (length (asked_of (RollBack p batch answer))) answer
 
 -- the reply that is due where the log does not fail
 abbrev pub due : Store → Client → Command → Reply

@@ -9,13 +9,13 @@ use Rattle.wp_text.specs.declared.script.Command.{Command}
 use Rattle.wp_text.specs.declared.script.Command.TheVariants as command
 use Rattle.wp_text.specs.declared.reply.Reply.{Reply}
 use Rattle.wp_text.specs.declared.reply.Reply.TheVariants as reply
-use Rattle.wp_session.specs.declared.session.Snapshot.{Snapshot}
-use Rattle.wp_session.specs.declared.session.Txn.{Txn}
-use Rattle.wp_session.specs.declared.session.Txn.TheVariants.{Idle, Open, Prepared}
+use Rattle.wp_session.specs.declared.client.LabelledSnapshot.{LabelledSnapshot}
+use Rattle.wp_session.specs.declared.client.Txn.{Txn}
+use Rattle.wp_session.specs.declared.client.Txn.TheVariants.{Idle, Open, Prepared}
 use Rattle.wp_session.specs.Client.{Client, new_client, number_of}
 use Rattle.wp_session.specs.After.{labels_after, after_reply}
 use Rattle.wp_session.specs.Kind.{acknowledged, fresh_in, last_after}
-use Rattle.wp_session.specs.Replies.{Claim, one_at_a_time, IsKnown, IsFresh, IsLoggedAt, WasUndecided}
+use Rattle.wp_session.specs.Replies.{Claim, Evidence, one_at_a_time, IsKnown, IsFresh, IsLoggedAt, WasUndecided}
 use Rattle.wp_session.specs.Moments.{AreDueFrom}
 use Rattle.wp_session.specs.Session.{IsSession}
 
@@ -23,38 +23,38 @@ use Rattle.wp_session.specs.Session.{IsSession}
 
 -- A session stays one as the history grows, and as more is known of the others.
 abbrev pub SessionGrows : Type 0
-SessionGrows = (history more : List Entry) (limit last : ℕ) (known later : Claim → Bool) (client : Client) (commands : List Command) (answers : List Reply)
-    → ((claim : Claim) → known claim ≡ true → later claim ≡ true)
-    → IsSession history limit (IsKnown known) last client commands answers
-    → IsSession (history ++ more) limit (IsKnown later) last client commands answers
+SessionGrows = (evidence : Evidence) (more : List Entry) (later : Claim → Bool) (last : ℕ) (client : Client) (commands : List Command) (answers : List Reply)
+    → ((claim : Claim) → IsKnown evidence claim → later claim ≡ true)
+    → IsSession evidence last client commands answers
+    → IsSession (record evidence { history = evidence.history ++ more; known = later }) last client commands answers
 
 -- Replies that are due at moments of the history, one after another, are a session, and nothing need be known of the
 -- other clients.
 abbrev pub DueIsSession : Type 0
 DueIsSession = (history : List Entry) (limit last from : ℕ) (commands : List Command) (answers : List Reply)
     → last ≤ from → AreDueFrom history limit from new_client commands answers
-    → IsSession history limit (IsKnown (one_at_a_time history)) last new_client commands answers
+    → IsSession (one_at_a_time history limit) last new_client commands answers
 
 -- ---- reads
 
 -- The value that a read is answered is what the first n entries leave under the key, where n is the reply's number. A
 -- fresh n is nothing that the client has seen pass, and a snapshot's is the one that it was taken at.
-abbrev pub ReadsValue : List Entry → ℕ → List Snapshot → Command → Reply → Type 0
+abbrev pub ReadsValue : List Entry → ℕ → List LabelledSnapshot → Command → Reply → Type 0
 ReadsValue history last snapshots (command.Get key) (reply.Got value n) = IsFresh history last n × (value_at history key n ≡ Some value)
 ReadsValue history last snapshots (command.Get key) (reply.Missing n) = IsFresh history last n × (value_at history key n ≡ None)
 ReadsValue history last snapshots (command.GetAt key label) (reply.Got value n) = (number_of snapshots label ≡ Some n) × (n ≤ length history) × (value_at history key n ≡ Some value)
 ReadsValue history last snapshots (command.GetAt key label) (reply.Missing n) = (number_of snapshots label ≡ Some n) × (n ≤ length history) × (value_at history key n ≡ None)
 ReadsValue history last snapshots command answer = Unit {0}
 
-abbrev pub AreReads : List Entry → ℕ → List Snapshot → List Command → List Reply → Type 0
+abbrev pub AreReads : List Entry → ℕ → List LabelledSnapshot → List Command → List Reply → Type 0
 AreReads history last snapshots (first ∷ commands) (answer ∷ answers) = ReadsValue history last snapshots first answer × AreReads history (last_after last first answer) (labels_after snapshots first answer) commands answers
 AreReads history last snapshots commands answers = Unit {0}
 
 -- The reads of a session are values of the history.
 abbrev pub ReadsAreValues : Type 0
-ReadsAreValues = (history : List Entry) (limit last : ℕ) (known : Claim → Bool) (client : Client) (commands : List Command) (answers : List Reply)
-    → IsSession history limit (IsKnown known) last client commands answers
-    → AreReads history last client.snapshots commands answers
+ReadsAreValues = (evidence : Evidence) (last : ℕ) (client : Client) (commands : List Command) (answers : List Reply)
+    → IsSession evidence last client commands answers
+    → AreReads evidence.history last client.snapshots commands answers
 
 -- ---- numbers
 
@@ -64,9 +64,9 @@ NeverFall history last (first ∷ commands) (answer ∷ answers) = IfSome (fresh
 NeverFall history last commands answers = Unit {0}
 
 abbrev pub FreshNumbersNeverFall : Type 0
-FreshNumbersNeverFall = (history : List Entry) (limit last : ℕ) (known : Claim → Bool) (client : Client) (commands : List Command) (answers : List Reply)
-    → IsSession history limit (IsKnown known) last client commands answers
-    → NeverFall history last commands answers
+FreshNumbersNeverFall = (evidence : Evidence) (last : ℕ) (client : Client) (commands : List Command) (answers : List Reply)
+    → IsSession evidence last client commands answers
+    → NeverFall evidence.history last commands answers
 
 -- ---- entries
 
@@ -96,6 +96,6 @@ AreLogged history last client (first ∷ commands) (answer ∷ answers) = AreAsk
 AreLogged history last client commands answers = Unit {0}
 
 abbrev pub AcknowledgedAreLogged : Type 0
-AcknowledgedAreLogged = (history : List Entry) (limit last : ℕ) (known : Claim → Bool) (client : Client) (commands : List Command) (answers : List Reply)
-    → IsSession history limit (IsKnown known) last client commands answers
-    → AreLogged history last client commands answers
+AcknowledgedAreLogged = (evidence : Evidence) (last : ℕ) (client : Client) (commands : List Command) (answers : List Reply)
+    → IsSession evidence last client commands answers
+    → AreLogged evidence.history last client commands answers

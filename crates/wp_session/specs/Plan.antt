@@ -1,6 +1,6 @@
 -- What a command comes to where nobody else changes the store: exactly one reply, or the entries that the log is asked to
 -- take and the reply that acknowledges them.
-use Rattle.std.specs.Prelude.{ℕ, ◌+◌, nat_le, List, [], ◌∷◌, length, Option, Some, None, is_some, if◌then◌else◌}
+use Rattle.std.specs.Prelude.{ℕ, ◌+◌, List, [], ◌∷◌, length, Option, Some, None, unwrap_or}
 use Rattle.wp_model.specs.declared.change.Change.{Change}
 use Rattle.wp_model.specs.declared.change.Change.TheVariants as change
 use Rattle.wp_model.specs.declared.entry.Entry.{Entry}
@@ -12,17 +12,22 @@ use Rattle.wp_text.specs.declared.script.Command.{Command}
 use Rattle.wp_text.specs.declared.script.Command.TheVariants as command
 use Rattle.wp_text.specs.declared.reply.Reply.{Reply}
 use Rattle.wp_text.specs.declared.reply.Reply.TheVariants as reply
-use Rattle.wp_session.specs.declared.session.TheConstants.{MOST_SNAPSHOTS}
-use Rattle.wp_session.specs.declared.session.Snapshot.{Snapshot}
-use Rattle.wp_session.specs.declared.session.Txn.{Txn}
-use Rattle.wp_session.specs.declared.session.Txn.TheVariants.{Idle, Open, Prepared}
+use Rattle.wp_session.specs.declared.client.LabelledSnapshot.{LabelledSnapshot}
+use Rattle.wp_session.specs.declared.client.Txn.{Txn}
+use Rattle.wp_session.specs.declared.client.Txn.TheVariants.{Idle, Open, Prepared}
 use Rattle.wp_session.specs.declared.plan.Plan.{Plan}
 use Rattle.wp_session.specs.declared.plan.Plan.TheVariants.{Say, Log, RollBack}
-use Rattle.wp_session.specs.Client.{Client, own_batch, number_of, has_no_room}
+use Rattle.wp_session.specs.Client.{Client, own_batch, number_of}
+use Rattle.wp_session.specs.Replies.{refuses_change, unless_idle, unless_prepared, unless_labelled, refuses_label}
 
 -- the number of the next entry
 abbrev pub next : List Entry → ℕ
 next history = length history + 1
+
+-- the client's own state refuses the command, or it comes to this plan
+abbrev pub refused_or : Option Reply → Plan → Plan
+refused_or None plan = plan
+refused_or (Some refusal) plan = Say refusal
 
 -- ---- put, del
 
@@ -34,11 +39,13 @@ busy_or history (Some p) plan = Say (reply.Busy (name_at history p))
 abbrev pub unless_busy : List Entry → List ℕ → Plan → Plan
 unless_busy history key plan = busy_or history (holder_of history key) plan
 
--- the reply is that of a change that is written at once
+-- a change is written at once where no transaction is open, and the reply is that one
+abbrev pub written_or_staged : Txn → Change → Reply → Plan
+written_or_staged Idle change answer = Log (entry.Write (change ∷ [])) answer
+written_or_staged other change answer = Say reply.Held
+
 abbrev pub change_plan : List Entry → Txn → Change → Reply → Plan
-change_plan history Idle change answer = unless_busy history (key_of change) (Log (entry.Write (change ∷ [])) answer)
-change_plan history (Open name batch) change answer = if has_no_room batch (key_of change) then Say reply.TooMany else unless_busy history (key_of change) (Say reply.Held)
-change_plan history (Prepared p) change answer = Say reply.State
+change_plan history txn change answer = refused_or (refuses_change txn (key_of change)) (unless_busy history (key_of change) (written_or_staged txn change answer))
 
 -- ---- get
 
@@ -60,14 +67,11 @@ get_at_reply history (Some n) key label = read_reply (value_at history key n) n
 
 -- ---- snapshots
 
-abbrev pub snap_reply : List Entry → List Snapshot → List ℕ → Reply
-snap_reply history snapshots label =
-    if is_some (number_of snapshots label) then reply.Taken label
-    else (if nat_le MOST_SNAPSHOTS (length snapshots) then reply.TooMany else reply.Snapped (length history))
+abbrev pub snap_reply : List Entry → List LabelledSnapshot → List ℕ → Reply
+snap_reply history snapshots label = unwrap_or (refuses_label snapshots label) (reply.Snapped (length history))
 
 abbrev pub free_reply : Option ℕ → List ℕ → Reply
-free_reply None label = reply.UnknownSnapshot label
-free_reply (Some n) label = reply.Freed
+free_reply number label = unwrap_or (unless_labelled number label) reply.Freed
 
 -- ---- transactions
 
@@ -80,8 +84,7 @@ take_reply history None name = reply.Unknown name (length history)
 take_reply history (Some p) name = reply.Took
 
 abbrev pub begin_plan : List Entry → Txn → List ℕ → Plan
-begin_plan history Idle name = Say (begin_reply (named history name) name)
-begin_plan history other name = Say reply.State
+begin_plan history txn name = refused_or (unless_idle txn) (Say (begin_reply (named history name) name))
 
 abbrev pub prepare_plan : List Entry → Txn → Plan
 prepare_plan history (Open name batch) = Log (entry.Prepare name batch) (reply.Prepared (next history))
@@ -99,12 +102,10 @@ rollback_plan history (Open name batch) = Say reply.Dropped
 rollback_plan history (Prepared p) = RollBack p (prior history (batch_at history p)) (reply.RolledBack (next history + 1))
 
 abbrev pub leave_plan : Txn → Plan
-leave_plan (Prepared p) = Say reply.Left
-leave_plan other = Say reply.State
+leave_plan txn = refused_or (unless_prepared txn) (Say reply.Left)
 
 abbrev pub take_plan : List Entry → Txn → List ℕ → Plan
-take_plan history Idle name = Say (take_reply history (named history name) name)
-take_plan history other name = Say reply.State
+take_plan history txn name = refused_or (unless_idle txn) (Say (take_reply history (named history name) name))
 
 -- ---- all commands
 

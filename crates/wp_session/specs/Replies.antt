@@ -11,10 +11,10 @@ use Rattle.wp_text.specs.declared.script.Command.{Command}
 use Rattle.wp_text.specs.declared.script.Command.TheVariants as command
 use Rattle.wp_text.specs.declared.reply.Reply.{Reply}
 use Rattle.wp_text.specs.declared.reply.Reply.TheVariants as reply
-use Rattle.wp_session.specs.declared.session.TheConstants.{MOST_SNAPSHOTS}
-use Rattle.wp_session.specs.declared.session.Snapshot.{Snapshot}
-use Rattle.wp_session.specs.declared.session.Txn.{Txn}
-use Rattle.wp_session.specs.declared.session.Txn.TheVariants.{Idle, Open, Prepared}
+use Rattle.wp_session.specs.declared.client.TheConstants.{MOST_SNAPSHOTS}
+use Rattle.wp_session.specs.declared.client.LabelledSnapshot.{LabelledSnapshot}
+use Rattle.wp_session.specs.declared.client.Txn.{Txn}
+use Rattle.wp_session.specs.declared.client.Txn.TheVariants.{Idle, Open, Prepared}
 use Rattle.wp_session.specs.Client.{Client, number_of, own_batch, has_no_room}
 
 -- ---- what is known of the others
@@ -25,14 +25,22 @@ pub data Claim : Type 0 where
   HasKey : List ℕ → List ℕ → Claim  -- another client's transaction of this name has the key in its batch
   LogFailed : ℕ → Claim  -- the log failed, and so many entries are all of the history
 
--- what one history alone says, where no two clients run at once
-abbrev pub one_at_a_time : List Entry → Claim → Bool
-one_at_a_time history (LogFailed n) = n == length history
-one_at_a_time history other = false
+-- what a reply is judged by
+pub record Evidence : Type 0 where
+  pub history : List Entry
+  pub limit : ℕ  -- the greatest number that an entry may have
+  pub known : Claim → Bool  -- what is known of the other clients and of the log
 
--- what passes a test of claims
-abbrev pub IsKnown : (Claim → Bool) → Claim → Type 0
-IsKnown known claim = known claim ≡ true
+abbrev pub IsKnown : Evidence → Claim → Type 0
+IsKnown evidence claim = evidence.known claim ≡ true
+
+-- what one history alone says, where no two clients run at once
+abbrev pub says_alone : List Entry → Claim → Bool
+says_alone history (LogFailed n) = n == length history
+says_alone history other = false
+
+abbrev pub one_at_a_time : List Entry → ℕ → Evidence
+one_at_a_time history limit = record { history = history; limit = limit; known = says_alone history }
 
 -- ---- what the client's own transaction and snapshots refuse, whatever the store has
 
@@ -61,7 +69,7 @@ abbrev pub unless_labelled : Option ℕ → List ℕ → Option Reply
 unless_labelled (Some n) label = None
 unless_labelled None label = Some (reply.UnknownSnapshot label)
 
-abbrev pub refuses_label : List Snapshot → List ℕ → Option Reply
+abbrev pub refuses_label : List LabelledSnapshot → List ℕ → Option Reply
 refuses_label snapshots label =
     if is_some (number_of snapshots label) then Some (reply.Taken label)
     else (if nat_le MOST_SNAPSHOTS (length snapshots) then Some reply.TooMany else None)
@@ -99,12 +107,12 @@ pub record WasUndecided (history : List Entry) (last : ℕ) (name : List ℕ) (p
   pub named : name_at (take at history) p ≡ name
 
 -- the transaction of that name has the key in its batch: it was undecided, or it is another client's
-abbrev pub IsBusy : List Entry → (Claim → Type 0) → ℕ → List ℕ → List ℕ → Type 0
-IsBusy history others last key name = ((p : ℕ) × (was : WasUndecided history last name p) × (is_changed (batch_at (take was.at history) p) key ≡ true)) ⊎ others (HasKey name key)
+abbrev pub IsBusy : Evidence → ℕ → List ℕ → List ℕ → Type 0
+IsBusy evidence last key name = ((p : ℕ) × (was : WasUndecided evidence.history last name p) × (is_changed (batch_at (take was.at evidence.history) p) key ≡ true)) ⊎ IsKnown evidence (HasKey name key)
 
 -- the name was that of an undecided prepare, or it is another client's
-abbrev pub IsNameTaken : List Entry → (Claim → Type 0) → ℕ → List ℕ → Type 0
-IsNameTaken history others last name = ((p : ℕ) × WasUndecided history last name p) ⊎ others (HasName name)
+abbrev pub IsNameTaken : Evidence → ℕ → List ℕ → Type 0
+IsNameTaken evidence last name = ((p : ℕ) × WasUndecided evidence.history last name p) ⊎ IsKnown evidence (HasName name)
 
 -- ---- what a row says of the client
 
@@ -156,34 +164,34 @@ RollsBackAt history last other n = ⊥
 
 -- A row for each command and reply. Last is the greatest fresh number so far, and `took` gives the prepare with the
 -- number p. Of `held`, `freed`, `begun`, `dropped` and `left` the client's state alone decides.
-abbrev pub Row : List Entry → ℕ → (Claim → Type 0) → ℕ → Client → ℕ → Command → Reply → Type 0
-Row history limit others last client p command (reply.Full published most) = (1 ≤ needed client.txn command) × IsFresh history last published × (most ≡ limit) × (limit < published + needed client.txn command)
-Row history limit others last client p command reply.FaultLog = 1 ≤ needed client.txn command
-Row history limit others last client p command (reply.Stopped n) = (1 ≤ needed client.txn command) × IsFresh history last n × others (LogFailed n)
-Row history limit others last client p (command.Put key value) (reply.Put n) = (client.txn ≡ Idle) × IsLoggedAt history last n (entry.Write (change.Put key value ∷ []))
-Row history limit others last client p (command.Put key value) reply.Held = TxnIsOpen client.txn
-Row history limit others last client p (command.Put key value) (reply.Busy name) = IsBusy history others last key name
-Row history limit others last client p (command.Del key) (reply.Del n) = (client.txn ≡ Idle) × IsLoggedAt history last n (entry.Write (change.Del key ∷ []))
-Row history limit others last client p (command.Del key) reply.Held = TxnIsOpen client.txn
-Row history limit others last client p (command.Del key) (reply.Busy name) = IsBusy history others last key name
-Row history limit others last client p (command.Get key) (reply.Got value n) = OwnSays history client.txn key None × IsFresh history last n × (value_at history key n ≡ Some value)
-Row history limit others last client p (command.Get key) (reply.Missing n) = OwnSays history client.txn key None × IsFresh history last n × (value_at history key n ≡ None)
-Row history limit others last client p (command.Get key) (reply.GotOwn value) = OwnSays history client.txn key (Some (Some value))
-Row history limit others last client p (command.Get key) reply.MissingOwn = OwnSays history client.txn key (Some None)
-Row history limit others last client p (command.GetAt key label) (reply.Got value n) = IsSnapshot history client label n × (value_at history key n ≡ Some value)
-Row history limit others last client p (command.GetAt key label) (reply.Missing n) = IsSnapshot history client label n × (value_at history key n ≡ None)
-Row history limit others last client p (command.Snap label) (reply.Snapped n) = IsFresh history last n
-Row history limit others last client p (command.Free label) reply.Freed = Unit {0}
-Row history limit others last client p (command.Begin name) reply.Begun = Unit {0}
-Row history limit others last client p (command.Begin name) (reply.Taken other) = (other ≡ name) × IsNameTaken history others last name
-Row history limit others last client p command.Prepare (reply.Prepared n) = PreparesAt history last client.txn n
-Row history limit others last client p command.Commit (reply.Committed n) = CommitsAt history last client.txn n
-Row history limit others last client p command.Rollback reply.Dropped = TxnIsOpen client.txn
-Row history limit others last client p command.Rollback (reply.RolledBack n) = RollsBackAt history last client.txn n
-Row history limit others last client p command.Leave reply.Left = Unit {0}
-Row history limit others last client p (command.Take name) reply.Took = WasUndecided history last name p
-Row history limit others last client p (command.Take name) (reply.Unknown other n) = (other ≡ name) × IsFresh history last n × (named (take n history) name ≡ None)
-Row history limit others last client p command answer = ⊥
+abbrev pub Row : Evidence → ℕ → Client → ℕ → Command → Reply → Type 0
+Row evidence last client p command (reply.Full published most) = (1 ≤ needed client.txn command) × IsFresh evidence.history last published × (most ≡ evidence.limit) × (evidence.limit < published + needed client.txn command)
+Row evidence last client p command reply.FaultLog = 1 ≤ needed client.txn command
+Row evidence last client p command (reply.Stopped n) = (1 ≤ needed client.txn command) × IsFresh evidence.history last n × IsKnown evidence (LogFailed n)
+Row evidence last client p (command.Put key value) (reply.Put n) = (client.txn ≡ Idle) × IsLoggedAt evidence.history last n (entry.Write (change.Put key value ∷ []))
+Row evidence last client p (command.Put key value) reply.Held = TxnIsOpen client.txn
+Row evidence last client p (command.Put key value) (reply.Busy name) = IsBusy evidence last key name
+Row evidence last client p (command.Del key) (reply.Del n) = (client.txn ≡ Idle) × IsLoggedAt evidence.history last n (entry.Write (change.Del key ∷ []))
+Row evidence last client p (command.Del key) reply.Held = TxnIsOpen client.txn
+Row evidence last client p (command.Del key) (reply.Busy name) = IsBusy evidence last key name
+Row evidence last client p (command.Get key) (reply.Got value n) = OwnSays evidence.history client.txn key None × IsFresh evidence.history last n × (value_at evidence.history key n ≡ Some value)
+Row evidence last client p (command.Get key) (reply.Missing n) = OwnSays evidence.history client.txn key None × IsFresh evidence.history last n × (value_at evidence.history key n ≡ None)
+Row evidence last client p (command.Get key) (reply.GotOwn value) = OwnSays evidence.history client.txn key (Some (Some value))
+Row evidence last client p (command.Get key) reply.MissingOwn = OwnSays evidence.history client.txn key (Some None)
+Row evidence last client p (command.GetAt key label) (reply.Got value n) = IsSnapshot evidence.history client label n × (value_at evidence.history key n ≡ Some value)
+Row evidence last client p (command.GetAt key label) (reply.Missing n) = IsSnapshot evidence.history client label n × (value_at evidence.history key n ≡ None)
+Row evidence last client p (command.Snap label) (reply.Snapped n) = IsFresh evidence.history last n
+Row evidence last client p (command.Free label) reply.Freed = Unit {0}
+Row evidence last client p (command.Begin name) reply.Begun = Unit {0}
+Row evidence last client p (command.Begin name) (reply.Taken other) = (other ≡ name) × IsNameTaken evidence last name
+Row evidence last client p command.Prepare (reply.Prepared n) = PreparesAt evidence.history last client.txn n
+Row evidence last client p command.Commit (reply.Committed n) = CommitsAt evidence.history last client.txn n
+Row evidence last client p command.Rollback reply.Dropped = TxnIsOpen client.txn
+Row evidence last client p command.Rollback (reply.RolledBack n) = RollsBackAt evidence.history last client.txn n
+Row evidence last client p command.Leave reply.Left = Unit {0}
+Row evidence last client p (command.Take name) reply.Took = WasUndecided evidence.history last name p
+Row evidence last client p (command.Take name) (reply.Unknown other n) = (other ≡ name) × IsFresh evidence.history last n × (named (take n evidence.history) name ≡ None)
+Row evidence last client p command answer = ⊥
 
 -- the reply is the refusal, where there is one
 abbrev pub UnlessRefused : Option Reply → Reply → Type 0 → Type 0
@@ -192,5 +200,5 @@ UnlessRefused (Some refusal) answer row = answer ≡ refusal
 
 -- `state`, `toomany`, `taken S` and `unknown S` come exactly where the client's state and labels say so; else the row
 -- has the last word.
-abbrev pub Allows : List Entry → ℕ → (Claim → Type 0) → ℕ → Client → ℕ → Command → Reply → Type 0
-Allows history limit others last client p command answer = UnlessRefused (refusal_of client command) answer (Row history limit others last client p command answer)
+abbrev pub Allows : Evidence → ℕ → Client → ℕ → Command → Reply → Type 0
+Allows evidence last client p command answer = UnlessRefused (refusal_of client command) answer (Row evidence last client p command answer)

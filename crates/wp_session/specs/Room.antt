@@ -7,8 +7,8 @@ use Rattle.wp_model.specs.Batch.{key_of}
 use Rattle.wp_model.specs.History.{named}
 use Rattle.wp_text.specs.declared.script.Command.{Command}
 use Rattle.wp_text.specs.declared.script.Command.TheVariants as command
-use Rattle.wp_session.specs.declared.session.Txn.{Txn}
-use Rattle.wp_session.specs.declared.session.Txn.TheVariants.{Open}
+use Rattle.wp_session.specs.declared.client.Txn.{Txn}
+use Rattle.wp_session.specs.declared.client.Txn.TheVariants.{Open}
 use Rattle.wp_session.specs.Client.{has_no_room}
 
 -- an open transaction may take the change in

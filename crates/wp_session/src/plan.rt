@@ -5,7 +5,7 @@ ghost use Rattle.wp_model.specs.History.{is_undecided};
 ghost use Rattle.wp_session.specs.Client.{own_batch, has_no_room, TxnFits, ClientFits};
 ghost use Rattle.wp_session.specs.Plan as plans;
 
-use crate::session::{Session, Txn};
+use crate::client::{Client, Txn};
 use std::alloc::{AllocError, Global};
 use wp_history::History;
 use wp_model::{Batch, Change, Entry, Key, MOST_KEYS, Name, Seq, Value};
@@ -146,15 +146,15 @@ fn get_at_reply(
 fn snap_reply(
     alloc: Global,
     history: &History,
-    session: &Session,
+    client: &Client,
     label: &Name,
 ) -> Result<Reply, AllocError>
-    ensures { IfOk result (λ reply. reply ≡ plans.snap_reply history.now.entries session.now.snapshots label.now) }
+    ensures { IfOk result (λ reply. reply ≡ plans.snap_reply history.now.entries client.now.snapshots label.now) }
 {
-    if session.number_of(label).is_some() {
+    if client.number_of(label).is_some() {
         return Ok(Reply::Taken(label.copy(alloc)?));
     }
-    if session.is_full() {
+    if client.is_full() {
         return Ok(Reply::TooMany);
     }
     Ok(Reply::Snapped(history.published()))
@@ -265,13 +265,13 @@ fn take_plan(alloc: Global, history: &History, txn: &Txn, name: &Name) -> Result
 pub fn plan_of(
     alloc: Global,
     history: &History,
-    session: &Session,
+    client: &Client,
     command: &Command,
 ) -> Result<Plan, AllocError>
-    requires { ClientFits history.now.entries session.now }
-    ensures { IfOk result (λ made. made ≡ plans.plan history.now.entries session.now command.now) }
+    requires { ClientFits history.now.entries client.now }
+    ensures { IfOk result (λ made. made ≡ plans.plan history.now.entries client.now command.now) }
 {
-    let txn = session.txn();
+    let txn = client.txn();
     match command {
         Command::Put(key, value) => {
             let change = Change::Put(key.copy(alloc)?, value.copy(alloc)?);
@@ -286,12 +286,12 @@ pub fn plan_of(
             Ok(Plan::Say(get_reply(alloc, history, own, key)?))
         }
         Command::GetAt(key, label) => {
-            let number = session.number_of(label);
+            let number = client.number_of(label);
             Ok(Plan::Say(get_at_reply(alloc, history, number, key, label)?))
         }
-        Command::Snap(label) => Ok(Plan::Say(snap_reply(alloc, history, session, label)?)),
+        Command::Snap(label) => Ok(Plan::Say(snap_reply(alloc, history, client, label)?)),
         Command::Free(label) => {
-            Ok(Plan::Say(free_reply(alloc, session.number_of(label), label)?))
+            Ok(Plan::Say(free_reply(alloc, client.number_of(label), label)?))
         }
         Command::Begin(name) => begin_plan(alloc, history, txn, name),
         Command::Prepare => prepare_plan(alloc, history, txn),

@@ -59,10 +59,10 @@ fn reply_in(plan: Plan) -> Reply {
 }
 
 fn first_reply(alloc: Global, history: &History, command: &Command) -> Result<Reply, Fail> {
-    let mut session = Session::new(alloc);
-    let plan = plan_of(alloc, history, &session, command)?;
+    let mut client = Client::new(alloc);
+    let plan = plan_of(alloc, history, &client, command)?;
     if let Plan::Say(reply) = &plan {
-        session.take(alloc, history, command, reply)?;
+        client.take(alloc, history, command, reply)?;
     }
     Ok(reply_in(plan))
 }

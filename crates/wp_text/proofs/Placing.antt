@@ -2,7 +2,6 @@
 use Rattle.std.proofs.Common.{◌≡◌, ◌≢◌, ℕ, suc, ◌+◌, ◌<◌, ◌≤◌, Bool, true, false, cond, ◌||◌, ltb, List, [], ◌∷◌, ◌++◌, length, map, get_or, set, Option, Some, None, Result, Ok, Err, refl, sym, ap, subst, ◌∙◌, inl, inr, append_assoc, arith}
 use Rattle.std.specs.List.{flat_map, filter_map, list_any, AllPairs, Contains}
 use Rattle.std.specs.Str.{bytes_eq}
-use Rattle.std.specs.Cmp.Lexicographic.{same_text}
 use Rattle.std.proofs.Math.ListN.{get_or-append}
 use Rattle.std.proofs.Math.Seq.{get_or-append_seam}
 use Rattle.std.proofs.lemmas.Bool.{ltb-true, ltb-false, le-ltb}
@@ -12,6 +11,7 @@ use Rattle.std.proofs.lemmas.List.Concat.{flat_map-append}
 use Rattle.std.proofs.lemmas.List.Elements.{filter_map-append, Contains-get_or}
 use Rattle.std.proofs.lemmas.List.Quantifiers.{all_pairs_push}
 use Rattle.std.proofs.lemmas.Map.Views.{list_any-from_Contains, Contains-from_any}
+use Rattle.std.proofs.lemmas.Slice.Eq.{bytes_eq-Decides}
 use Rattle.wp_text.specs.declared.fault.Why.{Why}
 use Rattle.wp_text.specs.declared.fault.Why.TheVariants.{NoClient, ClientTwice, ManyClients}
 use Rattle.wp_text.specs.declared.line.Statement.{Statement}
@@ -47,11 +47,8 @@ any_client : (parts : List Part) (name : List ℕ) → has_client parts name ≡
 any_client [] name = refl
 any_client (part ∷ parts) name = ap (λ (b : Bool). bytes_eq name part.client || b) (any_client parts name)
 
-equal_names : (x y : List ℕ) → bytes_eq x y ≡ true → x ≡ y
-equal_names x y e = same_text x y (sym e)
-
 client_there : (parts : List Part) (name : List ℕ) → has_client parts name ≡ true → Contains (clients parts) name
-client_there parts name e = Contains-from_any equal_names name (clients parts) (sym (any_client parts name) ∙ e)
+client_there parts name e = Contains-from_any (λ x y. (bytes_eq-Decides x y).0) name (clients parts) (sym (any_client parts name) ∙ e)
 
 client_found : (parts : List Part) (name : List ℕ) → Contains (clients parts) name → has_client parts name ≡ true
 client_found parts name there = any_client parts name ∙ list_any-from_Contains nat_list_eq_equiv name (clients parts) there

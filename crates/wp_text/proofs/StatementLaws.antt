@@ -1,9 +1,10 @@
 -- Words that are read as a statement are its words, and its words are read as it.
-use Rattle.std.proofs.Common.{◌≡◌, ℕ, Bool, true, false, ◌&&◌, List, [], ◌∷◌, Option, Some, None, Result, Ok, Err, codes, refl, sym, ap, subst, ◌∙◌, inl, inr, ◌⊎◌}
+use Rattle.std.proofs.Common.{◌≡◌, ℕ, Bool, true, false, cond, ◌&&◌, if◌then◌else◌, List, [], ◌∷◌, Option, Some, None, Result, Ok, Err, codes, refl, sym, ap, subst, ◌∙◌, inl, inr, ◌⊎◌}
 use Rattle.std.specs.List.{find}
 use Rattle.std.specs.Str.{bytes_eq}
 use Rattle.std.specs.Cmp.Lexicographic.{same_text}
-use Rattle.wp_model.specs.Word.{is_word}
+use Rattle.wp_model.specs.declared.word.TheConstants.{MOST_KEY_BYTES, MOST_NAME_BYTES, MOST_VALUE_BYTES}
+use Rattle.wp_model.specs.Word.{is_word, is_key, is_value, is_name}
 use Rattle.wp_text.specs.declared.fault.Why.{Why}
 use Rattle.wp_text.specs.declared.fault.Why.TheVariants.{BadCommand, BadWord}
 use Rattle.wp_text.specs.declared.keyword.Keyword.{Keyword}
@@ -21,37 +22,32 @@ use Rattle.wp_fields.proofs.Results.{bind_ok, bind_err, chosen, failed, ok_is, e
 
 -- ---- a statement's words are read as it, or are out of range
 
-pub in_range_again : (s : Statement) → is_in_range s ≡ true → statement_of (statement_words s) ≡ Ok (Some s)
+-- a word that passes a test goes on to a statement
+tested : {A : Type 0} (b : Bool) (x : A) (f : A → Statement) → ((if b then Ok x else Err BadWord) >>= λ a. Ok (f a)) >>= (λ s. Ok (Some s)) ≡ cond b (Ok (Some (f x))) (Err BadWord)
+tested true x f = refl
+tested false x f = refl
+
+words_again : (s : Statement) → statement_of (statement_words s) ≡ cond (is_in_range s) (Ok (Some s)) (Err BadWord)
 unfolding statement_of statement_named keyword_named statement_with alone get_with one_word two_words
-in_range_again (statement.Client name) range = rw range refl
-in_range_again (statement.Command (command.Put key value)) range = rw range refl
-in_range_again (statement.Command (command.Del key)) range = rw range refl
-in_range_again (statement.Command (command.Get key)) range = rw range refl
-in_range_again (statement.Command (command.GetAt key name)) range = rw range refl
-in_range_again (statement.Command (command.Snap name)) range = rw range refl
-in_range_again (statement.Command (command.Free name)) range = rw range refl
-in_range_again (statement.Command (command.Begin name)) range = rw range refl
-in_range_again (statement.Command command.Prepare) range = refl
-in_range_again (statement.Command command.Commit) range = refl
-in_range_again (statement.Command command.Rollback) range = refl
-in_range_again (statement.Command command.Leave) range = refl
-in_range_again (statement.Command (command.Take name)) range = rw range refl
+words_again (statement.Client name) = tested (is_name name) name (λ w. statement.Client w)
+words_again (statement.Command (command.Put key value)) = tested (is_key key && is_value value) (key, value) (λ both. statement.Command (command.Put both.0 both.1))
+words_again (statement.Command (command.Del key)) = tested (is_key key) key (λ w. statement.Command (command.Del w))
+words_again (statement.Command (command.Get key)) = tested (is_key key) key (λ w. statement.Command (command.Get w))
+words_again (statement.Command (command.GetAt key name)) = tested (is_key key && is_name name) (key, name) (λ both. statement.Command (command.GetAt both.0 both.1))
+words_again (statement.Command (command.Snap name)) = tested (is_name name) name (λ w. statement.Command (command.Snap w))
+words_again (statement.Command (command.Free name)) = tested (is_name name) name (λ w. statement.Command (command.Free w))
+words_again (statement.Command (command.Begin name)) = tested (is_name name) name (λ w. statement.Command (command.Begin w))
+words_again (statement.Command command.Prepare) = refl
+words_again (statement.Command command.Commit) = refl
+words_again (statement.Command command.Rollback) = refl
+words_again (statement.Command command.Leave) = refl
+words_again (statement.Command (command.Take name)) = tested (is_name name) name (λ w. statement.Command (command.Take w))
+
+pub in_range_again : (s : Statement) → is_in_range s ≡ true → statement_of (statement_words s) ≡ Ok (Some s)
+in_range_again s range = words_again s ∙ ap (λ (b : Bool). cond b (Ok (Some s)) (Err BadWord)) range
 
 pub out_of_range_again : (s : Statement) → is_in_range s ≡ false → statement_of (statement_words s) ≡ Err BadWord
-unfolding statement_of statement_named keyword_named statement_with alone get_with one_word two_words
-out_of_range_again (statement.Client name) range = rw range refl
-out_of_range_again (statement.Command (command.Put key value)) range = rw range refl
-out_of_range_again (statement.Command (command.Del key)) range = rw range refl
-out_of_range_again (statement.Command (command.Get key)) range = rw range refl
-out_of_range_again (statement.Command (command.GetAt key name)) range = rw range refl
-out_of_range_again (statement.Command (command.Snap name)) range = rw range refl
-out_of_range_again (statement.Command (command.Free name)) range = rw range refl
-out_of_range_again (statement.Command (command.Begin name)) range = rw range refl
-out_of_range_again (statement.Command command.Prepare) range = absurd cc
-out_of_range_again (statement.Command command.Commit) range = absurd cc
-out_of_range_again (statement.Command command.Rollback) range = absurd cc
-out_of_range_again (statement.Command command.Leave) range = absurd cc
-out_of_range_again (statement.Command (command.Take name)) range = rw range refl
+out_of_range_again s range = words_again s ∙ ap (λ (b : Bool). cond b (Ok (Some s)) (Err BadWord)) range
 
 -- ---- words after a keyword
 
@@ -161,29 +157,29 @@ get_at_read key at name =
     elim (either (bytes_eq at (codes "at"))) [
       | inl so ↦
           let is : at ≡ codes "at" = same_text at (codes "at") (sym so) in
-          rw so (two_words_read 64 32 (codes "get" ∷ key ∷ at ∷ name ∷ []) (key ∷ name ∷ []) (λ a b. statement.Command (command.GetAt a b)) (λ a b e. (cc, refl)))
+          rw so (two_words_read MOST_KEY_BYTES MOST_NAME_BYTES (codes "get" ∷ key ∷ at ∷ name ∷ []) (key ∷ name ∷ []) (λ a b. statement.Command (command.GetAt a b)) (λ a b e. (cc, refl)))
       | inr other ↦ rw other (record { takes = λ s e. absurd cc; fails = λ why e. inl cc })
     ]
 
 get_read : (words : List (List ℕ)) → ReadsStatement (codes "get" ∷ words) (get_with words)
 unfolding get_with
 get_read (key ∷ at ∷ name ∷ []) = get_at_read key at name
-get_read words = one_word_read 64 (codes "get") (λ w. statement.Command (command.Get w)) (λ w. (refl, refl)) words
+get_read words = one_word_read MOST_KEY_BYTES (codes "get") (λ w. statement.Command (command.Get w)) (λ w. (refl, refl)) words
 
 after_keyword : (k : Keyword) (words : List (List ℕ)) → ReadsStatement (keyword_text k ∷ words) (statement_with k words)
 unfolding statement_with
-after_keyword keyword.Client words = one_word_read 32 (keyword_text keyword.Client) (λ w. statement.Client w) (λ w. (refl, refl)) words
-after_keyword keyword.Put words = two_words_read 64 256 (keyword_text keyword.Put ∷ words) words (λ a b. statement.Command (command.Put a b)) (λ a b e. (ap (λ (x : List (List ℕ)). keyword_text keyword.Put ∷ x) e, refl))
-after_keyword keyword.Del words = one_word_read 64 (keyword_text keyword.Del) (λ w. statement.Command (command.Del w)) (λ w. (refl, refl)) words
+after_keyword keyword.Client words = one_word_read MOST_NAME_BYTES (keyword_text keyword.Client) (λ w. statement.Client w) (λ w. (refl, refl)) words
+after_keyword keyword.Put words = two_words_read MOST_KEY_BYTES MOST_VALUE_BYTES (keyword_text keyword.Put ∷ words) words (λ a b. statement.Command (command.Put a b)) (λ a b e. (ap (λ (x : List (List ℕ)). keyword_text keyword.Put ∷ x) e, refl))
+after_keyword keyword.Del words = one_word_read MOST_KEY_BYTES (keyword_text keyword.Del) (λ w. statement.Command (command.Del w)) (λ w. (refl, refl)) words
 after_keyword keyword.Get words = get_read words
-after_keyword keyword.Snap words = one_word_read 32 (keyword_text keyword.Snap) (λ w. statement.Command (command.Snap w)) (λ w. (refl, refl)) words
-after_keyword keyword.Free words = one_word_read 32 (keyword_text keyword.Free) (λ w. statement.Command (command.Free w)) (λ w. (refl, refl)) words
-after_keyword keyword.Begin words = one_word_read 32 (keyword_text keyword.Begin) (λ w. statement.Command (command.Begin w)) (λ w. (refl, refl)) words
+after_keyword keyword.Snap words = one_word_read MOST_NAME_BYTES (keyword_text keyword.Snap) (λ w. statement.Command (command.Snap w)) (λ w. (refl, refl)) words
+after_keyword keyword.Free words = one_word_read MOST_NAME_BYTES (keyword_text keyword.Free) (λ w. statement.Command (command.Free w)) (λ w. (refl, refl)) words
+after_keyword keyword.Begin words = one_word_read MOST_NAME_BYTES (keyword_text keyword.Begin) (λ w. statement.Command (command.Begin w)) (λ w. (refl, refl)) words
 after_keyword keyword.Prepare words = alone_read (keyword_text keyword.Prepare) command.Prepare (refl, refl) words
 after_keyword keyword.Commit words = alone_read (keyword_text keyword.Commit) command.Commit (refl, refl) words
 after_keyword keyword.Rollback words = alone_read (keyword_text keyword.Rollback) command.Rollback (refl, refl) words
 after_keyword keyword.Leave words = alone_read (keyword_text keyword.Leave) command.Leave (refl, refl) words
-after_keyword keyword.Take words = one_word_read 32 (keyword_text keyword.Take) (λ w. statement.Command (command.Take w)) (λ w. (refl, refl)) words
+after_keyword keyword.Take words = one_word_read MOST_NAME_BYTES (keyword_text keyword.Take) (λ w. statement.Command (command.Take w)) (λ w. (refl, refl)) words
 
 -- ---- all words of a line
 

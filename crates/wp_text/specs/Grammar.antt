@@ -1,7 +1,7 @@
 -- The grammar of scripts: which bytes spell which parts.
 use Rattle.std.specs.Prelude.{◌≡◌, ◌≢◌, ℕ, ◌≤◌, ◌==◌, Bool, true, not, ◌&&◌, List, [], ◌∷◌, length, map, nat_eq, nat_le, codes, Option, Some, None}
 use Rattle.std.specs.List.{list_all, filter, filter_map, flat_map, slice_split, AllPairs, AllZip, starts_with}
-use Rattle.wp_model.specs.Word.{is_word}
+use Rattle.wp_model.specs.Word.{is_key, is_name, is_value}
 use Rattle.wp_text.specs.declared.line.Statement.{Statement}
 use Rattle.wp_text.specs.declared.line.Statement.TheVariants as statement
 use Rattle.wp_text.specs.declared.script.Command.{Command}
@@ -57,21 +57,21 @@ statement_words (statement.Command command) = command_words command
 
 -- the keys, values and names of a command are in range
 abbrev pub is_command_in_range : Command → Bool
-is_command_in_range (command.Put key value) = is_word 64 key && is_word 256 value
-is_command_in_range (command.Del key) = is_word 64 key
-is_command_in_range (command.Get key) = is_word 64 key
-is_command_in_range (command.GetAt key name) = is_word 64 key && is_word 32 name
-is_command_in_range (command.Snap name) = is_word 32 name
-is_command_in_range (command.Free name) = is_word 32 name
-is_command_in_range (command.Begin name) = is_word 32 name
+is_command_in_range (command.Put key value) = is_key key && is_value value
+is_command_in_range (command.Del key) = is_key key
+is_command_in_range (command.Get key) = is_key key
+is_command_in_range (command.GetAt key name) = is_key key && is_name name
+is_command_in_range (command.Snap name) = is_name name
+is_command_in_range (command.Free name) = is_name name
+is_command_in_range (command.Begin name) = is_name name
 is_command_in_range command.Prepare = true
 is_command_in_range command.Commit = true
 is_command_in_range command.Rollback = true
 is_command_in_range command.Leave = true
-is_command_in_range (command.Take name) = is_word 32 name
+is_command_in_range (command.Take name) = is_name name
 
 abbrev pub is_in_range : Statement → Bool
-is_in_range (statement.Client name) = is_word 32 name
+is_in_range (statement.Client name) = is_name name
 is_in_range (statement.Command command) = is_command_in_range command
 
 -- What words say: nothing where their line is passed over, else the statement that is written with them.

@@ -3,6 +3,7 @@
 use Rattle.std.specs.Prelude.{ℕ, ◌+◌, Bool, ◌&&◌, List, [], ◌∷◌, ◌++◌, length, nat_lt, codes, Option, Some, None, Result, Ok, Err, if◌then◌else◌}
 use Rattle.std.specs.List.{list_all, find, list_any}
 use Rattle.std.specs.Str.{bytes_eq}
+use Rattle.wp_model.specs.declared.word.TheConstants.{MOST_KEY_BYTES, MOST_NAME_BYTES, MOST_VALUE_BYTES}
 use Rattle.wp_model.specs.Word.{is_word}
 use Rattle.wp_model.specs.declared.word.WordError.{WordError}
 use Rattle.wp_model.specs.declared.word.WordError.TheVariants as word_errors
@@ -63,36 +64,36 @@ alone command (word ∷ words) = Err BadCommand
 
 -- what reads a key: at a snapshot, or as it is now
 unfoldable pub get_with : List (List ℕ) → Result Statement Why
-get_with (key ∷ at ∷ name ∷ []) = if bytes_eq at (codes "at") then (two_words 64 32 (key ∷ name ∷ []) >>= λ both. Ok (statement.Command (command.GetAt both.0 both.1))) else Err BadCommand
-get_with words = one_word 64 words >>= λ key. Ok (statement.Command (command.Get key))
+get_with (key ∷ at ∷ name ∷ []) = if bytes_eq at (codes "at") then (two_words MOST_KEY_BYTES MOST_NAME_BYTES (key ∷ name ∷ []) >>= λ both. Ok (statement.Command (command.GetAt both.0 both.1))) else Err BadCommand
+get_with words = one_word MOST_KEY_BYTES words >>= λ key. Ok (statement.Command (command.Get key))
 
 -- the statement with these words after its keyword
 unfoldable pub statement_with : Keyword → List (List ℕ) → Result Statement Why
 statement_with keyword.Client words = do
-  name ← one_word 32 words
+  name ← one_word MOST_NAME_BYTES words
   Ok (statement.Client name)
 statement_with keyword.Put words = do
-  both ← two_words 64 256 words
+  both ← two_words MOST_KEY_BYTES MOST_VALUE_BYTES words
   Ok (statement.Command (command.Put both.0 both.1))
 statement_with keyword.Del words = do
-  key ← one_word 64 words
+  key ← one_word MOST_KEY_BYTES words
   Ok (statement.Command (command.Del key))
 statement_with keyword.Get words = get_with words
 statement_with keyword.Snap words = do
-  name ← one_word 32 words
+  name ← one_word MOST_NAME_BYTES words
   Ok (statement.Command (command.Snap name))
 statement_with keyword.Free words = do
-  name ← one_word 32 words
+  name ← one_word MOST_NAME_BYTES words
   Ok (statement.Command (command.Free name))
 statement_with keyword.Begin words = do
-  name ← one_word 32 words
+  name ← one_word MOST_NAME_BYTES words
   Ok (statement.Command (command.Begin name))
 statement_with keyword.Prepare words = alone command.Prepare words
 statement_with keyword.Commit words = alone command.Commit words
 statement_with keyword.Rollback words = alone command.Rollback words
 statement_with keyword.Leave words = alone command.Leave words
 statement_with keyword.Take words = do
-  name ← one_word 32 words
+  name ← one_word MOST_NAME_BYTES words
   Ok (statement.Command (command.Take name))
 
 -- the same where the first word names a keyword

@@ -1,9 +1,8 @@
 -- What an append makes of a log that stores a history.
-use Rattle.std.proofs.Common.{◌≡◌, ℕ, ◌+◌, ◌≤◌, Bool, true, false, List, [], ◌∷◌, ◌++◌, length, map, Option, Some, None, refl, ap, subst, ◌∙◌, inl, inr, arith, length-append}
-use Rattle.std.proofs.lemmas.List.{append-nil}
+use Rattle.std.proofs.Common.{◌≡◌, ℕ, ◌+◌, Bool, true, false, List, [], ◌∷◌, ◌++◌, length, Option, Some, None, refl, ap, subst, ◌∙◌, inl, inr, arith, length-append}
 use Rattle.std.specs.Prelude.{IfSome}
 use Rattle.wp_model.specs.declared.entry.Entry.{Entry}
-use Rattle.wp_outside.specs.Disk.{Moment, Matches, IsImage, synced, IfKnown, Each, Passes}
+use Rattle.wp_outside.specs.Disk.{Moment, IsImage, IfKnown, Each, Passes}
 use Rattle.wp_entry.specs.Record.{IsRecord, record_bytes}
 use Rattle.wp_gatelog.specs.declared.log.AppendError.{AppendError}
 use Rattle.wp_gatelog.specs.declared.log.AppendError.TheVariants.{DiskFault, Closed}
@@ -12,46 +11,28 @@ use Rattle.wp_gatelog.specs.Durability.{HasAcknowledged}
 use Rattle.wp_gatelog.specs.Log.{LogState, IsAtRest, Rests, BeforeOrAfter}
 use Rattle.wp_gatelog.specs.Moments.{Leaves}
 use Rattle.wp_gatelog.specs.Spelling.{Spells, frame_of, log_of}
+use Rattle.wp_outside.proofs.Moments.{image_of_synced}
+use Rattle.wp_gatelog.proofs.AcknowledgedLemmas.{rest_acknowledged}
 use Rattle.wp_wal.specs.Spelling.{MAGIC, AreEntries, IsLogOf, IsLogOrNext, HasAcknowledgedEntries}
-use Rattle.wp_wal.specs.Wal.{Reserved, reserved_of, WalState, state_of, StoresHistory, LeavesHistory, IsReserved, Appended, StoresWhenRefused}
+use Rattle.wp_wal.specs.Wal.{Reserved, reserved_of, WalState, wal_state, StoresHistory, LeavesHistory, IsReserved, Appended, StoresWhenRefused}
 use Rattle.wp_wal.proofs.EntriesLemmas.{AreEntries-push}
 use Rattle.wp_wal.proofs.FrameLemmas.{length-frame_of}
 
 -- ---- images
 
-matches_whole : (bytes image : List ℕ) → Matches (map (λ b. Some b) bytes) image → length image ≤ length bytes → image ≡ bytes
-matches_whole [] [] h le = refl
-matches_whole [] (b ∷ image) h le = absurd (omega arith)
-matches_whole (x ∷ bytes) [] h le = absurd h
-matches_whole (x ∷ bytes) (b ∷ image) h le =
-    let rest = matches_whole bytes image h.1 (omega arith) in
-    ap (λ (y : ℕ). y ∷ image) h.0 ∙ ap (λ (ys : List ℕ). x ∷ ys) rest
-
 rests_image : (magic : List ℕ) (id end : ℕ) (records : List (List ℕ)) (m : Moment) (rests : IsAtRest magic id end records m) (image : List ℕ) → IsImage m image → image ≡ log_of magic id 1 rests.gated ++ 0 ∷ []
 rests_image magic id end records m rests image is =
-    let whole = log_of magic id 1 rests.gated ++ 0 ∷ [] in
-    let on : IsImage (synced whole) image = subst (λ (s : Moment). IsImage s image) rests.on_disk is in
-    matches_whole whole image on.0 on.1
+    image_of_synced (log_of magic id 1 rests.gated ++ 0 ∷ []) image (subst (λ (s : Moment). IsImage s image) rests.on_disk is)
 
 rests_spells : (magic : List ℕ) (id end : ℕ) (records : List (List ℕ)) (m : Moment) → IsAtRest magic id end records m → Leaves (λ image. Spells image magic id records) m
 rests_spells magic id end records m rests image is =
     inr (1, rests.gated, record { rest = []; spelling = rests_image magic id end records m rests image is; head_open = λ e. absurd cc; gates_open = rests.acknowledged.gates_open }, rests.acknowledged.same)
 
-rests_acknowledged : (magic : List ℕ) (id end : ℕ) (records : List (List ℕ)) (m : Moment) → IsAtRest magic id end records m → Leaves (HasAcknowledged magic id records) m
-rests_acknowledged magic id end records m rests image is = record {
-  gated = rests.gated;
-  more = [];
-  acknowledged = record { gates_open = rests.acknowledged.gates_open; last = rests.acknowledged.last; same = append-nil records ∙ rests.acknowledged.same };
-  gate = 0;
-  rest = [];
-  spelling = rests_image magic id end records m rests image is;
-}
-
 -- at rest, a crash leaves the history
 rests_history : (id end : ℕ) (records : List (List ℕ)) (history : List Entry) (moments : List Moment) → AreEntries 1 records history → IfKnown moments (IsAtRest MAGIC id end records) → IfKnown moments (LeavesHistory id history)
 rests_history id end records history [] spelled rests = tt
 rests_history id end records history (m ∷ past) spelled rests = λ image is.
-    ((records, rests_spells MAGIC id end records m rests image is, spelled), (records, rests_acknowledged MAGIC id end records m rests image is, spelled))
+    ((records, rests_spells MAGIC id end records m rests image is, spelled), (records, rest_acknowledged MAGIC id end records m rests image is, spelled))
 
 pub running_history : (wal : WalState) (history next : List Entry) → StoresHistory wal history next → wal.closed ≡ false → IfKnown wal.moments (LeavesHistory wal.id history)
 running_history wal history next stores running = rests_history wal.id wal.end stores.records history wal.moments stores.spelled (stores.rests running)
@@ -96,7 +77,7 @@ record IsNext (history next : List Entry) (due count : ℕ) (frame : List ℕ) :
   counted : count ≡ length next
   is : IsRecord (length history + 1) next
 
-next_reserved : (log : LogState) (due : ℕ) (reserved : Option Reserved) (r : Reserved) (frame : List ℕ) (history next : List Entry) → reserved ≡ Some r → frame ≡ frame_of r.bytes → IsReserved (state_of log due reserved) history next → IsNext history next due r.count frame
+next_reserved : (log : LogState) (due : ℕ) (reserved : Option Reserved) (r : Reserved) (frame : List ℕ) (history next : List Entry) → reserved ≡ Some r → frame ≡ frame_of r.bytes → IsReserved (wal_state log due reserved) history next → IsNext history next due r.count frame
 next_reserved log due reserved r frame history next there framed is =
     let numbered : due ≡ length history + 1 = is.stores.numbered in
     let lies : reserved ≡ Some (reserved_of due next) = is.reserved in
@@ -133,7 +114,7 @@ RestsAfter old new frame = (magic : List ℕ) (records : List (List ℕ)) (bytes
 -- ---- an append
 
 pub appended_reserved : (old new : LogState) (due : ℕ) (reserved : Option Reserved) (r : Reserved) (frame : List ℕ) → reserved ≡ Some r → frame ≡ frame_of r.bytes → FrameAppended old new (length frame)
-    → IfSome reserved (Appended (state_of old due reserved) (state_of new (due + r.count) None))
+    → IfSome reserved (Appended (wal_state old due reserved) (wal_state new (due + r.count) None))
 appended_reserved old new due reserved r frame there framed appended =
     let size : length frame ≡ length r.bytes + 9 = ap (λ (xs : List ℕ). length xs) framed ∙ length-frame_of r.bytes in
     let grown : new.end ≡ old.end + length frame = ap (λ (s : LogState). s.end) appended.changed in
@@ -144,7 +125,7 @@ appended_reserved old new due reserved r frame there framed appended =
     rw there (record { was_open = appended.was_open; changed = rw (end, id, count, closed) refl })
 
 pub passes_history : (old new : LogState) (due : ℕ) (reserved : Option Reserved) (r : Reserved) (frame : List ℕ) → reserved ≡ Some r → frame ≡ frame_of r.bytes → GrowsThrough old new frame
-    → (history next : List Entry) → IsReserved (state_of old due reserved) history next → Passes (Leaves (IsLogOrNext old.id history next)) old.moments new.moments
+    → (history next : List Entry) → IsReserved (wal_state old due reserved) history next → Passes (Leaves (IsLogOrNext old.id history next)) old.moments new.moments
 passes_history old new due reserved r frame there framed grows history next is =
     let one = next_reserved old due reserved r frame history next there framed is in
     let records = is.stores.records in
@@ -153,14 +134,14 @@ passes_history old new due reserved r frame there framed grows history next is =
     (passed.0, passed.1, each_other (BeforeOrAfter MAGIC old.id records bytes) (IsLogOrNext old.id history next) passed.0 (λ image h. grown_history old.id records history next image is.stores.spelled one.is h) passed.2)
 
 pub passes_acknowledged : (old new : LogState) (due : ℕ) (reserved : Option Reserved) → AcknowledgesThrough old new
-    → (history next : List Entry) → IsReserved (state_of old due reserved) history next → Passes (Leaves (HasAcknowledgedEntries old.id history)) old.moments new.moments
+    → (history next : List Entry) → IsReserved (wal_state old due reserved) history next → Passes (Leaves (HasAcknowledgedEntries old.id history)) old.moments new.moments
 passes_acknowledged old new due reserved has history next is =
     let records = is.stores.records in
     let passed = has MAGIC records (is.stores.rests is.running) in
     (passed.0, passed.1, each_other (HasAcknowledged MAGIC old.id records) (HasAcknowledgedEntries old.id history) passed.0 (λ image h. (records, h, is.stores.spelled)) passed.2)
 
 pub stores_appended : (old new : LogState) (due : ℕ) (reserved : Option Reserved) (r : Reserved) (frame : List ℕ) (len : ℕ) → reserved ≡ Some r → frame ≡ frame_of r.bytes → FrameAppended old new len → RestsAfter old new frame
-    → (history next : List Entry) → IsReserved (state_of old due reserved) history next → StoresHistory (state_of new (due + r.count) None) (history ++ next) []
+    → (history next : List Entry) → IsReserved (wal_state old due reserved) history next → StoresHistory (wal_state new (due + r.count) None) (history ++ next) []
 stores_appended old new due reserved r frame len there framed appended rests history next is =
     let one = next_reserved old due reserved r frame history next there framed is in
     let records = is.stores.records in
@@ -179,12 +160,12 @@ stores_appended old new due reserved r frame len there framed appended rests his
     }
 
 stores_failed : (old new : LogState) (due : ℕ) (reserved : Option Reserved) (r : Reserved) (frame : List ℕ) → reserved ≡ Some r → frame ≡ frame_of r.bytes → FrameRefused old new DiskFault → GrowsThrough old new frame → AcknowledgesThrough old new
-    → (history next : List Entry) → IsReserved (state_of old due reserved) history next → StoresHistory (state_of new due None) history next
+    → (history next : List Entry) → IsReserved (wal_state old due reserved) history next → StoresHistory (wal_state new due None) history next
 stores_failed old new due reserved r frame there framed refuses grows has history next is =
     let passed = passes_history old new due reserved r frame there framed grows history next is in
     let still = passes_acknowledged old new due reserved has history next is in
     let before = known_other (λ image. IsLogOf old.id history image × HasAcknowledgedEntries old.id history image) (λ image. IsLogOrNext old.id history next image × HasAcknowledgedEntries old.id history image) old.moments
-    (λ image h. (inl h.0, h.1)) (running_history (state_of old due reserved) history [] is.stores is.running) in
+    (λ image h. (inl h.0, h.1)) (running_history (wal_state old due reserved) history [] is.stores is.running) in
     let same : new.id ≡ old.id = ap (λ (s : LogState). s.id) refuses.2 in
     let closed : new.closed ≡ true = ap (λ (s : LogState). s.closed) refuses.2 in
     let count : new.count ≡ old.count = ap (λ (s : LogState). s.count) refuses.2 in
@@ -198,6 +179,6 @@ stores_failed old new due reserved r frame there framed refuses grows has histor
     }
 
 pub stores_refused : (old new : LogState) (due : ℕ) (reserved : Option Reserved) (r : Reserved) (frame : List ℕ) (why : AppendError) → reserved ≡ Some r → frame ≡ frame_of r.bytes → FrameRefused old new why → GrowsThrough old new frame → AcknowledgesThrough old new
-    → StoresWhenRefused (state_of old due reserved) (state_of new due None) why
+    → StoresWhenRefused (wal_state old due reserved) (wal_state new due None) why
 stores_refused old new due reserved r frame DiskFault there framed refuses grows has = stores_failed old new due reserved r frame there framed refuses grows has
 stores_refused old new due reserved r frame (Closed n) there framed refuses grows has = tt

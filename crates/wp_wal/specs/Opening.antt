@@ -4,7 +4,7 @@ use Rattle.wp_outside.specs.Disk.{Moment, IfKnown, added, after_sync}
 use Rattle.wp_entry.specs.declared.error.RecordError.{RecordError}
 use Rattle.wp_entry.specs.declared.error.RecordError.TheVariants.{Short}
 use Rattle.wp_gatelog.specs.Damage.{IsBadHead, IsCut}
-use Rattle.wp_gatelog.specs.Log.{IsAtRest}
+use Rattle.wp_gatelog.specs.Left.{IsLeftAtRest, IsSyncedOrAtRest}
 use Rattle.wp_gatelog.specs.Spelling.{Spells}
 use Rattle.wp_wal.specs.declared.error.WalError.{WalError}
 use Rattle.wp_wal.specs.declared.error.WalError.TheVariants.{Memory, DiskFault, BadHead, BadRecord, Illegal}
@@ -28,28 +28,10 @@ IsLogCause rose moments BadHead = IfKnown moments (λ m. IsBadHead MAGIC m.reads
 IsLogCause rose moments (BadRecord index why) = IfKnown moments (λ m. IsBadLog m.reads index why)
 IsLogCause rose moments (Illegal number) = IfKnown moments (λ m. IsIllegalLog m.reads number)
 
--- ---- what is left
-
--- the log is at rest with the records that the bytes spelled
-pub record RestsAsSpelled (bytes : List ℕ) (m : Moment) : Type 0 where
-  pub id : ℕ
-  pub end : ℕ
-  pub records : List (List ℕ)
-  pub spelled : Spells bytes MAGIC id records
-  pub rests : IsAtRest MAGIC id end records m
-
--- where the disk is known, the log is left at rest, with its records as they were
-abbrev pub IsLeftAtRest : List Moment → List Moment → Type 0
-IsLeftAtRest old new = IfKnown old (λ m. IfKnown new (RestsAsSpelled m.reads))
-
--- no records were read, and nothing came but a sync; or they were, and the log is left at rest
-abbrev pub IsSyncedOrAtRest : List Moment → List Moment → Type 0
-IsSyncedOrAtRest old new = (new ≡ added after_sync old) ⊎ IsLeftAtRest old new
-
 -- what a refusal leaves; where the disk failed, that is left open
 abbrev pub LeavesRecords : List Moment → List Moment → WalError → Type 0
-LeavesRecords old new Memory = IsSyncedOrAtRest old new
+LeavesRecords old new Memory = IsSyncedOrAtRest MAGIC old new
 LeavesRecords old new DiskFault = ⊤
 LeavesRecords old new BadHead = new ≡ added after_sync old
-LeavesRecords old new (BadRecord index why) = IsSyncedOrAtRest old new
-LeavesRecords old new (Illegal number) = IsLeftAtRest old new
+LeavesRecords old new (BadRecord index why) = IsSyncedOrAtRest MAGIC old new
+LeavesRecords old new (Illegal number) = IsLeftAtRest MAGIC old new

@@ -37,8 +37,8 @@ pub record WalState : Type 0 where
   pub reserved : Option Reserved
 
 -- a gate log whose next entry has that number
-abbrev pub state_of : LogState → ℕ → Option Reserved → WalState
-state_of log due reserved = record {
+abbrev pub wal_state : LogState → ℕ → Option Reserved → WalState
+wal_state log due reserved = record {
   moments = log.moments;
   faults = log.faults;
   id = log.id;

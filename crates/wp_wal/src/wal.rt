@@ -37,11 +37,11 @@ pub struct Wal<D: Disk> {
 }
 
 impl<D: Disk> Model for Wal<D> {
-    ghost use Rattle.wp_wal.specs.Wal.{WalState, state_of, HasNumbers};
+    ghost use Rattle.wp_wal.specs.Wal.{WalState, wal_state, HasNumbers};
 
     ghost Value = { WalState };
 
-    ghost view = { λ w. state_of w.log w.due w.reserved };
+    ghost view = { λ w. wal_state w.log w.due w.reserved };
 
     ghost invariant = { λ w. HasNumbers w.due w.reserved };
 }

@@ -11,4 +11,4 @@ returns-in_err-cut-clause-changes g c = λ before known.
 
 pub returns-clause-changes : goal.returns-clause-changes
 returns-clause-changes g c = λ before known.
-    synced_steps (after_cut c.args.len) before _ _ _ c.sync.result (cut_reads_image c.args.len before) known c.in_ok-cut.ensures.done c.sync.ensures.done c.sync.ensures.kept
+    synced_steps (after_cut c.args.len) before _ _ _ c.sync.result (cut_reads_image c.args.len before) known c.in_ok-cut.ensures.done c.sync.ensures.done c.sync.ensures.unchanged

@@ -11,4 +11,4 @@ returns-in_err-write_at-clause-changes g c = λ before known.
 
 pub returns-clause-changes : goal.returns-clause-changes
 returns-clause-changes g c = λ before known.
-    synced_steps (after_write c.args.at c.args.bytes.now) before _ _ _ c.sync.result (write_reads_image c.args.at c.args.bytes.now before) known c.in_ok-write_at.ensures.done c.sync.ensures.done c.sync.ensures.kept
+    synced_steps (after_write c.args.at c.args.bytes.now) before _ _ _ c.sync.result (write_reads_image c.args.at c.args.bytes.now before) known c.in_ok-write_at.ensures.done c.sync.ensures.done c.sync.ensures.unchanged

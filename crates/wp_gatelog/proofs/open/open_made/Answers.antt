@@ -13,20 +13,20 @@ pub returns-in_err-scan-clause-opens : goal.returns-in_err-scan-clause-opens
 returns-in_err-scan-clause-opens g c = λ magic asked. made_cases magic asked _ _ c.args.id c.args.head c.args.len _ (λ past m old synced begins.
     let p = err_from_is_err_and c.from_residual.result c.from_residual.ensures.1 in
     let why = c.in_err-scan.field-0.0 in
-    rw (p.1, p.2) (opens_refused magic asked m.reads why _ _ c.read_records.ensures.kept
+    rw (p.1, p.2) (opens_refused magic asked m.reads why _ _ c.read_records.ensures.unchanged
     (log_refused magic c.args.id c.args.head c.args.len m.reads begins why (known_at _ _ past m old c.in_err-scan.ensures.refused begins.size))))
 
 pub returns-in_err-repair-clause-opens : goal.returns-in_err-repair-clause-opens
 returns-in_err-repair-clause-opens g c = λ magic asked. made_cases magic asked _ _ c.args.id c.args.head c.args.len _ (λ past m old synced begins.
     let p = err_from_is_err_and c.from_residual-in_err-repair.result c.from_residual-in_err-repair.ensures.1 in
     let log = log_read magic c.args.id c.args.head c.args.len m.reads begins _ _ _ (known_at _ _ past m old c.in_ok-scan.ensures.found begins.size) in
-    rw (p.1, p.2) (opens_brings magic asked m.reads _ _ _ _ _ _ _ c.read_records.ensures.kept (repairs_made magic asked c.args.id c.args.head _ _ _ c.args.len m.reads log) tt
-    (c.repair.ensures.repaired magic c.args.id m.reads log (rw (c.read_records.ensures.kept, old) synced))))
+    rw (p.1, p.2) (opens_brings magic asked m.reads _ _ _ _ _ _ _ c.read_records.ensures.unchanged (repairs_made magic asked c.args.id c.args.head _ _ _ c.args.len m.reads log) tt
+    (c.repair.ensures.repaired magic c.args.id m.reads log (rw (c.read_records.ensures.unchanged, old) synced))))
 
 pub returns-clause-opens : goal.returns-clause-opens
 returns-clause-opens g c = λ magic asked. made_cases magic asked _ _ c.args.id c.args.head c.args.len _ (λ past m old synced begins.
     let P : Moment → Type 0 = λ n. c.args.len ≡ length n.reads → (following : List ℕ) × HasRead (drop 10 n.reads) (0 ∷ following) c.in_ok-scan.scan.records.items c.in_ok-scan.scan.last c.in_ok-scan.scan.end in
     let log = log_read magic c.args.id c.args.head c.args.len m.reads begins c.in_ok-scan.scan.records.items c.in_ok-scan.scan.last c.in_ok-scan.scan.end (known_at P _ past m old c.in_ok-scan.ensures.found begins.size) in
-    let brings = c.in_ok-repair.ensures.repaired magic c.args.id m.reads log (rw (c.read_records.ensures.kept, old) synced) in
-    opens_brings magic asked m.reads _ _ _ _ _ _ _ c.read_records.ensures.kept (repairs_made magic asked c.args.id c.args.head _ _ _ c.args.len m.reads log)
+    let brings = c.in_ok-repair.ensures.repaired magic c.args.id m.reads log (rw (c.read_records.ensures.unchanged, old) synced) in
+    opens_brings magic asked m.reads _ _ _ _ _ _ _ c.read_records.ensures.unchanged (repairs_made magic asked c.args.id c.args.head _ _ _ c.args.len m.reads log)
     (log_found magic c.args.id c.args.head c.args.len m.reads begins asked _ _ _ log, brings.done) brings)

@@ -28,7 +28,7 @@ returns-in-Some-clause-found g c =
     let Q : Moment → Type 0 = λ m. c.args.at + 9 + c.in-Open.record_len ≤ length m.reads → c.in-Some.bytes.items ≡ take c.in-Open.record_len (drop (c.args.at + 9) m.reads) in
     let R : Moment → Type 0 = λ m. c.args.len ≡ length m.reads → IsNext (drop c.args.at m.reads) (next.Open c.in-Open.gate c.of.result) in
     let size : c.saturating_sub.result ≡ c.args.len - c.args.at - 9 = search rules in
-    let found = rw (c.in-Some.is, c.in_ok-read.ensures.kept) at c.in_ok-bytes-in-Open.ensures.found in
+    let found = rw (c.in-Some.is, c.in_ok-read.ensures.unchanged) at c.in_ok-bytes-in-Open.ensures.found in
     known_both P Q R (λ m read bytes_is len_is.
     let room : c.in-Open.record_len < length (drop c.args.at m.reads) - 9 = omega (arith, length-drop c.args.at m.reads) in
     next_open (drop c.args.at m.reads) c.in-Open.gate c.in-Open.record_len c.of.result room

@@ -5,7 +5,7 @@ use Rattle.wp_gatelog.proofs.scan.read_records.Given as goal
 
 abbrev pub invariant-gates : goal.invariant-gates
 invariant-gates g l = record {
-  kept : g.D.Disk.moments l.disk ≡ g.D.Disk.moments l.initial.disk;
+  unchanged : g.D.Disk.moments l.disk ≡ g.D.Disk.moments l.initial.disk;
   later : g.D.Disk.faults l.initial.disk ≤ g.D.Disk.faults l.disk;
   within : l.end < l.len;
   count : vec_len l.records ≤ l.end;

@@ -6,6 +6,6 @@ use Rattle.wp_keep.proofs.staying.staying.Given as goal
 
 abbrev pub invariant-loop-version : goal.invariant-loop-version
 invariant-loop-version l = record {
-  kept : l.kept.items ≡ filter (stays (by_commits l.commits) l.versions l.snapshots l.floor) (take l.version-index l.versions);
+  retained : l.retained.items ≡ filter (stays (by_commits l.commits) l.versions l.snapshots l.floor) (take l.version-index l.versions);
   noted : HasNoted l.commits (take l.version-index l.versions) l.newer;
 }

@@ -9,48 +9,48 @@ use Rattle.wp_run.proofs.client.answer.Goals as goal
 
 pub log_for-requires : goal.log_for-requires
 log_for-requires g c =
-    let planned : plan c.args.engine.now.entries c.args.session.now c.args.command.now ≡ Log c.in-Log.entry c.in-Log.reply = search rules in
-    let logs = plan_logs c.last_entry_undoes.ensures c.undecided_grows.ensures.prepared _ _ _ _ _ c.history.ensures.legal c.history.ensures.closed c.requires.fits c.changes_are_a_batch.ensures planned in
+    let planned : plan c.args.engine.now.entries c.args.client.now c.args.command.now ≡ Log c.in-Log.entry c.in-Log.reply = search rules in
+    let logs = plan_logs c.undecided_grows.ensures.prepared _ _ _ _ _ c.history.ensures.legal c.history.ensures.closed c.requires.fits c.changes_are_a_batch.ensures planned in
     record { next = rw c.in_ok-entries-in-Log.ensures.items logs.next }
 
 pub log_for-requires-in-RollBack : goal.log_for-requires-in-RollBack
 log_for-requires-in-RollBack g c =
-    let planned : plan c.args.engine.now.entries c.args.session.now c.args.command.now ≡ RollBack c.in-RollBack.p c.in-RollBack.batch c.in-RollBack.reply = search rules in
-    let logs = plan_rolls_back c.last_entry_undoes.ensures c.undo_is_followed_by_its_close.ensures _ _ _ _ _ _ c.history.ensures.closed c.requires.fits c.changes.ensures.batch planned in
+    let planned : plan c.args.engine.now.entries c.args.client.now c.args.command.now ≡ RollBack c.in-RollBack.p c.in-RollBack.batch c.in-RollBack.reply = search rules in
+    let logs = plan_rolls_back c.undo_is_followed_by_its_close.ensures _ _ _ _ _ _ c.history.ensures.closed c.requires.fits c.changes.ensures.batch planned in
     record { next = rw c.in_ok-entries-in-RollBack.ensures.items logs.next }
 
 pub returns-in_ok-take-in-Say-clause-fits : goal.returns-in_ok-take-in-Say-clause-fits
 returns-in_ok-take-in-Say-clause-fits g c =
-    let planned : plan c.args.engine.now.entries c.args.session.now c.args.command.now ≡ Say c.in-Say.reply = search rules in
+    let planned : plan c.args.engine.now.entries c.args.client.now c.args.command.now ≡ Say c.in-Say.reply = search rules in
     rw (c.in_ok-take-in-Say.ensures, c.history-in-Say.ensures.entries) (plan_fits _ _ _ _ c.requires.fits planned)
 
 pub returns-in_ok-entries-in-Log-clause-steps : goal.returns-in_ok-entries-in-Log-clause-steps
 returns-in_ok-entries-in-Log-clause-steps g c =
-    let planned : plan c.args.engine.now.entries c.args.session.now c.args.command.now ≡ Log c.in-Log.entry c.in-Log.reply = search rules in
-    let logs = plan_logs c.last_entry_undoes.ensures c.undecided_grows.ensures.prepared _ _ _ _ _ c.history.ensures.legal c.history.ensures.closed c.requires.fits c.changes_are_a_batch.ensures planned in
+    let planned : plan c.args.engine.now.entries c.args.client.now c.args.command.now ≡ Log c.in-Log.entry c.in-Log.reply = search rules in
+    let logs = plan_logs c.undecided_grows.ensures.prepared _ _ _ _ _ c.history.ensures.legal c.history.ensures.closed c.requires.fits c.changes_are_a_batch.ensures planned in
     let asks = log_asks c.args.engine.now _ _ _ _ planned logs in
     if_answered _ _ _ c.log_for.ensures.answered (λ answer logged. logged_steps _ _ _ _ _ _ _ answer asks (rw c.in_ok-entries-in-Log.ensures.items at logged))
 
 pub returns-in_ok-entries-in-Log-clause-fits : goal.returns-in_ok-entries-in-Log-clause-fits
 returns-in_ok-entries-in-Log-clause-fits g c =
-    let planned : plan c.args.engine.now.entries c.args.session.now c.args.command.now ≡ Log c.in-Log.entry c.in-Log.reply = search rules in
-    let logs = plan_logs c.last_entry_undoes.ensures c.undecided_grows.ensures.prepared _ _ _ _ _ c.history.ensures.legal c.history.ensures.closed c.requires.fits c.changes_are_a_batch.ensures planned in
-    on_answered _ (λ r. IsLogAnswer c.args.engine.now c.args.session.now c.in_ok-entries-in-Log.entries.items c.in-Log.reply r c.log_for.new.engine c.log_for.new.session) _ c.log_for.ensures.answered (λ answer logged. logged_fits _ _ _ _ _ _ answer logs c.requires.fits (rw c.in_ok-entries-in-Log.ensures.items at logged))
+    let planned : plan c.args.engine.now.entries c.args.client.now c.args.command.now ≡ Log c.in-Log.entry c.in-Log.reply = search rules in
+    let logs = plan_logs c.undecided_grows.ensures.prepared _ _ _ _ _ c.history.ensures.legal c.history.ensures.closed c.requires.fits c.changes_are_a_batch.ensures planned in
+    on_answered _ (λ r. IsLogAnswer c.args.engine.now c.args.client.now c.in_ok-entries-in-Log.entries.items c.in-Log.reply r c.log_for.new.engine c.log_for.new.client) _ c.log_for.ensures.answered (λ answer logged. logged_fits _ _ _ _ _ _ answer logs c.requires.fits (rw c.in_ok-entries-in-Log.ensures.items at logged))
 
 pub returns-in_ok-entries-in-RollBack-clause-steps : goal.returns-in_ok-entries-in-RollBack-clause-steps
 returns-in_ok-entries-in-RollBack-clause-steps g c =
-    let planned : plan c.args.engine.now.entries c.args.session.now c.args.command.now ≡ RollBack c.in-RollBack.p c.in-RollBack.batch c.in-RollBack.reply = search rules in
-    let logs = plan_rolls_back c.last_entry_undoes.ensures c.undo_is_followed_by_its_close.ensures _ _ _ _ _ _ c.history.ensures.closed c.requires.fits c.changes.ensures.batch planned in
+    let planned : plan c.args.engine.now.entries c.args.client.now c.args.command.now ≡ RollBack c.in-RollBack.p c.in-RollBack.batch c.in-RollBack.reply = search rules in
+    let logs = plan_rolls_back c.undo_is_followed_by_its_close.ensures _ _ _ _ _ _ c.history.ensures.closed c.requires.fits c.changes.ensures.batch planned in
     let asks = rollback_asks c.args.engine.now _ _ _ _ _ planned logs in
     if_answered _ _ _ c.log_for-in-RollBack.ensures.answered (λ answer logged. logged_steps _ _ _ _ _ _ _ answer asks (rw c.in_ok-entries-in-RollBack.ensures.items at logged))
 
 pub returns-in_ok-entries-in-RollBack-clause-fits : goal.returns-in_ok-entries-in-RollBack-clause-fits
 returns-in_ok-entries-in-RollBack-clause-fits g c =
-    let planned : plan c.args.engine.now.entries c.args.session.now c.args.command.now ≡ RollBack c.in-RollBack.p c.in-RollBack.batch c.in-RollBack.reply = search rules in
-    let logs = plan_rolls_back c.last_entry_undoes.ensures c.undo_is_followed_by_its_close.ensures _ _ _ _ _ _ c.history.ensures.closed c.requires.fits c.changes.ensures.batch planned in
-    on_answered _ (λ r. IsLogAnswer c.args.engine.now c.args.session.now c.in_ok-entries-in-RollBack.entries.items c.in-RollBack.reply r c.log_for-in-RollBack.new.engine c.log_for-in-RollBack.new.session) _ c.log_for-in-RollBack.ensures.answered (λ answer logged. logged_fits _ _ _ _ _ _ answer logs c.requires.fits (rw c.in_ok-entries-in-RollBack.ensures.items at logged))
+    let planned : plan c.args.engine.now.entries c.args.client.now c.args.command.now ≡ RollBack c.in-RollBack.p c.in-RollBack.batch c.in-RollBack.reply = search rules in
+    let logs = plan_rolls_back c.undo_is_followed_by_its_close.ensures _ _ _ _ _ _ c.history.ensures.closed c.requires.fits c.changes.ensures.batch planned in
+    on_answered _ (λ r. IsLogAnswer c.args.engine.now c.args.client.now c.in_ok-entries-in-RollBack.entries.items c.in-RollBack.reply r c.log_for-in-RollBack.new.engine c.log_for-in-RollBack.new.client) _ c.log_for-in-RollBack.ensures.answered (λ answer logged. logged_fits _ _ _ _ _ _ answer logs c.requires.fits (rw c.in_ok-entries-in-RollBack.ensures.items at logged))
 
 pub returns-in_ok-take-in-Say-clause-steps : goal.returns-in_ok-take-in-Say-clause-steps
 returns-in_ok-take-in-Say-clause-steps g c =
-    let planned : plan c.args.engine.now.entries c.args.session.now c.args.command.now ≡ Say c.in-Say.reply = search rules in
+    let planned : plan c.args.engine.now.entries c.args.client.now c.args.command.now ≡ Say c.in-Say.reply = search rules in
     said_steps _ _ _ _ _ planned (rw (← c.history-in-Say.ensures.entries) c.in_ok-take-in-Say.ensures)

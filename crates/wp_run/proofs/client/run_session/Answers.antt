@@ -3,7 +3,7 @@ use Rattle.wp_run.proofs.RunLemmas.{steps_on, broke_off}
 use Rattle.wp_run.proofs.client.run_session.Goals as goal
 
 pub returns-in-Err : goal.returns-in-Err
-returns-in-Err g c = rw c.in-Err.ensures.err (broke_off _ _ c.loop-command.session c.args.commands.now c.loop-command.command-index c.loop-command.replies.items c.loop-command.invariant.runs)
+returns-in-Err g c = rw c.in-Err.ensures.err (broke_off _ _ c.loop-command.client c.args.commands.now c.loop-command.command-index c.loop-command.replies.items c.loop-command.invariant.runs)
 
 pub loop-command-preserved : goal.loop-command-preserved
 loop-command-preserved g c = record {

@@ -5,8 +5,8 @@ use Rattle.wp_run.proofs.client.run_session.Given as goal
 
 abbrev pub invariant-loop-command : goal.invariant-loop-command
 invariant-loop-command g l = record {
-  runs : Runs l.initial.engine new_client (take l.command-index l.commands) l.replies.items l.engine l.session;
-  fits : ClientFits l.engine.entries l.session;
+  runs : Runs l.initial.engine new_client (take l.command-index l.commands) l.replies.items l.engine l.client;
+  fits : ClientFits l.engine.entries l.client;
   count : length l.replies.items ≡ l.command-index;
   room : length l.commands ≤ vec_capacity l.replies;
 }

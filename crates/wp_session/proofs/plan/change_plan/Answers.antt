@@ -1,4 +1,4 @@
-use Rattle.wp_session.proofs.Found.{holder_is_undecided}
+use Rattle.wp_model.proofs.Found.{holder_is_undecided}
 use Rattle.wp_session.proofs.plan.change_plan.Goals as goal
 
 pub busy_or-requires : goal.busy_or-requires

@@ -10,14 +10,14 @@ returns-in_default c =
 
 pub returns-then-is_some : goal.returns-then-is_some
 returns-then-is_some c =
-    let stood = c.in-Some.ensures.value in
-    let found = get_found _ c.args.name _ stood in
-    let names = looked_at _ _ c.args.name _ stood ((c.get_mut.follows.holds c.in-Some.has.now).3 (ap is_some (sym stood))).0 in
+    let had = c.in-Some.ensures.value in
+    let found = get_found _ c.args.name _ had in
+    let names = looked_at _ _ c.args.name _ had ((c.get_mut.follows.holds c.in-Some.has.now).3 (ap is_some (sym had))).0 in
     rw (← c.self.view_is) (refuses_used _ c.in-Some.has.now c.args.name found (sym c.is_some.ensures ∙ c.if-is_some.true), refl, cc)
 
 pub returns : goal.returns
 returns c =
-    let stood = c.in-Some.ensures.value in
+    let had = c.in-Some.ensures.value in
     let free = none_from_false c.in-Some.has.now (sym c.is_some.ensures ∙ c.if-is_some.false) in
-    let names = map_of_inserted _ _ c.args.name (Some c.args.client) ((c.get_mut.follows.holds (Some c.args.client)).3 (ap is_some (sym stood))).0 in
-    rw (← c.self.view_is) (get_found _ c.args.name _ stood ∙ ap Some free, cc)
+    let names = map_of_inserted _ _ c.args.name (Some c.args.client) ((c.get_mut.follows.holds (Some c.args.client)).3 (ap is_some (sym had))).0 in
+    rw (← c.self.view_is) (get_found _ c.args.name _ had ∙ ap Some free, cc)

@@ -12,8 +12,8 @@ removed c =
 pub returns-in-Some-clause-versions : goal.returns-in-Some-clause-versions
 returns-in-Some-clause-versions c = rw (← c.self.view_is) (removed c)
 
-pub returns-in-Some-clause-stood : goal.returns-in-Some-clause-stood
-returns-in-Some-clause-stood c =
+pub returns-in-Some-clause-had : goal.returns-in-Some-clause-had
+returns-in-Some-clause-had c =
     let there = c.in-Some.ensures.variant.0 refl in
     let within : c.newer_than-place.result < length c.self.inside.newest_first.items = omega (arith, c.self.inside.newest_first.ok.0) in
     rw (← c.self.view_is) (sym (found_at c.args.n _ c.newer_than-place.result c.in-Some.field-0.now within c.in-Some.ensures.lookup c.if-number-n.true))
@@ -32,8 +32,8 @@ pub returns-in_default-2-clause-versions : goal.returns-in_default-2-clause-vers
 returns-in_default-2-clause-versions c =
     rw (← c.self.view_is) (changes_in c.args.n _ c.newer_than-place.result c.get.result c.self.invariant c.newer_than-place.ensures (λ h. c.get.ensures.variant.1 (omega (arith, h, c.self.inside.newest_first.ok.0))) c.get.ensures.lookup (rw c.in_default.is tt))
 
-pub returns-in_default-clause-stood : goal.returns-in_default-clause-stood
-returns-in_default-clause-stood c = sym (found_nowhere c.args.n _ (returns-in_default-clause-versions c))
+pub returns-in_default-clause-had : goal.returns-in_default-clause-had
+returns-in_default-clause-had c = sym (found_nowhere c.args.n _ (returns-in_default-clause-versions c))
 
-pub returns-in_default-2-clause-stood : goal.returns-in_default-2-clause-stood
-returns-in_default-2-clause-stood c = sym (found_nowhere c.args.n _ (returns-in_default-2-clause-versions c))
+pub returns-in_default-2-clause-had : goal.returns-in_default-2-clause-had
+returns-in_default-2-clause-had c = sym (found_nowhere c.args.n _ (returns-in_default-2-clause-versions c))

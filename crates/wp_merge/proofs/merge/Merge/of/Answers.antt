@@ -1,7 +1,8 @@
 use Rattle.std.proofs.Common.{sym, ap, subst, ◌∙◌}
 use Rattle.wp_model.specs.Versions.{AreInOrder}
 use Rattle.wp_merge.specs.Merge.{first_at, merge_of}
-use Rattle.wp_merge.proofs.Merged.{in_order_nil, in_order-merge, or_none, merged_more}
+use Rattle.wp_model.proofs.VersionLists.{in_order_nil}
+use Rattle.wp_merge.proofs.Merged.{in_order-merge, or_none, merged_more}
 use Rattle.wp_merge.proofs.merge.Merge.of.Goals as goal
 
 pub loop-source-init : goal.loop-source-init

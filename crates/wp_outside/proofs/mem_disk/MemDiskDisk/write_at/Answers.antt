@@ -1,14 +1,14 @@
 use Rattle.std.proofs.Common.{◌+◌, ◌≤◌, length, arith, ◌∙◌, ap, refl}
 use Rattle.wp_outside.specs.declared.mem_disk.Change.TheVariants.{Write}
 use Rattle.wp_outside.specs.MemDisk.{Wrote, bytes_written, now_of, moments_of}
-use Rattle.wp_outside.specs.Replay.{state_of}
+use Rattle.wp_outside.specs.Replay.{disk_state}
 use Rattle.wp_outside.proofs.Replayed.{IsNoted, noted, noted_effects, moments_of-more, written_again}
 use Rattle.wp_outside.proofs.mem_disk.MemDiskDisk.write_at.Goals as goal
 
 pub keep-requires : goal.keep-requires
 keep-requires c =
     let f = c.fits-fits.ensures.room c.in_ok-admit.ensures.fits in
-    let room : bytes_written (state_of c.self.inside) + length c.args.bytes.now ≤ c.self.inside.room = rw (← c.self.view_is) at f.written in
+    let room : bytes_written (disk_state c.self.inside) + length c.args.bytes.now ≤ c.self.inside.room = rw (← c.self.view_is) at f.written in
     let same = written_again c.self.inside.past.items c.self.inside.written.items (omega (arith, c.self.invariant.written)) in
     omega (arith, room, same, c.self.invariant.written, c.self.invariant.written_room)
 
@@ -17,7 +17,7 @@ is_noted c =
     let f = c.fits-fits.ensures.room c.in_ok-admit.ensures.fits in
     record {
       start = refl;
-      bytes = c.overwrite.ensures.reads (now_of (state_of c.self.inside)) c.self.invariant.bytes;
+      bytes = c.overwrite.ensures.reads (now_of (disk_state c.self.inside)) c.self.invariant.bytes;
       past = c.note.ensures.items;
       written = c.keep.ensures.items;
       size = refl;

@@ -28,11 +28,8 @@ returns-in-Ok g c =
     let inside = c.self.inside in
     let ready = ready_for inside.wal c.reserve.new.self inside.history.entries c.deref.result.now inside.stopped inside.limit c.self.invariant c.if-self.false c.in_ok-reserve.ensures.ok c.in_ok-reserve.ensures.record in
     record {
-      running = search rules;
-      fits = search rules;
+      called = record { running = search rules; fits = search rules; counted = search rules; durable = rw (← c.self.view_is) (durable_from inside.wal c.reserve.new.self c.append.new.self.moments _ c.in_ok-reserve.ensures.ok (c.append.ensures.durable inside.history.entries [] ready.stores)) };
       changed = search rules;
-      counted = search rules;
-      durable = rw (← c.self.view_is) (durable_from inside.wal c.reserve.new.self c.append.new.self.moments _ c.in_ok-reserve.ensures.ok (c.append.ensures.durable inside.history.entries [] ready.stores));
     }
 
 pub returns-in-Err-DiskFault : goal.returns-in-Err-DiskFault
@@ -40,10 +37,7 @@ returns-in-Err-DiskFault g c =
     let inside = c.self.inside in
     let ready = ready_for inside.wal c.reserve.new.self inside.history.entries c.deref.result.now inside.stopped inside.limit c.self.invariant c.if-self.false c.in_ok-reserve.ensures.ok c.in_ok-reserve.ensures.record in
     record {
-      running = search rules;
-      fits = search rules;
+      called = record { running = search rules; fits = search rules; counted = search rules; durable = rw (← c.self.view_is) (durable_from inside.wal c.reserve.new.self c.append.new.self.moments _ c.in_ok-reserve.ensures.ok (c.append.ensures.durable inside.history.entries [] ready.stores)) };
       changed = search rules;
       rose = search rules;
-      counted = search rules;
-      durable = rw (← c.self.view_is) (durable_from inside.wal c.reserve.new.self c.append.new.self.moments _ c.in_ok-reserve.ensures.ok (c.append.ensures.durable inside.history.entries [] ready.stores));
     }

@@ -1,0 +1,100 @@
+-- What an install makes of a manifest that stores edits.
+use Rattle.std.proofs.Common.{◌≡◌, ℕ, true, false, List, [], ◌∷◌, ◌++◌, sym, ap, ◌∙◌, inl, inr}
+use Rattle.wp_outside.specs.Disk.{Moment, IfKnown, Each, Passes, images}
+use Rattle.wp_gatelog.specs.declared.log.AppendError.{AppendError}
+use Rattle.wp_gatelog.specs.declared.log.AppendError.TheVariants.{DiskFault, Closed}
+use Rattle.wp_gatelog.specs.Append.{FrameAppended, FrameRefused}
+use Rattle.wp_gatelog.specs.Durability.{HasAcknowledged}
+use Rattle.wp_gatelog.specs.Log.{LogState, IsAtRest, Rests, BeforeOrAfter}
+use Rattle.wp_gatelog.specs.Moments.{Leaves}
+use Rattle.wp_gatelog.specs.Spelling.{frame_of}
+use Rattle.wp_manifest.specs.Edit.{Edit, IsEdit, no_edit, edit_bytes}
+use Rattle.wp_manifest.specs.Errors.{install_error_of}
+use Rattle.wp_manifest.specs.Manifest.{ManifestState, StoresEdits, InstallRefused}
+use Rattle.wp_manifest.specs.Spelling.{MAGIC, AreEdits, IsManifestOrNext}
+use Rattle.wp_manifest.proofs.EditLemmas.{AreEdits-push, last-push}
+
+-- ---- what the log of edits says of an append
+
+abbrev pub GrowsThrough : LogState → LogState → List ℕ → Type 0
+GrowsThrough old new frame = (magic : List ℕ) (records : List (List ℕ)) (bytes : List ℕ) → frame ≡ frame_of bytes → Rests magic old records → Passes (Leaves (BeforeOrAfter magic old.id records bytes)) old.moments new.moments
+
+abbrev pub IsLeft : LogState → LogState → List ℕ → Type 0
+IsLeft old new frame = (magic : List ℕ) (records : List (List ℕ)) (bytes : List ℕ) → frame ≡ frame_of bytes → Rests magic old records → (image : List ℕ) → images new.moments image → BeforeOrAfter magic old.id records bytes image
+
+abbrev pub AcknowledgesThrough : LogState → LogState → Type 0
+AcknowledgesThrough old new = (magic : List ℕ) (records : List (List ℕ)) → Rests magic old records → Passes (Leaves (HasAcknowledged magic old.id records)) old.moments new.moments
+
+abbrev pub RestsAfter : LogState → LogState → List ℕ → Type 0
+RestsAfter old new frame = (magic : List ℕ) (records : List (List ℕ)) (bytes : List ℕ) → frame ≡ frame_of bytes → Rests magic old records → Rests magic new (records ++ bytes ∷ [])
+
+abbrev pub AcknowledgesAtRest : Type 0
+AcknowledgesAtRest = (magic : List ℕ) (id end : ℕ) (records : List (List ℕ)) (m : Moment) → IsAtRest magic id end records m → Leaves (HasAcknowledged magic id records) m
+
+-- ---- images
+
+-- before or after, an image spells the edits, or them and the new one
+grown_edits : (id : ℕ) (records : List (List ℕ)) (edits : List Edit) (next : Edit) (image : List ℕ) → AreEdits records edits → IsEdit next → BeforeOrAfter MAGIC id records (edit_bytes next) image → IsManifestOrNext id edits next image
+grown_edits id records edits next image spelled is h =
+    elim h [
+      | inl before ↦ inl (records, before, spelled)
+      | inr after ↦ inr (records ++ edit_bytes next ∷ [], after, AreEdits-push records edits next spelled is)
+    ]
+
+each_grown : (id : ℕ) (records : List (List ℕ)) (edits : List Edit) (next : Edit) (moments : List Moment) → AreEdits records edits → IsEdit next → Each (Leaves (BeforeOrAfter MAGIC id records (edit_bytes next))) moments → Each (Leaves (IsManifestOrNext id edits next)) moments
+each_grown id records edits next [] spelled is each = tt
+each_grown id records edits next (m ∷ more) spelled is each = (λ image at. grown_edits id records edits next image spelled is (each.0 image at), each_grown id records edits next more spelled is each.1)
+
+pub passes_edits : (old : ManifestState) (new : LogState) (frame bytes : List ℕ) (next : Edit) → frame ≡ frame_of bytes → bytes ≡ edit_bytes next → IsEdit next → GrowsThrough old.log new frame
+    → (edits : List Edit) → StoresEdits old edits no_edit → old.log.closed ≡ false → Passes (Leaves (IsManifestOrNext old.log.id edits next)) old.log.moments new.moments
+passes_edits old new frame bytes next framed spelling is grows edits stores running =
+    let passed = grows MAGIC stores.records (edit_bytes next) (framed ∙ ap frame_of spelling) (stores.rests running) in
+    (passed.0, passed.1, each_grown old.log.id stores.records edits next passed.0 stores.spelled is passed.2)
+
+-- the records are acknowledged at the newest moment
+acknowledged_now : AcknowledgesAtRest → (id end : ℕ) (records : List (List ℕ)) (old new : List Moment) → IfKnown old (IsAtRest MAGIC id end records) → Passes (Leaves (HasAcknowledged MAGIC id records)) old new → IfKnown new (Leaves (HasAcknowledged MAGIC id records))
+acknowledged_now at_rest id end records [] new rests ([], is, each) = rw is tt
+acknowledged_now at_rest id end records (m ∷ past) new rests ([], is, each) = rw is (at_rest MAGIC id end records m rests)
+acknowledged_now at_rest id end records old new rests (m ∷ more, is, each) = rw is each.0
+
+both_left : (P Q : List ℕ → Type 0) (moments : List Moment) → ((image : List ℕ) → images moments image → P image) → IfKnown moments (Leaves Q) → IfKnown moments (Leaves (λ image. P image × Q image))
+both_left P Q [] p q = tt
+both_left P Q (m ∷ past) p q = λ image at. (p image at, q image at)
+
+-- ---- an install
+
+pub stores_installed : (old : ManifestState) (new : LogState) (frame bytes : List ℕ) (edit : Edit) (len : ℕ) → frame ≡ frame_of bytes → bytes ≡ edit_bytes edit → IsEdit edit → FrameAppended old.log new len → RestsAfter old.log new frame
+    → (edits : List Edit) → StoresEdits old edits no_edit → StoresEdits (record { log = new; edit = edit }) (edits ++ edit ∷ []) no_edit
+stores_installed old new frame bytes edit len framed spelling is appended rests edits stores =
+    let running : new.closed ≡ old.log.closed = ap (λ (s : LogState). s.closed) appended.changed in
+    let was_open = appended.was_open in
+    record {
+      records = stores.records ++ edit_bytes edit ∷ [];
+      spelled = AreEdits-push stores.records edits edit stores.spelled is;
+      last = sym (last-push edits edit);
+      rests = λ _. rests MAGIC stores.records (edit_bytes edit) (framed ∙ ap frame_of spelling) (stores.rests appended.was_open);
+      left = λ closed. absurd cc;
+    }
+
+stores_failed : (old : ManifestState) (new : LogState) (frame bytes : List ℕ) (edit : Edit) → AcknowledgesAtRest → frame ≡ frame_of bytes → bytes ≡ edit_bytes edit → IsEdit edit → FrameRefused old.log new DiskFault → IsLeft old.log new frame → AcknowledgesThrough old.log new
+    → (edits : List Edit) → StoresEdits old edits no_edit → StoresEdits (record { log = new; edit = old.edit }) edits edit
+stores_failed old new frame bytes edit at_rest framed spelling is refuses left acknowledges edits stores =
+    let rests = stores.rests refuses.0 in
+    let same : new.id ≡ old.log.id = ap (λ (s : LogState). s.id) refuses.2 in
+    let closed : new.closed ≡ true = ap (λ (s : LogState). s.closed) refuses.2 in
+    let still = acknowledged_now at_rest old.log.id old.log.end stores.records old.log.moments new.moments rests (acknowledges MAGIC stores.records rests) in
+    let either = λ (image : List ℕ) (at : images new.moments image). grown_edits old.log.id stores.records edits edit image stores.spelled is (left MAGIC stores.records (edit_bytes edit) (framed ∙ ap frame_of spelling) rests image at) in
+    record {
+      records = stores.records;
+      spelled = stores.spelled;
+      last = stores.last;
+      rests = λ reopened. absurd cc;
+      left = λ _. rw same (both_left (IsManifestOrNext old.log.id edits edit) (HasAcknowledged MAGIC old.log.id stores.records) new.moments either still);
+    }
+
+pub install_refused : (old : ManifestState) (new : LogState) (frame bytes : List ℕ) (edit : Edit) (why : AppendError) → AcknowledgesAtRest → frame ≡ frame_of bytes → bytes ≡ edit_bytes edit → IsEdit edit → FrameRefused old.log new why → IsLeft old.log new frame → AcknowledgesThrough old.log new
+    → InstallRefused old (record { log = new; edit = old.edit }) edit (install_error_of why)
+install_refused old new frame bytes edit DiskFault at_rest framed spelling is refuses left acknowledges =
+    (refuses.0, refuses.1, ap (λ (l : LogState). record old { log = l }) refuses.2, stores_failed old new frame bytes edit at_rest framed spelling is refuses left acknowledges)
+install_refused old new frame bytes edit (Closed n) at_rest framed spelling is refuses left acknowledges =
+    (refuses.0, refuses.1, ap (λ (l : LogState). record old { log = l }) refuses.2)

@@ -1,0 +1,8 @@
+use Rattle.wp_manifest.proofs.EditLemmas.{places-written, ArePlaces-more}
+use Rattle.wp_manifest.proofs.write.push_places.Goals as goal
+
+pub loop-table-preserved : goal.loop-table-preserved
+loop-table-preserved c = record {
+  pushed = places-written c.args.out.now.items c.loop-table.out.items c.push_place.new.out.items c.args.tables.now c.loop-table.table-index _ c.loop-table-test.true c.loop-table.invariant.pushed c.in_ok-push_place.ensures.pushed;
+  in_range = ArePlaces-more c.args.tables.now c.loop-table.table-index _ c.loop-table-test.true c.loop-table.invariant.in_range c.in_ok-push_place.ensures.in_range;
+}

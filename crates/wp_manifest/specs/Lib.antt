@@ -1,0 +1,6 @@
+pub mod Edit
+pub mod Errors
+pub mod Reading
+pub mod Spelling
+pub mod Opening
+pub mod Manifest

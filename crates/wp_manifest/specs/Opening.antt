@@ -1,0 +1,37 @@
+-- Why a manifest is not opened, and what is left of it.
+use Rattle.std.specs.Prelude.{◌≡◌, ◌≢◌, ◌⊎◌, ℕ, List, ⊤}
+use Rattle.wp_outside.specs.Disk.{Moment, IfKnown, added, after_sync}
+use Rattle.wp_gatelog.specs.Damage.{IsBadHead, IsCut}
+use Rattle.wp_gatelog.specs.Left.{IsSyncedOrAtRest}
+use Rattle.wp_gatelog.specs.Spelling.{Spells}
+use Rattle.wp_manifest.specs.Spelling.{MAGIC, HasHead}
+use Rattle.wp_manifest.specs.Reading.{IsBadAmong}
+use Rattle.wp_manifest.specs.declared.error.ManifestError.{ManifestError}
+use Rattle.wp_manifest.specs.declared.error.ManifestError.TheVariants.{Memory, DiskFault, BadHead, Stranger, BadEdit}
+
+-- the head has another id than the log
+pub record IsStranger (id log found : ℕ) (bytes : List ℕ) : Type 0 where
+  pub asked : log ≡ id
+  pub other : found ≢ id
+  pub head : HasHead found bytes
+
+-- the head has the log's id, and the record with this index is cut; or none is, and it is the first that is no edit
+abbrev pub IsBadEdit : ℕ → ℕ → List ℕ → Type 0
+IsBadEdit id index bytes =
+    ((cut : IsCut MAGIC index bytes) × (cut.id ≡ id))
+    ⊎ ((records : List (List ℕ)) × Spells bytes MAGIC id records × IsBadAmong records index)
+
+-- Why the manifest was not opened: its disk's count of faults rose, or where that is known its bytes are so. Want of
+-- memory needs no cause.
+abbrev pub IsManifestCause : ℕ → (rose : Type 0) → List Moment → ManifestError → Type 0
+IsManifestCause id rose moments Memory = Unit {0}
+IsManifestCause id rose moments DiskFault = rose
+IsManifestCause id rose moments BadHead = IfKnown moments (λ m. IsBadHead MAGIC m.reads)
+IsManifestCause id rose moments (Stranger log found) = IfKnown moments (λ m. IsStranger id log found m.reads)
+IsManifestCause id rose moments (BadEdit index) = IfKnown moments (λ m. IsBadEdit id index m.reads)
+
+-- what a refusal leaves; where the disk failed, that is left open
+abbrev pub LeavesEdits : List Moment → List Moment → ManifestError → Type 0
+LeavesEdits old new DiskFault = ⊤
+LeavesEdits old new BadHead = new ≡ added after_sync old
+LeavesEdits old new other = IsSyncedOrAtRest MAGIC old new

@@ -1,0 +1,35 @@
+ghost use Rattle.std.specs.Prelude.{◌≡◌};
+ghost use Rattle.wp_manifest.specs.Edit.{no_edit};
+
+use std::alloc::Global;
+use std::marker::Model;
+use wp_model::Seq;
+
+/// What the tables of a store are. Clauses see the number and the list of tables.
+#[derive(Debug, Drop)]
+pub struct Edit {
+    /// The versions of all entries up to this number are in the tables, as far as they are needed; 0 where none is.
+    pub flushed: Seq,
+    /// Of each table its place on the tables' device and its length, in bytes, the newest first.
+    pub tables: Vec<(u64, u64)>,
+}
+
+impl Model for Edit {
+    ghost use Rattle.wp_manifest.specs.Edit.{Edit};
+
+    ghost Value = { Edit };
+
+    ghost view = { λ e. record { flushed = e.flushed; tables = e.tables.items } };
+}
+
+impl Edit {
+    /// Nothing is flushed, and there is no table.
+    pub fn none(alloc: Global) -> Edit
+        ensures { result ≡ no_edit }
+    {
+        Edit {
+            flushed: 0,
+            tables: Vec::new(alloc),
+        }
+    }
+}

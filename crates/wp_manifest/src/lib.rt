@@ -1,0 +1,21 @@
+//! The manifest: which tables a store has, and which entries are in them.
+//!
+//! It is a gate log of edits. An edit says up to which number the entries are in tables, and where in the tables' device
+//! each table is, the newest first. The last edit counts; without one there is no table. `install` appends an edit, so at
+//! each moment a crash leaves the old edits, or those and the new one.
+#![tactic(auto)]
+
+mod edit;
+mod error;
+mod laws;
+mod manifest;
+mod read;
+mod write;
+
+pub use edit::Edit;
+pub use error::{InstallError, ManifestError};
+pub use laws::edits_have_one_spelling;
+pub use manifest::Manifest;
+
+#[cfg(test)]
+mod tests;

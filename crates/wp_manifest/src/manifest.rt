@@ -1,0 +1,154 @@
+//! An open manifest.
+
+ghost use Rattle.std.specs.Prelude.{◌≡◌, ◌≤◌, ◌<◌, ◌^◌, ◌++◌, [], ◌∷◌, List, ℕ, length, false, IfOk, IfErr, OnOk, MatchResult};
+ghost use Rattle.wp_outside.specs.Disk.{IfKnown, Passes, images};
+ghost use Rattle.wp_outside.specs.Faults.{Rose};
+ghost use Rattle.wp_gatelog.specs.Durability.{LosesNoRecord};
+ghost use Rattle.wp_gatelog.specs.Moments.{Leaves};
+ghost use Rattle.wp_gatelog.specs.Opening.{SurvivesThrough};
+ghost use Rattle.wp_manifest.specs.Edit.{Edit, no_edit};
+ghost use Rattle.wp_manifest.specs.Errors.{manifest_error_of};
+ghost use Rattle.wp_manifest.specs.Spelling.{MAGIC, IsManifestOf, IsManifestOrNext};
+ghost use Rattle.wp_manifest.specs.Manifest.{Opened, StoresEdits, InstallRefused};
+ghost use Rattle.wp_manifest.specs.Opening.{IsManifestCause, LeavesEdits};
+
+use crate::edit::Edit;
+use crate::error::{InstallError, ManifestError};
+use crate::read::last_edit;
+use crate::write::write_edit;
+use std::alloc::Global;
+use std::marker::Model;
+use wp_gatelog::{DiskRefused, GateLog, LogError, acknowledged_records_come_first, frame};
+use wp_outside::Disk;
+
+/// The first four bytes after the gate of the manifest's head.
+const MANIFEST_MAGIC: [u8; 4] = *b"WPMF";
+
+/// An open manifest. Clauses see its log of edits, and the edit that was installed last.
+#[derive(Drop)]
+pub struct Manifest<D: Disk> {
+    alloc: Global,
+    log: GateLog<D>,
+    edit: Edit,
+}
+
+impl<D: Disk> Model for Manifest<D> {
+    ghost use Rattle.wp_manifest.specs.Manifest.{ManifestState};
+
+    ghost Value = { ManifestState };
+
+    ghost view = { λ m. record { log = m.log; edit = m.edit } };
+}
+
+/// What a refusal of the log of edits means for a manifest that is opened with this id.
+fn error_of(why: LogError, id: u32) -> ManifestError
+    ensures { result ≡ manifest_error_of id why }
+{
+    match why {
+        LogError::Memory => ManifestError::Memory,
+        LogError::DiskFault => ManifestError::DiskFault,
+        LogError::BadHead => ManifestError::BadHead,
+        LogError::Cut { id: found, .. } if found != id => ManifestError::Stranger {
+            log: id,
+            found,
+        },
+        LogError::Cut { index, .. } => ManifestError::BadEdit { index },
+    }
+}
+
+impl<D: Disk> Manifest<D> {
+    /// Opens the manifest on the disk for a log with this id, or makes it with the id. Its id is asked for before its
+    /// records are.
+    pub fn open(
+        alloc: Global,
+        disk: D,
+        id: u32,
+    ) -> Result<Manifest<D>, DiskRefused<D, ManifestError>>
+        // The edits are those that the disk spelled as it was handed in, and a crash from now on leaves them.
+        ensures opened { IfOk result (Opened id (D.moments disk)) }
+
+        ensures cause { IfErr result (λ refused. IsManifestCause id (Rose (D.faults disk) (D.faults refused.disk)) (D.moments disk) refused.why) }
+
+        // The bytes are left as they were, or the log in them repaired, with all of its records.
+        ensures left { IfErr result (λ refused. LeavesEdits (D.moments disk) (D.moments refused.disk) refused.why) }
+
+        // At each moment since its beginning a crash leaves the bytes as they were found, or a log of their records; but
+        // where the head's gate was not 01 it may leave none, and where the last record's was not, all but that one.
+        ensures survives { MatchResult result (λ opened. SurvivesThrough MAGIC id (D.moments disk) opened.log.moments)
+            (λ refused. SurvivesThrough MAGIC id (D.moments disk) (D.moments refused.disk)) }
+
+        // What each crash at one moment would leave acknowledged, each crash at a later moment leaves too.
+        ensures durable { MatchResult result
+            (λ opened. LosesNoRecord MAGIC (D.moments disk) opened.log.moments)
+            (λ refused. LosesNoRecord MAGIC (D.moments disk) (D.moments refused.disk)) }
+        ensures later { MatchResult result (λ opened. D.faults disk ≤ opened.log.faults) (λ refused. D.faults disk ≤ D.faults refused.disk) }
+    {
+        let (log, records) = match GateLog::open(alloc, disk, MANIFEST_MAGIC, id) {
+            Ok(opened) => opened,
+            Err(DiskRefused { disk, why }) => {
+                let why = error_of(why, id);
+                return Err(DiskRefused { disk, why });
+            }
+        };
+        if log.id() != id {
+            let why = ManifestError::Stranger {
+                log: id,
+                found: log.id(),
+            };
+            let disk = log.into_disk();
+            return Err(DiskRefused { disk, why });
+        }
+        match last_edit(alloc, &records) {
+            Ok(edit) => Ok(Manifest { alloc, log, edit }),
+            Err(why) => {
+                let disk = log.into_disk();
+                Err(DiskRefused { disk, why })
+            }
+        }
+    }
+
+    /// The edit that was installed last, or that nothing is flushed and there is no table.
+    pub fn edit(&self) -> &Edit
+        ensures { result.now ≡ self.now.edit }
+    {
+        &self.edit
+    }
+
+    /// Makes the edit the last one. The tables that it names are durable before.
+    pub fn install(&mut self, edit: Edit) -> Result<(), InstallError>
+        requires flushed { edit.flushed < 2 ^ 32 }
+        requires count { length edit.tables ≤ edit.flushed }
+
+        // At each moment since its beginning a crash leaves the edits before it, or those and the new one, whole.
+        ensures any_moment { (edits : List Edit) → StoresEdits self.old edits no_edit → self.old.log.closed ≡ false
+            → Passes (Leaves (IsManifestOrNext self.old.log.id edits edit)) self.old.log.moments self.new.log.moments }
+
+        // What each crash at one moment would leave acknowledged, each crash at a later moment leaves too.
+        ensures durable { (edits : List Edit) (next : Edit) → StoresEdits self.old edits next
+            → LosesNoRecord MAGIC self.old.log.moments self.new.log.moments }
+
+        // Once it is installed, a crash leaves it; and after a fault still one of the two.
+        ensures installed { OnOk result ((edits : List Edit) → StoresEdits self.old edits no_edit
+            → StoresEdits self.new (edits ++ edit ∷ []) no_edit) }
+        ensures last { OnOk result (self.new.edit ≡ edit) }
+        ensures running { OnOk result ((self.old.log.closed ≡ false) × (self.new.log.closed ≡ false)) }
+        ensures refused { IfErr result (InstallRefused self.old self.new edit) }
+        ensures later { self.old.log.faults ≤ self.new.log.faults }
+    {
+        acknowledged_records_come_first();
+        let bytes = write_edit(self.alloc, &edit)?;
+        let framed = frame(self.alloc, &bytes)?;
+        self.log.append(&framed)?;
+        self.edit = edit;
+        Ok(())
+    }
+
+    /// Gives the disk back.
+    pub fn into_disk(self) -> D
+        ensures moments { D.moments result ≡ self.log.moments }
+        ensures faults { D.faults result ≡ self.log.faults }
+    {
+        let Manifest { log, .. } = self;
+        log.into_disk()
+    }
+}

@@ -1,0 +1,42 @@
+//! Edits as bytes.
+
+ghost use Rattle.std.specs.Prelude.{◌≡◌, ◌<◌, ◌≤◌, ◌^◌, ◌++◌, length, IfOk, OnOk};
+ghost use Rattle.wp_manifest.specs.Edit.{ArePlaces, IsEdit, edit_bytes, place_bytes, places_bytes};
+
+use crate::edit::Edit;
+use std::alloc::{AllocError, Global};
+use wp_fields::{push_u32, push_u64};
+
+fn push_place(out: &mut Vec<u8>, table: &(u64, u64)) -> Result<(), AllocError>
+    ensures pushed { OnOk result (out.new.items ≡ out.old.items ++ place_bytes table.now) }
+    ensures in_range { (table.now.0 < 2 ^ 64) × (table.now.1 < 2 ^ 64) }
+{
+    let (place, len) = *table;
+    push_u64(out, place)?;
+    push_u64(out, len)?;
+    Ok(())
+}
+
+fn push_places(out: &mut Vec<u8>, tables: &[(u64, u64)]) -> Result<(), AllocError>
+    ensures pushed { OnOk result (out.new.items ≡ out.old.items ++ places_bytes tables.now) }
+    ensures in_range { OnOk result (ArePlaces tables.now) }
+{
+    for table in tables {
+        push_place(out, table)?;
+    }
+    Ok(())
+}
+
+/// The bytes of the edit.
+pub(crate) fn write_edit(alloc: Global, edit: &Edit) -> Result<Vec<u8>, AllocError>
+    requires flushed { edit.now.flushed < 2 ^ 32 }
+    requires count { length edit.now.tables ≤ edit.now.flushed }
+    ensures spelling { IfOk result (λ bytes. bytes.items ≡ edit_bytes edit.now) }
+    ensures edit { IfOk result (λ _. IsEdit edit.now) }
+{
+    let mut bytes = Vec::new(alloc);
+    push_u32(&mut bytes, edit.flushed as u32)?;
+    push_u32(&mut bytes, edit.tables.len() as u32)?;
+    push_places(&mut bytes, &edit.tables)?;
+    Ok(bytes)
+}

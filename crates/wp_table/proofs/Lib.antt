@@ -1,0 +1,11 @@
+pub mod Order
+pub mod Parts
+pub mod VersionLemmas
+pub mod BlockLemmas
+pub mod Whole
+pub mod Loop
+pub mod Lookup
+pub mod NextBlock
+pub mod FieldFaults
+pub mod TableFaults
+pub mod WholeFaults

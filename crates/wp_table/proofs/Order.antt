@@ -1,0 +1,96 @@
+-- Versions in order, and the one that comes last.
+use Rattle.std.proofs.Common.{◌≡◌, ℕ, suc, ◌-◌, ◌≤◌, true, Less, Equal, Greater, List, [], ◌∷◌, ◌++◌, length, get_or, take, drop, Option, refl, sym, ap, subst, ◌∙◌, arith}
+use Rattle.std.specs.declared.cmp.Ordering.{Ordering}
+use Rattle.std.specs.Ordering.{is_lt}
+use Rattle.std.specs.List.{AllByRecursion}
+use Rattle.std.specs.List.Sorted.{IsStrictlySortedBy}
+use Rattle.std.specs.Cmp.{IsTotalOrder}
+use Rattle.std.proofs.lemmas.List.{take-append-drop}
+use Rattle.std.proofs.lemmas.Cmp.{nat_cmp_total, nat_list_cmp_total, on_total, back_total, then_total}
+use Rattle.wp_model.specs.declared.version.Version.{Version}
+use Rattle.wp_model.specs.Versions.{AreInOrder, version_cmp}
+use Rattle.wp_table.specs.Reading.{is_after_last}
+
+version_total : IsTotalOrder version_cmp
+version_total = then_total (on_total (λ (v : Version). v.key) nat_list_cmp_total) (on_total (λ (v : Version). v.number) (back_total nat_cmp_total))
+
+pub less_from_test : (o : Ordering) → is_lt o ≡ true → o ≡ Less
+less_from_test Less h = refl
+less_from_test Equal h = absurd cc
+less_from_test Greater h = absurd cc
+
+-- every version of vs is after v
+abbrev pub IsBefore : Version → List Version → Type 0
+IsBefore v vs = AllByRecursion (λ w. version_cmp v w ≡ Less) vs
+
+pub in_order_parts : (v : Version) (vs : List Version) → AreInOrder (v ∷ vs) → IsBefore v vs × AreInOrder vs
+unfolding IsStrictlySortedBy
+in_order_parts v vs h = h
+
+in_order_cons : (v : Version) (vs : List Version) → IsBefore v vs → AreInOrder vs → AreInOrder (v ∷ vs)
+unfolding IsStrictlySortedBy
+in_order_cons v vs before rest = (before, rest)
+
+pub in_order_nil : AreInOrder []
+unfolding IsStrictlySortedBy
+in_order_nil = tt
+
+pub in_order_one : (v : Version) → AreInOrder (v ∷ [])
+in_order_one v = in_order_cons v [] tt in_order_nil
+
+before_push : (v w : Version) (vs : List Version) → IsBefore v vs → version_cmp v w ≡ Less → IsBefore v (vs ++ w ∷ [])
+before_push v w [] before less = (less, tt)
+before_push v w (x ∷ vs) before less = (before.0, before_push v w vs before.1 less)
+
+-- what is after the last is after the first
+first_before : (v : Version) (vs : List Version) (w : Version) → AreInOrder (v ∷ vs) → is_after_last (v ∷ vs) w ≡ true → version_cmp v w ≡ Less
+first_before v [] w h after = less_from_test _ after
+first_before v (x ∷ vs) w h after =
+    let parts = in_order_parts v (x ∷ vs) h in
+    version_total.trans v x w parts.0.0 (first_before x vs w parts.1 after)
+
+after_rest : (v : Version) (vs : List Version) (w : Version) → is_after_last (v ∷ vs) w ≡ true → is_after_last vs w ≡ true
+after_rest v [] w after = refl
+after_rest v (x ∷ vs) w after = after
+
+pub in_order_push : (vs : List Version) (w : Version) → AreInOrder vs → is_after_last vs w ≡ true → AreInOrder (vs ++ w ∷ [])
+in_order_push [] w h after = in_order_one w
+in_order_push (v ∷ vs) w h after =
+    let parts = in_order_parts v vs h in
+    in_order_cons v (vs ++ w ∷ []) (before_push v w vs parts.0 (first_before v vs w h after)) (in_order_push vs w parts.1 (after_rest v vs w after))
+
+pub after_from_order : (before : List Version) (v : Version) (others : List Version) → AreInOrder (before ++ v ∷ others) → is_after_last before v ≡ true
+after_from_order [] v others h = refl
+after_from_order (first ∷ []) v others h = ap is_lt (in_order_parts first (v ∷ others) h).0.0
+after_from_order (first ∷ second ∷ before) v others h = after_from_order (second ∷ before) v others (in_order_parts first ((second ∷ before) ++ v ∷ others) h).1
+
+pub is_after_last-at : (vs : List Version) (v last : Version) → 1 ≤ length vs → last ≡ get_or vs (length vs - 1) last → is_after_last vs v ≡ is_lt (version_cmp last v)
+is_after_last-at [] v last h is = absurd (omega arith)
+is_after_last-at (first ∷ []) v last h is = ap (λ (w : Version). is_lt (version_cmp w v)) (sym is)
+is_after_last-at (first ∷ second ∷ others) v last h is =
+    let i : length (first ∷ second ∷ others) - 1 ≡ suc (length (second ∷ others) - 1) = omega arith in
+    is_after_last-at (second ∷ others) v last (omega arith) (is ∙ ap (λ (n : ℕ). get_or (first ∷ second ∷ others) n last) i)
+
+-- what a version has under its key doesn't count
+pub after_last-any_value : (before : List Version) (key : List ℕ) (number : ℕ) (x y : Option (List ℕ)) → is_after_last before (record { key = key; number = number; value = x }) ≡ is_after_last before (record { key = key; number = number; value = y })
+after_last-any_value [] key number x y = refl
+after_last-any_value (last ∷ []) key number x y = refl
+after_last-any_value (first ∷ second ∷ others) key number x y = after_last-any_value (second ∷ others) key number x y
+
+before_front : (v : Version) (vs ws : List Version) → IsBefore v (vs ++ ws) → IsBefore v vs
+before_front v [] ws h = tt
+before_front v (x ∷ vs) ws h = (h.0, before_front v vs ws h.1)
+
+-- versions in order, with others behind and in front of them
+pub in_order_front : (vs ws : List Version) → AreInOrder (vs ++ ws) → AreInOrder vs
+in_order_front [] ws h = in_order_nil
+in_order_front (v ∷ vs) ws h =
+    let parts = in_order_parts v (vs ++ ws) h in
+    in_order_cons v vs (before_front v vs ws parts.0) (in_order_front vs ws parts.1)
+
+pub in_order_back : (vs ws : List Version) → AreInOrder (vs ++ ws) → AreInOrder ws
+in_order_back [] ws h = h
+in_order_back (v ∷ vs) ws h = in_order_back vs ws (in_order_parts v (vs ++ ws) h).1
+
+pub in_order_drop : (n : ℕ) (vs : List Version) → AreInOrder vs → AreInOrder (drop n vs)
+in_order_drop n vs h = in_order_back (take n vs) (drop n vs) (subst AreInOrder (sym (take-append-drop n vs)) h)

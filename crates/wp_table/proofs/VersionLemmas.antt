@@ -1,0 +1,188 @@
+-- Versions: what is read is spelled so, and what is spelled so is read.
+use Rattle.std.proofs.Common.{◌≡◌, ℕ, zero, suc, ◌^◌, true, leb, ltb, ◌&&◌, List, [], ◌∷◌, ◌++◌, length, Option, Some, None, Result, Ok, refl, sym, ap, subst, ◌∙◌, append_assoc}
+use Rattle.std.specs.Int.{w32, to_be_bytes}
+use Rattle.std.specs.List.{flat_map, list_all}
+use Rattle.std.proofs.lemmas.Bool.{and_parts, and_from, lt-ltb, ltb-true}
+use Rattle.std.proofs.lemmas.List.{append-nil}
+use Rattle.wp_model.specs.declared.version.Version.{Version}
+use Rattle.wp_model.specs.Word.{is_word}
+use Rattle.wp_model.specs.Versions.{AreInOrder}
+use Rattle.wp_fields.specs.Reading.{◌>>=◌, map_err, number_at}
+use Rattle.wp_fields.proofs.Results.{bind_ok, ok_is, map_ok}
+use Rattle.wp_fields.proofs.FieldLemmas.{AreBytes, Begins, Begins-then, Begins-byte, number_takes, number_again, fields_32}
+use Rattle.wp_encoding.specs.Encoding.{word_bytes, value_bytes}
+use Rattle.wp_encoding.specs.Reading.{word_field_at, value_field_at}
+use Rattle.wp_encoding.proofs.WordLemmas.{word_takes, word_again, value_takes, value_again}
+use Rattle.wp_table.specs.declared.error.TableError.{TableError}
+use Rattle.wp_table.specs.declared.error.TableError.TheVariants.{Short, Number, Order}
+use Rattle.wp_table.specs.Errors.{table_error}
+use Rattle.wp_table.specs.Table.{stored_bytes, version_bytes, is_numbered, is_flushed, is_stored, has_words, is_version}
+use Rattle.wp_table.specs.Reading.{if_right, flushed_number_at, stored_at, is_after_last, next_place_at, next_version_at, versions_after}
+use Rattle.wp_table.proofs.Order.{in_order_push, after_from_order, after_last-any_value}
+use Rattle.wp_table.proofs.Parts.{was_right}
+
+-- ---- numbers
+
+abbrev number_in : ℕ → ℕ × List ℕ → Result (ℕ × List ℕ) TableError
+number_in flushed number = if_right (leb 1 number.0 && leb number.0 flushed) Number number
+
+pub record TakesNumber (flushed : ℕ) (bytes : List ℕ) (x : ℕ × List ℕ) : Type 0 where
+  pub parts : Begins bytes (to_be_bytes w32 x.0) x.1
+  pub numbered : (leb 1 x.0 && ltb x.0 (2 ^ 32)) ≡ true
+  pub is_in : leb x.0 flushed ≡ true
+
+pub flushed_number_takes : (flushed : ℕ) (bytes : List ℕ) (x : ℕ × List ℕ) → AreBytes bytes → flushed_number_at flushed bytes ≡ Ok x → TakesNumber flushed bytes x
+unfolding flushed_number_at
+flushed_number_takes flushed bytes x h e =
+    let s = bind_ok (number_at Short w32 bytes) (number_in flushed) x e in
+    let right = was_right (leb 1 s.0.0 && leb s.0.0 flushed) Number s.0 x s.2 in
+    let tests = and_parts (leb 1 s.0.0) (leb s.0.0 flushed) right.0 in
+    let number = number_takes Short w32 (2 ^ 32) fields_32 bytes s.0 h s.1 in
+    let found : TakesNumber flushed bytes s.0 = record { parts = number.0; numbered = and_from _ _ tests.0 (lt-ltb _ _ number.1); is_in = tests.1 } in
+    rw (← right.1) found
+
+pub flushed_number_again : (flushed n : ℕ) (rest : List ℕ) → (leb 1 n && ltb n (2 ^ 32)) ≡ true → leb n flushed ≡ true → flushed_number_at flushed (to_be_bytes w32 n ++ rest) ≡ Ok (n, rest)
+unfolding flushed_number_at
+flushed_number_again flushed n rest numbered is_in =
+    let tests = and_parts (leb 1 n) (ltb n (2 ^ 32)) numbered in
+    rw (number_again Short w32 (2 ^ 32) fields_32 n rest (ltb-true _ _ tests.1), tests.0, is_in) refl
+
+-- ---- values
+
+abbrev pub Stored : Type 0
+Stored = Option (List ℕ) × List ℕ
+
+abbrev pub put_value : List ℕ × List ℕ → Result Stored TableError
+put_value value = Ok (Some value.0, value.1)
+
+pub stored_takes : (bytes : List ℕ) (x : Stored) → AreBytes bytes → stored_at bytes ≡ Ok x → Begins bytes (stored_bytes x.0) x.1 × (is_stored x.0 ≡ true)
+unfolding stored_at
+stored_takes [] x h e = absurd cc
+stored_takes (zero ∷ bytes) x h e =
+    let none : Stored = (None, bytes) in
+    let found : Begins (0 ∷ bytes) (stored_bytes none.0) none.1 × (is_stored none.0 ≡ true) = (Begins-byte 0 bytes h, refl) in
+    rw (← ok_is {E = TableError} none x e) found
+stored_takes (suc zero ∷ bytes) x h e =
+    let s = bind_ok (map_err table_error (value_field_at bytes)) put_value x e in
+    let flag = Begins-byte 1 bytes h in
+    let value = value_takes bytes s.0 flag.rest_bytes (map_ok table_error (value_field_at bytes) s.0 s.1) in
+    let some : Stored = (Some s.0.0, s.0.1) in
+    let found : Begins (1 ∷ bytes) (stored_bytes some.0) some.1 × (is_stored some.0 ≡ true) = (Begins-then (1 ∷ bytes) (1 ∷ []) bytes (value_bytes s.0.0) s.0.1 flag value.0, value.1) in
+    rw (← ok_is {E = TableError} some x s.2) found
+stored_takes (suc (suc n) ∷ bytes) x h e = absurd cc
+
+stored_again : (value : Option (List ℕ)) (rest : List ℕ) → is_stored value ≡ true → stored_at (stored_bytes value ++ rest) ≡ Ok (value, rest)
+unfolding stored_at
+stored_again None rest is = refl
+stored_again (Some value) rest is = rw (value_again value rest is) refl
+
+-- ---- versions
+
+-- the version is in range, and may come after those before it
+pub record IsNext (flushed : ℕ) (before : List Version) (v : Version) : Type 0 where
+  pub in_range : is_version flushed v ≡ true
+  pub after : is_after_last before v ≡ true
+
+abbrev pub place_after : List Version → List ℕ → ℕ × List ℕ → Result (Version × List ℕ) TableError
+place_after before key number =
+    let version : Version = record { key = key; number = number.0; value = None } in if_right (is_after_last before version) Order (version, number.1)
+
+pub record TakesPlace (flushed : ℕ) (before : List Version) (bytes : List ℕ) (x : Version × List ℕ) : Type 0 where
+  pub parts : Begins bytes (word_bytes x.0.key ++ to_be_bytes w32 x.0.number) x.1
+  pub word : is_word 64 x.0.key ≡ true
+  pub numbered : is_numbered x.0 ≡ true
+  pub is_in : is_flushed flushed x.0 ≡ true
+  pub after : is_after_last before (record { key = x.0.key; number = x.0.number; value = None }) ≡ true
+
+pub place_takes : (flushed : ℕ) (before : List Version) (bytes : List ℕ) (x : Version × List ℕ) → AreBytes bytes → next_place_at flushed before bytes ≡ Ok x → TakesPlace flushed before bytes x
+unfolding next_place_at
+place_takes flushed before bytes x h e =
+    let s = bind_ok (map_err table_error (word_field_at 64 bytes)) (λ key. flushed_number_at flushed key.1 >>= place_after before key.0) x e in
+    let key = word_takes 64 bytes s.0 h (map_ok table_error (word_field_at 64 bytes) s.0 s.1) in
+    let t = bind_ok (flushed_number_at flushed s.0.1) (place_after before s.0.0) x s.2 in
+    let number = flushed_number_takes flushed s.0.1 t.0 key.0.rest_bytes t.1 in
+    let version : Version = record { key = s.0.0; number = t.0.0; value = None } in
+    let right = was_right (is_after_last before version) Order (version, t.0.1) x t.2 in
+    let found : TakesPlace flushed before bytes (version, t.0.1) = record {
+      parts = Begins-then bytes (word_bytes s.0.0) s.0.1 (to_be_bytes w32 t.0.0) t.0.1 key.0 number.parts;
+      word = key.1;
+      numbered = number.numbered;
+      is_in = number.is_in;
+      after = right.0;
+    } in
+    rw (← right.1) found
+
+abbrev pub with_value : Version → Stored → Result (Version × List ℕ) TableError
+with_value place value = Ok (record { key = place.key; number = place.number; value = value.0 }, value.1)
+
+pub version_takes : (flushed : ℕ) (before : List Version) (bytes : List ℕ) (x : Version × List ℕ) → AreBytes bytes → next_version_at flushed before bytes ≡ Ok x → Begins bytes (version_bytes x.0) x.1 × IsNext flushed before x.0
+unfolding next_version_at
+version_takes flushed before bytes x h e =
+    let s = bind_ok (next_place_at flushed before bytes) (λ place. stored_at place.1 >>= with_value place.0) x e in
+    let place = place_takes flushed before bytes s.0 h s.1 in
+    let t = bind_ok (stored_at s.0.1) (with_value s.0.0) x s.2 in
+    let value = stored_takes s.0.1 t.0 place.parts.rest_bytes t.1 in
+    let version : Version = record { key = s.0.0.key; number = s.0.0.number; value = t.0.0 } in
+    let whole = Begins-then bytes (word_bytes s.0.0.key ++ to_be_bytes w32 s.0.0.number) s.0.1 (stored_bytes t.0.0) t.0.1 place.parts value.0 in
+    let parts : Begins bytes (version_bytes version) t.0.1 = rw (append_assoc (word_bytes s.0.0.key) (to_be_bytes w32 s.0.0.number) (stored_bytes t.0.0)) at whole in
+    let next : IsNext flushed before version = record {
+      in_range = and_from _ _ (and_from _ _ place.word value.1) (and_from _ _ place.numbered place.is_in);
+      after = after_last-any_value before s.0.0.key s.0.0.number t.0.0 None ∙ place.after;
+    } in
+    let found : Begins bytes (version_bytes version) t.0.1 × IsNext flushed before version = (parts, next) in
+    rw (← ok_is {E = TableError} (version, t.0.1) x t.2) found
+
+pub version_again : (flushed : ℕ) (before : List Version) (v : Version) (rest : List ℕ) → IsNext flushed before v → next_version_at flushed before (version_bytes v ++ rest) ≡ Ok (v, rest)
+unfolding next_version_at next_place_at
+version_again flushed before v rest next =
+    let outer = and_parts (has_words v) (is_numbered v && is_flushed flushed v) next.in_range in
+    let words = and_parts (is_word 64 v.key) (is_stored v.value) outer.0 in
+    let numbers = and_parts (is_numbered v) (is_flushed flushed v) outer.1 in
+    let after : is_after_last before (record { key = v.key; number = v.number; value = None }) ≡ true = after_last-any_value before v.key v.number None v.value ∙ next.after in
+    let number = to_be_bytes w32 v.number in
+    let regrouped : version_bytes v ++ rest ≡ word_bytes v.key ++ (number ++ (stored_bytes v.value ++ rest)) =
+    append_assoc (word_bytes v.key) (number ++ stored_bytes v.value) rest ∙ ap (λ (t : List ℕ). word_bytes v.key ++ t) (append_assoc number (stored_bytes v.value) rest) in
+    ap (next_version_at flushed before) regrouped ∙ rw (word_again 64 v.key (number ++ (stored_bytes v.value ++ rest)) words.0, flushed_number_again flushed v.number (stored_bytes v.value ++ rest) numbers.0 numbers.1, after, stored_again v.value rest words.1) refl
+
+-- ---- several versions
+
+-- so many versions more were read
+pub record TakesVersions (count flushed : ℕ) (before : List Version) (bytes : List ℕ) (x : List Version × List ℕ) : Type 0 where
+  pub more : List Version
+  pub appended : x.0 ≡ before ++ more
+  pub counted : length more ≡ count
+  pub parts : Begins bytes (flat_map version_bytes more) x.1
+  pub in_range : list_all (is_version flushed) more ≡ true
+  pub in_order : AreInOrder before → AreInOrder x.0
+
+abbrev others_after : ℕ → ℕ → List Version → Version × List ℕ → Result (List Version × List ℕ) TableError
+others_after count flushed before version = versions_after count flushed (before ++ version.0 ∷ []) version.1
+
+pub versions_take : (count flushed : ℕ) (before : List Version) (bytes : List ℕ) (x : List Version × List ℕ) → AreBytes bytes → versions_after count flushed before bytes ≡ Ok x → TakesVersions count flushed before bytes x
+unfolding versions_after
+versions_take zero flushed before bytes x h e =
+    let all : TakesVersions 0 flushed before bytes (before, bytes) = record { more = []; appended = sym (append-nil before); counted = refl; parts = record { parts = refl; rest_bytes = h }; in_range = refl; in_order = λ order. order } in
+    rw (← ok_is {E = TableError} (before, bytes) x e) all
+versions_take (suc count) flushed before bytes x h e =
+    let s = bind_ok (next_version_at flushed before bytes) (others_after count flushed before) x e in
+    let version = version_takes flushed before bytes s.0 h s.1 in
+    let rest = versions_take count flushed (before ++ s.0.0 ∷ []) s.0.1 x version.0.rest_bytes s.2 in
+    record {
+      more = s.0.0 ∷ rest.more;
+      appended = rest.appended ∙ append_assoc before (s.0.0 ∷ []) rest.more;
+      counted = ap suc rest.counted;
+      parts = Begins-then bytes (version_bytes s.0.0) s.0.1 (flat_map version_bytes rest.more) x.1 version.0 rest.parts;
+      in_range = and_from _ _ version.1.in_range rest.in_range;
+      in_order = λ order. rest.in_order (in_order_push before s.0.0 order version.1.after);
+    }
+
+pub versions_again : (more : List Version) (flushed : ℕ) (before : List Version) (rest : List ℕ) → AreInOrder (before ++ more) → list_all (is_version flushed) more ≡ true → versions_after (length more) flushed before (flat_map version_bytes more ++ rest) ≡ Ok (before ++ more, rest)
+unfolding versions_after
+versions_again [] flushed before rest order range = ap (λ (all : List Version). Ok (all, rest)) (sym (append-nil before))
+versions_again (v ∷ more) flushed before rest order range =
+    let parts = and_parts (is_version flushed v) (list_all (is_version flushed) more) range in
+    let next : IsNext flushed before v = record { in_range = parts.0; after = after_from_order before v more order } in
+    let regrouped : (version_bytes v ++ flat_map version_bytes more) ++ rest ≡ version_bytes v ++ (flat_map version_bytes more ++ rest) = append_assoc (version_bytes v) (flat_map version_bytes more) rest in
+    let all : (before ++ v ∷ []) ++ more ≡ before ++ v ∷ more = append_assoc before (v ∷ []) more in
+    let others = versions_again more flushed (before ++ v ∷ []) rest (subst AreInOrder (sym all) order) parts.1 in
+    ap (versions_after (suc (length more)) flushed before) regrouped ∙ rw (version_again flushed before v (flat_map version_bytes more ++ rest) next) (others ∙ ap (λ (versions : List Version). Ok (versions, rest)) all)

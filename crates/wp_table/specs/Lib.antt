@@ -1,0 +1,4 @@
+pub mod Table
+pub mod Errors
+pub mod Reading
+pub mod Faults

@@ -1,0 +1,22 @@
+//! The tables: sorted lists of versions as bytes, written once and never changed.
+//!
+//! A table is a head, blocks of sixteen versions, an index with the place of each block, and the place of the index.
+//! Each list of versions has one spelling. `build` gives it, and `Table::of` takes nothing else: it names the first
+//! fault from the left. Above, a table is its list of versions; how it keeps them is known here alone.
+#![tactic(auto)]
+
+mod error;
+mod found;
+mod laws;
+mod layout;
+mod reading;
+mod table;
+#[cfg(test)]
+mod tests;
+mod writing;
+
+pub use error::TableError;
+pub use found::{Found, VersionRef};
+pub use laws::{bytes_are_read_in_one_way, tables_are_read, tables_have_one_store};
+pub use table::Table;
+pub use writing::build;
