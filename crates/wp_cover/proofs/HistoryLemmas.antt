@@ -1,4 +1,4 @@
--- What an entry more decides and leaves, and what is undecided or undone at the end.
+-- What an entry more decides and leaves, and where the last one is.
 use Rattle.std.proofs.Common.{◌≡◌, ℕ, suc, ◌+◌, ◌-◌, ◌<◌, Bool, true, false, cond, List, [], ◌∷◌, ◌++◌, length, get_or, take, Option, Some, None, refl, sym, ap, ◌∙◌, add-zero, arith}
 use Rattle.std.specs.Prelude.{option_map, unwrap_or, slice_get}
 use Rattle.std.specs.Option.{option_or}
@@ -10,7 +10,6 @@ use Rattle.wp_model.specs.Batch.{change_to}
 use Rattle.wp_model.specs.History.{entry_at, is_prepare, prepared_batch, batch_at, decides, is_undecided, changes_of, newest, value_at}
 use Rattle.wp_model.specs.Legal.{IsLegal}
 use Rattle.wp_model.specs.Decision.{version_in, entry_version}
-use Rattle.wp_history.proofs.Growth.{undecided_prepared}
 use Rattle.wp_history.proofs.Newest.{changed_at, unchanged_at}
 use Rattle.wp_cover.specs.Decisions.{decider_of}
 
@@ -51,19 +50,7 @@ value_more history key i here legal lt is = by (change_to (changes_of history he
     by None e = unchanged_at history key i (i + 1) here legal refl lt is e
     by (Some value) e = changed_at history key i (i + 1) here value legal refl lt is (sym e)
 
--- ---- what is undecided, and what is undone last
-
-version_of_prepare : (at : Option Entry) (key : List ℕ) → is_prepare at ≡ true → version_in at key ≡ change_to (prepared_batch at) key
-version_of_prepare None key h = absurd cc
-version_of_prepare (Some (Write batch)) key h = absurd cc
-version_of_prepare (Some (Prepare name batch)) key h = refl
-version_of_prepare (Some (Commit p)) key h = absurd cc
-version_of_prepare (Some (Undo p batch)) key h = absurd cc
-version_of_prepare (Some (Close p)) key h = absurd cc
-
--- an undecided prepare has the versions that its batch makes
-pub undecided_version : (history : List Entry) (key : List ℕ) (p : ℕ) → is_undecided history p ≡ true → entry_version history p key ≡ change_to (batch_at history p) key
-undecided_version history key p undecided = version_of_prepare (entry_at history p) key (undecided_prepared history p undecided)
+-- ---- the last entry
 
 pub entry_at_last : (history : List Entry) (entry : Entry) → slice_get history (length history - 1) ≡ Some entry → entry_at history (length history) ≡ Some entry
 entry_at_last [] entry at = absurd cc

@@ -1,7 +1,7 @@
 -- What the order of versions says of what is under a key and a number.
 use Rattle.std.proofs.Common.{◌≡◌, ℕ, zero, suc, ◌<◌, ◌≤◌, Bool, true, false, ◌==◌, ◌&&◌, cond, Less, Equal, Greater, List, [], ◌∷◌, length, get_or, Some, None, Err, refl, sym, ap, ◌∙◌, inl, inr, arith}
 use Rattle.std.specs.declared.cmp.Ordering.{Ordering}
-use Rattle.std.specs.Cmp.{IsTotalOrder, tied_then}
+use Rattle.std.specs.Cmp.{IsTotalOrder, Equal-is, tied_then}
 use Rattle.std.specs.Ordering.{nat_cmp, ordering_then, ordering_index, is_eq}
 use Rattle.std.specs.Str.{bytes_eq}
 use Rattle.std.specs.List.{AllByRecursion}
@@ -14,6 +14,7 @@ use Rattle.std.proofs.lemmas.Slice.Eq.{bytes_eq-Decides}
 use Rattle.wp_model.specs.declared.version.Version.{Version}
 use Rattle.wp_model.specs.Batch.{key_cmp}
 use Rattle.wp_model.specs.Versions.{AreInOrder, version_cmp, version_at}
+use Rattle.wp_model.proofs.VersionLists.{IsBefore, in_order_parts}
 use Rattle.wp_cover.specs.Present.{place_cmp}
 
 pub same_key : (a b : List ℕ) → bytes_eq a b ≡ true → a ≡ b
@@ -21,14 +22,6 @@ same_key a b h = (bytes_eq-Decides a b).0 h
 
 pub key_itself : (a : List ℕ) → bytes_eq a a ≡ true
 key_itself a = (bytes_eq-Decides a a).1 refl
-
--- all of these are after v
-abbrev pub IsBefore : Version → List Version → Type 0
-IsBefore v versions = AllByRecursion (λ w. version_cmp v w ≡ Less) versions
-
-pub in_order_parts : (v : Version) (vs : List Version) → AreInOrder (v ∷ vs) → IsBefore v vs × AreInOrder vs
-unfolding IsStrictlySortedBy
-in_order_parts v vs h = h
 
 abbrev pub is_here : List ℕ → ℕ → Version → Bool
 is_here key n v = bytes_eq v.key key && (v.number == n)
@@ -118,14 +111,9 @@ module _ (key : List ℕ) (n : ℕ) where
   none_at [] never = refl
   none_at (v ∷ vs) never = by (is_here key n v) refl (none_at vs (λ i d lt. never (suc i) d (omega arith)))
     where
-      equal_from : (o : Ordering) → is_eq o ≡ true → o ≡ Equal
-      equal_from Less h = absurd cc
-      equal_from Equal h = refl
-      equal_from Greater h = absurd cc
-
       by : (b : Bool) → is_here key n v ≡ b → version_at vs key n ≡ None → cond b (Some v.value) (version_at vs key n) ≡ None
       by false e rest = rest
-      by true e rest = absurd (never 0 v (omega arith) (equal_from (place_cmp key n v) (equal_here v ∙ e)))
+      by true e rest = absurd (never 0 v (omega arith) ((Equal-is _).0 (equal_here v ∙ e)))
 
   pub none_found : (vs : List Version) (at : ℕ) → AreInOrder vs → IsBinarySearchResult (place_cmp key n) vs (Err at) → version_at vs key n ≡ None
   none_found vs at order parted = none_at vs (λ i d lt equal.

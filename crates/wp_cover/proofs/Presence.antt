@@ -21,11 +21,14 @@ use Rattle.wp_model.specs.Legal.{undone_last}
 use Rattle.wp_model.specs.Decision.{version_in, entry_version}
 use Rattle.wp_model.specs.Versions.{AreInOrder, version_at}
 use Rattle.wp_history.specs.Growth.{undone_by}
+use Rattle.wp_history.proofs.Above.{undecided_version}
 use Rattle.wp_history.proofs.Undecided.{is_undecided_by_list}
 use Rattle.wp_history.proofs.Undone.{undone_at_last, none_undone}
 use Rattle.wp_cover.specs.Present.{ArePart, HasChanges, HasBatches, HasUndone, restored}
-use Rattle.wp_cover.proofs.HistoryLemmas.{undecided_version, entry_at_last}
-use Rattle.wp_cover.proofs.Order.{same_key, key_itself, in_order_parts, is_here, at_here, here_itself, none_behind}
+use Rattle.wp_cover.proofs.HistoryLemmas.{entry_at_last}
+use Rattle.wp_model.proofs.BatchLemmas.{less_from_test, ascending_rest}
+use Rattle.wp_model.proofs.VersionLists.{in_order_parts}
+use Rattle.wp_cover.proofs.Order.{same_key, key_itself, is_here, at_here, here_itself, none_behind}
 
 -- ---- each is that of its entry
 
@@ -51,11 +54,6 @@ module _ (history : List Entry) where
 
 -- ---- what changes say
 
-less_from_test : (o : Ordering) → is_lt o ≡ true → o ≡ Less
-less_from_test Less h = refl
-less_from_test Equal h = absurd cc
-less_from_test Greater h = absurd cc
-
 none_first : (key : List ℕ) (first : Change) (others : List Change) → key_cmp key (key_of first) ≡ Less → change_to others key ≡ None → change_to (first ∷ others) key ≡ None
 none_first key first others below none = by (bytes_eq (key_of first) key) refl
   where
@@ -77,10 +75,6 @@ none_after key first [] ascending same = refl
 none_after key first (second ∷ more) ascending same =
     let parts = and_parts (is_lt (key_cmp (key_of first) (key_of second))) (are_ascending (second ∷ more)) ascending in
     none_below key second more parts.1 (ap (λ k. key_cmp k (key_of second)) (sym (same_key (key_of first) key same)) ∙ less_from_test _ parts.0)
-
-ascending_rest : (first : Change) (others : List Change) → are_ascending (first ∷ others) ≡ true → are_ascending others ≡ true
-ascending_rest first [] ascending = refl
-ascending_rest first (second ∷ more) ascending = (and_parts (is_lt (key_cmp (key_of first) (key_of second))) (are_ascending (second ∷ more)) ascending).1
 
 -- the version of each change is there
 abbrev pub AreThere : List Version → ℕ → List Change → Type 0

@@ -12,7 +12,8 @@ use Rattle.wp_model.specs.Covered.{GivesNewest, GivesStore}
 use Rattle.wp_cover.specs.Decisions.{is_by, is_committed}
 use Rattle.wp_cover.specs.Store.{Store, IsStore, Leaves}
 use Rattle.wp_cover.specs.Shown.{LeavesCommitted, shown}
-use Rattle.wp_cover.proofs.Order.{in_order_parts, is_here, none_behind}
+use Rattle.wp_model.proofs.VersionLists.{in_order_parts}
+use Rattle.wp_cover.proofs.Order.{is_here, none_behind}
 use Rattle.wp_cover.proofs.Stores.{as_values}
 
 -- ---- the versions, the last one first

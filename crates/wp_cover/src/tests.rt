@@ -70,14 +70,34 @@ fn is_covered(
     Ok(covers(alloc, &history, &listed(alloc, versions)?, numbers, from)?)
 }
 
+/// Versions, whether they cover the history, and what they are.
+type Case = (&'static [Short], bool, &'static str);
+
+/// The first case that comes out otherwise, at a number and each from it on.
+fn wrong_case(
+    alloc: Global,
+    steps: &[Step],
+    from: Seq,
+    cases: &[Case],
+) -> Result<Option<&'static str>, Fail> {
+    for (versions, covered, what) in cases {
+        if is_covered(alloc, steps, versions, &[], from)? != *covered {
+            return Ok(Some(what));
+        }
+    }
+    Ok(None)
+}
+
 const ONE: Short = (1, b"k", b"1");
 
 const TWO: Short = (2, b"k", b"2");
 
+const UNDO: Short = (3, b"k", b"1");
+
 #[test]
 fn a_version_is_that_of_its_entry(rt: HostRuntime) -> Result<(), Fail> {
     let steps = [Step::Write(b"k", b"1"), Step::Write(b"k", b"2")];
-    let cases: [(&[Short], bool, &str); 7] = [
+    let cases: [Case; 7] = [
         (&[TWO], true, "the newest alone"),
         (&[ONE, TWO], true, "both"),
         (&[(2, b"k", b"1")], false, "another value"),
@@ -86,12 +106,7 @@ fn a_version_is_that_of_its_entry(rt: HostRuntime) -> Result<(), Fail> {
         (&[ONE], false, "the newest gone"),
         (&[], false, "nothing"),
     ];
-    for (versions, covered, what) in cases {
-        assert!(rt;
-            is_covered(rt.alloc(), &steps, versions, &[], 2)? == covered,
-            "{what}"
-        );
-    }
+    assert_eq!(rt; wrong_case(rt.alloc(), &steps, 2, &cases)?, None);
     assert!(rt; is_covered(rt.alloc(), &[], &[], &[], 0)?);
     Ok(())
 }
@@ -126,34 +141,24 @@ fn each_number_that_is_asked_for_counts(rt: HostRuntime) -> Result<(), Fail> {
 #[test]
 fn a_deletion_is_as_a_missing_key(rt: HostRuntime) -> Result<(), Fail> {
     let steps = [Step::Write(b"k", b"1"), Step::Write(b"k", b"")];
-    let cases: [(&[Short], bool, &str); 3] = [
+    let cases: [Case; 3] = [
         (&[], true, "nothing"),
         (&[ONE, (2, b"k", b"")], true, "both"),
         (&[ONE], false, "the deletion gone"),
     ];
-    for (versions, covered, what) in cases {
-        assert!(rt;
-            is_covered(rt.alloc(), &steps, versions, &[], 2)? == covered,
-            "{what}"
-        );
-    }
+    assert_eq!(rt; wrong_case(rt.alloc(), &steps, 2, &cases)?, None);
     Ok(())
 }
 
 #[test]
 fn an_undecided_version_is_there_and_is_not_seen(rt: HostRuntime) -> Result<(), Fail> {
     let steps = [Step::Write(b"k", b"1"), Step::Prepare(b"k", b"2")];
-    let cases: [(&[Short], bool, &str); 3] = [
+    let cases: [Case; 3] = [
         (&[ONE, TWO], true, "both"),
         (&[ONE], false, "the undecided one gone"),
         (&[TWO], false, "the undecided one alone"),
     ];
-    for (versions, covered, what) in cases {
-        assert!(rt;
-            is_covered(rt.alloc(), &steps, versions, &[], 2)? == covered,
-            "{what}"
-        );
-    }
+    assert_eq!(rt; wrong_case(rt.alloc(), &steps, 2, &cases)?, None);
     Ok(())
 }
 
@@ -164,17 +169,12 @@ fn a_commit_counts_from_its_number(rt: HostRuntime) -> Result<(), Fail> {
         Step::Write(b"x", b"9"),
         Step::Commit(1),
     ];
-    let cases: [(&[Short], Seq, bool, &str); 3] = [
-        (&[ONE, (2, b"x", b"9")], 0, true, "both"),
-        (&[ONE], 3, false, "the write gone"),
-        (&[(2, b"x", b"9")], 3, false, "the prepared one gone"),
+    let cases: [Case; 3] = [
+        (&[ONE, (2, b"x", b"9")], true, "both"),
+        (&[ONE], false, "the write gone"),
+        (&[(2, b"x", b"9")], false, "the prepared one gone"),
     ];
-    for (versions, from, covered, what) in cases {
-        assert!(rt;
-            is_covered(rt.alloc(), &steps, versions, &[], from)? == covered,
-            "{what}"
-        );
-    }
+    assert_eq!(rt; wrong_case(rt.alloc(), &steps, 0, &cases)?, None);
     Ok(())
 }
 
@@ -186,28 +186,17 @@ fn an_undo_that_ends_the_history_is_there(rt: HostRuntime) -> Result<(), Fail> {
         Step::Undo(2, b"k", b"1"),
         Step::Close(2),
     ];
-    let undo = (3, b"k".as_slice(), b"1".as_slice());
-    let open: [(&[Short], bool, &str); 3] = [
-        (&[ONE, TWO, undo], true, "all"),
-        (&[TWO, undo], true, "the undo in place of the write"),
+    let open: [Case; 3] = [
+        (&[ONE, TWO, UNDO], true, "all"),
+        (&[TWO, UNDO], true, "the undo in place of the write"),
         (&[ONE, TWO], false, "the undo gone"),
     ];
-    for (versions, covered, what) in open {
-        assert!(rt;
-            is_covered(rt.alloc(), &steps[..3], versions, &[], 3)? == covered,
-            "{what}"
-        );
-    }
-    let closed: [(&[Short], bool, &str); 3] = [
+    assert_eq!(rt; wrong_case(rt.alloc(), &steps[..3], 3, &open)?, None);
+    let closed: [Case; 3] = [
         (&[ONE], true, "what the undo restores"),
-        (&[undo], true, "the undo"),
+        (&[UNDO], true, "the undo"),
         (&[ONE, TWO], false, "what was undone"),
     ];
-    for (versions, covered, what) in closed {
-        assert!(rt;
-            is_covered(rt.alloc(), &steps, versions, &[], 4)? == covered,
-            "{what}"
-        );
-    }
+    assert_eq!(rt; wrong_case(rt.alloc(), &steps, 4, &closed)?, None);
     Ok(())
 }
