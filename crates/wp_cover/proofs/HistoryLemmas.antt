@@ -5,11 +5,9 @@ use Rattle.std.specs.Option.{option_or}
 use Rattle.std.specs.List.{position, position_from}
 use Rattle.std.proofs.lemmas.Iterator.Adapters.{position_from-zero}
 use Rattle.wp_model.specs.declared.entry.Entry.{Entry}
-use Rattle.wp_model.specs.declared.entry.Entry.TheVariants.{Write, Prepare, Commit, Undo, Close}
 use Rattle.wp_model.specs.Batch.{change_to}
-use Rattle.wp_model.specs.History.{entry_at, is_prepare, prepared_batch, batch_at, decides, is_undecided, changes_of, newest, value_at}
+use Rattle.wp_model.specs.History.{entry_at, decides, changes_of, newest, value_at}
 use Rattle.wp_model.specs.Legal.{IsLegal}
-use Rattle.wp_model.specs.Decision.{version_in, entry_version}
 use Rattle.wp_history.proofs.Newest.{changed_at, unchanged_at}
 use Rattle.wp_cover.specs.Decisions.{decider_of}
 

@@ -1,8 +1,6 @@
 -- Versions that are of a history, and versions that are there.
 use Rattle.std.proofs.Common.{◌≡◌, ℕ, suc, ◌+◌, ◌-◌, ◌<◌, ◌≤◌, nat_le, get_or, drop, drop-cons, Bool, true, false, ◌||◌, cond, eqb, Less, List, [], ◌∷◌, length, Option, Some, None, refl, sym, ap, ◌∙◌, subst, arith}
 use Rattle.std.specs.Prelude.{slice_get}
-use Rattle.std.specs.declared.cmp.Ordering.{Ordering}
-use Rattle.std.specs.declared.cmp.Ordering.TheVariants.{Equal, Greater}
 use Rattle.std.specs.Ordering.{is_lt}
 use Rattle.std.specs.Bool.{Decides}
 use Rattle.std.specs.Str.{bytes_eq}
@@ -23,7 +21,7 @@ use Rattle.wp_model.specs.Versions.{AreInOrder, version_at}
 use Rattle.wp_history.specs.Growth.{undone_by}
 use Rattle.wp_history.proofs.Above.{undecided_version}
 use Rattle.wp_history.proofs.Undecided.{is_undecided_by_list}
-use Rattle.wp_history.proofs.Undone.{undone_at_last, none_undone}
+use Rattle.wp_history.proofs.Undone.{undone_at_last}
 use Rattle.wp_cover.specs.Present.{ArePart, HasChanges, HasBatches, HasUndone, restored}
 use Rattle.wp_cover.proofs.HistoryLemmas.{entry_at_last}
 use Rattle.wp_model.proofs.BatchLemmas.{less_from_test, ascending_rest}
