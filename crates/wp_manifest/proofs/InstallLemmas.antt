@@ -8,6 +8,7 @@ use Rattle.wp_gatelog.specs.Durability.{HasAcknowledged}
 use Rattle.wp_gatelog.specs.Log.{LogState, IsAtRest, Rests, BeforeOrAfter}
 use Rattle.wp_gatelog.specs.Moments.{Leaves}
 use Rattle.wp_gatelog.specs.Spelling.{frame_of}
+use Rattle.wp_gatelog.proofs.AppendClauses.{GrowsThrough, AcknowledgesThrough, RestsAfter}
 use Rattle.wp_manifest.specs.Edit.{Edit, IsEdit, no_edit, edit_bytes}
 use Rattle.wp_manifest.specs.Errors.{install_error_of}
 use Rattle.wp_manifest.specs.Manifest.{ManifestState, StoresEdits, InstallRefused}
@@ -16,17 +17,8 @@ use Rattle.wp_manifest.proofs.EditLemmas.{AreEdits-push, last-push}
 
 -- ---- what the log of edits says of an append
 
-abbrev pub GrowsThrough : LogState → LogState → List ℕ → Type 0
-GrowsThrough old new frame = (magic : List ℕ) (records : List (List ℕ)) (bytes : List ℕ) → frame ≡ frame_of bytes → Rests magic old records → Passes (Leaves (BeforeOrAfter magic old.id records bytes)) old.moments new.moments
-
 abbrev pub IsLeft : LogState → LogState → List ℕ → Type 0
 IsLeft old new frame = (magic : List ℕ) (records : List (List ℕ)) (bytes : List ℕ) → frame ≡ frame_of bytes → Rests magic old records → (image : List ℕ) → images new.moments image → BeforeOrAfter magic old.id records bytes image
-
-abbrev pub AcknowledgesThrough : LogState → LogState → Type 0
-AcknowledgesThrough old new = (magic : List ℕ) (records : List (List ℕ)) → Rests magic old records → Passes (Leaves (HasAcknowledged magic old.id records)) old.moments new.moments
-
-abbrev pub RestsAfter : LogState → LogState → List ℕ → Type 0
-RestsAfter old new frame = (magic : List ℕ) (records : List (List ℕ)) (bytes : List ℕ) → frame ≡ frame_of bytes → Rests magic old records → Rests magic new (records ++ bytes ∷ [])
 
 abbrev pub AcknowledgesAtRest : Type 0
 AcknowledgesAtRest = (magic : List ℕ) (id end : ℕ) (records : List (List ℕ)) (m : Moment) → IsAtRest magic id end records m → Leaves (HasAcknowledged magic id records) m

@@ -4,19 +4,15 @@ use Rattle.std.specs.Option.{option_or}
 use Rattle.std.specs.declared.cmp.Ordering.{Ordering}
 use Rattle.std.specs.Ordering.{nat_cmp, ordering_then, ordering_reverse}
 use Rattle.std.specs.Str.{bytes_eq}
-use Rattle.std.specs.Cmp.{IsTotalOrder}
 use Rattle.std.proofs.lemmas.Bool.{false≢true, and_parts, eqb-true}
 use Rattle.std.proofs.lemmas.Map.Lookups.{exact_bytes}
-use Rattle.std.proofs.lemmas.Cmp.{ranked, tied_itself, nat_cmp_total, nat_list_cmp_total, on_total, back_total, then_total}
+use Rattle.std.proofs.lemmas.Cmp.{ranked, tied_itself}
 use Rattle.std.proofs.lemmas.Slice.Eq.{bytes_eq-Decides}
 use Rattle.wp_model.specs.Batch.{key_cmp}
 use Rattle.wp_model.specs.declared.version.Version.{Version}
 use Rattle.wp_model.specs.Versions.{AreInOrder, version_cmp, version_at}
-use Rattle.wp_model.proofs.VersionLists.{IsBefore, in_order_parts, in_order_cons, or_cond}
+use Rattle.wp_model.proofs.VersionLists.{IsBefore, in_order_parts, in_order_cons, or_cond, version_total}
 use Rattle.wp_merge.specs.Merge.{first_at, choose_by_order, weave, merge_of}
-
-version_total : IsTotalOrder version_cmp
-version_total = then_total (on_total (λ (v : Version). v.key) nat_list_cmp_total) (on_total (λ (v : Version). v.number) (back_total nat_cmp_total))
 
 less_not_equal : Less ≡ Equal → ⊥
 less_not_equal h = absurd cc

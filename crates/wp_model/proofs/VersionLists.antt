@@ -1,10 +1,15 @@
 -- Lists of versions: their order, and what is under a key and a number.
 use Rattle.std.proofs.Common.{◌≡◌, ℕ, Bool, true, false, cond, Less, List, [], ◌∷◌, Option, Some, refl}
+use Rattle.std.specs.Cmp.{IsTotalOrder}
 use Rattle.std.specs.Option.{option_or}
 use Rattle.std.specs.List.{AllByRecursion}
 use Rattle.std.specs.List.Sorted.{IsStrictlySortedBy}
+use Rattle.std.proofs.lemmas.Cmp.{nat_cmp_total, nat_list_cmp_total, on_total, back_total, then_total}
 use Rattle.wp_model.specs.declared.version.Version.{Version}
 use Rattle.wp_model.specs.Versions.{AreInOrder, version_cmp}
+
+pub version_total : IsTotalOrder version_cmp
+version_total = then_total (on_total (λ (v : Version). v.key) nat_list_cmp_total) (on_total (λ (v : Version). v.number) (back_total nat_cmp_total))
 
 -- all of these are after v
 abbrev pub IsBefore : Version → List Version → Type 0

@@ -13,7 +13,8 @@ use Rattle.wp_fields.proofs.Results.{either}
 use Rattle.wp_model.specs.Batch.{key_cmp}
 use Rattle.wp_model.specs.declared.version.Version.{Version}
 use Rattle.wp_model.specs.Versions.{AreInOrder, version_cmp}
-use Rattle.wp_table.proofs.Order.{IsBefore, in_order_parts, less_from_test}
+use Rattle.wp_model.proofs.BatchLemmas.{less_from_test}
+use Rattle.wp_model.proofs.VersionLists.{IsBefore, in_order_parts}
 
 -- ---- earlier and later versions
 

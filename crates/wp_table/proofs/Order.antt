@@ -1,39 +1,12 @@
 -- Versions in order, and the one that comes last.
-use Rattle.std.proofs.Common.{◌≡◌, ℕ, suc, ◌-◌, ◌≤◌, true, Less, Equal, Greater, List, [], ◌∷◌, ◌++◌, length, get_or, take, drop, Option, refl, sym, ap, subst, ◌∙◌, arith}
-use Rattle.std.specs.declared.cmp.Ordering.{Ordering}
+use Rattle.std.proofs.Common.{◌≡◌, ℕ, suc, ◌-◌, ◌≤◌, true, Less, List, [], ◌∷◌, ◌++◌, length, get_or, take, drop, Option, refl, sym, ap, subst, ◌∙◌, arith}
 use Rattle.std.specs.Ordering.{is_lt}
-use Rattle.std.specs.List.{AllByRecursion}
-use Rattle.std.specs.List.Sorted.{IsStrictlySortedBy}
-use Rattle.std.specs.Cmp.{IsTotalOrder}
 use Rattle.std.proofs.lemmas.List.{take-append-drop}
-use Rattle.std.proofs.lemmas.Cmp.{nat_cmp_total, nat_list_cmp_total, on_total, back_total, then_total}
 use Rattle.wp_model.specs.declared.version.Version.{Version}
 use Rattle.wp_model.specs.Versions.{AreInOrder, version_cmp}
+use Rattle.wp_model.proofs.BatchLemmas.{less_from_test}
+use Rattle.wp_model.proofs.VersionLists.{IsBefore, in_order_nil, in_order_parts, in_order_cons, version_total}
 use Rattle.wp_table.specs.Reading.{is_after_last}
-
-version_total : IsTotalOrder version_cmp
-version_total = then_total (on_total (λ (v : Version). v.key) nat_list_cmp_total) (on_total (λ (v : Version). v.number) (back_total nat_cmp_total))
-
-pub less_from_test : (o : Ordering) → is_lt o ≡ true → o ≡ Less
-less_from_test Less h = refl
-less_from_test Equal h = absurd cc
-less_from_test Greater h = absurd cc
-
--- every version of vs is after v
-abbrev pub IsBefore : Version → List Version → Type 0
-IsBefore v vs = AllByRecursion (λ w. version_cmp v w ≡ Less) vs
-
-pub in_order_parts : (v : Version) (vs : List Version) → AreInOrder (v ∷ vs) → IsBefore v vs × AreInOrder vs
-unfolding IsStrictlySortedBy
-in_order_parts v vs h = h
-
-in_order_cons : (v : Version) (vs : List Version) → IsBefore v vs → AreInOrder vs → AreInOrder (v ∷ vs)
-unfolding IsStrictlySortedBy
-in_order_cons v vs before rest = (before, rest)
-
-pub in_order_nil : AreInOrder []
-unfolding IsStrictlySortedBy
-in_order_nil = tt
 
 pub in_order_one : (v : Version) → AreInOrder (v ∷ [])
 in_order_one v = in_order_cons v [] tt in_order_nil

@@ -16,7 +16,8 @@ use Rattle.wp_table.specs.declared.error.TableError.TheVariants.{Short, Count, I
 use Rattle.wp_table.specs.Table.{version_bytes, block_bytes, block_count, blocks_in, is_version}
 use Rattle.wp_table.specs.Reading.{if_right, next_version_at, versions_after, block_after, blocks_after, after_place, after_places}
 use Rattle.wp_table.specs.Faults.{IsNumberFault, IsVersionFault, IsBlockFault, in_count, in_versions, IsBlocksFault, FitsField, IsPlacesFault}
-use Rattle.wp_table.proofs.Order.{in_order_push, after_from_order, in_order_front, in_order_nil}
+use Rattle.wp_model.proofs.VersionLists.{in_order_nil}
+use Rattle.wp_table.proofs.Order.{in_order_push, after_from_order, in_order_front}
 use Rattle.wp_table.proofs.Parts.{was_right, fields_64}
 use Rattle.wp_table.proofs.VersionLemmas.{IsNext, version_takes, version_again}
 use Rattle.wp_table.proofs.BlockLemmas.{Found, no_blocks, some_left, blocks_left, block_takes, block_again}

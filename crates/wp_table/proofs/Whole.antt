@@ -18,7 +18,7 @@ use Rattle.wp_table.specs.Errors.{table_fault}
 use Rattle.wp_table.specs.Table.{block_bytes, block_count, blocks_in, blocks_of, places_from, head_bytes, table_bytes, is_version, IsTable}
 use Rattle.wp_table.specs.Reading.{if_right, after_magic, after_id, count_at, head_at, blocks_after, after_place, after_places, table_at}
 use Rattle.wp_table.specs.Faults.{FitsField, HasBlocks}
-use Rattle.wp_table.proofs.Order.{in_order_nil}
+use Rattle.wp_model.proofs.VersionLists.{in_order_nil}
 use Rattle.wp_table.proofs.Parts.{was_right, fields_64}
 use Rattle.wp_table.proofs.BlockLemmas.{Found, fewer_blocks, blocks_take_bytes, blocks_take, blocks_again}
 

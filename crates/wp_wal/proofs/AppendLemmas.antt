@@ -8,11 +8,12 @@ use Rattle.wp_gatelog.specs.declared.log.AppendError.{AppendError}
 use Rattle.wp_gatelog.specs.declared.log.AppendError.TheVariants.{DiskFault, Closed}
 use Rattle.wp_gatelog.specs.Append.{FrameAppended, FrameRefused}
 use Rattle.wp_gatelog.specs.Durability.{HasAcknowledged}
-use Rattle.wp_gatelog.specs.Log.{LogState, IsAtRest, Rests, BeforeOrAfter}
+use Rattle.wp_gatelog.specs.Log.{LogState, IsAtRest, BeforeOrAfter}
 use Rattle.wp_gatelog.specs.Moments.{Leaves}
 use Rattle.wp_gatelog.specs.Spelling.{Spells, frame_of, log_of}
 use Rattle.wp_outside.proofs.Moments.{image_of_synced}
 use Rattle.wp_gatelog.proofs.AcknowledgedLemmas.{rest_acknowledged}
+use Rattle.wp_gatelog.proofs.AppendClauses.{GrowsThrough, AcknowledgesThrough, RestsAfter}
 use Rattle.wp_wal.specs.Spelling.{MAGIC, AreEntries, IsLogOf, IsLogOrNext, HasAcknowledgedEntries}
 use Rattle.wp_wal.specs.Wal.{Reserved, reserved_of, WalState, wal_state, StoresHistory, LeavesHistory, IsReserved, Appended, StoresWhenRefused}
 use Rattle.wp_wal.proofs.EntriesLemmas.{AreEntries-push}
@@ -96,20 +97,6 @@ grown_history id records history next image spelled one h =
       | inl before ↦ inl (records, before, spelled)
       | inr after ↦ inr (records ++ record_bytes (length history + 1) next ∷ [], after, AreEntries-push records history next spelled one)
     ]
-
--- ---- an append of the gate log, as its contract says it
-
--- at each moment a crash leaves its records, or those and the new one
-abbrev GrowsThrough : LogState → LogState → List ℕ → Type 0
-GrowsThrough old new frame = (magic : List ℕ) (records : List (List ℕ)) (bytes : List ℕ) → frame ≡ frame_of bytes → Rests magic old records → Passes (Leaves (BeforeOrAfter magic old.id records bytes)) old.moments new.moments
-
--- and those that are acknowledged
-abbrev AcknowledgesThrough : LogState → LogState → Type 0
-AcknowledgesThrough old new = (magic : List ℕ) (records : List (List ℕ)) → Rests magic old records → Passes (Leaves (HasAcknowledged magic old.id records)) old.moments new.moments
-
--- in the end it is at rest with the new one
-abbrev RestsAfter : LogState → LogState → List ℕ → Type 0
-RestsAfter old new frame = (magic : List ℕ) (records : List (List ℕ)) (bytes : List ℕ) → frame ≡ frame_of bytes → Rests magic old records → Rests magic new (records ++ bytes ∷ [])
 
 -- ---- an append
 

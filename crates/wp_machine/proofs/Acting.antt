@@ -1,0 +1,84 @@
+-- An actor is taken out of a world, makes its step, and is put back.
+use Rattle.std.proofs.Common.{◌≡◌, ℕ, zero, suc, ◌<◌, ◌≤◌, List, [], ◌∷◌, length, set, get_or, OnOk, Ok, Err, Result, refl, sym, ap, ◌∙◌, arith, ◌++◌, filter, not, Option, Some, IfOk, true, false}
+use mathlib.Core.Option.{some-injective}
+use Rattle.std.proofs.lemmas.List.{set-set}
+use Rattle.wp_core.specs.World.{World, Actor, new_actor}
+use Rattle.wp_core.specs.Changes.{with_actor, joined_actor, made_one}
+use Rattle.wp_core.specs.Effects.{done}
+use Rattle.wp_core.specs.Notes.{forgets}
+use Rattle.wp_core.specs.Steps as step
+use Rattle.wp_core.specs.Steps.{Step}
+use Rattle.wp_machine.specs.declared.step.Kind.{Kind}
+use Rattle.wp_machine.specs.declared.step.Kind.TheVariants as kind
+use Rattle.wp_machine.specs.declared.step.ActorsStep.{ActorsStep}
+use Rattle.wp_machine.proofs.StayNoted.{all_stay}
+use Rattle.wp_machine.specs.declared.ending.Ending.{Ending}
+use Rattle.wp_machine.specs.Machine.{step_of}
+use Rattle.wp_machine.specs.Effect.{IsEffect}
+use Rattle.wp_machine.specs.Endings.{ending_of, ends_fact}
+use Rattle.wp_machine.specs.Apart.{IsApart}
+use Rattle.wp_machine.proofs.Ends.{left_as}
+use Rattle.wp_machine.proofs.Apart.{acts, again, step_same}
+use mathlib.Core.Option.{some}
+use lib.ListN.{get_elem?}
+use Rattle.std.specs.declared.alloc.AllocError.{AllocError}
+
+pub at_by : (r : Result (Unit {0}) AllocError) (P : ℕ → Type 0) (by : ℕ) → OnOk r ((by : ℕ) → P by) → OnOk r (P by)
+at_by (Ok x) P by f = f by
+at_by (Err e) P by f = f
+
+pub at_index : {X : Type 0} (xs : List X) (i : ℕ) (d : X) → i < length xs → get_elem? xs i ≡ some (get_or xs i d)
+at_index [] i d l = absurd (omega arith)
+at_index (x ∷ xs) zero d l = refl
+at_index (x ∷ xs) (suc i) d l = at_index xs i d (omega arith)
+
+pub set_beyond : {X : Type 0} (xs : List X) (i : ℕ) (a : X) → length xs ≤ i → xs ≡ set xs i a
+set_beyond [] i a l = refl
+set_beyond (x ∷ xs) zero a l = absurd (omega arith)
+set_beyond (x ∷ xs) (suc i) a l = ap (λ zs. x ∷ zs) (set_beyond xs i a (omega arith))
+
+pub at_within : {X : Type 0} (xs : List X) (i : ℕ) (x : X) → get_elem? xs i ≡ some x → i < length xs
+at_within [] i x e = absurd cc
+at_within (y ∷ xs) zero x e = omega arith
+at_within (y ∷ xs) (suc i) x e = let l = at_within xs i x e in omega arith
+
+pub if_ok : {X : Type 0} (r : Result X AllocError) (P Q : X → Type 0) → ((x : X) → P x → Q x) → IfOk r P → IfOk r Q
+if_ok (Ok x) P Q f p = f x p
+if_ok (Err e) P Q f p = p
+
+same_actor : (w : World) (by : ℕ) (a b : Actor) → get_elem? w.actors by ≡ some a → get_elem? w.actors by ≡ some b → b ≡ a
+same_actor w by a b at at2 = some-injective b a (sym at2 ∙ at)
+
+pub noted : (next w : World) (by : ℕ) (a actor note : Actor) → get_elem? w.actors by ≡ some a → get_elem? w.actors by ≡ some actor → note ≡ new_actor false actor.participant.client actor.participant.seen → next ≡ record w { actors = w.actors ++ note ∷ [] } → next ≡ done w by a step.make_note
+noted next w by a actor note at at2 is n = n ∙ ap (λ z. record w { actors = w.actors ++ z ∷ [] }) (is ∙ ap (λ z. new_actor false z.participant.client z.participant.seen) (same_actor w by a actor at at2))
+
+pub seated : (next w we w2 : World) (by : ℕ) (a first actor more seat : Actor) → get_elem? w.actors by ≡ some a → get_elem? w.actors by ≡ some first → get_elem? w.actors by ≡ some actor → seat ≡ new_actor true first.participant.client first.participant.seen → we ≡ with_actor w by joined_actor → more ≡ made_one actor → w2 ≡ with_actor we by more → next ≡ record w2 { actors = w2.actors ++ seat ∷ [] } → next ≡ done w by a step.make_seat
+seated next w we w2 by a first actor more seat at at1 at2 is out one back n =
+    n ∙ ap (λ (z : World). record z { actors = z.actors ++ seat ∷ [] }) (back ∙ ap (λ (z : World). with_actor z by more) out)
+    ∙ ap (λ (zs : List Actor). record w { actors = zs ++ seat ∷ [] }) (set-set w.actors by joined_actor more)
+    ∙ ap (λ (z : Actor). record w { actors = set w.actors by z ++ seat ∷ [] }) (one ∙ ap made_one (same_actor w by a actor at at2))
+    ∙ ap (λ (z : Actor). record w { actors = set w.actors by (made_one a) ++ z ∷ [] }) (is ∙ ap (λ z. new_actor true z.participant.client z.participant.seen) (same_actor w by a first at at1))
+
+pub acted : (w we w2 next : World) (by : ℕ) (k : Kind) (en : Ending) (a actor left left2 : Actor) (s : Step) (i : IsApart k) → en ≡ ending_of w k → get_elem? w.actors by ≡ some a → get_elem? w.actors by ≡ some actor → we ≡ with_actor w by joined_actor → left ≡ record actor { notes = filter (λ x. not (ends_fact en x)) actor.notes } → step_of w a.participant k ≡ Some s → (step_of we left.participant k ≡ Some s → IsEffect by we left s w2 left2) → next ≡ with_actor w2 by left2 → next ≡ done w by (forgets w.writes.history (length w.cache) s a) s
+acted w we w2 next by k en a actor left left2 s i ends at at2 out forgot e made back =
+    let same = same_actor w by a actor at at2 in
+    let first : step_of w actor.participant k ≡ Some s = ap (λ z. step_of w z.participant k) same ∙ e in
+    let here : step_of we left.participant k ≡ Some s = ap (λ z. step_of we z.participant k) forgot ∙ ap (λ z. step_of z actor.participant k) out ∙ step_same w by joined_actor actor.participant k i ∙ first in
+    let noted : left ≡ forgets w.writes.history (length w.cache) s actor = forgot ∙ ap (λ z. record actor { notes = filter (λ x. not (ends_fact z x)) actor.notes }) ends ∙ ap (λ xs. record actor { notes = xs }) (left_as w actor.participant k s first actor.notes) in
+    back ∙ made here ∙ ap (λ z. done z by left s) out ∙ again w by joined_actor left s (acts w actor.participant k s i first) ∙ ap (λ z. done w by z s) (noted ∙ ap (forgets w.writes.history (length w.cache) s) same)
+
+pub made_actor : (w next : World) (by : ℕ) (k : ActorsStep) (a : Actor) (s : Step) → step_of w a.participant (kind.Actors k) ≡ Some s → next ≡ done w by a s → next ≡ done w by (forgets w.writes.history (length w.cache) s a) s
+made_actor w next by k a s e n = n ∙ ap (λ (z : Actor). done w by z s) (ap (λ xs. record a { notes = xs }) (sym (all_stay a.notes) ∙ left_as w a.participant (kind.Actors k) s e a.notes))
+
+pub apart_unless : (k : Kind) → ((x : ActorsStep) → k ≡ kind.Actors x → ⊥) → IsApart k
+apart_unless (kind.Reader k) not = tt
+apart_unless (kind.Word k) not = tt
+apart_unless (kind.Turn k) not = tt
+apart_unless (kind.Write k) not = tt
+apart_unless (kind.Prepared k) not = tt
+apart_unless (kind.Snapshots k) not = tt
+apart_unless (kind.Store k) not = tt
+apart_unless (kind.Tables k) not = tt
+apart_unless (kind.Locks k) not = tt
+apart_unless (kind.Own k) not = tt
+apart_unless (kind.Actors k) not = not k refl

@@ -1,0 +1,70 @@
+-- What the enums of the code are in the machine.
+use Rattle.wp_machine.specs.declared.turn.Turn as code
+use Rattle.wp_machine.specs.declared.turn.Turn.TheVariants as turn
+use Rattle.wp_machine.specs.declared.content.Guarded.{Guarded}
+use Rattle.wp_machine.specs.declared.content.Guarded.TheVariants as table
+use Rattle.wp_machine.specs.declared.views.Account as code_account
+use Rattle.wp_machine.specs.declared.views.Account.TheVariants as account
+use Rattle.wp_machine.specs.declared.views.Found.{Found}
+use Rattle.wp_machine.specs.declared.views.Found.TheVariants as found
+use Rattle.wp_machine.specs.declared.views.Noted.{Noted}
+use Rattle.wp_machine.specs.declared.views.Noted.TheVariants as noted
+use Rattle.wp_core.specs.Turns.{Turn, write_turn, prepared_turn, snapshots_turn, store_turn, locks_turn, tables_turn}
+use Rattle.wp_core.specs.Tables.{Content}
+use Rattle.wp_core.specs.Tables as content
+use Rattle.wp_core.specs.Views.{Account, Event, Fact}
+use Rattle.wp_core.specs.Views as view
+
+abbrev pub turn_of : code.Turn → Turn
+turn_of turn.Write = write_turn
+turn_of turn.Prepared = prepared_turn
+turn_of turn.Snapshots = snapshots_turn
+turn_of turn.Store = store_turn
+turn_of turn.Locks = locks_turn
+turn_of turn.Tables = tables_turn
+
+abbrev pub content_of : Guarded → Content
+content_of (table.Writes t) = content.writes t
+content_of (table.Prepared t) = content.prepared t
+content_of (table.Snapshots t) = content.snapshots t
+content_of (table.Store t) = content.store t
+content_of (table.Locks t) = content.locks t
+content_of (table.Installed t) = content.installed t
+
+abbrev pub account_of : code_account.Account → Account
+account_of account.Own = view.own
+account_of account.Another = view.another
+account_of (account.PrepareAt n) = view.prepare_at n
+
+abbrev pub event_of : Found → Event
+event_of (found.Claimed name) = view.claimed name
+event_of (found.Took name) = view.took name
+event_of (found.Locked key holder) = view.locked key holder
+event_of (found.Told label n) = view.told label n
+event_of (found.Heard label n) = view.heard label n
+event_of (found.Installed flushed tables compacts) = view.installed flushed tables compacts
+event_of found.LogFailed = view.log_failed
+event_of found.TablesFailed = view.tables_failed
+event_of (found.Stopped n) = view.stopped n
+event_of (found.Flushed n) = view.found_flushed n
+event_of (found.Holder key holder seen account) = view.found key holder seen (account_of account)
+
+abbrev pub fact_of : Noted → Fact
+fact_of (noted.Passed place p c) = view.passed place (record { number = p; decision = c })
+fact_of (noted.InOldCommits place p c) = view.in_old_commits place (record { number = p; decision = c })
+fact_of (noted.Apart place p c) = view.apart place (record { number = p; decision = c })
+fact_of (noted.WordsStay max words) = view.words_stay max words.items
+fact_of noted.VersionsInMemory = view.versions_in_memory
+fact_of noted.VersionsNowhere = view.versions_nowhere
+fact_of noted.NumberInHeap = view.number_in_heap
+fact_of noted.NumberNotInHeap = view.number_not_in_heap
+fact_of (noted.UndecidedAt name p) = view.undecided_at name p
+fact_of (noted.PriorValues name p batch) = view.prior_values name p batch
+fact_of (noted.Unprepared name) = view.unprepared name
+fact_of (noted.DirectFree key) = view.direct_free key
+fact_of (noted.TablesStay versions floor) = view.tables_stay versions.items floor
+fact_of (noted.LiveListed floor listed) = view.live_listed floor listed.items
+fact_of noted.NothingFlushed = view.nothing_flushed
+fact_of (noted.FrozenStay n versions) = view.frozen_stay n versions.items
+fact_of (noted.DelayedFlagStays value) = view.delayed_flag_stays value
+fact_of (noted.OldFlagStays value) = view.old_flag_stays value

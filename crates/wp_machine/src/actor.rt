@@ -1,0 +1,457 @@
+ghost use Rattle.std.specs.Prelude.{◌≡◌, [], ◌∷◌, ◌++◌, None, Some, true, false, OnOk, IfOk, IfSome, ◌==◌, ◌<◌, length, slice_set};
+ghost use Rattle.std.specs.Prelude.{List, take, drop, if◌then◌else◌};
+ghost use Rattle.std.specs.List.{list_any};
+ghost use Rattle.std.specs.Prelude.{not, filter};
+ghost use Rattle.wp_machine.specs.Endings.{ends_fact};
+ghost use Rattle.std.specs.Option.{option_copied};
+ghost use Rattle.std.specs.FinSet as set;
+ghost use Rattle.std.specs.FinMap as finite;
+ghost use Rattle.wp_model.specs.Batch.{key_cmp};
+ghost use Rattle.wp_machine.specs.Pairs.{newest_under};
+ghost use Rattle.wp_core.specs.Reading.{snapshot_of};
+ghost use Rattle.wp_core.specs.Changes.{reading_left, is_same_registration};
+ghost use Rattle.wp_machine.specs.Effect.{has_published, released_number, has_released};
+ghost use Rattle.wp_core.specs.Tables as tables;
+ghost use Rattle.wp_core.specs.World.{new_participant, new_actor};
+ghost use Rattle.wp_core.specs.Changes.{sees, remembers, joined_actor, has_direct, held_with, held_without, registers, has_transaction, has_no_transaction, turn_index, made_one, joins};
+ghost use Rattle.wp_machine.specs.Client.{client_of};
+ghost use Rattle.wp_machine.specs.Parts.{turn_of};
+ghost use Rattle.wp_machine.specs.HeldTables.{place_from};
+
+use crate::content::Content;
+use crate::copies::copy_entries;
+use crate::ending::Ending;
+use crate::turn::Turn;
+use crate::views::{Event, Fact};
+use std::alloc::{AllocError, Global};
+use std::marker::Model;
+use wp_judge::Observed;
+use wp_model::{Batch, Entry, Key, Name, Seq};
+
+/// A snapshot: its number, and its smallest. Each version below the smallest is decided, and visible at the snapshot.
+#[derive(Clone, Copy, Debug, PartialEq, Eq)]
+pub struct Registration {
+    pub number: Seq,
+    pub smallest: Seq,
+}
+
+impl Model for Registration {
+    ghost use Rattle.wp_core.specs.Reading.{Registration};
+
+    ghost Value = { Registration };
+
+    ghost view = { λ r. record { number = r.number; smallest = r.smallest } };
+
+    ghost inverse = { λ r. record { number = r.number; smallest = r.smallest } };
+}
+
+/// A transaction that an actor has: its batch, and the keys that it locked, which may be more.
+#[derive(Drop)]
+pub struct Transaction {
+    pub(crate) batch: Batch,
+    /// The newest first.
+    pub(crate) locked: Vec<Key>,
+}
+
+impl Model for Transaction {
+    ghost use Rattle.std.specs.FinSet as set;
+    ghost use Rattle.wp_core.specs.World.{Transaction};
+    ghost use Rattle.wp_machine.specs.Codes.{transaction_code};
+
+    ghost Value = { Transaction };
+
+    ghost coded = { transaction_code };
+
+    ghost view = { λ t. record { batch = t.batch; locked = set.from_list t.locked.items } };
+}
+
+/// What is known of an actor to the end.
+#[derive(Drop)]
+pub struct Participant {
+    /// None once the actor was joined.
+    pub(crate) client: Option<Name>,
+    pub(crate) seen: Vec<Entry>,
+    pub(crate) own: Vec<Seq>,
+    pub(crate) past: Vec<Event>,
+    pub(crate) registered: Vec<Registration>,
+    /// The newest pair first: of two of one name the first counts.
+    pub(crate) transactions: Vec<(Name, Transaction)>,
+    pub(crate) direct: Option<Key>,
+}
+
+impl Model for Participant {
+    ghost use Rattle.std.specs.Coded.{codes};
+    ghost use Rattle.std.specs.FinMap as map;
+    ghost use Rattle.wp_core.specs.World.{Participant};
+    ghost use Rattle.wp_machine.specs.Codes.{transactions_code};
+    ghost use Rattle.wp_machine.specs.Client.{client_of};
+
+    ghost Value = { Participant };
+
+    ghost coded = { Prim.hlevel (codes, transactions_code) };
+
+    ghost view = { λ p. record { client = client_of p.client; seen = p.seen.items; own = p.own.items; past = p.past.items; registered = p.registered.items; transactions = map.from_entries p.transactions.items; direct = p.direct } };
+}
+
+/// An actor: a client's seat, or a note.
+#[derive(Drop)]
+pub struct Actor {
+    pub(crate) participant: Participant,
+    pub(crate) learned: Vec<Entry>,
+    pub(crate) held: Vec<Content>,
+    pub(crate) reading: Option<Observed>,
+    pub(crate) notes: Vec<Fact>,
+    pub(crate) live: bool,
+    pub(crate) made: u64,
+    pub(crate) joined: Vec<Participant>,
+}
+
+impl Model for Actor {
+    ghost use Rattle.std.specs.Coded.{codes};
+    ghost use Rattle.wp_core.specs.World.{Actor};
+    ghost use Rattle.wp_model.specs.PreparedTables.{prepared_tables_code};
+    ghost use Rattle.wp_model.specs.Snapshots.{snapshots_code};
+    ghost use Rattle.wp_model.specs.LockTables.{lock_tables_code};
+    ghost use Rattle.wp_machine.specs.Codes.{transactions_code};
+
+    ghost Value = { Actor };
+
+    ghost coded = { Prim.hlevel (codes, prepared_tables_code, snapshots_code, lock_tables_code, transactions_code) };
+
+    ghost view = { λ a. record { participant = a.participant; learned = a.learned.items; held = a.held.items; reading = a.reading; notes = a.notes.items; live = a.live; made = a.made; joined = a.joined.items } };
+}
+
+impl Participant {
+    pub(crate) fn new(alloc: Global, client: Option<Name>, seen: Vec<Entry>) -> Participant
+        ensures { result ≡ new_participant (client_of client) seen.items }
+    {
+        Participant {
+            client,
+            seen,
+            own: Vec::new(alloc),
+            past: Vec::new(alloc),
+            registered: Vec::new(alloc),
+            transactions: Vec::new(alloc),
+            direct: None,
+        }
+    }
+}
+
+fn transaction_under<'a>(
+    transactions: &'a [(Name, Transaction)],
+    name: &Name,
+) -> Option<&'a Transaction>
+    ensures { option_copied result ≡ newest_under transactions.now name.now }
+{
+    for pair in transactions {
+        if &pair.0 == name {
+            return Some(&pair.1);
+        }
+    }
+    None
+}
+
+impl Participant {
+    #[tactic(auto, using(crate::proofs::Maps::under_is_got))]
+    pub(crate) fn transaction(&self, name: &Name) -> Option<&Transaction>
+        ensures { option_copied result ≡ finite.get self.now.transactions name.now }
+    {
+        transaction_under(&self.transactions, name)
+    }
+
+    /// Its client. One that was joined has none, and makes no step that asks for it: that too is answered as want of
+    /// memory.
+    pub(crate) fn client(&self, alloc: Global) -> Result<Name, AllocError>
+        ensures { IfOk result (λ client. client ≡ self.now.client) }
+    {
+        match &self.client {
+            Some(client) => client.copy(alloc),
+            None => Err(AllocError),
+        }
+    }
+}
+
+fn copy_locked(locked: &[Key], alloc: Global) -> Result<Vec<Key>, AllocError>
+    ensures { IfOk result (λ copy. copy.items ≡ locked.now) }
+{
+    let mut copy = Vec::with_capacity(alloc, locked.len())?;
+    for key in locked {
+        copy.push(key.copy(alloc)?)?;
+    }
+    Ok(copy)
+}
+
+fn take_locked(locked: &mut Vec<Key>, key: &Key)
+    ensures { set.from_list {R = key_cmp} locked.new.items ≡ set.remove (set.from_list locked.old.items) key.now }
+{
+    locked.retain(|other| other != key);
+}
+
+fn take_transaction(transactions: &mut Vec<(Name, Transaction)>, name: &Name)
+    ensures { finite.from_entries {R = key_cmp} transactions.new.items ≡ finite.remove (finite.from_entries transactions.old.items) name.now }
+{
+    transactions.retain(|pair| &pair.0 != name);
+}
+
+impl Transaction {
+    pub(crate) fn new(alloc: Global) -> Transaction
+        ensures { result ≡ record { batch = []; locked = set.empty } }
+    {
+        Transaction {
+            batch: Batch::new(alloc),
+            locked: Vec::new(alloc),
+        }
+    }
+
+    pub(crate) fn with(batch: Batch, locked: Vec<Key>) -> Transaction
+        ensures { result ≡ record { batch = batch; locked = set.from_list locked.items } }
+    {
+        Transaction { batch, locked }
+    }
+
+    /// The same with one key more.
+    pub(crate) fn with_key(&self, key: Key, alloc: Global) -> Result<Transaction, AllocError>
+        ensures { IfOk result (λ changed. changed ≡ record self.now { locked = set.insert self.now.locked key }) }
+    {
+        let mut locked = copy_locked(&self.locked, alloc)?;
+        locked.insert(0, key)?;
+        Ok(Transaction {
+            batch: self.batch.copy(alloc)?,
+            locked,
+        })
+    }
+
+    /// The same without the key.
+    pub(crate) fn without_key(&self, key: &Key, alloc: Global) -> Result<Transaction, AllocError>
+        ensures { IfOk result (λ changed. changed ≡ record self.now { locked = set.remove self.now.locked key.now }) }
+    {
+        let mut locked = copy_locked(&self.locked, alloc)?;
+        take_locked(&mut locked, key);
+        Ok(Transaction {
+            batch: self.batch.copy(alloc)?,
+            locked,
+        })
+    }
+
+    /// The same with another batch.
+    pub(crate) fn with_batch(&self, batch: Batch, alloc: Global) -> Result<Transaction, AllocError>
+        ensures { IfOk result (λ changed. changed ≡ record self.now { batch = batch }) }
+    {
+        Ok(Transaction {
+            batch,
+            locked: copy_locked(&self.locked, alloc)?,
+        })
+    }
+}
+
+/// Whether the snapshot of what is read is registered, if something is read.
+fn is_left(reading: Option<Observed>, registered: &[Registration]) -> bool
+    ensures { reading_left reading registered.now ≡ (if result then reading else None) }
+{
+    let Some(seen) = reading else {
+        return true;
+    };
+    has_snapshot(&seen, registered)
+}
+
+fn has_snapshot(seen: &Observed, registered: &[Registration]) -> bool
+    ensures { result ≡ list_any (is_same_registration (snapshot_of seen.now)) registered.now }
+{
+    registered.iter().any(|r| seen.snapshot == r.number && seen.smallest == r.smallest)
+}
+
+/// Whether it is the table of that turn.
+fn is_of(content: &Content, turn: Turn) -> bool
+    ensures { result ≡ (turn_index (tables.turn_of content.now) == turn_index (turn_of turn)) }
+{
+    content.turn().index() == turn.index()
+}
+
+fn place_of(held: &[Content], turn: Turn) -> Option<usize>
+    ensures { result ≡ place_from (turn_of turn) 0 held.now }
+{
+    for (i, content) in held.iter().enumerate() {
+        if is_of(content, turn) {
+            return Some(i);
+        }
+    }
+    None
+}
+
+fn put(held: &mut Vec<Content>, place: usize, content: Content)
+    requires { place < length held.old.items }
+    ensures { held.new.items ≡ slice_set held.old.items place content }
+{
+    held[place] = content;
+}
+
+#[tactic(auto, using(crate::proofs::Held::places))]
+fn hold(held: &mut Vec<Content>, content: Content)
+    ensures { held.new.items ≡ held_with held.old.items content }
+{
+    if let Some(place) = place_of(held, content.turn()) {
+        put(held, place, content);
+    }
+}
+
+fn forget(notes: &mut Vec<Fact>, ending: &Ending)
+    ensures { notes.new.items ≡ filter (λ fact. not (ends_fact ending.now fact)) notes.old.items }
+{
+    notes.retain(|fact| !ending.ends(fact));
+}
+
+fn let_go(held: &mut Vec<Content>, turn: Turn)
+    ensures { held.new.items ≡ held_without held.old.items (turn_of turn) }
+{
+    held.retain(|c| !is_of(c, turn));
+}
+
+impl Actor {
+    pub(crate) fn new(alloc: Global, live: bool, client: Option<Name>, seen: Vec<Entry>) -> Actor
+        ensures { result ≡ new_actor live (client_of client) seen.items }
+    {
+        Actor {
+            participant: Participant::new(alloc, client, seen),
+            learned: Vec::new(alloc),
+            held: Vec::new(alloc),
+            reading: None,
+            notes: Vec::new(alloc),
+            live,
+            made: 0,
+            joined: Vec::new(alloc),
+        }
+    }
+
+    pub(crate) fn joined(alloc: Global) -> Actor
+        ensures { result ≡ joined_actor }
+    {
+        Actor::new(alloc, false, None, Vec::new(alloc))
+    }
+
+    pub(crate) fn see(&mut self, history: &[Entry], alloc: Global) -> Result<(), AllocError>
+        ensures { OnOk result (self.new ≡ sees history.now self.old) }
+    {
+        self.participant.seen = copy_entries(history, alloc)?;
+        self.learned.clear();
+        Ok(())
+    }
+
+    /// The table of a turn that it holds, as it leaves it.
+    pub(crate) fn hold(&mut self, content: Content)
+        ensures { self.new ≡ record self.old { held = held_with self.old.held content } }
+    {
+        hold(&mut self.held, content);
+    }
+
+    pub(crate) fn let_go(&mut self, turn: Turn)
+        ensures { self.new ≡ record self.old { held = held_without self.old.held (turn_of turn) } }
+    {
+        let_go(&mut self.held, turn);
+    }
+
+    pub(crate) fn register(&mut self, registration: Registration) -> Result<(), AllocError>
+        ensures { OnOk result (self.new ≡ registers self.old registration) }
+    {
+        self.participant.registered.push(registration)?;
+        Ok(())
+    }
+
+    pub(crate) fn put_transaction(
+        &mut self,
+        name: Name,
+        transaction: Transaction,
+    ) -> Result<(), AllocError>
+        ensures { OnOk result (self.new ≡ has_transaction self.old name transaction) }
+    {
+        self.participant
+            .transactions
+            .insert(0, (name, transaction))?;
+        Ok(())
+    }
+
+    /// What follows from a store of the published number: the history is one longer, by an entry of the actor's.
+    pub(crate) fn publish(&mut self, history: &[Entry], alloc: Global) -> Result<(), AllocError>
+        ensures { OnOk result (self.new ≡ has_published history.now self.old) }
+    {
+        self.see(history, alloc)?;
+        self.participant.own.push(history.len() as Seq)?;
+        Ok(())
+    }
+
+    /// Its registration at that place goes, with a reading of it. The number of the registration, if there is one.
+    pub(crate) fn release(&mut self, place: usize) -> Option<Seq>
+        ensures number { result ≡ released_number (drop place self.old.participant.registered) }
+        ensures left { self.new ≡ has_released self.old (take place self.old.participant.registered) (drop place self.old.participant.registered) }
+    {
+        if place >= self.participant.registered.len() {
+            return None;
+        }
+        let released = self.participant.registered.remove(place);
+        if !is_left(self.reading, &self.participant.registered) {
+            self.reading = None;
+        }
+        Some(released.number)
+    }
+
+    /// One more is made by it.
+    pub(crate) fn count_one(&mut self) -> Result<(), AllocError>
+        ensures { OnOk result (self.new ≡ made_one self.old) }
+    {
+        self.made = self.made.checked_add(1).ok_or(AllocError)?;
+        Ok(())
+    }
+
+    pub(crate) fn join(&mut self, seat: Actor) -> Result<(), AllocError>
+        ensures { OnOk result (self.new ≡ joins self.old seat) }
+    {
+        self.joined.insert(0, seat.participant)?;
+        Ok(())
+    }
+
+    /// It forgets what the step ends.
+    pub(crate) fn forget(&mut self, ending: &Ending)
+        ensures { self.new ≡ record self.old { notes = filter (λ fact. not (ends_fact ending.now fact)) self.old.notes } }
+    {
+        forget(&mut self.notes, ending);
+    }
+
+    pub(crate) fn note(&mut self, fact: Fact) -> Result<(), AllocError>
+        ensures { OnOk result (self.new ≡ record self.old { notes = fact ∷ self.old.notes }) }
+    {
+        self.notes.insert(0, fact)?;
+        Ok(())
+    }
+
+    pub(crate) fn take_transaction(&mut self, name: &Name)
+        ensures { self.new ≡ has_no_transaction self.old name.now }
+    {
+        take_transaction(&mut self.participant.transactions, name);
+    }
+
+    pub(crate) fn set_direct(&mut self, key: Option<Key>)
+        ensures { self.new ≡ has_direct self.old key }
+    {
+        self.participant.direct = key;
+    }
+
+    pub(crate) fn set_client(&mut self, client: Name)
+        ensures { self.new ≡ record self.old { participant = record self.old.participant { client = client } } }
+    {
+        self.participant.client = Some(client);
+    }
+
+    /// It has one more table.
+    pub(crate) fn take(&mut self, content: Content) -> Result<(), AllocError>
+        ensures { OnOk result (self.new ≡ record self.old { held = content ∷ self.old.held }) }
+    {
+        self.held.insert(0, content)?;
+        Ok(())
+    }
+
+    pub(crate) fn remember(&mut self, event: Event) -> Result<(), AllocError>
+        ensures { OnOk result (self.new ≡ remembers self.old event) }
+    {
+        self.participant.past.push(event)?;
+        Ok(())
+    }
+}

@@ -1,0 +1,54 @@
+//! What the steps that an actor makes without a turn make of a world.
+ghost use Rattle.std.specs.Prelude.{◌≡◌, ℕ, OnOk, Some, None};
+ghost use Rattle.std.specs.FinMap as finite;
+ghost use Rattle.wp_core.specs.World.{Transaction};
+ghost use Rattle.wp_core.specs.Steps as step;
+ghost use Rattle.wp_machine.specs.Machine.{own_step};
+ghost use Rattle.wp_machine.specs.Effect.{IsEffect};
+
+use crate::actor::{Actor, Transaction};
+use crate::step::OwnStep;
+use crate::views::Fact;
+use crate::world::World;
+use std::alloc::AllocError;
+use wp_model::{Batch, Name};
+
+fn set_batch(
+    world: &mut World,
+    actor: &mut Actor,
+    name: Name,
+    batch: Batch,
+) -> Result<(), AllocError>
+    ensures { (t : Transaction) → finite.get actor.old.participant.transactions name ≡ Some t
+        → OnOk result ((by : ℕ) → IsEffect by world.old actor.old (step.set_batch name t batch) world.new actor.new) }
+{
+    let Some(transaction) = actor.participant.transaction(&name) else {
+        return Ok(());
+    };
+    let changed = transaction.with_batch(batch, world.alloc)?;
+    actor.put_transaction(name, changed)
+}
+
+fn note(world: &mut World, actor: &mut Actor, fact: Fact) -> Result<(), AllocError>
+    ensures { OnOk result ((by : ℕ) → IsEffect by world.old actor.old (step.note fact) world.new actor.new) }
+{
+    actor.note(fact)
+}
+
+fn set_client(world: &mut World, actor: &mut Actor, client: Name)
+    ensures { (by : ℕ) → IsEffect by world.old actor.old (step.set_client client) world.new actor.new }
+{
+    actor.set_client(client);
+}
+
+pub(crate) fn own(world: &mut World, actor: &mut Actor, kind: OwnStep) -> Result<(), AllocError>
+    ensures { (s : step.Step) → own_step actor.old.participant kind ≡ Some s
+        → OnOk result ((by : ℕ) → IsEffect by world.old actor.old s world.new actor.new) }
+{
+    match kind {
+        OwnStep::SetBatch(name, batch) => set_batch(world, actor, name, batch)?,
+        OwnStep::Note(fact) => note(world, actor, fact)?,
+        OwnStep::SetClient(client) => set_client(world, actor, client),
+    }
+    Ok(())
+}

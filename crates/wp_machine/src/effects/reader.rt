@@ -1,0 +1,97 @@
+//! What a reader's steps make of a world.
+ghost use Rattle.std.specs.Prelude.{◌≡◌, ℕ, OnOk, None, Some};
+ghost use Rattle.wp_core.specs.World.{published};
+ghost use Rattle.wp_core.specs.Reading.{reads};
+ghost use Rattle.wp_core.specs.Changes.{loaded};
+ghost use Rattle.wp_core.specs.Steps as step;
+ghost use Rattle.wp_machine.specs.Machine.{reader_step};
+ghost use Rattle.wp_machine.specs.Effect.{IsEffect};
+
+use crate::actor::{Actor, Registration};
+use crate::content::Content;
+use crate::step::ReaderStep;
+use crate::world::World;
+use std::alloc::AllocError;
+use wp_judge::{InPrepared, Load, Observed};
+use wp_model::Seq;
+
+fn load_published(world: &mut World, actor: &mut Actor) -> Result<(), AllocError>
+    ensures { OnOk result ((by : ℕ) → IsEffect by world.old actor.old step.load_published world.new actor.new) }
+{
+    actor.see(&world.writes.history, world.alloc)
+}
+
+fn register(world: &mut World, actor: &mut Actor, smallest: Seq) -> Result<(), AllocError>
+    ensures { OnOk result ((by : ℕ) → IsEffect by world.old actor.old (step.register smallest) world.new actor.new) }
+{
+    let alloc = world.alloc;
+    let number = world.writes.history.len() as Seq;
+    actor.see(&world.writes.history, alloc)?;
+    actor.register(Registration { number, smallest })?;
+    world.snapshots.register(number, alloc)?;
+    actor.hold(Content::snapshots(world.snapshots.copy(alloc)?));
+    Ok(())
+}
+
+fn reading(version: Seq, snapshot: Registration) -> Observed
+    ensures { result ≡ reads version snapshot }
+{
+    Observed {
+        version,
+        snapshot: snapshot.number,
+        smallest: snapshot.smallest,
+        first_word: None,
+        first_max: None,
+        delayed_flag: None,
+        in_prepared: None,
+        second_word: None,
+        second_max: None,
+        old_flag: None,
+        is_old_commit: None,
+    }
+}
+
+fn loaded(world: &World, which: Load, seen: Observed) -> Observed
+    ensures { result ≡ loaded world.now which seen }
+{
+    let mut seen = seen;
+    match which {
+        Load::FirstWord => seen.first_word = Some(world.cache.word(seen.version)),
+        Load::FirstMax => seen.first_max = Some(world.max_evicted),
+        Load::DelayedFlag => seen.delayed_flag = Some(world.delayed_flag),
+        Load::InPrepared => seen.in_prepared = Some(world.prepared.found(seen.version)),
+        Load::SecondWord => seen.second_word = Some(world.cache.word(seen.version)),
+        Load::SecondMax => seen.second_max = Some(world.max_evicted),
+        Load::OldFlag => seen.old_flag = Some(world.old_flag),
+        Load::IsOldCommit => {
+            seen.is_old_commit = Some(world.snapshots.is_old_commit(seen.snapshot, seen.version));
+        }
+    }
+    seen
+}
+
+pub(crate) fn reader(
+    world: &mut World,
+    actor: &mut Actor,
+    kind: ReaderStep,
+) -> Result<(), AllocError>
+    ensures { (s : step.Step) → reader_step actor.old.participant kind ≡ Some s
+        → OnOk result ((by : ℕ) → IsEffect by world.old actor.old s world.new actor.new) }
+{
+    match kind {
+        ReaderStep::LoadPublished => load_published(world, actor)?,
+        ReaderStep::Register(smallest) => register(world, actor, smallest)?,
+        ReaderStep::BeginReading(version, place) => {
+            if let Some(snapshot) = actor.participant.registered.get(place) {
+                actor.reading = Some(reading(version, *snapshot));
+            }
+        }
+        ReaderStep::Load(which) => {
+            if let Some(seen) = actor.reading {
+                actor.reading = Some(loaded(world, which, seen));
+            }
+        }
+        ReaderStep::EndReading => actor.reading = None,
+    }
+    Ok(())
+}

@@ -1,0 +1,51 @@
+//! What it makes of a world to take a turn or to give it.
+ghost use Rattle.std.specs.Prelude.{◌≡◌, IfOk, OnOk, Some};
+ghost use Rattle.wp_core.specs.World.{content_of};
+ghost use Rattle.wp_core.specs.Steps as step;
+ghost use Rattle.wp_machine.specs.Parts.{turn_of};
+ghost use Rattle.wp_machine.specs.Machine.{turn_step};
+ghost use Rattle.wp_machine.specs.Effect.{IsEffect};
+
+use crate::actor::Actor;
+use crate::content::Content;
+use crate::step::TurnStep;
+use crate::turn::Turn;
+use crate::world::World;
+use std::alloc::AllocError;
+
+/// The table that the turn guards.
+fn content_of(world: &World, turn: Turn) -> Result<Content, AllocError>
+    ensures { IfOk result (λ content. content ≡ content_of world.now (turn_of turn)) }
+{
+    let alloc = world.alloc;
+    Ok(match turn {
+        Turn::Write => Content::writes(world.writes.copy(alloc)?),
+        Turn::Prepared => Content::prepared(world.prepared.copy(alloc)?),
+        Turn::Snapshots => Content::snapshots(world.snapshots.copy(alloc)?),
+        Turn::Store => Content::store(world.store.copy(alloc)?),
+        Turn::Locks => Content::locks(world.locks.copy(alloc)?),
+        Turn::Tables => Content::installed(world.installed.copy(alloc)?),
+    })
+}
+
+pub(crate) fn turn(
+    world: &mut World,
+    by: usize,
+    actor: &mut Actor,
+    kind: TurnStep,
+) -> Result<(), AllocError>
+    ensures { (s : step.Step) → turn_step kind ≡ Some s
+        → OnOk result (IsEffect by world.old actor.old s world.new actor.new) }
+{
+    match kind {
+        TurnStep::Take(turn) => {
+            actor.take(content_of(world, turn)?)?;
+            world.holders.set(turn, Some(by));
+        }
+        TurnStep::Give(turn) => {
+            actor.let_go(turn);
+            world.holders.set(turn, None);
+        }
+    }
+    Ok(())
+}

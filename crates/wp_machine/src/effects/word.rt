@@ -1,0 +1,50 @@
+//! What the stores of words make of a world.
+ghost use Rattle.std.specs.Prelude.{◌≡◌, ℕ, OnOk, Some};
+ghost use Rattle.wp_core.specs.Changes.{with_actor};
+ghost use Rattle.wp_core.specs.Steps as step;
+ghost use Rattle.wp_machine.specs.Machine.{word_step};
+ghost use Rattle.wp_machine.specs.Effect.{IsEffect, published_world};
+
+use crate::actor::Actor;
+use crate::content::Content;
+use crate::step::WordStep;
+use crate::world::World;
+use std::alloc::AllocError;
+use wp_model::Seq;
+
+fn store_published(world: &mut World, actor: &mut Actor) -> Result<(), AllocError>
+    ensures { OnOk result ((by : ℕ) → with_actor world.new by actor.new ≡ published_world world.old actor.old by world.old.writes.pending) }
+{
+    let alloc = world.alloc;
+    world.writes.publish()?;
+    actor.publish(&world.writes.history, alloc)?;
+    actor.hold(Content::writes(world.writes.copy(alloc)?));
+    Ok(())
+}
+
+fn store_max_evicted(world: &mut World, actor: &mut Actor, m: Seq) -> Result<(), AllocError>
+    ensures { OnOk result ((by : ℕ) → IsEffect by world.old actor.old (step.store_max_evicted m) world.new actor.new) }
+{
+    world.max_evicted = m;
+    world.prepared.move_up_to(m)?;
+    actor.hold(Content::prepared(world.prepared.copy(world.alloc)?));
+    Ok(())
+}
+
+pub(crate) fn word(world: &mut World, actor: &mut Actor, kind: WordStep) -> Result<(), AllocError>
+    ensures { (s : step.Step) → word_step world.old.writes kind ≡ Some s
+        → OnOk result ((by : ℕ) → IsEffect by world.old actor.old s world.new actor.new) }
+{
+    match kind {
+        WordStep::StorePublished => return store_published(world, actor),
+        WordStep::StoreMaxEvicted(m) => store_max_evicted(world, actor, m)?,
+        WordStep::StoreWord => {
+            if let Some((p, c)) = world.writes.pending_pair()? {
+                world.cache.store(p, c)?;
+            }
+        }
+        WordStep::StoreDelayedFlag(value) => world.delayed_flag = value,
+        WordStep::StoreOldFlag(value) => world.old_flag = value,
+    }
+    Ok(())
+}

@@ -1,0 +1,55 @@
+//! The core machine as code: worlds and steps as values, and what a step makes of a world.
+//!
+//! A `World` shows the machine's own world, and so do its parts. `apply` makes one step of one actor: of a step that may be
+//! made, the new world is what the machine's step makes of the old one, a sound world stays sound, and a reached one stays
+//! reached. What the world has already is named in a step by a number, a name or a place alone. While an actor makes its
+//! step it is apart from the world: first it forgets the notes that its step ends, then the step changes the world and
+//! the actor, and then it is put back.
+//!
+//! Sets and maps are lists whose newest item comes first, so that a table is copied as it is when an actor takes its turn.
+//!
+//! `permits` is the test that `apply` asks for. Where it says yes, the step may be made. It says no too to steps that it does
+//! not decide: a snapshot with a better smallest than 1, the beginning of a reading, the stores of the published number
+//! and of words of the cache, a flag of 0, a bound with the flag down, a record made pending or dropped, the steps of the
+//! prepared turn, of the snapshots turn and of the store turn, an edit and a halt, a name taken or left, a transaction or
+//! a key of one freed, a holder found, a batch set, and notes. The machine's steps that join another actor are not here.
+#![tactic(auto)]
+
+mod actor;
+mod applied;
+mod cache;
+mod content;
+mod copies;
+mod effects;
+mod ending;
+mod locks;
+mod permitted;
+mod prepared;
+mod snapshots;
+mod step;
+mod store;
+#[cfg(test)]
+mod tests;
+mod turn;
+mod versions;
+mod views;
+mod world;
+mod writes;
+
+pub use actor::{Actor, Participant, Registration, Transaction};
+pub use applied::apply;
+pub use cache::Cache;
+pub use content::Content;
+pub use locks::LockTables;
+pub use permitted::permits;
+pub use prepared::PreparedTables;
+pub use snapshots::{Snapshot, Snapshots};
+pub use step::{
+    ActorsStep, Kind, LocksStep, OwnStep, PreparedStep, ReaderStep, SnapshotsStep, Step, StoreStep,
+    TablesStep, TurnStep, WordStep, WriteStep,
+};
+pub use store::{Installed, InstalledEdit, StoreTable};
+pub use turn::{Holders, Turn};
+pub use views::{Account, Event, Fact, Found, Noted};
+pub use world::World;
+pub use writes::WriteTable;

@@ -1,0 +1,266 @@
+ghost use Rattle.std.specs.Prelude.{◌≡◌, not, filter, map, IfOk, OnOk};
+ghost use Rattle.std.specs.Option.{option_copied};
+ghost use Rattle.std.specs.FinSet as set;
+ghost use Rattle.std.specs.FinMap as finite;
+ghost use Rattle.wp_model.specs.Batch.{key_cmp};
+ghost use Rattle.wp_model.specs.declared.holder.Holder.TheVariants.{Txn};
+ghost use Rattle.wp_core.specs.Changes.{with_name, with_key, without_key, without_transaction, with_label, is_held_by, keys_of_holder};
+ghost use Rattle.wp_model.specs.LockTables.{nothing_locked};
+ghost use Rattle.wp_machine.specs.Pairs.{newest_under};
+
+use std::alloc::{AllocError, Global};
+use std::marker::Model;
+use wp_model::{Holder, Key, Name, Seq};
+
+/// The live names, each with the client that has it, if one does; the held keys; and the labels. Each is a list whose
+/// newest pair comes first: of two pairs of one name the first counts.
+#[derive(Drop)]
+pub struct LockTables {
+    pub(crate) names: Vec<(Name, Option<Name>)>,
+    pub(crate) keys: Vec<(Key, Holder)>,
+    pub(crate) labels: Vec<(Name, Seq)>,
+}
+
+impl Model for LockTables {
+    ghost use Rattle.std.specs.FinMap as map;
+    ghost use Rattle.wp_model.specs.LockTables.{LockTables, lock_tables_code};
+
+    ghost Value = { LockTables };
+
+    ghost coded = { lock_tables_code };
+
+    ghost view = { λ t. record { names = map.from_entries t.names.items; keys = map.from_entries t.keys.items; labels = map.from_entries t.labels.items } };
+}
+
+pub(crate) fn copy_client(client: &Option<Name>, alloc: Global) -> Result<Option<Name>, AllocError>
+    ensures { IfOk result (λ copy. copy ≡ client.now) }
+{
+    match client {
+        Some(client) => Ok(Some(client.copy(alloc)?)),
+        None => Ok(None),
+    }
+}
+
+fn copy_names(
+    names: &[(Name, Option<Name>)],
+    alloc: Global,
+) -> Result<Vec<(Name, Option<Name>)>, AllocError>
+    ensures { IfOk result (λ copy. copy.items ≡ names.now) }
+{
+    let mut copy = Vec::with_capacity(alloc, names.len())?;
+    for pair in names {
+        copy.push((pair.0.copy(alloc)?, copy_client(&pair.1, alloc)?))?;
+    }
+    Ok(copy)
+}
+
+fn copy_keys(keys: &[(Key, Holder)], alloc: Global) -> Result<Vec<(Key, Holder)>, AllocError>
+    ensures { IfOk result (λ copy. copy.items ≡ keys.now) }
+{
+    let mut copy = Vec::with_capacity(alloc, keys.len())?;
+    for pair in keys {
+        copy.push((pair.0.copy(alloc)?, pair.1.copy(alloc)?))?;
+    }
+    Ok(copy)
+}
+
+fn copy_labels(labels: &[(Name, Seq)], alloc: Global) -> Result<Vec<(Name, Seq)>, AllocError>
+    ensures { IfOk result (λ copy. copy.items ≡ labels.now) }
+{
+    let mut copy = Vec::with_capacity(alloc, labels.len())?;
+    for pair in labels {
+        copy.push((pair.0.copy(alloc)?, pair.1))?;
+    }
+    Ok(copy)
+}
+
+impl LockTables {
+    pub(crate) fn copy(&self, alloc: Global) -> Result<LockTables, AllocError>
+        ensures { IfOk result (λ copy. copy ≡ self.now) }
+    {
+        Ok(LockTables {
+            names: copy_names(&self.names, alloc)?,
+            keys: copy_keys(&self.keys, alloc)?,
+            labels: copy_labels(&self.labels, alloc)?,
+        })
+    }
+}
+
+fn name_under<'a>(names: &'a [(Name, Option<Name>)], name: &Name) -> Option<&'a Option<Name>>
+    ensures { option_copied result ≡ newest_under names.now name.now }
+{
+    for pair in names {
+        if &pair.0 == name {
+            return Some(&pair.1);
+        }
+    }
+    None
+}
+
+fn holder_under<'a>(keys: &'a [(Key, Holder)], key: &Key) -> Option<&'a Holder>
+    ensures { option_copied result ≡ newest_under keys.now key.now }
+{
+    for pair in keys {
+        if &pair.0 == key {
+            return Some(&pair.1);
+        }
+    }
+    None
+}
+
+fn number_under(labels: &[(Name, Seq)], label: &Name) -> Option<Seq>
+    ensures { result ≡ newest_under labels.now label.now }
+{
+    for pair in labels {
+        if &pair.0 == label {
+            return Some(pair.1);
+        }
+    }
+    None
+}
+
+fn take_name(names: &mut Vec<(Name, Option<Name>)>, name: &Name)
+    ensures { finite.from_entries {R = key_cmp} names.new.items ≡ finite.remove (finite.from_entries names.old.items) name.now }
+{
+    names.retain(|pair| &pair.0 != name);
+}
+
+fn take_key(keys: &mut Vec<(Key, Holder)>, key: &Key)
+    ensures { finite.from_entries {R = key_cmp} keys.new.items ≡ finite.remove (finite.from_entries keys.old.items) key.now }
+{
+    keys.retain(|pair| &pair.0 != key);
+}
+
+/// The keys among these that the holder holds by the table.
+fn held_keys(
+    pairs: &[(Key, Holder)],
+    table: &LockTables,
+    holder: &Holder,
+    alloc: Global,
+) -> Result<Vec<Key>, AllocError>
+    ensures { IfOk result (λ keys. keys.items ≡ filter (is_held_by table.now holder.now) (map (λ e. e.0) pairs.now)) }
+{
+    let mut keys = Vec::new(alloc);
+    for pair in pairs {
+        if table.is_held_by(holder, &pair.0) {
+            keys.push(pair.0.copy(alloc)?)?;
+        }
+    }
+    Ok(keys)
+}
+
+/// Those of these whose keys the holder does not hold by the table.
+fn other_keys(
+    pairs: &[(Key, Holder)],
+    table: &LockTables,
+    holder: &Holder,
+    alloc: Global,
+) -> Result<Vec<(Key, Holder)>, AllocError>
+    ensures { IfOk result (λ keys. keys.items ≡ filter (λ e. not (is_held_by table.now holder.now e.0)) pairs.now) }
+{
+    let mut keys = Vec::new(alloc);
+    for pair in pairs {
+        if !table.is_held_by(holder, &pair.0) {
+            keys.push((pair.0.copy(alloc)?, pair.1.copy(alloc)?))?;
+        }
+    }
+    Ok(keys)
+}
+
+impl LockTables {
+    /// What a live name has: the client that has it, if one does. None where the name is not live.
+    #[tactic(auto, using(crate::proofs::Maps::under_is_got))]
+    pub(crate) fn name(&self, name: &Name) -> Option<&Option<Name>>
+        ensures { option_copied result ≡ finite.get self.now.names name.now }
+    {
+        name_under(&self.names, name)
+    }
+
+    #[tactic(auto, using(crate::proofs::Maps::under_is_got))]
+    pub(crate) fn holder(&self, key: &Key) -> Option<&Holder>
+        ensures { option_copied result ≡ finite.get self.now.keys key.now }
+    {
+        holder_under(&self.keys, key)
+    }
+
+    /// The number that was told last under the label.
+    #[tactic(auto, using(crate::proofs::Maps::under_is_got))]
+    pub(crate) fn told(&self, label: &Name) -> Option<Seq>
+        ensures { result ≡ finite.get self.now.labels label.now }
+    {
+        number_under(&self.labels, label)
+    }
+
+    pub(crate) fn put_name(&mut self, name: Name, client: Option<Name>) -> Result<(), AllocError>
+        ensures { OnOk result (self.new ≡ with_name self.old name client) }
+    {
+        self.names.insert(0, (name, client))?;
+        Ok(())
+    }
+
+    pub(crate) fn put_key(&mut self, key: Key, holder: Holder) -> Result<(), AllocError>
+        ensures { OnOk result (self.new ≡ with_key self.old key holder) }
+    {
+        self.keys.insert(0, (key, holder))?;
+        Ok(())
+    }
+
+    pub(crate) fn put_label(&mut self, label: Name, n: Seq) -> Result<(), AllocError>
+        ensures { OnOk result (self.new ≡ with_label self.old label n) }
+    {
+        self.labels.insert(0, (label, n))?;
+        Ok(())
+    }
+
+    pub(crate) fn take_key(&mut self, key: &Key)
+        ensures { self.new ≡ without_key self.old key.now }
+    {
+        take_key(&mut self.keys, key);
+    }
+
+    pub(crate) fn is_held_by(&self, holder: &Holder, key: &Key) -> bool
+        ensures { result ≡ is_held_by self.now holder.now key.now }
+    {
+        match self.holder(key) {
+            Some(other) => holder.is_same(other),
+            None => false,
+        }
+    }
+
+    /// The keys that the holder holds, some perhaps twice.
+    #[tactic(auto, using(crate::proofs::NameMaps::keys_filtered))]
+    pub(crate) fn keys_of(&self, holder: &Holder, alloc: Global) -> Result<Vec<Key>, AllocError>
+        ensures { IfOk result (λ keys. set.from_list keys.items ≡ keys_of_holder self.now holder.now) }
+    {
+        held_keys(&self.keys, self, holder, alloc)
+    }
+
+    /// The keys with their holders, but for those of this holder.
+    fn keys_but(&self, holder: &Holder, alloc: Global) -> Result<Vec<(Key, Holder)>, AllocError>
+        ensures { IfOk result (λ keys. finite.from_entries keys.items ≡ finite.retain_keys self.now.keys (λ key. not (is_held_by self.now holder.now key))) }
+    {
+        let keys = other_keys(&self.keys, self, holder, alloc)?;
+        Ok(keys)
+    }
+
+    /// The name goes, with each key that is held for it.
+    pub(crate) fn free_transaction(&mut self, name: Name, alloc: Global) -> Result<(), AllocError>
+        ensures { OnOk result (self.new ≡ without_transaction self.old name) }
+    {
+        take_name(&mut self.names, &name);
+        self.keys = self.keys_but(&Holder::Txn(name), alloc)?;
+        Ok(())
+    }
+}
+
+impl LockTables {
+    pub(crate) fn new(alloc: Global) -> LockTables
+        ensures { result ≡ nothing_locked }
+    {
+        LockTables {
+            names: Vec::new(alloc),
+            keys: Vec::new(alloc),
+            labels: Vec::new(alloc),
+        }
+    }
+}

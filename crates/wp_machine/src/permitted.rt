@@ -1,0 +1,76 @@
+//! Whether a step may be made.
+ghost use Rattle.std.specs.Prelude.{◌≡◌, true, IfOk};
+ghost use Rattle.std.specs.Prelude.{ℕ};
+ghost use Rattle.wp_core.specs.World.{World, Actor};
+ghost use Rattle.wp_machine.specs.Machine.{MayMake, step_of, own_step, tables_step, actors_step};
+ghost use Rattle.wp_machine.specs.Permits.{IsOffered};
+
+mod locks;
+mod reader;
+mod turn;
+mod word;
+mod write;
+
+use crate::actor::Actor;
+use crate::applied::actor_at;
+use crate::step::{ActorsStep, Kind, OwnStep, Step, TablesStep};
+use crate::turn::Turn;
+use crate::world::World;
+
+fn own(actor: &Actor, kind: &OwnStep) -> bool
+    ensures { result ≡ true → (w : World) (by : ℕ) → IsOffered w by actor.now (own_step actor.now.participant kind.now) }
+{
+    match kind {
+        OwnStep::SetBatch(_, _) | OwnStep::Note(_) => false,
+        OwnStep::SetClient(_) => {
+            actor.live
+                && actor.participant.transactions.is_empty()
+                && actor.participant.direct.is_none()
+        }
+    }
+}
+
+fn tables(world: &World, by: usize, kind: &TablesStep) -> bool
+    ensures { result ≡ true → (a : Actor) → IsOffered world.now by a (tables_step kind.now) }
+{
+    match kind {
+        TablesStep::FindFlushed => world.holders.holds(Turn::Tables, by),
+        TablesStep::Install(_, _) | TablesStep::Halt(_) => false,
+    }
+}
+
+fn actors(by: usize, kind: &ActorsStep) -> bool
+    ensures { result ≡ true → (w : World) (a : Actor) → IsOffered w by a (actors_step kind.now) }
+{
+    match kind {
+        ActorsStep::MakeNote => true,
+        ActorsStep::MakeSeat => by == 0,
+    }
+}
+
+/// Whether the actor may make the step of this kind.
+fn offers(world: &World, by: usize, actor: &Actor, kind: &Kind) -> bool
+    ensures { result ≡ true → IsOffered world.now by actor.now (step_of world.now actor.now.participant kind.now) }
+{
+    match kind {
+        Kind::Reader(kind) => reader::reader(world, by, actor, kind),
+        Kind::Word(kind) => word::word(world, by, kind),
+        Kind::Turn(kind) => turn::turn(world, by, actor, kind),
+        Kind::Write(kind) => write::write(world, by, kind),
+        Kind::Locks(kind) => locks::locks(world, by, actor, kind),
+        Kind::Tables(kind) => tables(world, by, kind),
+        Kind::Own(kind) => own(actor, kind),
+        Kind::Actors(kind) => actors(by, kind),
+        Kind::Prepared(_) | Kind::Snapshots(_) | Kind::Store(_) => false,
+    }
+}
+
+/// Whether the step may be made. No is answered also where the test does not decide: see the crate's page.
+pub fn permits(world: &World, step: &Step) -> bool
+    ensures { result ≡ true → MayMake world.now step.now.by step.now.kind }
+{
+    if step.by >= world.actors.len() {
+        return false;
+    }
+    offers(world, step.by, actor_at(world, step.by), &step.kind)
+}

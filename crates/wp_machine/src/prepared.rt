@@ -1,0 +1,172 @@
+ghost use Rattle.std.specs.Prelude.{◌≡◌, not, nat_le, IfOk, OnOk};
+ghost use Rattle.std.specs.Ordering.{nat_cmp};
+ghost use Rattle.wp_core.specs.Tables.{without_prepared, with_moved};
+ghost use Rattle.std.specs.Option.{option_copied};
+ghost use Rattle.std.specs.FinSet as set;
+ghost use Rattle.std.specs.FinMap as finite;
+ghost use Rattle.wp_core.specs.Changes.{found_in};
+ghost use Rattle.wp_model.specs.PreparedTables.{is_prepared, nothing_prepared};
+ghost use Rattle.wp_machine.specs.Pairs.{newest_of};
+
+use std::alloc::{AllocError, Global};
+use std::marker::Model;
+use wp_judge::InPrepared;
+use wp_model::Seq;
+
+/// The prepared heap, the delayed set and the delayed commits. Each is a list whose newest item comes first: of two pairs
+/// of one number the first counts.
+#[derive(Drop)]
+pub struct PreparedTables {
+    pub(crate) heap: Vec<Seq>,
+    pub(crate) delayed: Vec<Seq>,
+    pub(crate) delayed_commits: Vec<(Seq, Seq)>,
+}
+
+impl Model for PreparedTables {
+    ghost use Rattle.std.specs.FinSet as set;
+    ghost use Rattle.std.specs.FinMap as map;
+    ghost use Rattle.wp_model.specs.PreparedTables.{PreparedTables, prepared_tables_code};
+
+    ghost Value = { PreparedTables };
+
+    ghost coded = { prepared_tables_code };
+
+    ghost view = { λ t. record { heap = set.from_list t.heap.items; delayed = set.from_list t.delayed.items; delayed_commits = map.from_entries t.delayed_commits.items } };
+}
+
+impl PreparedTables {
+    pub(crate) fn copy(&self, alloc: Global) -> Result<PreparedTables, AllocError>
+        ensures { IfOk result (λ copy. copy ≡ self.now) }
+    {
+        Ok(PreparedTables {
+            heap: Vec::from_slice(alloc, &self.heap)?,
+            delayed: Vec::from_slice(alloc, &self.delayed)?,
+            delayed_commits: Vec::from_slice(alloc, &self.delayed_commits)?,
+        })
+    }
+}
+
+fn newest_of(pairs: &[(Seq, Seq)], p: Seq) -> Option<Seq>
+    ensures { result ≡ newest_of pairs.now p }
+{
+    for pair in pairs {
+        if pair.0 == p {
+            return Some(pair.1);
+        }
+    }
+    None
+}
+
+impl PreparedTables {
+    #[tactic(auto, using(crate::proofs::Maps::newest_is_got))]
+    pub(crate) fn commit_of(&self, p: Seq) -> Option<Seq>
+        ensures { result ≡ finite.get self.now.delayed_commits p }
+    {
+        newest_of(&self.delayed_commits, p)
+    }
+
+    #[tactic(auto, using(crate::proofs::Maps::contains_number))]
+    pub(crate) fn is_delayed(&self, p: Seq) -> bool
+        ensures { result ≡ set.contains self.now.delayed p }
+    {
+        self.delayed.contains(&p)
+    }
+
+    #[tactic(auto, using(crate::proofs::Maps::contains_number))]
+    pub(crate) fn is_in_heap(&self, p: Seq) -> bool
+        ensures { result ≡ set.contains self.now.heap p }
+    {
+        self.heap.contains(&p)
+    }
+
+    pub(crate) fn is_prepared(&self, p: Seq) -> bool
+        ensures { result ≡ is_prepared self.now p }
+    {
+        self.is_in_heap(p) || self.is_delayed(p)
+    }
+
+    /// What a reader of `p` finds.
+    pub(crate) fn found(&self, p: Seq) -> InPrepared
+        ensures { result ≡ found_in (set.contains self.now.delayed p) (finite.get self.now.delayed_commits p) }
+    {
+        match self.commit_of(p) {
+            Some(c) => InPrepared::Decided(c),
+            None if self.is_delayed(p) => InPrepared::Delayed,
+            None => InPrepared::Absent,
+        }
+    }
+}
+
+fn take_from(numbers: &mut Vec<Seq>, p: Seq)
+    ensures { set.from_list {R = nat_cmp} numbers.new.items ≡ set.remove (set.from_list numbers.old.items) p }
+{
+    numbers.retain(|q| *q != p);
+}
+
+fn take_pair(pairs: &mut Vec<(Seq, Seq)>, p: Seq)
+    ensures { finite.from_entries {R = nat_cmp} pairs.new.items ≡ finite.remove (finite.from_entries pairs.old.items) p }
+{
+    pairs.retain(|pair| pair.0 != p);
+}
+
+/// Those of the first that are at most `m` go to the second.
+fn move_up_to(heap: &mut Vec<Seq>, delayed: &mut Vec<Seq>, m: Seq) -> Result<(), AllocError>
+    ensures heap { OnOk result (set.from_list {R = nat_cmp} heap.new.items ≡ set.retain (set.from_list heap.old.items) (λ p. not (nat_le p m))) }
+    ensures delayed { OnOk result (set.from_list {R = nat_cmp} delayed.new.items ≡ set.union (set.from_list delayed.old.items) (set.retain (set.from_list heap.old.items) (λ p. nat_le p m))) }
+{
+    for p in heap.iter() {
+        if *p <= m {
+            delayed.push(*p)?;
+        }
+    }
+    heap.retain(|p| *p > m);
+    Ok(())
+}
+
+impl PreparedTables {
+    pub(crate) fn add(&mut self, p: Seq) -> Result<(), AllocError>
+        ensures { OnOk result (self.new ≡ record self.old { heap = set.insert self.old.heap p }) }
+    {
+        self.heap.insert(0, p)?;
+        Ok(())
+    }
+
+    pub(crate) fn take_from_heap(&mut self, p: Seq)
+        ensures { self.new ≡ record self.old { heap = set.remove self.old.heap p } }
+    {
+        take_from(&mut self.heap, p);
+    }
+
+    pub(crate) fn commit(&mut self, p: Seq, c: Seq) -> Result<(), AllocError>
+        ensures { OnOk result (self.new ≡ record self.old { delayed_commits = finite.insert self.old.delayed_commits p c }) }
+    {
+        self.delayed_commits.insert(0, (p, c))?;
+        Ok(())
+    }
+
+    pub(crate) fn take_out(&mut self, p: Seq)
+        ensures { self.new ≡ without_prepared self.old p }
+    {
+        take_from(&mut self.heap, p);
+        take_from(&mut self.delayed, p);
+        take_pair(&mut self.delayed_commits, p);
+    }
+
+    pub(crate) fn move_up_to(&mut self, m: Seq) -> Result<(), AllocError>
+        ensures { OnOk result (self.new ≡ with_moved self.old m) }
+    {
+        move_up_to(&mut self.heap, &mut self.delayed, m)
+    }
+}
+
+impl PreparedTables {
+    pub(crate) fn new(alloc: Global) -> PreparedTables
+        ensures { result ≡ nothing_prepared }
+    {
+        PreparedTables {
+            heap: Vec::new(alloc),
+            delayed: Vec::new(alloc),
+            delayed_commits: Vec::new(alloc),
+        }
+    }
+}

@@ -1,0 +1,172 @@
+ghost use Rattle.std.specs.Prelude.{◌≡◌, ◌++◌, [], None, false, IfOk, OnOk};
+ghost use Rattle.wp_core.specs.Effects.{with_failed};
+ghost use Rattle.wp_machine.specs.Machine.{without_number};
+
+use crate::copies::copy_versions;
+use crate::versions::take_number;
+use std::alloc::{AllocError, Global};
+use std::marker::Model;
+use wp_model::{Seq, Version};
+
+/// The versions in memory and in tables, and the floor: at each number from it on a reader finds all that it needs.
+#[derive(Drop)]
+pub struct StoreTable {
+    pub(crate) memory: Vec<Version>,
+    pub(crate) tables: Vec<Version>,
+    pub(crate) floor: Seq,
+}
+
+impl Model for StoreTable {
+    ghost use Rattle.wp_core.specs.Tables.{StoreTable};
+
+    ghost Value = { StoreTable };
+
+    ghost view = { λ t. record { memory = t.memory.items; tables = t.tables.items; floor = t.floor } };
+}
+
+/// What an installed edit says: the flushed number, the versions of its tables, and how many tables these are.
+#[derive(Drop)]
+pub struct InstalledEdit {
+    pub(crate) flushed: Seq,
+    pub(crate) versions: Vec<Version>,
+    pub(crate) tables: u64,
+}
+
+impl Model for InstalledEdit {
+    ghost use Rattle.wp_core.specs.Tables.{InstalledEdit};
+
+    ghost Value = { InstalledEdit };
+
+    ghost view = { λ e. record { flushed = e.flushed; versions = e.versions.items; tables = e.tables } };
+}
+
+/// The last edit, the one whose install failed, if one did, and whether the devices of the tables failed.
+#[derive(Drop)]
+pub struct Installed {
+    pub(crate) last: InstalledEdit,
+    pub(crate) failed: Option<InstalledEdit>,
+    pub(crate) halted: bool,
+}
+
+impl Model for Installed {
+    ghost use Rattle.wp_core.specs.Tables.{Installed};
+
+    ghost Value = { Installed };
+
+    ghost view = { λ t. record { last = t.last; failed = t.failed; halted = t.halted } };
+}
+
+impl StoreTable {
+    pub(crate) fn copy(&self, alloc: Global) -> Result<StoreTable, AllocError>
+        ensures { IfOk result (λ copy. copy ≡ self.now) }
+    {
+        Ok(StoreTable {
+            memory: copy_versions(&self.memory, alloc)?,
+            tables: copy_versions(&self.tables, alloc)?,
+            floor: self.floor,
+        })
+    }
+}
+
+impl InstalledEdit {
+    pub(crate) fn copy(&self, alloc: Global) -> Result<InstalledEdit, AllocError>
+        ensures { IfOk result (λ copy. copy ≡ self.now) }
+    {
+        Ok(InstalledEdit {
+            flushed: self.flushed,
+            versions: copy_versions(&self.versions, alloc)?,
+            tables: self.tables,
+        })
+    }
+}
+
+fn copy_failed(
+    edit: &Option<InstalledEdit>,
+    alloc: Global,
+) -> Result<Option<InstalledEdit>, AllocError>
+    ensures { IfOk result (λ copy. copy ≡ edit.now) }
+{
+    match edit {
+        Some(edit) => Ok(Some(edit.copy(alloc)?)),
+        None => Ok(None),
+    }
+}
+
+impl Installed {
+    pub(crate) fn copy(&self, alloc: Global) -> Result<Installed, AllocError>
+        ensures { IfOk result (λ copy. copy ≡ self.now) }
+    {
+        Ok(Installed {
+            last: self.last.copy(alloc)?,
+            failed: copy_failed(&self.failed, alloc)?,
+            halted: self.halted,
+        })
+    }
+}
+
+impl Installed {
+    pub(crate) fn halt(&mut self, edit: Option<InstalledEdit>)
+        ensures { self.new ≡ with_failed self.old edit }
+    {
+        if edit.is_some() {
+            self.failed = edit;
+        }
+        self.halted = true;
+    }
+}
+
+impl StoreTable {
+    /// Memory has no versions with that number any more.
+    pub(crate) fn take_number(&mut self, n: Seq)
+        ensures { self.new ≡ record self.old { memory = without_number n self.old.memory } }
+    {
+        take_number(&mut self.memory, n);
+    }
+
+    /// Memory has just these versions under that number.
+    pub(crate) fn add_next(&mut self, versions: Vec<Version>, n: Seq) -> Result<(), AllocError>
+        ensures { OnOk result (self.new ≡ record self.old { memory = versions.items ++ without_number n self.old.memory }) }
+    {
+        let mut memory = versions;
+        take_number(&mut self.memory, n);
+        memory.append(&mut self.memory)?;
+        self.memory = memory;
+        Ok(())
+    }
+}
+
+impl StoreTable {
+    pub(crate) fn new(alloc: Global) -> StoreTable
+        ensures { result ≡ record { memory = []; tables = []; floor = 0 } }
+    {
+        StoreTable {
+            memory: Vec::new(alloc),
+            tables: Vec::new(alloc),
+            floor: 0,
+        }
+    }
+}
+
+impl InstalledEdit {
+    pub(crate) fn new(alloc: Global) -> InstalledEdit
+        ensures { result ≡ record { flushed = 0; versions = []; tables = 0 } }
+    {
+        InstalledEdit {
+            flushed: 0,
+            versions: Vec::new(alloc),
+            tables: 0,
+        }
+    }
+}
+
+impl Installed {
+    pub(crate) fn new(alloc: Global) -> Installed
+        ensures { result ≡ record { last = record { flushed = 0; versions = []; tables = 0 }; failed = None; halted = false } }
+    {
+        Installed {
+            last: InstalledEdit::new(alloc),
+            failed: None,
+            halted: false,
+        }
+    }
+}

@@ -1,0 +1,140 @@
+ghost use Rattle.std.specs.Prelude.{◌≡◌};
+
+use crate::turn::Turn;
+use std::marker::Model;
+use wp_model::{Batch, Holder, Key, Name, Seq, Version};
+
+/// How a holder that was found is accounted for: the finder's own, another actor's, or a prepare undecided after so many
+/// entries.
+#[derive(Clone, Copy, Debug, PartialEq, Eq)]
+pub enum Account {
+    Own,
+    Another,
+    PrepareAt(Seq),
+}
+
+/// What an actor did or found.
+#[derive(Drop)]
+pub enum Found {
+    Claimed(Name),
+    Took(Name),
+    Locked(Key, Holder),
+    Told(Name, Seq),
+    Heard(Name, Seq),
+    /// An edit with this flushed number and so many tables; true where a compaction made it.
+    Installed(Seq, u64, bool),
+    LogFailed,
+    TablesFailed,
+    /// The log was found closed at this published number.
+    Stopped(Seq),
+    Flushed(Seq),
+    /// This holder, of a key or else of a live name, by one who had seen so many entries.
+    Holder(Option<Key>, Holder, Seq, Account),
+}
+
+/// What stays in an actor's past.
+#[derive(Drop)]
+pub struct Event {
+    pub(crate) what: Found,
+}
+
+impl Model for Event {
+    ghost use Rattle.wp_core.specs.Views.{Event};
+
+    ghost Value = { Event };
+
+    ghost use Rattle.wp_machine.specs.Parts.{event_of};
+
+    ghost view = { λ e. event_of e.what };
+}
+
+impl Event {
+    ghost use Rattle.wp_machine.specs.Parts.{event_of};
+
+    pub(crate) fn of(what: Found) -> Event
+        ensures { result ≡ event_of what }
+    {
+        Event { what }
+    }
+}
+
+/// What an actor may note.
+#[derive(Drop)]
+pub enum Noted {
+    /// The pair of the word at this place may be evicted: its decision is at most the bound.
+    Passed(usize, Seq, Seq),
+    /// The old commit map has it under each live snapshot that it overlaps.
+    InOldCommits(usize, Seq, Seq),
+    /// It is of no prepared transaction, or a delayed commit.
+    Apart(usize, Seq, Seq),
+    /// Nobody else changes the bound or a word.
+    WordsStay(Seq, Vec<u64>),
+    VersionsInMemory,
+    VersionsNowhere,
+    NumberInHeap,
+    NumberNotInHeap,
+    UndecidedAt(Name, Seq),
+    PriorValues(Name, Seq, Batch),
+    Unprepared(Name),
+    DirectFree(Key),
+    TablesStay(Vec<Version>, Seq),
+    LiveListed(Seq, Vec<Seq>),
+    NothingFlushed,
+    FrozenStay(Seq, Vec<Version>),
+    DelayedFlagStays(u64),
+    OldFlagStays(u64),
+}
+
+/// A fact that an actor noted.
+#[derive(Drop)]
+pub struct Fact {
+    pub(crate) says: Noted,
+}
+
+impl Model for Fact {
+    ghost use Rattle.wp_core.specs.Views.{Fact};
+
+    ghost Value = { Fact };
+
+    ghost use Rattle.wp_machine.specs.Parts.{fact_of};
+
+    ghost view = { λ f. fact_of f.says };
+}
+
+impl Fact {
+    ghost use Rattle.std.specs.Prelude.{option_map};
+    ghost use Rattle.wp_core.specs.Sound.Views.{guarded_by};
+    ghost use Rattle.wp_machine.specs.Parts.{turn_of, fact_of};
+
+    pub(crate) fn of(says: Noted) -> Fact
+        ensures { result ≡ fact_of says }
+    {
+        Fact { says }
+    }
+
+    /// The turn under which it stays so; none: without a turn.
+    pub(crate) fn guard(&self) -> Option<Turn>
+        ensures { option_map turn_of result ≡ guarded_by self.now }
+    {
+        match &self.says {
+            Noted::UndecidedAt(_, _)
+            | Noted::PriorValues(_, _, _)
+            | Noted::Unprepared(_)
+            | Noted::DirectFree(_)
+            | Noted::LiveListed(_, _) => None,
+            Noted::TablesStay(_, _) | Noted::NothingFlushed | Noted::FrozenStay(_, _) => {
+                Some(Turn::Tables)
+            }
+            Noted::DelayedFlagStays(_) => Some(Turn::Prepared),
+            Noted::OldFlagStays(_) => Some(Turn::Snapshots),
+            Noted::Passed(_, _, _)
+            | Noted::InOldCommits(_, _, _)
+            | Noted::Apart(_, _, _)
+            | Noted::WordsStay(_, _)
+            | Noted::VersionsInMemory
+            | Noted::VersionsNowhere
+            | Noted::NumberInHeap
+            | Noted::NumberNotInHeap => Some(Turn::Write),
+        }
+    }
+}

@@ -1,0 +1,151 @@
+ghost use Rattle.std.specs.Prelude.{◌≡◌, suc, true, false, [], ◌++◌, length, IfOk, OnOk, option_map};
+ghost use Rattle.std.specs.Option.{option_copied};
+ghost use Rattle.wp_model.specs.History.{entry_at, batch_at, prepared_batch};
+ghost use Rattle.wp_judge.specs.Words.{numbers_of};
+ghost use Rattle.wp_core.specs.Entries.{pair_by, pending_pair};
+ghost use Rattle.wp_machine.specs.Machine.{with_next};
+
+use crate::copies::copy_entries;
+use std::alloc::{AllocError, Global};
+use std::marker::Model;
+use wp_model::{Batch, Entry, Seq};
+
+/// The history and its log. What is pending is what is left of one record, the entry that comes next first.
+#[derive(Drop)]
+pub struct WriteTable {
+    pub(crate) history: Vec<Entry>,
+    pub(crate) pending: Vec<Entry>,
+    pub(crate) logged: bool,
+    pub(crate) log: Vec<Entry>,
+    pub(crate) closed: bool,
+    pub(crate) failed: Vec<Entry>,
+}
+
+impl Model for WriteTable {
+    ghost use Rattle.wp_core.specs.Tables.{WriteTable};
+
+    ghost Value = { WriteTable };
+
+    ghost view = { λ t. record { history = t.history.items; pending = t.pending.items; logged = t.logged; log = t.log.items; closed = t.closed; failed = t.failed.items } };
+}
+
+impl WriteTable {
+    pub(crate) fn copy(&self, alloc: Global) -> Result<WriteTable, AllocError>
+        ensures { IfOk result (λ copy. copy ≡ self.now) }
+    {
+        Ok(WriteTable {
+            history: copy_entries(&self.history, alloc)?,
+            pending: copy_entries(&self.pending, alloc)?,
+            logged: self.logged,
+            log: copy_entries(&self.log, alloc)?,
+            closed: self.closed,
+            failed: copy_entries(&self.failed, alloc)?,
+        })
+    }
+}
+
+/// The version that the entry with that number decides, and that number.
+pub(crate) fn pair_by(n: Seq, entry: &Entry) -> Option<(Seq, Seq)>
+    ensures { result ≡ option_map numbers_of (pair_by n entry.now) }
+{
+    match entry {
+        Entry::Write(_) | Entry::Undo(_, _) => Some((n, n)),
+        Entry::Commit(p) | Entry::Close(p) => Some((*p, n)),
+        Entry::Prepare(_, _) => None,
+    }
+}
+
+impl WriteTable {
+    pub(crate) fn published(&self) -> Seq
+        ensures { result ≡ length self.now.history }
+    {
+        self.history.len() as Seq
+    }
+
+    /// The number of the entry that comes next.
+    pub(crate) fn next_number(&self) -> Result<Seq, AllocError>
+        ensures { IfOk result (λ n. n ≡ suc (length self.now.history)) }
+    {
+        self.published().checked_add(1).ok_or(AllocError)
+    }
+
+    pub(crate) fn pending_pair(&self) -> Result<Option<(Seq, Seq)>, AllocError>
+        ensures { IfOk result (λ pair. pair ≡ option_map numbers_of (pending_pair self.now.history self.now.pending)) }
+    {
+        let n = self.next_number()?;
+        Ok(match self.pending.first() {
+            Some(entry) => pair_by(n, entry),
+            None => None,
+        })
+    }
+
+    /// The first of the pending entries joins the history.
+    pub(crate) fn publish(&mut self) -> Result<(), AllocError>
+        ensures { OnOk result (self.new ≡ with_next self.old self.old.pending) }
+    {
+        if !self.pending.is_empty() {
+            let entry = self.pending.remove(0);
+            self.history.push(entry)?;
+        }
+        Ok(())
+    }
+
+    pub(crate) fn log_pending(&mut self, alloc: Global) -> Result<(), AllocError>
+        ensures { OnOk result (self.new ≡ record self.old { logged = true; log = self.old.log ++ self.old.pending }) }
+    {
+        let mut logged = copy_entries(&self.pending, alloc)?;
+        self.log.append(&mut logged)?;
+        self.logged = true;
+        Ok(())
+    }
+
+    pub(crate) fn close_log(&mut self, alloc: Global) -> Result<(), AllocError>
+        ensures { OnOk result (self.new ≡ record self.old { closed = true; failed = self.old.pending }) }
+    {
+        self.failed = copy_entries(&self.pending, alloc)?;
+        self.closed = true;
+        Ok(())
+    }
+}
+
+/// The batch of the prepare with that number: an empty one where it is no prepare.
+fn batch_of(entry: Option<&Entry>, alloc: Global) -> Result<Batch, AllocError>
+    ensures { IfOk result (λ batch. batch ≡ prepared_batch (option_copied entry.entry)) }
+{
+    match entry {
+        Some(Entry::Prepare(_, batch)) => batch.copy(alloc),
+        _ => Ok(Batch::new(alloc)),
+    }
+}
+
+/// The entry with that number, if there is one.
+pub(crate) fn entry_at(entries: &[Entry], n: Seq) -> Option<&Entry>
+    ensures { option_copied result ≡ entry_at entries.now n }
+{
+    let before = n.checked_sub(1)?;
+    entries.get(usize::try_from(before).ok()?)
+}
+
+impl WriteTable {
+    pub(crate) fn batch_at(&self, p: Seq, alloc: Global) -> Result<Batch, AllocError>
+        ensures { IfOk result (λ batch. batch ≡ batch_at self.now.history p) }
+    {
+        batch_of(entry_at(&self.history, p), alloc)
+    }
+}
+
+impl WriteTable {
+    /// Of the empty history.
+    pub(crate) fn new(alloc: Global) -> WriteTable
+        ensures { result ≡ record { history = []; pending = []; logged = false; log = []; closed = false; failed = [] } }
+    {
+        WriteTable {
+            history: Vec::new(alloc),
+            pending: Vec::new(alloc),
+            logged: false,
+            log: Vec::new(alloc),
+            closed: false,
+            failed: Vec::new(alloc),
+        }
+    }
+}
