@@ -1,19 +1,19 @@
 -- What the order of versions says of what is under a key and a number.
 use Rattle.std.proofs.Common.{◌≡◌, ℕ, zero, suc, ◌<◌, ◌≤◌, Bool, true, false, ◌==◌, ◌&&◌, cond, Less, Equal, Greater, List, [], ◌∷◌, length, get_or, Some, None, Err, refl, sym, ap, ◌∙◌, inl, inr, arith}
 use Rattle.std.specs.declared.cmp.Ordering.{Ordering}
-use Rattle.std.specs.Cmp.{IsTotalOrder, Equal-is, tied_then}
+use Rattle.std.specs.Cmp.{Equal-is, tied_then}
 use Rattle.std.specs.Ordering.{nat_cmp, ordering_then, ordering_index, is_eq}
 use Rattle.std.specs.Str.{bytes_eq}
 use Rattle.std.specs.List.Sorted.{IsNonDecreasingBy, IsBinarySearchResult}
 use Rattle.std.proofs.lemmas.Bool.{cases_lt, and_parts, and_from, eqb-true, eq-eqb}
 use Rattle.std.proofs.lemmas.Bool.Decides.{nat_tests}
-use Rattle.std.proofs.lemmas.Cmp.{ranked, tied_itself, alike_right, nat_list_cmp_total, nat_cmp_total, then_total, on_total, back_total}
+use Rattle.std.proofs.lemmas.Cmp.{ranked, tied_itself, alike_right, nat_list_cmp_total}
 use Rattle.std.proofs.lemmas.Map.Text.{is_eq-slice_cmp}
 use Rattle.std.proofs.lemmas.Slice.Eq.{bytes_eq-Decides}
 use Rattle.wp_model.specs.declared.version.Version.{Version}
 use Rattle.wp_model.specs.Batch.{key_cmp}
 use Rattle.wp_model.specs.Versions.{AreInOrder, version_cmp, version_at}
-use Rattle.wp_model.proofs.VersionLists.{IsBefore, in_order_parts}
+use Rattle.wp_model.proofs.VersionLists.{IsBefore, in_order_parts, version_total}
 use Rattle.wp_cover.specs.Present.{place_cmp}
 
 pub same_key : (a b : List ℕ) → bytes_eq a b ≡ true → a ≡ b
@@ -61,9 +61,6 @@ module _ (key : List ℕ) (n : ℕ) where
   -- the place itself, as a version
   abbrev place : Version
   place = record { key = key; number = n; value = None }
-
-  version_total : IsTotalOrder version_cmp
-  version_total = then_total (on_total (λ (v : Version). v.key) nat_list_cmp_total) (on_total (λ (v : Version). v.number) (back_total nat_cmp_total))
 
   nat_equal : (a b : ℕ) → is_eq (nat_cmp a b) ≡ (b == a)
   nat_equal a b = grind (arith, nat_tests)
