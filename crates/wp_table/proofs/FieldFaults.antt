@@ -1,25 +1,20 @@
 -- Faults of a table's fields: what is refused has the fault, and what has a fault is refused for it.
-use Rattle.std.proofs.Common.{◌≡◌, ℕ, zero, suc, ◌^◌, ◌<◌, ◌≤◌, Bool, true, false, cond, leb, ltb, eqb, ◌&&◌, List, [], ◌∷◌, ◌++◌, length, take, Option, Some, None, Result, Ok, Err, refl, sym, ap, subst, ◌∙◌, append_assoc, arith, inl, inr, ◌⊎◌}
-use Rattle.std.specs.Prelude.{codes}
-use Rattle.std.specs.Int.{Width, w16, w32, w64, byte_len, to_be_bytes}
-use Rattle.std.proofs.lemmas.Bool.{and_parts}
+use Rattle.std.proofs.Common.{◌≡◌, ℕ, zero, suc, ◌^◌, Bool, true, false, leb, ◌&&◌, List, [], ◌∷◌, ◌++◌, Some, None, Result, Ok, Err, refl, sym, ap, ◌∙◌, append_assoc, inl, inr}
+use Rattle.std.specs.Int.{Width, w32, to_be_bytes}
 use Rattle.wp_model.specs.declared.version.Version.{Version}
-use Rattle.wp_model.specs.Word.{is_word}
 use Rattle.wp_fields.specs.Reading.{◌>>=◌, map_err, number_at}
-use Rattle.wp_fields.proofs.Results.{bind_err, chosen, ok_or_err, err_is, map_failed, map_ok}
-use Rattle.wp_fields.proofs.FieldLemmas.{AreBytes, Begins, Begins-byte, AreFields, number_takes, number_fails, number_again, number_short, fields_32}
-use Rattle.wp_encoding.specs.declared.error.EncodingError.{EncodingError}
+use Rattle.wp_fields.proofs.Results.{bind_err, ok_or_err, err_is, map_failed, map_ok}
+use Rattle.wp_fields.proofs.FieldLemmas.{AreBytes, Begins-byte, AreFields, number_takes, number_fails, number_again, number_short, fields_32}
 use Rattle.wp_encoding.specs.Encoding.{word_bytes}
 use Rattle.wp_encoding.specs.Reading.{word_field_at, value_field_at}
 use Rattle.wp_encoding.proofs.WordLemmas.{word_takes, word_again, word_fails, word_refused, value_fails, value_refused}
 use Rattle.wp_table.specs.declared.error.TableError.{TableError}
 use Rattle.wp_table.specs.declared.error.TableError.TheVariants.{Short, Number, Order, Word}
 use Rattle.wp_table.specs.Errors.{table_error}
-use Rattle.wp_table.specs.Table.{is_numbered, is_flushed}
 use Rattle.wp_table.specs.Reading.{if_right, flushed_number_at, stored_at, is_after_last, next_place_at, next_version_at}
 use Rattle.wp_table.specs.Faults.{IsNumberFault, ends, is_wrong, IsStoredFault, HasPlace, IsVersionFault, in_key, in_number, out_of_order, in_value}
 use Rattle.wp_table.proofs.Order.{after_last-any_value}
-use Rattle.wp_table.proofs.VersionLemmas.{Stored, put_value, place_after, with_value, flushed_number_takes, flushed_number_again, place_takes, stored_takes}
+use Rattle.wp_table.proofs.VersionLemmas.{Stored, put_value, place_after, with_value, flushed_number_takes, flushed_number_again, place_takes}
 
 -- what was read was wrong
 pub was_wrong : {X : Type 0} (right : Bool) (named fault : TableError) (read : X) → if_right right named read ≡ Err fault → (right ≡ false) × (named ≡ fault)
@@ -88,7 +83,7 @@ place_fails flushed before bytes fault h e =
           elim (bind_err (flushed_number_at flushed there.0.1) (place_after before there.0.0) fault there.2) [
             | inl wrong ↦
                 in_number there.0.0 there.0.1 (record { parts = word.0.parts; in_range = word.1 })
-                  (tested_fails w32 (2 ^ 32) fields_32 (λ n. leb 1 n && leb n flushed) (λ _. Number) (λ n. n) there.0.1 fault word.0.rest_bytes wrong)
+                (tested_fails w32 (2 ^ 32) fields_32 (λ n. leb 1 n && leb n flushed) (λ _. Number) (λ n. n) there.0.1 fault word.0.rest_bytes wrong)
             | inr read ↦
                 let n = flushed_number_takes flushed there.0.1 read.0 word.0.rest_bytes read.1 in
                 let v : Version = record { key = there.0.0; number = read.0.0; value = None } in

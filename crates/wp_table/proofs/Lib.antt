@@ -8,3 +8,4 @@ pub mod Lookup
 pub mod NextBlock
 pub mod FieldFaults
 pub mod TableFaults
+pub mod WholeFaults

@@ -1,27 +1,25 @@
 -- Faults of blocks, places and whole tables: what is refused has the fault, and what has a fault is refused for it.
-use Rattle.std.proofs.Common.{◌≡◌, ℕ, zero, suc, ◌+◌, ◌-◌, ◌*◌, ◌^◌, ◌<◌, ◌≤◌, min, true, false, cond, eqb, leb, ltb, ◌&&◌, List, [], ◌∷◌, ◌++◌, length, take, drop, Result, Ok, Err, refl, sym, ap, subst, ◌∙◌, append_assoc, arith, inl, inr, ◌⊎◌}
-use Rattle.std.specs.Prelude.{codes}
-use Rattle.std.specs.Int.{w16, w32, w64, to_be_bytes}
+use Rattle.std.proofs.Common.{◌≡◌, ℕ, zero, suc, ◌-◌, ◌*◌, ◌^◌, ◌<◌, min, true, eqb, List, [], ◌∷◌, ◌++◌, length, take, drop, Result, Ok, Err, refl, sym, ap, subst, ◌∙◌, append_assoc, arith, inl, inr}
+use Rattle.std.specs.Int.{w16, w64, to_be_bytes}
 use Rattle.std.specs.List.{AllByRecursion, flat_map, list_all}
-use Rattle.std.specs.Str.{bytes_eq}
-use Rattle.std.proofs.lemmas.Bool.{eqb-true, eq-eqb, leb-true, le-leb, and_parts, and_from}
+use Rattle.std.proofs.lemmas.Bool.{eqb-true, eq-eqb, and_parts, and_from}
 use Rattle.std.proofs.lemmas.List.{append-nil, length-append, take_at, drop_at, nil_from_length, take-append-drop, length-take, length-drop}
 use Rattle.std.proofs.lemmas.List.Folds.{list_all-append}
 use Rattle.wp_model.specs.declared.version.Version.{Version}
 use Rattle.wp_model.specs.Versions.{AreInOrder}
-use Rattle.wp_fields.specs.Reading.{◌>>=◌, byte_at, number_at, piece_at}
-use Rattle.wp_fields.proofs.Results.{bind_ok, bind_err, either, ok_or_err, err_is}
-use Rattle.wp_fields.proofs.FieldLemmas.{AreBytes, Begins, Begins-then, Begins-piece, byte_takes, byte_fails, piece_takes, piece_fails, piece_there, piece_short, number_takes, number_again, fields_16, fields_32}
+use Rattle.wp_fields.specs.Reading.{◌>>=◌, number_at}
+use Rattle.wp_fields.proofs.Results.{bind_ok, bind_err, ok_or_err}
+use Rattle.wp_fields.proofs.FieldLemmas.{AreBytes, Begins, Begins-then, number_takes, number_again, fields_16}
 use Rattle.wp_table.specs.declared.layout.TheConstants.{BLOCK}
 use Rattle.wp_table.specs.declared.error.TableError.{TableError}
-use Rattle.wp_table.specs.declared.error.TableError.TheVariants.{Memory, Short, Head, Stranger, Count, Word, Number, Order, Index, Extra}
-use Rattle.wp_table.specs.Table.{version_bytes, block_bytes, block_count, blocks_in, blocks_of, places_from, head_bytes, table_bytes, is_version, IsTable}
-use Rattle.wp_table.specs.Reading.{if_right, next_version_at, versions_after, block_after, blocks_after, after_place, after_places, table_at}
+use Rattle.wp_table.specs.declared.error.TableError.TheVariants.{Short, Count, Index}
+use Rattle.wp_table.specs.Table.{version_bytes, block_bytes, block_count, blocks_in, is_version}
+use Rattle.wp_table.specs.Reading.{if_right, next_version_at, versions_after, block_after, blocks_after, after_place, after_places}
 use Rattle.wp_table.specs.Faults.{IsNumberFault, IsVersionFault, IsBlockFault, in_count, in_versions, IsBlocksFault, FitsField, IsPlacesFault}
 use Rattle.wp_table.proofs.Order.{in_order_push, after_from_order, in_order_front, in_order_nil}
 use Rattle.wp_table.proofs.Parts.{was_right, fields_64}
-use Rattle.wp_table.proofs.VersionLemmas.{IsNext, version_takes, version_again, versions_take}
-use Rattle.wp_table.proofs.BlockLemmas.{Found, no_blocks, some_left, blocks_left, one_block, block_takes, block_again}
+use Rattle.wp_table.proofs.VersionLemmas.{IsNext, version_takes, version_again}
+use Rattle.wp_table.proofs.BlockLemmas.{Found, no_blocks, some_left, blocks_left, block_takes, block_again}
 use Rattle.wp_table.proofs.Whole.{place_takes}
 use Rattle.wp_table.proofs.FieldFaults.{tested_fails, tested_refused, version_fails, version_refused}
 
@@ -95,9 +93,9 @@ count_tested count bytes = number_at Short w16 bytes >>= λ found. if_right (eqb
 block_in_steps : (count flushed : ℕ) (before : List Version) (bytes : List ℕ) → block_after count flushed before bytes ≡ (count_tested count bytes >>= versions_after count flushed before)
 unfolding block_after
 block_in_steps count flushed before bytes = elim (number_at Short w16 bytes) as (λ r. (r >>= λ found. if_right (eqb found.0 count) Count found.1 >>= versions_after count flushed before) ≡ ((r >>= λ found. if_right (eqb found.0 count) Count found.1) >>= versions_after count flushed before)) [
-      | Ok found ↦ refl
-      | Err fault ↦ refl
-    ]
+  | Ok found ↦ refl
+  | Err fault ↦ refl
+]
 
 count_takes : (count : ℕ) (bytes rest : List ℕ) → AreBytes bytes → count_tested count bytes ≡ Ok rest → Begins bytes (to_be_bytes w16 count) rest
 count_takes count bytes rest h e =
@@ -195,7 +193,7 @@ blocks_refused zero more (suc blocks) size flushed left before places rest fault
     let all : before ++ more ≡ before = ap (λ (t : List Version). before ++ t) none ∙ append-nil before in
     let count : min (left - length more) BLOCK ≡ min left BLOCK = omega (arith, full) in
     let next : IsBlockFault (min left BLOCK) flushed before rest fault =
-        subst (λ (n : ℕ). IsBlockFault n flushed before rest fault) count (subst (λ (vs : List Version). IsBlockFault (min (left - length more) BLOCK) flushed vs rest fault) all wrong) in
+    subst (λ (n : ℕ). IsBlockFault n flushed before rest fault) count (subst (λ (vs : List Version). IsBlockFault (min (left - length more) BLOCK) flushed vs rest fault) all wrong) in
     rw (block_refused (min left BLOCK) flushed before rest fault (omega arith) next) refl
 blocks_refused (suc right) more (suc blocks) size flushed left before places rest fault is full fewer order range wrong =
     let block = take BLOCK more in
@@ -209,11 +207,11 @@ blocks_refused (suc right) more (suc blocks) size flushed left before places res
     let text = flat_map block_bytes (blocks_in right others) in
     let regrouped : (block_bytes block ++ text) ++ rest ≡ block_bytes block ++ (text ++ rest) = append_assoc (block_bytes block) text rest in
     let one : block_after (min left BLOCK) flushed before ((block_bytes block ++ text) ++ rest) ≡ Ok (before ++ block, text ++ rest) =
-        ap (λ (n : ℕ). block_after n flushed before ((block_bytes block ++ text) ++ rest)) (sym counted) ∙ ap (block_after (length block) flushed before) regrouped
-        ∙ block_again block flushed before (text ++ rest) (omega (arith, counted)) (in_order_front (before ++ block) others whole_order) ranges.0 in
+    ap (λ (n : ℕ). block_after n flushed before ((block_bytes block ++ text) ++ rest)) (sym counted) ∙ ap (block_after (length block) flushed before) regrouped
+    ∙ block_again block flushed before (text ++ rest) (omega (arith, counted)) (in_order_front (before ++ block) others whole_order) ranges.0 in
     let count : min (left - length more) BLOCK ≡ min (left - min left BLOCK - length others) BLOCK = omega (arith, full, fewer, left_over) in
     let next : IsBlockFault (min (left - min left BLOCK - length others) BLOCK) flushed ((before ++ block) ++ others) rest fault =
-        subst (λ (n : ℕ). IsBlockFault n flushed ((before ++ block) ++ others) rest fault) count (subst (λ (vs : List Version). IsBlockFault (min (left - length more) BLOCK) flushed vs rest fault) all wrong) in
+    subst (λ (n : ℕ). IsBlockFault n flushed ((before ++ block) ++ others) rest fault) count (subst (λ (vs : List Version). IsBlockFault (min (left - length more) BLOCK) flushed vs rest fault) all wrong) in
     let after = blocks_refused right others blocks size flushed (left - min left BLOCK) (before ++ block) (places ++ (size - length ((block_bytes block ++ text) ++ rest)) ∷ []) rest fault (blocks_left left blocks is) left_over (omega (arith, full, fewer, left_over)) whole_order ranges.1 next in
     rw one after
 

@@ -9,7 +9,6 @@ use Rattle.std.proofs.lemmas.Bool.{eqb-true, eq-eqb, ne_eqb, leb-true, le-leb}
 use Rattle.std.proofs.lemmas.List.{nil_from_length, append-nil, length-append}
 use Rattle.std.proofs.lemmas.Slice.Eq.{bytes_eq-Decides}
 use Rattle.wp_model.specs.declared.version.Version.{Version}
-use Rattle.wp_model.specs.Versions.{AreInOrder}
 use Rattle.wp_fields.specs.Reading.{◌>>=◌, byte_at, number_at, piece_at, Gives}
 use Rattle.wp_fields.proofs.Results.{bind_ok, ok_is}
 use Rattle.wp_fields.proofs.FieldLemmas.{AreBytes, Begins, Begins-then, Begins-piece, byte_takes, piece_takes, piece_there, number_takes, number_again, fields_32}
@@ -18,23 +17,23 @@ use Rattle.wp_table.specs.declared.error.TableError.TheVariants.{Short, Head, St
 use Rattle.wp_table.specs.Errors.{table_fault}
 use Rattle.wp_table.specs.Table.{block_bytes, block_count, blocks_in, blocks_of, places_from, head_bytes, table_bytes, is_version, IsTable}
 use Rattle.wp_table.specs.Reading.{if_right, after_magic, after_id, count_at, head_at, blocks_after, after_place, after_places, table_at}
-use Rattle.wp_table.specs.Faults.{FitsField, HasHead, HasBlocks}
+use Rattle.wp_table.specs.Faults.{FitsField, HasBlocks}
 use Rattle.wp_table.proofs.Order.{in_order_nil}
 use Rattle.wp_table.proofs.Parts.{was_right, fields_64}
 use Rattle.wp_table.proofs.BlockLemmas.{Found, fewer_blocks, blocks_take_bytes, blocks_take, blocks_again}
 
 -- ---- the head
 
-same_bytes : (xs ys : List ℕ) → bytes_eq xs ys ≡ true → xs ≡ ys
+pub same_bytes : (xs ys : List ℕ) → bytes_eq xs ys ≡ true → xs ≡ ys
 same_bytes xs ys = (bytes_eq-Decides xs ys).0
 
 equal_bytes : (xs : List ℕ) → bytes_eq xs xs ≡ true
 equal_bytes xs = (bytes_eq-Decides xs xs).1 refl
 
-abbrev format_after : ℕ × List ℕ → Result (List ℕ) TableError
+abbrev pub format_after : ℕ × List ℕ → Result (List ℕ) TableError
 format_after format = if_right (eqb format.0 1) Head format.1
 
-magic_takes : (bytes rest : List ℕ) → AreBytes bytes → after_magic bytes ≡ Ok rest → Begins bytes (codes "WPTB" ++ 1 ∷ []) rest
+pub magic_takes : (bytes rest : List ℕ) → AreBytes bytes → after_magic bytes ≡ Ok rest → Begins bytes (codes "WPTB" ++ 1 ∷ []) rest
 unfolding after_magic
 magic_takes bytes rest h e =
     let s = bind_ok (piece_at Short 4 bytes) (λ magic. if_right (bytes_eq magic.0 (codes "WPTB")) Head magic.1 >>= λ rest. byte_at Short rest >>= format_after) rest e in
@@ -49,7 +48,7 @@ magic_takes bytes rest h e =
     let format : Begins t.0 (1 ∷ []) rest = subst (λ (b : ℕ). Begins t.0 (b ∷ []) rest) (eqb-true f.0.0 1 one.0) (subst (Begins t.0 (f.0.0 ∷ [])) one.1 byte) in
     Begins-then bytes (codes "WPTB") t.0 (1 ∷ []) rest magic format
 
-id_takes : (id : ℕ) (bytes rest : List ℕ) → AreBytes bytes → after_id id bytes ≡ Ok rest → Begins bytes (to_be_bytes w32 id) rest × (id < 2 ^ 32)
+pub id_takes : (id : ℕ) (bytes rest : List ℕ) → AreBytes bytes → after_id id bytes ≡ Ok rest → Begins bytes (to_be_bytes w32 id) rest × (id < 2 ^ 32)
 unfolding after_id
 id_takes id bytes rest h e =
     let s = bind_ok (number_at Short w32 bytes) (λ found. if_right (eqb found.0 id) (Stranger found.0) found.1) rest e in
@@ -58,7 +57,7 @@ id_takes id bytes rest h e =
     let found : Begins bytes (to_be_bytes w32 id) s.0.1 × (id < 2 ^ 32) = subst (λ (n : ℕ). Begins bytes (to_be_bytes w32 n) s.0.1 × (n < 2 ^ 32)) (eqb-true s.0.0 id right.0) number in
     subst (λ (r : List ℕ). Begins bytes (to_be_bytes w32 id) r × (id < 2 ^ 32)) right.1 found
 
-abbrev blocks_counted : ℕ → ℕ × List ℕ → Result (ℕ × List ℕ) TableError
+abbrev pub blocks_counted : ℕ → ℕ × List ℕ → Result (ℕ × List ℕ) TableError
 blocks_counted count blocks = if_right (eqb blocks.0 (block_count count)) Count (count, blocks.1)
 
 count_takes : (bytes : List ℕ) (x : ℕ × List ℕ) → AreBytes bytes → count_at bytes ≡ Ok x → Begins bytes (to_be_bytes w64 x.0 ++ to_be_bytes w64 (block_count x.0)) x.1 × (1 ≤ x.0) × (x.0 < 2 ^ 64)
@@ -74,7 +73,7 @@ count_takes bytes x h e =
     let blocks = (number_takes Short w64 (2 ^ 64) fields_64 t.0 b.0 count.rest_bytes b.1).0 in
     let same : Begins t.0 (to_be_bytes w64 (block_count s.0.0)) b.0.1 = subst (λ (n : ℕ). Begins t.0 (to_be_bytes w64 n) b.0.1) (eqb-true b.0.0 (block_count s.0.0) right.0) blocks in
     let found : Begins bytes (to_be_bytes w64 s.0.0 ++ to_be_bytes w64 (block_count s.0.0)) b.0.1 × (1 ≤ s.0.0) × (s.0.0 < 2 ^ 64) =
-        (Begins-then bytes (to_be_bytes w64 s.0.0) t.0 (to_be_bytes w64 (block_count s.0.0)) b.0.1 count same, leb-true _ _ some.0, number.1) in
+    (Begins-then bytes (to_be_bytes w64 s.0.0) t.0 (to_be_bytes w64 (block_count s.0.0)) b.0.1 count same, leb-true _ _ some.0, number.1) in
     rw (← right.1) found
 
 pub record TakesHead (id : ℕ) (bytes : List ℕ) (x : ℕ × List ℕ) : Type 0 where
@@ -83,7 +82,7 @@ pub record TakesHead (id : ℕ) (bytes : List ℕ) (x : ℕ × List ℕ) : Type 
   pub id_fits : id < 2 ^ 32
   pub count_fits : x.0 < 2 ^ 64
 
-head_takes : (id : ℕ) (bytes : List ℕ) (x : ℕ × List ℕ) → AreBytes bytes → head_at id bytes ≡ Ok x → TakesHead id bytes x
+pub head_takes : (id : ℕ) (bytes : List ℕ) (x : ℕ × List ℕ) → AreBytes bytes → head_at id bytes ≡ Ok x → TakesHead id bytes x
 unfolding head_at
 head_takes id bytes x h e =
     let s = bind_ok (after_magic bytes) (λ rest. after_id id rest >>= count_at) x e in
@@ -96,11 +95,11 @@ head_takes id bytes x h e =
     let whole : Begins bytes ((codes "WPTB" ++ 1 ∷ []) ++ (to_be_bytes w32 id ++ counts)) x.1 = Begins-then bytes (codes "WPTB" ++ 1 ∷ []) s.0 (to_be_bytes w32 id ++ counts) x.1 magic rest in
     record { parts = whole; some = count.1; id_fits = store.1; count_fits = count.2 }
 
-magic_again : (rest : List ℕ) → after_magic (codes "WPTB" ++ (1 ∷ rest)) ≡ Ok rest
+pub magic_again : (rest : List ℕ) → after_magic (codes "WPTB" ++ (1 ∷ rest)) ≡ Ok rest
 unfolding after_magic
 magic_again rest = rw (piece_there Short 4 (codes "WPTB" ++ (1 ∷ rest)) (omega arith)) refl
 
-head_again : (id count : ℕ) (rest : List ℕ) → id < 2 ^ 32 → 1 ≤ count → count < 2 ^ 64 → head_at id (head_bytes id count ++ rest) ≡ Ok (count, rest)
+pub head_again : (id count : ℕ) (rest : List ℕ) → id < 2 ^ 32 → 1 ≤ count → count < 2 ^ 64 → head_at id (head_bytes id count ++ rest) ≡ Ok (count, rest)
 unfolding head_at after_id count_at
 head_again id count rest id_fits some fits =
     let blocks = to_be_bytes w64 (block_count count) in
@@ -131,7 +130,7 @@ place_takes place bytes rest h e =
     let found : Begins bytes (to_be_bytes w64 place) s.0.1 × FitsField place = subst (λ (n : ℕ). Begins bytes (to_be_bytes w64 n) s.0.1 × FitsField n) (eqb-true s.0.0 place right.0) number in
     (subst (Begins bytes (to_be_bytes w64 place)) right.1 found.0, found.1)
 
-places_take : (places bytes rest : List ℕ) → AreBytes bytes → after_places places bytes ≡ Ok rest → Begins bytes (flat_map (to_be_bytes w64) places) rest × AllByRecursion FitsField places
+pub places_take : (places bytes rest : List ℕ) → AreBytes bytes → after_places places bytes ≡ Ok rest → Begins bytes (flat_map (to_be_bytes w64) places) rest × AllByRecursion FitsField places
 unfolding after_places
 places_take [] bytes rest h e =
     let none : Begins bytes [] bytes × Unit {0} = (record { parts = refl; rest_bytes = h }, tt) in
@@ -164,7 +163,7 @@ all_fit place (block ∷ blocks) fits =
 
 -- ---- all of the bytes
 
-abbrev at_end : Found → List ℕ → Result (List Version) TableError
+abbrev pub at_end : Found → List ℕ → Result (List Version) TableError
 at_end blocks rest = if_right (eqb (length rest) 0) Extra blocks.0.0
 
 abbrev pub places_to_end : Found → Result (List Version) TableError
@@ -215,9 +214,10 @@ table_before id flushed versions bytes middle rest has last fit =
     let head = head_bytes id (length versions) in
     let blocks = flat_map block_bytes (blocks_of versions) in
     let regrouped : (head ++ (blocks ++ index_bytes versions)) ++ rest ≡ head ++ (blocks ++ (index_bytes versions ++ rest)) =
-        append_assoc head (blocks ++ index_bytes versions) rest ∙ ap (λ (t : List ℕ). head ++ t) (append_assoc blocks (index_bytes versions) rest) in
-    (record { some = has.head.some; in_order = has.in_order; in_range = has.in_range; id_fits = has.head.id_fits; places_fit = end_fits 25 (blocks_of versions) fit },
-      has.head.parts ∙ ap (λ (t : List ℕ). head ++ (blocks ++ t)) last ∙ sym regrouped)
+    append_assoc head (blocks ++ index_bytes versions) rest ∙ ap (λ (t : List ℕ). head ++ t) (append_assoc blocks (index_bytes versions) rest) in (
+      record { some = has.head.some; in_order = has.in_order; in_range = has.in_range; id_fits = has.head.id_fits; places_fit = end_fits 25 (blocks_of versions) fit },
+      has.head.parts ∙ ap (λ (t : List ℕ). head ++ (blocks ++ t)) last ∙ sym regrouped,
+    )
 
 pub table_takes : (id flushed : ℕ) (bytes : List ℕ) (versions : List Version) → AreBytes bytes → table_at id flushed bytes ≡ Ok versions → IsTable id flushed versions × (bytes ≡ table_bytes id versions)
 unfolding table_at
@@ -245,7 +245,7 @@ blocks_there id flushed versions bytes rest has =
     let place : size - length (blocks ++ rest) ≡ 25 = omega (arith, lengths) in
     let read = blocks_again (block_count count) size flushed versions [] [] rest refl (omega (arith, lengths)) has.in_order has.in_range in
     let read_there : blocks_after (block_count count) size flushed count [] [] (blocks ++ rest) ≡ Ok ((versions, places_from 25 (blocks_of versions)), rest) =
-        read ∙ ap (λ (n : ℕ). Ok ((versions, places_from n (blocks_of versions)), rest)) place in
+    read ∙ ap (λ (n : ℕ). Ok ((versions, places_from n (blocks_of versions)), rest)) place in
     let head : head_at id bytes ≡ Ok (count, blocks ++ rest) = ap (head_at id) has.head.parts ∙ head_again id count (blocks ++ rest) has.head.id_fits has.head.some has.head.count_fits in
     rw (head, read_there) refl
 
@@ -255,7 +255,7 @@ table_there id flushed versions rest is =
     let head = head_bytes id (length versions) in
     let blocks = flat_map block_bytes (blocks_of versions) in
     let regrouped : (head ++ (blocks ++ index_bytes versions)) ++ rest ≡ head ++ (blocks ++ (index_bytes versions ++ rest)) =
-        append_assoc head (blocks ++ index_bytes versions) rest ∙ ap (λ (t : List ℕ). head ++ t) (append_assoc blocks (index_bytes versions) rest) in
+    append_assoc head (blocks ++ index_bytes versions) rest ∙ ap (λ (t : List ℕ). head ++ t) (append_assoc blocks (index_bytes versions) rest) in
     let fits : length versions < 2 ^ 64 = omega (arith, is.places_fit, blocks_take_bytes (block_count (length versions)) versions refl) in
     let has : HasBlocks id flushed versions (table_bytes id versions ++ rest) (index_bytes versions ++ rest) = record { head = record { parts = regrouped; id_fits = is.id_fits; some = is.some; count_fits = fits }; in_order = is.in_order; in_range = is.in_range } in
     let places = places_again (places_from 25 (blocks_of versions)) rest (all_fit 25 (blocks_of versions) is.places_fit) in

@@ -17,6 +17,6 @@ mod writing;
 
 pub use error::TableError;
 pub use found::{Found, VersionRef};
-pub use laws::{bytes_have_one_reading, tables_are_read};
+pub use laws::{bytes_are_read_in_one_way, tables_are_read, tables_have_one_store};
 pub use table::Table;
 pub use writing::build;

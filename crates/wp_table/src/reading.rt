@@ -1,12 +1,14 @@
-ghost use Rattle.std.specs.Prelude.{◌≡◌, ◌-◌, [], List, length, IfOk, Ok};
+ghost use Rattle.std.specs.Prelude.{◌≡◌, ◌-◌, [], List, length, IfOk, IfErr, IfSome, Ok, Err};
 ghost use Rattle.wp_model.specs.declared.version.Version.{Version};
 ghost use Rattle.wp_fields.specs.Reading.{Gives};
+ghost use Rattle.wp_table.specs.declared.error.TableError.{TableError};
 ghost use Rattle.wp_table.specs.Errors.{table_fault};
+ghost use Rattle.wp_table.specs.Faults.{IsTableFault};
 ghost use Rattle.wp_table.specs.Table.{block_count, table_bytes, IsTable};
 ghost use Rattle.wp_table.specs.Reading.{after_magic, after_id, count_at, head_at, flushed_number_at, stored_at, is_after_last, next_place_at, next_version_at, versions_after, block_after, blocks_after, after_place, after_places, table_at};
 
 use crate::error::TableError;
-use crate::layout::{BLOCK, DELETION, FORMAT, MAGIC, PUT};
+use crate::layout::{BLOCK, DELETION, FORMAT, MAGIC, PUT, blocks_for};
 use std::alloc::Global;
 use wp_encoding::{read_value, read_word};
 use wp_fields::Fields;
@@ -36,13 +38,6 @@ fn store_id(fields: &mut Fields<'_>, id: u32) -> Result<(), TableError>
         return Err(TableError::Stranger(found));
     }
     Ok(())
-}
-
-/// How many blocks so many versions take.
-fn blocks_for(count: u64) -> u64
-    ensures { result ≡ block_count count }
-{
-    count.div_ceil(BLOCK)
 }
 
 /// The number of versions.
@@ -249,6 +244,9 @@ pub fn read_table(
     ensures found { IfOk result (λ versions. IsTable id flushed versions.items × (bytes.now ≡ table_bytes id versions.items)) }
     ensures only { (written : List Version) → IsTable id flushed written → bytes.now ≡ table_bytes id written
         → Gives table_fault (λ versions. versions.items) result (Ok written) }
+    ensures refused { IfErr result (λ error. IfSome (table_fault error) (λ fault. IsTableFault id flushed bytes.now fault)) }
+    ensures each_fault { (fault : TableError) → IsTableFault id flushed bytes.now fault
+        → Gives table_fault (λ versions. versions.items) result (Err fault) }
     ensures exact { Gives table_fault (λ versions. versions.items) result (table_at id flushed bytes.now) }
 {
     table(alloc, bytes, id, flushed)

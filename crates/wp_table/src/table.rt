@@ -1,4 +1,4 @@
-ghost use Rattle.std.specs.Prelude.{◌≡◌, ◌≤◌, true, false, List, length, IfOk, Ok, filter};
+ghost use Rattle.std.specs.Prelude.{◌≡◌, ◌≤◌, true, false, List, length, IfOk, IfErr, IfSome, Ok, Err, filter};
 ghost use Rattle.std.specs.List.{All};
 ghost use Rattle.std.specs.List.Sorted.{IsPartitionPoint};
 ghost use Rattle.std.specs.Ordering.{is_lt};
@@ -7,7 +7,9 @@ ghost use Rattle.wp_model.specs.Batch.{key_cmp};
 ghost use Rattle.wp_model.specs.declared.version.Version.{Version};
 ghost use Rattle.wp_model.specs.Versions.{AreInOrder};
 ghost use Rattle.wp_fields.specs.Reading.{Gives};
+ghost use Rattle.wp_table.specs.declared.error.TableError.{TableError};
 ghost use Rattle.wp_table.specs.Errors.{table_fault};
+ghost use Rattle.wp_table.specs.Faults.{IsTableFault};
 ghost use Rattle.wp_table.specs.Reading.{table_at};
 ghost use Rattle.wp_table.specs.Table.{IsTable, table_bytes};
 
@@ -71,7 +73,10 @@ impl Table {
         // What is spelled so is read, unless memory runs out.
         ensures only { (versions : List Version) → IsTable id flushed versions → bytes.items ≡ table_bytes id versions
             → Gives table_fault (λ table. table) result (Ok versions) }
-        // What is refused has that first fault, unless memory runs out.
+        // What is refused has that fault, and what has a fault is refused for it, unless memory runs out.
+        ensures refused { IfErr result (λ error. IfSome (table_fault error) (λ fault. IsTableFault id flushed bytes.items fault)) }
+        ensures each_fault { (fault : TableError) → IsTableFault id flushed bytes.items fault
+            → Gives table_fault (λ table. table) result (Err fault) }
         ensures exact { Gives table_fault (λ table. table) result (table_at id flushed bytes.items) }
     {
         let versions = read_table(alloc, &bytes, id, flushed)?;

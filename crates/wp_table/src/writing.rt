@@ -4,7 +4,7 @@ ghost use Rattle.std.specs.Int.{w64, to_be_bytes};
 ghost use Rattle.std.specs.Option.{option_copied};
 ghost use Rattle.wp_table.specs.Table.{stored_bytes, version_bytes, block_bytes, is_numbered, is_flushed, is_stored, has_words, blocks_of, places_from, head_bytes, table_bytes, IsTable};
 
-use crate::layout::{BLOCK, DELETION, FORMAT, MAGIC, PUT};
+use crate::layout::{BLOCK, DELETION, FORMAT, MAGIC, PUT, blocks_for};
 use std::alloc::{AllocError, Global};
 use wp_encoding::{push_value, push_word};
 use wp_fields::{push_piece, push_u8, push_u16, push_u32, push_u64};
@@ -17,7 +17,7 @@ fn push_head(out: &mut Vec<u8>, id: u32, count: u64) -> Result<(), AllocError>
     push_u8(out, FORMAT)?;
     push_u32(out, id)?;
     push_u64(out, count)?;
-    push_u64(out, count.div_ceil(BLOCK))
+    push_u64(out, blocks_for(count))
 }
 
 fn push_stored(out: &mut Vec<u8>, value: Option<&Value>) -> Result<(), AllocError>

@@ -1,4 +1,5 @@
-use Rattle.wp_table.proofs.Whole.{table_takes, table_again, other_store}
+use Rattle.wp_table.proofs.Whole.{table_takes, table_again}
+use Rattle.wp_table.proofs.WholeFaults.{table_fails, table_refused}
 use Rattle.wp_table.proofs.laws.tables_are_read.Goals as goal
 
 pub returns-clause-spelled : goal.returns-clause-spelled
@@ -7,5 +8,5 @@ returns-clause-spelled c = table_again
 pub returns-clause-only : goal.returns-clause-only
 returns-clause-only c = table_takes
 
-pub returns-clause-stranger : goal.returns-clause-stranger
-returns-clause-stranger c = other_store
+pub returns-clause-refused : goal.returns-clause-refused
+returns-clause-refused c = λ id flushed bytes fault h. (table_fails id flushed bytes fault h, table_refused id flushed bytes fault)

@@ -3,6 +3,7 @@ use Rattle.wp_fields.specs.Reading.{Gives}
 use Rattle.wp_table.specs.Errors.{table_fault}
 use Rattle.wp_table.specs.Reading.{table_at}
 use Rattle.wp_table.proofs.Whole.{found_is_table, table_again}
+use Rattle.wp_table.proofs.WholeFaults.{table_refused, refused_has_fault}
 use Rattle.wp_table.proofs.reading.read_table.Goals as goal
 
 pub returns-clause-found : goal.returns-clause-found
@@ -10,3 +11,9 @@ returns-clause-found c = found_is_table c.args.id c.args.flushed c.args.bytes.no
 
 pub returns-clause-only : goal.returns-clause-only
 returns-clause-only c = λ written is spelled. subst (Gives table_fault (λ versions. versions.items) c.table.result) (ap (table_at c.args.id c.args.flushed) spelled ∙ table_again c.args.id c.args.flushed written is) c.table.ensures
+
+pub returns-clause-refused : goal.returns-clause-refused
+returns-clause-refused c = refused_has_fault c.args.id c.args.flushed c.args.bytes.now c.table.result (λ i. omega (arith, c.type_inv.bytes i)) c.table.ensures
+
+pub returns-clause-each_fault : goal.returns-clause-each_fault
+returns-clause-each_fault c = λ fault is. subst (Gives table_fault (λ versions. versions.items) c.table.result) (table_refused c.args.id c.args.flushed c.args.bytes.now fault is) c.table.ensures

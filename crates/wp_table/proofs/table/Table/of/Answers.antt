@@ -1,0 +1,14 @@
+use Rattle.std.proofs.Common.{sym, subst}
+use Rattle.std.proofs.lemmas.Result.{err_from_is_err_and}
+use Rattle.wp_fields.proofs.Results.{ok_or_err}
+use Rattle.wp_table.specs.Faults.{IsTableFault}
+use Rattle.wp_table.proofs.table.Table.of.Goals as goal
+
+pub returns-in_err-versions-clause-each_fault : goal.returns-in_err-versions-clause-each_fault
+returns-in_err-versions-clause-each_fault c = λ fault is.
+    let p = err_from_is_err_and c.from_residual.result c.from_residual.ensures.1 in
+    rw (p.1, p.2) (c.in_err-versions.ensures.each_fault fault (subst (λ bytes. IsTableFault c.args.id c.args.flushed bytes fault) (sym c.deref.ensures.value) is))
+
+pub returns-clause-each_fault : goal.returns-clause-each_fault
+returns-clause-each_fault c = λ fault is.
+    absurd (ok_or_err c.in_ok-versions.versions.items fault (sym (c.in_ok-versions.ensures.each_fault fault (subst (λ bytes. IsTableFault c.args.id c.args.flushed bytes fault) (sym c.deref.ensures.value) is))))
