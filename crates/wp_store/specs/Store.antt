@@ -1,5 +1,5 @@
 -- A store: the versions in memory, in frozen parts and in tables.
-use Rattle.std.specs.Prelude.{ℕ, Bool, ◌==◌, List, [], ◌∷◌, ◌++◌, length, take, filter, Option, Some, None, refl}
+use Rattle.std.specs.Prelude.{ℕ, Bool, ◌==◌, List, [], ◌∷◌, ◌++◌, length, take, filter, Option, Some, None}
 use Rattle.std.specs.List.{list_all}
 use Rattle.std.specs.Str.{bytes_eq}
 use Rattle.wp_model.specs.declared.version.Version.{Version}

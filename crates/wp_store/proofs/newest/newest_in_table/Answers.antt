@@ -1,4 +1,4 @@
-use Rattle.std.proofs.Common.{true, sym, ap, subst, ◌∷◌, take, ◌∙◌}
+use Rattle.std.proofs.Common.{sym, ap, subst, ◌∷◌, take, ◌∙◌}
 use Rattle.std.specs.Iterator.Adapters.{take_source, take_count}
 use Rattle.std.specs.List.{list_all}
 use Rattle.std.specs.Str.{bytes_eq}
