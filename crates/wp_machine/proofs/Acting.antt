@@ -1,5 +1,6 @@
 -- An actor is taken out of a world, makes its step, and is put back.
-use Rattle.std.proofs.Common.{◌≡◌, ℕ, zero, suc, ◌<◌, ◌≤◌, List, [], ◌∷◌, length, set, get_or, OnOk, Ok, Err, Result, refl, sym, ap, ◌∙◌, arith, ◌++◌, filter, not, Option, Some, IfOk, true, false}
+use Rattle.std.specs.Prelude.{slice_get, option_map}
+use Rattle.std.proofs.Common.{◌≡◌, ◌≢◌, unwrap_or, ℕ, zero, suc, ◌<◌, ◌≤◌, List, [], ◌∷◌, length, set, get_or, OnOk, Ok, Err, Result, refl, sym, ap, ◌∙◌, arith, ◌++◌, filter, not, Option, Some, None, IfOk, true, false}
 use mathlib.Core.Option.{some-injective}
 use Rattle.std.proofs.lemmas.List.{set-set}
 use Rattle.wp_core.specs.World.{World, Actor, new_actor}
@@ -13,7 +14,7 @@ use Rattle.wp_machine.specs.declared.step.Kind.TheVariants as kind
 use Rattle.wp_machine.specs.declared.step.ActorsStep.{ActorsStep}
 use Rattle.wp_machine.proofs.StayNoted.{all_stay}
 use Rattle.wp_machine.specs.declared.ending.Ending.{Ending}
-use Rattle.wp_machine.specs.Machine.{step_of}
+use Rattle.wp_machine.specs.Machine.{step_of, MayMake, Makes}
 use Rattle.wp_machine.specs.Effect.{IsEffect}
 use Rattle.wp_machine.specs.Endings.{ending_of, ends_fact}
 use Rattle.wp_machine.specs.Apart.{IsApart}
@@ -67,8 +68,59 @@ acted w we w2 next by k en a actor left left2 s i ends at at2 out forgot e made 
     let noted : left ≡ forgets w.writes.history (length w.cache) s actor = forgot ∙ ap (λ z. record actor { notes = filter (λ x. not (ends_fact z x)) actor.notes }) ends ∙ ap (λ xs. record actor { notes = xs }) (left_as w actor.participant k s first actor.notes) in
     back ∙ made here ∙ ap (λ z. done z by left s) out ∙ again w by joined_actor left s (acts w actor.participant k s i first) ∙ ap (λ z. done w by z s) (noted ∙ ap (forgets w.writes.history (length w.cache) s) same)
 
-pub made_actor : (w next : World) (by : ℕ) (k : ActorsStep) (a : Actor) (s : Step) → step_of w a.participant (kind.Actors k) ≡ Some s → next ≡ done w by a s → next ≡ done w by (forgets w.writes.history (length w.cache) s a) s
+-- ---- joins
+
+set_elsewhere : {X : Type 0} (xs : List X) (i j : ℕ) (x : X) → i ≢ j → get_elem? (set xs i x) j ≡ get_elem? xs j
+set_elsewhere [] i j x ne = refl
+set_elsewhere (y ∷ xs) zero zero x ne = absurd (ne refl)
+set_elsewhere (y ∷ xs) zero (suc j) x ne = refl
+set_elsewhere (y ∷ xs) (suc i) zero x ne = refl
+set_elsewhere (y ∷ xs) (suc i) (suc j) x ne = set_elsewhere xs i j x (λ e. ne (ap suc e))
+
+set_turned : {X : Type 0} (xs : List X) (i j : ℕ) (x y : X) → i ≢ j → set (set xs i x) j y ≡ set (set xs j y) i x
+set_turned [] i j x y ne = refl
+set_turned (z ∷ xs) zero zero x y ne = absurd (ne refl)
+set_turned (z ∷ xs) zero (suc j) x y ne = refl
+set_turned (z ∷ xs) (suc i) zero x y ne = refl
+set_turned (z ∷ xs) (suc i) (suc j) x y ne = ap (λ zs. z ∷ zs) (set_turned xs i j x y (λ e. ne (ap suc e)))
+
+-- the other one is taken out first, then the actor, which changes by it and is put back
+pub joined : (f : Actor → Actor → Actor) (w we we2 next : World) (by other : ℕ) (a b note actor more : Actor) → other ≢ by → get_elem? w.actors by ≡ some a → get_elem? w.actors other ≡ some b → get_elem? w.actors other ≡ some note → we ≡ with_actor w other joined_actor → get_elem? we.actors by ≡ some actor → we2 ≡ with_actor we by joined_actor → more ≡ f actor note → next ≡ with_actor we2 by more → next ≡ with_actor (with_actor w by (f a b)) other joined_actor
+joined f w we we2 next by other a b note actor more ne at there there2 out at2 out2 one back =
+    let first : get_elem? w.actors by ≡ some actor = sym (set_elsewhere w.actors other by joined_actor ne) ∙ ap (λ (z : World). get_elem? z.actors by) (sym out) ∙ at2 in
+    let by_it : more ≡ f a b = one ∙ ap (λ z. f z note) (same_actor w by a actor at first) ∙ ap (f a) (same_actor w other b note there there2) in
+    back ∙ ap (λ (z : World). with_actor z by more) (out2 ∙ ap (λ (z : World). with_actor z by joined_actor) out)
+    ∙ ap (λ (zs : List Actor). record w { actors = zs }) (set-set (set w.actors other joined_actor) by joined_actor more ∙ set_turned w.actors other by joined_actor more ne)
+    ∙ ap (λ (z : Actor). with_actor (with_actor w by z) other joined_actor) by_it
+
+got : {X : Type 0} (xs : List X) (i : ℕ) (x : X) → slice_get xs i ≡ Some x → get_elem? xs i ≡ some x
+got [] i x e = absurd cc
+got (y ∷ xs) zero x e = ap (λ o. some (unwrap_or o x)) e
+got (y ∷ xs) (suc i) x e = got xs i x e
+
+-- the step is one with the actor at that place
+pub record IsWith (w : World) (other : ℕ) (f : Actor → Step) (s : Step) : Type 0 where
+  pub actor : Actor
+  pub there : get_elem? w.actors other ≡ some actor
+  pub is : f actor ≡ s
+
+pub is_with : (w : World) (other : ℕ) (f : Actor → Step) (s : Step) → option_map f (slice_get w.actors other) ≡ Some s → IsWith w other f s
+is_with w other f s e = by (slice_get w.actors other) refl e
+  where
+    by : (o : Option Actor) → slice_get w.actors other ≡ o → option_map f o ≡ Some s → IsWith w other f s
+    by None at e = absurd cc
+    by (Some b) at e = record { actor = b; there = got w.actors other b at; is = ap (λ o. unwrap_or o s) e }
+
+made_actor : (w next : World) (by : ℕ) (k : ActorsStep) (a : Actor) (s : Step) → step_of w a.participant (kind.Actors k) ≡ Some s → next ≡ done w by a s → next ≡ done w by (forgets w.writes.history (length w.cache) s a) s
 made_actor w next by k a s e n = n ∙ ap (λ (z : Actor). done w by z s) (ap (λ xs. record a { notes = xs }) (sym (all_stay a.notes) ∙ left_as w a.participant (kind.Actors k) s e a.notes))
+
+on_ok : (r : Result (Unit {0}) AllocError) (P Q : Type 0) → (P → Q) → OnOk r P → OnOk r Q
+on_ok (Ok x) P Q f p = f p
+on_ok (Err e) P Q f p = p
+
+-- the step that may be made is this one, and it is done
+pub makes : (r : Result (Unit {0}) AllocError) (w next : World) (by : ℕ) (k : ActorsStep) (s : Step) (q : MayMake w by (kind.Actors k)) → s ≡ q.step → OnOk r (next ≡ done w by q.actor s) → OnOk r (Makes w by (kind.Actors k) next)
+makes r w next by k s q same = on_ok r _ _ (λ n. record { actor = q.actor; there = q.there; step = q.step; is = q.is; goes = (q.actor, q.there, q.needs, made_actor w next by k q.actor q.step q.is (n ∙ ap (λ z. done w by q.actor z) same)) })
 
 pub apart_unless : (k : Kind) → ((x : ActorsStep) → k ≡ kind.Actors x → ⊥) → IsApart k
 apart_unless (kind.Reader k) not = tt

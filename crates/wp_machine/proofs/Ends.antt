@@ -148,9 +148,11 @@ of_own h n p (own.SetBatch name batch) s e = mapped (EndsAs h n _) (λ t. step.s
 of_own h n p (own.Note fact) s e = subst (EndsAs h n _) (only (step.note fact) _ e) (record { guard = λ turn. refl; alone = refl; place = λ n. refl; words = refl; pending = refl; transaction = λ name. refl; delayed_flag = refl; old_flag = refl; add_prepared = refl; take_prepared = refl; add_versions = refl; take_versions = refl; moves = refl; replaces = refl; installs = refl; direct = refl })
 of_own h n p (own.SetClient client) s e = subst (EndsAs h n _) (only (step.set_client client) _ e) (record { guard = λ turn. refl; alone = refl; place = λ n. refl; words = refl; pending = refl; transaction = λ name. refl; delayed_flag = refl; old_flag = refl; add_prepared = refl; take_prepared = refl; add_versions = refl; take_versions = refl; moves = refl; replaces = refl; installs = refl; direct = refl })
 
-of_actors : (h : List Entry) (n : ℕ) (k : ActorsStep) (s : Step) → actors_step k ≡ Some s → EndsAs h n ending.Nothing s
-of_actors h n actors.MakeNote s e = subst (EndsAs h n _) (only (step.make_note) _ e) (record { guard = λ turn. refl; alone = refl; place = λ n. refl; words = refl; pending = refl; transaction = λ name. refl; delayed_flag = refl; old_flag = refl; add_prepared = refl; take_prepared = refl; add_versions = refl; take_versions = refl; moves = refl; replaces = refl; installs = refl; direct = refl })
-of_actors h n actors.MakeSeat s e = subst (EndsAs h n _) (only (step.make_seat) _ e) (record { guard = λ turn. refl; alone = refl; place = λ n. refl; words = refl; pending = refl; transaction = λ name. refl; delayed_flag = refl; old_flag = refl; add_prepared = refl; take_prepared = refl; add_versions = refl; take_versions = refl; moves = refl; replaces = refl; installs = refl; direct = refl })
+of_actors : (h : List Entry) (n : ℕ) (w : World) (k : ActorsStep) (s : Step) → actors_step w k ≡ Some s → EndsAs h n ending.Nothing s
+of_actors h n w actors.MakeNote s e = subst (EndsAs h n _) (only (step.make_note) _ e) (record { guard = λ turn. refl; alone = refl; place = λ n. refl; words = refl; pending = refl; transaction = λ name. refl; delayed_flag = refl; old_flag = refl; add_prepared = refl; take_prepared = refl; add_versions = refl; take_versions = refl; moves = refl; replaces = refl; installs = refl; direct = refl })
+of_actors h n w actors.MakeSeat s e = subst (EndsAs h n _) (only (step.make_seat) _ e) (record { guard = λ turn. refl; alone = refl; place = λ n. refl; words = refl; pending = refl; transaction = λ name. refl; delayed_flag = refl; old_flag = refl; add_prepared = refl; take_prepared = refl; add_versions = refl; take_versions = refl; moves = refl; replaces = refl; installs = refl; direct = refl })
+of_actors h n w (actors.Learn other) s e = mapped (EndsAs h n _) (step.learn other) (slice_get w.actors other) _ e (λ x. record { guard = λ turn. refl; alone = refl; place = λ n. refl; words = refl; pending = refl; transaction = λ name. refl; delayed_flag = refl; old_flag = refl; add_prepared = refl; take_prepared = refl; add_versions = refl; take_versions = refl; moves = refl; replaces = refl; installs = refl; direct = refl })
+of_actors h n w (actors.JoinSeat other) s e = mapped (EndsAs h n _) (step.join_seat other) (slice_get w.actors other) _ e (λ x. record { guard = λ turn. refl; alone = refl; place = λ n. refl; words = refl; pending = refl; transaction = λ name. refl; delayed_flag = refl; old_flag = refl; add_prepared = refl; take_prepared = refl; add_versions = refl; take_versions = refl; moves = refl; replaces = refl; installs = refl; direct = refl })
 
 pub ends_as : (w : World) (p : Participant) (k : Kind) (s : Step) → step_of w p k ≡ Some s → EndsAs w.writes.history (length w.cache) (ending_of w k) s
 ends_as w p (kind.Reader k) s e = of_reader w.writes.history (length w.cache) p k s e
@@ -163,7 +165,7 @@ ends_as w p (kind.Store k) s e = of_stores w.writes.history (length w.cache) w.w
 ends_as w p (kind.Tables k) s e = of_tabless w.writes.history (length w.cache) k s e
 ends_as w p (kind.Locks k) s e = of_lockss w.writes.history (length w.cache) w p k s e
 ends_as w p (kind.Own k) s e = of_own w.writes.history (length w.cache) p k s e
-ends_as w p (kind.Actors k) s e = of_actors w.writes.history (length w.cache) k s e
+ends_as w p (kind.Actors k) s e = of_actors w.writes.history (length w.cache) w k s e
 
 by_guard : (h : List Entry) (n : ℕ) (e : Ending) (s : Step) → EndsAs h n e s → (o : Option Turn) → ends_by_guard e o ≡ notes.gives_guard o s
 by_guard h n e s is None = is.alone

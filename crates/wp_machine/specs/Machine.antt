@@ -135,9 +135,11 @@ own_step p (own.SetBatch name batch) = option_map (λ t. step.set_batch name t b
 own_step p (own.Note fact) = Some (step.note fact)
 own_step p (own.SetClient client) = Some (step.set_client client)
 
-abbrev pub actors_step : ActorsStep → Option Step
-actors_step actors.MakeNote = Some step.make_note
-actors_step actors.MakeSeat = Some step.make_seat
+abbrev pub actors_step : World → ActorsStep → Option Step
+actors_step w actors.MakeNote = Some step.make_note
+actors_step w actors.MakeSeat = Some step.make_seat
+actors_step w (actors.Learn other) = option_map (step.learn other) (slice_get w.actors other)
+actors_step w (actors.JoinSeat other) = option_map (step.join_seat other) (slice_get w.actors other)
 
 -- the step that this kind is for an actor: none where what it names is not there
 abbrev pub step_of : World → Participant → Kind → Option Step
@@ -151,7 +153,7 @@ step_of w p (kind.Store k) = store_step w.writes w.store k
 step_of w p (kind.Tables k) = tables_step k
 step_of w p (kind.Locks k) = locks_step w p k
 step_of w p (kind.Own k) = own_step p k
-step_of w p (kind.Actors k) = actors_step k
+step_of w p (kind.Actors k) = actors_step w k
 
 -- this actor may make it: it is a step of the machine, and what that needs is so
 pub record MayMake (w : World) (by : ℕ) (k : Kind) : Type 0 where

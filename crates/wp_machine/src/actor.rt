@@ -13,7 +13,7 @@ ghost use Rattle.wp_core.specs.Changes.{reading_left, is_same_registration};
 ghost use Rattle.wp_machine.specs.Effect.{has_published, released_number, has_released};
 ghost use Rattle.wp_core.specs.Tables as tables;
 ghost use Rattle.wp_core.specs.World.{new_participant, new_actor};
-ghost use Rattle.wp_core.specs.Changes.{sees, remembers, joined_actor, has_direct, held_with, held_without, registers, has_transaction, has_no_transaction, turn_index, made_one, joins};
+ghost use Rattle.wp_core.specs.Changes.{sees, remembers, joined_actor, has_direct, held_with, held_without, registers, has_transaction, has_no_transaction, turn_index, made_one, informed, joins};
 ghost use Rattle.wp_machine.specs.Client.{client_of};
 ghost use Rattle.wp_machine.specs.Parts.{turn_of};
 ghost use Rattle.wp_machine.specs.HeldTables.{place_from};
@@ -399,6 +399,14 @@ impl Actor {
     {
         self.made = self.made.checked_add(1).ok_or(AllocError)?;
         Ok(())
+    }
+
+    /// What the note saw is learned.
+    pub fn learn(&mut self, note: Actor)
+        ensures { self.new ≡ informed self.old note }
+    {
+        let participant = note.participant;
+        self.learned = participant.seen;
     }
 
     pub fn join(&mut self, seat: Actor) -> Result<(), AllocError>

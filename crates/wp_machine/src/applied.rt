@@ -1,4 +1,4 @@
-ghost use Rattle.std.specs.Prelude.{◌≡◌, ◌<◌, ◌∷◌, ◌++◌, [], Some, length, IfOk, OnOk};
+ghost use Rattle.std.specs.Prelude.{◌≡◌, ◌≢◌, ◌<◌, ◌∷◌, ◌++◌, [], Some, length, IfOk, OnOk};
 ghost use mathlib.Core.Option.{some};
 ghost use lib.ListN.{get_elem?};
 ghost use Rattle.wp_core.specs.World.{Actor, new_actor};
@@ -8,9 +8,10 @@ ghost use Rattle.wp_core.specs.Notes.{forgets};
 ghost use Rattle.wp_core.specs.Steps as step;
 ghost use Rattle.wp_core.specs.IsSound.{IsSound};
 ghost use Rattle.wp_core.specs.Runs.{Reaches};
-ghost use Rattle.wp_machine.specs.Machine.{step_of, actors_step, MayMake, Makes};
+ghost use Rattle.wp_machine.specs.Machine.{step_of, MayMake, Makes};
 ghost use Rattle.wp_machine.specs.Effect.{IsEffect};
 ghost use Rattle.wp_machine.specs.Apart.{IsApart};
+ghost use Rattle.wp_machine.specs.declared.step.Kind.TheVariants.{Actors};
 
 use crate::actor::Actor;
 use crate::copies::copy_entries;
@@ -88,6 +89,33 @@ fn make_seat(world: &mut World, by: usize) -> Result<(), AllocError>
     Ok(())
 }
 
+/// The actor joins a note.
+fn learn(world: &mut World, by: usize, other: usize)
+    requires by { by < length world.old.actors }
+    requires other { other < length world.old.actors }
+    ensures { (a b : Actor) → other ≢ by → get_elem? world.old.actors by ≡ some a → get_elem? world.old.actors other ≡ some b
+        → world.new ≡ done world.old by a (step.learn other b) }
+{
+    let note = take_actor(world, other);
+    let mut actor = take_actor(world, by);
+    actor.learn(note);
+    put_actor(world, by, actor);
+}
+
+/// The actor joins a seat.
+fn join_seat(world: &mut World, by: usize, other: usize) -> Result<(), AllocError>
+    requires by { by < length world.old.actors }
+    requires other { other < length world.old.actors }
+    ensures { (a b : Actor) → other ≢ by → get_elem? world.old.actors by ≡ some a → get_elem? world.old.actors other ≡ some b
+        → OnOk result (world.new ≡ done world.old by a (step.join_seat other b)) }
+{
+    let seat = take_actor(world, other);
+    let mut actor = take_actor(world, by);
+    actor.join(seat)?;
+    put_actor(world, by, actor);
+    Ok(())
+}
+
 /// What a step makes of the world and of its actor.
 fn effect(world: &mut World, by: usize, actor: &mut Actor, kind: Kind) -> Result<(), AllocError>
     ensures { (s : step.Step) → IsApart kind → step_of world.old actor.old.participant kind ≡ Some s
@@ -122,15 +150,19 @@ fn act(world: &mut World, by: usize, kind: Kind) -> Result<(), AllocError>
     Ok(())
 }
 
-/// An actor makes another.
+/// An actor makes another, or joins one.
 fn make_actor(world: &mut World, by: usize, kind: ActorsStep) -> Result<(), AllocError>
-    requires { by < length world.old.actors }
-    ensures { (a : Actor) (s : step.Step) → get_elem? world.old.actors by ≡ some a → actors_step kind ≡ Some s
-        → OnOk result (world.new ≡ done world.old by a s) }
+    requires { MayMake world.old by (Actors kind) }
+    ensures { OnOk result (Makes world.old by (Actors kind) world.new) }
 {
     match kind {
         ActorsStep::MakeNote => make_note(world, by),
         ActorsStep::MakeSeat => make_seat(world, by),
+        ActorsStep::Learn(other) => {
+            learn(world, by, other);
+            Ok(())
+        }
+        ActorsStep::JoinSeat(other) => join_seat(world, by, other),
     }
 }
 

@@ -146,9 +146,13 @@ pub enum OwnStep {
     SetClient(Name),
 }
 
-/// A step that makes an actor.
+/// A step that makes an actor, or joins one.
 #[derive(Drop)]
 pub enum ActorsStep {
     MakeNote,
     MakeSeat,
+    /// What the note at this place saw is learned.
+    Learn(usize),
+    /// The seat at this place is joined.
+    JoinSeat(usize),
 }
