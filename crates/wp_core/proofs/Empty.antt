@@ -54,7 +54,7 @@ nothing_newest key (suc n) = refl
 gives : (key : List ℕ) (n : ℕ) → GivesStore [] [] key n
 gives key n = inr record { none = λ p is. refl; missing = nothing_newest key n }
 
-covered : (numbers : List ℕ) → IsCovered [] [] numbers 0
+pub covered : (numbers : List ℕ) → IsCovered [] [] numbers 0
 covered numbers = record {
   part = λ key p value e. let q : None ≡ Some value = e in absurd (cc);
   undecided = λ key p value is e. absurd (none_undecided p is);

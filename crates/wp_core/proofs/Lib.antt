@@ -82,3 +82,4 @@ pub mod JoinsSeat
 pub mod SetsClient
 pub mod EachStep
 pub mod OneWrite
+pub mod Openings

@@ -24,11 +24,11 @@ use Rattle.wp_core.proofs.Tests.{none_some, none_either}
 
 -- ---- look-ups in two lists
 
-at_front : (xs ys : List Version) (key : List ℕ) (p : ℕ) → version_at ys key p ≡ None → version_at (xs ++ ys) key p ≡ version_at xs key p
+pub at_front : (xs ys : List Version) (key : List ℕ) (p : ℕ) → version_at ys key p ≡ None → version_at (xs ++ ys) key p ≡ version_at xs key p
 at_front [] ys key p none = none
 at_front (v ∷ xs) ys key p none = ap (cond (bytes_eq v.key key && (v.number == p)) (Some v.value)) (at_front xs ys key p none)
 
-at_back : (xs ys : List Version) (key : List ℕ) (p : ℕ) → version_at xs key p ≡ None → version_at (xs ++ ys) key p ≡ version_at ys key p
+pub at_back : (xs ys : List Version) (key : List ℕ) (p : ℕ) → version_at xs key p ≡ None → version_at (xs ++ ys) key p ≡ version_at ys key p
 at_back [] ys key p none = refl
 at_back (v ∷ xs) ys key p none = by (bytes_eq v.key key && (v.number == p)) none (at_back xs ys key p)
   where
@@ -39,10 +39,10 @@ at_back (v ∷ xs) ys key p none = by (bytes_eq v.key key && (v.number == p)) no
 at_shared : (xs ys : List Version) (key : List ℕ) (p : ℕ) → version_at xs key p ≡ None → version_at ys key p ≡ None → version_at (xs ++ ys) key p ≡ None
 at_shared xs ys key p none nor = at_front xs ys key p nor ∙ none
 
-up_to_within : (n : ℕ) (vs : List Version) (key : List ℕ) (p : ℕ) → p ≤ n → version_at (up_to n vs) key p ≡ version_at vs key p
+pub up_to_within : (n : ℕ) (vs : List Version) (key : List ℕ) (p : ℕ) → p ≤ n → version_at (up_to n vs) key p ≡ version_at vs key p
 up_to_within n vs key p le = at_up_to n vs key p ∙ ap (λ (b : Bool). cond b (version_at vs key p) None) (let q : nat_le p n ≡ true = grind (arith, nat_tests) in q)
 
-up_to_past : (n : ℕ) (vs : List Version) (key : List ℕ) (p : ℕ) → n < p → version_at (up_to n vs) key p ≡ None
+pub up_to_past : (n : ℕ) (vs : List Version) (key : List ℕ) (p : ℕ) → n < p → version_at (up_to n vs) key p ≡ None
 up_to_past n vs key p lt = at_up_to n vs key p ∙ ap (λ (b : Bool). cond b (version_at vs key p) None) (let q : nat_le p n ≡ false = grind (arith, nat_tests) in q)
 
 -- ---- the versions of one entry
@@ -68,7 +68,7 @@ drop_more zero es entry le = (refl, omega arith)
 drop_more (suc f) [] entry le = absurd (omega arith)
 drop_more (suc f) (e ∷ es) entry le = let k = drop_more f es entry (omega arith) in let l = k.1 in (k.0, omega (arith, l))
 
-later_more : (history : List Entry) (entry : Entry) (f : ℕ) → f ≤ length history → later_versions (history ++ entry ∷ []) f ≡ later_versions history f ++ versions_under (suc (length history)) (changes_in entry)
+pub later_more : (history : List Entry) (entry : Entry) (f : ℕ) → f ≤ length history → later_versions (history ++ entry ∷ []) f ≡ later_versions history f ++ versions_under (suc (length history)) (changes_in entry)
 later_more history entry f le = let k = drop_more f history entry le in let l = k.1 in ap (versions_after f) k.0 ∙ after_more f (suc (length history)) (drop f history) entry (omega (arith, l))
 
 module _ (history : List Entry) (entry : Entry) (legal : IsLegal (history ++ entry ∷ [])) where

@@ -1,12 +1,12 @@
 //! What is proved of the machine, over all worlds that steps of any actors reach, in any order.
 ghost use mathlib.Core.Option.{some};
 ghost use lib.ListN.{get_elem?};
-ghost use Rattle.std.specs.Prelude.{◌≡◌, ℕ, Bool, true, List, [], ◌∷◌, Some};
+ghost use Rattle.std.specs.Prelude.{◌≡◌, ℕ, Bool, true, List, [], ◌∷◌, Some, None};
 ghost use Rattle.wp_model.specs.declared.change.Change.{Change};
 ghost use Rattle.wp_model.specs.declared.entry.Entry.{Entry};
 ghost use Rattle.wp_model.specs.declared.entry.Entry.TheVariants.{Write};
 ghost use Rattle.wp_model.specs.Batch.{is_batch};
-ghost use Rattle.wp_model.specs.Legal.{IsLegal};
+ghost use Rattle.wp_model.specs.Legal.{IsLegal, undone_last};
 ghost use Rattle.wp_judge.specs.declared.observed.Observed.{Observed};
 ghost use Rattle.wp_judge.specs.Order.{judgement};
 ghost use Rattle.wp_core.specs.World.{World, Actor, history};
@@ -22,6 +22,12 @@ ghost use Rattle.wp_core.specs.Tables.{InstalledEdit};
 /// What an opening is does not contradict itself.
 pub fn there_is_an_opening()
     ensures { (w : World) × IsOpening w }
+{}
+
+/// Each legal history that ends in no undo can be opened.
+pub fn every_history_opens()
+    ensures { (opened : List Entry) → IsLegal opened → undone_last opened ≡ None
+        → (w : World) × IsOpening w × (history w ≡ opened) }
 {}
 
 /// Each opening is sound, so the parts of a sound world do not contradict each other.

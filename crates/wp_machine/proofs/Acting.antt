@@ -93,7 +93,7 @@ joined f w we we2 next by other a b note actor more ne at there there2 out at2 o
     ∙ ap (λ (zs : List Actor). record w { actors = zs }) (set-set (set w.actors other joined_actor) by joined_actor more ∙ set_turned w.actors other by joined_actor more ne)
     ∙ ap (λ (z : Actor). with_actor (with_actor w by z) other joined_actor) by_it
 
-got : {X : Type 0} (xs : List X) (i : ℕ) (x : X) → slice_get xs i ≡ Some x → get_elem? xs i ≡ some x
+pub got : {X : Type 0} (xs : List X) (i : ℕ) (x : X) → slice_get xs i ≡ Some x → get_elem? xs i ≡ some x
 got [] i x e = absurd cc
 got (y ∷ xs) zero x e = ap (λ o. some (unwrap_or o x)) e
 got (y ∷ xs) (suc i) x e = got xs i x e

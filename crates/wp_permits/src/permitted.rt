@@ -1,8 +1,8 @@
 //! Whether a step may be made.
-ghost use Rattle.std.specs.Prelude.{◌≡◌, true, IfOk};
-ghost use Rattle.std.specs.Prelude.{ℕ};
+ghost use Rattle.std.specs.Prelude.{◌≡◌, ◌≢◌, ⊤, ℕ, true, false, [], Some, MatchOption, slice_get};
 ghost use Rattle.wp_core.specs.World.{World, Actor};
 ghost use Rattle.wp_machine.specs.Machine.{MayMake, step_of, own_step, tables_step, actors_step};
+ghost use Rattle.wp_machine.specs.declared.step.ActorsStep.TheVariants.{Learn, JoinSeat};
 ghost use Rattle.wp_permits.specs.Permits.{IsOffered};
 
 mod locks;
@@ -35,12 +35,60 @@ fn tables(world: &World, by: usize, kind: &TablesStep) -> bool
     }
 }
 
-fn actors(by: usize, kind: &ActorsStep) -> bool
-    ensures { result ≡ true → (w : World) (a : Actor) → IsOffered w by a (actors_step kind.now) }
+/// The actor at that place, where it is another one.
+fn other_at(world: &World, by: usize, place: usize) -> Option<&Actor>
+    ensures apart { MatchOption result ⊤ (λ other. place ≢ by) }
+    ensures there { MatchOption result ⊤ (λ other. slice_get world.now.actors place ≡ Some other.now) }
+{
+    if place == by {
+        return None;
+    }
+    world.actors.get(place)
+}
+
+/// Whether it is a note, or was joined.
+fn is_dead(actor: &Actor) -> bool
+    ensures { result ≡ true → actor.now.live ≡ false }
+{
+    !actor.live
+}
+
+/// Whether it is a seat that holds no turn.
+fn is_free_seat(actor: &Actor) -> bool
+    ensures { result ≡ true → (actor.now.live ≡ true) × (actor.now.held ≡ []) }
+{
+    actor.live && actor.held.is_empty()
+}
+
+fn learns(world: &World, by: usize, place: usize) -> bool
+    ensures { result ≡ true → (a : Actor) → IsOffered world.now by a (actors_step world.now (Learn place)) }
+{
+    match other_at(world, by, place) {
+        Some(note) => is_dead(note),
+        None => false,
+    }
+}
+
+fn joins_seat(world: &World, by: usize, place: usize) -> bool
+    ensures { result ≡ true → (a : Actor) → IsOffered world.now by a (actors_step world.now (JoinSeat place)) }
+{
+    if by != 0 {
+        return false;
+    }
+    match other_at(world, by, place) {
+        Some(seat) => is_free_seat(seat),
+        None => false,
+    }
+}
+
+fn actors(world: &World, by: usize, kind: &ActorsStep) -> bool
+    ensures { result ≡ true → (a : Actor) → IsOffered world.now by a (actors_step world.now kind.now) }
 {
     match kind {
         ActorsStep::MakeNote => true,
         ActorsStep::MakeSeat => by == 0,
+        ActorsStep::Learn(other) => learns(world, by, *other),
+        ActorsStep::JoinSeat(other) => joins_seat(world, by, *other),
     }
 }
 
@@ -56,7 +104,7 @@ fn offers(world: &World, by: usize, actor: &Actor, kind: &Kind) -> bool
         Kind::Locks(kind) => locks::locks(world, by, actor, kind),
         Kind::Tables(kind) => tables(world, by, kind),
         Kind::Own(kind) => own(actor, kind),
-        Kind::Actors(kind) => actors(by, kind),
+        Kind::Actors(kind) => actors(world, by, kind),
         Kind::Prepared(_) | Kind::Snapshots(_) | Kind::Store(_) => false,
     }
 }

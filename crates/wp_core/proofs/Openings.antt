@@ -1,0 +1,300 @@
+-- Each legal history that ends in no undo can be opened: all its versions stand in memory, no table has one, and each of its
+-- undecided prepares is delayed, its name live, its keys held.
+use Rattle.std.proofs.Common.{◌≡◌, ◌≢◌, inl, inr, ℕ, zero, suc, ◌<◌, ◌≤◌, ◌==◌, eq-eqb, ne_eqb, Bool, true, false, true≢false, cond, List, [], ◌∷◌, ◌++◌, length, map, append-nil, refl, sym, subst, ap, ◌∙◌, Option, Some, None, is_some, filter, slice_index_or, arith}
+use Rattle.std.specs.Prelude.{All}
+use Rattle.std.specs.List.{find, flat_map, range_with_len}
+use Rattle.std.proofs.lemmas.Bool.{cases_lt}
+use Rattle.std.proofs.lemmas.Cmp.{nat_list_cmp_total}
+use Rattle.std.proofs.lemmas.Map.Text.{is_eq-slice_cmp}
+use Rattle.std.specs.Ordering.{nat_cmp, eq_by_cmp}
+use Rattle.std.specs.Str.{bytes_eq}
+use Rattle.std.specs.Cmp.{eq_by_cmp_equiv}
+use Rattle.std.specs.FinSet as finset
+use Rattle.std.specs.FinMap as finite
+use Rattle.wp_model.specs.Batch.{key_cmp, key_of, value_of, change_to}
+use Rattle.wp_model.specs.declared.change.Change.{Change}
+use Rattle.wp_model.specs.declared.entry.Entry.{Entry}
+use Rattle.wp_model.specs.declared.entry.Entry.TheVariants.{Write, Prepare, Commit, Undo, Close}
+use Rattle.wp_model.specs.declared.holder.Holder.{Holder}
+use Rattle.wp_model.specs.declared.holder.Holder.TheVariants.{Txn}
+use Rattle.wp_model.specs.declared.version.Version.{Version}
+use Rattle.wp_model.specs.Covered.{IsCovered, is_among}
+use Rattle.wp_model.specs.History.{entry_at, is_prepare, prepared_name, prepared_batch, undecided, name_at, batch_at, is_changed, is_undecided}
+use Rattle.wp_model.specs.Legal.{IsLegal, changes_in, undone_last}
+use Rattle.wp_model.specs.Decision.{version_in, entry_version}
+use Rattle.wp_model.specs.LockTables.{LockTables, Names, Keys}
+use Rattle.wp_model.specs.Versions.{version_at}
+use Rattle.wp_model.proofs.Entries.{entry_at_past, undecided_prepared}
+use Rattle.wp_history.proofs.Counting.{entry_version_old}
+use Rattle.wp_history.proofs.Growth.{by_growth}
+use Rattle.wp_core.specs.Turns.{all_free}
+use Rattle.wp_core.specs.Tables.{StoreTable, InstalledEdit, live_numbers, up_to}
+use Rattle.wp_core.specs.World.{World, new_actor}
+use Rattle.wp_core.specs.Runs.{IsOpening, AreOpened, named_by}
+use Rattle.wp_core.specs.Sound.Locks.{prepare_holding}
+use Rattle.wp_core.specs.Sound.Store.{versions_under, later_versions, IsStored, NoneFlushed}
+use Rattle.wp_core.proofs.CoveredGrows.{covered_grows}
+use Rattle.wp_core.proofs.HistoryGrows.{grown_length, version_new}
+use Rattle.wp_core.proofs.PendingVersions.{covers_same}
+use Rattle.wp_core.proofs.PublishesVersions.{at_front, at_back, at_under, later_more, up_to_within, up_to_past}
+use Rattle.wp_core.proofs.SnapshotsStep.{among_live}
+use Rattle.wp_core.proofs.Empty.{covered}
+use Rattle.wp_core.proofs.Tests.{none_some}
+
+-- ---- all versions of a history
+
+-- the list has the versions of the history and no others, and shows each reader what the history holds
+pub record AreAll (versions : List Version) (history : List Entry) : Type 0 where
+  pub at : (key : List ℕ) (p : ℕ) → version_at versions key p ≡ entry_version history p key
+  pub covered : IsCovered versions history [] 0
+
+none_past : (history : List Entry) (key : List ℕ) (p : ℕ) → length history < p → entry_version history p key ≡ None
+none_past history key p lt = ap (λ (o : Option Entry). version_in o key) (entry_at_past history p lt)
+
+in_none : (key : List ℕ) (p : ℕ) → None ≡ entry_version [] p key
+in_none key zero = refl
+in_none key (suc p) = refl
+
+module _ (history : List Entry) (entry : Entry) (legal : IsLegal (history ++ entry ∷ [])) (k : AreAll (later_versions history 0) history) where
+  abbrev next : ℕ
+  next = suc (length history)
+
+  abbrev before : List Version
+  before = later_versions history 0
+
+  abbrev under : List Version
+  under = versions_under next (changes_in entry)
+
+  nothing : (key : List ℕ) (p : ℕ) → length history < p → version_at before key p ≡ None
+  nothing key p lt = k.at key p ∙ none_past history key p lt
+
+  not_here : (key : List ℕ) (p : ℕ) → next ≢ p → version_at under key p ≡ None
+  not_here key p ne = at_under next (changes_in entry) key p ∙ ap (λ (b : Bool). cond b (change_to (changes_in entry) key) None) (ne_eqb next p ne)
+
+  old : (key : List ℕ) (p : ℕ) → p ≤ length history → version_at (before ++ under) key p ≡ version_at before key p
+  old key p le = at_front before under key p (not_here key p (λ e. absurd (omega (arith, e, le))))
+
+  new : (key : List ℕ) → version_at (before ++ under) key next ≡ version_in (Some entry) key
+  new key = at_back before under key next (nothing key next (omega arith)) ∙ (at_under next (changes_in entry) key next ∙ ap (λ (b : Bool). cond b (change_to (changes_in entry) key) None) (eq-eqb next next refl))
+
+  past : (key : List ℕ) (p : ℕ) → next < p → version_at (before ++ under) key p ≡ None
+  past key p lt = at_front before under key p (not_here key p (λ e. absurd (omega (arith, e, lt)))) ∙ nothing key p (omega arith)
+
+  at_each : (key : List ℕ) (p : ℕ) → version_at (before ++ under) key p ≡ entry_version (history ++ entry ∷ []) p key
+  at_each key p = elim (cases_lt (length history) p) [
+    | inr le ↦ old key p le ∙ k.at key p ∙ sym (entry_version_old history (entry ∷ []) p key le)
+    | inl gt ↦ elim (cases_lt next p) [
+      | inl beyond ↦ past key p beyond ∙ sym (none_past (history ++ entry ∷ []) key p (let l = grown_length history entry legal in omega (arith, l, beyond)))
+      | inr le ↦ let same : p ≡ next = omega (arith, gt, le) in
+          ap (version_at (before ++ under) key) same ∙ new key ∙ sym (version_new history entry legal key) ∙ ap (λ (q : ℕ). entry_version (history ++ entry ∷ []) q key) (sym same)
+    ]
+  ]
+
+  one_more : AreAll (later_versions (history ++ entry ∷ []) 0) (history ++ entry ∷ [])
+  one_more =
+      subst (λ (z : List Version). AreAll z (history ++ entry ∷ [])) (sym (later_more history entry 0 (omega arith)))
+      record { at = at_each; covered = covered_grows history entry legal before (before ++ under) [] 0 k.covered (omega arith) old new past 0 (omega arith) (λ m among. absurd cc) }
+
+pub all_versions : (history : List Entry) → IsLegal history → AreAll (later_versions history 0) history
+all_versions history legal = by_growth (λ h. AreAll (later_versions h 0) h) record { at = in_none; covered = covered [] } (λ h entry after before legal_next k. one_more h entry after k) history legal
+
+-- ---- they are a store
+
+abbrev pub no_table : InstalledEdit
+no_table = record { flushed = 0; versions = []; tables = 0 }
+
+abbrev pub all_in_memory : List Entry → StoreTable
+all_in_memory history = record { memory = later_versions history 0; tables = []; floor = 0 }
+
+module _ (history : List Entry) (legal : IsLegal history) where
+  abbrev versions : List Version
+  versions = later_versions history 0
+
+  all : AreAll versions history
+  all = all_versions history legal
+
+  not_past : (key : List ℕ) (p : ℕ) → length history < p → version_at versions key p ≡ None
+  not_past key p lt = all.at key p ∙ none_past history key p lt
+
+  within : (key : List ℕ) (p : ℕ) → version_at (up_to (length history) (versions ++ [])) key p ≡ version_at versions key p
+  within key p = elim (cases_lt (length history) p) [
+    | inr le ↦ up_to_within (length history) (versions ++ []) key p le ∙ ap (λ (z : List Version). version_at z key p) (append-nil versions)
+    | inl gt ↦ up_to_past (length history) (versions ++ []) key p gt ∙ sym (not_past key p gt)
+  ]
+
+  none_live : (n : ℕ) → is_among (live_numbers finite.empty) n ≡ true → ⊥
+  none_live n among = true≢false (sym among ∙ among_live finite.empty n ∙ ap is_some (finite.get-empty nat_cmp n))
+
+  shown : IsCovered (up_to (length history) (versions ++ [])) history [] 0
+  shown = covers_same versions (up_to (length history) (versions ++ [])) history [] 0 within all.covered
+
+  pub all_stored : IsStored history [] finite.empty (all_in_memory history) (record { last = no_table; failed = None; halted = false })
+  all_stored = record {
+    covered = record { part = shown.part; undecided = shown.undecided; undone = shown.undone; listed = λ key n among. absurd (none_live n among); later = shown.later };
+    floor = omega arith;
+    next = λ key p value lt e. absurd (none_some (version_at versions key p) value (not_past key p lt) e);
+    tables = λ key p value e. let q : None ≡ Some value = e in absurd (cc);
+    last = record {
+      flushed = omega arith;
+      covered = let k = all.covered in record { part = k.part; undecided = k.undecided; undone = k.undone; listed = k.listed; later = λ key n low high. k.later key n (omega arith) high };
+    };
+    failed = λ edit e. let q : None ≡ Some edit = e in absurd (cc);
+    in_memory = λ key p value lt e. all.at key p ∙ e;
+  }
+
+  pub none_flushed : NoneFlushed versions 0
+  none_flushed key p le = let same : p ≡ 0 = omega (arith, le) in all.at key p ∙ ap (λ (q : ℕ). entry_version history q key) same
+
+-- ---- names and keys, as pairs
+
+-- the name of a prepare, had by nobody
+abbrev pub name_left : Option Entry → List (List ℕ × Option (List ℕ))
+name_left (Some (Prepare name batch)) = (name, None) ∷ []
+name_left other = []
+
+-- the keys of a prepare, each held by its transaction
+abbrev pub keys_left : Option Entry → List (List ℕ × Holder)
+keys_left (Some (Prepare name batch)) = map (λ change. (key_of change, Txn name)) batch
+keys_left other = []
+
+abbrev pub names_of : List Entry → List (List ℕ × Option (List ℕ))
+names_of history = flat_map (λ p. name_left (entry_at history p)) (undecided history)
+
+abbrev pub keys_of : List Entry → List (List ℕ × Holder)
+keys_of history = flat_map (λ p. keys_left (entry_at history p)) (undecided history)
+
+tied : (x q : List ℕ) → eq_by_cmp key_cmp q x ≡ bytes_eq x q
+tied x q = (eq_by_cmp_equiv nat_list_cmp_total).symm q x ∙ is_eq-slice_cmp x q
+
+name_first : (x : Option Entry) (more : List (List ℕ × Option (List ℕ))) (q : List ℕ) → is_prepare x ≡ true → finite.find key_cmp q (name_left x ++ more) ≡ cond (bytes_eq (prepared_name x) q) (Some None) (finite.find key_cmp q more)
+name_first None more q is = absurd cc
+name_first (Some (Write batch)) more q is = absurd cc
+name_first (Some (Prepare name batch)) more q is = ap (λ (b : Bool). cond b (Some None) (finite.find key_cmp q more)) (tied name q)
+name_first (Some (Commit p)) more q is = absurd cc
+name_first (Some (Undo p batch)) more q is = absurd cc
+name_first (Some (Close p)) more q is = absurd cc
+
+either_named : (b : Bool) (p : ℕ) (o : Option ℕ) → cond b (Some None) (named_by o) ≡ named_by (cond b (Some p) o)
+either_named true p o = refl
+either_named false p o = refl
+
+module _ (history : List Entry) where
+  abbrev has : List ℕ → ℕ → Bool
+  has q p = bytes_eq (name_at history p) q
+
+  names_found : (q : List ℕ) (ps : List ℕ) → finite.find key_cmp q (flat_map (λ p. name_left (entry_at history p)) (filter (is_undecided history) ps)) ≡ named_by (find (has q) (filter (is_undecided history) ps))
+  names_found q [] = refl
+  names_found q (p ∷ ps) = by (is_undecided history p) refl (names_found q ps)
+    where
+      by : (b : Bool) → is_undecided history p ≡ b → finite.find key_cmp q (flat_map (λ k. name_left (entry_at history k)) (filter (is_undecided history) ps)) ≡ named_by (find (has q) (filter (is_undecided history) ps))
+          → finite.find key_cmp q (flat_map (λ k. name_left (entry_at history k)) (cond b (p ∷ filter (is_undecided history) ps) (filter (is_undecided history) ps))) ≡ named_by (find (has q) (cond b (p ∷ filter (is_undecided history) ps) (filter (is_undecided history) ps)))
+      by true u h = name_first (entry_at history p) _ q (undecided_prepared history p u) ∙ ap (cond (has q p) (Some None)) h ∙ either_named (has q p) p _
+      by false u h = h
+
+  key_first : (name : List ℕ) (batch : List Change) (more : List (List ℕ × Holder)) (q : List ℕ) → finite.find key_cmp q (map (λ change. (key_of change, Txn name)) batch ++ more) ≡ cond (is_changed batch q) (Some (Txn name)) (finite.find key_cmp q more)
+  key_first name [] more q = refl
+  key_first name (change ∷ batch) more q = by (eq_by_cmp key_cmp q (key_of change)) (bytes_eq (key_of change) q) (tied (key_of change) q) (key_first name batch more q)
+    where
+      by : (a b : Bool) → a ≡ b → finite.find key_cmp q (map (λ c. (key_of c, Txn name)) batch ++ more) ≡ cond (is_changed batch q) (Some (Txn name)) (finite.find key_cmp q more)
+          → cond a (Some (Txn name)) (finite.find key_cmp q (map (λ c. (key_of c, Txn name)) batch ++ more)) ≡ cond (is_some (cond b (Some (value_of change)) (change_to batch q))) (Some (Txn name)) (finite.find key_cmp q more)
+      by true true e h = refl
+      by false false e h = h
+      by true false e h = absurd cc
+      by false true e h = absurd cc
+
+  keys_first : (x : Option Entry) (more : List (List ℕ × Holder)) (q : List ℕ) → finite.find key_cmp q (keys_left x ++ more) ≡ cond (is_changed (prepared_batch x) q) (Some (Txn (prepared_name x))) (finite.find key_cmp q more)
+  keys_first None more q = refl
+  keys_first (Some (Write batch)) more q = refl
+  keys_first (Some (Prepare name batch)) more q = key_first name batch more q
+  keys_first (Some (Commit p)) more q = refl
+  keys_first (Some (Undo p batch)) more q = refl
+  keys_first (Some (Close p)) more q = refl
+
+  abbrev changes : List ℕ → ℕ → Bool
+  changes q p = is_changed (batch_at history p) q
+
+  either_held : (b : Bool) (p : ℕ) (o : Option ℕ) → cond b (Some (Txn (name_at history p))) (prepare_holding history o) ≡ prepare_holding history (cond b (Some p) o)
+  either_held true p o = refl
+  either_held false p o = refl
+
+  keys_found : (q : List ℕ) (ps : List ℕ) → finite.find key_cmp q (flat_map (λ p. keys_left (entry_at history p)) ps) ≡ prepare_holding history (find (changes q) ps)
+  keys_found q [] = refl
+  keys_found q (p ∷ ps) = keys_first (entry_at history p) _ q ∙ ap (cond (changes q p) (Some (Txn (name_at history p)))) (keys_found q ps) ∙ either_held (changes q p) p _
+
+  pub tables_opened : (t : LockTables) → t.names ≡ finite.from_entries (names_of history) → t.keys ≡ finite.from_entries (keys_of history) → t.labels ≡ finite.empty → AreOpened history t
+  tables_opened t names keys labels = record {
+    names = λ q. ap (λ (z : Names). finite.get z q) names ∙ finite.get-from_entries nat_list_cmp_total (names_of history) q ∙ names_found q (range_with_len 1 (length history));
+    keys = λ q. ap (λ (z : Keys). finite.get z q) keys ∙ finite.get-from_entries nat_list_cmp_total (keys_of history) q ∙ keys_found q (undecided history);
+    labels = labels;
+  }
+
+-- ---- the opening
+
+-- the delayed flag is up just where something is undecided
+abbrev pub flag_of : List ℕ → ℕ
+flag_of [] = 0
+flag_of (p ∷ ps) = 1
+
+flag_down : (ps : List ℕ) → flag_of ps ≡ 0 → ps ≡ []
+flag_down [] e = refl
+flag_down (p ∷ ps) e = absurd (omega (arith, e))
+
+-- the world that is opened on a history
+abbrev pub opened_world : List Entry → List ℕ → List ℕ → World
+opened_world history cache client =
+    record {
+      opened = history;
+      max_evicted = length history;
+      delayed_flag = flag_of (undecided history);
+      old_flag = 0;
+      cache = cache;
+      holders = all_free;
+      writes = record { history = history; pending = []; logged = false; log = history; closed = false; failed = [] };
+      prepared = record { heap = finset.empty; delayed = finset.from_list (undecided history); delayed_commits = finite.empty };
+      snapshots = finite.empty;
+      store = all_in_memory history;
+      locks = record { names = finite.from_entries (names_of history); keys = finite.from_entries (keys_of history); labels = finite.empty };
+      installed = record { last = no_table; failed = None; halted = false };
+      first_edit = no_table;
+      actors = new_actor true client history ∷ [];
+    }
+
+pub world_opened : (history : List Entry) (cache client : List ℕ) → IsLegal history → undone_last history ≡ None → 1 ≤ length cache → All (λ word. word ≡ 0) cache → IsOpening (opened_world history cache client)
+world_opened history cache client legal closed words zeros = record {
+  legal = legal;
+  closed_undo = closed;
+  history = refl;
+  pending = refl;
+  log = refl;
+  running_log = refl;
+  none_failed = refl;
+  max_evicted = refl;
+  words = words;
+  cache = zeros;
+  holders = refl;
+  heap = refl;
+  delayed = refl;
+  delayed_commits = refl;
+  delayed_flag = flag_down (undecided history);
+  delayed_free = λ none. ap flag_of none;
+  old_flag = refl;
+  snapshots = refl;
+  versions = all_stored history legal;
+  flushed = none_flushed history legal;
+  first_edit = refl;
+  not_failed = refl;
+  running = refl;
+  locks = tables_opened history (opened_world history cache client).locks refl refl refl;
+  client = client;
+  actors = refl;
+}
+
+abbrev pub one_word : List ℕ
+one_word = 0 ∷ []
+
+only_zero : (i d : ℕ) → i < 1 → slice_index_or one_word i d ≡ 0
+only_zero zero d lt = refl
+only_zero (suc i) d lt = absurd (omega arith)
+
+pub is_opened : (history : List Entry) → IsLegal history → undone_last history ≡ None → IsOpening (opened_world history one_word [])
+is_opened history legal closed = world_opened history one_word [] legal closed (omega arith) (λ i d lt. only_zero i d lt)
