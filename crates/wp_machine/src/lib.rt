@@ -11,6 +11,7 @@
 //! Whether a step may be made is tested by `wp_permits`.
 #![tactic(auto)]
 
+mod access;
 mod actor;
 mod applied;
 mod cache;
@@ -33,6 +34,7 @@ pub use actor::{Actor, Participant, Registration, Transaction};
 pub use applied::{actor_at, apply};
 pub use cache::Cache;
 pub use content::Content;
+pub use copies::copy_versions;
 pub use locks::LockTables;
 pub use prepared::PreparedTables;
 pub use snapshots::{Snapshot, Snapshots};
@@ -42,6 +44,7 @@ pub use step::{
 };
 pub use store::{Installed, InstalledEdit, StoreTable};
 pub use turn::{Holders, Turn};
+pub use versions::versions_of_next;
 pub use views::{Account, Event, Fact, Found, Noted};
 pub use world::World;
 pub use writes::WriteTable;

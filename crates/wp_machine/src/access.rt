@@ -1,0 +1,61 @@
+//! What tables show to those who test a step.
+ghost use Rattle.std.specs.Prelude.{◌≡◌};
+ghost use Rattle.std.specs.Option.{option_copied};
+
+use crate::store::{Installed, InstalledEdit, StoreTable};
+use crate::writes::WriteTable;
+use wp_model::{Entry, Seq, Version};
+
+impl StoreTable {
+    pub fn tables(&self) -> &[Version]
+        ensures { result.now ≡ self.now.tables }
+    {
+        &self.tables
+    }
+
+    pub fn memory(&self) -> &[Version]
+        ensures { result.now ≡ self.now.memory }
+    {
+        &self.memory
+    }
+
+    pub fn floor(&self) -> Seq
+        ensures { result ≡ self.now.floor }
+    {
+        self.floor
+    }
+}
+
+impl Installed {
+    pub fn last(&self) -> &InstalledEdit
+        ensures { result.now ≡ self.now.last }
+    {
+        &self.last
+    }
+
+    pub fn failed(&self) -> Option<&InstalledEdit>
+        ensures { option_copied result ≡ self.now.failed }
+    {
+        self.failed.as_ref()
+    }
+
+    pub fn is_halted(&self) -> bool
+        ensures { result ≡ self.now.halted }
+    {
+        self.halted
+    }
+}
+
+impl WriteTable {
+    pub fn entries(&self) -> &[Entry]
+        ensures { result.now ≡ self.now.history }
+    {
+        &self.history
+    }
+
+    pub fn next_entries(&self) -> &[Entry]
+        ensures { result.now ≡ self.now.pending }
+    {
+        &self.pending
+    }
+}

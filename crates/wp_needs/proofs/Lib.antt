@@ -1,0 +1,7 @@
+pub mod Changes
+pub mod ListFacts
+pub mod OfferedSteps
+pub mod Owning
+pub mod Places
+pub mod Stores
+pub mod LiveNumbers

@@ -1,0 +1,5 @@
+pub mod Offered
+pub mod Each
+pub mod Said
+pub mod Holding
+pub mod VersionLists

@@ -1,0 +1,93 @@
+//! Whether versions cover a history.
+ghost use Rattle.std.specs.Prelude.{◌≡◌, ◌++◌, Some, true, length, IfOk};
+ghost use Rattle.std.specs.Option.{option_copied};
+ghost use Rattle.wp_model.specs.Covered.{IsCovered};
+ghost use Rattle.wp_core.specs.Tables.{live_numbers, up_to, InstalledEdit};
+ghost use Rattle.wp_core.specs.Sound.Store.{later_versions, IsEditCovered};
+
+use crate::live::numbers;
+use crate::order::in_order;
+use crate::versions::{joined, up_to};
+use std::alloc::{AllocError, Global};
+use wp_cover::covers;
+use wp_history::History;
+use wp_machine::{InstalledEdit, Snapshots, versions_of_next};
+use wp_model::{Entry, Seq, Version};
+
+fn are_covered(
+    history: &History,
+    list: &[Version],
+    numbers: &[Seq],
+    from: Seq,
+    alloc: Global,
+) -> Result<bool, AllocError>
+    ensures { IfOk result (λ yes. yes ≡ true → IsCovered list.now history.now.entries numbers.now from) }
+{
+    let versions = in_order(list, alloc)?;
+    let yes = covers(alloc, history, &versions, numbers, from)?;
+    Ok(yes)
+}
+
+/// The versions of the entries after so many.
+fn later_versions(entries: &[Entry], n: Seq, alloc: Global) -> Result<Vec<Version>, AllocError>
+    ensures { IfOk result (λ later. later.items ≡ later_versions entries.now n) }
+{
+    let mut later = Vec::new(alloc);
+    let mut i = n;
+    while i < entries.len() as Seq {
+        let mut versions = versions_of_next(i + 1, &entries[i as usize..], alloc)?;
+        later.append(&mut versions)?;
+        i += 1;
+    }
+    Ok(later)
+}
+
+/// Whether the edit's versions, with the later ones of the history, cover it at its end.
+pub(crate) fn is_edit_covered(
+    history: &History,
+    edit: &InstalledEdit,
+    alloc: Global,
+) -> Result<bool, AllocError>
+    ensures { IfOk result (λ yes. yes ≡ true → IsEditCovered history.now.entries edit.now) }
+{
+    if edit.flushed > history.published() {
+        return Ok(false);
+    }
+    let later = later_versions(history.entries(), edit.flushed, alloc)?;
+    let all = joined(&edit.versions, &later, alloc)?;
+    let yes = are_covered(history, &all, &[], history.published(), alloc)?;
+    Ok(yes)
+}
+
+/// Whether the edit, if there is one, is covered.
+pub(crate) fn is_any_covered(
+    history: &History,
+    edit: Option<&InstalledEdit>,
+    alloc: Global,
+) -> Result<bool, AllocError>
+    ensures { IfOk result (λ yes. yes ≡ true → (some : InstalledEdit) → option_copied edit.entry ≡ Some some → IsEditCovered history.now.entries some) }
+{
+    match edit {
+        Some(edit) => is_edit_covered(history, edit, alloc),
+        None => Ok(true),
+    }
+}
+
+/// Whether the versions in memory and in tables cover the history, at each live number and from the floor on.
+pub(crate) fn is_store_covered(
+    history: &History,
+    snapshots: &Snapshots,
+    memory: &[Version],
+    tables: &[Version],
+    floor: Seq,
+    alloc: Global,
+) -> Result<bool, AllocError>
+    ensures { IfOk result (λ yes. yes ≡ true
+        → IsCovered (up_to (length history.now.entries) (memory.now ++ tables.now)) history.now.entries (live_numbers snapshots.now) floor) }
+{
+    let all = joined(memory, tables, alloc)?;
+    let some = up_to(history.published(), &all, alloc)?;
+    let live = numbers(snapshots, alloc)?;
+    let yes = are_covered(history, &some, &live, floor, alloc)?;
+    Ok(yes)
+}
