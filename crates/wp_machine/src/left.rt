@@ -52,10 +52,7 @@ fn push_keys(
 }
 
 /// The names of the undecided prepares, had by nobody.
-pub fn names_left(
-    history: &History,
-    alloc: Global,
-) -> Result<Vec<(Name, Option<Name>)>, AllocError>
+pub fn names_left(history: &History, alloc: Global) -> Result<Vec<(Name, Option<Name>)>, AllocError>
     ensures { IfOk result (λ names. names.items ≡ names_of history.now.entries) }
 {
     let mut names = Vec::new(alloc);

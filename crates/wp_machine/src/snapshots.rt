@@ -193,11 +193,7 @@ impl Snapshots {
         Ok(())
     }
 
-    pub fn release_any(
-        &mut self,
-        number: Option<Seq>,
-        alloc: Global,
-    ) -> Result<(), AllocError>
+    pub fn release_any(&mut self, number: Option<Seq>, alloc: Global) -> Result<(), AllocError>
         ensures { OnOk result (self.new ≡ with_released_any self.old number) }
     {
         match number {

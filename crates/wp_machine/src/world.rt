@@ -75,12 +75,7 @@ impl World {
         World::on(alloc, client, history, words)
     }
 
-    fn on(
-        alloc: Global,
-        client: Name,
-        history: &History,
-        words: usize,
-    ) -> Result<World, AllocError>
+    fn on(alloc: Global, client: Name, history: &History, words: usize) -> Result<World, AllocError>
         requires { 1 ≤ words }
         ensures world { IfOk result (λ world. world ≡ opened_world history.now.entries (replicate words 0) client) }
         ensures legal { IsLegal history.now.entries }
