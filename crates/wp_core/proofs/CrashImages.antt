@@ -1,8 +1,9 @@
 -- What a crash may leave, in a sound world.
-use Rattle.std.proofs.Common.{◌≡◌, Bool, true, false, List, [], ◌++◌, refl, ap, ◌∙◌, inl, inr}
+use Rattle.std.proofs.Common.{◌≡◌, ℕ, Bool, true, false, List, [], ◌∷◌, ◌++◌, Some, refl, sym, ap, subst, ◌∙◌, inl, inr, append_assoc}
 use Rattle.std.proofs.lemmas.List.{append-nil}
 use Rattle.wp_model.specs.declared.entry.Entry.{Entry}
 use Rattle.wp_model.specs.Legal.{IsLegal}
+use Rattle.wp_history.proofs.Growth.{legal_before}
 use Rattle.wp_core.specs.Images.{MaySpell, MayName}
 use Rattle.wp_core.specs.IsSound.{IsSound}
 use Rattle.wp_core.specs.Sound.Actors.{StartsWith}
@@ -10,6 +11,7 @@ use Rattle.wp_core.specs.Sound.History.{logged_part}
 use Rattle.wp_core.specs.Sound.Store.{IsEditCovered}
 use Rattle.wp_core.specs.Tables.{InstalledEdit}
 use Rattle.wp_core.specs.World.{World, history}
+use Rattle.wp_core.proofs.PublishesVersions.{edit_part}
 
 Left : List Entry → List Entry → Type 0
 Left before entries = StartsWith entries before × IsLegal entries
@@ -44,9 +46,23 @@ left_by_crash w sound entries may =
           ((w.writes.failed, all), rw all sound.history.legal_failed)
     ]
 
-pub edit_by_crash : (w : World) → IsSound w → (edit : InstalledEdit) → MayName w.installed edit → IsEditCovered (history w) edit
-edit_by_crash w sound edit may =
+-- entries that follow legally leave an edit covered
+edit_more : (more history : List Entry) (edit : InstalledEdit) → IsLegal (history ++ more) → IsEditCovered history edit → IsEditCovered (history ++ more) edit
+edit_more [] history edit legal covered = rw (append-nil history) covered
+edit_more (entry ∷ more) history edit legal covered =
+    let same : (history ++ entry ∷ []) ++ more ≡ history ++ entry ∷ more = append_assoc history (entry ∷ []) more in
+    let whole : IsLegal ((history ++ entry ∷ []) ++ more) = subst IsLegal (sym same) legal in
+    subst (λ (es : List Entry). IsEditCovered es edit) same (edit_more more (history ++ entry ∷ []) edit whole (edit_part history entry (legal_before (history ++ entry ∷ []) more whole) edit covered))
+
+edit_named : (w : World) → IsSound w → (edit : InstalledEdit) → MayName w.installed edit → IsEditCovered (history w) edit
+edit_named w sound edit may =
     elim may [
       | inl last ↦ rw last sound.versions.last
       | inr failed ↦ sound.versions.failed edit failed
     ]
+
+pub edit_by_crash : (w : World) → IsSound w → (entries : List Entry) (edit : InstalledEdit) → MaySpell w.writes entries → MayName w.installed edit → IsEditCovered entries edit
+edit_by_crash w sound entries edit spelled named =
+    let left = left_by_crash w sound entries spelled in
+    let all : entries ≡ history w ++ left.0.0 = left.0.1 in
+    rw all (edit_more left.0.0 (history w) edit (subst IsLegal all left.1) (edit_named w sound edit named))

@@ -272,8 +272,8 @@ module _ (batch : List Change) (is : is_batch batch ≡ true) (s : HasKeys batch
 
 -- ---- together
 
-pub publishes : (batch : List Change) → is_batch batch ≡ true → (w : World) × Reaches w × (history w ≡ Write batch ∷ [])
-publishes batch is = (_, (empty_world, empty_is_opening, was_published batch is (lock_all batch)), refl)
+pub publishes : (batch : List Change) → is_batch batch ≡ true → (w : World) × Reaches w × (history w ≡ Write batch ∷ []) × (w.opened ≡ [])
+publishes batch is = (_, (empty_world, empty_is_opening, was_published batch is (lock_all batch)), refl, refl)
 
 -- a batch of one change does
 pub judges : (w : World) × Reaches w × (a : Actor) × (r : Observed) × (get_elem? w.actors 0 ≡ some a) × (a.reading ≡ Some r) × (judgement r ≡ Some true)

@@ -51,15 +51,16 @@ pub fn histories_grow()
         → StartsWith (history later) (history w) × IsLegal (history later) }
 {}
 
-/// What a crash leaves of the log in a reached world is a legal history that begins with all that is published.
+/// What a crash between steps of a reached world may leave in the log is a legal history that begins with all that is published.
 pub fn crashes_leave_the_history()
     ensures { (w : World) → Reaches w → (entries : List Entry) → MaySpell w.writes entries
         → StartsWith entries (history w) × IsLegal entries }
 {}
 
-/// Whichever edit a crash leaves in a reached world, its tables with the later entries answer as the history does.
+/// Whichever entries and whichever edit such a crash leaves, the edit's tables with the later entries answer as these do.
 pub fn crashes_leave_an_edit_that_covers()
-    ensures { (w : World) → Reaches w → (edit : InstalledEdit) → MayName w.installed edit → IsEditCovered (history w) edit }
+    ensures { (w : World) → Reaches w → (entries : List Entry) (edit : InstalledEdit)
+        → MaySpell w.writes entries → MayName w.installed edit → IsEditCovered entries edit }
 {}
 
 /// Where a reader has loaded what it needs, however the steps of others fell between its loads, its judgement is whether the
@@ -72,7 +73,7 @@ pub fn readers_judge_right()
 
 /// Steps can be made: from an opening on the empty history they publish each batch.
 pub fn writes_can_be_published()
-    ensures { (batch : List Change) → is_batch batch ≡ true → (w : World) × Reaches w × (history w ≡ Write batch ∷ []) }
+    ensures { (batch : List Change) → is_batch batch ≡ true → (w : World) × Reaches w × (history w ≡ Write batch ∷ []) × (w.opened ≡ []) }
 {}
 
 /// A reader can come to a judgement: in a reached world one has found a version committed at its snapshot.

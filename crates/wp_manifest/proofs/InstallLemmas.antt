@@ -1,5 +1,5 @@
 -- What an install makes of a manifest that stores edits.
-use Rattle.std.proofs.Common.{◌≡◌, ℕ, true, false, List, [], ◌∷◌, ◌++◌, sym, ap, ◌∙◌, inl, inr}
+use Rattle.std.proofs.Common.{◌≡◌, ℕ, true, false, List, [], ◌∷◌, ◌++◌, sym, ap, ◌∙◌, inl, inr, ◌+◌, length-append, arith}
 use Rattle.wp_outside.specs.Disk.{Moment, IfKnown, Each, Passes, images}
 use Rattle.wp_gatelog.specs.declared.log.AppendError.{AppendError}
 use Rattle.wp_gatelog.specs.declared.log.AppendError.TheVariants.{DiskFault, Closed}
@@ -60,9 +60,11 @@ pub stores_installed : (old : ManifestState) (new : LogState) (frame bytes : Lis
 stores_installed old new frame bytes edit len framed spelling is appended rests edits stores =
     let running : new.closed ≡ old.log.closed = ap (λ (s : LogState). s.closed) appended.changed in
     let was_open = appended.was_open in
+    let count : new.count ≡ old.log.count + 1 = ap (λ (s : LogState). s.count) appended.changed in
     record {
       records = stores.records ++ edit_bytes edit ∷ [];
       spelled = AreEdits-push stores.records edits edit stores.spelled is;
+      counted = omega (arith, count, stores.counted, length-append edits (edit ∷ []));
       last = sym (last-push edits edit);
       rests = λ _. rests MAGIC stores.records (edit_bytes edit) (framed ∙ ap frame_of spelling) (stores.rests appended.was_open);
       left = λ closed. absurd cc;
@@ -74,11 +76,13 @@ stores_failed old new frame bytes edit at_rest framed spelling is refuses left a
     let rests = stores.rests refuses.0 in
     let same : new.id ≡ old.log.id = ap (λ (s : LogState). s.id) refuses.2 in
     let closed : new.closed ≡ true = ap (λ (s : LogState). s.closed) refuses.2 in
+    let count : new.count ≡ old.log.count = ap (λ (s : LogState). s.count) refuses.2 in
     let still = acknowledged_now at_rest old.log.id old.log.end stores.records old.log.moments new.moments rests (acknowledges MAGIC stores.records rests) in
     let either = λ (image : List ℕ) (at : images new.moments image). grown_edits old.log.id stores.records edits edit image stores.spelled is (left MAGIC stores.records (edit_bytes edit) (framed ∙ ap frame_of spelling) rests image at) in
     record {
       records = stores.records;
       spelled = stores.spelled;
+      counted = count ∙ stores.counted;
       last = stores.last;
       rests = λ reopened. absurd cc;
       left = λ _. rw same (both_left (IsManifestOrNext old.log.id edits edit) (HasAcknowledged MAGIC old.log.id stores.records) new.moments either still);

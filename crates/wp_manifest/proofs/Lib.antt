@@ -1,3 +1,4 @@
 pub mod EditLemmas
 pub mod OpeningLemmas
 pub mod InstallLemmas
+pub mod LawLemmas

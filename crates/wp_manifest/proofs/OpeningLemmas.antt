@@ -16,7 +16,7 @@ use Rattle.wp_manifest.specs.Spelling.{MAGIC, HasHead}
 
 -- ---- the head
 
-head_of : (id head gate : ℕ) (gated : List Gated) (bytes rest : List ℕ) → head ≢ 0 → bytes ≡ log_of MAGIC id head gated ++ gate ∷ rest → HasHead id bytes
+pub head_of : (id head gate : ℕ) (gated : List Gated) (bytes rest : List ℕ) → head ≢ 0 → bytes ≡ log_of MAGIC id head gated ++ gate ∷ rest → HasHead id bytes
 head_of id head gate [] bytes rest is_open is = record { head = head; gate = gate; rest = rest; head_open = is_open; spelling = is ∙ ap (λ (xs : List ℕ). head ∷ xs) (append_assoc (identity MAGIC id) [] (gate ∷ rest)) }
 head_of id head gate (g ∷ more) bytes rest is_open is = record {
   head = head;
@@ -26,7 +26,7 @@ head_of id head gate (g ∷ more) bytes rest is_open is = record {
   spelling = is ∙ ap (λ (xs : List ℕ). head ∷ xs) (append_assoc (identity MAGIC id) (all_gated (g ∷ more)) (gate ∷ rest));
 }
 
-cut_head : (index : ℕ) (bytes : List ℕ) (cut : IsCut MAGIC index bytes) → HasHead cut.id bytes
+pub cut_head : (index : ℕ) (bytes : List ℕ) (cut : IsCut MAGIC index bytes) → HasHead cut.id bytes
 cut_head index bytes cut = head_of cut.id cut.head cut.gate cut.gated bytes cut.rest cut.head_open cut.spelling
 
 -- what was found under another id was made before

@@ -1,5 +1,5 @@
 -- An open manifest that stores edits, and what an install makes of it.
-use Rattle.std.specs.Prelude.{◌≡◌, ℕ, true, false, List}
+use Rattle.std.specs.Prelude.{◌≡◌, ℕ, true, false, List, length}
 use Rattle.wp_outside.specs.Disk.{Moment, IfKnown}
 use Rattle.wp_outside.specs.Faults.{Rose}
 use Rattle.wp_gatelog.specs.Durability.{HasAcknowledged}
@@ -23,6 +23,7 @@ LeavesEditsOrNext id records edits next = Leaves (λ image. IsManifestOrNext id 
 pub record StoresEdits (manifest : ManifestState) (edits : List Edit) (next : Edit) : Type 0 where
   pub records : List (List ℕ)
   pub spelled : AreEdits records edits
+  pub counted : manifest.log.count ≡ length edits
   pub last : manifest.edit ≡ last_edit edits
   pub rests : manifest.log.closed ≡ false → Rests MAGIC manifest.log records
   pub left : manifest.log.closed ≡ true → IfKnown manifest.log.moments (LeavesEditsOrNext manifest.log.id records edits next)

@@ -1,9 +1,37 @@
 //! What bytes are as an edit.
 
-ghost use Rattle.std.specs.Prelude.{◌≡◌};
+ghost use Rattle.std.specs.Prelude.{◌≡◌, ◌<◌, ◌^◌, ℕ, List};
+ghost use Rattle.wp_gatelog.specs.Damage.{IsBadHead};
 ghost use Rattle.wp_manifest.specs.Edit.{Edit, IsEdit, edit_bytes};
+ghost use Rattle.wp_manifest.specs.Opening.{IsBadEdit, IsStranger};
+ghost use Rattle.wp_manifest.specs.Spelling.{MAGIC, IsManifestOf};
+
+use wp_gatelog::bytes_are_read_in_one_way;
 
 /// No two edits have the same bytes.
 pub fn edits_have_one_spelling()
     ensures { (one other : Edit) → IsEdit one → IsEdit other → edit_bytes one ≡ edit_bytes other → one ≡ other }
 {}
+
+/// Bytes are the manifest of one list of edits, or have a bad head, or the head of another store, or a first record that is no
+/// edit: at most one of these, in one way.
+pub fn a_manifest_is_read_in_one_way()
+    ensures one_list { (bytes : List ℕ) (id other : ℕ) (edits others : List Edit)
+        → IsManifestOf id edits bytes → IsManifestOf other others bytes → edits ≡ others }
+    ensures one_bad_edit { (bytes : List ℕ) (id index other : ℕ)
+        → IsBadEdit id index bytes → IsBadEdit id other bytes → index ≡ other }
+    ensures edits_or_bad_head { (bytes : List ℕ) (id : ℕ) (edits : List Edit)
+        → IsManifestOf id edits bytes → IsBadHead MAGIC bytes → ⊥ }
+    ensures edits_or_bad_edit { (bytes : List ℕ) (id index : ℕ) (edits : List Edit)
+        → IsManifestOf id edits bytes → IsBadEdit id index bytes → ⊥ }
+    ensures bad_head_or_bad_edit { (bytes : List ℕ) (id index : ℕ)
+        → IsBadHead MAGIC bytes → IsBadEdit id index bytes → ⊥ }
+    ensures bad_head_or_stranger { (bytes : List ℕ) (id log found : ℕ)
+        → IsBadHead MAGIC bytes → IsStranger id log found bytes → ⊥ }
+    ensures edits_or_stranger { (bytes : List ℕ) (id log found : ℕ) (edits : List Edit)
+        → id < 2 ^ 32 → found < 2 ^ 32 → IsManifestOf id edits bytes → IsStranger id log found bytes → ⊥ }
+    ensures bad_edit_or_stranger { (bytes : List ℕ) (id index log found : ℕ)
+        → id < 2 ^ 32 → found < 2 ^ 32 → IsBadEdit id index bytes → IsStranger id log found bytes → ⊥ }
+{
+    bytes_are_read_in_one_way();
+}

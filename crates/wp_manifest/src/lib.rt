@@ -14,7 +14,7 @@ mod write;
 
 pub use edit::Edit;
 pub use error::{InstallError, ManifestError};
-pub use laws::edits_have_one_spelling;
+pub use laws::{a_manifest_is_read_in_one_way, edits_have_one_spelling};
 pub use manifest::Manifest;
 
 #[cfg(test)]

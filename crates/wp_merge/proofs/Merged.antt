@@ -17,12 +17,12 @@ use Rattle.wp_merge.specs.Merge.{first_at, choose_by_order, weave, merge_of}
 less_not_equal : Less ≡ Equal → ⊥
 less_not_equal h = absurd cc
 
-both_equal : (o p : Ordering) → ordering_then o p ≡ Equal → (o ≡ Equal) × (p ≡ Equal)
+pub both_equal : (o p : Ordering) → ordering_then o p ≡ Equal → (o ≡ Equal) × (p ≡ Equal)
 both_equal Less p h = absurd cc
 both_equal Equal p h = (refl, h)
 both_equal Greater p h = absurd cc
 
-before_more : (v w : Version) (ys : List Version) → version_cmp v w ≡ Less → IsBefore w ys → IsBefore v ys
+pub before_more : (v w : Version) (ys : List Version) → version_cmp v w ≡ Less → IsBefore w ys → IsBefore v ys
 before_more v w [] less before = tt
 before_more v w (y ∷ ys) less before = (version_total.trans v w y less before.0, before_more v w ys less before.1)
 
@@ -66,10 +66,10 @@ in_order-merge (x ∷ xs) ys first second =
 
 module _ (key : List ℕ) (n : ℕ) where
   -- whether the version is the one of the key and the number
-  abbrev is_here : Version → Bool
+  abbrev pub is_here : Version → Bool
   is_here v = bytes_eq v.key key && (v.number == n)
 
-  place_of : (v : Version) → is_here v ≡ true → (v.key ≡ key) × (v.number ≡ n)
+  pub place_of : (v : Version) → is_here v ≡ true → (v.key ≡ key) × (v.number ≡ n)
   place_of v h =
       let parts = and_parts (bytes_eq v.key key) (v.number == n) h in
       ((bytes_eq-Decides v.key key).0 parts.0, eqb-true v.number n parts.1)
@@ -88,7 +88,7 @@ module _ (key : List ℕ) (n : ℕ) where
           let same : version_cmp y w ≡ version_cmp w w = λ i. ordering_then (key_cmp (keys i) w.key) (nat_cmp w.number (numbers i)) in
           absurd (less_not_equal (sym less ∙ same ∙ tied_itself version_total w))
 
-  missing : (y : Version) (xs : List Version) → IsBefore y xs → is_here y ≡ true → version_at xs key n ≡ None
+  pub missing : (y : Version) (xs : List Version) → IsBefore y xs → is_here y ≡ true → version_at xs key n ≡ None
   missing y [] before here = refl
   missing y (x ∷ xs) before here = rw (apart y x before.0 here) (missing y xs before.1 here)
 
@@ -117,7 +117,7 @@ module _ (key : List ℕ) (n : ℕ) where
           ahead false here less = refl
           ahead true here less = rw (apart y x less here, missing y xs (before_more y x xs less before) here) refl
 
-  at_merge : (xs ys : List Version) → AreInOrder xs → version_at (merge_of xs ys) key n ≡ option_or (version_at xs key n) (version_at ys key n)
+  pub at_merge : (xs ys : List Version) → AreInOrder xs → version_at (merge_of xs ys) key n ≡ option_or (version_at xs key n) (version_at ys key n)
   at_merge [] ys h = refl
   at_merge (x ∷ xs) ys h =
       let parts = in_order_parts x xs h in

@@ -4,7 +4,8 @@ use Rattle.std.specs.Int.{Width, w16, w32, w64, byte_len, to_be_bytes}
 use Rattle.std.specs.List.{AllByRecursion, flat_map, list_all}
 use Rattle.wp_model.specs.declared.version.Version.{Version}
 use Rattle.wp_model.specs.Versions.{AreInOrder}
-use Rattle.wp_model.specs.Word.{is_word}
+use Rattle.wp_model.specs.declared.word.TheConstants.{MOST_KEY_BYTES}
+use Rattle.wp_model.specs.Word.{is_key}
 use Rattle.wp_encoding.specs.declared.error.EncodingError.{EncodingError}
 use Rattle.wp_encoding.specs.Encoding.{word_bytes}
 use Rattle.wp_encoding.specs.Faults.{HasKey, IsWordFault, IsValueFault}
@@ -54,13 +55,13 @@ IsStoredFault (suc (suc n) ∷ bytes) fault = fault ≡ Word
 -- the key and the number of a version are there, and bytes after them
 pub record HasPlace (flushed : ℕ) (bytes : List ℕ) (v : Version) (rest : List ℕ) : Type 0 where
   pub parts : bytes ≡ word_bytes v.key ++ (to_be_bytes w32 v.number ++ rest)
-  pub word : is_word 64 v.key ≡ true
+  pub word : is_key v.key ≡ true
   pub numbered : is_numbered v ≡ true
   pub flushed_number : is_flushed flushed v ≡ true
 
 -- the key, the number, the order, or the value of the version after those before it
 pub data IsVersionFault (flushed : ℕ) (before : List Version) (bytes : List ℕ) (fault : TableError) : Type 0 where
-  in_key : (field : EncodingError) → IsWordFault 64 bytes field → fault ≡ table_error field → IsVersionFault flushed before bytes fault
+  in_key : (field : EncodingError) → IsWordFault MOST_KEY_BYTES bytes field → fault ≡ table_error field → IsVersionFault flushed before bytes fault
   in_number : (key rest : List ℕ) → HasKey bytes key rest → IsNumberFault w32 (2 ^ 32) (λ n. nat_le 1 n && nat_le n flushed) (λ _. Number) rest fault → IsVersionFault flushed before bytes fault
   out_of_order : (v : Version) (rest : List ℕ) → HasPlace flushed bytes v rest → is_after_last before v ≡ false → fault ≡ Order → IsVersionFault flushed before bytes fault
   in_value : (v : Version) (rest : List ℕ) → HasPlace flushed bytes v rest → is_after_last before v ≡ true → IsStoredFault rest fault → IsVersionFault flushed before bytes fault

@@ -3,6 +3,7 @@ use Rattle.std.specs.Prelude.{ℕ, zero, suc, ◌-◌, min, Bool, true, ◌&&◌
 use Rattle.std.specs.Int.{w16, w32, w64}
 use Rattle.std.specs.Ordering.{is_lt}
 use Rattle.std.specs.Str.{bytes_eq}
+use Rattle.wp_model.specs.declared.word.TheConstants.{MOST_KEY_BYTES}
 use Rattle.wp_model.specs.declared.version.Version.{Version}
 use Rattle.wp_model.specs.Versions.{version_cmp}
 use Rattle.wp_fields.specs.Reading.{◌>>=◌, map_err, byte_at, number_at, piece_at}
@@ -73,7 +74,7 @@ is_after_last (first ∷ second ∷ others) v = is_after_last (second ∷ others
 -- the key and the number of the version after those before it, whose value is still to be read
 unfoldable pub next_place_at : ℕ → List Version → List ℕ → Result (Version × List ℕ) TableError
 next_place_at flushed before bytes = do
-  key ← map_err table_error (word_field_at 64 bytes)
+  key ← map_err table_error (word_field_at MOST_KEY_BYTES bytes)
   number ← flushed_number_at flushed key.1
   let version : Version = record { key = key.0; number = number.0; value = None } in if_right (is_after_last before version) Order (version, number.1)
 

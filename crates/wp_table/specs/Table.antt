@@ -4,7 +4,7 @@ use Rattle.std.specs.Int.{w16, w32, w64, to_be_bytes, div_ceil}
 use Rattle.std.specs.List.{flat_map, list_all}
 use Rattle.wp_model.specs.declared.version.Version.{Version}
 use Rattle.wp_model.specs.Versions.{AreInOrder}
-use Rattle.wp_model.specs.Word.{is_word}
+use Rattle.wp_model.specs.Word.{is_key, is_value}
 use Rattle.wp_encoding.specs.Encoding.{word_bytes, value_bytes}
 use Rattle.wp_table.specs.declared.layout.TheConstants.{BLOCK}
 
@@ -63,11 +63,11 @@ is_flushed flushed v = nat_le v.number flushed
 -- the value, if there is one, is in range
 abbrev pub is_stored : Option (List ℕ) → Bool
 is_stored None = true
-is_stored (Some value) = is_word 256 value
+is_stored (Some value) = is_value value
 
 -- the version's key and value are in range
 abbrev pub has_words : Version → Bool
-has_words v = is_word 64 v.key && is_stored v.value
+has_words v = is_key v.key && is_stored v.value
 
 -- the version may be in a table
 abbrev pub is_version : ℕ → Version → Bool

@@ -1,5 +1,5 @@
 ghost use Rattle.std.specs.Prelude.{◌≡◌, ◌≤◌, true, false, List, length, IfOk, IfErr, IfSome, Ok, Err, filter};
-ghost use Rattle.std.specs.List.{All};
+ghost use Rattle.std.specs.List.{All, list_all};
 ghost use Rattle.std.specs.List.Sorted.{IsPartitionPoint};
 ghost use Rattle.std.specs.Ordering.{is_lt};
 ghost use Rattle.std.specs.Str.{bytes_eq};
@@ -11,7 +11,7 @@ ghost use Rattle.wp_table.specs.declared.error.TableError.{TableError};
 ghost use Rattle.wp_table.specs.Errors.{table_fault};
 ghost use Rattle.wp_table.specs.Faults.{IsTableFault};
 ghost use Rattle.wp_table.specs.Reading.{table_at};
-ghost use Rattle.wp_table.specs.Table.{IsTable, table_bytes};
+ghost use Rattle.wp_table.specs.Table.{has_words, IsTable, table_bytes};
 
 use crate::error::TableError;
 use crate::found::Found;
@@ -27,12 +27,16 @@ pub struct Table {
 }
 
 impl Model for Table {
-    ghost use Rattle.std.specs.Prelude.{List};
+    ghost use Rattle.std.specs.Prelude.{◌≡◌, true, List};
+    ghost use Rattle.std.specs.List.{list_all};
     ghost use Rattle.wp_model.specs.declared.version.Version.{Version};
+    ghost use Rattle.wp_table.specs.Table.{has_words};
 
     ghost Value = { List Version };
 
     ghost view = { λ t. t.versions };
+
+    ghost invariant = { λ t. list_all has_words t.versions ≡ true };
 }
 
 /// How many of the versions have a lesser key.
@@ -88,6 +92,7 @@ impl Table {
     /// The versions of the key, the newest first. They are found by binary search.
     pub fn versions(&self, key: &Key) -> Found<'_>
         ensures found { result ≡ filter (λ v. bytes_eq v.key key.now) self.now }
+        ensures in_range { list_all has_words result ≡ true }
         ensures in_order { AreInOrder self.now }
     {
         Found::new(of_key(self.versions.as_slice(), key).iter())

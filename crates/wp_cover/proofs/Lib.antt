@@ -1,0 +1,6 @@
+mod HistoryLemmas
+mod Order
+mod Presence
+mod Stores
+mod Shows
+mod Together

@@ -1,0 +1,10 @@
+use Rattle.std.proofs.Common.{drop}
+use Rattle.wp_model.specs.History.{undecided}
+use Rattle.wp_cover.specs.Present.{HasBatches}
+use Rattle.wp_cover.proofs.present.has_undecided.Given as goal
+
+abbrev pub invariant-loop-p : goal.invariant-loop-p
+invariant-loop-p l = record {
+  onward : HasBatches l.history.entries l.versions (undecided l.history.entries) → HasBatches l.history.entries l.versions (drop l.p-index l.p-items);
+  back : HasBatches l.history.entries l.versions (drop l.p-index l.p-items) → HasBatches l.history.entries l.versions (undecided l.history.entries);
+}

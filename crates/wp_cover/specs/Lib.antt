@@ -1,0 +1,4 @@
+pub mod Decisions
+pub mod Store
+pub mod Shown
+pub mod Present

@@ -1,0 +1,40 @@
+-- Which versions have to be there, and which may be.
+use Rattle.std.specs.Prelude.{◌≡◌, ℕ, List, [], ◌∷◌, length, Option, Some, None}
+use Rattle.std.specs.declared.cmp.Ordering.{Ordering}
+use Rattle.std.specs.Ordering.{nat_cmp, ordering_then}
+use Rattle.wp_model.specs.declared.change.Change.{Change}
+use Rattle.wp_model.specs.declared.entry.Entry.{Entry}
+use Rattle.wp_model.specs.declared.entry.Entry.TheVariants.{Undo}
+use Rattle.wp_model.specs.declared.version.Version.{Version}
+use Rattle.wp_model.specs.Batch.{key_cmp, change_to}
+use Rattle.wp_model.specs.History.{batch_at}
+use Rattle.wp_model.specs.Legal.{undone_last}
+use Rattle.wp_model.specs.Decision.{entry_version}
+use Rattle.wp_model.specs.Versions.{version_at}
+
+-- how a version compares to a version of the key with that number
+abbrev pub place_cmp : List ℕ → ℕ → Version → Ordering
+place_cmp key n v = ordering_then (key_cmp v.key key) (nat_cmp n v.number)
+
+-- each version is that of its entry
+abbrev pub ArePart : List Entry → List Version → Type 0
+ArePart history [] = Unit {0}
+ArePart history (v ∷ vs) = (entry_version history v.number v.key ≡ Some v.value) × ArePart history vs
+
+-- what the changes say of keys is there, with that number
+abbrev pub HasChanges : List Version → ℕ → List Change → Type 0
+HasChanges versions n changes = (key : List ℕ) (value : Option (List ℕ)) → change_to changes key ≡ Some value → version_at versions key n ≡ Some value
+
+-- what the batches of these prepares say is there
+abbrev pub HasBatches : List Entry → List Version → List ℕ → Type 0
+HasBatches history versions [] = Unit {0}
+HasBatches history versions (p ∷ ps) = HasChanges versions p (batch_at history p) × HasBatches history versions ps
+
+-- what an entry restores, if it is an undo
+abbrev pub restored : Entry → Option (List Change)
+restored (Undo p batch) = Some batch
+restored other = None
+
+-- each version of an undo that ends the history is there
+abbrev pub HasUndone : List Entry → List Version → Type 0
+HasUndone history versions = (key : List ℕ) (p : ℕ) (value : Option (List ℕ)) → undone_last history ≡ Some p → entry_version history (length history) key ≡ Some value → version_at versions key (length history) ≡ Some value

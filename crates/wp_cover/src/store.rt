@@ -1,0 +1,74 @@
+//! What the first entries of a history leave in the store, as a map.
+ghost use Rattle.std.specs.Prelude.{◌≡◌, ℕ, List, IfOk, OnOk};
+ghost use Rattle.std.specs.Option.{option_copied};
+ghost use Rattle.wp_model.specs.History.{changes_of, value_at};
+ghost use Rattle.wp_cover.specs.Store.{IsStore, Leaves, LeavesChanges};
+
+use std::alloc::{AllocError, Global};
+use std::collections::BTreeMap;
+use wp_history::History;
+use wp_model::{Change, Entry, Key, Seq, Value};
+
+/// Leaves the value under the key, or nothing where there is none.
+pub fn leave(
+    alloc: Global,
+    store: &mut BTreeMap<Key, Value>,
+    key: &Key,
+    value: Option<&Value>,
+) -> Result<(), AllocError>
+    ensures { OnOk result (Leaves key.now (option_copied value.entry) store.old store.new) }
+{
+    let Some(value) = value else {
+        store.remove(key);
+        return Ok(());
+    };
+    store.insert(key.copy(alloc)?, value.copy(alloc)?)?;
+    Ok(())
+}
+
+/// Of two changes of a key the earlier one counts, so the last one goes first.
+fn leave_changes(
+    alloc: Global,
+    store: &mut BTreeMap<Key, Value>,
+    changes: &[Change],
+) -> Result<(), AllocError>
+    ensures { OnOk result (LeavesChanges changes.now store.old store.new) }
+{
+    let mut i = changes.len();
+    while i > 0 {
+        i -= 1;
+        let change = &changes[i];
+        leave(alloc, store, change.key(), change.value())?;
+    }
+    Ok(())
+}
+
+/// The changes that an entry of the history makes to the store.
+fn changes_of<'a>(history: &'a History, entry: &'a Entry) -> &'a [Change]
+    ensures { result.now ≡ changes_of history.now.entries entry.now }
+{
+    match entry {
+        Entry::Write(batch) => batch.changes(),
+        Entry::Commit(p) => match history.entry_at(*p) {
+            Some(Entry::Prepare(_, batch)) => batch.changes(),
+            _ => &[],
+        },
+        _ => &[],
+    }
+}
+
+/// What the first `n` entries leave.
+pub fn store_at(
+    alloc: Global,
+    history: &History,
+    n: Seq,
+) -> Result<BTreeMap<Key, Value>, AllocError>
+    ensures { IfOk result (IsStore (λ key. value_at history.now.entries key n)) }
+{
+    let mut store = BTreeMap::new(alloc);
+    let first = &history.entries()[..n.min(history.published()) as usize];
+    for entry in first {
+        leave_changes(alloc, &mut store, changes_of(history, entry))?;
+    }
+    Ok(store)
+}

@@ -1,0 +1,4 @@
+pub mod OneMerge
+pub mod Fronts
+pub mod NewestOfKey
+pub mod Taken

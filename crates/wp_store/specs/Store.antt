@@ -1,0 +1,42 @@
+-- A store: the versions in memory, in frozen parts and in tables.
+use Rattle.std.specs.Prelude.{ℕ, Bool, ◌==◌, List, [], ◌∷◌, ◌++◌, length, take, filter, Option, Some, None}
+use Rattle.std.specs.List.{list_all}
+use Rattle.std.specs.Str.{bytes_eq}
+use Rattle.wp_model.specs.declared.version.Version.{Version}
+use Rattle.wp_store.specs.declared.gone.Gone.{Gone}
+use Rattle.wp_store.specs.declared.gone.Gone.TheVariants as gone
+
+-- Where versions are: in memory, where those of new entries go; in frozen parts, which a flush is writing or a refused
+-- flush left; and in tables. The newest frozen part is the first, and so is the newest table. So many more tables have
+-- room in the memory that is there.
+pub record StoreParts : Type 0 where
+  pub memory : List Version
+  pub frozen : List (List Version)
+  pub tables : List (List Version)
+  pub room : ℕ
+
+-- all parts: of two versions with one key and number the one in an earlier part counts
+abbrev pub parts_of : StoreParts → List (List Version)
+parts_of s = s.memory ∷ s.frozen ++ s.tables
+
+-- no version is in memory or in a frozen part
+abbrev pub is_flushed : StoreParts → Bool
+is_flushed s = list_all (λ part. length part == 0) (s.memory ∷ s.frozen)
+
+-- the versions of the key
+abbrev pub of_key : List ℕ → List Version → List Version
+of_key key versions = filter (λ v. bytes_eq v.key key) versions
+
+-- the newest n versions of the key
+abbrev pub newest_of : ℕ → List ℕ → List Version → List Version
+newest_of n key versions = take n (of_key key versions)
+
+-- the table, if there is one, before the others
+abbrev pub with_newest : Option (List Version) → List (List Version) → List (List Version)
+with_newest None tables = tables
+with_newest (Some table) tables = table ∷ tables
+
+-- after the frozen parts, or all tables, gave way to the table, if there is one
+abbrev pub replaced : Gone → Option (List Version) → StoreParts → StoreParts
+replaced gone.Frozen table s = record s { frozen = []; tables = with_newest table s.tables }
+replaced gone.Tables table s = record s { tables = with_newest table [] }

@@ -1,0 +1,8 @@
+/// What a new table takes the place of.
+#[derive(Clone, Copy, Debug, PartialEq, Eq)]
+pub enum Gone {
+    /// The frozen parts, which a flush wrote.
+    Frozen,
+    /// All tables, which a compaction merged.
+    Tables,
+}

@@ -1,0 +1,86 @@
+//! Lists of several parts, and what they are as one.
+ghost use Rattle.std.specs.Prelude.{◌≡◌, ◌++◌, map, IfOk, OnOk};
+ghost use Rattle.std.specs.Arc.{arc_value};
+ghost use Rattle.std.specs.List.{AllByRecursion};
+ghost use Rattle.wp_model.specs.Versions.{AreInOrder};
+ghost use Rattle.wp_merge.specs.Merge.{AreMerged};
+ghost use Rattle.wp_store.specs.Store.{newest_of};
+
+use crate::newest::{newest_in_memory, newest_in_table};
+use std::alloc::{AllocError, Global};
+use std::collections::VecDeque;
+use std::sync::Arc;
+use wp_memtable::Memtable;
+use wp_merge::Merge;
+use wp_model::{Key, Versions};
+use wp_table::Table;
+
+/// All versions of the lists, in order. Of two with one key and number it is the earlier list's.
+pub fn merged(alloc: Global, sources: Vec<Versions>) -> Result<Versions, AllocError>
+    ensures { IfOk result (λ all. AreMerged sources.items all) }
+{
+    let mut list = Vec::new(alloc);
+    for version in Merge::of(alloc, sources)? {
+        list.push(version)?;
+    }
+    Ok(Versions::of(list))
+}
+
+pub fn push_frozen(
+    sources: &mut Vec<Versions>,
+    frozen: &VecDeque<Memtable>,
+) -> Result<(), AllocError>
+    ensures { OnOk result (sources.new.items ≡ sources.old.items ++ frozen.now.items) }
+{
+    for part in frozen {
+        sources.push(part.all()?)?;
+    }
+    Ok(())
+}
+
+pub fn push_tables(
+    alloc: Global,
+    sources: &mut Vec<Versions>,
+    tables: &VecDeque<Arc<Table>>,
+) -> Result<(), AllocError>
+    ensures { OnOk result (sources.new.items ≡ sources.old.items ++ map arc_value tables.now.items) }
+{
+    for table in tables {
+        sources.push(table.all(alloc)?)?;
+    }
+    Ok(())
+}
+
+/// Puts the newest `n` versions of the key in each frozen part at the end.
+pub fn push_newest_frozen(
+    alloc: Global,
+    sources: &mut Vec<Versions>,
+    frozen: &VecDeque<Memtable>,
+    key: &Key,
+    n: usize,
+) -> Result<(), AllocError>
+    ensures newest { OnOk result (sources.new.items ≡ sources.old.items ++ map (newest_of n key.now) frozen.now.items) }
+    ensures in_order { OnOk result (AllByRecursion AreInOrder frozen.now.items) }
+{
+    for part in frozen {
+        sources.push(newest_in_memory(alloc, part, key, n)?)?;
+    }
+    Ok(())
+}
+
+/// Puts the newest `n` versions of the key in each table at the end.
+pub fn push_newest_tables(
+    alloc: Global,
+    sources: &mut Vec<Versions>,
+    tables: &VecDeque<Arc<Table>>,
+    key: &Key,
+    n: usize,
+) -> Result<(), AllocError>
+    ensures newest { OnOk result (sources.new.items ≡ sources.old.items ++ map (newest_of n key.now) (map arc_value tables.now.items)) }
+    ensures in_order { OnOk result (AllByRecursion AreInOrder (map arc_value tables.now.items)) }
+{
+    for table in tables {
+        sources.push(newest_in_table(alloc, table, key, n)?)?;
+    }
+    Ok(())
+}

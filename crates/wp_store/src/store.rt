@@ -1,0 +1,176 @@
+ghost use Rattle.std.specs.Prelude.{◌≡◌, ◌≤◌, ◌==◌, [], ◌∷◌, List, length, map, IfOk, OnOk, OnErr};
+ghost use Rattle.std.specs.Arc.{arc_value};
+ghost use Rattle.std.specs.List.{list_all};
+ghost use Rattle.std.specs.Option.{option_map};
+ghost use Rattle.wp_model.specs.declared.version.Version.{Version};
+ghost use Rattle.wp_memtable.specs.Memtable.{HasChanges, without_number};
+ghost use Rattle.wp_merge.specs.Merge.{AreMerged};
+ghost use Rattle.wp_store.specs.Store.{parts_of, is_flushed, newest_of, replaced};
+
+use crate::gone::Gone;
+use crate::newest::newest_in_memory;
+use crate::sources::{merged, push_frozen, push_newest_frozen, push_newest_tables, push_tables};
+use std::alloc::{AllocError, Global};
+use std::collections::VecDeque;
+use std::marker::Model;
+use std::mem;
+use std::sync::Arc;
+use wp_memtable::Memtable;
+use wp_model::{Batch, Key, Seq, Versions};
+use wp_table::Table;
+
+/// The versions that are stored, which the holder of the store turn changes.
+#[derive(Drop)]
+pub struct Store {
+    alloc: Global,
+    memory: Memtable,
+    /// The newest first.
+    frozen: VecDeque<Memtable>,
+    /// The newest first.
+    tables: VecDeque<Arc<Table>>,
+}
+
+impl Model for Store {
+    ghost use Rattle.std.specs.Prelude.{◌-◌, map};
+    ghost use Rattle.std.specs.Arc.{arc_value};
+    ghost use Rattle.std.specs.VecDeque.{deque_len, deque_capacity};
+    ghost use Rattle.wp_store.specs.Store.{StoreParts};
+
+    ghost Value = { StoreParts };
+
+    ghost view = { λ s. record { memory = s.memory; frozen = s.frozen.items; tables = map arc_value s.tables.items; room = deque_capacity s.tables - deque_len s.tables } };
+}
+
+/// Whether no frozen part has a version.
+fn are_empty(frozen: &VecDeque<Memtable>) -> bool
+    ensures { result ≡ list_all (λ part. length part == 0) frozen.now.items }
+{
+    frozen.iter().all(|part| part.count() == 0)
+}
+
+impl Store {
+    /// The store that an opening makes, of the versions that no table has and of the tables, the newest first.
+    pub fn new(alloc: Global, memory: Memtable, tables: Vec<Arc<Table>>) -> Store
+        ensures memory { result.memory ≡ memory }
+        ensures frozen { result.frozen ≡ [] }
+        ensures tables { result.tables ≡ map arc_value tables.items }
+    {
+        Store {
+            alloc,
+            memory,
+            frozen: VecDeque::new(alloc),
+            tables: VecDeque::from_vec(tables),
+        }
+    }
+
+    /// Puts a version under `n` into memory for each change of the batch. A version of the same key and number that
+    /// is there is replaced. A refused call may keep memory that it took, and nothing else.
+    pub fn insert(&mut self, n: Seq, batch: &Batch) -> Result<(), AllocError>
+        ensures ok { OnOk result (HasChanges n batch.now self.old.memory self.new.memory) }
+        ensures err { OnErr result (self.new ≡ self.old) }
+        ensures others { self.new ≡ record self.old { memory = self.new.memory } }
+    {
+        self.memory.insert(n, batch)
+    }
+
+    /// Takes each version of the number out of memory.
+    pub fn remove_number(&mut self, n: Seq)
+        ensures { self.new ≡ record self.old { memory = without_number n self.old.memory } }
+    {
+        self.memory.remove_number(n);
+    }
+
+    /// The newest `n` versions of the key, of all parts merged. It goes to each part for this key alone, and copies at
+    /// most `n` versions there.
+    pub fn collect(&self, key: &Key, n: usize) -> Result<Versions, AllocError>
+        ensures { IfOk result (λ found. (all : List Version) → AreMerged (parts_of self.now) all → found ≡ newest_of n key.now all) }
+    {
+        let mut sources = Vec::new(self.alloc);
+        sources.push(newest_in_memory(self.alloc, &self.memory, key, n)?)?;
+        push_newest_frozen(self.alloc, &mut sources, &self.frozen, key, n)?;
+        push_newest_tables(self.alloc, &mut sources, &self.tables, key, n)?;
+        let mut found = merged(self.alloc, sources)?.into_vec();
+        found.truncate(n);
+        Ok(Versions::of(found))
+    }
+
+    /// All versions in memory, those of the frozen parts too.
+    pub fn in_memory(&self) -> Result<Versions, AllocError>
+        ensures { IfOk result (λ all. AreMerged (self.now.memory ∷ self.now.frozen) all) }
+    {
+        let mut sources = Vec::new(self.alloc);
+        sources.push(self.memory.all()?)?;
+        push_frozen(&mut sources, &self.frozen)?;
+        merged(self.alloc, sources)
+    }
+
+    /// All versions of the frozen parts, which a flush writes.
+    pub fn in_frozen(&self) -> Result<Versions, AllocError>
+        ensures { IfOk result (λ all. AreMerged self.now.frozen all) }
+    {
+        let mut sources = Vec::new(self.alloc);
+        push_frozen(&mut sources, &self.frozen)?;
+        merged(self.alloc, sources)
+    }
+
+    /// All versions of the tables, which a compaction merges.
+    pub fn in_tables(&self) -> Result<Versions, AllocError>
+        ensures { IfOk result (λ all. AreMerged self.now.tables all) }
+    {
+        let mut sources = Vec::new(self.alloc);
+        push_tables(self.alloc, &mut sources, &self.tables)?;
+        merged(self.alloc, sources)
+    }
+
+    /// Makes what is in memory the first frozen part, and leaves memory empty.
+    pub fn freeze(&mut self) -> Result<(), AllocError>
+        ensures ok { OnOk result (self.new ≡ record self.old { memory = []; frozen = self.old.memory ∷ self.old.frozen }) }
+        ensures err { OnErr result (self.new ≡ self.old) }
+    {
+        self.frozen.reserve(1)?;
+        let memory = mem::replace(&mut self.memory, Memtable::new(self.alloc));
+        self.frozen.push_front(memory).unwrap();
+        Ok(())
+    }
+
+    /// Takes the memory for one table more.
+    pub fn reserve(&mut self) -> Result<(), AllocError>
+        ensures ok { OnOk result (1 ≤ self.new.room) }
+        ensures room { self.old.room ≤ self.new.room }
+        ensures others { self.new ≡ record self.old { room = self.new.room } }
+    {
+        self.tables.reserve(1)
+    }
+
+    /// Takes the frozen parts or all tables out, and puts the table, if there is one, before the tables that stay. It
+    /// needs the memory that `reserve` took.
+    pub fn replace(&mut self, gone: Gone, table: Option<Arc<Table>>)
+        requires { 1 ≤ self.old.room }
+        ensures { self.new ≡ record (replaced gone (option_map arc_value table) self.old) { room = self.new.room } }
+    {
+        match gone {
+            Gone::Frozen => self.frozen.clear(),
+            Gone::Tables => self.tables.clear(),
+        }
+        if let Some(table) = table {
+            self.tables.push_front(table).unwrap();
+        }
+    }
+
+    /// Whether no version is in memory or in a frozen part, so that a flush has nothing to write.
+    pub fn is_flushed(&self) -> bool
+        ensures { result ≡ is_flushed self.now }
+    {
+        if self.memory.count() > 0 {
+            return false;
+        }
+        are_empty(&self.frozen)
+    }
+
+    /// How many tables there are.
+    pub fn table_count(&self) -> usize
+        ensures { result ≡ length self.now.tables }
+    {
+        self.tables.len()
+    }
+}
