@@ -1,11 +1,11 @@
 -- Who holds a key, and where no undecided prepare has a name.
-use Rattle.std.proofs.Common.{◌≡◌, inl, inr, length, ℕ, Bool, true, false, cond, eqb, ◌||◌, true≢false, List, [], ◌∷◌, Some, None, refl, sym, ap, ◌∙◌}
-use Rattle.std.specs.List.{list_any, find, range_with_len}
+use Rattle.std.proofs.Common.{◌≡◌, ℕ, Bool, true, false, cond, eqb, ◌||◌, true≢false, List, [], ◌∷◌, Some, None, refl, sym, ap, ◌∙◌}
+use Rattle.std.specs.List.{list_any, find}
 use Rattle.std.specs.Str.{bytes_eq}
 use Rattle.std.proofs.lemmas.Bool.{eqb-true}
 use Rattle.std.proofs.lemmas.Slice.Eq.{bytes_eq-Decides}
 use Rattle.wp_model.specs.declared.entry.Entry.{Entry}
-use Rattle.wp_model.specs.History.{batch_at, name_at, is_undecided, undecided, is_changed, holder_of, named}
+use Rattle.wp_model.specs.History.{name_at, is_undecided, undecided, named}
 use Rattle.wp_history.proofs.Undecided.{is_undecided_by_list}
 
 find_none : (test : ℕ → Bool) (xs : List ℕ) (p : ℕ) → find test xs ≡ None → test p ≡ true → list_any (λ k. eqb k p) xs ≡ true → ⊥

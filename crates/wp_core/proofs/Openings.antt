@@ -1,6 +1,6 @@
 -- Each legal history that ends in no undo can be opened: all its versions stand in memory, no table has one, and each of its
 -- undecided prepares is delayed, its name live, its keys held.
-use Rattle.std.proofs.Common.{◌≡◌, ◌≢◌, inl, inr, ℕ, zero, suc, ◌<◌, ◌≤◌, ◌==◌, eq-eqb, ne_eqb, Bool, true, false, true≢false, cond, List, [], ◌∷◌, ◌++◌, length, map, append-nil, refl, sym, subst, ap, ◌∙◌, Option, Some, None, is_some, filter, slice_index_or, arith}
+use Rattle.std.proofs.Common.{◌≡◌, ◌≢◌, inl, inr, ℕ, zero, suc, ◌<◌, ◌≤◌, eq-eqb, ne_eqb, Bool, true, false, true≢false, cond, List, [], ◌∷◌, ◌++◌, length, map, append-nil, refl, sym, subst, ap, ◌∙◌, Option, Some, None, is_some, filter, slice_index_or, arith}
 use Rattle.std.specs.Prelude.{All}
 use Rattle.std.specs.List.{find, flat_map, range_with_len}
 use Rattle.std.proofs.lemmas.Bool.{cases_lt}

@@ -57,7 +57,7 @@ pub at_under : (m : ℕ) (changes : List Change) (key : List ℕ) (p : ℕ) → 
 at_under m [] key p = none_either (m == p)
 at_under m (c ∷ changes) key p = ap (cond (bytes_eq (key_of c) key && (m == p)) (Some (value_of c))) (at_under m changes key p) ∙ one_under (bytes_eq (key_of c) key) (m == p) (value_of c) (change_to changes key)
 
-after_more : (m n : ℕ) (es : List Entry) (entry : Entry) → n ≡ suc (m + length es) → versions_after m (es ++ entry ∷ []) ≡ versions_after m es ++ versions_under n (changes_in entry)
+pub after_more : (m n : ℕ) (es : List Entry) (entry : Entry) → n ≡ suc (m + length es) → versions_after m (es ++ entry ∷ []) ≡ versions_after m es ++ versions_under n (changes_in entry)
 after_more m n [] entry is = append-nil (versions_under (suc m) (changes_in entry)) ∙ ap (λ (x : ℕ). versions_under x (changes_in entry)) (let q : suc m ≡ n = omega (arith, is) in q)
 after_more m n (e ∷ es) entry is =
     ap (λ (x : List Version). versions_under (suc m) (changes_in e) ++ x) (after_more (suc m) n es entry (omega (arith, is)))

@@ -1,11 +1,10 @@
 -- Where the actor is apart from the world, a step makes the same of the world.
-use Rattle.std.proofs.Common.{◌≡◌, ℕ, suc, Bool, true, false, not, filter, ◌||◌, List, [], ◌∷◌, ◌++◌, length, take, drop, Option, Some, None, option_map, unwrap_or, refl, sym, ap, subst, ◌∙◌}
+use Rattle.std.proofs.Common.{◌≡◌, ℕ, suc, List, [], ◌∷◌, length, take, drop, Option, Some, None, option_map, unwrap_or, refl, ap, subst}
 use Rattle.std.specs.Prelude.{slice_get}
 use Rattle.std.specs.FinMap as finite
 use Rattle.wp_model.specs.declared.entry.Entry.{Entry}
 use Rattle.wp_judge.specs.Words.{CommitPair}
 use Rattle.wp_core.specs.World.{World, Participant, Actor}
-use Rattle.wp_core.specs.Turns.{Turn}
 use Rattle.wp_core.specs.Tables.{WriteTable, StoreTable}
 use Rattle.wp_core.specs.Reading.{Registration}
 use Rattle.wp_core.specs.Entries.{pending_pair}
@@ -37,10 +36,8 @@ use Rattle.wp_machine.specs.declared.step.LocksStep.{LocksStep}
 use Rattle.wp_machine.specs.declared.step.LocksStep.TheVariants as locks
 use Rattle.wp_machine.specs.declared.step.OwnStep.{OwnStep}
 use Rattle.wp_machine.specs.declared.step.OwnStep.TheVariants as own
-use Rattle.wp_machine.specs.declared.step.ActorsStep.{ActorsStep}
-use Rattle.wp_machine.specs.declared.step.ActorsStep.TheVariants as actors
 use Rattle.wp_machine.specs.Apart.{IsApart}
-use Rattle.wp_machine.specs.Machine.{reader_step, published_step, word_step, turn_step, write_step, prepared_step, released_step, snapshots_step, without_number, memory_with, store_step, tables_step, locks_step, own_step, actors_step, step_of}
+use Rattle.wp_machine.specs.Machine.{reader_step, published_step, word_step, turn_step, write_step, prepared_step, released_step, snapshots_step, without_number, memory_with, store_step, tables_step, locks_step, own_step, step_of}
 
 -- it is a step of an actor that makes and joins none
 abbrev pub Acts : Step → Type 0

@@ -1,10 +1,10 @@
 -- What the steps of the code end is what those of the machine end.
-use Rattle.std.proofs.Common.{◌≡◌, ℕ, suc, Bool, true, false, not, filter, ◌||◌, List, [], ◌∷◌, ◌++◌, length, take, drop, Option, Some, None, option_map, unwrap_or, refl, sym, ap, subst, ◌∙◌}
+use Rattle.std.proofs.Common.{◌≡◌, ℕ, suc, Bool, false, not, filter, ◌||◌, List, [], ◌∷◌, length, take, drop, Option, Some, None, option_map, unwrap_or, refl, ap, subst}
 use Rattle.std.specs.Prelude.{slice_get}
 use Rattle.std.specs.FinMap as finite
 use Rattle.wp_model.specs.declared.entry.Entry.{Entry}
 use Rattle.wp_judge.specs.Words.{CommitPair}
-use Rattle.wp_core.specs.World.{World, Participant, Actor}
+use Rattle.wp_core.specs.World.{World, Participant}
 use Rattle.wp_core.specs.Turns.{Turn}
 use Rattle.wp_core.specs.Tables.{WriteTable, StoreTable}
 use Rattle.wp_core.specs.Reading.{Registration}

@@ -1,37 +1,24 @@
--- What the code makes is an opening: the empty history with one word and a client.
-use Rattle.std.proofs.Common.{ℕ, List, refl}
-use Rattle.wp_core.specs.Runs.{IsOpening}
-use Rattle.wp_core.proofs.Empty.{empty_is_opening}
-use Rattle.wp_machine.specs.Opened.{empty_world}
+-- The versions of entries, one entry more at a time.
+use Rattle.std.proofs.Common.{◌≡◌, ℕ, zero, suc, ◌+◌, ◌<◌, List, [], ◌∷◌, ◌++◌, length, take, get_or, sym, refl, ap, ◌∙◌, arith}
+use Rattle.wp_model.specs.declared.entry.Entry.{Entry}
+use Rattle.wp_model.specs.declared.version.Version.{Version}
+use Rattle.wp_model.specs.Legal.{changes_in}
+use Rattle.wp_core.specs.Sound.Store.{versions_under, versions_after}
+use Rattle.wp_core.proofs.PublishesVersions.{after_more}
 
-pub one_word : (client : List ℕ) → IsOpening (empty_world client)
-one_word client =
-    let o = empty_is_opening in
-    record {
-      legal = o.legal;
-      closed_undo = o.closed_undo;
-      history = o.history;
-      pending = o.pending;
-      log = o.log;
-      running_log = o.running_log;
-      none_failed = o.none_failed;
-      max_evicted = o.max_evicted;
-      words = o.words;
-      cache = o.cache;
-      holders = o.holders;
-      heap = o.heap;
-      delayed = o.delayed;
-      delayed_commits = o.delayed_commits;
-      delayed_flag = o.delayed_flag;
-      delayed_free = o.delayed_free;
-      old_flag = o.old_flag;
-      snapshots = o.snapshots;
-      versions = o.versions;
-      flushed = o.flushed;
-      first_edit = o.first_edit;
-      not_failed = o.not_failed;
-      running = o.running;
-      locks = o.locks;
-      client = client;
-      actors = refl;
-    }
+one_taken : (es : List Entry) (i : ℕ) (d : Entry) → i < length es → take (suc i) es ≡ take i es ++ get_or es i d ∷ []
+one_taken [] i d lt = absurd (omega arith)
+one_taken (e ∷ es) zero d lt = refl
+one_taken (e ∷ es) (suc i) d lt = ap (λ xs. e ∷ xs) (one_taken es i d (omega arith))
+
+as_many : (es : List Entry) (i : ℕ) → i < length es → length (take i es) ≡ i
+as_many [] i lt = absurd (omega arith)
+as_many (e ∷ es) zero lt = refl
+as_many (e ∷ es) (suc i) lt = ap suc (as_many es i (omega arith))
+
+pub versions_more : (es : List Entry) (i n : ℕ) (e : Entry) (xs more all : List Version) → i < length es → e ≡ get_or es i e → n ≡ suc i → xs ≡ versions_after 0 (take i es) → more ≡ versions_under n (changes_in e) → all ≡ xs ++ more → all ≡ versions_after 0 (take (i + 1) es)
+versions_more es i n e xs more all lt at number before under is =
+    let l = as_many es i lt in
+    let next : suc i ≡ i + 1 = omega arith in
+    is ∙ ap (λ (z : List Version). z ++ more) before ∙ ap (λ (z : List Version). versions_after 0 (take i es) ++ z) (under ∙ ap (λ (z : Entry). versions_under n (changes_in z)) at)
+    ∙ sym (after_more 0 n (take i es) (get_or es i e) (omega (arith, l, number))) ∙ ap (versions_after 0) (sym (one_taken es i e lt)) ∙ ap (λ (k : ℕ). versions_after 0 (take k es)) next

@@ -1,12 +1,10 @@
 -- What the store of the published number makes of a world.
-use Rattle.std.proofs.Common.{◌≡◌, ℕ, suc, List, [], ◌∷◌, ◌++◌, length, length-append, Option, Some, None, unwrap_or, refl, sym, ap, subst, ◌∙◌}
+use Rattle.std.proofs.Common.{◌≡◌, ℕ, suc, List, [], ◌∷◌, ◌++◌, length, Some, unwrap_or, refl, ap, subst}
 use Rattle.wp_model.specs.declared.entry.Entry.{Entry}
 use Rattle.wp_core.specs.World.{Actor, World}
-use Rattle.wp_core.specs.Tables.{writes}
-use Rattle.wp_core.specs.Changes.{with_actor, held_with}
 use Rattle.wp_core.specs.Effects.{done}
 use Rattle.wp_core.specs.Steps.{Step, store_published}
-use Rattle.wp_machine.specs.Machine.{published_step, with_next}
+use Rattle.wp_machine.specs.Machine.{published_step}
 use Rattle.wp_machine.specs.Effect.{published_world}
 
 one_more : (xs : List Entry) (x : Entry) → length (xs ++ x ∷ []) ≡ suc (length xs)

@@ -1,9 +1,7 @@
 -- What the release of a registration makes of a world.
-use Rattle.std.proofs.Common.{◌≡◌, ℕ, List, [], ◌∷◌, Option, Some, None, unwrap_or, refl, ap, subst}
+use Rattle.std.proofs.Common.{◌≡◌, ℕ, List, [], ◌∷◌, Some, unwrap_or, refl, ap, subst}
 use Rattle.wp_core.specs.World.{Actor, World}
 use Rattle.wp_core.specs.Reading.{Registration}
-use Rattle.wp_core.specs.Tables.{snapshots}
-use Rattle.wp_core.specs.Changes.{with_actor, held_with}
 use Rattle.wp_core.specs.Effects.{done}
 use Rattle.wp_core.specs.Steps.{Step, release}
 use Rattle.wp_machine.specs.Machine.{released_step}

@@ -7,4 +7,3 @@ pub mod Pairs
 pub mod HeldTables
 pub mod Endings
 pub mod Apart
-pub mod Opened

@@ -1,4 +1,4 @@
-ghost use Rattle.std.specs.Prelude.{◌≡◌, ◌≤◌, ◌<◌, ◌^◌, ◌∷◌, [], length, OnOk, IfOk};
+ghost use Rattle.std.specs.Prelude.{◌≡◌, ◌≤◌, ◌<◌, ◌^◌, replicate, length, OnOk, IfOk};
 ghost use Rattle.wp_core.specs.Cache.{cache_place, cached_word, with_pair};
 ghost use Rattle.wp_judge.specs.Words.{word_of};
 
@@ -66,12 +66,13 @@ impl Cache {
 }
 
 impl Cache {
-    /// One empty word.
-    pub fn one(alloc: Global) -> Result<Cache, AllocError>
-        ensures { IfOk result (λ cache. cache ≡ 0 ∷ []) }
+    /// So many empty words.
+    pub fn empty(words: usize, alloc: Global) -> Result<Cache, AllocError>
+        requires { 1 ≤ words }
+        ensures { IfOk result (λ cache. cache ≡ replicate words 0) }
     {
-        let mut words = Vec::with_capacity(alloc, 1)?;
-        words.push(0)?;
-        Ok(Cache { words })
+        Ok(Cache {
+            words: vec![in alloc; 0u64; words]?,
+        })
     }
 }

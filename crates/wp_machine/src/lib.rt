@@ -6,6 +6,10 @@
 //! step it is apart from the world: first it forgets the notes that its step ends, then the step changes the world and
 //! the actor, and then it is put back.
 //!
+//! A step that makes or joins an actor changes two places, and ends no notes: a joined actor is taken out of the world first.
+//! `World::opened` is an opening on any legal history that ends in no undo, with all its versions in memory; its undecided
+//! prepares are delayed, their names had by nobody and their keys held.
+//!
 //! Sets and maps are lists whose newest item comes first, so that a table is copied as it is when an actor takes its turn.
 //!
 //! Whether a step may be made is tested by `wp_permits`.
@@ -19,6 +23,7 @@ mod content;
 mod copies;
 mod effects;
 mod ending;
+mod left;
 mod locks;
 mod prepared;
 mod snapshots;

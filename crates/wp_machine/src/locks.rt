@@ -5,11 +5,13 @@ ghost use Rattle.std.specs.FinMap as finite;
 ghost use Rattle.wp_model.specs.Batch.{key_cmp};
 ghost use Rattle.wp_model.specs.declared.holder.Holder.TheVariants.{Txn};
 ghost use Rattle.wp_core.specs.Changes.{with_name, with_key, without_key, without_transaction, with_label, is_held_by, keys_of_holder};
-ghost use Rattle.wp_model.specs.LockTables.{nothing_locked};
+ghost use Rattle.wp_core.proofs.Openings.{names_of, keys_of};
 ghost use Rattle.wp_machine.specs.Pairs.{newest_under};
 
+use crate::left::{keys_left, names_left};
 use std::alloc::{AllocError, Global};
 use std::marker::Model;
+use wp_history::History;
 use wp_model::{Holder, Key, Name, Seq};
 
 /// The live names, each with the client that has it, if one does; the held keys; and the labels. Each is a list whose
@@ -254,13 +256,14 @@ impl LockTables {
 }
 
 impl LockTables {
-    pub fn new(alloc: Global) -> LockTables
-        ensures { result ≡ nothing_locked }
+    /// The undecided prepares of a history that is opened have their names live and their keys held.
+    pub fn left_by(history: &History, alloc: Global) -> Result<LockTables, AllocError>
+        ensures { IfOk result (λ t. t ≡ record { names = finite.from_entries (names_of history.now.entries); keys = finite.from_entries (keys_of history.now.entries); labels = finite.empty }) }
     {
-        LockTables {
-            names: Vec::new(alloc),
-            keys: Vec::new(alloc),
+        Ok(LockTables {
+            names: names_left(history, alloc)?,
+            keys: keys_left(history, alloc)?,
             labels: Vec::new(alloc),
-        }
+        })
     }
 }

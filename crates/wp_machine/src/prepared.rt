@@ -5,11 +5,13 @@ ghost use Rattle.std.specs.Option.{option_copied};
 ghost use Rattle.std.specs.FinSet as set;
 ghost use Rattle.std.specs.FinMap as finite;
 ghost use Rattle.wp_core.specs.Changes.{found_in};
-ghost use Rattle.wp_model.specs.PreparedTables.{is_prepared, nothing_prepared};
+ghost use Rattle.wp_model.specs.PreparedTables.{is_prepared};
+ghost use Rattle.wp_model.specs.History.{undecided};
 ghost use Rattle.wp_machine.specs.Pairs.{newest_of};
 
 use std::alloc::{AllocError, Global};
 use std::marker::Model;
+use wp_history::History;
 use wp_judge::InPrepared;
 use wp_model::Seq;
 
@@ -160,13 +162,14 @@ impl PreparedTables {
 }
 
 impl PreparedTables {
-    pub fn new(alloc: Global) -> PreparedTables
-        ensures { result ≡ nothing_prepared }
+    /// The undecided prepares of a history that is opened are delayed.
+    pub fn left_by(history: &History, alloc: Global) -> Result<PreparedTables, AllocError>
+        ensures { IfOk result (λ t. t ≡ record { heap = set.empty; delayed = set.from_list (undecided history.now.entries); delayed_commits = finite.empty }) }
     {
-        PreparedTables {
+        Ok(PreparedTables {
             heap: Vec::new(alloc),
-            delayed: Vec::new(alloc),
+            delayed: Vec::from_slice(alloc, history.undecided())?,
             delayed_commits: Vec::new(alloc),
-        }
+        })
     }
 }

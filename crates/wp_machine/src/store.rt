@@ -1,12 +1,13 @@
 ghost use Rattle.std.specs.Prelude.{◌≡◌, ◌++◌, [], None, false, IfOk, OnOk};
 ghost use Rattle.wp_core.specs.Effects.{with_failed};
+ghost use Rattle.wp_core.proofs.Openings.{all_in_memory};
 ghost use Rattle.wp_machine.specs.Machine.{without_number};
 
 use crate::copies::copy_versions;
-use crate::versions::take_number;
+use crate::versions::{all_versions, take_number};
 use std::alloc::{AllocError, Global};
 use std::marker::Model;
-use wp_model::{Seq, Version};
+use wp_model::{Entry, Seq, Version};
 
 /// The versions in memory and in tables, and the floor: at each number from it on a reader finds all that it needs.
 #[derive(Drop)]
@@ -136,14 +137,15 @@ impl StoreTable {
 }
 
 impl StoreTable {
-    pub fn new(alloc: Global) -> StoreTable
-        ensures { result ≡ record { memory = []; tables = []; floor = 0 } }
+    /// All versions of the entries, in memory.
+    pub fn of(entries: &[Entry], alloc: Global) -> Result<StoreTable, AllocError>
+        ensures { IfOk result (λ t. t ≡ all_in_memory entries.now) }
     {
-        StoreTable {
-            memory: Vec::new(alloc),
+        Ok(StoreTable {
+            memory: all_versions(entries, alloc)?,
             tables: Vec::new(alloc),
             floor: 0,
-        }
+        })
     }
 }
 

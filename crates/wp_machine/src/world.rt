@@ -1,9 +1,11 @@
-ghost use Rattle.std.specs.Prelude.{◌≡◌, IfOk};
+ghost use Rattle.std.specs.Prelude.{◌≡◌, ◌≤◌, None, replicate, IfOk};
+ghost use Rattle.wp_model.specs.Legal.{IsLegal, undone_last};
 ghost use Rattle.wp_core.specs.Runs.{IsOpening};
-ghost use Rattle.wp_machine.specs.Opened.{empty_world};
+ghost use Rattle.wp_core.proofs.Openings.{opened_world, flag_of};
 
 use crate::actor::Actor;
 use crate::cache::Cache;
+use crate::copies::copy_entries;
 use crate::locks::LockTables;
 use crate::prepared::PreparedTables;
 use crate::snapshots::Snapshots;
@@ -12,6 +14,7 @@ use crate::turn::Holders;
 use crate::writes::WriteTable;
 use std::alloc::{AllocError, Global};
 use std::marker::Model;
+use wp_history::History;
 use wp_model::{Entry, Name, Seq};
 
 /// The words, the turns, the tables that they guard, and the actors.
@@ -54,30 +57,55 @@ impl World {
     pub fn new(alloc: Global, client: Name) -> Result<World, AllocError>
         ensures { IfOk result IsOpening }
     {
-        World::empty(alloc, client)
+        World::opened(alloc, client, &History::new(alloc), 1)
     }
 
-    fn empty(alloc: Global, client: Name) -> Result<World, AllocError>
-        ensures { IfOk result (λ world. world ≡ empty_world client) }
+    /// An opening on the history: one client, a commit cache of so many empty words, and all versions in memory.
+    pub fn opened(
+        alloc: Global,
+        client: Name,
+        history: &History,
+        words: usize,
+    ) -> Result<World, AllocError>
+        requires closed { undone_last history.now.entries ≡ None }
+        requires some { 1 ≤ words }
+        ensures opening { IfOk result IsOpening }
+        ensures history { IfOk result (λ world. world.opened ≡ history.now.entries) }
     {
+        World::on(alloc, client, history, words)
+    }
+
+    fn on(alloc: Global, client: Name, history: &History, words: usize) -> Result<World, AllocError>
+        requires { 1 ≤ words }
+        ensures world { IfOk result (λ world. world ≡ opened_world history.now.entries (replicate words 0) client) }
+        ensures legal { IsLegal history.now.entries }
+    {
+        let entries = history.entries();
         let mut actors = Vec::with_capacity(alloc, 1)?;
-        actors.push(Actor::new(alloc, true, Some(client), Vec::new(alloc)))?;
+        actors.push(Actor::new(alloc, true, Some(client), copy_entries(entries, alloc)?))?;
         Ok(World {
             alloc,
-            opened: Vec::new(alloc),
-            max_evicted: 0,
-            delayed_flag: 0,
+            opened: copy_entries(entries, alloc)?,
+            max_evicted: history.published(),
+            delayed_flag: flag_of(history.undecided()),
             old_flag: 0,
-            cache: Cache::one(alloc)?,
+            cache: Cache::empty(words, alloc)?,
             holders: Holders::free(),
-            writes: WriteTable::new(alloc),
-            prepared: PreparedTables::new(alloc),
+            writes: WriteTable::of(entries, alloc)?,
+            prepared: PreparedTables::left_by(history, alloc)?,
             snapshots: Snapshots::new(alloc),
-            store: StoreTable::new(alloc),
-            locks: LockTables::new(alloc),
+            store: StoreTable::of(entries, alloc)?,
+            locks: LockTables::left_by(history, alloc)?,
             installed: Installed::new(alloc),
             first_edit: InstalledEdit::new(alloc),
             actors,
         })
     }
+}
+
+/// The delayed flag is up just where something is undecided.
+fn flag_of(undecided: &[Seq]) -> u64
+    ensures { result ≡ flag_of undecided.now }
+{
+    if undecided.is_empty() { 0 } else { 1 }
 }

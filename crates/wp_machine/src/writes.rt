@@ -135,17 +135,17 @@ impl WriteTable {
 }
 
 impl WriteTable {
-    /// Of the empty history.
-    pub fn new(alloc: Global) -> WriteTable
-        ensures { result ≡ record { history = []; pending = []; logged = false; log = []; closed = false; failed = [] } }
+    /// Nothing is pending, and the log spells these entries.
+    pub fn of(entries: &[Entry], alloc: Global) -> Result<WriteTable, AllocError>
+        ensures { IfOk result (λ t. t ≡ record { history = entries.now; pending = []; logged = false; log = entries.now; closed = false; failed = [] }) }
     {
-        WriteTable {
-            history: Vec::new(alloc),
+        Ok(WriteTable {
+            history: copy_entries(entries, alloc)?,
             pending: Vec::new(alloc),
             logged: false,
-            log: Vec::new(alloc),
+            log: copy_entries(entries, alloc)?,
             closed: false,
             failed: Vec::new(alloc),
-        }
+        })
     }
 }

@@ -1,5 +1,3 @@
-use Rattle.std.proofs.Common.{ap, sym, ◌∙◌, subst}
-use Rattle.wp_machine.specs.Machine.{MayMake}
 use Rattle.wp_machine.proofs.Acting.{at_within, apart_unless}
 use Rattle.wp_machine.proofs.applied.make.Goals as goal
 

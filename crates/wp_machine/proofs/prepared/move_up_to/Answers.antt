@@ -1,4 +1,4 @@
-use Rattle.std.proofs.Common.{◌≡◌, rules, not, nat_lt, nat_le, ap, ◌∙◌, ◌++◌, filter, take, ℕ, List}
+use Rattle.std.proofs.Common.{◌≡◌, rules, not, nat_le, ap, ◌∙◌, ◌++◌, filter}
 use Rattle.std.specs.FinSet as set
 use Rattle.std.proofs.lemmas.Fn.{filter_same}
 use Rattle.std.proofs.lemmas.List.{take_all}

@@ -1,4 +1,4 @@
-use Rattle.std.proofs.Common.{rules, not, nat_eq, ap, ◌∙◌, ℕ, List}
+use Rattle.std.proofs.Common.{rules, not, nat_eq, ap, ◌∙◌}
 use Rattle.std.proofs.lemmas.Fn.{filter_same}
 use Rattle.wp_machine.proofs.Maps.{map_of, map_removed}
 use Rattle.wp_machine.proofs.snapshots.take_number.Goals as goal

@@ -1,5 +1,4 @@
-use Rattle.std.proofs.Common.{ap, ◌∙◌, not}
-use Rattle.wp_core.specs.Changes.{is_held_by}
+use Rattle.std.proofs.Common.{ap, ◌∙◌}
 use Rattle.wp_machine.proofs.NameMaps.{map_of, map_retained}
 use Rattle.wp_machine.proofs.locks.LockTables.keys_but.Goals as goal
 

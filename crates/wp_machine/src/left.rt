@@ -1,0 +1,74 @@
+//! The names and the keys of the prepares that a history leaves undecided.
+ghost use Rattle.std.specs.Prelude.{◌≡◌, ◌++◌, map, IfOk, OnOk};
+ghost use Rattle.std.specs.Option.{option_copied};
+ghost use Rattle.wp_model.specs.Batch.{key_of};
+ghost use Rattle.wp_model.specs.declared.holder.Holder.TheVariants.{Txn};
+ghost use Rattle.wp_core.proofs.Openings.{name_left, keys_left, names_of, keys_of};
+
+use std::alloc::{AllocError, Global};
+use wp_history::History;
+use wp_model::{Change, Entry, Holder, Key, Name};
+
+/// The name of a prepare, had by nobody.
+fn push_name(
+    names: &mut Vec<(Name, Option<Name>)>,
+    found: Option<&Entry>,
+    alloc: Global,
+) -> Result<(), AllocError>
+    ensures { OnOk result (names.new.items ≡ names.old.items ++ name_left (option_copied found.entry)) }
+{
+    if let Some(Entry::Prepare(name, _)) = found {
+        names.push((name.copy(alloc)?, None))?;
+    }
+    Ok(())
+}
+
+/// The keys of the changes, held by the transaction.
+fn push_held(
+    keys: &mut Vec<(Key, Holder)>,
+    name: &Name,
+    changes: &[Change],
+    alloc: Global,
+) -> Result<(), AllocError>
+    ensures { OnOk result (keys.new.items ≡ keys.old.items ++ map (λ change. (key_of change, Txn name.now)) changes.now) }
+{
+    for change in changes {
+        keys.push((change.key().copy(alloc)?, Holder::Txn(name.copy(alloc)?)))?;
+    }
+    Ok(())
+}
+
+fn push_keys(
+    keys: &mut Vec<(Key, Holder)>,
+    found: Option<&Entry>,
+    alloc: Global,
+) -> Result<(), AllocError>
+    ensures { OnOk result (keys.new.items ≡ keys.old.items ++ keys_left (option_copied found.entry)) }
+{
+    match found {
+        Some(Entry::Prepare(name, batch)) => push_held(keys, name, batch.changes(), alloc),
+        _ => Ok(()),
+    }
+}
+
+/// The names of the undecided prepares, had by nobody.
+pub fn names_left(history: &History, alloc: Global) -> Result<Vec<(Name, Option<Name>)>, AllocError>
+    ensures { IfOk result (λ names. names.items ≡ names_of history.now.entries) }
+{
+    let mut names = Vec::new(alloc);
+    for p in history.undecided() {
+        push_name(&mut names, history.entry_at(*p), alloc)?;
+    }
+    Ok(names)
+}
+
+/// The keys of the undecided prepares, each held by its transaction.
+pub fn keys_left(history: &History, alloc: Global) -> Result<Vec<(Key, Holder)>, AllocError>
+    ensures { IfOk result (λ keys. keys.items ≡ keys_of history.now.entries) }
+{
+    let mut keys = Vec::new(alloc);
+    for p in history.undecided() {
+        push_keys(&mut keys, history.entry_at(*p), alloc)?;
+    }
+    Ok(keys)
+}
