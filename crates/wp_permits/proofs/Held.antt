@@ -40,17 +40,17 @@ publishes w by a entry first turn logged entitled made = cases w.writes.pending 
           step = store_published entry others;
           is = rw (is, same) refl;
           needs =
-            record {
-              turn = turn;
-              pending = rw same is;
-              logged = logged;
-              legal = entitled.legal;
-              versions = rw (is, ← same) made.versions;
-              keys = entitled.keys;
-              transaction = entitled.transaction;
-              number = made.number;
-              pair = made.pair;
-            };
+              record {
+                turn = turn;
+                pending = rw same is;
+                logged = logged;
+                legal = entitled.legal;
+                versions = rw (is, ← same) made.versions;
+                keys = entitled.keys;
+                transaction = entitled.transaction;
+                number = made.number;
+                pair = made.pair;
+              };
         }
 
 pub entitled : (w : World) (a : Actor) (entry : Entry) (history : List Entry) → history ≡ w.writes.history → MayFollow history entry → (batch : List Change) → batch ≡ changes_under history entry → ((key : List ℕ) → is_changed batch key ≡ true → IsHeldFor w a key)

@@ -63,12 +63,7 @@ fn may_take_name(world: &World, by: usize, name: &Name, p: Seq) -> Result<bool, 
     Ok(named)
 }
 
-fn may_leave_name(
-    world: &World,
-    by: usize,
-    actor: &Actor,
-    name: &Name,
-) -> Result<bool, AllocError>
+fn may_leave_name(world: &World, by: usize, actor: &Actor, name: &Name) -> Result<bool, AllocError>
     ensures { IfOk result (λ yes. yes ≡ true → IsOffered world.now by actor.now (Some (step.leave_name name.now))) }
 {
     if !world.holders.holds(Turn::Locks, by) || !has_transaction(actor, name) {

@@ -243,9 +243,11 @@ fn is_made(world: &World, entry: &Entry) -> Result<bool, AllocError>
     ensures { IfOk result (λ made. made ≡ true → IsMade world.now entry.now) }
 {
     let n = world.writes.next_number()?;
-    Ok(is_in_memory(&world.store.memory, entry, n)
-        && is_in_heap(world, entry, n)
-        && is_in_word(world, entry, n))
+    Ok(
+        is_in_memory(&world.store.memory, entry, n)
+            && is_in_heap(world, entry, n)
+            && is_in_word(world, entry, n),
+    )
 }
 
 pub(super) fn may_publish(world: &World, by: usize, actor: &Actor) -> Result<bool, AllocError>

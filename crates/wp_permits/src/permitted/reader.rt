@@ -64,12 +64,14 @@ fn may_read(world: &World, p: Seq, snapshot: Seq) -> bool
     has_versions_at(&world.writes.history, p)
 }
 
+/// The registration at that place of the actor's.
 fn registration_at(actor: &Actor, place: usize) -> Option<Registration>
     ensures { result ≡ slice_get actor.now.participant.registered place }
 {
     actor.participant.registered.get(place).copied()
 }
 
+/// The actor may read the version at that registration.
 fn may_begin(world: &World, actor: &Actor, p: Seq, place: usize) -> bool
     ensures { result ≡ true → (by : ℕ) → IsOffered world.now by actor.now (option_map (step.begin_reading p) (slice_get actor.now.participant.registered place)) }
 {
@@ -89,15 +91,17 @@ fn may_be_smallest(world: &World, by: usize, least: Seq) -> bool
     is_below_prepared(world, by, least)
 }
 
+/// It is at most each prepared number and the next number, under the prepared turn.
 fn is_below_prepared(world: &World, by: usize, least: Seq) -> bool
     ensures { result ≡ true → Holds world.now.holders prepared_turn by × (least ≤ suc (published world.now)) × ((p : ℕ) → is_prepared world.now.prepared p ≡ true → least ≤ p) }
 {
     if !world.holders.holds(Turn::Prepared, by) {
         return false;
     }
-    least <= world.writes.published() && are_prepared_from(&world.prepared, least)
+    least.saturating_sub(1) <= world.writes.published() && are_prepared_from(&world.prepared, least)
 }
 
+/// Each prepared number is from this one on.
 fn are_prepared_from(prepared: &PreparedTables, least: Seq) -> bool
     ensures { result ≡ true → (p : ℕ) → is_prepared prepared.now p ≡ true → least ≤ p }
 {

@@ -80,10 +80,12 @@ pub(super) fn word(
 {
     match kind {
         WordStep::StoreMaxEvicted(m) => Ok(may_rise(world, by, *m)),
-        WordStep::StoreDelayedFlag(value) => Ok(world.holders.holds(Turn::Prepared, by)
-            && may_store_delayed_flag(world, *value)),
-        WordStep::StoreOldFlag(value) => Ok(world.holders.holds(Turn::Snapshots, by)
-            && may_store_old_flag(world, *value)),
+        WordStep::StoreDelayedFlag(value) => Ok(
+            world.holders.holds(Turn::Prepared, by) && may_store_delayed_flag(world, *value),
+        ),
+        WordStep::StoreOldFlag(value) => Ok(
+            world.holders.holds(Turn::Snapshots, by) && may_store_old_flag(world, *value),
+        ),
         WordStep::StorePublished => may_publish(world, by, actor),
         WordStep::StoreWord => may_store_word(world, by),
     }

@@ -75,7 +75,10 @@ fn begin(world: World) -> Result<World, Fail> {
     let alloc = world.alloc;
     let world = take(world, Turn::Locks)?;
     let world = step(world, Kind::Locks(LocksStep::ClaimName(name(alloc)?)))?;
-    let world = step(world, Kind::Locks(LocksStep::LockKey(name(alloc)?, key(alloc)?)))?;
+    let world = step(
+        world,
+        Kind::Locks(LocksStep::LockKey(name(alloc)?, key(alloc)?)),
+    )?;
     let world = give(world, Turn::Locks)?;
     let batch = batch_of(alloc, key(alloc)?)?;
     step(world, Kind::Own(OwnStep::SetBatch(name(alloc)?, batch)))
@@ -85,7 +88,10 @@ fn begin(world: World) -> Result<World, Fail> {
 pub(super) fn end(world: World) -> Result<World, Fail> {
     let alloc = world.alloc;
     let world = take(world, Turn::Locks)?;
-    let world = step(world, Kind::Locks(LocksStep::FreeKey(name(alloc)?, key(alloc)?)))?;
+    let world = step(
+        world,
+        Kind::Locks(LocksStep::FreeKey(name(alloc)?, key(alloc)?)),
+    )?;
     let world = step(world, Kind::Locks(LocksStep::FreeTransaction(name(alloc)?)))?;
     give(world, Turn::Locks)
 }

@@ -87,7 +87,7 @@ fn a_smallest_decides(rt: HostRuntime) -> Result<(), Fail> {
     Ok(())
 }
 
-/// 1 was committed as 2, and its pair went before the reader came: with nothing delayed it is below the bound.
+/// 1 was committed as 4 and cleaned up since the first look: the reader looks into no table, and finds its word.
 #[test]
 fn a_delayed_flag_of_0_decides(rt: HostRuntime) -> Result<(), Fail> {
     let world = read_in_part(rt.alloc())?;
@@ -99,7 +99,7 @@ fn a_delayed_flag_of_0_decides(rt: HostRuntime) -> Result<(), Fail> {
     Ok(())
 }
 
-/// 1 and 2 are written, with the bound at 2 and the word with 3 of no reader's interest.
+/// 1 is evicted, and the bound is the snapshot's number: with nothing in the old commit map it was committed by then.
 #[test]
 fn an_old_flag_of_0_decides(rt: HostRuntime) -> Result<(), Fail> {
     let world = write(opened(rt.alloc())?)?;
@@ -132,6 +132,25 @@ fn a_delayed_commit_decides(rt: HostRuntime) -> Result<(), Fail> {
     let world = take(world, Turn::Prepared)?;
     let world = load(world, Load::InPrepared)?;
     let world = give(world, Turn::Prepared)?;
+    assert!(rt; answer(&world) == Some(false));
+    Ok(())
+}
+
+/// 1 was committed as 2, above the snapshot 1, and evicted by 3.
+#[test]
+fn the_old_commit_map_decides(rt: HostRuntime) -> Result<(), Fail> {
+    let world = prepare(opened(rt.alloc())?)?;
+    let world = begin_reading(world, 1)?;
+    let world = finish(make_commit_pending(world, 1)?)?;
+    let world = clear(world)?;
+    let world = make_write_pending(world)?;
+    let world = raise(world, 2)?;
+    let world = keep(world, 1, 1)?;
+    let world = finish_write(world)?;
+    let world = load(world, Load::FirstWord)?;
+    let world = load(world, Load::FirstMax)?;
+    let world = read_on(world)?;
+    let world = look_into_old_commits(world)?;
     assert!(rt; answer(&world) == Some(false));
     Ok(())
 }

@@ -1,9 +1,9 @@
 //! Steps that are not permitted.
+use crate::permits;
 use crate::tests::clients::{
     add_versions, give, is_refused, log, make_write_pending, opened, prepare, step, store_word,
     take, write,
 };
-use crate::permits;
 use std::test::Fail;
 use wp_machine::{Kind, LocksStep, PreparedStep, ReaderStep, Step, Turn, TurnStep, WordStep};
 use wp_model::{Key, Name};
@@ -24,7 +24,10 @@ fn a_key_that_is_held_is_not_locked(rt: HostRuntime) -> Result<(), Fail> {
     let key = Key::read(alloc, b"k")?;
     let world = take(opened(alloc)?, Turn::Locks)?;
     let world = step(world, Kind::Locks(LocksStep::ClaimName(name.copy(alloc)?)))?;
-    let world = step(world, Kind::Locks(LocksStep::LockKey(name, key.copy(alloc)?)))?;
+    let world = step(
+        world,
+        Kind::Locks(LocksStep::LockKey(name, key.copy(alloc)?)),
+    )?;
     assert!(rt; is_refused(&world, Kind::Locks(LocksStep::LockDirect(key)))?);
     Ok(())
 }
