@@ -12,7 +12,6 @@ use Rattle.wp_machine.specs.Machine.{published_step, released_step}
 use Rattle.wp_judge.specs.Words.{CommitPair, numbers_of}
 use Rattle.wp_model.specs.declared.change.Change.{Change}
 use Rattle.wp_model.specs.History.{is_changed}
-use Rattle.wp_model.specs.Legal.{IsLegal}
 use Rattle.wp_core.specs.Cache.{pair_at, cache_place}
 use Rattle.wp_core.specs.Conditions.{IsHeldFor, MayBeEvicted}
 use Rattle.wp_core.specs.Entries.{changes_under, transaction_of, pending_pair}

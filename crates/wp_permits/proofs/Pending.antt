@@ -1,5 +1,5 @@
 -- What memory has once the versions of the pending entry came or went.
-use Rattle.std.proofs.Common.{◌≡◌, ℕ, suc, Bool, true, false, cond, not, nat_eq, ◌&&◌, filter, List, [], ◌∷◌, ◌++◌, length, Option, Some, None, is_some, refl, sym, ap, ◌∙◌}
+use Rattle.std.proofs.Common.{◌≡◌, ℕ, Bool, true, false, cond, not, nat_eq, ◌&&◌, List, [], ◌∷◌, ◌++◌, Option, Some, None, is_some, refl, sym, ◌∙◌}
 use Rattle.std.specs.Str.{bytes_eq}
 use Rattle.std.specs.Cmp.Lexicographic.{told_text}
 use Rattle.std.proofs.lemmas.Bool.{eqb-true, eqb-false, eq-eqb}
@@ -8,7 +8,6 @@ use Rattle.wp_model.specs.declared.entry.Entry.{Entry}
 use Rattle.wp_model.specs.Batch.{key_of, value_of, change_to}
 use Rattle.wp_model.specs.History.{is_changed}
 use Rattle.wp_model.specs.Legal.{changes_in}
-use Rattle.wp_model.specs.Decision.{version_in}
 use Rattle.wp_model.specs.declared.version.Version.{Version}
 use Rattle.wp_model.specs.Versions.{version_at}
 use Rattle.wp_core.specs.Entries.{next_of, HasVersionsAt}

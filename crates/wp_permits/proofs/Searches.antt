@@ -1,5 +1,5 @@
 -- What a search over the items of a table says of the table.
-use Rattle.std.proofs.Common.{◌≡◌, ◌≢◌, ◌≤◌, ◌<◌, ℕ, zero, suc, get_or, drop, Bool, true, false, cond, nat_eq, not, ◌||◌, ◌&&◌, length, List, [], ◌∷◌, Option, Some, None, IsSome, MatchOption, refl, sym, ap, ◌∙◌, arith}
+use Rattle.std.proofs.Common.{◌≡◌, ◌≢◌, ◌<◌, ℕ, zero, suc, get_or, drop, Bool, true, false, cond, nat_eq, not, ◌||◌, ◌&&◌, length, List, [], ◌∷◌, Option, Some, None, IsSome, MatchOption, refl, sym, ap, ◌∙◌, arith}
 use Rattle.std.specs.Ordering.{nat_cmp, eq_by_cmp}
 use Rattle.std.specs.Cmp.{nat_cmp_total, unsigned_tied, eq_by_cmp_equiv}
 use Rattle.std.proofs.lemmas.Cmp.{nat_list_cmp_total}
@@ -8,12 +8,12 @@ use Rattle.std.specs.List.{list_any, slice_get}
 use Rattle.std.specs.FinSet as set
 use Rattle.std.specs.FinMap as finite
 use Rattle.std.specs.Str.{bytes_eq}
-use Rattle.std.specs.Option.{option_map_or, is_some}
+use Rattle.std.specs.Option.{is_some}
 use Rattle.std.proofs.lemmas.Bool.{eqb-true, eq-eqb}
 use Rattle.wp_model.specs.declared.version.Version.{Version}
 use Rattle.wp_model.specs.Versions.{version_at}
 use Rattle.wp_model.specs.PreparedTables.{PreparedTables}
-use Rattle.wp_model.specs.Snapshots.{Snapshot, IsLive, is_old_commit}
+use Rattle.wp_model.specs.Snapshots.{Snapshot, is_old_commit}
 use Rattle.wp_model.specs.Batch.{key_cmp}
 use Rattle.wp_core.specs.Tables.{NoneDelayed, NoOldCommits}
 use Rattle.wp_core.specs.Sound.Prepared.{IsInOldCommits}

@@ -1,4 +1,4 @@
-use Rattle.std.proofs.Common.{◌∙◌, rules, sym}
+use Rattle.std.proofs.Common.{◌∙◌}
 use Rattle.wp_permits.proofs.Searches.{first_or_none}
 use Rattle.wp_permits.proofs.permitted.empty.first_of.Goals as goal
 

@@ -1,4 +1,4 @@
-use Rattle.std.proofs.Common.{rules, ◌≡◌, true, false, nat_eq, length, sym, refl, ◌∙◌}
+use Rattle.std.proofs.Common.{rules, ◌≡◌, true, false, nat_eq, length, sym, refl}
 use Rattle.wp_permits.proofs.Searches.{none_delayed, some_delayed}
 use Rattle.wp_permits.proofs.permitted.empty.none_delayed.Goals as goal
 

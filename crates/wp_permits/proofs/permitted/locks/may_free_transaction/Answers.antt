@@ -1,4 +1,4 @@
-use Rattle.std.proofs.Common.{rules, ◌≡◌, true, None, is_some, refl}
+use Rattle.std.proofs.Common.{rules, ◌≡◌, None, refl}
 use Rattle.wp_model.specs.History.{named}
 use Rattle.wp_core.specs.Turns.{Holds, locks_turn}
 use Rattle.wp_core.specs.Steps.{free_transaction}

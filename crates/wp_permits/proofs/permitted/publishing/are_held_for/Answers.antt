@@ -1,4 +1,4 @@
-use Rattle.std.proofs.Common.{rules, arith}
+use Rattle.std.proofs.Common.{rules}
 use native.Mathlib.Numerals.{unary_clauses}
 use Rattle.wp_model.specs.Batch.{key_of}
 use Rattle.wp_permits.specs.Permits.{IsHeldKey}

@@ -1,4 +1,4 @@
-use Rattle.std.proofs.Common.{rules, ◌∙◌, sym, ap}
+use Rattle.std.proofs.Common.{◌∙◌}
 use Rattle.wp_permits.proofs.Searches.{listed_key}
 use Rattle.wp_permits.proofs.permitted.publishing.has_locked.Goals as goal
 

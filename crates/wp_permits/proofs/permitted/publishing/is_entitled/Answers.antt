@@ -1,5 +1,4 @@
 use Rattle.std.proofs.Common.{rules, ◌≡◌, ◌∙◌}
-use Rattle.wp_permits.specs.Permits.{MayFollow}
 use Rattle.wp_permits.proofs.Held.{entitled}
 use Rattle.wp_permits.proofs.permitted.publishing.is_entitled.Goals as goal
 

@@ -1,4 +1,4 @@
-use Rattle.std.proofs.Common.{rules, ◌≡◌, Some, true, sym}
+use Rattle.std.proofs.Common.{rules, ◌≡◌, Some, true}
 use Rattle.std.specs.List.{slice_get}
 use Rattle.wp_core.specs.Turns.{Holds, write_turn}
 use Rattle.wp_permits.specs.Permits.{IsEntitled, IsMade}

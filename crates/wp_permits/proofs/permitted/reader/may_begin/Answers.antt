@@ -1,4 +1,4 @@
-use Rattle.std.proofs.Common.{rules, ◌≡◌, Some, slice_get, sym}
+use Rattle.std.proofs.Common.{rules}
 use Rattle.wp_permits.proofs.Held.{begins}
 use Rattle.wp_permits.proofs.permitted.reader.may_begin.Goals as goal
 

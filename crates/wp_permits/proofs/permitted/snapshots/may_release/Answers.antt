@@ -1,4 +1,4 @@
-use Rattle.std.proofs.Common.{rules, ◌≡◌, ◌<◌, length, arith}
+use Rattle.std.proofs.Common.{rules, ◌<◌, length}
 use Rattle.wp_core.specs.Turns.{Holds, snapshots_turn}
 use Rattle.wp_permits.proofs.Held.{releases}
 use Rattle.wp_permits.proofs.permitted.snapshots.may_release.Goals as goal
