@@ -20,8 +20,6 @@ mod order;
 mod pending;
 mod read;
 mod stored;
-#[cfg(test)]
-mod tests;
 mod transactions;
 mod versions;
 

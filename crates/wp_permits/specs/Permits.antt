@@ -1,11 +1,57 @@
 -- When the test of a step may say yes.
-use Rattle.std.specs.Prelude.{◌≡◌, ℕ, Option, Some}
-use Rattle.wp_core.specs.World.{World, Actor}
-use Rattle.wp_core.specs.Steps.{Step}
-use Rattle.wp_core.specs.Needs.{Needs}
+use Rattle.std.specs.Prelude.{◌≡◌, ℕ, suc, ◌≤◌, ◌<◌, true, List, [], ◌∷◌, ◌++◌, Option, Some}
+use Rattle.wp_model.specs.declared.entry.Entry.{Entry}
+use Rattle.wp_model.specs.Legal.{IsLegal, IsLegalNext}
+use Rattle.wp_model.specs.Snapshots.{Snapshots, is_old_commit}
+use Rattle.wp_core.specs.World.{World, Actor, Transaction, published}
+use Rattle.wp_core.specs.Conditions.{HasTransaction, IsHeldFor, IsOwn, IsPrepare}
+use Rattle.wp_core.specs.Cache.{cached}
+use Rattle.wp_core.specs.Entries.{changes_under, pair_by}
+use Rattle.std.specs.FinSet as set
+use Rattle.std.specs.FinMap as finite
+use Rattle.wp_judge.specs.Words.{CommitPair}
+use Rattle.wp_model.specs.declared.change.Change.{Change}
+use Rattle.wp_model.specs.declared.holder.Holder.TheVariants.{Txn}
+use Rattle.wp_model.specs.Decision.{version_in}
+use Rattle.wp_model.specs.History.{is_changed}
+use Rattle.wp_model.specs.Versions.{version_at}
 
--- it is a step, and what that needs is so
-pub record IsOffered (w : World) (by : ℕ) (a : Actor) (o : Option Step) : Type 0 where
-  pub step : Step
-  pub is : o ≡ Some step
-  pub needs : Needs w by a step
+-- the entry may follow, and with it the history is legal
+pub record MayFollow (history : List Entry) (entry : Entry) : Type 0 where
+  pub next : IsLegalNext history entry
+  pub legal : IsLegal (history ++ entry ∷ [])
+
+-- under the snapshot number s the old commit map has p, where s is between p and its decision
+abbrev pub IsKeptAt : Snapshots → ℕ → ℕ → ℕ → Type 0
+IsKeptAt snapshots p c s = p ≤ s → s < c → is_old_commit snapshots s p ≡ true
+
+-- the key is held for the actor
+pub record IsHeldKey (w : World) (a : Actor) (key : List ℕ) : Type 0 where
+  pub held : IsHeldFor w a key
+
+-- the transaction is the actor's
+pub record IsOwned (a : Actor) (name : List ℕ) : Type 0 where
+  pub transaction : Transaction
+  pub there : HasTransaction a name transaction
+
+-- the transaction locked the key, and the table has it as the holder
+abbrev pub IsLocked : World → Transaction → List ℕ → List ℕ → Type 0
+IsLocked w t name key = (set.contains t.locked key ≡ true) × (finite.get w.locks.keys key ≡ Some (Txn name))
+
+-- the transaction is the actor's, and locked each key that the changes need
+pub record IsOwner (w : World) (a : Actor) (name : List ℕ) (changes : List Change) : Type 0 where
+  pub transaction : Transaction
+  pub there : HasTransaction a name transaction
+  pub keys : (key : List ℕ) → is_changed changes key ≡ true → IsLocked w transaction name key
+
+-- the entry may come next, its keys are held for the actor, and the transaction that it is of is the actor's
+pub record IsEntitled (w : World) (a : Actor) (entry : Entry) : Type 0 where
+  pub legal : IsLegal (w.writes.history ++ entry ∷ [])
+  pub keys : (key : List ℕ) → is_changed (changes_under w.writes.history entry) key ≡ true → IsHeldFor w a key
+  pub transaction : IsOwn w a entry
+
+-- its versions are in memory, the number of a Prepare is in the heap, and the pair of any other is in its word
+pub record IsMade (w : World) (entry : Entry) : Type 0 where
+  pub versions : (key : List ℕ) (value : Option (List ℕ)) → version_in (Some entry) key ≡ Some value → version_at w.store.memory key (suc (published w)) ≡ Some value
+  pub number : IsPrepare entry → set.contains w.prepared.heap (suc (published w)) ≡ true
+  pub pair : (pair : CommitPair) → pair_by (suc (published w)) entry ≡ Some pair → cached w.cache pair.number ≡ Some pair.decision

@@ -1,11 +1,131 @@
 //! Whether a step with the locks turn may be made.
-ghost use Rattle.std.specs.Prelude.{◌≡◌, true};
+ghost use Rattle.std.specs.Prelude.{◌≡◌, true, Some, None, IfOk, IfSome, is_some, option_map};
+ghost use Rattle.std.specs.FinMap as finite;
+ghost use Rattle.wp_core.specs.World.{Actor};
+ghost use Rattle.wp_core.specs.Steps as step;
+ghost use Rattle.wp_model.specs.History.{named};
 ghost use Rattle.wp_machine.specs.Machine.{locks_step};
-ghost use Rattle.wp_permits.specs.Permits.{IsOffered};
+ghost use Rattle.wp_needs.specs.Offered.{IsOffered};
 
+use crate::permitted::history::history_of;
+use crate::permitted::publishing::{has_locked, has_transaction};
+use std::alloc::AllocError;
 use wp_machine::{Actor, LocksStep, Turn, World};
+use wp_model::{Key, Name, Seq};
 
-pub(super) fn locks(world: &World, by: usize, actor: &Actor, kind: &LocksStep) -> bool
+/// The name is live, and no actor has it.
+fn is_left(world: &World, name: &Name) -> bool
+    ensures { result ≡ true → finite.get world.now.locks.names name.now ≡ Some None }
+{
+    match world.locks.name(name) {
+        Some(client) => client.is_none(),
+        None => false,
+    }
+}
+
+/// The name is that of the undecided prepare with this number.
+fn is_named(world: &World, name: &Name, p: Seq) -> Result<bool, AllocError>
+    ensures { IfOk result (λ yes. yes ≡ true → named world.now.writes.history name.now ≡ Some p) }
+{
+    let Some(history) = history_of(world)? else {
+        return Ok(false);
+    };
+    Ok(history.named(name) == Some(p))
+}
+
+/// An undecided prepare has the name.
+fn is_prepared(world: &World, name: &Name) -> Result<bool, AllocError>
+    ensures { IfOk result (λ yes. yes ≡ true → is_some (named world.now.writes.history name.now) ≡ true) }
+{
+    let Some(history) = history_of(world)? else {
+        return Ok(false);
+    };
+    Ok(history.named(name).is_some())
+}
+
+/// No undecided prepare has the name.
+fn is_unprepared(world: &World, name: &Name) -> Result<bool, AllocError>
+    ensures { IfOk result (λ yes. yes ≡ true → named world.now.writes.history name.now ≡ None) }
+{
+    let Some(history) = history_of(world)? else {
+        return Ok(false);
+    };
+    Ok(history.named(name).is_none())
+}
+
+fn may_take_name(world: &World, by: usize, name: &Name, p: Seq) -> Result<bool, AllocError>
+    ensures { IfOk result (λ yes. yes ≡ true → (a : Actor) → IsOffered world.now by a (Some (step.take_name name.now p))) }
+{
+    if !world.holders.holds(Turn::Locks, by) || !is_left(world, name) {
+        return Ok(false);
+    }
+    let named = is_named(world, name, p)?;
+    Ok(named)
+}
+
+fn may_leave_name(world: &World, by: usize, actor: &Actor, name: &Name) -> Result<bool, AllocError>
+    ensures { IfOk result (λ yes. yes ≡ true → IsOffered world.now by actor.now (Some (step.leave_name name.now))) }
+{
+    if !world.holders.holds(Turn::Locks, by) || !has_transaction(actor, name) {
+        return Ok(false);
+    }
+    let prepared = is_prepared(world, name)?;
+    Ok(prepared)
+}
+
+fn may_free_transaction(
+    world: &World,
+    by: usize,
+    actor: &Actor,
+    name: &Name,
+) -> Result<bool, AllocError>
+    ensures { IfOk result (λ yes. yes ≡ true → IsOffered world.now by actor.now (Some (step.free_transaction name.now))) }
+{
+    if !world.holders.holds(Turn::Locks, by) || !has_transaction(actor, name) {
+        return Ok(false);
+    }
+    let unprepared = is_unprepared(world, name)?;
+    Ok(unprepared)
+}
+
+fn may_free_key(
+    world: &World,
+    by: usize,
+    actor: &Actor,
+    name: &Name,
+    key: &Key,
+) -> Result<bool, AllocError>
+    ensures { IfOk result (λ yes. yes ≡ true → IsOffered world.now by actor.now (option_map (λ t. step.free_key name.now t key.now) (finite.get actor.now.participant.transactions name.now))) }
+{
+    let Some(transaction) = actor.participant.transaction(name) else {
+        return Ok(false);
+    };
+    if !world.holders.holds(Turn::Locks, by) || !has_locked(transaction, key) {
+        return Ok(false);
+    }
+    let unprepared = is_unprepared(world, name)?;
+    Ok(unprepared)
+}
+
+pub(super) fn locks(
+    world: &World,
+    by: usize,
+    actor: &Actor,
+    kind: &LocksStep,
+) -> Result<bool, AllocError>
+    ensures { IfOk result (λ yes. yes ≡ true → IsOffered world.now by actor.now (locks_step world.now actor.now.participant kind.now)) }
+{
+    match kind {
+        LocksStep::TakeName(name, p) => may_take_name(world, by, name, *p),
+        LocksStep::LeaveName(name) => may_leave_name(world, by, actor, name),
+        LocksStep::FreeTransaction(name) => may_free_transaction(world, by, actor, name),
+        LocksStep::FreeKey(name, key) => may_free_key(world, by, actor, name, key),
+        _ => Ok(claims(world, by, actor, kind)),
+    }
+}
+
+/// The steps that ask no history.
+fn claims(world: &World, by: usize, actor: &Actor, kind: &LocksStep) -> bool
     ensures { result ≡ true → IsOffered world.now by actor.now (locks_step world.now actor.now.participant kind.now) }
 {
     if !world.holders.holds(Turn::Locks, by) {

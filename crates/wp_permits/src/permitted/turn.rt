@@ -1,21 +1,43 @@
 //! Whether a turn may be taken or given.
 ghost use Rattle.std.specs.Prelude.{◌≡◌, true};
 ghost use Rattle.wp_core.specs.Conditions.{MayGive};
+ghost use Rattle.wp_core.specs.Tables.{NoneDelayed, NoOldCommits};
 ghost use Rattle.wp_machine.specs.Parts.{turn_of};
 ghost use Rattle.wp_machine.specs.Machine.{turn_step};
-ghost use Rattle.wp_permits.specs.Permits.{IsOffered};
+ghost use Rattle.wp_needs.specs.Offered.{IsOffered};
 
+use crate::permitted::empty::{has_no_old_commits, none_delayed, none_flushed};
 use wp_machine::{Actor, Turn, TurnStep, World};
+
+/// With nothing delayed the flag is down.
+fn delayed_flag_is_right(world: &World) -> bool
+    ensures { result ≡ true → NoneDelayed world.now.prepared → world.now.delayed_flag ≡ 0 }
+{
+    if world.delayed_flag == 0 {
+        return true;
+    }
+    !none_delayed(&world.prepared)
+}
+
+/// With the old commit map empty the flag is down.
+fn old_flag_is_right(world: &World) -> bool
+    ensures { result ≡ true → NoOldCommits world.now.snapshots → world.now.old_flag ≡ 0 }
+{
+    if world.old_flag == 0 {
+        return true;
+    }
+    !has_no_old_commits(&world.snapshots)
+}
 
 fn may_give(world: &World, turn: Turn) -> bool
     ensures { result ≡ true → MayGive world.now (turn_of turn) }
 {
     match turn {
         Turn::Write => world.writes.pending.is_empty(),
-        Turn::Prepared => world.delayed_flag == 0,
-        Turn::Snapshots => world.old_flag == 0,
+        Turn::Prepared => delayed_flag_is_right(world),
+        Turn::Snapshots => old_flag_is_right(world),
         Turn::Store | Turn::Locks => true,
-        Turn::Tables => world.store.memory.is_empty(),
+        Turn::Tables => none_flushed(&world.store.memory, world.installed.last.flushed),
     }
 }
 
