@@ -1,6 +1,6 @@
 -- Each legal history that ends in no undo can be opened: all its versions stand in memory, no table has one, and each of its
 -- undecided prepares is delayed, its name live, its keys held.
-use Rattle.std.proofs.Common.{◌≡◌, ◌≢◌, inl, inr, ℕ, zero, suc, ◌<◌, ◌≤◌, eq-eqb, ne_eqb, Bool, true, false, true≢false, cond, List, [], ◌∷◌, ◌++◌, length, map, append-nil, refl, sym, subst, ap, ◌∙◌, Option, Some, None, is_some, filter, slice_index_or, arith}
+use Rattle.std.proofs.Common.{◌≡◌, ◌≢◌, inl, inr, ℕ, zero, suc, ◌<◌, ◌≤◌, eq-eqb, ne_eqb, Bool, true, false, true≢false, cond, List, [], ◌∷◌, ◌++◌, length, map, take, append-nil, refl, sym, subst, ap, ◌∙◌, Option, Some, None, is_some, filter, slice_index_or, arith}
 use Rattle.std.specs.Prelude.{All}
 use Rattle.std.specs.List.{find, flat_map, range_with_len}
 use Rattle.std.proofs.lemmas.Bool.{cases_lt}
@@ -18,8 +18,8 @@ use Rattle.wp_model.specs.declared.entry.Entry.TheVariants.{Write, Prepare, Comm
 use Rattle.wp_model.specs.declared.holder.Holder.{Holder}
 use Rattle.wp_model.specs.declared.holder.Holder.TheVariants.{Txn}
 use Rattle.wp_model.specs.declared.version.Version.{Version}
-use Rattle.wp_model.specs.Covered.{IsCovered, is_among}
-use Rattle.wp_model.specs.History.{entry_at, is_prepare, prepared_name, prepared_batch, undecided, name_at, batch_at, is_changed, is_undecided}
+use Rattle.wp_model.specs.Covered.{IsCovered, GivesStore, is_among}
+use Rattle.wp_model.specs.History.{newest, entry_at, is_prepare, prepared_name, prepared_batch, undecided, name_at, batch_at, is_changed, is_undecided}
 use Rattle.wp_model.specs.Legal.{IsLegal, changes_in, undone_last}
 use Rattle.wp_model.specs.Decision.{version_in, entry_version}
 use Rattle.wp_model.specs.LockTables.{LockTables, Names, Keys}
@@ -38,8 +38,29 @@ use Rattle.wp_core.proofs.HistoryGrows.{grown_length, version_new}
 use Rattle.wp_core.proofs.PendingVersions.{covers_same}
 use Rattle.wp_core.proofs.PublishesVersions.{at_front, at_back, at_under, later_more, up_to_within, up_to_past}
 use Rattle.wp_core.proofs.SnapshotsStep.{among_live}
-use Rattle.wp_core.proofs.Empty.{covered}
 use Rattle.wp_core.proofs.Tests.{none_some}
+
+-- ---- the empty history
+
+none_undecided : (p : ℕ) → is_undecided [] p ≡ true → ⊥
+none_undecided zero e = absurd (true≢false (sym e))
+none_undecided (suc n) e = absurd (true≢false (sym e))
+
+nothing_newest : (key : List ℕ) (n : ℕ) → newest (take n []) key ≡ None
+nothing_newest key zero = refl
+nothing_newest key (suc n) = refl
+
+gives : (key : List ℕ) (n : ℕ) → GivesStore [] [] key n
+gives key n = inr record { none = λ p is. refl; missing = nothing_newest key n }
+
+none_covered : (numbers : List ℕ) → IsCovered [] [] numbers 0
+none_covered numbers = record {
+  part = λ key p value e. let q : None ≡ Some value = e in absurd (cc);
+  undecided = λ key p value is e. absurd (none_undecided p is);
+  undone = λ key p value is e. let q : None ≡ Some p = is in absurd (cc);
+  listed = λ key n is. gives key n;
+  later = λ key n le low. gives key n;
+}
 
 -- ---- all versions of a history
 
@@ -96,7 +117,7 @@ module _ (history : List Entry) (entry : Entry) (legal : IsLegal (history ++ ent
       record { at = at_each; covered = covered_grows history entry legal before (before ++ under) [] 0 k.covered (omega arith) old new past 0 (omega arith) (λ m among. absurd cc) }
 
 pub all_versions : (history : List Entry) → IsLegal history → AreAll (later_versions history 0) history
-all_versions history legal = by_growth (λ h. AreAll (later_versions h 0) h) record { at = in_none; covered = covered [] } (λ h entry after before legal_next k. one_more h entry after k) history legal
+all_versions history legal = by_growth (λ h. AreAll (later_versions h 0) h) record { at = in_none; covered = none_covered [] } (λ h entry after before legal_next k. one_more h entry after k) history legal
 
 -- ---- they are a store
 

@@ -1,5 +1,5 @@
 mod HistoryLemmas
-mod Order
+pub mod Order
 mod Presence
 mod Stores
 mod Shows

@@ -11,7 +11,7 @@ use Rattle.wp_model.specs.LockTables.{LockTables}
 use Rattle.wp_needs.specs.Each.{Each}
 use Rattle.wp_needs.specs.VersionLists.{HasChanges}
 use Rattle.wp_needs.specs.Holding.{AreHeldFor}
-use Rattle.wp_needs.proofs.ListFacts.{same_key, key_itself}
+use Rattle.wp_cover.proofs.Order.{same_key, key_itself}
 
 module _ (P : List ℕ → Type 0) where
   pub changed_at : (changes : List Change) → Each (λ (change : Change). P (key_of change)) changes → (key : List ℕ) (value : Option (List ℕ)) → change_to changes key ≡ Some value → P key

@@ -1,36 +1,13 @@
 -- Lists of versions: what is so of each is so of each that a look-up finds.
-use Rattle.std.proofs.Common.{filter, nat_le, ◌≡◌, ◌≢◌, ℕ, ◌<◌, ◌≤◌, Bool, true, false, ◌==◌, ◌&&◌, cond, List, [], ◌∷◌, ◌⊎◌, inl, inr, Option, Some, None, refl, sym, ap, ◌∙◌, subst, arith}
-use Rattle.std.specs.Str.{bytes_eq}
-use Rattle.std.proofs.lemmas.Bool.{and_parts, and_from, eqb-true, eq-eqb, cases_lt, le-leb, leb-true}
-use Rattle.std.proofs.lemmas.Slice.Eq.{bytes_eq-Decides}
+use Rattle.std.proofs.Common.{filter, nat_le, ◌≡◌, ◌≢◌, ℕ, ◌<◌, ◌≤◌, Bool, true, false, ◌==◌, cond, List, [], ◌∷◌, ◌⊎◌, inl, inr, Option, Some, None, refl, sym, ap, ◌∙◌, subst, arith}
+use Rattle.std.proofs.lemmas.Bool.{eq-eqb, cases_lt, le-leb, leb-true}
 use Rattle.wp_model.specs.declared.version.Version.{Version}
 use Rattle.wp_model.specs.Versions.{version_at}
+use Rattle.wp_cover.proofs.Order.{is_here, at_here, here_itself}
 use Rattle.wp_core.specs.Tables.{up_to}
 use Rattle.wp_core.specs.Sound.Store.{NoneFlushed}
 use Rattle.wp_needs.specs.Each.{Each}
 use Rattle.wp_needs.specs.VersionLists.{HasAll, AreSame, NoneAt, StayUpTo, SameAt}
-
-pub same_key : (a b : List ℕ) → bytes_eq a b ≡ true → a ≡ b
-same_key a b h = (bytes_eq-Decides a b).0 h
-
-pub key_itself : (a : List ℕ) → bytes_eq a a ≡ true
-key_itself a = (bytes_eq-Decides a a).1 refl
-
-abbrev pub is_here : List ℕ → ℕ → Version → Bool
-is_here key n v = bytes_eq v.key key && (v.number == n)
-
--- it is under the key and the number
-pub record IsAt (key : List ℕ) (n : ℕ) (v : Version) : Type 0 where
-  pub key_is : v.key ≡ key
-  pub number_is : v.number ≡ n
-
-pub at_here : (key : List ℕ) (n : ℕ) (v : Version) → is_here key n v ≡ true → IsAt key n v
-at_here key n v h =
-    let parts = and_parts (bytes_eq v.key key) (v.number == n) h in
-    record { key_is = same_key v.key key parts.0; number_is = eqb-true v.number n parts.1 }
-
-pub here_itself : (v : Version) → is_here v.key v.number v ≡ true
-here_itself v = and_from (bytes_eq v.key v.key) (v.number == v.number) (key_itself v.key) (eq-eqb v.number v.number refl)
 
 module _ (P : List ℕ → ℕ → Type 0) where
   pub each_at : (vs : List Version) → Each (λ (v : Version). P v.key v.number) vs → (key : List ℕ) (p : ℕ) (value : Option (List ℕ)) → version_at vs key p ≡ Some value → P key p

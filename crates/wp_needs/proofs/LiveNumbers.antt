@@ -1,5 +1,5 @@
 -- Live numbers, as a list: what is so of each of the list is so of each.
-use Rattle.std.proofs.Common.{◌≡◌, ℕ, Bool, true, false, ◌==◌, ◌||◌, cond, nat_eq, List, [], ◌∷◌, map, Option, Some, None, is_some, refl, sym, ap, ◌∙◌, subst}
+use Rattle.std.proofs.Common.{◌≡◌, ℕ, Bool, true, false, ◌==◌, ◌||◌, cond, List, [], ◌∷◌, map, Option, Some, None, is_some, refl, sym, ap, ◌∙◌, subst}
 use Rattle.std.specs.Option.{IsSome}
 use Rattle.std.specs.List.{list_any}
 use Rattle.std.specs.Ordering.{nat_cmp, eq_by_cmp}
@@ -15,7 +15,7 @@ use Rattle.wp_machine.specs.Pairs.{newest_of}
 use Rattle.wp_machine.proofs.Maps.{newest_is_got}
 use Rattle.std.proofs.lemmas.Map.Text.{is_eq-slice_cmp}
 use Rattle.wp_machine.proofs.NameMaps as names
-use Rattle.wp_needs.proofs.ListFacts.{key_itself}
+use Rattle.wp_cover.proofs.Order.{key_itself}
 
 either_some : {X : Type 0} (b : Bool) (x : X) (o : Option X) → is_some (cond b (Some x) o) ≡ (b || is_some o)
 either_some true x o = refl

@@ -1,5 +1,5 @@
 -- Whether there is something.
-use Rattle.std.proofs.Common.{◌≡◌, true, Option, Some, None, is_some, Bor, List, [], ◌∷◌, refl, sym, ap, ◌∙◌}
+use Rattle.std.proofs.Common.{◌≡◌, true, Option, Some, None, is_some, Bor, List, [], ◌∷◌, refl, sym}
 use Rattle.std.specs.Option.{option_copied}
 use Rattle.std.specs.Prelude.{slice_get}
 use Rattle.wp_model.specs.declared.entry.Entry.{Entry}

@@ -1,5 +1,5 @@
 -- Versions that are in order, of their entries, or later ones.
-use Rattle.std.proofs.Common.{◌≡◌, ℕ, zero, suc, ◌+◌, ◌<◌, ◌≤◌, Bool, true, false, cond, nat_eq, List, [], ◌∷◌, ◌++◌, length, drop, map, Option, Some, None, is_some, ◌||◌, inl, inr, refl, sym, ap, ◌∙◌, arith}
+use Rattle.std.proofs.Common.{◌≡◌, ℕ, zero, suc, ◌<◌, Bool, true, false, cond, nat_eq, List, [], ◌∷◌, ◌++◌, length, drop, map, Option, Some, None, is_some, ◌||◌, inl, inr, refl, sym, ap, ◌∙◌, arith}
 use Rattle.std.specs.Option.{option_or}
 use Rattle.std.specs.List.{list_any}
 use Rattle.std.specs.List.Sorted.{IsStrictlySortedBy}
@@ -19,7 +19,8 @@ use Rattle.wp_core.specs.Sound.Store.{versions_after}
 use Rattle.wp_needs.specs.Each.{Each}
 use Rattle.wp_machine.specs.Machine.{versions_of_next}
 use Rattle.wp_needs.specs.VersionLists.{AreSame, AreOf, AreNext}
-use Rattle.wp_needs.proofs.ListFacts.{is_here, each_at, at_each}
+use Rattle.wp_cover.proofs.Order.{is_here}
+use Rattle.wp_needs.proofs.ListFacts.{each_at, at_each}
 
 -- ---- in order
 

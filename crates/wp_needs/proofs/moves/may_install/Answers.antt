@@ -1,4 +1,4 @@
-use Rattle.std.proofs.Common.{◌≡◌, sym, ap, ◌∙◌}
+use Rattle.std.proofs.Common.{sym, ap, ◌∙◌}
 use Rattle.wp_core.specs.World.{World}
 use Rattle.wp_needs.proofs.moves.may_install.Goals as goal
 

@@ -1,5 +1,5 @@
 use Rattle.std.proofs.Common.{arith}
-use Rattle.std.proofs.Common.{◌≡◌, sym, ap, ◌∙◌}
+use Rattle.std.proofs.Common.{ap, ◌∙◌}
 use Rattle.wp_core.specs.World.{World}
 use Rattle.wp_needs.proofs.moves.may_replace_versions.Goals as goal
 

@@ -1,4 +1,4 @@
-use Rattle.std.proofs.Common.{◌≡◌, ◌-◌, ◌<◌, ◌≤◌, ℕ, length}
+use Rattle.std.proofs.Common.{◌-◌, ◌<◌, ◌≤◌, ℕ, length}
 use Rattle.wp_needs.specs.VersionLists.{HasEntry}
 use Rattle.wp_needs.proofs.stored.has_later.Given as goal
 
