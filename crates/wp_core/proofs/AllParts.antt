@@ -9,7 +9,8 @@ use Rattle.wp_model.specs.PreparedTables.{PreparedTables}
 use Rattle.wp_model.specs.Snapshots.{Snapshots}
 use Rattle.wp_core.specs.Lists.{EachAt, IsIn}
 use Rattle.wp_core.specs.Turns.{Turn, Holders, Holds}
-use Rattle.wp_core.specs.Tables.{Content, WriteTable, StoreTable, InstalledEdit, Installed, turn_of}
+use Rattle.wp_core.specs.Tables.{Content, WriteTable, StoreTable, Installed, turn_of}
+use Rattle.wp_model.specs.Flushed.{InstalledEdit}
 use Rattle.wp_core.specs.Reading.{Registration}
 use Rattle.wp_core.specs.Views.{Fact}
 use Rattle.wp_core.specs.World.{Participant, Actor, World, content_of, with_content}

@@ -8,8 +8,7 @@ use Rattle.wp_core.specs.Images.{MaySpell, MayName}
 use Rattle.wp_core.specs.IsSound.{IsSound}
 use Rattle.wp_core.specs.Sound.Actors.{StartsWith}
 use Rattle.wp_core.specs.Sound.History.{logged_part}
-use Rattle.wp_core.specs.Sound.Store.{IsEditCovered}
-use Rattle.wp_core.specs.Tables.{InstalledEdit}
+use Rattle.wp_model.specs.Flushed.{IsEditCovered, InstalledEdit}
 use Rattle.wp_core.specs.World.{World, history}
 use Rattle.wp_core.proofs.PublishesVersions.{edit_part}
 

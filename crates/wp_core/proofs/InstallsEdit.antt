@@ -5,7 +5,8 @@ use mathlib.Core.Option.{some}
 use lib.ListN.{get_elem?}
 use Rattle.wp_core.specs.Lists.{one_if}
 use Rattle.wp_core.specs.Turns.{tables_turn}
-use Rattle.wp_core.specs.Tables.{InstalledEdit, Installed}
+use Rattle.wp_core.specs.Tables.{Installed}
+use Rattle.wp_model.specs.Flushed.{InstalledEdit}
 use Rattle.wp_core.specs.Views.{Event, told, heard, stopped, tables_failed, Fact, nothing_flushed}
 use Rattle.wp_core.specs.Views as event
 use Rattle.wp_core.specs.World.{Actor, Participant, World}

@@ -36,7 +36,7 @@ use Rattle.wp_core.specs.Entries.{HasVersionsAt}
 use Rattle.wp_core.specs.Needs.{Needs}
 use Rattle.wp_core.specs.Notes.{forgets}
 use Rattle.wp_core.specs.Runs.{ReachesFrom, stays, goes_on, Reaches}
-use Rattle.wp_core.specs.Sound.Store.{versions_under}
+use Rattle.wp_model.specs.Flushed.{versions_under}
 use Rattle.wp_core.proofs.Empty.{empty_world, empty_is_opening}
 use Rattle.wp_core.proofs.Keyed.{is_word_same, at_inserted, else_inserted}
 use Rattle.wp_core.proofs.PublishesVersions.{at_under}

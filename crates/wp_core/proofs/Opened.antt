@@ -24,7 +24,8 @@ use Rattle.wp_judge.specs.declared.observed.Observed.{Observed}
 use Rattle.wp_model.proofs.Found.{found_holder}
 use Rattle.wp_core.specs.Lists.{IsIn}
 use Rattle.wp_core.specs.Turns.{Turn, write_turn, prepared_turn, snapshots_turn, store_turn, locks_turn, tables_turn, Holds, all_free}
-use Rattle.wp_core.specs.Tables.{StoreTable, InstalledEdit, Installed, NoneDelayed}
+use Rattle.wp_core.specs.Tables.{StoreTable, Installed, NoneDelayed}
+use Rattle.wp_model.specs.Flushed.{InstalledEdit}
 use Rattle.wp_core.specs.Reading.{Registration}
 use Rattle.wp_core.specs.Views.{Event, Fact, told, heard, stopped, found_flushed, found}
 use Rattle.wp_core.specs.World.{World, Actor, Participant, Transaction, new_actor, new_participant, content_of}

@@ -28,11 +28,12 @@ use Rattle.wp_model.proofs.Entries.{entry_at_past, undecided_prepared}
 use Rattle.wp_history.proofs.Counting.{entry_version_old}
 use Rattle.wp_history.proofs.Growth.{by_growth}
 use Rattle.wp_core.specs.Turns.{all_free}
-use Rattle.wp_core.specs.Tables.{StoreTable, InstalledEdit, live_numbers, up_to}
+use Rattle.wp_core.specs.Tables.{StoreTable, live_numbers, up_to}
+use Rattle.wp_model.specs.Flushed.{InstalledEdit, versions_under, later_versions}
 use Rattle.wp_core.specs.World.{World, new_actor}
 use Rattle.wp_core.specs.Runs.{IsOpening, AreOpened, named_by}
 use Rattle.wp_core.specs.Sound.Locks.{prepare_holding}
-use Rattle.wp_core.specs.Sound.Store.{versions_under, later_versions, IsStored, NoneFlushed}
+use Rattle.wp_core.specs.Sound.Store.{IsStored, NoneFlushed}
 use Rattle.wp_core.proofs.CoveredGrows.{covered_grows}
 use Rattle.wp_core.proofs.HistoryGrows.{grown_length, version_new}
 use Rattle.wp_core.proofs.PendingVersions.{covers_same}

@@ -12,7 +12,8 @@ use Rattle.wp_model.specs.declared.holder.Holder.TheVariants.{Txn, Client}
 use Rattle.wp_model.specs.LockTables.{LockTables}
 use Rattle.wp_model.specs.Snapshots.{Snapshots}
 use Rattle.wp_core.specs.Lists.{IsIn, one_if, total}
-use Rattle.wp_core.specs.Tables.{WriteTable, InstalledEdit, Installed}
+use Rattle.wp_core.specs.Tables.{WriteTable, Installed}
+use Rattle.wp_model.specs.Flushed.{InstalledEdit}
 use Rattle.wp_core.specs.Reading.{Registration}
 use Rattle.wp_core.specs.Views.{Account, own, another, prepare_at, Event, installed, found}
 use Rattle.wp_core.specs.World.{Actor, Participant, Transaction}

@@ -15,8 +15,9 @@ use Rattle.wp_model.specs.Versions.{version_at}
 use Rattle.wp_history.proofs.Counting.{entry_version_old}
 use Rattle.wp_model.proofs.Entries.{entry_at_past}
 use Rattle.wp_core.specs.Entries.{next_of}
-use Rattle.wp_core.specs.Tables.{StoreTable, InstalledEdit, Installed, live_numbers, up_to, all_in}
-use Rattle.wp_core.specs.Sound.Store.{versions_under, versions_after, later_versions, IsEditCovered, IsStored}
+use Rattle.wp_core.specs.Tables.{StoreTable, Installed, live_numbers, up_to, all_in}
+use Rattle.wp_model.specs.Flushed.{InstalledEdit, versions_under, versions_after, later_versions, IsEditCovered}
+use Rattle.wp_core.specs.Sound.Store.{IsStored}
 use Rattle.wp_core.proofs.CoveredGrows.{version_within, covered_grows}
 use Rattle.wp_core.proofs.HistoryGrows.{none_is, grown_length, version_new}
 use Rattle.wp_core.proofs.PendingVersions.{at_up_to}

@@ -7,7 +7,8 @@ use Rattle.wp_model.specs.History.{batch_at}
 use Rattle.wp_model.specs.declared.holder.Holder.TheVariants.{Txn, Client}
 use Rattle.wp_core.specs.Turns.{with_holder}
 use Rattle.wp_core.specs.Cache.{with_pair}
-use Rattle.wp_core.specs.Tables.{WriteTable, InstalledEdit, Installed, writes, prepared, snapshots, store, locks, installed, without_prepared, with_moved}
+use Rattle.wp_core.specs.Tables.{WriteTable, Installed, writes, prepared, snapshots, store, locks, installed, without_prepared, with_moved}
+use Rattle.wp_model.specs.Flushed.{InstalledEdit}
 use Rattle.wp_core.specs.Reading.{reads}
 use Rattle.wp_core.specs.Views.{claimed, took, locked, told, heard, log_failed, tables_failed, stopped, found_flushed, found}
 use Rattle.wp_core.specs.Views as event

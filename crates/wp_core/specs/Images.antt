@@ -1,7 +1,8 @@
 -- What a crash between two steps may leave of the devices behind the write turn and the tables turn.
 use Rattle.std.specs.Prelude.{◌≡◌, ◌⊎◌, ℕ, true, List, ◌++◌, Some}
 use Rattle.wp_model.specs.declared.entry.Entry.{Entry}
-use Rattle.wp_core.specs.Tables.{WriteTable, InstalledEdit, Installed}
+use Rattle.wp_core.specs.Tables.{WriteTable, Installed}
+use Rattle.wp_model.specs.Flushed.{InstalledEdit}
 
 -- ---- what the tables say of it
 

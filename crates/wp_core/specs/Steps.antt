@@ -6,7 +6,7 @@ use Rattle.wp_model.specs.declared.version.Version.{Version}
 use Rattle.wp_model.specs.declared.holder.Holder.{Holder}
 use Rattle.wp_core.specs.Turns.{Turn}
 use Rattle.wp_judge.specs.Words.{CommitPair}
-use Rattle.wp_core.specs.Tables.{InstalledEdit}
+use Rattle.wp_model.specs.Flushed.{InstalledEdit}
 use Rattle.wp_core.specs.Reading.{Registration}
 use Rattle.wp_core.specs.Views.{Account, Fact}
 use Rattle.wp_core.specs.World.{Transaction, Actor}

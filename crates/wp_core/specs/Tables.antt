@@ -8,6 +8,7 @@ use Rattle.wp_model.specs.declared.version.Version.{Version}
 use Rattle.wp_model.specs.PreparedTables.{PreparedTables}
 use Rattle.wp_model.specs.Snapshots.{Snapshots, is_old_commit}
 use Rattle.wp_model.specs.LockTables.{LockTables}
+use Rattle.wp_model.specs.Flushed.{InstalledEdit}
 use Rattle.wp_core.specs.Turns.{Turn, write_turn, prepared_turn, snapshots_turn, store_turn, locks_turn, tables_turn}
 
 -- ---- the write turn
@@ -64,12 +65,6 @@ abbrev pub all_in : StoreTable → List Version
 all_in store = store.memory ++ store.tables
 
 -- ---- the tables turn
-
--- what an installed edit says: the flushed number, the versions of its tables, and how many tables these are
-pub record InstalledEdit : Type 0 where
-  pub flushed : ℕ
-  pub versions : List Version
-  pub tables : ℕ
 
 -- The last edit, and the one whose install failed, if one did: a later opening may find either. Once the devices of the
 -- tables failed, they are used no more.

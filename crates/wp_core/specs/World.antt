@@ -9,7 +9,8 @@ use Rattle.wp_core.specs.Turns.{Turn, write_turn, prepared_turn, snapshots_turn,
 use Rattle.wp_model.specs.PreparedTables.{PreparedTables}
 use Rattle.wp_model.specs.Snapshots.{Snapshots}
 use Rattle.wp_model.specs.LockTables.{LockTables}
-use Rattle.wp_core.specs.Tables.{WriteTable, StoreTable, InstalledEdit, Installed, Content, writes, prepared, snapshots, store, locks, installed}
+use Rattle.wp_core.specs.Tables.{WriteTable, StoreTable, Installed, Content, writes, prepared, snapshots, store, locks, installed}
+use Rattle.wp_model.specs.Flushed.{InstalledEdit}
 use Rattle.wp_judge.specs.declared.observed.Observed.{Observed}
 use Rattle.wp_core.specs.Reading.{Registration}
 use Rattle.wp_core.specs.Views.{Event, Fact}

@@ -10,7 +10,8 @@ ghost use Rattle.wp_model.specs.declared.entry.Entry.{Entry};
 ghost use Rattle.wp_model.specs.LockTables.{LockTables};
 ghost use Rattle.wp_model.specs.PreparedTables.{PreparedTables};
 ghost use Rattle.wp_model.specs.Snapshots.{Snapshots};
-ghost use Rattle.wp_core.specs.Tables.{WriteTable, StoreTable, Installed, InstalledEdit};
+ghost use Rattle.wp_core.specs.Tables.{WriteTable, StoreTable, Installed};
+ghost use Rattle.wp_model.specs.Flushed.{InstalledEdit};
 
 /// The value behind the write turn: the history, its pending record, and the log.
 pub trait HoldsLog {

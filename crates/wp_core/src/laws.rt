@@ -16,8 +16,7 @@ ghost use Rattle.wp_core.specs.Images.{MaySpell, MayName};
 ghost use Rattle.wp_core.specs.IsSound.{IsSound};
 ghost use Rattle.wp_core.specs.Sound.Actors.{StartsWith};
 ghost use Rattle.wp_core.specs.Sound.Reader.{IsRight};
-ghost use Rattle.wp_core.specs.Sound.Store.{IsEditCovered};
-ghost use Rattle.wp_core.specs.Tables.{InstalledEdit};
+ghost use Rattle.wp_model.specs.Flushed.{IsEditCovered, InstalledEdit};
 
 /// What an opening is does not contradict itself.
 pub fn there_is_an_opening()

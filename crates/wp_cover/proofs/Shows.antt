@@ -6,10 +6,9 @@ use Rattle.std.proofs.lemmas.Bool.{cases_order, false≢true, and_from, eq-eqb, 
 use Rattle.wp_model.specs.declared.entry.Entry.{Entry}
 use Rattle.wp_model.specs.declared.version.Version.{Version}
 use Rattle.wp_model.specs.History.{value_at}
-use Rattle.wp_model.specs.Decision.{decision_of, IsCommittedAt}
+use Rattle.wp_model.specs.Decision.{decision_of, IsCommittedAt, is_by, is_committed}
 use Rattle.wp_model.specs.Versions.{AreInOrder, version_at}
 use Rattle.wp_model.specs.Covered.{GivesNewest, GivesStore}
-use Rattle.wp_cover.specs.Decisions.{is_by, is_committed}
 use Rattle.wp_cover.specs.Store.{Store, IsStore, Leaves}
 use Rattle.wp_cover.specs.Shown.{LeavesCommitted, shown}
 use Rattle.wp_model.proofs.VersionLists.{in_order_parts}

@@ -3,7 +3,7 @@ use Rattle.std.specs.Prelude.{ℕ, ◌&&◌, List, [], ◌∷◌, Option, None, 
 use Rattle.std.specs.Str.{bytes_eq}
 use Rattle.wp_model.specs.declared.entry.Entry.{Entry}
 use Rattle.wp_model.specs.declared.version.Version.{Version}
-use Rattle.wp_cover.specs.Decisions.{is_committed}
+use Rattle.wp_model.specs.Decision.{is_committed}
 use Rattle.wp_cover.specs.Store.{Store, IsStore}
 
 -- what a reader at n finds under the key: what the first of its versions has that is committed there, else nothing

@@ -3,8 +3,8 @@ ghost use Rattle.std.specs.Option.{option_or};
 ghost use Rattle.std.specs.BTreeMap.{get};
 ghost use Rattle.std.specs.Ordering.{nat_cmp};
 ghost use Rattle.wp_model.specs.History.{decides};
-ghost use Rattle.wp_model.specs.Decision.{decision_of};
-ghost use Rattle.wp_cover.specs.Decisions.{HasDeciders, decided_by, is_committed};
+ghost use Rattle.wp_model.specs.Decision.{decision_of, is_committed};
+ghost use Rattle.wp_cover.specs.Decisions.{HasDeciders, decided_by};
 
 use std::alloc::{AllocError, Global};
 use std::collections::BTreeMap;

@@ -10,7 +10,8 @@ use Rattle.std.proofs.lemmas.Bool.Decides.{nat_tests}
 use Rattle.std.proofs.lemmas.List.{take_more}
 use Rattle.std.proofs.lemmas.List.Folds.{list_any-append}
 use Rattle.wp_keep.specs.declared.pair.Pair.{Pair}
-use Rattle.wp_keep.specs.Keep.{is_by, by_commits, commits_in, is_committed}
+use Rattle.wp_keep.specs.Keep.{by_commits, commits_in, is_committed}
+use Rattle.wp_model.specs.Decision.{is_by}
 
 or_nothing : (a : Bool) → a ≡ (a || false)
 or_nothing true = refl

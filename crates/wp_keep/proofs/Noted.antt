@@ -10,7 +10,8 @@ use Rattle.std.proofs.lemmas.List.Elements.{filter-append}
 use Rattle.std.proofs.lemmas.Slice.Eq.{bytes_eq-Decides}
 use Rattle.wp_model.specs.declared.version.Version.{Version}
 use Rattle.wp_model.specs.Versions.{AreInOrder, version_cmp}
-use Rattle.wp_keep.specs.Keep.{is_by, by_commits, has_newer, is_needed, stays}
+use Rattle.wp_keep.specs.Keep.{by_commits, has_newer, is_needed, stays}
+use Rattle.wp_model.specs.Decision.{is_by}
 use Rattle.wp_keep.specs.Newer.{is_above}
 use Rattle.wp_keep.proofs.Order.{IsAfter, placed_version, after_parts}
 use Rattle.wp_keep.proofs.Any.{any_of, any_newer, none_passed}

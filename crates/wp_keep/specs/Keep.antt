@@ -1,16 +1,12 @@
 -- Which versions of a list stay.
-use Rattle.std.specs.Prelude.{ℕ, Bool, false, ◌==◌, ◌&&◌, ◌||◌, not, List, ◌∷◌, Option, Some, None, is_none, nat_le, nat_lt}
+use Rattle.std.specs.Prelude.{ℕ, Bool, ◌==◌, ◌&&◌, ◌||◌, not, List, ◌∷◌, is_none, nat_le, nat_lt}
 use Rattle.std.specs.List.{filter, list_any}
 use Rattle.std.specs.Str.{bytes_eq}
 use Rattle.std.specs.Ordering.{nat_cmp}
 use Rattle.std.specs.FinMap as map
 use Rattle.wp_model.specs.declared.version.Version.{Version}
+use Rattle.wp_model.specs.Decision.{is_by}
 use Rattle.wp_keep.specs.declared.pair.Pair.{Pair}
-
--- a number by which something is committed, if there is one, is at most n
-abbrev pub is_by : Option ℕ → ℕ → Bool
-is_by None n = false
-is_by (Some commit) n = nat_le commit n
 
 -- the least commit of each number
 abbrev pub commits_in : List (ℕ × ℕ) → map.FinMap nat_cmp ℕ

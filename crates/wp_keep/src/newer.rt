@@ -1,6 +1,6 @@
 ghost use Rattle.std.specs.Prelude.{◌≡◌, ℕ, List, ◌||◌, ◌&&◌, Option, Some, None};
 ghost use Rattle.std.specs.Str.{bytes_eq};
-ghost use Rattle.wp_keep.specs.Keep.{is_by};
+ghost use Rattle.wp_model.specs.Decision.{is_by};
 ghost use Rattle.wp_keep.specs.Newer.{is_above};
 
 use std::marker::Model;

@@ -1,7 +1,8 @@
 ghost use Rattle.std.specs.Prelude.{◌≡◌, ◌&&◌, not, Some, IfOk};
 ghost use Rattle.std.specs.List.{list_any};
 ghost use Rattle.wp_model.specs.Versions.{AreInOrder};
-ghost use Rattle.wp_keep.specs.Keep.{is_by, is_needed, by_commits, staying};
+ghost use Rattle.wp_keep.specs.Keep.{is_needed, by_commits, staying};
+ghost use Rattle.wp_model.specs.Decision.{is_by};
 
 use crate::commits::Commits;
 use crate::newer::{Newer, commit_above, note};

@@ -3,7 +3,7 @@ use Rattle.std.proofs.Common.{◌≡◌, ℕ, zero, suc, ◌+◌, ◌<◌, List,
 use Rattle.wp_model.specs.declared.entry.Entry.{Entry}
 use Rattle.wp_model.specs.declared.version.Version.{Version}
 use Rattle.wp_model.specs.Legal.{changes_in}
-use Rattle.wp_core.specs.Sound.Store.{versions_under, versions_after}
+use Rattle.wp_model.specs.Flushed.{versions_under, versions_after}
 use Rattle.wp_core.proofs.PublishesVersions.{after_more}
 
 one_taken : (es : List Entry) (i : ℕ) (d : Entry) → i < length es → take (suc i) es ≡ take i es ++ get_or es i d ∷ []

@@ -10,7 +10,7 @@ use Rattle.wp_core.specs.World.{Participant, Actor, World}
 use Rattle.wp_core.specs.Tables.{WriteTable, StoreTable}
 use Rattle.wp_core.specs.Reading.{Registration}
 use Rattle.wp_core.specs.Entries.{pending_pair}
-use Rattle.wp_core.specs.Sound.Store.{versions_under}
+use Rattle.wp_model.specs.Flushed.{versions_under}
 use Rattle.wp_core.specs.Effects.{with_entry}
 use Rattle.wp_core.specs.Steps.{Step}
 use Rattle.wp_core.specs.Steps as step

@@ -34,7 +34,7 @@ pub struct InstalledEdit {
 }
 
 impl Model for InstalledEdit {
-    ghost use Rattle.wp_core.specs.Tables.{InstalledEdit};
+    ghost use Rattle.wp_model.specs.Flushed.{InstalledEdit};
 
     ghost Value = { InstalledEdit };
 

@@ -1,7 +1,7 @@
 //! The versions of entries.
 ghost use Rattle.std.specs.Prelude.{◌≡◌, suc, IfOk};
 ghost use Rattle.wp_model.specs.Legal.{changes_in};
-ghost use Rattle.wp_core.specs.Sound.Store.{versions_under, later_versions};
+ghost use Rattle.wp_model.specs.Flushed.{versions_under, later_versions};
 ghost use Rattle.wp_machine.specs.Machine.{without_number, versions_of_next};
 
 use std::alloc::{AllocError, Global};

@@ -38,3 +38,10 @@ weave x rest (y ∷ ys) = choose_by_order (version_cmp x y) (x ∷ rest (y ∷ y
 abbrev pub merge_of : List Version → List Version → List Version
 merge_of [] ys = ys
 merge_of (x ∷ xs) ys = weave x (merge_of xs) ys
+
+-- ---- one list
+
+-- the versions in order: of several of one key and number the first
+abbrev pub sorted_of : List Version → List Version
+sorted_of [] = []
+sorted_of (v ∷ vs) = merge_of (v ∷ []) (sorted_of vs)

@@ -1,5 +1,5 @@
 -- The versions of keys that a history holds, committed or not.
-use Rattle.std.specs.Prelude.{◌≡◌, ℕ, suc, ◌<◌, ◌≤◌, List, Option, Some, None, option_map}
+use Rattle.std.specs.Prelude.{◌≡◌, ℕ, suc, ◌<◌, ◌≤◌, Bool, false, nat_le, List, Option, Some, None, option_map}
 use Rattle.std.specs.List.{position}
 use Rattle.wp_model.specs.declared.entry.Entry.{Entry}
 use Rattle.wp_model.specs.declared.entry.Entry.TheVariants.{Write, Prepare, Undo}
@@ -26,6 +26,15 @@ decision_in history p other = None
 -- number of its Commit or Close, if there is one.
 abbrev pub decision_of : List Entry → ℕ → Option ℕ
 decision_of history p = decision_in history p (entry_at history p)
+
+-- a number by which something is committed, if there is one, is at most n
+abbrev pub is_by : Option ℕ → ℕ → Bool
+is_by None n = false
+is_by (Some commit) n = nat_le commit n
+
+-- the versions with the number p are committed at n
+abbrev pub is_committed : List Entry → ℕ → ℕ → Bool
+is_committed history p n = is_by (decision_of history p) n
 
 -- the versions with that number count from a number on that is at most n
 pub record IsCommittedAt (history : List Entry) (p n : ℕ) : Type 0 where

@@ -6,6 +6,7 @@ pub mod Legal
 pub mod Decision
 pub mod Versions
 pub mod Covered
+pub mod Flushed
 pub mod Holder
 pub mod LockTables
 pub mod PreparedTables

@@ -9,8 +9,7 @@ use Rattle.wp_model.specs.Versions.{version_at}
 use Rattle.wp_model.specs.Covered.{is_among}
 use Rattle.wp_model.specs.Snapshots.{Snapshots, IsLive}
 use Rattle.wp_core.specs.Entries.{next_of}
-use Rattle.wp_core.specs.Tables.{InstalledEdit}
-use Rattle.wp_core.specs.Sound.Store.{IsEditCovered}
+use Rattle.wp_model.specs.Flushed.{InstalledEdit, IsEditCovered}
 
 -- the second has what the first has
 abbrev pub HasAll : List Version → List Version → Type 0

@@ -2,8 +2,8 @@
 ghost use Rattle.std.specs.Prelude.{◌≡◌, ◌++◌, Some, true, length, IfOk};
 ghost use Rattle.std.specs.Option.{option_copied};
 ghost use Rattle.wp_model.specs.Covered.{IsCovered};
-ghost use Rattle.wp_core.specs.Tables.{live_numbers, up_to, InstalledEdit};
-ghost use Rattle.wp_core.specs.Sound.Store.{later_versions, IsEditCovered};
+ghost use Rattle.wp_core.specs.Tables.{live_numbers, up_to};
+ghost use Rattle.wp_model.specs.Flushed.{InstalledEdit, later_versions, IsEditCovered};
 
 use crate::live::numbers;
 use crate::order::in_order;

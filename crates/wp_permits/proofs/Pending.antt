@@ -11,7 +11,7 @@ use Rattle.wp_model.specs.Legal.{changes_in}
 use Rattle.wp_model.specs.declared.version.Version.{Version}
 use Rattle.wp_model.specs.Versions.{version_at}
 use Rattle.wp_core.specs.Entries.{next_of, HasVersionsAt}
-use Rattle.wp_core.specs.Sound.Store.{versions_under}
+use Rattle.wp_model.specs.Flushed.{versions_under}
 use Rattle.wp_machine.specs.Machine.{without_number, versions_of_next}
 use Rattle.wp_needs.specs.Each.{Each}
 

@@ -1,4 +1,5 @@
 pub mod Table
+pub mod File
 pub mod Errors
 pub mod Reading
 pub mod Faults

@@ -1,5 +1,5 @@
 use Rattle.std.proofs.Common.{◌≡◌, take}
-use Rattle.wp_core.specs.Sound.Store.{versions_after}
+use Rattle.wp_model.specs.Flushed.{versions_after}
 use Rattle.wp_machine.proofs.versions.all_versions.Given as goal
 
 abbrev pub invariant-loop-i : goal.invariant-loop-i

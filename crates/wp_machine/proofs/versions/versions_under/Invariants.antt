@@ -1,5 +1,5 @@
 use Rattle.std.proofs.Common.{◌≡◌, take}
-use Rattle.wp_core.specs.Sound.Store.{versions_under}
+use Rattle.wp_model.specs.Flushed.{versions_under}
 use Rattle.wp_machine.proofs.versions.versions_under.Given as goal
 
 abbrev pub invariant-loop-change : goal.invariant-loop-change

@@ -1,5 +1,5 @@
 use Rattle.std.proofs.Common.{◌≡◌, ◌++◌, ◌-◌, length, drop}
-use Rattle.wp_core.specs.Sound.Store.{versions_after, later_versions}
+use Rattle.wp_model.specs.Flushed.{versions_after, later_versions}
 use Rattle.wp_needs.proofs.edits.later_versions.Given as goal
 
 abbrev pub invariant-loop-i : goal.invariant-loop-i

@@ -1,5 +1,5 @@
 use Rattle.std.proofs.Common.{ap, arith}
-use Rattle.wp_core.specs.Tables.{InstalledEdit}
+use Rattle.wp_model.specs.Flushed.{InstalledEdit}
 use Rattle.wp_needs.proofs.stored.is_stored.Goals as goal
 
 pub returns : goal.returns

@@ -1,0 +1,35 @@
+-- What a store has in tables, and what it has after them.
+use Rattle.std.specs.Prelude.{◌≤◌, ℕ, suc, List, [], ◌++◌, length, map, drop}
+use Rattle.wp_model.specs.declared.change.Change.{Change}
+use Rattle.wp_model.specs.declared.entry.Entry.{Entry}
+use Rattle.wp_model.specs.declared.version.Version.{Version}
+use Rattle.wp_model.specs.Batch.{key_of, value_of}
+use Rattle.wp_model.specs.Covered.{IsCovered}
+use Rattle.wp_model.specs.Legal.{changes_in}
+
+-- ---- the versions of entries
+
+abbrev pub versions_under : ℕ → List Change → List Version
+versions_under n changes = map (λ change. record { key = key_of change; number = n; value = value_of change }) changes
+
+-- of entries after so many
+abbrev pub versions_after : ℕ → List Entry → List Version
+versions_after n [] = []
+versions_after n (entry ∷ others) = versions_under (suc n) (changes_in entry) ++ versions_after (suc n) others
+
+-- the history's versions above a number
+abbrev pub later_versions : List Entry → ℕ → List Version
+later_versions history n = versions_after n (drop n history)
+
+-- ---- the tables
+
+-- what an installed edit says: the flushed number, the versions of its tables, and how many tables these are
+pub record InstalledEdit : Type 0 where
+  pub flushed : ℕ
+  pub versions : List Version
+  pub tables : ℕ
+
+-- an edit's versions, with the later ones of the history, answer at the published number
+pub record IsEditCovered (history : List Entry) (edit : InstalledEdit) : Type 0 where
+  pub flushed : edit.flushed ≤ length history
+  pub covered : IsCovered (edit.versions ++ later_versions history edit.flushed) history [] (length history)
