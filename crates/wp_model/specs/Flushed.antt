@@ -1,5 +1,5 @@
 -- What a store has in tables, and what it has after them.
-use Rattle.std.specs.Prelude.{◌≤◌, ℕ, suc, List, [], ◌++◌, length, map, drop}
+use Rattle.std.specs.Prelude.{ℕ, suc, ◌≤◌, List, [], ◌∷◌, ◌++◌, length, map, drop}
 use Rattle.wp_model.specs.declared.change.Change.{Change}
 use Rattle.wp_model.specs.declared.entry.Entry.{Entry}
 use Rattle.wp_model.specs.declared.version.Version.{Version}
