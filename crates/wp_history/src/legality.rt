@@ -47,9 +47,9 @@ impl History {
         }
     }
 
-    /// The prepare that the last entry undoes.
+    /// The prepare that the last entry undoes, if it is an undo.
     #[tactic(auto, using(crate::proofs::Undone::undone_at_last, crate::proofs::Undone::none_undone))]
-    fn undone_last(&self) -> Option<Seq>
+    pub fn undone_last(&self) -> Option<Seq>
         ensures { result ≡ undone_last self.now.entries }
     {
         undone_by(self.entries().last()?)

@@ -1,3 +1,5 @@
-mod clients;
+mod acts;
 mod readers;
 mod refusals;
+mod seats;
+mod writers;

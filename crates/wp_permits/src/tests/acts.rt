@@ -1,0 +1,374 @@
+//! What a writer and a reader do, as lists of acts, each a step of the machine that has to be permitted.
+use crate::permits;
+use std::alloc::Global;
+use std::test::Fail;
+use wp_judge::{Asked, Load, ask};
+use wp_machine::{
+    ActorsStep, Kind, LocksStep, OwnStep, PreparedStep, ReaderStep, SnapshotsStep, Step, StoreStep,
+    Turn, TurnStep, WordStep, World, WriteStep, actor_at, apply,
+};
+use wp_model::{Batch, Change, Entry, Key, Name, Seq, Value};
+
+/// The one client, which writes and reads.
+const SEAT: usize = 0;
+
+/// A step of the client. Its transaction is t, which puts the key k; its direct write puts the key d.
+#[derive(Clone, Copy)]
+pub(super) enum Act {
+    Take(Turn),
+    Give(Turn),
+    Lock(Locking),
+    Pend(Pending),
+    SetBatch,
+    AddPrepared,
+    TakePrepared,
+    AddVersions,
+    TakeVersions,
+    Log,
+    StoreWord,
+    Publish,
+    Drop,
+    Raise(Seq),
+    SetDelayedFlag(u64),
+    SetOldFlag(u64),
+    AddOldCommit(Seq, Seq),
+    AddDelayedCommit(Seq, Seq),
+    TakeOut(Seq),
+    /// The published number is registered with this smallest.
+    Register(Seq),
+    /// The live number is registered once more.
+    RegisterAgain(Seq),
+    /// The registration at this place goes.
+    Release(usize),
+    /// The version is read at the first snapshot.
+    Read(Seq),
+    Load(Load),
+    MakeNote,
+    MakeSeat,
+    /// What the note at this place saw is learned.
+    Learn(usize),
+    /// The seat at this place is joined.
+    Join(usize),
+}
+
+/// What is done to names and keys.
+#[derive(Clone, Copy)]
+pub(super) enum Locking {
+    ClaimName,
+    /// The transaction is the undecided prepare with this number.
+    TakeName(Seq),
+    LeaveName,
+    LockKey,
+    FreeKey,
+    FreeTransaction,
+    LockDirect,
+    FreeDirect,
+}
+
+/// The entry that becomes pending.
+#[derive(Clone, Copy)]
+pub(super) enum Pending {
+    Write,
+    Prepare,
+    Commit(Seq),
+}
+
+fn key(alloc: Global) -> Result<Key, Fail> {
+    Ok(Key::read(alloc, b"k")?)
+}
+
+fn direct_key(alloc: Global) -> Result<Key, Fail> {
+    Ok(Key::read(alloc, b"d")?)
+}
+
+fn name(alloc: Global) -> Result<Name, Fail> {
+    Ok(Name::read(alloc, b"t")?)
+}
+
+fn batch_of(alloc: Global, key: Key) -> Result<Batch, Fail> {
+    Ok(Batch::of(alloc, Change::Put(key, Value::read(alloc, b"v")?))?)
+}
+
+fn locks_step(alloc: Global, locking: Locking) -> Result<LocksStep, Fail> {
+    match locking {
+        Locking::ClaimName => Ok(LocksStep::ClaimName(name(alloc)?)),
+        Locking::TakeName(p) => Ok(LocksStep::TakeName(name(alloc)?, p)),
+        Locking::LeaveName => Ok(LocksStep::LeaveName(name(alloc)?)),
+        Locking::LockKey => Ok(LocksStep::LockKey(name(alloc)?, key(alloc)?)),
+        Locking::FreeKey => Ok(LocksStep::FreeKey(name(alloc)?, key(alloc)?)),
+        Locking::FreeTransaction => Ok(LocksStep::FreeTransaction(name(alloc)?)),
+        Locking::LockDirect => Ok(LocksStep::LockDirect(direct_key(alloc)?)),
+        Locking::FreeDirect => Ok(LocksStep::FreeDirect(direct_key(alloc)?)),
+    }
+}
+
+fn entry_of(alloc: Global, pending: Pending) -> Result<Entry, Fail> {
+    match pending {
+        Pending::Write => Ok(Entry::Write(batch_of(alloc, direct_key(alloc)?)?)),
+        Pending::Prepare => Ok(Entry::Prepare(name(alloc)?, batch_of(alloc, key(alloc)?)?)),
+        Pending::Commit(p) => Ok(Entry::Commit(p)),
+    }
+}
+
+fn make_pending(alloc: Global, pending: Pending) -> Result<Kind, Fail> {
+    let mut entries = Vec::with_capacity(alloc, 1)?;
+    entries.push(entry_of(alloc, pending)?)?;
+    Ok(Kind::Write(WriteStep::MakePending(entries)))
+}
+
+fn set_batch(alloc: Global) -> Result<Kind, Fail> {
+    let batch = batch_of(alloc, key(alloc)?)?;
+    Ok(Kind::Own(OwnStep::SetBatch(name(alloc)?, batch)))
+}
+
+fn word_step(act: Act) -> Option<WordStep> {
+    match act {
+        Act::StoreWord => Some(WordStep::StoreWord),
+        Act::Publish => Some(WordStep::StorePublished),
+        Act::Raise(m) => Some(WordStep::StoreMaxEvicted(m)),
+        Act::SetDelayedFlag(flag) => Some(WordStep::StoreDelayedFlag(flag)),
+        Act::SetOldFlag(flag) => Some(WordStep::StoreOldFlag(flag)),
+        _ => None,
+    }
+}
+
+fn prepared_step(act: Act) -> Option<PreparedStep> {
+    match act {
+        Act::AddPrepared => Some(PreparedStep::Add),
+        Act::TakePrepared => Some(PreparedStep::TakePending),
+        Act::AddDelayedCommit(p, c) => Some(PreparedStep::AddDelayedCommit(p, c)),
+        Act::TakeOut(p) => Some(PreparedStep::TakeOut(p)),
+        _ => None,
+    }
+}
+
+fn snapshots_step(act: Act) -> Option<SnapshotsStep> {
+    match act {
+        Act::AddOldCommit(s, p) => Some(SnapshotsStep::AddOldCommit(s, p)),
+        Act::RegisterAgain(s) => Some(SnapshotsStep::RegisterAgain(s)),
+        Act::Release(place) => Some(SnapshotsStep::Release(place)),
+        _ => None,
+    }
+}
+
+fn actors_step(act: Act) -> Option<ActorsStep> {
+    match act {
+        Act::MakeNote => Some(ActorsStep::MakeNote),
+        Act::MakeSeat => Some(ActorsStep::MakeSeat),
+        Act::Learn(place) => Some(ActorsStep::Learn(place)),
+        Act::Join(place) => Some(ActorsStep::JoinSeat(place)),
+        _ => None,
+    }
+}
+
+fn kind_of(alloc: Global, act: Act) -> Result<Kind, Fail> {
+    if let Some(step) = word_step(act) {
+        return Ok(Kind::Word(step));
+    }
+    if let Some(step) = prepared_step(act) {
+        return Ok(Kind::Prepared(step));
+    }
+    if let Some(step) = snapshots_step(act) {
+        return Ok(Kind::Snapshots(step));
+    }
+    if let Some(step) = actors_step(act) {
+        return Ok(Kind::Actors(step));
+    }
+    match act {
+        Act::Take(turn) => Ok(Kind::Turn(TurnStep::Take(turn))),
+        Act::Give(turn) => Ok(Kind::Turn(TurnStep::Give(turn))),
+        Act::Lock(locking) => Ok(Kind::Locks(locks_step(alloc, locking)?)),
+        Act::Pend(pending) => make_pending(alloc, pending),
+        Act::SetBatch => set_batch(alloc),
+        Act::AddVersions => Ok(Kind::Store(StoreStep::AddVersions)),
+        Act::TakeVersions => Ok(Kind::Store(StoreStep::TakeVersions)),
+        Act::Log => Ok(Kind::Write(WriteStep::LogPending)),
+        Act::Drop => Ok(Kind::Write(WriteStep::DropPending)),
+        Act::Register(smallest) => Ok(Kind::Reader(ReaderStep::Register(smallest))),
+        Act::Read(p) => Ok(Kind::Reader(ReaderStep::BeginReading(p, 0))),
+        Act::Load(load) => Ok(Kind::Reader(ReaderStep::Load(load))),
+        _ => Err(Fail::from("each act is a step")),
+    }
+}
+
+// ---- what a client does at once
+
+/// A write is pending, with the key for it.
+pub(super) const PEND_WRITE: &[Act] = &[
+    Act::Take(Turn::Locks),
+    Act::Lock(Locking::LockDirect),
+    Act::Give(Turn::Locks),
+    Act::Take(Turn::Write),
+    Act::Pend(Pending::Write),
+];
+
+pub(super) const ADD_VERSIONS: &[Act] = &[
+    Act::Take(Turn::Store),
+    Act::AddVersions,
+    Act::Give(Turn::Store),
+];
+
+/// What is pending is logged and published, with its versions and its pair.
+pub(super) const FINISH: &[Act] = &[
+    Act::Take(Turn::Store),
+    Act::AddVersions,
+    Act::Give(Turn::Store),
+    Act::Log,
+    Act::StoreWord,
+    Act::Publish,
+    Act::Give(Turn::Write),
+];
+
+pub(super) const FREE_DIRECT: &[Act] = &[
+    Act::Take(Turn::Locks),
+    Act::Lock(Locking::FreeDirect),
+    Act::Give(Turn::Locks),
+];
+
+/// The next number is prepared for t.
+pub(super) const PREPARE: &[Act] = &[
+    Act::Take(Turn::Locks),
+    Act::Lock(Locking::ClaimName),
+    Act::Lock(Locking::LockKey),
+    Act::Give(Turn::Locks),
+    Act::SetBatch,
+    Act::Take(Turn::Write),
+    Act::Pend(Pending::Prepare),
+    Act::Take(Turn::Prepared),
+    Act::AddPrepared,
+    Act::Give(Turn::Prepared),
+    Act::Take(Turn::Store),
+    Act::AddVersions,
+    Act::Give(Turn::Store),
+    Act::Log,
+    Act::Publish,
+    Act::Give(Turn::Write),
+];
+
+/// The key of t, and then t, are freed.
+pub(super) const END: &[Act] = &[
+    Act::Take(Turn::Locks),
+    Act::Lock(Locking::FreeKey),
+    Act::Lock(Locking::FreeTransaction),
+    Act::Give(Turn::Locks),
+];
+
+pub(super) fn pend_commit(p: Seq) -> [Act; 2] {
+    [Act::Take(Turn::Write), Act::Pend(Pending::Commit(p))]
+}
+
+/// The bound rises, with no number to move.
+pub(super) fn raise(m: Seq) -> [Act; 3] {
+    [
+        Act::Take(Turn::Prepared),
+        Act::Raise(m),
+        Act::Give(Turn::Prepared),
+    ]
+}
+
+/// The bound rises past a prepared number, with the flag up before.
+pub(super) fn raise_past_prepared(m: Seq) -> [Act; 4] {
+    [
+        Act::Take(Turn::Prepared),
+        Act::SetDelayedFlag(1),
+        Act::Raise(m),
+        Act::Give(Turn::Prepared),
+    ]
+}
+
+/// The version is noted in the old commit map under the live number, with the flag up before.
+pub(super) fn keep(s: Seq, p: Seq) -> [Act; 4] {
+    [
+        Act::Take(Turn::Snapshots),
+        Act::SetOldFlag(1),
+        Act::AddOldCommit(s, p),
+        Act::Give(Turn::Snapshots),
+    ]
+}
+
+/// The pair of a prepared number becomes a delayed commit.
+pub(super) fn delay(p: Seq, c: Seq) -> [Act; 3] {
+    [
+        Act::Take(Turn::Prepared),
+        Act::AddDelayedCommit(p, c),
+        Act::Give(Turn::Prepared),
+    ]
+}
+
+/// A decided number leaves the prepared tables, and with the last one the flag goes down.
+pub(super) fn clean_up(p: Seq) -> [Act; 4] {
+    [
+        Act::Take(Turn::Prepared),
+        Act::TakeOut(p),
+        Act::SetDelayedFlag(0),
+        Act::Give(Turn::Prepared),
+    ]
+}
+
+/// The published number is registered with this smallest.
+pub(super) fn register(smallest: Seq) -> [Act; 3] {
+    [
+        Act::Take(Turn::Snapshots),
+        Act::Register(smallest),
+        Act::Give(Turn::Snapshots),
+    ]
+}
+
+// ---- playing
+
+/// The world after a step, if it is permitted.
+fn step(world: World, kind: Kind) -> Result<World, Fail> {
+    let step = Step { by: SEAT, kind };
+    if !permits(&world, &step)? {
+        return Err(Fail::from("the step is not permitted"));
+    }
+    Ok(apply(world, step)?)
+}
+
+fn play_scene(mut world: World, acts: &[Act]) -> Result<World, Fail> {
+    for act in acts {
+        let kind = kind_of(world.alloc, *act)?;
+        world = step(world, kind)?;
+    }
+    Ok(world)
+}
+
+/// The world after all of these, of which each has to be permitted.
+pub(super) fn play(mut world: World, scenes: &[&[Act]]) -> Result<World, Fail> {
+    for acts in scenes {
+        world = play_scene(world, acts)?;
+    }
+    Ok(world)
+}
+
+/// The world after these, from the opening on the empty history on.
+pub(super) fn played(alloc: Global, scenes: &[&[Act]]) -> Result<World, Fail> {
+    play(World::new(alloc, Name::read(alloc, b"a")?)?, scenes)
+}
+
+pub(super) fn is_refused(world: &World, act: Act) -> Result<bool, Fail> {
+    let kind = kind_of(world.alloc, act)?;
+    Ok(!permits(world, &Step { by: SEAT, kind })?)
+}
+
+/// The reader's answer, where it has one.
+pub(super) fn answer(world: &World) -> Option<bool> {
+    if world.actors.is_empty() {
+        return None;
+    }
+    let seen = actor_at(world, SEAT).reading?;
+    match ask(&seen) {
+        Asked::Answer(visible) => Some(visible),
+        Asked::Load(_) => None,
+    }
+}
+
+/// How many entries are published.
+pub(super) fn published(world: &World) -> usize {
+    world.writes.history.len()
+}
+
+/// Whether an entry is pending.
+pub(super) fn has_pending(world: &World) -> bool {
+    !world.writes.pending.is_empty()
+}
