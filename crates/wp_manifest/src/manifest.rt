@@ -107,6 +107,13 @@ impl<D: Disk> Manifest<D> {
         }
     }
 
+    /// The id of the store.
+    pub fn id(&self) -> u32
+        ensures { result ≡ self.now.log.id }
+    {
+        self.log.id()
+    }
+
     /// The edit that was installed last, or that nothing is flushed and there is no table.
     pub fn edit(&self) -> &Edit
         ensures { result.now ≡ self.now.edit }
@@ -133,6 +140,7 @@ impl<D: Disk> Manifest<D> {
         ensures last { OnOk result (self.new.edit ≡ edit) }
         ensures running { OnOk result ((self.old.log.closed ≡ false) × (self.new.log.closed ≡ false)) }
         ensures refused { IfErr result (InstallRefused self.old self.new edit) }
+        ensures id { self.new.log.id ≡ self.old.log.id }
         ensures later { self.old.log.faults ≤ self.new.log.faults }
     {
         acknowledged_records_come_first();

@@ -29,7 +29,7 @@ pub record InstalledEdit : Type 0 where
   pub versions : List Version
   pub tables : ℕ
 
--- an edit's versions, with the later ones of the history, answer at the published number
+-- an edit's versions, with the later ones of the history, cover the history for readers of the published number
 pub record IsEditCovered (history : List Entry) (edit : InstalledEdit) : Type 0 where
   pub flushed : edit.flushed ≤ length history
   pub covered : IsCovered (edit.versions ++ later_versions history edit.flushed) history [] (length history)

@@ -1,1 +1,5 @@
-pub mod Opening
+pub mod Opens
+pub mod Damage
+pub mod Tables
+pub mod Parts
+pub mod Refused

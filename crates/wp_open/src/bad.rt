@@ -2,6 +2,7 @@ use std::fmt;
 use wp_entry::RecordError;
 use wp_model::Seq;
 use wp_outside::Device;
+use wp_table::TableError;
 
 /// What is wrong with the bytes of a store's devices: the first fault.
 #[derive(Debug, Drop, PartialEq, Eq)]
@@ -12,6 +13,16 @@ pub enum Bad {
     BadRecord { index: u64, why: RecordError },
     /// The entry with this number is the first that may not come after those before it.
     Illegal { number: Seq },
+    /// The manifest, or a table, is of the store with the id `found`, and the log has the id `log`.
+    Stranger { log: u32, found: u32 },
+    /// The manifest's record with this index, from 0 on, is cut; or none is, and it is the first that is no edit.
+    BadEdit { index: u64 },
+    /// The last edit has flushed more entries than the log has.
+    LogBehind { flushed: Seq, length: Seq },
+    /// The table at this place has this fault.
+    BadTable { place: u64, why: TableError },
+    /// The tables do not show every reader what the history holds, with the versions of the later entries.
+    Uncovered,
 }
 
 impl fmt::Display for Bad {
@@ -20,6 +31,11 @@ impl fmt::Display for Bad {
             Bad::BadHead(device) => write!(f, "bad head {device}"),
             Bad::BadRecord { index, why } => write!(f, "bad record {index} {why}"),
             Bad::Illegal { number } => write!(f, "illegal {number}"),
+            Bad::Stranger { log, found } => write!(f, "stranger {log} {found}"),
+            Bad::BadEdit { index } => write!(f, "bad edit {index}"),
+            Bad::LogBehind { flushed, length } => write!(f, "log behind {flushed} {length}"),
+            Bad::BadTable { place, why } => write!(f, "bad table {place} {why}"),
+            Bad::Uncovered => write!(f, "uncovered"),
         }
     }
 }

@@ -1,18 +1,34 @@
-ghost use Rattle.std.specs.Prelude.{◌≡◌, ◌≤◌, [], false, IfOk, IfErr, MatchResult};
-ghost use Rattle.wp_outside.specs.Disk.{IfKnown};
+//! Opening a store.
+ghost use Rattle.std.specs.Prelude.{◌≡◌, ◌≤◌, ℕ, List, length, IfOk, IfErr, OnOk, MatchResult};
+ghost use Rattle.wp_model.specs.declared.entry.Entry.{Entry};
+ghost use Rattle.wp_outside.specs.Disk.{IfKnown, added, after_sync};
 ghost use Rattle.wp_outside.specs.Faults.{Rose};
+ghost use Rattle.wp_gatelog.specs.Durability.{LosesNoRecord};
 ghost use Rattle.wp_gatelog.specs.Opening.{SurvivesThrough};
 ghost use Rattle.wp_gatelog.specs.Spelling.{IsUnmade};
-ghost use Rattle.wp_wal.specs.Spelling.{MAGIC, IsLogOf};
-ghost use Rattle.wp_wal.specs.Wal.{StoresHistory, LosesNothing};
-ghost use Rattle.wp_open.specs.Opening.{IsOpenCause, IsReasonOf, IsLeftWhere};
+ghost use Rattle.wp_wal.specs.Spelling as wal;
+ghost use Rattle.wp_manifest.specs.Spelling as manifest;
+ghost use Rattle.std.specs.List.{AllByRecursion};
+ghost use Rattle.wp_table.specs.File.{HasTables};
+ghost use Rattle.wp_table.specs.Table.{IsTable};
+ghost use Rattle.wp_open.specs.Opens.{Opens, AllKnown};
+ghost use Rattle.wp_open.specs.Tables.{IsEditCause, LeavesTables};
+ghost use Rattle.wp_open.specs.Parts.{IsStoreOf, PartsOpened};
+ghost use Rattle.wp_open.specs.Refused.{IsCause, IsOutside, IsLeft};
 
 use crate::bad::Bad;
-use std::alloc::Global;
+use crate::covering::are_covering;
+use crate::laws::a_store_is_opened_in_one_way;
+use crate::memory::later_memory;
+use crate::reason::{log_reason, manifest_reason};
+use crate::tables::read_tables;
+use std::alloc::{AllocError, AllocFailed, Global};
 use wp_gatelog::DiskRefused;
 use wp_history::History;
-use wp_outside::{Device, Disk};
-use wp_wal::{Wal, WalError};
+use wp_manifest::{Edit, Manifest};
+use wp_outside::{Device, Disk, Disks};
+use wp_store::Store;
+use wp_wal::Wal;
 
 /// Why a store was not opened.
 #[derive(Debug, Drop)]
@@ -25,45 +41,170 @@ pub enum OpenError {
     Contents(Bad),
 }
 
-/// A log, and the history that it spells.
-pub struct Opened<D: Disk> {
-    pub wal: Wal<D>,
-    pub history: History,
-}
+impl From<AllocError> for OpenError {
+    ghost use Rattle.std.specs.Prelude.{◌≡◌};
+    ghost use Rattle.wp_open.specs.declared.opening.OpenError.TheVariants as open_error;
 
-fn reason_of(error: WalError) -> OpenError
-    ensures { IsReasonOf error result }
-{
-    match error {
-        WalError::Memory => OpenError::Memory,
-        WalError::DiskFault => OpenError::OpenFault(Device::Log),
-        WalError::BadHead => OpenError::Contents(Bad::BadHead(Device::Log)),
-        WalError::BadRecord { index, why } => OpenError::Contents(Bad::BadRecord { index, why }),
-        WalError::Illegal { number } => OpenError::Contents(Bad::Illegal { number }),
+    ghost from_gives = { λ _ e. e ≡ open_error.Memory };
+
+    fn from(_refused: AllocError) -> OpenError {
+        OpenError::Memory
     }
 }
 
-/// Opens a store's log, or makes it with this id, and reads the history that it spells.
-pub fn open<D: Disk>(
+impl<T: Drop> From<AllocFailed<T>> for OpenError {
+    ghost use Rattle.std.specs.Prelude.{◌≡◌};
+    ghost use Rattle.wp_open.specs.declared.opening.OpenError.TheVariants as open_error;
+
+    ghost from_gives = { λ _ e. e ≡ open_error.Memory };
+
+    fn from(_refused: AllocFailed<T>) -> OpenError {
+        OpenError::Memory
+    }
+}
+
+/// The parts of an open store: the log and the history that it spells, the manifest, the tables' device, and the versions.
+#[derive(Drop)]
+pub struct Parts<D: Disk> {
+    pub wal: Wal<D>,
+    pub history: History,
+    pub manifest: Manifest<D>,
+    pub tables: D,
+    pub store: Store,
+}
+
+/// A refusal that hands the devices back.
+#[derive(Drop)]
+pub struct OpenRefused<D> {
+    pub disks: Disks<D>,
+    pub why: OpenError,
+}
+
+/// Reads the edit's tables and puts the versions of the later entries into memory. It asks first whether the log has all
+/// entries that were flushed, and syncs the device before it reads.
+fn open_store<D: Disk>(
     alloc: Global,
-    disk: D,
+    tables: &mut D,
     id: u32,
-) -> Result<Opened<D>, DiskRefused<D, OpenError>>
-    ensures stores { IfOk result (λ opened. StoresHistory opened.wal opened.history.entries []) }
-    ensures running { IfOk result (λ opened. opened.wal.closed ≡ false) }
-    ensures found { IfOk result (λ opened. IfKnown (D.moments disk) (λ m. IsLogOf opened.wal.id opened.history.entries m.reads)) }
-    ensures made { IfOk result (λ opened. IfKnown (D.moments disk) (λ m. IsUnmade m.reads → opened.wal.id ≡ id)) }
-    ensures cause { IfErr result (λ refused. IsOpenCause (Rose (D.faults disk) (D.faults refused.disk)) (D.moments disk) refused.why) }
-    ensures survives { IfErr result (λ refused. SurvivesThrough MAGIC id (D.moments disk) (D.moments refused.disk)) }
-    ensures durable { MatchResult result (λ opened. LosesNothing (D.moments disk) opened.wal.moments) (λ refused. LosesNothing (D.moments disk) (D.moments refused.disk)) }
-    ensures left { IfErr result (λ refused. IsLeftWhere (D.moments disk) (D.moments refused.disk) refused.why) }
-    ensures later { MatchResult result (λ opened. D.faults disk ≤ opened.wal.faults) (λ refused. D.faults disk ≤ D.faults refused.disk) }
+    history: &History,
+    edit: &Edit,
+) -> Result<Store, OpenError>
+    ensures store { IfOk result (IsStoreOf history.now.entries edit.now) }
+    ensures there { IfOk result (λ store. IfKnown (D.moments tables.old) (λ m. HasTables id edit.now.flushed m.reads edit.now.tables store.tables)) }
+    ensures are { IfOk result (λ store. AllByRecursion (IsTable id edit.now.flushed) store.tables) }
+    ensures synced { OnOk result (D.moments tables.new ≡ added after_sync (D.moments tables.old)) }
+    ensures cause { IfErr result (IsEditCause id history.now.entries edit.now (Rose (D.faults tables.old) (D.faults tables.new)) (D.moments tables.old)) }
+    ensures left { IfErr result (LeavesTables (tables.new ≡ tables.old) history.now.entries edit.now (D.moments tables.old) (D.moments tables.new)) }
+    ensures later { D.faults tables.old ≤ D.faults tables.new }
 {
-    match Wal::open(alloc, disk, id) {
-        Ok((wal, history)) => Ok(Opened { wal, history }),
+    let published = history.published();
+    if edit.flushed > published {
+        return Err(OpenError::Contents(Bad::LogBehind {
+            flushed: edit.flushed,
+            length: published,
+        }));
+    }
+    let Ok(()) = tables.sync() else {
+        return Err(OpenError::OpenFault(Device::Tables));
+    };
+    let parts = read_tables(alloc, tables, id, edit)?;
+    let memory = later_memory(alloc, history, edit.flushed)?;
+    let store = Store::new(alloc, memory, parts);
+    if !are_covering(alloc, history, &store)? {
+        return Err(OpenError::Contents(Bad::Uncovered));
+    }
+    Ok(store)
+}
+
+/// Opens the log, the manifest and the tables of a store. Where no log was made it makes one, with this id, and likewise a
+/// manifest, with the log's. It takes a time that grows with the number of bytes.
+pub fn open_parts<D: Disk>(
+    alloc: Global,
+    disks: Disks<D>,
+    id: u32,
+) -> Result<Parts<D>, OpenRefused<D>>
+    ensures opened { IfOk result (λ parts. PartsOpened id (D.moments disks.log) (D.moments disks.manifest) (D.moments disks.tables) parts.wal parts.history.entries parts.manifest (D.moments parts.tables) parts.store) }
+
+    // What the devices read opens to the history that is handed out.
+    ensures opens { IfOk result (λ parts. AllKnown (D.moments disks.log) (D.moments disks.manifest) (D.moments disks.tables) (Opens parts.wal.id parts.history.entries)) }
+
+    // Each refusal of the bytes comes where they are so, and none comes where they open to a history.
+    ensures cause { IfErr result (λ refused. IsCause id (Rose (D.faults disks.log) (D.faults refused.disks.log))
+        (Rose (D.faults disks.manifest) (D.faults refused.disks.manifest)) (Rose (D.faults disks.tables) (D.faults refused.disks.tables))
+        (D.moments disks.log) (D.moments disks.manifest) (D.moments disks.tables) refused.why) }
+    ensures only { IfErr result (λ refused. AllKnown (D.moments disks.log) (D.moments disks.manifest) (D.moments disks.tables)
+        (λ log manifest tables. (found : ℕ) (history : List Entry) → Opens found history log manifest tables → (IsUnmade log → found ≡ id) → IsOutside refused.why)) }
+
+    // The devices are left as they were, or repaired, or made new without entries.
+    ensures left { IfErr result (λ refused. IsLeft (refused.disks.manifest ≡ disks.manifest) (refused.disks.tables ≡ disks.tables)
+        (D.moments disks.log) (D.moments refused.disks.log) (D.moments disks.manifest) (D.moments refused.disks.manifest)
+        (D.moments disks.tables) (D.moments refused.disks.tables) refused.why) }
+
+    // At each moment since its beginning a crash leaves the bytes of the log and of the manifest as they were found, or a log of
+    // their records; but where the head's gate was not 01 it may leave none, and where the last record's was not, all but that one.
+    ensures log_survives { MatchResult result
+        (λ parts. SurvivesThrough wal.MAGIC id (D.moments disks.log) parts.wal.moments)
+        (λ refused. SurvivesThrough wal.MAGIC id (D.moments disks.log) (D.moments refused.disks.log)) }
+    ensures manifest_survives { IfOk result (λ parts. SurvivesThrough manifest.MAGIC parts.wal.id (D.moments disks.manifest) parts.manifest.log.moments) }
+
+    // What each crash at one moment would leave acknowledged, each crash at a later moment leaves too.
+    ensures log_durable { MatchResult result
+        (λ parts. LosesNoRecord wal.MAGIC (D.moments disks.log) parts.wal.moments)
+        (λ refused. LosesNoRecord wal.MAGIC (D.moments disks.log) (D.moments refused.disks.log)) }
+    ensures manifest_durable { MatchResult result
+        (λ parts. LosesNoRecord manifest.MAGIC (D.moments disks.manifest) parts.manifest.log.moments)
+        (λ refused. LosesNoRecord manifest.MAGIC (D.moments disks.manifest) (D.moments refused.disks.manifest)) }
+
+    ensures log_later { MatchResult result (λ parts. D.faults disks.log ≤ parts.wal.faults) (λ refused. D.faults disks.log ≤ D.faults refused.disks.log) }
+    ensures manifest_later { MatchResult result (λ parts. D.faults disks.manifest ≤ parts.manifest.log.faults) (λ refused. D.faults disks.manifest ≤ D.faults refused.disks.manifest) }
+    ensures tables_later { MatchResult result (λ parts. D.faults disks.tables ≤ D.faults parts.tables) (λ refused. D.faults disks.tables ≤ D.faults refused.disks.tables) }
+{
+    a_store_is_opened_in_one_way();
+    let Disks {
+        log,
+        manifest,
+        mut tables,
+    } = disks;
+    let (wal, history) = match Wal::open(alloc, log, id) {
+        Ok(opened) => opened,
         Err(DiskRefused { disk, why }) => {
-            let why = reason_of(why);
-            Err(DiskRefused { disk, why })
+            let why = log_reason(why);
+            let disks = Disks {
+                log: disk,
+                manifest,
+                tables,
+            };
+            return Err(OpenRefused { disks, why });
+        }
+    };
+    let found = wal.id();
+    let manifest = match Manifest::open(alloc, manifest, found) {
+        Ok(manifest) => manifest,
+        Err(DiskRefused { disk, why }) => {
+            let why = manifest_reason(why);
+            let disks = Disks {
+                log: wal.into_disk(),
+                manifest: disk,
+                tables,
+            };
+            return Err(OpenRefused { disks, why });
+        }
+    };
+    match open_store(alloc, &mut tables, found, &history, manifest.edit()) {
+        Ok(store) => Ok(Parts {
+            wal,
+            history,
+            manifest,
+            tables,
+            store,
+        }),
+        Err(why) => {
+            let disks = Disks {
+                log: wal.into_disk(),
+                manifest: manifest.into_disk(),
+                tables,
+            };
+            Err(OpenRefused { disks, why })
         }
     }
 }

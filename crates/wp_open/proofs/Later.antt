@@ -1,0 +1,121 @@
+-- The versions of later entries, taken one entry after another, and in order.
+use Rattle.std.proofs.Common.{◌≡◌, ℕ, suc, ◌<◌, Bool, true, false, true≢false, cond, ◌==◌, ◌&&◌, eq-eqb, ne_eqb, List, [], ◌∷◌, ◌++◌, Option, Some, None, refl, sym, ap, ◌∙◌, arith}
+use Rattle.std.specs.Option.{option_or}
+use Rattle.std.specs.Str.{bytes_eq}
+use Rattle.std.proofs.lemmas.Bool.{eqb-true}
+use Rattle.wp_model.specs.declared.change.Change.{Change}
+use Rattle.wp_model.specs.declared.entry.Entry.{Entry}
+use Rattle.wp_model.specs.declared.version.Version.{Version}
+use Rattle.wp_model.specs.Batch.{key_of, value_of, change_to}
+use Rattle.wp_model.specs.Flushed.{versions_under, versions_after}
+use Rattle.wp_model.specs.Legal.{changes_in}
+use Rattle.wp_model.specs.Versions.{AreInOrder, version_at}
+use Rattle.wp_model.proofs.VersionLists.{in_order_nil, in_order_cons, or_cond}
+use Rattle.wp_memtable.specs.Memtable.{HasChanges}
+use Rattle.wp_merge.specs.Merge.{sorted_of}
+use Rattle.wp_merge.proofs.Merged.{in_order-merge, at_merge, or_none}
+use Rattle.wp_store.proofs.OneMerge.{one_list}
+
+-- ---- look-ups
+
+pub at_append : (xs ys : List Version) (key : List ℕ) (p : ℕ) → version_at (xs ++ ys) key p ≡ option_or (version_at xs key p) (version_at ys key p)
+at_append [] ys key p = refl
+at_append (v ∷ xs) ys key p =
+    ap (cond (bytes_eq v.key key && (v.number == p)) (Some v.value)) (at_append xs ys key p)
+    ∙ or_cond (bytes_eq v.key key && (v.number == p)) v.value (version_at xs key p) (version_at ys key p)
+
+none_either : (b : Bool) → let none : Option (Option (List ℕ)) = None in none ≡ cond b none none
+none_either true = refl
+none_either false = refl
+
+one_under : (a b : Bool) (v : Option (List ℕ)) (x : Option (Option (List ℕ))) → cond (a && b) (Some v) (cond b x None) ≡ cond b (cond a (Some v) x) None
+one_under true true v x = refl
+one_under true false v x = refl
+one_under false true v x = refl
+one_under false false v x = refl
+
+at_under : (m : ℕ) (changes : List Change) (key : List ℕ) (p : ℕ) → version_at (versions_under m changes) key p ≡ cond (m == p) (change_to changes key) None
+at_under m [] key p = none_either (m == p)
+at_under m (c ∷ changes) key p = ap (cond (bytes_eq (key_of c) key && (m == p)) (Some (value_of c))) (at_under m changes key p) ∙ one_under (bytes_eq (key_of c) key) (m == p) (value_of c) (change_to changes key)
+
+-- ---- in order
+
+in_order-one : (v : Version) → AreInOrder (v ∷ [])
+in_order-one v = in_order_cons v [] tt in_order_nil
+
+in_order-sorted : (versions : List Version) → AreInOrder (sorted_of versions)
+in_order-sorted [] = in_order_nil
+in_order-sorted (v ∷ versions) = in_order-merge (v ∷ []) (sorted_of versions) (in_order-one v) (in_order-sorted versions)
+
+pub at_sorted : (versions : List Version) (key : List ℕ) (p : ℕ) → version_at (sorted_of versions) key p ≡ version_at versions key p
+at_sorted [] key p = refl
+at_sorted (v ∷ versions) key p =
+    let here : Bool = bytes_eq v.key key && (v.number == p) in
+    at_merge key p (v ∷ []) (sorted_of versions) (in_order-one v)
+    ∙ sym (or_cond here v.value None (version_at (sorted_of versions) key p))
+    ∙ ap (cond here (Some v.value)) (at_sorted versions key p)
+
+sorted_is : (versions sorted : List Version) → AreInOrder sorted → ((key : List ℕ) (p : ℕ) → version_at sorted key p ≡ version_at versions key p) → sorted ≡ sorted_of versions
+sorted_is versions sorted h same = one_list sorted (sorted_of versions) h (in_order-sorted versions) (λ key p. same key p ∙ sym (at_sorted versions key p))
+
+-- ---- entry after entry
+
+-- of all versions those up to n are in memory, and the entries after n have the others
+pub record AreTaken (all : List Version) (entries : List Entry) (n : ℕ) (memory : List Version) : Type 0 where
+  pub in_order : AreInOrder memory
+  pub none_above : (key : List ℕ) (p : ℕ) → n < p → version_at memory key p ≡ None
+  pub each : (key : List ℕ) (p : ℕ) → option_or (version_at memory key p) (version_at (versions_after n entries) key p) ≡ version_at all key p
+
+pub none_taken : (all : List Version) (entries : List Entry) (n : ℕ) (memory : List Version) → memory ≡ [] → versions_after n entries ≡ all → AreTaken all entries n memory
+none_taken all entries n memory none is = record {
+  in_order = rw none in_order_nil;
+  none_above = λ key p lt. rw none refl;
+  each = λ key p. rw (none, is) refl;
+}
+
+module _ (n next : ℕ) (entry : Entry) (others : List Entry) (old new : List Version) (is : next ≡ suc n) (has : HasChanges next (changes_in entry) old new) (above : (key : List ℕ) (p : ℕ) → n < p → version_at old key p ≡ None) where
+  abbrev rest : List ℕ → ℕ → Option (Option (List ℕ))
+  rest key p = version_at (versions_after next others) key p
+
+  abbrev changed : List ℕ → Option (Option (List ℕ))
+  changed key = change_to (changes_in entry) key
+
+  elsewhere : (key : List ℕ) (p : ℕ) → (p == next) ≡ false → version_at new key p ≡ version_at old key p
+  elsewhere key p e = has.each key p ∙ ap (λ (b : Bool). cond b (option_or (changed key) (version_at old key p)) (version_at old key p)) e
+
+  above_next : (key : List ℕ) (p : ℕ) → next < p → version_at new key p ≡ None
+  above_next key p lt = elsewhere key p (ne_eqb p next (λ e. absurd (omega (arith, e, lt)))) ∙ above key p (omega (arith, is, lt))
+
+  same_test : (p : ℕ) (b : Bool) → (p == next) ≡ b → (next == p) ≡ b
+  same_test p true e = eq-eqb next p (sym (eqb-true p next e))
+  same_test p false e = ne_eqb next p (λ same. absurd (true≢false (sym (eq-eqb p next (sym same)) ∙ e)))
+
+  or_either : (x r : Option (Option (List ℕ))) → option_or (option_or x None) r ≡ option_or x r
+  or_either None r = refl
+  or_either (Some v) r = refl
+
+  moved : (key : List ℕ) (p : ℕ) → option_or (version_at new key p) (rest key p) ≡ option_or (version_at old key p) (option_or (cond (next == p) (changed key) None) (rest key p))
+  moved key p = by (p == next) refl
+    where
+      by : (b : Bool) → (p == next) ≡ b → option_or (version_at new key p) (rest key p) ≡ option_or (version_at old key p) (option_or (cond (next == p) (changed key) None) (rest key p))
+      by true e =
+          let none : version_at old key p ≡ None = above key p (let same : p ≡ next = eqb-true p next e in omega (arith, is, same)) in
+          let there : version_at new key p ≡ option_or (changed key) (version_at old key p) = has.each key p ∙ ap (λ (b : Bool). cond b (option_or (changed key) (version_at old key p)) (version_at old key p)) e in
+          rw (there, none, same_test p true e) (or_either (changed key) (rest key p))
+      by false e = rw (elsewhere key p e, same_test p false e) refl
+
+  pub one_taken : (all : List Version) → AreTaken all (entry ∷ others) n old → AreTaken all others next new
+  one_taken all t = record {
+    in_order = has.in_order;
+    none_above = above_next;
+    each = λ key p.
+        moved key p
+        ∙ ap (λ o. option_or (version_at old key p) (option_or o (rest key p))) (sym (at_under next (changes_in entry) key p))
+        ∙ ap (option_or (version_at old key p)) (sym (at_append (versions_under next (changes_in entry)) (versions_after next others) key p))
+        ∙ ap (λ (m : ℕ). option_or (version_at old key p) (version_at (versions_under m (changes_in entry) ++ versions_after m others) key p)) is
+        ∙ t.each key p;
+  }
+
+pub all_taken : (all : List Version) (entries : List Entry) (n : ℕ) (memory : List Version) → entries ≡ [] → AreTaken all entries n memory → memory ≡ sorted_of all
+all_taken all entries n memory none t =
+    sorted_is all memory t.in_order (λ key p. sym (or_none key p (version_at memory key p)) ∙ ap (λ (es : List Entry). option_or (version_at memory key p) (version_at (versions_after n es) key p)) (sym none) ∙ t.each key p)

@@ -1,0 +1,7 @@
+pub mod Later
+pub mod AllVersions
+pub mod Reading
+pub mod OneWay
+pub mod Stages
+pub mod OneFault
+pub mod Again

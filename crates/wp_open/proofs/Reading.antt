@@ -1,0 +1,106 @@
+-- The tables at their places: what is read there, and what is wrong.
+use Rattle.std.proofs.Common.{◌≡◌, ℕ, suc, get_or, ◌+◌, ◌<◌, ◌≤◌, List, [], ◌∷◌, ◌++◌, length, take, drop, inl, refl, sym, subst, ap, ◌∙◌, arith, length-take, length-drop}
+use Rattle.std.specs.Prelude.{IfSome}
+use Rattle.std.specs.List.{AllByRecursion}
+use Rattle.std.proofs.Math.Seq.{drop-cons}
+use Rattle.std.proofs.lemmas.List.{take-append-drop, length-take-le, take_more}
+use Rattle.wp_outside.specs.declared.disk.Device.TheVariants as device
+use Rattle.wp_outside.specs.Disk.{Moment, IfKnown}
+use Rattle.wp_outside.specs.Faults.{Rose}
+use Rattle.wp_gatelog.proofs.MomentLemmas.{known_map}
+use Rattle.wp_model.specs.declared.version.Version.{Version}
+use Rattle.wp_manifest.specs.Edit.{Edit}
+use Rattle.wp_table.specs.declared.error.TableError.{TableError}
+use Rattle.wp_table.specs.declared.error.TableError.TheVariants as table
+use Rattle.wp_table.specs.Errors.{table_fault}
+use Rattle.wp_table.specs.Faults.{IsTableFault}
+use Rattle.wp_table.specs.File.{HasTable, HasTables}
+use Rattle.wp_table.specs.Table.{IsTable, table_bytes}
+use Rattle.wp_open.specs.declared.bad.Bad.TheVariants as bad
+use Rattle.wp_open.specs.declared.opening.OpenError.{OpenError}
+use Rattle.wp_open.specs.declared.opening.OpenError.TheVariants as open_error
+use Rattle.wp_open.specs.Damage.{bytes_at, IsBadTable, IsFirstBadTable, IsOwnFault, IsTableNamed}
+use Rattle.wp_open.specs.Refused.{IsTableReason}
+use Rattle.wp_open.specs.Tables.{IsTableCause, AreTablesCause}
+
+-- ---- one table
+
+some_bytes : (id : ℕ) (versions : List Version) → 1 ≤ length (table_bytes id versions)
+some_bytes id versions = omega arith
+
+pub table_at_place : (id flushed : ℕ) (bytes : List ℕ) (placed : ℕ × ℕ) (versions : List Version) → IsTable id flushed versions → bytes_at bytes placed ≡ table_bytes id versions → placed.1 ≤ length (bytes_at bytes placed) → HasTable id flushed bytes placed versions
+table_at_place id flushed bytes placed versions is spelled whole =
+    let rest : List ℕ = drop placed.0 bytes in
+    let taken = length-take placed.1 rest in
+    let left = length-drop placed.0 bytes in
+    let some = some_bytes id versions in
+    let size = ap length spelled in
+    let within : placed.0 ≤ length bytes = omega (arith, taken, left, some, size) in
+    record {
+      before = take placed.0 bytes;
+      after = drop placed.1 rest;
+      parts = sym (take-append-drop placed.0 bytes) ∙ ap (λ (l : List ℕ). take placed.0 bytes ++ l) (sym (take-append-drop placed.1 rest) ∙ ap (λ (l : List ℕ). l ++ drop placed.1 rest) spelled);
+      place = length-take-le placed.0 bytes within;
+      size = omega (arith, taken, size, whole);
+      is = is;
+    }
+
+pub found_table : (id flushed len : ℕ) (found : List ℕ) (placed : ℕ × ℕ) (versions : List Version) (moments : List Moment) → IsTable id flushed versions → found ≡ table_bytes id versions → placed.1 ≤ length found → IfKnown moments (λ m. len ≡ length m.reads → found ≡ bytes_at m.reads placed) → IfKnown moments (λ m. len ≡ length m.reads → HasTable id flushed m.reads placed versions)
+found_table id flushed len found placed versions moments is spelled whole read =
+    known_map (λ m. len ≡ length m.reads → found ≡ bytes_at m.reads placed) (λ m. len ≡ length m.reads → HasTable id flushed m.reads placed versions)
+    (λ m there len_is. let same : found ≡ bytes_at m.reads placed = there len_is in
+    table_at_place id flushed m.reads placed versions is (sym same ∙ spelled) (let size = ap length same in omega (arith, size, whole))) moments read
+
+pub fault_named : (id flushed len : ℕ) (placed : ℕ × ℕ) (rose : Type 0) (moments : List Moment) (found : List ℕ) (why : TableError) (error : OpenError) → IfSome (table_fault why) (λ fault. IsTableFault id flushed found fault) → IfKnown moments (λ m. len ≡ length m.reads → found ≡ bytes_at m.reads placed) → IsTableReason id placed.0 why error → IsTableCause id flushed placed len rose moments error
+fault_named id flushed len placed rose moments found table.Memory error fault read is = rw is tt
+fault_named id flushed len placed rose moments found (table.Stranger other) error fault read is =
+    rw is (refl, known_map (λ m. len ≡ length m.reads → found ≡ bytes_at m.reads placed) (λ m. len ≡ length m.reads → IsBadTable id flushed m.reads placed (table.Stranger other)) (λ m there len_is. inl (subst (λ (l : List ℕ). IsTableFault id flushed l (table.Stranger other)) (there len_is) fault)) moments read)
+fault_named id flushed len placed rose moments found other error fault read is =
+    rw is (refl, tt, known_map (λ m. len ≡ length m.reads → found ≡ bytes_at m.reads placed) (λ m. len ≡ length m.reads → IsBadTable id flushed m.reads placed other) (λ m there len_is. inl (subst (λ (l : List ℕ). IsTableFault id flushed l other) (there len_is) fault)) moments read)
+
+-- ---- table after table
+
+pub tables_push : (id flushed : ℕ) (bytes : List ℕ) (places : List (ℕ × ℕ)) (parts : List (List Version)) (placed : ℕ × ℕ) (versions : List Version) → HasTables id flushed bytes places parts → HasTable id flushed bytes placed versions → HasTables id flushed bytes (places ++ placed ∷ []) (parts ++ versions ∷ [])
+tables_push id flushed bytes [] [] placed versions has one = (one, tt)
+tables_push id flushed bytes [] (part ∷ parts) placed versions has one = absurd has
+tables_push id flushed bytes (place ∷ places) [] placed versions has one = absurd has
+tables_push id flushed bytes (place ∷ places) (part ∷ parts) placed versions has one = (has.0, tables_push id flushed bytes places parts placed versions has.1 one)
+
+module _ (id : ℕ) (edit : Edit) (len start mid now : ℕ) (moments : List Moment) (before after : List (ℕ × ℕ)) (placed : ℕ × ℕ) (parts : List (List Version)) (listed : edit.tables ≡ before ++ placed ∷ after) (right : IfKnown moments (λ m. HasTables id edit.flushed m.reads before parts)) (size : IfKnown moments (λ m. len ≡ length m.reads)) (later : start ≤ mid) where
+  first_bad : (why : TableError) → IfKnown moments (λ m. len ≡ length m.reads → IsBadTable id edit.flushed m.reads placed why) → IfKnown moments (λ m. IsFirstBadTable id edit.flushed m.reads edit.tables placed.0 why)
+  first_bad why wrong = by moments right size wrong
+    where
+      by : (ms : List Moment) → IfKnown ms (λ m. HasTables id edit.flushed m.reads before parts) → IfKnown ms (λ m. len ≡ length m.reads) → IfKnown ms (λ m. len ≡ length m.reads → IsBadTable id edit.flushed m.reads placed why) → IfKnown ms (λ m. IsFirstBadTable id edit.flushed m.reads edit.tables placed.0 why)
+      by [] has len_is bad = tt
+      by (m ∷ past) has len_is bad = record { before = before; size = placed.1; after = after; parts = parts; listed = listed; right = has; wrong = bad len_is }
+
+  stranger : (log found : ℕ) → log ≡ id → IfKnown moments (λ m. IsFirstBadTable id edit.flushed m.reads edit.tables placed.0 (table.Stranger found)) → IfKnown moments (λ m. IsTableNamed id edit.flushed m.reads edit.tables (bad.Stranger log found))
+  stranger log found is wrong = known_map (λ m. IsFirstBadTable id edit.flushed m.reads edit.tables placed.0 (table.Stranger found)) (λ m. IsTableNamed id edit.flushed m.reads edit.tables (bad.Stranger log found)) (λ m w. (is, placed.0, w)) moments wrong
+
+  bad_table : (place : ℕ) (why : TableError) → place ≡ placed.0 → IsOwnFault why → IfKnown moments (λ m. IsFirstBadTable id edit.flushed m.reads edit.tables placed.0 why) → IfKnown moments (λ m. IsTableNamed id edit.flushed m.reads edit.tables (bad.BadTable place why))
+  bad_table place why is own wrong = known_map (λ m. IsFirstBadTable id edit.flushed m.reads edit.tables placed.0 why) (λ m. IsTableNamed id edit.flushed m.reads edit.tables (bad.BadTable place why)) (λ m w. (own, subst (λ (p : ℕ). IsFirstBadTable id edit.flushed m.reads edit.tables p why) (sym is) w)) moments wrong
+
+  pub tables_cause : (error : OpenError) → IsTableCause id edit.flushed placed len (Rose mid now) moments error → AreTablesCause id edit (Rose start now) moments error
+  tables_cause open_error.Memory cause = tt
+  tables_cause (open_error.OpenFault device.Tables) cause = omega (arith, cause, later)
+  tables_cause (open_error.OpenFault device.Log) cause = cause
+  tables_cause (open_error.OpenFault device.Manifest) cause = cause
+  tables_cause (open_error.Contents (bad.Stranger log found)) cause = stranger log found cause.0 (first_bad (table.Stranger found) cause.1)
+  tables_cause (open_error.Contents (bad.BadTable place why)) cause = bad_table place why cause.0 cause.1 (first_bad why cause.2)
+  tables_cause (open_error.Contents other) cause = absurd cause
+
+pub at_place : (items tables : List (ℕ × ℕ)) (i : ℕ) (d : ℕ × ℕ) → i < length items → items ≡ tables → tables ≡ take i items ++ get_or items i d ∷ drop (suc i) items
+at_place items tables i d lt same = sym same ∙ sym (take-append-drop i items) ∙ ap (λ (l : List (ℕ × ℕ)). take i items ++ l) (drop-cons items i d lt)
+
+pub tables_more : (id flushed len : ℕ) (items : List (ℕ × ℕ)) (i : ℕ) (d : ℕ × ℕ) (parts more : List (List Version)) (versions : List Version) (moments : List Moment) → i < length items → more ≡ parts ++ versions ∷ [] → IfKnown moments (λ m. HasTables id flushed m.reads (take i items) parts) → IfKnown moments (λ m. len ≡ length m.reads) → IfKnown moments (λ m. len ≡ length m.reads → HasTable id flushed m.reads (get_or items i d) versions) → IfKnown moments (λ m. HasTables id flushed m.reads (take (i + 1) items) more)
+tables_more id flushed len items i d parts more versions [] lt is has size one = tt
+tables_more id flushed len items i d parts more versions (m ∷ past) lt is has size one =
+    rw (take_more items i d lt, is) (tables_push id flushed m.reads (take i items) parts (get_or items i d) versions has (one size))
+
+-- one more at the end
+pub all_more : (P : List Version → Type 0) (xs ys : List (List Version)) (x : List Version) → ys ≡ xs ++ x ∷ [] → AllByRecursion P xs → P x → AllByRecursion P ys
+all_more P xs ys x is all one = subst (AllByRecursion P) (sym is) (by xs all)
+  where
+    by : (zs : List (List Version)) → AllByRecursion P zs → AllByRecursion P (zs ++ x ∷ [])
+    by [] h = (one, tt)
+    by (z ∷ zs) (first, rest) = (first, by zs rest)

@@ -1,0 +1,48 @@
+use Rattle.std.proofs.Common.{◌≡◌, ℕ, suc, ◌<◌, List, [], ◌∷◌, ◌++◌, length, get_or, take, drop, map, subst, ap, ◌∙◌, arith, rules}
+use Rattle.std.specs.Arc.{arc_value}
+use Rattle.std.proofs.lemmas.List.{map_push}
+use Rattle.std.proofs.lemmas.Result.{err_from_is_err_and}
+use Rattle.wp_outside.specs.Disk.{Moment, IfKnown}
+use Rattle.wp_outside.specs.Faults.{Rose}
+use Rattle.wp_model.specs.declared.version.Version.{Version}
+use Rattle.wp_manifest.specs.Edit.{Edit}
+use Rattle.wp_table.specs.File.{HasTable}
+use Rattle.wp_table.specs.Table.{IsTable}
+use Rattle.wp_open.specs.Tables.{IsTableCause}
+use Rattle.wp_open.proofs.Reading.{tables_cause, at_place, tables_more, all_more}
+use Rattle.wp_open.proofs.tables.read_tables.Goals as goal
+
+pub returns-in_err-table-clause-cause : goal.returns-in_err-table-clause-cause
+returns-in_err-table-clause-cause g c =
+    let p = err_from_is_err_and c.from_residual.result c.from_residual.ensures.1 in
+    let edit = c.args.edit.now in
+    let items = c.deref-placed-items.result.now in
+    let i : ℕ = c.loop-placed.placed-index in
+    let flushed_is = ap (λ (e : Edit). e.flushed) c.edit.view_is in
+    let tables_is = ap (λ (e : Edit). e.tables) c.edit.view_is in
+    let lt : i < length items = search rules in
+    let later = c.read_table.ensures.later in
+    let moments = g.D.Disk.moments c.args.tables.now in
+    let rose = Rose (g.D.Disk.faults c.loop-placed.tables) (g.D.Disk.faults c.read_table.new.tables) in
+    let cause = subst (λ (n : ℕ). IsTableCause c.args.id n (get_or items i (0, 0)) c.in-Ok.len rose moments c.in_err-table.field-0.0) flushed_is
+    (subst (λ (ms : List Moment). IsTableCause c.args.id c.edit.inside.flushed (get_or items i (0, 0)) c.in-Ok.len rose ms c.in_err-table.field-0.0) c.loop-placed.invariant.unchanged c.in_err-table.ensures.cause) in
+    rw (p.1, p.2) (tables_cause c.args.id edit c.in-Ok.len (g.D.Disk.faults c.args.tables.now) (g.D.Disk.faults c.loop-placed.tables) (g.D.Disk.faults c.read_table.new.tables) moments (take i items) (drop (suc i) items) (get_or items i (0, 0)) (map arc_value c.loop-placed.parts.items)
+    (at_place items edit.tables i (0, 0) lt (c.deref-placed-items.ensures.value ∙ tables_is)) c.loop-placed.invariant.there c.in-Ok.ensures.length c.loop-placed.invariant.later c.in_err-table.field-0.0 cause)
+
+pub loop-placed-preserved : goal.loop-placed-preserved
+loop-placed-preserved g c =
+    let items = c.deref-placed-items.result.now in
+    let i : ℕ = c.loop-placed.placed-index in
+    let flushed_is = ap (λ (e : Edit). e.flushed) c.edit.view_is in
+    let lt : i < length items = search rules in
+    let moments = g.D.Disk.moments c.args.tables.now in
+    let versions : List Version = c.in_ok-table.table in
+    let one = subst (λ (n : ℕ). IfKnown moments (λ m. c.in-Ok.len ≡ length m.reads → HasTable c.args.id n m.reads (get_or items i (0, 0)) versions)) flushed_is
+    (subst (λ (ms : List Moment). IfKnown ms (λ m. c.in-Ok.len ≡ length m.reads → HasTable c.args.id c.edit.inside.flushed m.reads (get_or items i (0, 0)) versions)) c.loop-placed.invariant.unchanged c.in_ok-table.ensures.found) in
+    let is = ap (map arc_value) c.in_ok-push.ensures.items ∙ map_push arc_value c.loop-placed.parts.items c.in_ok-new.field-0 ∙ ap (λ (v : List Version). map arc_value c.loop-placed.parts.items ++ v ∷ []) c.in_ok-new.ensures.ok in
+    record {
+      unchanged = c.read_table.ensures.unchanged ∙ c.loop-placed.invariant.unchanged;
+      later = omega (arith, c.read_table.ensures.later, c.loop-placed.invariant.later);
+      there = tables_more c.args.id c.args.edit.now.flushed c.in-Ok.len items i (0, 0) (map arc_value c.loop-placed.parts.items) (map arc_value c.push.new.self.items) versions moments lt is c.loop-placed.invariant.there c.in-Ok.ensures.length one;
+      are = all_more (IsTable c.args.id c.args.edit.now.flushed) (map arc_value c.loop-placed.parts.items) (map arc_value c.push.new.self.items) versions is c.loop-placed.invariant.are (subst (λ (n : ℕ). IsTable c.args.id n versions) flushed_is c.in_ok-table.ensures.is);
+    }

@@ -1,0 +1,34 @@
+-- To which history the bytes of a store's three devices open.
+use Rattle.std.specs.Prelude.{ℕ, ◌<◌, ◌^◌, List, length}
+use Rattle.wp_model.specs.declared.entry.Entry.{Entry}
+use Rattle.wp_model.specs.declared.version.Version.{Version}
+use Rattle.wp_model.specs.Flushed.{IsEditCovered}
+use Rattle.wp_model.specs.Legal.{IsLegal}
+use Rattle.wp_outside.specs.Disk.{Moment, IfKnown}
+use Rattle.wp_wal.specs.Spelling.{IsLogOf}
+use Rattle.wp_manifest.specs.Edit.{Edit}
+use Rattle.wp_manifest.specs.Spelling.{IsManifestOf, last_edit}
+use Rattle.wp_table.specs.File.{HasTables}
+use Rattle.wp_merge.specs.Merge.{AreMerged}
+
+-- the versions of the edit's tables, merged, show every reader what the history holds, with those of its later entries
+pub record AreCovering (history : List Entry) (edit : Edit) (parts : List (List Version)) : Type 0 where
+  pub all : List Version
+  pub merged : AreMerged parts all
+  pub covered : IsEditCovered history (record { flushed = edit.flushed; versions = all; tables = length parts })
+
+-- The log spells the history, which is legal. The manifest spells edits under the log's id, and the tables that the last
+-- one names cover the history. A log that was not made has any id.
+pub record Opens (id : ℕ) (history : List Entry) (log manifest tables : List ℕ) : Type 0 where
+  pub id_fits : id < 2 ^ 32
+  pub spelled : IsLogOf id history log
+  pub legal : IsLegal history
+  pub edits : List Edit
+  pub installed : IsManifestOf id edits manifest
+  pub parts : List (List Version)
+  pub there : HasTables id (last_edit edits).flushed tables (last_edit edits).tables parts
+  pub covering : AreCovering history (last_edit edits) parts
+
+-- of three devices that show their moments: P of what they read
+abbrev pub AllKnown : List Moment → List Moment → List Moment → (List ℕ → List ℕ → List ℕ → Type 0) → Type 0
+AllKnown log manifest tables P = IfKnown log (λ l. IfKnown manifest (λ m. IfKnown tables (λ t. P l.reads m.reads t.reads)))

@@ -1,0 +1,98 @@
+//! Reading the tables of an edit.
+ghost use Rattle.std.specs.Prelude.{◌≡◌, ◌≤◌, ◌^◌, length, map, IfOk, IfErr};
+ghost use Rattle.std.specs.Arc.{arc_value};
+ghost use Rattle.std.specs.List.{AllByRecursion};
+ghost use Rattle.wp_outside.specs.Disk.{IfKnown};
+ghost use Rattle.wp_outside.specs.Faults.{Rose};
+ghost use Rattle.wp_table.specs.File.{HasTable, HasTables};
+ghost use Rattle.wp_table.specs.Table.{IsTable};
+ghost use Rattle.wp_open.specs.Damage.{bytes_at};
+ghost use Rattle.wp_open.specs.Tables.{IsReadCause, IsTableCause, AreTablesCause};
+
+use crate::bad::Bad;
+use crate::opening::OpenError;
+use crate::reason::table_reason;
+use std::alloc::Global;
+use std::sync::Arc;
+use wp_manifest::Edit;
+use wp_model::Seq;
+use wp_outside::{Device, Disk, Failed};
+use wp_table::{Table, TableError};
+
+/// The bytes at a table's place on a device of so many bytes: as many as the table has, or as there are.
+fn bytes_at<D: Disk>(
+    alloc: Global,
+    tables: &mut D,
+    len: u64,
+    placed: (u64, u64),
+) -> Result<Vec<u8>, OpenError>
+    requires { len ≤ 2 ^ 62 }
+    ensures found { IfOk result (λ bytes. IfKnown (D.moments tables.old) (λ m. len ≡ length m.reads → bytes.items ≡ bytes_at m.reads placed)) }
+    ensures unchanged { D.moments tables.new ≡ D.moments tables.old }
+    ensures cause { IfErr result (IsReadCause (Rose (D.faults tables.old) (D.faults tables.new))) }
+    ensures later { D.faults tables.old ≤ D.faults tables.new }
+{
+    let place = placed.0.min(len);
+    let size = placed.1.min(len - place);
+    let mut bytes = vec![in alloc; 0u8; size as usize]?;
+    match tables.read_at(place, &mut bytes) {
+        Ok(read) => {
+            bytes.truncate(read);
+            Ok(bytes)
+        }
+        Err(Failed) => Err(OpenError::OpenFault(Device::Tables)),
+    }
+}
+
+/// The table at a place of a device of so many bytes, in the store with that id, where the entries up to `flushed` were
+/// flushed.
+fn read_table<D: Disk>(
+    alloc: Global,
+    tables: &mut D,
+    len: u64,
+    placed: (u64, u64),
+    id: u32,
+    flushed: Seq,
+) -> Result<Table, OpenError>
+    requires { len ≤ 2 ^ 62 }
+    ensures found { IfOk result (λ table. IfKnown (D.moments tables.old) (λ m. len ≡ length m.reads → HasTable id flushed m.reads placed table)) }
+    ensures is { IfOk result (λ table. IsTable id flushed table) }
+    ensures unchanged { D.moments tables.new ≡ D.moments tables.old }
+    ensures cause { IfErr result (IsTableCause id flushed placed len (Rose (D.faults tables.old) (D.faults tables.new)) (D.moments tables.old)) }
+    ensures later { D.faults tables.old ≤ D.faults tables.new }
+{
+    let bytes = bytes_at(alloc, tables, len, placed)?;
+    let is_short = (bytes.len() as u64) < placed.1;
+    match Table::of(alloc, bytes, id, flushed) {
+        Ok(_) if is_short => Err(OpenError::Contents(Bad::BadTable {
+            place: placed.0,
+            why: TableError::Short,
+        })),
+        Ok(table) => Ok(table),
+        Err(why) => Err(table_reason(id, placed.0, why)),
+    }
+}
+
+/// The edit's tables, in its order, in the store with that id.
+pub fn read_tables<D: Disk>(
+    alloc: Global,
+    tables: &mut D,
+    id: u32,
+    edit: &Edit,
+) -> Result<Vec<Arc<Table>>, OpenError>
+    ensures found { IfOk result (λ parts. IfKnown (D.moments tables.old) (λ m. HasTables id edit.now.flushed m.reads edit.now.tables (map arc_value parts.items))) }
+    ensures are { IfOk result (λ parts. AllByRecursion (IsTable id edit.now.flushed) (map arc_value parts.items)) }
+    ensures unchanged { D.moments tables.new ≡ D.moments tables.old }
+    ensures cause { IfErr result (AreTablesCause id edit.now (Rose (D.faults tables.old) (D.faults tables.new)) (D.moments tables.old)) }
+    ensures later { D.faults tables.old ≤ D.faults tables.new }
+{
+    let Ok(len) = tables.len() else {
+        return Err(OpenError::OpenFault(Device::Tables));
+    };
+    let mut parts = Vec::new(alloc);
+    for placed in &edit.tables {
+        let table = read_table(alloc, tables, len, *placed, id, edit.flushed)?;
+        parts.push(Arc::new(alloc, table)?)?;
+    }
+    Ok(parts)
+}
