@@ -1,0 +1,54 @@
+-- What the calls of a set make of it.
+use Rattle.std.proofs.Common.{◌≡◌, ℕ, ◌≤◌, ◌<◌, true, false, List, [], ◌∷◌, length, Result, Ok, Err, refl, arith}
+use Rattle.std.specs.List.{list_all}
+use Rattle.wp_model.specs.declared.version.Version.{Version}
+use Rattle.wp_table.specs.Table.{is_flushed, is_numbered}
+use Rattle.wp_tableset.specs.Changes.{Installs, flushed_edit, compacted_edit, compacted_parts}
+use Rattle.wp_tableset.specs.Install.{InstallsEdit, Puts}
+use Rattle.wp_tableset.specs.Set.{TableSetState}
+use Rattle.wp_tableset.specs.declared.error.TableSetError.{TableSetError}
+use Rattle.wp_tableset.proofs.FileLemmas.{tables_on}
+use Rattle.wp_tableset.proofs.SetLemmas.{none_ready, ready_installed, ready_refused}
+
+pub flush_installs : {T : Type 0} (old new : TableSetState) (versions : List Version) (flushed : ℕ) (others : List (ℕ × ℕ)) (result : Result T TableSetError) → others ≡ old.manifest.edit.tables → old.manifest.edit.flushed ≤ flushed → Puts old new versions flushed others result
+    → (place : ℕ) × Installs old new (flushed_edit old versions flushed place) (λ parts. versions ∷ parts) result
+flush_installs old new versions flushed others result same later puts =
+    let installs = puts.1 (λ parts. parts) (λ id bytes parts has. rw same (tables_on id old.manifest.edit.flushed flushed bytes old.manifest.edit.tables parts later has)) in
+    (puts.0, rw same at installs)
+
+-- ---- a compaction
+
+pub empty_of : (versions : List Version) → length versions ≡ 0 → versions ≡ []
+empty_of [] none = refl
+empty_of (v ∷ versions) none = absurd (omega arith)
+
+-- a version that was flushed has a number, which is at least 1
+pub flushed_some : (flushed : ℕ) (versions : List Version) → 1 ≤ length versions → list_all is_numbered versions ≡ true → list_all (is_flushed flushed) versions ≡ true → 0 < flushed
+flushed_some flushed [] some numbered in_range = absurd (omega arith)
+flushed_some flushed (v ∷ versions) some numbered in_range = grind arith
+
+pub compact_installed : {T U : Type 0} (old new : TableSetState) (versions : List Version) (flushed : ℕ) (others : List (ℕ × ℕ)) (x : T) (y : U) → 1 ≤ length versions → others ≡ [] → flushed ≡ old.manifest.edit.flushed → Puts {T = T} old new versions flushed others (Ok x)
+    → (place : ℕ) × Installs {T = U} old new (compacted_edit old versions place) (λ _. compacted_parts versions) (Ok y)
+compact_installed old new [] flushed others x y some none same puts = absurd (omega arith)
+compact_installed old new (v ∷ versions) flushed others x y some none same puts =
+    let installs = puts.1 (λ _. []) (λ id bytes parts has. rw none tt) in
+    let named = rw (none, same) at installs in
+    (puts.0, record { passed = named.passed; installed = named.installed; refused = tt })
+
+pub compact_refused : {T U : Type 0} (old new : TableSetState) (versions : List Version) (flushed : ℕ) (others : List (ℕ × ℕ)) (why : TableSetError) → 1 ≤ length versions → others ≡ [] → flushed ≡ old.manifest.edit.flushed → Puts {T = T} old new versions flushed others (Err why)
+    → (place : ℕ) × Installs {T = U} old new (compacted_edit old versions place) (λ _. compacted_parts versions) (Err why)
+compact_refused old new [] flushed others why some none same puts = absurd (omega arith)
+compact_refused old new (v ∷ versions) flushed others why some none same puts =
+    let installs = puts.1 (λ _. []) (λ id bytes parts has. rw none tt) in
+    let named = rw (none, same) at installs in
+    (puts.0, record { passed = named.passed; installed = tt; refused = named.refused })
+
+pub none_installed : {T : Type 0} (old new : TableSetState) (versions : List Version) (flushed : ℕ) (tables : List (ℕ × ℕ)) (x : T) → old.halted ≡ false → versions ≡ [] → tables ≡ [] → flushed ≡ old.manifest.edit.flushed → InstallsEdit {T = Unit {0}} old new (record { flushed = flushed; tables = tables }) (Ok tt)
+    → (place : ℕ) × Installs {T = T} old new (compacted_edit old versions place) (λ _. compacted_parts versions) (Ok x)
+none_installed old new versions flushed tables x running empty none same installs =
+    (0, rw empty (ready_installed old new old.moments old.faults (record { flushed = old.manifest.edit.flushed; tables = [] }) (λ _. []) (none_ready old old.manifest.edit.flushed running) x (rw (none, same) at installs)))
+
+pub none_refused : {T : Type 0} (old new : TableSetState) (versions : List Version) (flushed : ℕ) (tables : List (ℕ × ℕ)) (why : TableSetError) → old.halted ≡ false → versions ≡ [] → tables ≡ [] → flushed ≡ old.manifest.edit.flushed → InstallsEdit {T = Unit {0}} old new (record { flushed = flushed; tables = tables }) (Err why)
+    → (place : ℕ) × Installs {T = T} old new (compacted_edit old versions place) (λ _. compacted_parts versions) (Err why)
+none_refused old new versions flushed tables why running empty none same installs =
+    (0, rw empty (ready_refused old new old.moments old.faults (record { flushed = old.manifest.edit.flushed; tables = [] }) (λ _. []) (none_ready old old.manifest.edit.flushed running) why (rw (none, same) at installs)))

@@ -1,0 +1,4 @@
+pub mod DeviceLemmas
+pub mod FileLemmas
+pub mod SetLemmas
+pub mod CallLemmas

@@ -1,0 +1,250 @@
+-- What the two devices store while a table is written and an edit is installed.
+use Rattle.std.proofs.Common.{◌≡◌, inl, inr, ℕ, ◌≤◌, ◌<◌, ◌^◌, Bool, true, false, List, [], ◌∷◌, ◌++◌, length, Result, Ok, Err, refl, sym, ap, subst, arith}
+use Rattle.wp_model.specs.declared.version.Version.{Version}
+use Rattle.wp_outside.specs.Disk.{Moment, IsImage, IfKnown, Each, Passes, synced}
+use Rattle.wp_outside.specs.Faults.{Rose}
+use Rattle.wp_outside.proofs.Moments.{image_of_synced}
+use Rattle.wp_gatelog.specs.Durability.{LosesNoRecord}
+use Rattle.wp_gatelog.specs.Moments.{Leaves, IsSynced}
+use Rattle.wp_gatelog.proofs.MomentLemmas.{goes_map, known_map}
+use Rattle.wp_gatelog.proofs.SurvivalLemmas.{goes_passes}
+use Rattle.wp_manifest.specs.Edit.{Edit, IsEdit, no_edit}
+use Rattle.wp_manifest.specs.Manifest.{ManifestState, StoresEdits, InstallRefused}
+use Rattle.wp_manifest.specs.Spelling.{MAGIC, IsManifestOrNext, last_edit}
+use Rattle.wp_manifest.specs.declared.error.InstallError.TheVariants as install
+use Rattle.wp_table.specs.File.{HasTables}
+use Rattle.wp_table.specs.Table.{IsTable, table_bytes}
+use Rattle.wp_tableset.specs.Changes.{placed, Refused, Installs, Keeps}
+use Rattle.wp_tableset.specs.Device.{BeginsWith, KeepsFronts, GrowsFrom}
+use Rattle.wp_tableset.specs.Install.{IsReady, InstallsEdit, Remain}
+use Rattle.wp_tableset.specs.Set.{TableSetState, LeavesTables, RestsWith, StoresTables}
+use Rattle.wp_tableset.specs.declared.error.TableSetError.{TableSetError}
+use Rattle.wp_tableset.specs.declared.error.TableSetError.TheVariants.{Memory, Fault, Halted}
+use Rattle.wp_tableset.proofs.FileLemmas.{tables_begin, tables_in_front, table_behind}
+
+-- ---- the tables in the images
+
+-- what is there for good, a crash leaves
+pub left_of : (id : ℕ) (edit : Edit) (parts : List (List Version)) (ms : List Moment) → IfKnown ms (RestsWith id edit parts) → IfKnown ms (LeavesTables id edit parts)
+left_of id edit parts ms rests = known_map (RestsWith id edit parts) (LeavesTables id edit parts) leaves ms rests
+  where
+    leaves : (m : Moment) → RestsWith id edit parts m → LeavesTables id edit parts m
+    leaves m rests image h =
+        subst (λ (l : List ℕ). HasTables id edit.flushed l edit.tables parts) (sym (image_of_synced rests.bytes image (subst (λ (n : Moment). IsImage n image) rests.on_disk h))) rests.tables
+
+-- an edit without tables has them all
+pub none_left : (id : ℕ) (ms : List Moment) → IfKnown ms (LeavesTables id no_edit [])
+none_left id [] = tt
+none_left id (m ∷ past) = λ image h. tt
+
+-- ---- a table is written
+
+abbrev pub Grows : List Moment → List Moment → Type 0
+Grows old mid = (before : List ℕ) → IsSynced before old → GrowsFrom before old mid
+
+abbrev pub IsBehind : List Moment → ℕ → Type 0
+IsBehind old place = (before : List ℕ) → IsSynced before old → IfKnown old (λ _. place ≡ length before)
+
+abbrev pub SyncsBehind : List Moment → List Moment → List ℕ → Type 0
+SyncsBehind old mid bytes = (before : List ℕ) → IsSynced before old → IsSynced (before ++ bytes) mid
+
+module _ (id : ℕ) (last : Edit) (parts : List (List Version)) where
+  -- the old tables stay
+  pub passes_grown : (old mid : List Moment) → Grows old mid → IfKnown old (RestsWith id last parts) → Passes (LeavesTables id last parts) old mid
+  passes_grown [] mid grows rests = goes_passes (LeavesTables id last parts) [] mid (grows [] tt).kept
+  passes_grown (m ∷ past) mid grows rests =
+      goes_passes (LeavesTables id last parts) (m ∷ past) mid (goes_map (Leaves (BeginsWith rests.bytes)) (LeavesTables id last parts)
+      (λ n begins image h. tables_begin id last.flushed rests.bytes image last.tables parts rests.tables (begins image h)) (m ∷ past) mid (grows rests.bytes rests.on_disk).kept)
+
+  newest : (P : Moment → Type 0) (old mid : List Moment) → IfKnown old P → Passes P old mid → IfKnown mid P
+  newest P old mid before ([], is, each) = subst (λ (ms : List Moment). IfKnown ms P) (sym is) before
+  newest P old mid before (m ∷ more, is, each) = subst (λ (ms : List Moment). IfKnown ms P) (sym is) each.0
+
+  pub left_grown : (old mid : List Moment) → Grows old mid → IfKnown old (RestsWith id last parts) → IfKnown mid (LeavesTables id last parts)
+  left_grown old mid grows rests = newest (LeavesTables id last parts) old mid (left_of id last parts old rests) (passes_grown old mid grows rests)
+
+  pub fronts_grown : (old mid : List Moment) → Grows old mid → IfKnown old (RestsWith id last parts) → KeepsFronts old mid
+  fronts_grown [] mid grows rests = (grows [] tt).fronts
+  fronts_grown (m ∷ past) mid grows rests = (grows rests.bytes rests.on_disk).fronts
+
+  unknown_still : (P : Moment → Type 0) (mid : List Moment) → Grows [] mid → IfKnown mid P
+  unknown_still P mid grows = subst (λ (ms : List Moment). IfKnown ms P) (sym (grows [] tt).kept) tt
+
+  pub rests_grown : (bytes : List ℕ) (old mid : List Moment) → Grows old mid → SyncsBehind old mid bytes → IfKnown old (RestsWith id last parts) → IfKnown mid (RestsWith id last parts)
+  rests_grown bytes [] mid grows syncs rests = unknown_still (RestsWith id last parts) mid grows
+  rests_grown bytes (m ∷ past) mid grows syncs rests =
+      known_map (λ n. n ≡ synced (rests.bytes ++ bytes)) (RestsWith id last parts)
+      (λ n is. record { bytes = rests.bytes ++ bytes; on_disk = is; tables = tables_in_front id last.flushed rests.bytes bytes last.tables parts rests.tables }) mid (syncs rests.bytes rests.on_disk)
+
+  -- and the new one is there too
+  pub table_rests : (versions : List Version) (flushed place : ℕ) (others : List (ℕ × ℕ)) (after : List (List Version) → List (List Version)) (old mid : List Moment) → Grows old mid → IsBehind old place → SyncsBehind old mid (table_bytes id versions) → IsTable id flushed versions → Remain last flushed others after
+      → IfKnown old (RestsWith id last parts) → IfKnown mid (RestsWith id (record { flushed = flushed; tables = placed id versions place ∷ others }) (versions ∷ after parts))
+  table_rests versions flushed place others after [] mid grows behind syncs is remain rests = unknown_still (RestsWith id (record { flushed = flushed; tables = placed id versions place ∷ others }) (versions ∷ after parts)) mid grows
+  table_rests versions flushed place others after (m ∷ past) mid grows behind syncs is remain rests =
+      known_map (λ n. n ≡ synced (rests.bytes ++ table_bytes id versions)) (RestsWith id (record { flushed = flushed; tables = placed id versions place ∷ others }) (versions ∷ after parts))
+      (λ n on_disk. record {
+        bytes = rests.bytes ++ table_bytes id versions;
+        on_disk = on_disk;
+        tables = (table_behind id flushed rests.bytes place versions (behind rests.bytes rests.on_disk) is, tables_in_front id flushed rests.bytes (table_bytes id versions) others (after parts) (remain id rests.bytes parts rests.tables));
+      }) mid (syncs rests.bytes rests.on_disk)
+
+-- ---- the manifest alone
+
+abbrev pub PassesEdits : ManifestState → ManifestState → Edit → Type 0
+PassesEdits old new edit = (edits : List Edit) → StoresEdits old edits no_edit → old.log.closed ≡ false → Passes (Leaves (IsManifestOrNext old.log.id edits edit)) old.log.moments new.log.moments
+
+abbrev pub LosesNoEdit : ManifestState → ManifestState → Type 0
+LosesNoEdit old new = (edits : List Edit) (next : Edit) → StoresEdits old edits next → LosesNoRecord MAGIC old.log.moments new.log.moments
+
+module _ (old new : ManifestState) (moments : List Moment) (faults : ℕ) (halted : Bool) (edit : Edit) (passed : PassesEdits old new edit) (durable : LosesNoEdit old new) (same : new.log.id ≡ old.log.id) (later : old.log.faults ≤ new.log.faults) where
+  pub edit_installed : halted ≡ false → ((edits : List Edit) → StoresEdits old edits no_edit → StoresEdits new (edits ++ edit ∷ []) no_edit) → new.edit ≡ edit
+      → InstallsEdit {T = Unit {0}} (record { manifest = old; moments = moments; faults = faults; halted = halted }) (record { manifest = new; moments = moments; faults = faults; halted = halted }) edit (Ok tt)
+  edit_installed running stores last = record { moments = refl; faults = refl; passed = passed; durable = durable; id = same; later = later; installed = (running, last, stores); refused = tt }
+
+  pub edit_failed : InstallRefused old new edit install.DiskFault
+      → InstallsEdit {T = Unit {0}} (record { manifest = old; moments = moments; faults = faults; halted = halted }) (record { manifest = new; moments = moments; faults = faults; halted = true }) edit (Err Fault)
+  edit_failed refused = record {
+    moments = refl;
+    faults = refl;
+    passed = passed;
+    durable = durable;
+    id = same;
+    later = later;
+    installed = tt;
+    refused = (refl, refused.1, ap (λ (m : ManifestState). m.edit) refused.2, refused.3);
+  }
+
+-- ---- an edit whose tables are there
+
+-- The set before, and the tables' device when the manifest is called: the tables of the old edit and of the next one are
+-- there for good.
+pub record Ready (old : TableSetState) (mid : List Moment) (next : Edit) (after : List (List Version) → List (List Version)) : Type 0 where
+  pub was_running : old.halted ≡ false
+  pub last_rests : (parts : List (List Version)) → IfKnown old.moments (RestsWith old.manifest.log.id old.manifest.edit parts) → IfKnown mid (RestsWith old.manifest.log.id old.manifest.edit parts)
+  pub next_rests : (parts : List (List Version)) → IfKnown old.moments (RestsWith old.manifest.log.id old.manifest.edit parts) → IfKnown mid (RestsWith old.manifest.log.id next (after parts))
+
+module _ (old new : TableSetState) (mid : List Moment) (faults : ℕ) (next : Edit) (after : List (List Version) → List (List Version)) (ready : Ready old mid next after) where
+  abbrev id : ℕ
+  id = old.manifest.log.id
+
+  pub ready_installed : {T : Type 0} (x : T) → InstallsEdit {T = Unit {0}} (record old { moments = mid; faults = faults }) new next (Ok tt) → Installs {T = T} old new next after (Ok x)
+  ready_installed x installs = record {
+    passed = installs.passed;
+    installed = record {
+      was_running = ready.was_running;
+      running = installs.installed.0;
+      last = installs.installed.1;
+      stores = λ edits parts stores.
+          let rests : IfKnown mid (RestsWith id next (after parts)) = ready.next_rests parts (stores.rests ready.was_running) in record {
+            manifest = installs.installed.2 edits stores.manifest;
+            rests = λ _. rw (installs.moments, installs.id, installs.installed.1) rests;
+            left = rw (installs.moments, installs.id, installs.installed.1) (left_of id next (after parts) mid rests);
+            left_next = none_left new.manifest.log.id new.moments;
+          };
+    };
+    refused = tt;
+  }
+
+  refused : (why : TableSetError) → InstallsEdit {T = Unit {0}} (record old { moments = mid; faults = faults }) new next (Err why) → Refused old new next after why
+  refused Memory installs = (
+    rw installs.refused refl,
+    λ edits parts stores.
+        let rests : IfKnown mid (RestsWith id old.manifest.edit parts) = ready.last_rests parts (stores.rests ready.was_running) in
+        rw installs.refused (record { manifest = stores.manifest; rests = λ _. rests; left = left_of id old.manifest.edit parts mid rests; left_next = none_left id mid }),
+  )
+  refused Fault installs = (
+    ready.was_running,
+    installs.refused.0,
+    inr (record {
+      rose = installs.refused.1;
+      last = installs.refused.2;
+      stores = λ edits parts stores. record {
+        manifest = installs.refused.3 edits stores.manifest;
+        rests = λ running. absurd cc;
+        left = rw (installs.moments, installs.id, installs.refused.2) (left_of id old.manifest.edit parts mid (ready.last_rests parts (stores.rests ready.was_running)));
+        left_next = rw (installs.moments, installs.id) (left_of id next (after parts) mid (ready.next_rests parts (stores.rests ready.was_running)));
+      };
+    }),
+  )
+  refused Halted installs = absurd installs.refused
+
+  pub ready_refused : {T : Type 0} (why : TableSetError) → InstallsEdit {T = Unit {0}} (record old { moments = mid; faults = faults }) new next (Err why) → Installs {T = T} old new next after (Err why)
+  ready_refused why installs = record { passed = installs.passed; installed = tt; refused = refused why installs }
+
+-- ---- the exits of the calls
+
+pub table_ready : (old : TableSetState) (mid : List Moment) (versions : List Version) (flushed place : ℕ) (others : List (ℕ × ℕ)) → old.halted ≡ false → Grows old.moments mid → IsBehind old.moments place → SyncsBehind old.moments mid (table_bytes old.manifest.log.id versions) → IsTable old.manifest.log.id flushed versions
+    → (after : List (List Version) → List (List Version)) → Remain old.manifest.edit flushed others after → Ready old mid (record { flushed = flushed; tables = placed old.manifest.log.id versions place ∷ others }) (λ parts. versions ∷ after parts)
+table_ready old mid versions flushed place others running grows behind syncs is after remain = record {
+  was_running = running;
+  last_rests = λ parts rests. rests_grown old.manifest.log.id old.manifest.edit parts (table_bytes old.manifest.log.id versions) old.moments mid grows syncs rests;
+  next_rests = λ parts rests. table_rests old.manifest.log.id old.manifest.edit parts versions flushed place others after old.moments mid grows behind syncs is remain rests;
+}
+
+-- an edit without tables
+pub none_ready : (old : TableSetState) (flushed : ℕ) → old.halted ≡ false → Ready old old.moments (record { flushed = flushed; tables = [] }) (λ _. [])
+none_ready old flushed running = record {
+  was_running = running;
+  last_rests = λ parts rests. rests;
+  next_rests = λ parts rests. known_map (RestsWith old.manifest.log.id old.manifest.edit parts) (RestsWith old.manifest.log.id (record { flushed = flushed; tables = [] }) []) (λ m r. record { bytes = r.bytes; on_disk = r.on_disk; tables = tt }) old.moments rests;
+}
+
+pub tables_failed : {T : Type 0} (old : TableSetState) (mid : List Moment) (faults : ℕ) (next : Edit) (after : List (List Version) → List (List Version)) → old.halted ≡ false → Grows old.moments mid → Rose old.faults faults
+    → Installs {T = T} old (record old { moments = mid; faults = faults; halted = true }) next after (Err Fault)
+tables_failed old mid faults next after running grows rose = record {
+  passed = λ edits stores is. ([], refl, tt);
+  installed = tt;
+  refused = (
+    running,
+    refl,
+    inl (record {
+      rose = rose;
+      manifest = refl;
+      stores = λ edits parts stores. record {
+        manifest = stores.manifest;
+        rests = λ is. absurd cc;
+        left = left_grown old.manifest.log.id old.manifest.edit parts old.moments mid grows (stores.rests running);
+        left_next = none_left old.manifest.log.id mid;
+      };
+    }),
+  );
+}
+
+pub keeps_all : (old new : TableSetState) → Grows old.moments new.moments → old.halted ≡ false → LosesNoEdit old.manifest new.manifest → new.manifest.log.id ≡ old.manifest.log.id → old.faults ≤ new.faults → old.manifest.log.faults ≤ new.manifest.log.faults → Keeps old new
+keeps_all old new grows running durable same later manifest_later = record {
+  tables = λ edits next parts next_parts stores. passes_grown old.manifest.log.id old.manifest.edit parts old.moments new.moments grows (stores.rests running);
+  fronts = λ edits next parts next_parts stores. fronts_grown old.manifest.log.id old.manifest.edit parts old.moments new.moments grows (stores.rests running);
+  durable = durable;
+  id = same;
+  later = later;
+  manifest_later = manifest_later;
+}
+
+-- a device that is not called loses nothing
+pub loses_none : (moments : List Moment) → LosesNoRecord MAGIC moments moments
+loses_none moments log records = ([], refl, tt)
+
+pub keeps_installed : {T : Type 0} (old new : TableSetState) (mid : List Moment) (faults : ℕ) (edit : Edit) (result : Result T TableSetError) → Grows old.moments mid → old.halted ≡ false → old.faults ≤ faults → InstallsEdit (record old { moments = mid; faults = faults }) new edit result → Keeps old new
+keeps_installed old new mid faults edit result grows running later installs =
+    keeps_all old new (rw installs.moments grows) running installs.durable installs.id (rw installs.faults later) installs.later
+
+-- ---- the set as it is made
+
+-- the last edit's numbers fit
+last_fits : (edits : List Edit) → Each IsEdit edits → ((last_edit edits).flushed < 2 ^ 32) × (length (last_edit edits).tables ≤ (last_edit edits).flushed)
+last_fits [] each = (omega arith, omega arith)
+last_fits (edit ∷ []) each = (each.0.flushed, each.0.count)
+last_fits (edit ∷ second ∷ others) each = last_fits (second ∷ others) each.1
+
+pub ready_of : (manifest : ManifestState) (edits : List Edit) → StoresEdits manifest edits no_edit → manifest.log.closed ≡ false → IsReady manifest false
+ready_of manifest edits stores running =
+    let fits = last_fits edits stores.spelled.are in
+    record { running = λ _. running; fits = rw stores.last fits.0; count = rw stores.last fits.1 }
+
+pub stores_new : (set : TableSetState) (edits : List Edit) (parts : List (List Version)) → StoresEdits set.manifest edits no_edit → IfKnown set.moments (RestsWith set.manifest.log.id set.manifest.edit parts) → StoresTables set edits no_edit parts []
+stores_new set edits parts stores rests = record {
+  manifest = stores;
+  rests = λ _. rests;
+  left = left_of set.manifest.log.id set.manifest.edit parts set.moments rests;
+  left_next = none_left set.manifest.log.id set.moments;
+}

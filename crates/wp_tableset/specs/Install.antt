@@ -1,0 +1,57 @@
+-- The parts of a call: a table is written, and then an edit is installed.
+use Rattle.std.specs.Prelude.{◌≡◌, ◌≤◌, ◌<◌, ◌^◌, ℕ, Bool, true, false, List, [], ◌∷◌, ◌++◌, length, Result, OnOk, IfErr}
+use Rattle.wp_model.specs.declared.version.Version.{Version}
+use Rattle.wp_outside.specs.Disk.{Passes}
+use Rattle.wp_outside.specs.Faults.{Rose}
+use Rattle.wp_gatelog.specs.Durability.{LosesNoRecord}
+use Rattle.wp_gatelog.specs.Moments.{Leaves}
+use Rattle.wp_manifest.specs.Edit.{Edit, no_edit}
+use Rattle.wp_manifest.specs.Manifest.{ManifestState, StoresEdits}
+use Rattle.wp_manifest.specs.Spelling.{MAGIC, IsManifestOrNext}
+use Rattle.wp_table.specs.File.{HasTables}
+use Rattle.wp_tableset.specs.Changes.{Installs, placed}
+use Rattle.wp_tableset.specs.Set.{TableSetState}
+use Rattle.wp_tableset.specs.declared.error.TableSetError.{TableSetError}
+use Rattle.wp_tableset.specs.declared.error.TableSetError.TheVariants.{Memory, Fault, Halted}
+
+-- a set that is not halted may install a further edit, and its last edit has numbers that fit
+pub record IsReady (manifest : ManifestState) (halted : Bool) : Type 0 where
+  pub running : halted ≡ false → manifest.log.closed ≡ false
+  pub fits : manifest.edit.flushed < 2 ^ 32
+  pub count : length manifest.edit.tables ≤ manifest.edit.flushed
+
+-- ---- the edit
+
+-- why the edit was not installed: for want of memory, or the manifest's device failed
+abbrev pub InstallStopped : TableSetState → TableSetState → Edit → TableSetError → Type 0
+InstallStopped old new edit Memory = new ≡ old
+InstallStopped old new edit Fault =
+    (new.halted ≡ true) × Rose old.manifest.log.faults new.manifest.log.faults × (new.manifest.edit ≡ old.manifest.edit)
+    × ((edits : List Edit) → StoresEdits old.manifest edits no_edit → StoresEdits new.manifest edits edit)
+InstallStopped old new edit Halted = ⊥
+
+-- the manifest alone is called
+pub record InstallsEdit {T : Type 0} (old new : TableSetState) (edit : Edit) (result : Result T TableSetError) : Type 0 where
+  pub moments : new.moments ≡ old.moments
+  pub faults : new.faults ≡ old.faults
+  pub passed : (edits : List Edit) → StoresEdits old.manifest edits no_edit → old.manifest.log.closed ≡ false
+      → Passes (Leaves (IsManifestOrNext old.manifest.log.id edits edit)) old.manifest.log.moments new.manifest.log.moments
+  pub durable : (edits : List Edit) (next : Edit) → StoresEdits old.manifest edits next
+      → LosesNoRecord MAGIC old.manifest.log.moments new.manifest.log.moments
+  pub id : new.manifest.log.id ≡ old.manifest.log.id
+  pub later : old.manifest.log.faults ≤ new.manifest.log.faults
+  pub installed : OnOk result ((new.halted ≡ false) × (new.manifest.edit ≡ edit)
+      × ((edits : List Edit) → StoresEdits old.manifest edits no_edit → StoresEdits new.manifest (edits ++ edit ∷ []) no_edit))
+  pub refused : IfErr result (InstallStopped old new edit)
+
+-- ---- the table
+
+-- wherever the old edit's tables are, the other ones of the next edit are, too
+abbrev pub Remain : Edit → ℕ → List (ℕ × ℕ) → (List (List Version) → List (List Version)) → Type 0
+Remain old flushed others after = (id : ℕ) (bytes : List ℕ) (parts : List (List Version))
+    → HasTables id old.flushed bytes old.tables parts → HasTables id flushed bytes others (after parts)
+
+-- an edit is to be installed that names a table of the versions, and behind it the others
+abbrev pub Puts : {T : Type 0} → TableSetState → TableSetState → List Version → ℕ → List (ℕ × ℕ) → Result T TableSetError → Type 0
+Puts old new versions flushed others result = (place : ℕ) × ((after : List (List Version) → List (List Version)) → Remain old.manifest.edit flushed others after
+    → Installs old new (record { flushed = flushed; tables = placed old.manifest.log.id versions place ∷ others }) (λ parts. versions ∷ after parts) result)

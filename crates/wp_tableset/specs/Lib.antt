@@ -1,0 +1,4 @@
+pub mod Device
+pub mod Set
+pub mod Changes
+pub mod Install

@@ -1,0 +1,210 @@
+ghost use Rattle.std.specs.Prelude.{◌≡◌, ◌≤◌, ◌<◌, ◌^◌, ℕ, true, false, [], ◌∷◌, ◌++◌, List, length, vec_capacity, IfOk, IfErr, OnOk};
+ghost use Rattle.std.specs.Arc.{arc_value};
+ghost use Rattle.std.specs.List.{list_all};
+ghost use Rattle.std.specs.Option.{option_map};
+ghost use Rattle.wp_model.specs.declared.version.Version.{Version};
+ghost use Rattle.wp_outside.specs.Disk.{IfKnown};
+ghost use Rattle.wp_manifest.specs.Edit.{Edit, no_edit};
+ghost use Rattle.wp_manifest.specs.Manifest.{StoresEdits};
+ghost use Rattle.wp_table.specs.Table.{is_flushed, is_numbered};
+ghost use Rattle.wp_tableset.specs.Changes.{Installs, Keeps, placed, flushed_edit, compacted_edit, compacted_parts, one_part};
+ghost use Rattle.wp_tableset.specs.Install.{InstallsEdit, Puts};
+ghost use Rattle.wp_tableset.specs.Set.{RestsWith, StoresTables};
+
+use crate::device::write_behind;
+use crate::error::TableSetError;
+use crate::prepare::prepare;
+use std::alloc::Global;
+use std::marker::Model;
+use std::sync::Arc;
+use wp_manifest::{Edit, InstallError, Manifest};
+use wp_model::{Seq, Versions};
+use wp_outside::{Disk, Failed};
+use wp_table::Table;
+
+/// The tables of a store: its manifest, and the device of its table files. Clauses see the manifest, the device's moments
+/// and faults, and whether a device has failed.
+#[derive(Drop)]
+pub struct TableSet<D: Disk> {
+    alloc: Global,
+    manifest: Manifest<D>,
+    tables: D,
+    halted: bool,
+}
+
+/// The two devices of a set.
+#[derive(Drop)]
+pub struct SetDisks<D> {
+    pub manifest: D,
+    pub tables: D,
+}
+
+impl<D: Disk> Model for TableSet<D> {
+    ghost use Rattle.wp_tableset.specs.Set.{TableSetState};
+    ghost use Rattle.wp_tableset.specs.Install.{IsReady};
+
+    ghost Value = { TableSetState };
+
+    ghost view = { λ s. record { manifest = s.manifest; moments = D.moments s.tables; faults = D.faults s.tables; halted = s.halted } };
+
+    ghost invariant = { λ s. IsReady s.manifest s.halted };
+}
+
+/// The edit that names the table and, behind it, the others, in the memory that these have.
+fn edit_of(flushed: Seq, table: (u64, u64), mut others: Vec<(u64, u64)>) -> Edit
+    requires { length others.items < vec_capacity others }
+    ensures { result ≡ record { flushed = flushed; tables = table ∷ others.items } }
+{
+    others.insert(0, table).unwrap();
+    Edit {
+        flushed,
+        tables: others,
+    }
+}
+
+impl<D: Disk> TableSet<D> {
+    /// The set that an opening gives: the manifest that it opened, and the tables' device, which it synced.
+    pub fn new(alloc: Global, manifest: Manifest<D>, tables: D) -> TableSet<D>
+        requires stores { (edits : List Edit) × StoresEdits manifest edits no_edit }
+        requires running { manifest.log.closed ≡ false }
+        ensures set { result ≡ record { manifest = manifest; moments = D.moments tables; faults = D.faults tables; halted = false } }
+        ensures stores { (edits : List Edit) (parts : List (List Version)) → StoresEdits manifest edits no_edit
+            → IfKnown (D.moments tables) (RestsWith manifest.log.id manifest.edit parts)
+            → StoresTables result edits no_edit parts [] }
+    {
+        TableSet {
+            alloc,
+            manifest,
+            tables,
+            halted: false,
+        }
+    }
+
+    /// The edit that was installed last.
+    pub fn edit(&self) -> &Edit
+        ensures edit { result.now ≡ self.now.manifest.edit }
+        ensures count { length self.now.manifest.edit.tables ≤ self.now.manifest.edit.flushed }
+        ensures fits { self.now.manifest.edit.flushed < 2 ^ 32 }
+    {
+        self.manifest.edit()
+    }
+
+    /// Whether a device has failed.
+    pub fn is_halted(&self) -> bool
+        ensures halted { result ≡ self.now.halted }
+        ensures running { self.now.halted ≡ false → self.now.manifest.log.closed ≡ false }
+    {
+        self.halted
+    }
+
+    /// Adds a table of these versions, the newest one. The entries up to `flushed` are in the tables then, more than before.
+    pub fn flush(&mut self, versions: &Versions, flushed: Seq) -> Result<Arc<Table>, TableSetError>
+        requires some { 1 ≤ length versions.now }
+        requires numbered { list_all is_numbered versions.now ≡ true }
+        requires flushed { list_all (is_flushed flushed) versions.now ≡ true }
+        requires later { self.old.manifest.edit.flushed < flushed }
+        requires fits { flushed < 2 ^ 32 }
+        ensures table { IfOk result (λ table. arc_value table ≡ versions.now) }
+        ensures installs { (place : ℕ) × Installs self.old self.new (flushed_edit self.old versions.now flushed place) (λ parts. versions.now ∷ parts) result }
+        ensures keeps { Keeps self.old self.new }
+    {
+        if self.halted {
+            return Err(TableSetError::Halted);
+        }
+        let others = &self.manifest.edit().tables;
+        let mut places = Vec::with_capacity(self.alloc, others.len() + 1)?;
+        places.extend_from_slice(others)?;
+        self.put(versions, flushed, places)
+    }
+
+    /// Puts one table of these versions in place of all tables; without a version no table is left, and the tables'
+    /// device is not called.
+    pub fn compact(&mut self, versions: &Versions) -> Result<Option<Arc<Table>>, TableSetError>
+        requires numbered { list_all is_numbered versions.now ≡ true }
+        requires flushed { list_all (is_flushed self.old.manifest.edit.flushed) versions.now ≡ true }
+        ensures table { IfOk result (λ table. option_map arc_value table ≡ one_part versions.now) }
+        ensures installs { (place : ℕ) × Installs self.old self.new (compacted_edit self.old versions.now place) (λ _. compacted_parts versions.now) result }
+        ensures keeps { Keeps self.old self.new }
+        ensures uncalled { versions.now ≡ [] → (self.new.moments ≡ self.old.moments) × (self.new.faults ≡ self.old.faults) }
+    {
+        if self.halted {
+            return Err(TableSetError::Halted);
+        }
+        let flushed = self.manifest.edit().flushed;
+        if versions.as_slice().is_empty() {
+            let tables = Vec::new(self.alloc);
+            self.install(Edit { flushed, tables })?;
+            return Ok(None);
+        }
+        let places = Vec::with_capacity(self.alloc, 1)?;
+        let table = self.put(versions, flushed, places)?;
+        Ok(Some(table))
+    }
+
+    /// Writes a table of these versions, and then installs an edit that names it and, behind it, the other places.
+    fn put(
+        &mut self,
+        versions: &Versions,
+        flushed: Seq,
+        places: Vec<(u64, u64)>,
+    ) -> Result<Arc<Table>, TableSetError>
+        requires running { self.old.halted ≡ false }
+        requires some { 1 ≤ length versions.now }
+        requires numbered { list_all is_numbered versions.now ≡ true }
+        requires flushed { list_all (is_flushed flushed) versions.now ≡ true }
+        requires fits { flushed < 2 ^ 32 }
+        requires count { length places.items < flushed }
+        requires room { length places.items < vec_capacity places }
+        ensures table { IfOk result (λ table. arc_value table ≡ versions.now) }
+        ensures puts { Puts self.old self.new versions.now flushed places.items result }
+        ensures keeps { Keeps self.old self.new }
+    {
+        let (table, bytes) = prepare(self.alloc, self.manifest.id(), versions, flushed)?;
+        let place = match write_behind(&mut self.tables, &bytes) {
+            Ok(place) => place,
+            Err(Failed) => {
+                self.halted = true;
+                return Err(TableSetError::Fault);
+            }
+        };
+        self.install(edit_of(flushed, (place, bytes.len() as u64), places))?;
+        Ok(table)
+    }
+
+    /// Makes the edit the last one. Its tables are there for good before.
+    fn install(&mut self, edit: Edit) -> Result<(), TableSetError>
+        requires running { self.old.halted ≡ false }
+        requires fits { edit.flushed < 2 ^ 32 }
+        requires count { length edit.tables ≤ edit.flushed }
+        ensures { InstallsEdit self.old self.new edit result }
+    {
+        match self.manifest.install(edit) {
+            Ok(()) => Ok(()),
+            Err(InstallError::Memory) => Err(TableSetError::Memory),
+            Err(InstallError::DiskFault) => {
+                self.halted = true;
+                Err(TableSetError::Fault)
+            }
+            Err(InstallError::Closed(_)) => unreachable!(),
+        }
+    }
+
+    /// Gives the devices back.
+    pub fn into_disks(self) -> SetDisks<D>
+        ensures manifest { D.moments result.manifest ≡ self.manifest.log.moments }
+        ensures manifest_faults { D.faults result.manifest ≡ self.manifest.log.faults }
+        ensures tables { D.moments result.tables ≡ self.moments }
+        ensures tables_faults { D.faults result.tables ≡ self.faults }
+        ensures running { self.halted ≡ false → self.manifest.log.closed ≡ false }
+    {
+        let TableSet {
+            manifest,
+            tables,
+            ..
+        } = self;
+        SetDisks {
+            manifest: manifest.into_disk(),
+            tables,
+        }
+    }
+}
