@@ -214,8 +214,8 @@ module _ (committed : ℕ → ℕ → Bool) (history : List Entry) (newer versio
         let there = stays_uncommitted key p value here open_ in
         remains_over key p p value value there (omega arith) there (unsettled key p value open_)
 
-    undo_stays : (key : List ℕ) (value : Option (List ℕ)) (last : (p : ℕ) × UndoesLast history key p) (from : ℕ) → IsCovered (newer ++ versions) history snapshots from → version_at versions key (length history) ≡ Some value → version_at retained key (length history) ≡ Some value
-    undo_stays key value last from covered here =
+    undo_stays : (key : List ℕ) (value : Option (List ℕ)) (last : (p : ℕ) × UndoesLast history key p) (numbers : List ℕ) (from : ℕ) → IsCovered (newer ++ versions) history numbers from → version_at versions key (length history) ≡ Some value → version_at retained key (length history) ≡ Some value
+    undo_stays key value last numbers from covered here =
         remains_over key (length history) last.0 value last.1.value stays_ (omega (arith, last.1.below)) prepare (unsettled key last.0 last.1.value (undecided_unsettled key last.0 last.1.value last.1.undecided prepare_here))
       where
         prepare_here : version_at versions key last.0 ≡ Some last.1.value
@@ -238,11 +238,11 @@ module _ (committed : ℕ → ℕ → Bool) (history : List Entry) (newer versio
         stays_ : version_at stayed key (length history) ≡ Some value
         stays_ = stays_from key (length history) floor value (omega arith) here past
 
-    pub covers : (from : ℕ) → IsLegal history → from ≤ floor → IsCovered (newer ++ versions) history snapshots from → IsCovered (newer ++ retained) history snapshots floor
-    covers from legal le covered = record {
+    pub covers : (numbers : List ℕ) (from : ℕ) → IsLegal history → from ≤ floor → ((n : ℕ) → is_among numbers n ≡ true → is_among snapshots n ≡ true) → IsCovered (newer ++ versions) history numbers from → IsCovered (newer ++ retained) history numbers floor
+    covers numbers from legal le among covered = record {
       part = λ key p value e. covered.part key p value (all_before go key p value e);
       undecided = λ key p value undecided there. all_after key p value (covered.undecided key p value undecided there) (λ _ here. undecided_stays key p value undecided here);
-      undone = λ key p value undone there. all_after key (length history) value (covered.undone key p value undone there) (λ _ here. undo_stays key value (p, undoes_last history key p value legal undone there) from covered here);
-      listed = λ key n listed. gives_listed key n listed (covered.listed key n listed);
+      undone = λ key p value undone there. all_after key (length history) value (covered.undone key p value undone there) (λ _ here. undo_stays key value (p, undoes_last history key p value legal undone there) numbers from covered here);
+      listed = λ key n listed. gives_listed key n (among n listed) (covered.listed key n listed);
       later = λ key n above within. gives_later key n above (covered.later key n (omega arith) within);
     }

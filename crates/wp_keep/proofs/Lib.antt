@@ -5,4 +5,4 @@ mod Noted
 mod Ends
 mod Lookups
 mod Undone
-mod Covers
+pub mod Covers

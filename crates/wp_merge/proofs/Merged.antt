@@ -92,7 +92,7 @@ module _ (key : List ℕ) (n : ℕ) where
   missing y [] before here = refl
   missing y (x ∷ xs) before here = rw (apart y x before.0 here) (missing y xs before.1 here)
 
-  same_place : (x y : Version) → version_cmp x y ≡ Equal → is_here x ≡ is_here y
+  pub same_place : (x y : Version) → version_cmp x y ≡ Equal → is_here x ≡ is_here y
   same_place x y same =
       let both = both_equal (key_cmp x.key y.key) (nat_cmp y.number x.number) same in
       let keys = exact_bytes x.key y.key both.0 in

@@ -1,5 +1,6 @@
 -- Sorted lists of versions, merged.
 use Rattle.std.specs.Prelude.{◌≡◌, ℕ, List, [], ◌∷◌, Option, None}
+use Rattle.std.specs.List.{flat_map}
 use Rattle.std.specs.Option.{option_or}
 use Rattle.std.specs.declared.cmp.Ordering.{Ordering}
 use Rattle.std.specs.declared.cmp.Ordering.TheVariants.{Less, Equal, Greater}
@@ -15,6 +16,10 @@ first_at (source ∷ sources) key n = option_or (version_at source key n) (first
 pub record AreMerged (sources : List (List Version)) (all : List Version) : Type 0 where
   pub in_order : AreInOrder all
   pub each : (key : List ℕ) (n : ℕ) → version_at all key n ≡ first_at sources key n
+
+-- the versions of all lists, one list after the other
+abbrev pub joined : List (List Version) → List Version
+joined sources = flat_map (λ source. source) sources
 
 -- ---- two lists
 

@@ -5,8 +5,10 @@
 //! on, each version moved and none copied. All memory is taken at the making, and the iteration takes none.
 #![tactic(auto)]
 
+pub use laws::merged_lists_are_sorted;
 pub use merge::Merge;
 
+mod laws;
 mod merge;
 #[cfg(test)]
 mod tests;
