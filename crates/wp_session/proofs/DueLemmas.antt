@@ -1,7 +1,7 @@
 -- Replies that are due at moments of the history, one after another, are a session.
-use Rattle.std.proofs.Common.{◌≡◌, ℕ, zero, suc, ◌+◌, ◌-◌, ◌≤◌, ◌<◌, ◌⊎◌, true, false, List, [], ◌∷◌, ◌++◌, length, take, drop, Option, Some, None, refl, sym, ap, ◌∙◌, subst, append_assoc, length-append, arith, inl, inr}
-use Rattle.std.specs.Prelude.{IfSome, slice_get, is_some, nat_le, nat_lt, unwrap_or}
-use Rattle.std.proofs.lemmas.Bool.{cases_Bool, eq-eqb, ltb-true}
+use Rattle.std.proofs.Common.{◌≡◌, ℕ, ◌+◌, ◌-◌, ◌≤◌, ◌⊎◌, true, List, [], ◌∷◌, ◌++◌, length, take, drop, Option, Some, None, refl, sym, ap, ◌∙◌, subst, append_assoc, length-append, arith, inl, inr}
+use Rattle.std.specs.Prelude.{IfSome, is_some, nat_le, unwrap_or}
+use Rattle.std.proofs.lemmas.Bool.{cases_Bool}
 use Rattle.std.proofs.lemmas.Slice.Eq.{bytes_eq-Decides}
 use Rattle.std.proofs.lemmas.List.{take-append-drop}
 use Rattle.wp_model.specs.declared.change.Change.{Change}
@@ -9,7 +9,7 @@ use Rattle.wp_model.specs.declared.change.Change.TheVariants as change
 use Rattle.wp_model.specs.declared.entry.Entry.{Entry}
 use Rattle.wp_model.specs.declared.entry.Entry.TheVariants as entry
 use Rattle.wp_model.specs.Batch.{key_of, change_to}
-use Rattle.wp_model.specs.History.{entry_at, name_at, batch_at, named, holder_of, newest, value_at}
+use Rattle.wp_model.specs.History.{entry_at, name_at, batch_at, named, holder_of, value_at}
 use Rattle.wp_model.specs.Legal.{prior}
 use Rattle.wp_text.specs.declared.script.Command.{Command}
 use Rattle.wp_text.specs.declared.script.Command.TheVariants as command
@@ -22,149 +22,22 @@ use Rattle.wp_session.specs.declared.plan.Plan.{Plan}
 use Rattle.wp_session.specs.declared.plan.Plan.TheVariants.{Say, Log, RollBack}
 use Rattle.wp_session.specs.Client.{Client, AreWithin, number_of, own_batch, has_no_room}
 use Rattle.wp_session.specs.After.{with_staged, labels_after}
-use Rattle.wp_session.specs.Kind.{is_logged, fresh_in, last_after}
-use Rattle.wp_session.specs.Replies.{one_at_a_time, refusal_of, refuses_change, IsFresh, IsLoggedAt, WasUndecided, IsBusy, TxnIsOpen, TxnIsWithin, OwnSays, needed, unless_labelled, unless_idle, unless_open, if_idle, unless_prepared, PreparesAt, CommitsAt, RollsBackAt, Row, UnlessRefused, Allows}
-use Rattle.wp_session.specs.Plan.{plan, asked_of, next, busy_or, change_plan, read_reply, get_reply, get_at_reply, free_reply, begin_reply, begin_plan, prepare_plan, commit_plan, rollback_plan, leave_plan, take_reply, take_plan}
-use Rattle.wp_session.specs.Due.{Store, logged, reply_to, due, IsReply, logged_entries, taken, client_after}
-use Rattle.wp_session.specs.Moments.{store_at, IsDueFrom, AreDueFrom}
+use Rattle.wp_session.specs.Kind.{is_logged, fresh_in, last_after, tables_after}
+use Rattle.wp_session.specs.Replies.{Evidence, refusal_of, refuses_change, IsLoggedAt, WasUndecided, IsBusy, TxnIsOpen, TxnIsWithin, OwnSays, needed, unless_labelled, unless_idle, unless_open, if_idle, unless_prepared, PreparesAt, CommitsAt, RollsBackAt, UnlessRefused}
+use Rattle.wp_session.specs.Plan.{plan, next, busy_or, change_plan, read_reply, get_reply, get_at_reply, free_reply, begin_reply, begin_plan, prepare_plan, commit_plan, rollback_plan, leave_plan, take_reply, take_plan}
+use Rattle.wp_session.specs.Due.{reply_to, due, taken, client_after}
+use Rattle.wp_session.specs.Moments.{AreDueFrom}
 use Rattle.wp_session.specs.Session.{IsSession}
 use Rattle.wp_model.proofs.Found.{found_holder, found_named}
 use Rattle.wp_model.proofs.Entries.{undecided_within, batch_at_old}
 use Rattle.wp_session.proofs.SaidLemmas.{within_same, within_filter, within_more, number_within}
-use Rattle.wp_session.proofs.Rows.{slice_get_more, snapshots_after}
-
--- ---- the history at a moment
-
-size : (h : List Entry) (n : ℕ) → n ≤ length h → length (take n h) ≡ n
-size [] zero le = refl
-size [] (suc n) le = absurd (omega arith)
-size (e ∷ h) zero le = refl
-size (e ∷ h) (suc n) le = let rest = size h n (omega arith) in omega (arith, rest)
-
-entry_in_front : (h : List Entry) (m n : ℕ) (e : Entry) → entry_at (take m h) n ≡ Some e → entry_at h n ≡ Some e
-entry_in_front h m zero e is = absurd cc
-entry_in_front h m (suc n) e is = subst (λ (xs : List Entry). slice_get xs n ≡ Some e) (take-append-drop m h) (slice_get_more (take m h) (drop m h) n e is)
-
-next_entry : (front more : List Entry) (e : Entry) (n : ℕ) → n ≡ length front + 1 → entry_at (front ++ e ∷ more) n ≡ Some e
-next_entry front more e zero is = absurd (omega (arith, is))
-next_entry [] more e (suc zero) is = refl
-next_entry [] more e (suc (suc n)) is = absurd (omega (arith, is))
-next_entry (x ∷ front) more e (suc n) is = let within : n ≡ length front + 1 = omega (arith, is) in by n within (next_entry front more e n within)
-  where
-    by : (k : ℕ) → k ≡ length front + 1 → entry_at (front ++ e ∷ more) k ≡ Some e → slice_get (x ∷ (front ++ e ∷ more)) k ≡ Some e
-    by zero is here = absurd (omega (arith, is))
-    by (suc k) is here = here
-
-front_take : (h : List Entry) (n m : ℕ) → n ≤ m → take n (take m h) ≡ take n h
-front_take h zero m le = refl
-front_take [] (suc n) zero le = absurd (omega arith)
-front_take [] (suc n) (suc m) le = refl
-front_take (e ∷ h) (suc n) zero le = absurd (omega arith)
-front_take (e ∷ h) (suc n) (suc m) le = ap (λ (xs : List Entry). e ∷ xs) (front_take h n m (omega arith))
-
-value_in_front : (h : List Entry) (key : List ℕ) (n m : ℕ) → n ≤ m → value_at (take m h) key n ≡ value_at h key n
-value_in_front h key n m le = ap (λ (xs : List Entry). newest xs key) (front_take h n m le)
-
--- ---- one command
-
--- a command's reply that is due at a moment of a history, where the client has seen no later one
-pub record Scene (client : Client) (c : Command) (answer : Reply) : Type 0 where
-  pub h : List Entry
-  pub limit : ℕ
-  pub from : ℕ
-  pub last : ℕ
-  pub low : last ≤ from
-  pub txn : TxnIsWithin from client.txn
-  pub snapshots : AreWithin from client.snapshots
-  pub given : IsDueFrom h limit from client c answer
-
--- the entries published before the command
-abbrev pub front : {client : Client} {c : Command} {answer : Reply} → Scene client c answer → List Entry
-front s = take s.given.before s.h
-
-abbrev pub store_in : {client : Client} {c : Command} {answer : Reply} → Scene client c answer → Store
-store_in s = store_at s.h s.limit s.given.stopped s.given.before
-
--- a reply's row
-abbrev pub RowOf : {client : Client} {c : Command} {answer : Reply} → Scene client c answer → Reply → Type 0
-RowOf {client = client} {c = c} s made = Row (one_at_a_time s.h s.limit) s.last client (taken (front s) c) c made
-
-abbrev pub IsAllowed : {client : Client} {c : Command} {answer : Reply} → Scene client c answer → Type 0
-IsAllowed {client = client} {c = c} {answer = answer} s = Allows (one_at_a_time s.h s.limit) s.last client (taken (front s) c) c answer
-
-front_size : {client : Client} {c : Command} {answer : Reply} (s : Scene client c answer) → length (front s) ≡ s.given.before
-front_size s = size s.h s.given.before (omega (arith, s.given.grows, s.given.within))
-
-front_fresh : {client : Client} {c : Command} {answer : Reply} (s : Scene client c answer) → IsFresh s.h s.last (length (front s))
-front_fresh s = (omega (arith, front_size s, s.low, s.given.earlier), omega (arith, front_size s, s.given.grows, s.given.within))
-
-said_is : (made answer : Reply) → Say made ≡ Say answer → made ≡ answer
-said_is made answer is = cc
-
--- a reply without the log is the one that the plan says
-said : {client : Client} {c : Command} {answer : Reply} (s : Scene client c answer) (made : Reply) → plan (front s) client c ≡ Say made → is_logged made ≡ false → answer ≡ made
-said {client = client} {c = c} {answer = answer} s made is plain = by s.given.replied
-  where
-    by : IsReply (store_in s) client c answer → answer ≡ made
-    by (inl due) = due ∙ ap (reply_to (store_in s)) is
-    by (inr fault) = let logs : is_logged made ≡ true = subst (λ (p : Plan). is_logged (reply_to (store_in s) p) ≡ true) is fault.1 in absurd (grind (arith, logs, plain))
-
-say_refused : {client : Client} {c : Command} {answer : Reply} (s : Scene client c answer) (made : Reply) → plan (front s) client c ≡ Say made → is_logged made ≡ false → refusal_of client c ≡ Some made → IsAllowed s
-say_refused {client = client} {c = c} {answer = answer} s made is plain refused = subst (λ (o : Option Reply). UnlessRefused o answer (RowOf s answer)) (sym refused) (said s made is plain)
-
-by_row : {client : Client} {c : Command} {answer : Reply} (s : Scene client c answer) → refusal_of client c ≡ None → RowOf s answer → IsAllowed s
-by_row {client = client} {c = c} {answer = answer} s free row = subst (λ (o : Option Reply). UnlessRefused o answer (RowOf s answer)) (sym free) row
-
-say_allowed : {client : Client} {c : Command} {answer : Reply} (s : Scene client c answer) (made : Reply) → plan (front s) client c ≡ Say made → is_logged made ≡ false → refusal_of client c ≡ None → RowOf s made → IsAllowed s
-say_allowed s made is plain free row = by_row s free (subst (RowOf s) (sym (said s made is plain)) row)
-
--- the log takes so many entries, and the reply is this one; or it refuses them
-log_allowed : {client : Client} {c : Command} {answer : Reply} (s : Scene client c answer) (count : ℕ) (made : Reply) → refusal_of client c ≡ None → needed client.txn c ≡ count → 1 ≤ count
-    → due (store_in s) client c ≡ logged (store_in s) count made → (answer ≡ made → RowOf s made) → IsAllowed s
-log_allowed {client = client} {c = c} {answer = answer} s count made free needs some due_is row = by_row s free (by s.given.replied)
-  where
-    needs_some : 1 ≤ needed client.txn c
-    needs_some = omega (arith, needs, some)
-
-    on_log : answer ≡ logged (store_in s) count made → RowOf s answer
-    on_log is =
-        elim (cases_Bool s.given.stopped) [
-          | inl failed ↦
-              let answered : answer ≡ reply.Stopped (length (front s)) = rw failed at is in
-              subst (RowOf s) (sym answered) (needs_some, front_fresh s, eq-eqb _ _ (front_size s ∙ s.given.ended failed))
-          | inr runs ↦ elim (cases_Bool (nat_lt s.limit (length (front s) + count))) [
-            | inl over ↦
-                let answered : answer ≡ reply.Full (length (front s)) s.limit = rw (runs, over) at is in
-                let past : s.limit < length (front s) + needed client.txn c = omega (arith, needs, ltb-true _ _ over) in
-                subst (RowOf s) (sym answered) (needs_some, front_fresh s, refl, past)
-            | inr room ↦
-                let answered : answer ≡ made = rw (runs, room) at is in
-                subst (RowOf s) (sym answered) (row answered)
-          ]
-        ]
-
-    by : IsReply (store_in s) client c answer → RowOf s answer
-    by (inl is) = on_log (is ∙ due_is)
-    by (inr fault) = subst (RowOf s) (sym fault.0) needs_some
-
--- the entries of a reply that acknowledges them
-entries_in : {client : Client} {c : Command} {answer : Reply} (s : Scene client c answer) (p : Plan) (made : Reply) → plan (front s) client c ≡ p → is_logged made ≡ true → answer ≡ made → take s.given.after s.h ≡ front s ++ asked_of p
-entries_in {client = client} {c = c} s p made is logs answered =
-    let all : take s.given.after s.h ≡ front s ++ logged_entries (store_in s) client c made = subst (λ (r : Reply). take s.given.after s.h ≡ front s ++ logged_entries (store_in s) client c r) answered s.given.logged in
-    rw (logs, is) at all
-
--- a plan with one entry
-one_allowed : {client : Client} {c : Command} {answer : Reply} (s : Scene client c answer) (e : Entry) (made : Reply) → plan (front s) client c ≡ Log e made → is_logged made ≡ true → refusal_of client c ≡ None → needed client.txn c ≡ 1
-    → (IsLoggedAt s.h s.last (next (front s)) e → RowOf s made) → IsAllowed s
-one_allowed s e made is logs free needs row =
-    log_allowed s 1 made free needs (omega arith) (ap (reply_to (store_in s)) is) (λ answered.
-    let all = entries_in s (Log e made) made is logs answered in
-    let here = entry_in_front s.h s.given.after (next (front s)) e (subst (λ (xs : List Entry). entry_at xs (next (front s)) ≡ Some e) (sym all) (next_entry (front s) [] e (next (front s)) refl)) in
-    row (omega (arith, (front_fresh s).0), here))
+use Rattle.wp_session.proofs.Rows.{snapshots_after}
+use Rattle.wp_session.proofs.Scenes.{entry_in_front, next_entry, value_in_front, Scene, front, store_in, RowOf, IsAllowed, front_size, front_fresh, say_refused, say_allowed, log_allowed, entries_in, one_allowed}
+use Rattle.wp_session.proofs.DueTables.{flush_allowed, compact_allowed}
 
 -- ---- put, del
 
-busy_in : {client : Client} {c : Command} {answer : Reply} (s : Scene client c answer) (key : List ℕ) (p : ℕ) → holder_of (front s) key ≡ Some p → IsBusy (one_at_a_time s.h s.limit) s.last key (name_at (front s) p)
+busy_in : {client : Client} {c : Command} {answer : Reply} (s : Scene client c answer) (key : List ℕ) (p : ℕ) → holder_of (front s) key ≡ Some p → IsBusy s.evidence s.last key (name_at (front s) p)
 busy_in s key p is =
     let found = found_holder (front s) key p is in
     let fresh = front_fresh s in
@@ -176,8 +49,8 @@ option_cases (Some a) = inr (a, refl)
 
 change_allowed : {client : Client} {c : Command} {answer : Reply} (s : Scene client c answer) (change : Change) (made : Reply)
     → plan (front s) client c ≡ change_plan (front s) client.txn change made → refusal_of client c ≡ refuses_change client.txn (key_of change) → (client.txn ≡ Idle → needed client.txn c ≡ 1) → is_logged made ≡ true
-    → (client.txn ≡ Idle → IsLoggedAt s.h s.last (next (front s)) (entry.Write (change ∷ [])) → RowOf s made)
-    → ((name : List ℕ) → IsBusy (one_at_a_time s.h s.limit) s.last (key_of change) name → RowOf s (reply.Busy name))
+    → (client.txn ≡ Idle → IsLoggedAt s.evidence.history s.last (next (front s)) (entry.Write (change ∷ [])) → RowOf s made)
+    → ((name : List ℕ) → IsBusy s.evidence s.last (key_of change) name → RowOf s (reply.Busy name))
     → (TxnIsOpen client.txn → RowOf s reply.Held) → IsAllowed s
 change_allowed {client = client} {c = c} s change made plan_is refusal_is needs logs row busy held = by client.txn refl
   where
@@ -207,15 +80,15 @@ change_allowed {client = client} {c = c} s change made plan_is refusal_is needs 
 
 -- ---- get
 
-own_in : {client : Client} {c : Command} {answer : Reply} (s : Scene client c answer) (key : List ℕ) → OwnSays s.h client.txn key (change_to (own_batch (front s) client.txn) key)
+own_in : {client : Client} {c : Command} {answer : Reply} (s : Scene client c answer) (key : List ℕ) → OwnSays s.evidence.history client.txn key (change_to (own_batch (front s) client.txn) key)
 own_in {client = client} s key = by client.txn s.txn
   where
-    by : (txn : Txn) → TxnIsWithin s.from txn → OwnSays s.h txn key (change_to (own_batch (front s) txn) key)
+    by : (txn : Txn) → TxnIsWithin s.from txn → OwnSays s.evidence.history txn key (change_to (own_batch (front s) txn) key)
     by Idle within = (tt, refl)
     by (Open name batch) within = (tt, refl)
     by (Prepared p) within =
         let published : p ≤ length (front s) = omega (arith, front_size s, within, s.given.earlier) in
-        let same : batch_at s.h p ≡ batch_at (front s) p = subst (λ (xs : List Entry). batch_at xs p ≡ batch_at (front s) p) (take-append-drop s.given.before s.h) (batch_at_old (front s) (drop s.given.before s.h) p published) in
+        let same : batch_at s.evidence.history p ≡ batch_at (front s) p = subst (λ (xs : List Entry). batch_at xs p ≡ batch_at (front s) p) (take-append-drop s.given.before s.evidence.history) (batch_at_old (front s) (drop s.given.before s.evidence.history) p published) in
         (omega (arith, within, s.given.earlier, s.given.grows, s.given.within), ap (λ (b : List Change). change_to b key) same)
 
 get_allowed : {client : Client} {answer : Reply} (key : List ℕ) (s : Scene client (command.Get key) answer) → IsAllowed s
@@ -223,24 +96,24 @@ get_allowed {client = client} key s = by (change_to (own_batch (front s) client.
   where
     by_value : (value : Option (List ℕ)) → value_at (front s) key (length (front s)) ≡ value → change_to (own_batch (front s) client.txn) key ≡ None → IsAllowed s
     by_value value is none =
-        let own : OwnSays s.h client.txn key None = subst (OwnSays s.h client.txn key) none (own_in s key) in
-        let here : value_at s.h key (length (front s)) ≡ value = sym (value_in_front s.h key (length (front s)) s.given.before (omega (arith, front_size s))) ∙ is in
+        let own : OwnSays s.evidence.history client.txn key None = subst (OwnSays s.evidence.history client.txn key) none (own_in s key) in
+        let here : value_at s.evidence.history key (length (front s)) ≡ value = sym (value_in_front s.evidence.history key (length (front s)) s.given.before (omega (arith, front_size s))) ∙ is in
         let says : plan (front s) client (command.Get key) ≡ Say (read_reply value (length (front s))) = ap (λ (o : Option (Option (List ℕ))). Say (get_reply (front s) o key)) none ∙ ap (λ (v : Option (List ℕ)). Say (read_reply v (length (front s)))) is in
         read value says own here
       where
-        read : (v : Option (List ℕ)) → plan (front s) client (command.Get key) ≡ Say (read_reply v (length (front s))) → OwnSays s.h client.txn key None → value_at s.h key (length (front s)) ≡ v → IsAllowed s
+        read : (v : Option (List ℕ)) → plan (front s) client (command.Get key) ≡ Say (read_reply v (length (front s))) → OwnSays s.evidence.history client.txn key None → value_at s.evidence.history key (length (front s)) ≡ v → IsAllowed s
         read (Some v) says own here = say_allowed s (reply.Got v (length (front s))) says refl refl (own, front_fresh s, here)
         read None says own here = say_allowed s (reply.Missing (length (front s))) says refl refl (own, front_fresh s, here)
 
     by : (own : Option (Option (List ℕ))) → change_to (own_batch (front s) client.txn) key ≡ own → IsAllowed s
-    by (Some (Some value)) is = say_allowed s (reply.GotOwn value) (ap (λ (o : Option (Option (List ℕ))). Say (get_reply (front s) o key)) is) refl refl (subst (OwnSays s.h client.txn key) is (own_in s key))
-    by (Some None) is = say_allowed s reply.MissingOwn (ap (λ (o : Option (Option (List ℕ))). Say (get_reply (front s) o key)) is) refl refl (subst (OwnSays s.h client.txn key) is (own_in s key))
+    by (Some (Some value)) is = say_allowed s (reply.GotOwn value) (ap (λ (o : Option (Option (List ℕ))). Say (get_reply (front s) o key)) is) refl refl (subst (OwnSays s.evidence.history client.txn key) is (own_in s key))
+    by (Some None) is = say_allowed s reply.MissingOwn (ap (λ (o : Option (Option (List ℕ))). Say (get_reply (front s) o key)) is) refl refl (subst (OwnSays s.evidence.history client.txn key) is (own_in s key))
     by None is = by_value (value_at (front s) key (length (front s))) refl is
 
 get_at_allowed : {client : Client} {answer : Reply} (key label : List ℕ) (s : Scene client (command.GetAt key label) answer) → IsAllowed s
 get_at_allowed {client = client} key label s = by (number_of client.snapshots label) refl
   where
-    read : (n : ℕ) (value : Option (List ℕ)) → plan (front s) client (command.GetAt key label) ≡ Say (read_reply value n) → number_of client.snapshots label ≡ Some n → n ≤ length s.h → value_at s.h key n ≡ value → IsAllowed s
+    read : (n : ℕ) (value : Option (List ℕ)) → plan (front s) client (command.GetAt key label) ≡ Say (read_reply value n) → number_of client.snapshots label ≡ Some n → n ≤ length s.evidence.history → value_at s.evidence.history key n ≡ value → IsAllowed s
     read n (Some v) says is within here = say_allowed s (reply.Got v n) says refl (ap (λ (o : Option ℕ). unless_labelled o label) is) ((is, within), here)
     read n None says is within here = say_allowed s (reply.Missing n) says refl (ap (λ (o : Option ℕ). unless_labelled o label) is) ((is, within), here)
 
@@ -248,7 +121,7 @@ get_at_allowed {client = client} key label s = by (number_of client.snapshots la
     by None is = say_refused s (reply.UnknownSnapshot label) (ap (λ (o : Option ℕ). Say (get_at_reply (front s) o key label)) is) refl (ap (λ (o : Option ℕ). unless_labelled o label) is)
     by (Some n) is =
         let low : n ≤ s.from = subst (λ (o : Option ℕ). IfSome o (λ m. m ≤ s.from)) is (number_within s.from client.snapshots label s.snapshots) in
-        read n (value_at (front s) key n) (ap (λ (o : Option ℕ). Say (get_at_reply (front s) o key label)) is) is (omega (arith, low, s.given.earlier, s.given.grows, s.given.within)) (sym (value_in_front s.h key n s.given.before (omega (arith, low, s.given.earlier))))
+        read n (value_at (front s) key n) (ap (λ (o : Option ℕ). Say (get_at_reply (front s) o key label)) is) is (omega (arith, low, s.given.earlier, s.given.grows, s.given.within)) (sym (value_in_front s.evidence.history key n s.given.before (omega (arith, low, s.given.earlier))))
 
 -- ---- snapshots
 
@@ -271,7 +144,7 @@ free_allowed {client = client} label s = by (number_of client.snapshots label) r
 
 -- ---- transactions
 
-was_in : {client : Client} {c : Command} {answer : Reply} (s : Scene client c answer) (name : List ℕ) (p : ℕ) → named (front s) name ≡ Some p → WasUndecided s.h s.last name p
+was_in : {client : Client} {c : Command} {answer : Reply} (s : Scene client c answer) (name : List ℕ) (p : ℕ) → named (front s) name ≡ Some p → WasUndecided s.evidence.history s.last name p
 was_in s name p is =
     let found = found_named (front s) name p is in
     let fresh = front_fresh s in
@@ -294,7 +167,7 @@ prepare_allowed {client = client} s = by client.txn refl
   where
     by : (txn : Txn) → client.txn ≡ txn → IsAllowed s
     by Idle is = say_refused s reply.State (ap (prepare_plan (front s)) is) refl (ap unless_open is)
-    by (Open name batch) is = one_allowed s (entry.Prepare name batch) (reply.Prepared (next (front s))) (ap (prepare_plan (front s)) is) refl (ap unless_open is) (ap (λ (t : Txn). needed t command.Prepare) is) (λ here. subst (λ (t : Txn). PreparesAt s.h s.last t (next (front s))) (sym is) here)
+    by (Open name batch) is = one_allowed s (entry.Prepare name batch) (reply.Prepared (next (front s))) (ap (prepare_plan (front s)) is) refl (ap unless_open is) (ap (λ (t : Txn). needed t command.Prepare) is) (λ here. subst (λ (t : Txn). PreparesAt s.evidence.history s.last t (next (front s))) (sym is) here)
     by (Prepared p) is = say_refused s reply.State (ap (prepare_plan (front s)) is) refl (ap unless_open is)
 
 commit_allowed : {client : Client} {answer : Reply} (s : Scene client command.Commit answer) → IsAllowed s
@@ -302,26 +175,26 @@ commit_allowed {client = client} s = by client.txn refl
   where
     by : (txn : Txn) → client.txn ≡ txn → IsAllowed s
     by Idle is = say_refused s reply.State (ap (commit_plan (front s)) is) refl (ap if_idle is)
-    by (Open name batch) is = one_allowed s (entry.Write batch) (reply.Committed (next (front s))) (ap (commit_plan (front s)) is) refl (ap if_idle is) (ap (λ (t : Txn). needed t command.Commit) is) (λ here. subst (λ (t : Txn). CommitsAt s.h s.last t (next (front s))) (sym is) here)
-    by (Prepared p) is = one_allowed s (entry.Commit p) (reply.Committed (next (front s))) (ap (commit_plan (front s)) is) refl (ap if_idle is) (ap (λ (t : Txn). needed t command.Commit) is) (λ here. subst (λ (t : Txn). CommitsAt s.h s.last t (next (front s))) (sym is) here)
+    by (Open name batch) is = one_allowed s (entry.Write batch) (reply.Committed (next (front s))) (ap (commit_plan (front s)) is) refl (ap if_idle is) (ap (λ (t : Txn). needed t command.Commit) is) (λ here. subst (λ (t : Txn). CommitsAt s.evidence.history s.last t (next (front s))) (sym is) here)
+    by (Prepared p) is = one_allowed s (entry.Commit p) (reply.Committed (next (front s))) (ap (commit_plan (front s)) is) refl (ap if_idle is) (ap (λ (t : Txn). needed t command.Commit) is) (λ here. subst (λ (t : Txn). CommitsAt s.evidence.history s.last t (next (front s))) (sym is) here)
 
 rollback_allowed : {client : Client} {answer : Reply} (s : Scene client command.Rollback answer) → IsAllowed s
 rollback_allowed {client = client} {answer = answer} s = by client.txn refl
   where
-    rolled : (p : ℕ) → client.txn ≡ Prepared p → answer ≡ reply.RolledBack (next (front s) + 1) → RollsBackAt s.h s.last (Prepared p) (next (front s) + 1)
+    rolled : (p : ℕ) → client.txn ≡ Prepared p → answer ≡ reply.RolledBack (next (front s) + 1) → RollsBackAt s.evidence.history s.last (Prepared p) (next (front s) + 1)
     rolled p is answered =
         let n = next (front s) + 1 in
         let batch = prior (front s) (batch_at (front s) p) in
-        let all : take s.given.after s.h ≡ front s ++ entry.Undo p batch ∷ entry.Close p ∷ [] = entries_in s (RollBack p batch (reply.RolledBack n)) (reply.RolledBack n) (ap (rollback_plan (front s)) is) refl answered in
-        let split : take s.given.after s.h ≡ (front s ++ entry.Undo p batch ∷ []) ++ entry.Close p ∷ [] = all ∙ sym (append_assoc (front s) (entry.Undo p batch ∷ []) (entry.Close p ∷ [])) in
-        let closed : entry_at s.h n ≡ Some (entry.Close p) = entry_in_front s.h s.given.after n (entry.Close p) (subst (λ (xs : List Entry). entry_at xs n ≡ Some (entry.Close p)) (sym split) (next_entry (front s ++ entry.Undo p batch ∷ []) [] (entry.Close p) n (omega (arith, length-append (front s) (entry.Undo p batch ∷ []))))) in
-        let undone : entry_at s.h (n - 1) ≡ Some (entry.Undo p batch) = entry_in_front s.h s.given.after (n - 1) (entry.Undo p batch) (subst (λ (xs : List Entry). entry_at xs (n - 1) ≡ Some (entry.Undo p batch)) (sym all) (next_entry (front s) (entry.Close p ∷ []) (entry.Undo p batch) (n - 1) (omega arith))) in
+        let all : take s.given.after s.evidence.history ≡ front s ++ entry.Undo p batch ∷ entry.Close p ∷ [] = entries_in s (RollBack p batch (reply.RolledBack n)) (reply.RolledBack n) (ap (rollback_plan (front s)) is) refl answered in
+        let split : take s.given.after s.evidence.history ≡ (front s ++ entry.Undo p batch ∷ []) ++ entry.Close p ∷ [] = all ∙ sym (append_assoc (front s) (entry.Undo p batch ∷ []) (entry.Close p ∷ [])) in
+        let closed : entry_at s.evidence.history n ≡ Some (entry.Close p) = entry_in_front s.evidence.history s.given.after n (entry.Close p) (subst (λ (xs : List Entry). entry_at xs n ≡ Some (entry.Close p)) (sym split) (next_entry (front s ++ entry.Undo p batch ∷ []) [] (entry.Close p) n (omega (arith, length-append (front s) (entry.Undo p batch ∷ []))))) in
+        let undone : entry_at s.evidence.history (n - 1) ≡ Some (entry.Undo p batch) = entry_in_front s.evidence.history s.given.after (n - 1) (entry.Undo p batch) (subst (λ (xs : List Entry). entry_at xs (n - 1) ≡ Some (entry.Undo p batch)) (sym all) (next_entry (front s) (entry.Close p ∷ []) (entry.Undo p batch) (n - 1) (omega arith))) in
         ((omega (arith, (front_fresh s).0), closed), (batch, (omega (arith, (front_fresh s).0), undone)))
 
     by : (txn : Txn) → client.txn ≡ txn → IsAllowed s
     by Idle is = say_refused s reply.State (ap (rollback_plan (front s)) is) refl (ap if_idle is)
     by (Open name batch) is = say_allowed s reply.Dropped (ap (rollback_plan (front s)) is) refl (ap if_idle is) (subst TxnIsOpen (sym is) tt)
-    by (Prepared p) is = log_allowed s 2 (reply.RolledBack (next (front s) + 1)) (ap if_idle is) (ap (λ (t : Txn). needed t command.Rollback) is) (omega arith) (ap (λ (t : Txn). reply_to (store_in s) (rollback_plan (front s) t)) is) (λ answered. subst (λ (t : Txn). RollsBackAt s.h s.last t (next (front s) + 1)) (sym is) (rolled p is answered))
+    by (Prepared p) is = log_allowed s 2 (reply.RolledBack (next (front s) + 1)) (ap if_idle is) (ap (λ (t : Txn). needed t command.Rollback) is) (omega arith) (ap (λ (t : Txn). reply_to (store_in s) client (rollback_plan (front s) t)) is) refl (λ answered. subst (λ (t : Txn). RollsBackAt s.evidence.history s.last t (next (front s) + 1)) (sym is) (rolled p is answered))
 
 leave_allowed : {client : Client} {answer : Reply} (s : Scene client command.Leave answer) → IsAllowed s
 leave_allowed {client = client} s = by client.txn refl
@@ -336,11 +209,11 @@ take_allowed {client = client} name s = by client.txn refl
   where
     by_holder : (holder : Option ℕ) → named (front s) name ≡ holder → client.txn ≡ Idle → IsAllowed s
     by_holder None is idle =
-        let same : take (length (front s)) s.h ≡ front s = ap (λ (n : ℕ). take n s.h) (front_size s) in
+        let same : take (length (front s)) s.evidence.history ≡ front s = ap (λ (n : ℕ). take n s.evidence.history) (front_size s) in
         say_allowed s (reply.Unknown name (length (front s))) (ap (λ (t : Txn). take_plan (front s) t name) idle ∙ ap (λ (o : Option ℕ). Say (take_reply (front s) o name)) is) refl (ap unless_idle idle) (refl, front_fresh s, ap (λ (xs : List Entry). named xs name) same ∙ is)
     by_holder (Some p) is idle =
         let takes : taken (front s) (command.Take name) ≡ p = ap (λ (o : Option ℕ). unwrap_or o 0) is in
-        say_allowed s reply.Took (ap (λ (t : Txn). take_plan (front s) t name) idle ∙ ap (λ (o : Option ℕ). Say (take_reply (front s) o name)) is) refl (ap unless_idle idle) (subst (WasUndecided s.h s.last name) (sym takes) (was_in s name p is))
+        say_allowed s reply.Took (ap (λ (t : Txn). take_plan (front s) t name) idle ∙ ap (λ (o : Option ℕ). Say (take_reply (front s) o name)) is) refl (ap unless_idle idle) (subst (WasUndecided s.evidence.history s.last name) (sym takes) (was_in s name p is))
 
     by : (txn : Txn) → client.txn ≡ txn → IsAllowed s
     by Idle is = by_holder (named (front s) name) refl is
@@ -362,6 +235,8 @@ due_allowed client command.Commit answer s = commit_allowed s
 due_allowed client command.Rollback answer s = rollback_allowed s
 due_allowed client command.Leave answer s = leave_allowed s
 due_allowed client (command.Take name) answer s = take_allowed name s
+due_allowed client command.Flush answer s = flush_allowed s
+due_allowed client command.Compact answer s = compact_allowed s
 
 -- ---- what the reply leaves
 
@@ -412,19 +287,19 @@ last_within : (last before after : ℕ) (number : Option ℕ) → last ≤ befor
 last_within last before after (Some n) low grows fresh = fresh.1
 last_within last before after None low grows fresh = omega (arith, low, grows)
 
-pub due_session : (h : List Entry) (limit from last : ℕ) (client : Client) (cs : List Command) (rs : List Reply) → last ≤ from → TxnIsWithin from client.txn → AreWithin from client.snapshots → AreDueFrom h limit from client cs rs → IsSession (one_at_a_time h limit) last client cs rs
-due_session h limit from last client [] [] low txn snapshots due = tt
-due_session h limit from last client [] (r ∷ rs) low txn snapshots due = absurd due
-due_session h limit from last client (c ∷ cs) [] low txn snapshots due = absurd due
-due_session h limit from last client (c ∷ cs) (r ∷ rs) low txn snapshots (given, rest) =
-    let s : Scene client c r = record { h = h; limit = limit; from = from; last = last; low = low; txn = txn; snapshots = snapshots; given = given } in
+pub due_session : (e : Evidence) (from last tables : ℕ) (client : Client) (cs : List Command) (rs : List Reply) → last ≤ from → TxnIsWithin from client.txn → AreWithin from client.snapshots → AreDueFrom e from tables client cs rs → IsSession e last tables client cs rs
+due_session e from last tables client [] [] low txn snapshots due = tt
+due_session e from last tables client [] (r ∷ rs) low txn snapshots due = absurd due
+due_session e from last tables client (c ∷ cs) [] low txn snapshots due = absurd due
+due_session e from last tables client (c ∷ cs) (r ∷ rs) low txn snapshots (given, rest) =
+    let s : Scene client c r = record { evidence = e; from = from; last = last; tables = tables; low = low; txn = txn; snapshots = snapshots; given = given } in
     let later : from ≤ given.after = omega (arith, given.earlier, given.grows) in
     let allowed = due_allowed client c r s in (
-      taken (take given.before h) c,
+      taken (take given.before e.history) c,
       allowed,
-      due_session h limit given.after (last_after last c r) (client_after (take given.before h) client c r) cs rs
+      due_session e given.after (last_after last c r) (tables_after tables r) (client_after (take given.before e.history) client c r) cs rs
           (last_within last given.before given.after (fresh_in c r) (omega (arith, low, given.earlier)) given.grows given.fresh)
           (txn_within client c r s allowed (txn_more from given.after client.txn later txn))
-          (subst (AreWithin given.after) (sym (snapshots_after (taken (take given.before h) c) client c r)) (labels_within client c r s (within_more from given.after client.snapshots later snapshots)))
+          (subst (AreWithin given.after) (sym (snapshots_after (taken (take given.before e.history) c) client c r)) (labels_within client c r s (within_more from given.after client.snapshots later snapshots)))
           rest,
     )

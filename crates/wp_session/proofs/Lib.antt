@@ -1,5 +1,9 @@
 pub mod PlanLemmas
 pub mod SaidLemmas
 pub mod Rows
+pub mod Scenes
+pub mod DueTables
 pub mod DueLemmas
 pub mod SessionLemmas
+pub mod TablesLemmas
+pub mod Counts

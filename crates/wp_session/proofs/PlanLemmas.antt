@@ -161,6 +161,8 @@ plan_logs pending h client command.Commit e answer legal closed fits whole is = 
 plan_logs pending h client command.Rollback e answer legal closed fits whole is = absurd (rollback_asks h client.txn e answer is)
 plan_logs pending h client command.Leave e answer legal closed fits whole is = absurd (leave_asks client.txn e answer is)
 plan_logs pending h client (command.Take name) e answer legal closed fits whole is = absurd (take_asks h client.txn name e answer is)
+plan_logs pending h client command.Flush e answer legal closed fits whole is = absurd cc
+plan_logs pending h client command.Compact e answer legal closed fits whole is = absurd cc
 
 -- ---- plans that roll back
 
@@ -237,3 +239,5 @@ plan_rolls_back follows h client command.Prepare p batch answer closed fits whol
 plan_rolls_back follows h client command.Commit p batch answer closed fits whole is = absurd (commit_rolls h client.txn p batch answer is)
 plan_rolls_back follows h client command.Leave p batch answer closed fits whole is = absurd (leave_rolls client.txn p batch answer is)
 plan_rolls_back follows h client (command.Take name) p batch answer closed fits whole is = absurd (take_rolls h client.txn name p batch answer is)
+plan_rolls_back follows h client command.Flush p batch answer closed fits whole is = absurd cc
+plan_rolls_back follows h client command.Compact p batch answer closed fits whole is = absurd cc

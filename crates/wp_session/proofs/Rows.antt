@@ -4,6 +4,7 @@ use Rattle.std.specs.Prelude.{slice_get}
 use Rattle.std.proofs.lemmas.List.{take-append-le}
 use Rattle.wp_model.specs.declared.entry.Entry.{Entry}
 use Rattle.wp_model.specs.Batch.{change_to}
+use Rattle.wp_model.specs.Flushed.{later_versions}
 use Rattle.wp_model.specs.History.{entry_at, name_at, batch_at, is_undecided, is_changed, named, newest}
 use Rattle.wp_model.proofs.Entries.{batch_at_old}
 use Rattle.wp_text.specs.declared.script.Command.{Command}
@@ -14,8 +15,8 @@ use Rattle.wp_session.specs.declared.client.Txn.{Txn}
 use Rattle.wp_session.specs.declared.client.Txn.TheVariants.{Idle, Open, Prepared}
 use Rattle.wp_session.specs.Client.{Client}
 use Rattle.wp_session.specs.After.{labels_after, after_reply}
-use Rattle.wp_session.specs.Kind.{last_after}
-use Rattle.wp_session.specs.Replies.{Claim, Evidence, IsKnown, HasName, HasKey, LogFailed, refusal_of, IsFresh, IsLoggedAt, WasUndecided, IsBusy, IsNameTaken, OwnSays, PreparesAt, CommitsAt, RollsBackAt, Row, UnlessRefused}
+use Rattle.wp_session.specs.Kind.{last_after, tables_after}
+use Rattle.wp_session.specs.Replies.{Claim, Evidence, IsKnown, HasName, HasKey, LogFailed, WasFlushed, TablesFailed, OtherCompacted, refusal_of, IsFresh, IsLoggedAt, WasUndecided, IsBusy, IsNameTaken, OwnSays, PreparesAt, CommitsAt, RollsBackAt, IsFlushCount, HasNothingToFlush, HasNothingToMerge, IsHaltedAt, Row, UnlessRefused}
 use Rattle.wp_session.specs.Session.{IsSession}
 
 -- ---- entries
@@ -89,6 +90,21 @@ rolls_more : (h more : List Entry) (last : ℕ) (txn : Txn) (n : ℕ) → RollsB
 rolls_more h more last (Prepared p) n (closed, (batch, undone)) = (logged_more h more last n _ closed, (batch, logged_more h more last (n - 1) _ undone))
 rolls_more h more last _ n l = absurd l
 
+-- ---- tables
+
+flush_count_more : (e : Evidence) (more : List Entry) (later : Claim → Bool) → KnowsMore e later → (n versions : ℕ) → n ≤ length e.history → IsFlushCount e n versions → IsFlushCount (grown e more later) n versions
+flush_count_more e more later f n versions le (flushed, was, count) = (flushed, f (WasFlushed flushed) was, front_more (λ h. length (later_versions h flushed) ≡ versions) e.history more n le count)
+
+nothing_to_flush_more : (e : Evidence) (more : List Entry) (later : Claim → Bool) → KnowsMore e later → (last : ℕ) → HasNothingToFlush e last → HasNothingToFlush (grown e more later) last
+nothing_to_flush_more e more later f last (le, (flushed, was, none)) = (longer e.history more last le, (flushed, f (WasFlushed flushed) was, front_more (λ h. later_versions h flushed ≡ []) e.history more last le none))
+
+nothing_to_merge_more : (e : Evidence) (more : List Entry) (later : Claim → Bool) → KnowsMore e later → (tables : ℕ) → HasNothingToMerge e tables → HasNothingToMerge (grown e more later) tables
+nothing_to_merge_more e more later f tables (inl few) = inl few
+nothing_to_merge_more e more later f tables (inr claim) = inr (f OtherCompacted claim)
+
+halted_more : (e : Evidence) (more : List Entry) (later : Claim → Bool) → KnowsMore e later → (flushed : ℕ) → IsHaltedAt e flushed → IsHaltedAt (grown e more later) flushed
+halted_more e more later f flushed (was, failed) = (f (WasFlushed flushed) was, f TablesFailed failed)
+
 -- ---- the client
 
 -- the snapshots change as the labels do
@@ -104,43 +120,51 @@ snapshots_after p client c r = refl
 
 -- ---- the rows
 
-row_more : (e : Evidence) (more : List Entry) (later : Claim → Bool) → KnowsMore e later → (last : ℕ) (client : Client) (p : ℕ) (c : Command) (r : Reply) → Row e last client p c r → Row (grown e more later) last client p c r
-row_more e more later f last client p c (reply.Full published most) k = (k.0, fresh_more e.history more last published k.1, k.2, k.3)
-row_more e more later f last client p c reply.FaultLog k = k
-row_more e more later f last client p c (reply.Stopped n) k = (k.0, fresh_more e.history more last n k.1, f (LogFailed n) k.2)
-row_more e more later f last client p (command.Put key value) (reply.Put n) k = (k.0, logged_more e.history more last n _ k.1)
-row_more e more later f last client p (command.Put key value) reply.Held k = k
-row_more e more later f last client p (command.Put key value) (reply.Busy name) k = busy_more e more later f last key name k
-row_more e more later f last client p (command.Del key) (reply.Del n) k = (k.0, logged_more e.history more last n _ k.1)
-row_more e more later f last client p (command.Del key) reply.Held k = k
-row_more e more later f last client p (command.Del key) (reply.Busy name) k = busy_more e more later f last key name k
-row_more e more later f last client p (command.Get key) (reply.Got value n) k = (own_more e.history more client.txn key _ k.0, fresh_more e.history more last n k.1, value_more e.history more key n _ k.1.1 k.2)
-row_more e more later f last client p (command.Get key) (reply.Missing n) k = (own_more e.history more client.txn key _ k.0, fresh_more e.history more last n k.1, value_more e.history more key n _ k.1.1 k.2)
-row_more e more later f last client p (command.Get key) (reply.GotOwn value) k = own_more e.history more client.txn key _ k
-row_more e more later f last client p (command.Get key) reply.MissingOwn k = own_more e.history more client.txn key _ k
-row_more e more later f last client p (command.GetAt key label) (reply.Got value n) k = ((k.0.0, longer e.history more n k.0.1), value_more e.history more key n _ k.0.1 k.1)
-row_more e more later f last client p (command.GetAt key label) (reply.Missing n) k = ((k.0.0, longer e.history more n k.0.1), value_more e.history more key n _ k.0.1 k.1)
-row_more e more later f last client p (command.Snap label) (reply.Snapped n) k = fresh_more e.history more last n k
-row_more e more later f last client p (command.Free label) reply.Freed k = k
-row_more e more later f last client p (command.Begin name) reply.Begun k = k
-row_more e more later f last client p (command.Begin name) (reply.Taken other) k = (k.0, taken_more e more later f last name k.1)
-row_more e more later f last client p command.Prepare (reply.Prepared n) k = prepares_more e.history more last client.txn n k
-row_more e more later f last client p command.Commit (reply.Committed n) k = commits_more e.history more last client.txn n k
-row_more e more later f last client p command.Rollback reply.Dropped k = k
-row_more e more later f last client p command.Rollback (reply.RolledBack n) k = rolls_more e.history more last client.txn n k
-row_more e more later f last client p command.Leave reply.Left k = k
-row_more e more later f last client p (command.Take name) reply.Took k = was_more e.history more last name p k
-row_more e more later f last client p (command.Take name) (reply.Unknown other n) k = (k.0, fresh_more e.history more last n k.1, front_more (λ f. named f name ≡ None) e.history more n k.1.1 k.2)
-row_more e more later f last client p c r k = absurd k
+row_more : (e : Evidence) (more : List Entry) (later : Claim → Bool) → KnowsMore e later → (last tables : ℕ) (client : Client) (p : ℕ) (c : Command) (r : Reply) → Row e last tables client p c r → Row (grown e more later) last tables client p c r
+row_more e more later f last tables client p c (reply.Full published most) k = (k.0, fresh_more e.history more last published k.1, k.2, k.3)
+row_more e more later f last tables client p c reply.FaultLog k = k
+row_more e more later f last tables client p c (reply.Stopped n) k = (k.0, fresh_more e.history more last n k.1, f (LogFailed n) k.2)
+row_more e more later f last tables client p (command.Put key value) (reply.Put n) k = (k.0, logged_more e.history more last n _ k.1)
+row_more e more later f last tables client p (command.Put key value) reply.Held k = k
+row_more e more later f last tables client p (command.Put key value) (reply.Busy name) k = busy_more e more later f last key name k
+row_more e more later f last tables client p (command.Del key) (reply.Del n) k = (k.0, logged_more e.history more last n _ k.1)
+row_more e more later f last tables client p (command.Del key) reply.Held k = k
+row_more e more later f last tables client p (command.Del key) (reply.Busy name) k = busy_more e more later f last key name k
+row_more e more later f last tables client p (command.Get key) (reply.Got value n) k = (own_more e.history more client.txn key _ k.0, fresh_more e.history more last n k.1, value_more e.history more key n _ k.1.1 k.2)
+row_more e more later f last tables client p (command.Get key) (reply.Missing n) k = (own_more e.history more client.txn key _ k.0, fresh_more e.history more last n k.1, value_more e.history more key n _ k.1.1 k.2)
+row_more e more later f last tables client p (command.Get key) (reply.GotOwn value) k = own_more e.history more client.txn key _ k
+row_more e more later f last tables client p (command.Get key) reply.MissingOwn k = own_more e.history more client.txn key _ k
+row_more e more later f last tables client p (command.GetAt key label) (reply.Got value n) k = ((k.0.0, longer e.history more n k.0.1), value_more e.history more key n _ k.0.1 k.1)
+row_more e more later f last tables client p (command.GetAt key label) (reply.Missing n) k = ((k.0.0, longer e.history more n k.0.1), value_more e.history more key n _ k.0.1 k.1)
+row_more e more later f last tables client p (command.Snap label) (reply.Snapped n) k = fresh_more e.history more last n k
+row_more e more later f last tables client p (command.Free label) reply.Freed k = k
+row_more e more later f last tables client p (command.Begin name) reply.Begun k = k
+row_more e more later f last tables client p (command.Begin name) (reply.Taken other) k = (k.0, taken_more e more later f last name k.1)
+row_more e more later f last tables client p command.Prepare (reply.Prepared n) k = prepares_more e.history more last client.txn n k
+row_more e more later f last tables client p command.Commit (reply.Committed n) k = commits_more e.history more last client.txn n k
+row_more e more later f last tables client p command.Rollback reply.Dropped k = k
+row_more e more later f last tables client p command.Rollback (reply.RolledBack n) k = rolls_more e.history more last client.txn n k
+row_more e more later f last tables client p command.Leave reply.Left k = k
+row_more e more later f last tables client p (command.Take name) reply.Took k = was_more e.history more last name p k
+row_more e more later f last tables client p (command.Take name) (reply.Unknown other n) k = (k.0, fresh_more e.history more last n k.1, front_more (λ f. named f name ≡ None) e.history more n k.1.1 k.2)
+row_more e more later f last tables client p command.Flush (reply.Flushed n versions) k = (fresh_more e.history more last n k.0, flush_count_more e more later f n versions k.0.1 k.1)
+row_more e more later f last tables client p command.Flush reply.Nothing k = nothing_to_flush_more e more later f last k
+row_more e more later f last tables client p command.Flush (reply.Halted flushed) k = halted_more e more later f flushed k
+row_more e more later f last tables client p command.Flush reply.FaultTables k = k
+row_more e more later f last tables client p command.Compact (reply.Compacted n versions) k = (fresh_more e.history more last n k.0, front_more (λ h. versions ≤ length (later_versions h 0)) e.history more n k.0.1 k.1)
+row_more e more later f last tables client p command.Compact reply.Nothing k = nothing_to_merge_more e more later f tables k
+row_more e more later f last tables client p command.Compact (reply.Halted flushed) k = halted_more e more later f flushed k
+row_more e more later f last tables client p command.Compact reply.FaultTables k = k
+row_more e more later f last tables client p c r k = absurd k
 
 unless_refused_more : (refusal : Option Reply) (r : Reply) (A B : Type 0) → (A → B) → UnlessRefused refusal r A → UnlessRefused refusal r B
 unless_refused_more None r A B f a = f a
 unless_refused_more (Some refusal) r A B f is = is
 
 -- a session over a history that grows, with more known of the others
-pub session_more : (e : Evidence) (more : List Entry) (later : Claim → Bool) → KnowsMore e later → (last : ℕ) (client : Client) (cs : List Command) (rs : List Reply) → IsSession e last client cs rs → IsSession (grown e more later) last client cs rs
-session_more e more later f last client [] [] s = tt
-session_more e more later f last client [] (r ∷ rs) s = absurd s
-session_more e more later f last client (c ∷ cs) [] s = absurd s
-session_more e more later f last client (c ∷ cs) (r ∷ rs) (p, allowed, rest) =
-    (p, unless_refused_more (refusal_of client c) r _ _ (row_more e more later f last client p c r) allowed, session_more e more later f (last_after last c r) (after_reply p client c r) cs rs rest)
+pub session_more : (e : Evidence) (more : List Entry) (later : Claim → Bool) → KnowsMore e later → (last tables : ℕ) (client : Client) (cs : List Command) (rs : List Reply) → IsSession e last tables client cs rs → IsSession (grown e more later) last tables client cs rs
+session_more e more later f last tables client [] [] s = tt
+session_more e more later f last tables client [] (r ∷ rs) s = absurd s
+session_more e more later f last tables client (c ∷ cs) [] s = absurd s
+session_more e more later f last tables client (c ∷ cs) (r ∷ rs) (p, allowed, rest) =
+    (p, unless_refused_more (refusal_of client c) r _ _ (row_more e more later f last tables client p c r) allowed, session_more e more later f (last_after last c r) (tables_after tables r) (after_reply p client c r) cs rs rest)

@@ -1,5 +1,5 @@
 -- What the commands are answered without the log, and that the client then goes with the history.
-use Rattle.std.proofs.Common.{◌≡◌, ℕ, ◌≤◌, Bool, false, List, [], ◌∷◌, ◌++◌, length, Option, Some, None, refl, sym, subst, arith, inl, inr}
+use Rattle.std.proofs.Common.{◌≡◌, ℕ, ◌≤◌, Bool, false, List, [], ◌∷◌, ◌++◌, length, Option, Some, None, refl, sym, ap, subst, arith, inl, inr}
 use Rattle.std.specs.Prelude.{IfSome, is_some, nat_le, not}
 use Rattle.std.specs.List.{filter}
 use Rattle.std.specs.Str.{bytes_eq}
@@ -27,23 +27,26 @@ use Rattle.wp_model.proofs.Found.{named_is_undecided}
 use Rattle.wp_session.specs.Client.{Client, ClientFits, AreWithin, number_of, own_batch, has_no_room}
 use Rattle.wp_session.specs.After.{with_staged}
 use Rattle.wp_session.specs.Due.{client_after}
-use Rattle.wp_session.specs.Kind.{acknowledged, is_logged, is_fault, is_stopped, number_in, fresh_in}
+use Rattle.wp_session.specs.Kind.{Plain, kind, acknowledged, numbers_logged, is_logged, says_logged, is_fault, says_failed, is_stopped, says_stopped, is_installed, says_installed, is_tables_fault, says_tables_failed, is_halted, says_halted, number_of_kind, fresh_in}
 use Rattle.wp_session.specs.Plan.{plan, busy_or, change_plan, begin_reply, begin_plan, prepare_plan, commit_plan, rollback_plan, leave_plan, take_reply, take_plan, read_reply, get_reply, get_at_reply, snap_reply, free_reply}
 
 -- ---- the reply
 
--- A reply without the log acknowledges nothing, tells of no fault, and its fresh number, if it has one, is the one
--- published.
+-- A reply without the log and the tables acknowledges nothing, tells of no fault and no edit, and its fresh number, if it
+-- has one, is the one published.
 pub record IsPlain (h : List Entry) (c : Command) (answer : Reply) : Type 0 where
   pub none : acknowledged answer ≡ []
   pub unlogged : is_logged answer ≡ false
   pub faultless : is_fault answer ≡ false
   pub running : is_stopped answer ≡ false
+  pub uninstalled : is_installed answer ≡ false
+  pub intact : is_tables_fault answer ≡ false
+  pub unhalted : is_halted answer ≡ false
   pub current : IfSome (fresh_in c answer) (λ n. n ≡ length h)
 
 -- it has no number either
 abbrev pub IsBare : Reply → Type 0
-IsBare answer = (acknowledged answer ≡ []) × (is_logged answer ≡ false) × (is_fault answer ≡ false) × (is_stopped answer ≡ false) × (number_in answer ≡ None)
+IsBare answer = kind answer ≡ Plain
 
 said_is : (answer given : Reply) → Say answer ≡ Say given → answer ≡ given
 said_is answer given is = cc
@@ -53,7 +56,16 @@ bare : (answer given : Reply) → IsBare answer → Say answer ≡ Say given →
 bare answer given b is = subst IsBare (said_is answer given is) b
 
 plain_if_bare : (h : List Entry) (c : Command) (answer : Reply) → (IsBare answer → fresh_in c answer ≡ None) → IsBare answer → IsPlain h c answer
-plain_if_bare h c answer fresh b = record { none = b.0; unlogged = b.1; faultless = b.2; running = b.3; current = rw (fresh b) tt }
+plain_if_bare h c answer fresh b = record {
+  none = ap numbers_logged b;
+  unlogged = ap says_logged b;
+  faultless = ap says_failed b;
+  running = ap says_stopped b;
+  uninstalled = ap says_installed b;
+  intact = ap says_tables_failed b;
+  unhalted = ap says_halted b;
+  current = rw (fresh b) tt;
+}
 
 busy_or_answers : (P : Reply → Type 0) (h : List Entry) (holder : Option ℕ) (made : Plan) (answer : Reply) → ((name : List ℕ) → P (reply.Busy name)) → ((given : Reply) → holder ≡ None → made ≡ Say given → P given) → busy_or h holder made ≡ Say answer → P answer
 busy_or_answers P h None made answer busy others is = others answer refl is
@@ -70,93 +82,95 @@ change_answers P h (Open name batch) c made answer state busy many held is =
 change_answers P h (Prepared p) c made answer state busy many held is = subst P (said_is reply.State answer is) state
 
 change_says : (h : List Entry) (txn : Txn) (c : Change) (made answer : Reply) → change_plan h txn c made ≡ Say answer → IsBare answer
-change_says h txn c made answer is = change_answers IsBare h txn c made answer (refl, refl, refl, refl, refl) (λ name. (refl, refl, refl, refl, refl)) (refl, refl, refl, refl, refl) (λ name batch o none. (refl, refl, refl, refl, refl)) is
+change_says h txn c made answer is = change_answers IsBare h txn c made answer refl (λ name. refl) refl (λ name batch o none. refl) is
 
 read_is_plain : (h : List Entry) (key : List ℕ) (value : Option (List ℕ)) (n : ℕ) → n ≡ length h → IsPlain h (command.Get key) (read_reply value n)
-read_is_plain h key (Some value) n at = record { none = refl; unlogged = refl; faultless = refl; running = refl; current = at }
-read_is_plain h key None n at = record { none = refl; unlogged = refl; faultless = refl; running = refl; current = at }
+read_is_plain h key (Some value) n at = record { none = refl; unlogged = refl; faultless = refl; running = refl; uninstalled = refl; intact = refl; unhalted = refl; current = at }
+read_is_plain h key None n at = record { none = refl; unlogged = refl; faultless = refl; running = refl; uninstalled = refl; intact = refl; unhalted = refl; current = at }
 
 get_is_plain : (h : List Entry) (own : Option (Option (List ℕ))) (key : List ℕ) → IsPlain h (command.Get key) (get_reply h own key)
-get_is_plain h (Some (Some value)) key = record { none = refl; unlogged = refl; faultless = refl; running = refl; current = tt }
-get_is_plain h (Some None) key = record { none = refl; unlogged = refl; faultless = refl; running = refl; current = tt }
+get_is_plain h (Some (Some value)) key = record { none = refl; unlogged = refl; faultless = refl; running = refl; uninstalled = refl; intact = refl; unhalted = refl; current = tt }
+get_is_plain h (Some None) key = record { none = refl; unlogged = refl; faultless = refl; running = refl; uninstalled = refl; intact = refl; unhalted = refl; current = tt }
 get_is_plain h None key = read_is_plain h key (value_at h key (length h)) (length h) refl
 
 read_at_is_plain : (h : List Entry) (key label : List ℕ) (value : Option (List ℕ)) (n : ℕ) → IsPlain h (command.GetAt key label) (read_reply value n)
-read_at_is_plain h key label (Some value) n = record { none = refl; unlogged = refl; faultless = refl; running = refl; current = tt }
-read_at_is_plain h key label None n = record { none = refl; unlogged = refl; faultless = refl; running = refl; current = tt }
+read_at_is_plain h key label (Some value) n = record { none = refl; unlogged = refl; faultless = refl; running = refl; uninstalled = refl; intact = refl; unhalted = refl; current = tt }
+read_at_is_plain h key label None n = record { none = refl; unlogged = refl; faultless = refl; running = refl; uninstalled = refl; intact = refl; unhalted = refl; current = tt }
 
 get_at_is_plain : (h : List Entry) (number : Option ℕ) (key label : List ℕ) → IsPlain h (command.GetAt key label) (get_at_reply h number key label)
 get_at_is_plain h (Some n) key label = read_at_is_plain h key label (value_at h key n) n
-get_at_is_plain h None key label = record { none = refl; unlogged = refl; faultless = refl; running = refl; current = tt }
+get_at_is_plain h None key label = record { none = refl; unlogged = refl; faultless = refl; running = refl; uninstalled = refl; intact = refl; unhalted = refl; current = tt }
 
 snap_is_plain : (h : List Entry) (snapshots : List LabelledSnapshot) (label : List ℕ) → IsPlain h (command.Snap label) (snap_reply h snapshots label)
 snap_is_plain h snapshots label =
     elim (cases_Bool (is_some (number_of snapshots label))) [
-      | inl taken ↦ rw taken (record { none = refl; unlogged = refl; faultless = refl; running = refl; current = tt })
+      | inl taken ↦ rw taken (record { none = refl; unlogged = refl; faultless = refl; running = refl; uninstalled = refl; intact = refl; unhalted = refl; current = tt })
       | inr new ↦ rw new (elim (cases_Bool (nat_le MOST_SNAPSHOTS (length snapshots))) [
-        | inl full ↦ rw full (record { none = refl; unlogged = refl; faultless = refl; running = refl; current = tt })
-        | inr room ↦ rw room (record { none = refl; unlogged = refl; faultless = refl; running = refl; current = refl })
+        | inl full ↦ rw full (record { none = refl; unlogged = refl; faultless = refl; running = refl; uninstalled = refl; intact = refl; unhalted = refl; current = tt })
+        | inr room ↦ rw room (record { none = refl; unlogged = refl; faultless = refl; running = refl; uninstalled = refl; intact = refl; unhalted = refl; current = refl })
       ])
     ]
 
 free_is_bare : (number : Option ℕ) (label : List ℕ) → IsBare (free_reply number label)
-free_is_bare (Some n) label = (refl, refl, refl, refl, refl)
-free_is_bare None label = (refl, refl, refl, refl, refl)
+free_is_bare (Some n) label = refl
+free_is_bare None label = refl
 
 begin_is_bare : (holder : Option ℕ) (name : List ℕ) → IsBare (begin_reply holder name)
-begin_is_bare (Some p) name = (refl, refl, refl, refl, refl)
-begin_is_bare None name = (refl, refl, refl, refl, refl)
+begin_is_bare (Some p) name = refl
+begin_is_bare None name = refl
 
 begin_says : (h : List Entry) (txn : Txn) (name : List ℕ) (answer : Reply) → begin_plan h txn name ≡ Say answer → IsBare answer
 begin_says h Idle name answer is = bare (begin_reply (named h name) name) answer (begin_is_bare (named h name) name) is
-begin_says h (Open other batch) name answer is = bare reply.State answer (refl, refl, refl, refl, refl) is
-begin_says h (Prepared p) name answer is = bare reply.State answer (refl, refl, refl, refl, refl) is
+begin_says h (Open other batch) name answer is = bare reply.State answer refl is
+begin_says h (Prepared p) name answer is = bare reply.State answer refl is
 
 prepare_says : (h : List Entry) (txn : Txn) (answer : Reply) → prepare_plan h txn ≡ Say answer → IsBare answer
-prepare_says h Idle answer is = bare reply.State answer (refl, refl, refl, refl, refl) is
+prepare_says h Idle answer is = bare reply.State answer refl is
 prepare_says h (Open name batch) answer is = absurd cc
-prepare_says h (Prepared p) answer is = bare reply.State answer (refl, refl, refl, refl, refl) is
+prepare_says h (Prepared p) answer is = bare reply.State answer refl is
 
 commit_says : (h : List Entry) (txn : Txn) (answer : Reply) → commit_plan h txn ≡ Say answer → IsBare answer
-commit_says h Idle answer is = bare reply.State answer (refl, refl, refl, refl, refl) is
+commit_says h Idle answer is = bare reply.State answer refl is
 commit_says h (Open name batch) answer is = absurd cc
 commit_says h (Prepared p) answer is = absurd cc
 
 rollback_says : (h : List Entry) (txn : Txn) (answer : Reply) → rollback_plan h txn ≡ Say answer → IsBare answer
-rollback_says h Idle answer is = bare reply.State answer (refl, refl, refl, refl, refl) is
-rollback_says h (Open name batch) answer is = bare reply.Dropped answer (refl, refl, refl, refl, refl) is
+rollback_says h Idle answer is = bare reply.State answer refl is
+rollback_says h (Open name batch) answer is = bare reply.Dropped answer refl is
 rollback_says h (Prepared p) answer is = absurd cc
 
 leave_says : (txn : Txn) (answer : Reply) → leave_plan txn ≡ Say answer → IsBare answer
-leave_says Idle answer is = bare reply.State answer (refl, refl, refl, refl, refl) is
-leave_says (Open name batch) answer is = bare reply.State answer (refl, refl, refl, refl, refl) is
-leave_says (Prepared p) answer is = bare reply.Left answer (refl, refl, refl, refl, refl) is
+leave_says Idle answer is = bare reply.State answer refl is
+leave_says (Open name batch) answer is = bare reply.State answer refl is
+leave_says (Prepared p) answer is = bare reply.Left answer refl is
 
 take_is_plain : (h : List Entry) (holder : Option ℕ) (name : List ℕ) → IsPlain h (command.Take name) (take_reply h holder name)
-take_is_plain h (Some p) name = record { none = refl; unlogged = refl; faultless = refl; running = refl; current = tt }
-take_is_plain h None name = record { none = refl; unlogged = refl; faultless = refl; running = refl; current = refl }
+take_is_plain h (Some p) name = record { none = refl; unlogged = refl; faultless = refl; running = refl; uninstalled = refl; intact = refl; unhalted = refl; current = tt }
+take_is_plain h None name = record { none = refl; unlogged = refl; faultless = refl; running = refl; uninstalled = refl; intact = refl; unhalted = refl; current = refl }
 
 plain : (h : List Entry) (c : Command) (answer given : Reply) → IsPlain h c answer → Say answer ≡ Say given → IsPlain h c given
 plain h c answer given p is = subst (λ (r : Reply). IsPlain h c r) (said_is answer given is) p
 
 take_says : (h : List Entry) (txn : Txn) (name : List ℕ) (answer : Reply) → take_plan h txn name ≡ Say answer → IsPlain h (command.Take name) answer
 take_says h Idle name answer is = plain h (command.Take name) (take_reply h (named h name) name) answer (take_is_plain h (named h name) name) is
-take_says h (Open other batch) name answer is = plain h (command.Take name) reply.State answer (record { none = refl; unlogged = refl; faultless = refl; running = refl; current = tt }) is
-take_says h (Prepared p) name answer is = plain h (command.Take name) reply.State answer (record { none = refl; unlogged = refl; faultless = refl; running = refl; current = tt }) is
+take_says h (Open other batch) name answer is = plain h (command.Take name) reply.State answer (record { none = refl; unlogged = refl; faultless = refl; running = refl; uninstalled = refl; intact = refl; unhalted = refl; current = tt }) is
+take_says h (Prepared p) name answer is = plain h (command.Take name) reply.State answer (record { none = refl; unlogged = refl; faultless = refl; running = refl; uninstalled = refl; intact = refl; unhalted = refl; current = tt }) is
 
 pub plan_says : (h : List Entry) (client : Client) (c : Command) (answer : Reply) → plan h client c ≡ Say answer → IsPlain h c answer
-plan_says h client (command.Put key value) answer is = plain_if_bare h (command.Put key value) answer (λ b. b.4) (change_says h client.txn (change.Put key value) _ answer is)
-plan_says h client (command.Del key) answer is = plain_if_bare h (command.Del key) answer (λ b. b.4) (change_says h client.txn (change.Del key) _ answer is)
+plan_says h client (command.Put key value) answer is = plain_if_bare h (command.Put key value) answer (ap number_of_kind) (change_says h client.txn (change.Put key value) _ answer is)
+plan_says h client (command.Del key) answer is = plain_if_bare h (command.Del key) answer (ap number_of_kind) (change_says h client.txn (change.Del key) _ answer is)
 plan_says h client (command.Get key) answer is = plain h (command.Get key) _ answer (get_is_plain h (change_to (own_batch h client.txn) key) key) is
 plan_says h client (command.GetAt key label) answer is = plain h (command.GetAt key label) _ answer (get_at_is_plain h (number_of client.snapshots label) key label) is
 plan_says h client (command.Snap label) answer is = plain h (command.Snap label) _ answer (snap_is_plain h client.snapshots label) is
-plan_says h client (command.Free label) answer is = plain_if_bare h (command.Free label) answer (λ b. b.4) (bare _ answer (free_is_bare (number_of client.snapshots label) label) is)
-plan_says h client (command.Begin name) answer is = plain_if_bare h (command.Begin name) answer (λ b. b.4) (begin_says h client.txn name answer is)
-plan_says h client command.Prepare answer is = plain_if_bare h command.Prepare answer (λ b. b.4) (prepare_says h client.txn answer is)
-plan_says h client command.Commit answer is = plain_if_bare h command.Commit answer (λ b. b.4) (commit_says h client.txn answer is)
-plan_says h client command.Rollback answer is = plain_if_bare h command.Rollback answer (λ b. b.4) (rollback_says h client.txn answer is)
-plan_says h client command.Leave answer is = plain_if_bare h command.Leave answer (λ b. b.4) (leave_says client.txn answer is)
+plan_says h client (command.Free label) answer is = plain_if_bare h (command.Free label) answer (ap number_of_kind) (bare _ answer (free_is_bare (number_of client.snapshots label) label) is)
+plan_says h client (command.Begin name) answer is = plain_if_bare h (command.Begin name) answer (ap number_of_kind) (begin_says h client.txn name answer is)
+plan_says h client command.Prepare answer is = plain_if_bare h command.Prepare answer (ap number_of_kind) (prepare_says h client.txn answer is)
+plan_says h client command.Commit answer is = plain_if_bare h command.Commit answer (ap number_of_kind) (commit_says h client.txn answer is)
+plan_says h client command.Rollback answer is = plain_if_bare h command.Rollback answer (ap number_of_kind) (rollback_says h client.txn answer is)
+plan_says h client command.Leave answer is = plain_if_bare h command.Leave answer (ap number_of_kind) (leave_says client.txn answer is)
 plan_says h client (command.Take name) answer is = take_says h client.txn name answer is
+plan_says h client command.Flush answer is = absurd cc
+plan_says h client command.Compact answer is = absurd cc
 
 -- ---- the client
 
@@ -296,3 +310,5 @@ plan_fits h client command.Commit answer fits is = commit_fits h client client.t
 plan_fits h client command.Rollback answer fits is = rollback_fits h client client.txn answer fits is
 plan_fits h client command.Leave answer fits is = leave_fits h client client.txn answer fits is
 plan_fits h client (command.Take name) answer fits is = take_fits h client client.txn name answer fits is
+plan_fits h client command.Flush answer fits is = absurd cc
+plan_fits h client command.Compact answer fits is = absurd cc

@@ -1,5 +1,5 @@
 -- A client between two of its commands: its transaction, and its snapshots.
-use Rattle.std.specs.Prelude.{◌≡◌, ℕ, ◌≤◌, Bool, true, ◌&&◌, not, nat_le, List, [], ◌∷◌, length, Option, None}
+use Rattle.std.specs.Prelude.{◌≡◌, ℕ, ◌≤◌, Bool, true, ◌&&◌, not, nat_le, List, [], ◌∷◌, length, map, Option, None}
 use Rattle.std.specs.List.{filter, find}
 use Rattle.std.specs.Option.{option_map}
 use Rattle.std.specs.Str.{bytes_eq}
@@ -23,6 +23,10 @@ new_client = record { txn = Idle; snapshots = [] }
 -- the number of the snapshot with that label
 abbrev pub number_of : List LabelledSnapshot → List ℕ → Option ℕ
 number_of snapshots label = option_map (λ s. s.number) (find (λ s. bytes_eq s.label label) snapshots)
+
+-- the numbers of the snapshots
+abbrev pub numbers_of : List LabelledSnapshot → List ℕ
+numbers_of snapshots = map (λ s. s.number) snapshots
 
 -- the snapshots but the one with that label
 abbrev pub without_label : List LabelledSnapshot → List ℕ → List LabelledSnapshot

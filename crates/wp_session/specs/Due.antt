@@ -1,23 +1,28 @@
 -- What a command is answered over a store, and what it leaves of the store and of the client.
-use Rattle.std.specs.Prelude.{◌≡◌, ◌⊎◌, ℕ, ◌+◌, Bool, true, nat_lt, List, [], ◌++◌, length, unwrap_or, if◌then◌else◌}
+use Rattle.std.specs.Prelude.{◌≡◌, ◌⊎◌, ℕ, ◌+◌, Bool, true, nat_lt, List, [], ◌∷◌, ◌++◌, length, unwrap_or, if◌then◌else◌}
 use Rattle.wp_model.specs.declared.entry.Entry.{Entry}
+use Rattle.wp_model.specs.declared.version.Version.{Version}
+use Rattle.wp_model.specs.Flushed.{InstalledEdit}
 use Rattle.wp_model.specs.History.{named}
 use Rattle.wp_text.specs.declared.script.Command.{Command}
 use Rattle.wp_text.specs.declared.script.Command.TheVariants as command
 use Rattle.wp_text.specs.declared.reply.Reply.{Reply}
 use Rattle.wp_text.specs.declared.reply.Reply.TheVariants as reply
 use Rattle.wp_session.specs.declared.plan.Plan.{Plan}
-use Rattle.wp_session.specs.declared.plan.Plan.TheVariants.{Say, Log, RollBack}
-use Rattle.wp_session.specs.Client.{Client}
+use Rattle.wp_session.specs.declared.plan.Plan.TheVariants.{Say, Log, RollBack, Flush, Compact}
+use Rattle.wp_session.specs.Client.{Client, numbers_of}
 use Rattle.wp_session.specs.After.{after_reply}
-use Rattle.wp_session.specs.Kind.{is_logged, is_fault}
+use Rattle.wp_session.specs.Kind.{is_logged, is_fault, is_installed, is_tables_fault}
 use Rattle.wp_session.specs.Plan.{plan, asked_of}
+use Rattle.wp_session.specs.Tables.{unflushed, after_flush, retained, after_compaction}
 
 -- the store between two commands
 pub record Store : Type 0 where
   pub history : List Entry
   pub stopped : Bool  -- the log has failed
   pub limit : ℕ  -- the greatest number of an entry
+  pub installed : InstalledEdit  -- the last edit of the tables
+  pub halted : Bool  -- the manifest's device or the tables' has failed
 
 -- ---- the reply
 
@@ -27,18 +32,39 @@ logged store needed answer =
     if store.stopped then reply.Stopped (length store.history)
     else (if nat_lt store.limit (length store.history + needed) then reply.Full (length store.history) store.limit else answer)
 
-abbrev pub reply_to : Store → Plan → Reply
-reply_to store (Say answer) = answer
-reply_to store (Log entry answer) = logged store (length (asked_of (Log entry answer))) answer
-reply_to store (RollBack p batch answer) = logged store (length (asked_of (RollBack p batch answer))) answer
+-- the tables take an edit, or none any more
+abbrev pub unless_halted : Store → Reply → Reply
+unless_halted store answer = if store.halted then reply.Halted store.installed.flushed else answer
 
--- the reply that is due where the log does not fail
+-- a flush of these versions, which stand in memory
+abbrev pub flushed : ℕ → List Version → Reply
+flushed published [] = reply.Nothing
+flushed published (first ∷ others) = reply.Flushed published (length (first ∷ others))
+
+-- a compaction, where snapshots with these numbers are live; it takes two tables at least
+abbrev pub compacted : Store → List ℕ → Reply
+compacted store snapshots =
+    if nat_lt store.installed.tables 2 then reply.Nothing
+    else reply.Compacted (length store.history) (length (retained store.history snapshots store.installed))
+
+abbrev pub reply_to : Store → Client → Plan → Reply
+reply_to store client (Say answer) = answer
+reply_to store client (Log entry answer) = logged store (length (asked_of (Log entry answer))) answer
+reply_to store client (RollBack p batch answer) = logged store (length (asked_of (RollBack p batch answer))) answer
+reply_to store client Flush = unless_halted store (flushed (length store.history) (unflushed store.history store.installed))
+reply_to store client Compact = unless_halted store (compacted store (numbers_of client.snapshots))
+
+-- the reply that is due where no device fails
 abbrev pub due : Store → Client → Command → Reply
-due store client command = reply_to store (plan store.history client command)
+due store client command = reply_to store client (plan store.history client command)
 
--- The reply is the one that is due, or the log failed as it took the command's entries.
+-- The reply is the one that is due; or the log failed as it took the command's entries, or the manifest's device or the
+-- tables' as they took the command's edit.
 abbrev pub IsReply : Store → Client → Command → Reply → Type 0
-IsReply store client command answer = (answer ≡ due store client command) ⊎ ((answer ≡ reply.FaultLog) × (is_logged (due store client command) ≡ true))
+IsReply store client command answer =
+    (answer ≡ due store client command)
+    ⊎ ((answer ≡ reply.FaultLog) × (is_logged (due store client command) ≡ true))
+    ⊎ ((answer ≡ reply.FaultTables) × (is_installed (due store client command) ≡ true))
 
 -- ---- what it leaves
 
@@ -46,8 +72,23 @@ IsReply store client command answer = (answer ≡ due store client command) ⊎ 
 abbrev pub logged_entries : Store → Client → Command → Reply → List Entry
 logged_entries store client command answer = if is_logged answer then asked_of (plan store.history client command) else []
 
+-- the edit that a plan has the tables take
+abbrev pub edit_of : Store → Client → Plan → InstalledEdit
+edit_of store client Flush = after_flush store.history store.installed
+edit_of store client Compact = after_compaction store.history (numbers_of client.snapshots) store.installed
+edit_of store client other = store.installed
+
+-- the last edit once the reply is given
+abbrev pub installed_edit : Store → Client → Command → Reply → InstalledEdit
+installed_edit store client command answer = if is_installed answer then edit_of store client (plan store.history client command) else store.installed
+
 abbrev pub store_after : Store → Client → Command → Reply → Store
-store_after store client command answer = record store { history = store.history ++ logged_entries store client command answer; stopped = if is_fault answer then true else store.stopped }
+store_after store client command answer = record store {
+  history = store.history ++ logged_entries store client command answer;
+  stopped = if is_fault answer then true else store.stopped;
+  installed = installed_edit store client command answer;
+  halted = if is_tables_fault answer then true else store.halted;
+}
 
 -- the prepare that a command takes
 abbrev pub taken : List Entry → Command → ℕ

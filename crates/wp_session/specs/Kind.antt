@@ -1,5 +1,5 @@
 -- What a reply says of the history: the one list of all replies that say something.
-use Rattle.std.specs.Prelude.{ℕ, ◌-◌, Bool, true, false, List, [], ◌∷◌, Option, Some, None, unwrap_or}
+use Rattle.std.specs.Prelude.{ℕ, suc, ◌-◌, ◌==◌, Bool, true, false, List, [], ◌∷◌, Option, Some, None, min, unwrap_or}
 use Rattle.wp_text.specs.declared.script.Command.{Command}
 use Rattle.wp_text.specs.declared.script.Command.TheVariants as command
 use Rattle.wp_text.specs.declared.reply.Reply.{Reply}
@@ -11,6 +11,10 @@ pub data Kind : Type 0 where
   Published : ℕ → Kind  -- it was given over so many entries
   Failed : Kind  -- the log failed
   Stopped : Kind  -- the log had failed before
+  Flushed : ℕ → Kind  -- one table more was installed, and this is the flushed number from then on
+  Compacted : ℕ → ℕ → Kind  -- over so many entries all tables were merged, and so many versions are left
+  FailedTables : Kind  -- the manifest's device or the tables' failed
+  Halted : Kind  -- one of them had failed before
   Plain : Kind  -- it speaks of no entry
 
 abbrev pub kind : Reply → Kind
@@ -25,6 +29,10 @@ kind (reply.Snapped n) = Published n
 kind (reply.Unknown name n) = Published n
 kind reply.FaultLog = Failed
 kind (reply.Stopped n) = Stopped
+kind (reply.Flushed n versions) = Flushed n
+kind (reply.Compacted n versions) = Compacted n versions
+kind reply.FaultTables = FailedTables
+kind (reply.Halted flushed) = Halted
 kind other = Plain
 
 abbrev pub numbers_logged : Kind → List ℕ
@@ -61,10 +69,53 @@ says_stopped other = false
 abbrev pub is_stopped : Reply → Bool
 is_stopped answer = says_stopped (kind answer)
 
+abbrev pub says_installed : Kind → Bool
+says_installed (Flushed n) = true
+says_installed (Compacted n versions) = true
+says_installed other = false
+
+-- an edit of the tables was installed at its command
+abbrev pub is_installed : Reply → Bool
+is_installed answer = says_installed (kind answer)
+
+abbrev pub says_flushed : ℕ → Kind → Bool
+says_flushed n (Flushed flushed) = n == flushed
+says_flushed n other = false
+
+-- n is the flushed number from its command on
+abbrev pub is_flushed : ℕ → Reply → Bool
+is_flushed n answer = says_flushed n (kind answer)
+
+abbrev pub says_compacted : Kind → Bool
+says_compacted (Compacted n versions) = true
+says_compacted other = false
+
+-- all tables were merged at its command
+abbrev pub is_compacted : Reply → Bool
+is_compacted answer = says_compacted (kind answer)
+
+abbrev pub says_tables_failed : Kind → Bool
+says_tables_failed FailedTables = true
+says_tables_failed other = false
+
+-- the manifest's device or the tables' failed at its command
+abbrev pub is_tables_fault : Reply → Bool
+is_tables_fault answer = says_tables_failed (kind answer)
+
+abbrev pub says_halted : Kind → Bool
+says_halted Halted = true
+says_halted other = false
+
+-- one of them had failed before its command
+abbrev pub is_halted : Reply → Bool
+is_halted answer = says_halted (kind answer)
+
 abbrev pub number_of_kind : Kind → Option ℕ
 number_of_kind (Logged n) = Some n
 number_of_kind (RolledBack n) = Some n
 number_of_kind (Published n) = Some n
+number_of_kind (Flushed n) = Some n
+number_of_kind (Compacted n versions) = Some n
 number_of_kind other = None
 
 -- the number after the @ of a reply
@@ -79,3 +130,12 @@ fresh_in other answer = number_in answer
 -- the greatest fresh number after a reply
 abbrev pub last_after : ℕ → Command → Reply → ℕ
 last_after last command answer = unwrap_or (fresh_in command answer) last
+
+abbrev pub tables_of_kind : ℕ → Kind → ℕ
+tables_of_kind tables (Flushed n) = suc tables
+tables_of_kind tables (Compacted n versions) = min versions 1
+tables_of_kind tables other = tables
+
+-- how many tables a client knows of after a reply
+abbrev pub tables_after : ℕ → Reply → ℕ
+tables_after tables answer = tables_of_kind tables (kind answer)

@@ -2,8 +2,10 @@ pub mod Kind
 pub mod Client
 pub mod After
 pub mod Replies
+pub mod Known
 pub mod Session
 pub mod Plan
+pub mod Tables
 pub mod Due
 pub mod Moments
 pub mod Current

@@ -1,32 +1,51 @@
 -- A session whose replies are due at moments of the history, one after another.
-use Rattle.std.specs.Prelude.{◌≡◌, ℕ, ◌≤◌, Bool, true, List, [], ◌∷◌, ◌++◌, length, take, IfSome}
-use Rattle.wp_model.specs.declared.entry.Entry.{Entry}
+use Rattle.std.specs.Prelude.{◌≡◌, ◌⊎◌, ℕ, ◌≤◌, Bool, true, List, [], ◌∷◌, ◌++◌, length, take, IfSome}
+use Rattle.wp_model.specs.Flushed.{InstalledEdit, later_versions}
 use Rattle.wp_text.specs.declared.script.Command.{Command}
 use Rattle.wp_text.specs.declared.reply.Reply.{Reply}
 use Rattle.wp_session.specs.Client.{Client}
 use Rattle.wp_session.specs.Due.{Store, IsReply, logged_entries, client_after}
-use Rattle.wp_session.specs.Kind.{fresh_in}
+use Rattle.wp_session.specs.Kind.{fresh_in, tables_after}
+use Rattle.wp_session.specs.Replies.{LogFailed, WasFlushed, TablesFailed, OtherCompacted, Evidence, IsKnown}
+
+-- what a store has beside its history
+pub record Devices : Type 0 where
+  pub stopped : Bool  -- the log has failed
+  pub installed : InstalledEdit  -- the last edit of the tables
+  pub halted : Bool  -- the manifest's device or the tables' has failed
 
 -- the store when so many entries of the history were published
-abbrev pub store_at : List Entry → ℕ → Bool → ℕ → Store
-store_at history limit stopped at = record { history = take at history; stopped = stopped; limit = limit }
+abbrev pub store_at : Evidence → Devices → ℕ → Store
+store_at evidence devices at = record { history = take at evidence.history; stopped = devices.stopped; limit = evidence.limit; installed = devices.installed; halted = devices.halted }
+
+-- What is known of the others fits the devices when so many entries were published: what has failed, and which number
+-- the edit has. The edit has as many tables as the client knows of, unless another client made them one, and no more
+-- versions than these entries.
+pub record AreKnown (evidence : Evidence) (at tables : ℕ) (devices : Devices) : Type 0 where
+  pub stopped : devices.stopped ≡ true → IsKnown evidence (LogFailed at)
+  pub halted : devices.halted ≡ true → IsKnown evidence TablesFailed
+  pub flushed : IsKnown evidence (WasFlushed devices.installed.flushed)
+  pub counted : (tables ≤ devices.installed.tables) ⊎ IsKnown evidence OtherCompacted
+  pub few : length devices.installed.versions ≤ length (later_versions (take at evidence.history) 0)
 
 -- The command's reply is the one that is due over the entries published before it, and its own entries are all that
--- were published until it was answered. From is how many were published earlier.
-pub record IsDueFrom (history : List Entry) (limit from : ℕ) (client : Client) (command : Command) (answer : Reply) : Type 0 where
+-- were published until it was answered. From is how many were published earlier, and tables is how many tables the
+-- client knows of.
+pub record IsDueFrom (evidence : Evidence) (from tables : ℕ) (client : Client) (command : Command) (answer : Reply) : Type 0 where
   pub before : ℕ
   pub after : ℕ
   pub earlier : from ≤ before
   pub grows : before ≤ after
-  pub within : after ≤ length history
-  pub stopped : Bool
-  pub replied : IsReply (store_at history limit stopped before) client command answer
-  pub logged : take after history ≡ take before history ++ logged_entries (store_at history limit stopped before) client command answer
-  pub ended : stopped ≡ true → before ≡ length history
+  pub within : after ≤ length evidence.history
+  pub devices : Devices
+  pub known : AreKnown evidence before tables devices
+  pub replied : IsReply (store_at evidence devices before) client command answer
+  pub logged : take after evidence.history ≡ take before evidence.history ++ logged_entries (store_at evidence devices before) client command answer
   pub fresh : IfSome (fresh_in command answer) (λ n. (before ≤ n) × (n ≤ after))
 
-abbrev pub AreDueFrom : List Entry → ℕ → ℕ → Client → List Command → List Reply → Type 0
-AreDueFrom history limit from client [] [] = Unit {0}
-AreDueFrom history limit from client [] (answer ∷ answers) = ⊥
-AreDueFrom history limit from client (first ∷ commands) [] = ⊥
-AreDueFrom history limit from client (first ∷ commands) (answer ∷ answers) = (given : IsDueFrom history limit from client first answer) × AreDueFrom history limit given.after (client_after (take given.before history) client first answer) commands answers
+abbrev pub AreDueFrom : Evidence → ℕ → ℕ → Client → List Command → List Reply → Type 0
+AreDueFrom evidence from tables client [] [] = Unit {0}
+AreDueFrom evidence from tables client [] (answer ∷ answers) = ⊥
+AreDueFrom evidence from tables client (first ∷ commands) [] = ⊥
+AreDueFrom evidence from tables client (first ∷ commands) (answer ∷ answers) =
+    (given : IsDueFrom evidence from tables client first answer) × AreDueFrom evidence given.after (tables_after tables answer) (client_after (take given.before evidence.history) client first answer) commands answers

@@ -1,5 +1,5 @@
 -- What a command comes to where nobody else changes the store: exactly one reply, or the entries that the log is asked to
--- take and the reply that acknowledges them.
+-- take and the reply that acknowledges them, or a change of the tables.
 use Rattle.std.specs.Prelude.{ℕ, ◌+◌, List, [], ◌∷◌, length, Option, Some, None, unwrap_or}
 use Rattle.wp_model.specs.declared.change.Change.{Change}
 use Rattle.wp_model.specs.declared.change.Change.TheVariants as change
@@ -16,7 +16,7 @@ use Rattle.wp_session.specs.declared.client.LabelledSnapshot.{LabelledSnapshot}
 use Rattle.wp_session.specs.declared.client.Txn.{Txn}
 use Rattle.wp_session.specs.declared.client.Txn.TheVariants.{Idle, Open, Prepared}
 use Rattle.wp_session.specs.declared.plan.Plan.{Plan}
-use Rattle.wp_session.specs.declared.plan.Plan.TheVariants.{Say, Log, RollBack}
+use Rattle.wp_session.specs.declared.plan.Plan.TheVariants.{Say, Log, RollBack, Flush, Compact}
 use Rattle.wp_session.specs.Client.{Client, own_batch, number_of}
 use Rattle.wp_session.specs.Replies.{refuses_change, unless_idle, unless_prepared, unless_labelled, refuses_label}
 
@@ -122,9 +122,11 @@ plan history client command.Commit = commit_plan history client.txn
 plan history client command.Rollback = rollback_plan history client.txn
 plan history client command.Leave = leave_plan client.txn
 plan history client (command.Take name) = take_plan history client.txn name
+plan history client command.Flush = Flush
+plan history client command.Compact = Compact
 
 -- the entries that it asks the log to take, as one record
 abbrev pub asked_of : Plan → List Entry
-asked_of (Say answer) = []
 asked_of (Log entry answer) = entry ∷ []
 asked_of (RollBack p batch answer) = entry.Undo p batch ∷ entry.Close p ∷ []
+asked_of other = []

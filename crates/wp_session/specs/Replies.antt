@@ -1,11 +1,12 @@
 -- The table of replies: each reply is given only where its row says so, over a history, with what is known of the other
 -- clients. Each row stays true as the history grows, and as more is known of the others.
-use Rattle.std.specs.Prelude.{◌≡◌, ◌⊎◌, ℕ, ◌+◌, ◌-◌, ◌<◌, ◌≤◌, ◌==◌, Bool, true, false, nat_le, List, [], ◌∷◌, length, take, Option, Some, None, is_some, if◌then◌else◌}
+use Rattle.std.specs.Prelude.{◌≡◌, ◌⊎◌, ℕ, ◌+◌, ◌-◌, ◌<◌, ◌≤◌, Bool, true, nat_le, List, [], ◌∷◌, length, take, Option, Some, None, is_some, if◌then◌else◌}
 use Rattle.wp_model.specs.declared.change.Change.{Change}
 use Rattle.wp_model.specs.declared.change.Change.TheVariants as change
 use Rattle.wp_model.specs.declared.entry.Entry.{Entry}
 use Rattle.wp_model.specs.declared.entry.Entry.TheVariants as entry
 use Rattle.wp_model.specs.Batch.{change_to}
+use Rattle.wp_model.specs.Flushed.{later_versions}
 use Rattle.wp_model.specs.History.{entry_at, name_at, batch_at, is_undecided, is_changed, named, value_at}
 use Rattle.wp_text.specs.declared.script.Command.{Command}
 use Rattle.wp_text.specs.declared.script.Command.TheVariants as command
@@ -19,28 +20,23 @@ use Rattle.wp_session.specs.Client.{Client, number_of, own_batch, has_no_room}
 
 -- ---- what is known of the others
 
--- what a row may say of the other clients and of the log
+-- what a row may say of the other clients, of the log and of the tables
 pub data Claim : Type 0 where
   HasName : List ℕ → Claim  -- another client was answered `begun` or `took` for the name
   HasKey : List ℕ → List ℕ → Claim  -- another client's transaction of this name has the key in its batch
   LogFailed : ℕ → Claim  -- the log failed, and so many entries are all of the history
+  WasFlushed : ℕ → Claim  -- this was the flushed number at opening, or a client was answered `flushed` with it
+  TablesFailed : Claim  -- a client was answered `fault tables`
+  OtherCompacted : Claim  -- another client was answered `compacted`
 
 -- what a reply is judged by
 pub record Evidence : Type 0 where
   pub history : List Entry
   pub limit : ℕ  -- the greatest number that an entry may have
-  pub known : Claim → Bool  -- what is known of the other clients and of the log
+  pub known : Claim → Bool  -- what is known of the other clients, of the log and of the tables
 
 abbrev pub IsKnown : Evidence → Claim → Type 0
 IsKnown evidence claim = evidence.known claim ≡ true
-
--- what one history alone says, where no two clients run at once
-abbrev pub says_alone : List Entry → Claim → Bool
-says_alone history (LogFailed n) = n == length history
-says_alone history other = false
-
-abbrev pub one_at_a_time : List Entry → ℕ → Evidence
-one_at_a_time history limit = record { history = history; limit = limit; known = says_alone history }
 
 -- ---- what the client's own transaction and snapshots refuse, whatever the store has
 
@@ -87,6 +83,8 @@ refusal_of client command.Commit = if_idle client.txn
 refusal_of client command.Rollback = if_idle client.txn
 refusal_of client command.Leave = unless_prepared client.txn
 refusal_of client (command.Take name) = unless_idle client.txn
+refusal_of client command.Flush = None
+refusal_of client command.Compact = None
 
 -- ---- what a row says of the history
 
@@ -160,38 +158,70 @@ abbrev pub RollsBackAt : List Entry → ℕ → Txn → ℕ → Type 0
 RollsBackAt history last (Prepared p) n = IsLoggedAt history last n (entry.Close p) × ((batch : List Change) × IsLoggedAt history last (n - 1) (entry.Undo p batch))
 RollsBackAt history last other n = ⊥
 
+-- ---- tables
+
+-- So many versions are numbered above a number that was the flushed one, and up to n.
+abbrev pub IsFlushCount : Evidence → ℕ → ℕ → Type 0
+IsFlushCount evidence n versions = (flushed : ℕ) × IsKnown evidence (WasFlushed flushed) × (length (later_versions (take n evidence.history) flushed) ≡ versions)
+
+-- there are that many versions up to n, or more
+abbrev pub IsCompactionCount : List Entry → ℕ → ℕ → Type 0
+IsCompactionCount history n versions = versions ≤ length (later_versions (take n history) 0)
+
+-- Nothing was to be flushed: no version is numbered above a number that was the flushed one, and up to what the client
+-- had seen.
+abbrev pub HasNothingToFlush : Evidence → ℕ → Type 0
+HasNothingToFlush evidence last = (last ≤ length evidence.history) × ((flushed : ℕ) × IsKnown evidence (WasFlushed flushed) × (later_versions (take last evidence.history) flushed ≡ []))
+
+-- Nothing was to be merged: the client knows of fewer than two tables, or another client made them one.
+abbrev pub HasNothingToMerge : Evidence → ℕ → Type 0
+HasNothingToMerge evidence tables = (tables < 2) ⊎ IsKnown evidence OtherCompacted
+
+-- the manifest's device or the tables' failed, and the number was the flushed one
+abbrev pub IsHaltedAt : Evidence → ℕ → Type 0
+IsHaltedAt evidence flushed = IsKnown evidence (WasFlushed flushed) × IsKnown evidence TablesFailed
+
 -- ---- the rows
 
--- A row for each command and reply. Last is the greatest fresh number so far, and `took` gives the prepare with the
--- number p. Of `held`, `freed`, `begun`, `dropped` and `left` the client's state alone decides.
-abbrev pub Row : Evidence → ℕ → Client → ℕ → Command → Reply → Type 0
-Row evidence last client p command (reply.Full published most) = (1 ≤ needed client.txn command) × IsFresh evidence.history last published × (most ≡ evidence.limit) × (evidence.limit < published + needed client.txn command)
-Row evidence last client p command reply.FaultLog = 1 ≤ needed client.txn command
-Row evidence last client p command (reply.Stopped n) = (1 ≤ needed client.txn command) × IsFresh evidence.history last n × IsKnown evidence (LogFailed n)
-Row evidence last client p (command.Put key value) (reply.Put n) = (client.txn ≡ Idle) × IsLoggedAt evidence.history last n (entry.Write (change.Put key value ∷ []))
-Row evidence last client p (command.Put key value) reply.Held = TxnIsOpen client.txn
-Row evidence last client p (command.Put key value) (reply.Busy name) = IsBusy evidence last key name
-Row evidence last client p (command.Del key) (reply.Del n) = (client.txn ≡ Idle) × IsLoggedAt evidence.history last n (entry.Write (change.Del key ∷ []))
-Row evidence last client p (command.Del key) reply.Held = TxnIsOpen client.txn
-Row evidence last client p (command.Del key) (reply.Busy name) = IsBusy evidence last key name
-Row evidence last client p (command.Get key) (reply.Got value n) = OwnSays evidence.history client.txn key None × IsFresh evidence.history last n × (value_at evidence.history key n ≡ Some value)
-Row evidence last client p (command.Get key) (reply.Missing n) = OwnSays evidence.history client.txn key None × IsFresh evidence.history last n × (value_at evidence.history key n ≡ None)
-Row evidence last client p (command.Get key) (reply.GotOwn value) = OwnSays evidence.history client.txn key (Some (Some value))
-Row evidence last client p (command.Get key) reply.MissingOwn = OwnSays evidence.history client.txn key (Some None)
-Row evidence last client p (command.GetAt key label) (reply.Got value n) = IsSnapshot evidence.history client label n × (value_at evidence.history key n ≡ Some value)
-Row evidence last client p (command.GetAt key label) (reply.Missing n) = IsSnapshot evidence.history client label n × (value_at evidence.history key n ≡ None)
-Row evidence last client p (command.Snap label) (reply.Snapped n) = IsFresh evidence.history last n
-Row evidence last client p (command.Free label) reply.Freed = Unit {0}
-Row evidence last client p (command.Begin name) reply.Begun = Unit {0}
-Row evidence last client p (command.Begin name) (reply.Taken other) = (other ≡ name) × IsNameTaken evidence last name
-Row evidence last client p command.Prepare (reply.Prepared n) = PreparesAt evidence.history last client.txn n
-Row evidence last client p command.Commit (reply.Committed n) = CommitsAt evidence.history last client.txn n
-Row evidence last client p command.Rollback reply.Dropped = TxnIsOpen client.txn
-Row evidence last client p command.Rollback (reply.RolledBack n) = RollsBackAt evidence.history last client.txn n
-Row evidence last client p command.Leave reply.Left = Unit {0}
-Row evidence last client p (command.Take name) reply.Took = WasUndecided evidence.history last name p
-Row evidence last client p (command.Take name) (reply.Unknown other n) = (other ≡ name) × IsFresh evidence.history last n × (named (take n evidence.history) name ≡ None)
-Row evidence last client p command answer = ⊥
+-- A row for each command and reply. Last is the greatest fresh number so far, tables is how many tables the client knows
+-- of, and `took` gives the prepare with the number p. Of `held`, `freed`, `begun`, `dropped` and `left` the client's state
+-- alone decides.
+abbrev pub Row : Evidence → ℕ → ℕ → Client → ℕ → Command → Reply → Type 0
+Row evidence last tables client p command (reply.Full published most) = (1 ≤ needed client.txn command) × IsFresh evidence.history last published × (most ≡ evidence.limit) × (evidence.limit < published + needed client.txn command)
+Row evidence last tables client p command reply.FaultLog = 1 ≤ needed client.txn command
+Row evidence last tables client p command (reply.Stopped n) = (1 ≤ needed client.txn command) × IsFresh evidence.history last n × IsKnown evidence (LogFailed n)
+Row evidence last tables client p (command.Put key value) (reply.Put n) = (client.txn ≡ Idle) × IsLoggedAt evidence.history last n (entry.Write (change.Put key value ∷ []))
+Row evidence last tables client p (command.Put key value) reply.Held = TxnIsOpen client.txn
+Row evidence last tables client p (command.Put key value) (reply.Busy name) = IsBusy evidence last key name
+Row evidence last tables client p (command.Del key) (reply.Del n) = (client.txn ≡ Idle) × IsLoggedAt evidence.history last n (entry.Write (change.Del key ∷ []))
+Row evidence last tables client p (command.Del key) reply.Held = TxnIsOpen client.txn
+Row evidence last tables client p (command.Del key) (reply.Busy name) = IsBusy evidence last key name
+Row evidence last tables client p (command.Get key) (reply.Got value n) = OwnSays evidence.history client.txn key None × IsFresh evidence.history last n × (value_at evidence.history key n ≡ Some value)
+Row evidence last tables client p (command.Get key) (reply.Missing n) = OwnSays evidence.history client.txn key None × IsFresh evidence.history last n × (value_at evidence.history key n ≡ None)
+Row evidence last tables client p (command.Get key) (reply.GotOwn value) = OwnSays evidence.history client.txn key (Some (Some value))
+Row evidence last tables client p (command.Get key) reply.MissingOwn = OwnSays evidence.history client.txn key (Some None)
+Row evidence last tables client p (command.GetAt key label) (reply.Got value n) = IsSnapshot evidence.history client label n × (value_at evidence.history key n ≡ Some value)
+Row evidence last tables client p (command.GetAt key label) (reply.Missing n) = IsSnapshot evidence.history client label n × (value_at evidence.history key n ≡ None)
+Row evidence last tables client p (command.Snap label) (reply.Snapped n) = IsFresh evidence.history last n
+Row evidence last tables client p (command.Free label) reply.Freed = Unit {0}
+Row evidence last tables client p (command.Begin name) reply.Begun = Unit {0}
+Row evidence last tables client p (command.Begin name) (reply.Taken other) = (other ≡ name) × IsNameTaken evidence last name
+Row evidence last tables client p command.Prepare (reply.Prepared n) = PreparesAt evidence.history last client.txn n
+Row evidence last tables client p command.Commit (reply.Committed n) = CommitsAt evidence.history last client.txn n
+Row evidence last tables client p command.Rollback reply.Dropped = TxnIsOpen client.txn
+Row evidence last tables client p command.Rollback (reply.RolledBack n) = RollsBackAt evidence.history last client.txn n
+Row evidence last tables client p command.Leave reply.Left = Unit {0}
+Row evidence last tables client p (command.Take name) reply.Took = WasUndecided evidence.history last name p
+Row evidence last tables client p (command.Take name) (reply.Unknown other n) = (other ≡ name) × IsFresh evidence.history last n × (named (take n evidence.history) name ≡ None)
+Row evidence last tables client p command.Flush (reply.Flushed n versions) = IsFresh evidence.history last n × IsFlushCount evidence n versions
+Row evidence last tables client p command.Flush reply.Nothing = HasNothingToFlush evidence last
+Row evidence last tables client p command.Flush (reply.Halted flushed) = IsHaltedAt evidence flushed
+Row evidence last tables client p command.Flush reply.FaultTables = Unit {0}
+Row evidence last tables client p command.Compact (reply.Compacted n versions) = IsFresh evidence.history last n × IsCompactionCount evidence.history n versions
+Row evidence last tables client p command.Compact reply.Nothing = HasNothingToMerge evidence tables
+Row evidence last tables client p command.Compact (reply.Halted flushed) = IsHaltedAt evidence flushed
+Row evidence last tables client p command.Compact reply.FaultTables = Unit {0}
+Row evidence last tables client p command answer = ⊥
 
 -- the reply is the refusal, where there is one
 abbrev pub UnlessRefused : Option Reply → Reply → Type 0 → Type 0
@@ -200,5 +230,5 @@ UnlessRefused (Some refusal) answer row = answer ≡ refusal
 
 -- `state`, `toomany`, `taken S` and `unknown S` come exactly where the client's state and labels say so; else the row
 -- has the last word.
-abbrev pub Allows : Evidence → ℕ → Client → ℕ → Command → Reply → Type 0
-Allows evidence last client p command answer = UnlessRefused (refusal_of client command) answer (Row evidence last client p command answer)
+abbrev pub Allows : Evidence → ℕ → ℕ → Client → ℕ → Command → Reply → Type 0
+Allows evidence last tables client p command answer = UnlessRefused (refusal_of client command) answer (Row evidence last tables client p command answer)

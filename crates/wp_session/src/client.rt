@@ -1,6 +1,6 @@
-ghost use Rattle.std.specs.Prelude.{◌≡◌, false, nat_le, length, OnOk};
+ghost use Rattle.std.specs.Prelude.{◌≡◌, false, nat_le, length, IfOk, OnOk};
 ghost use Rattle.wp_model.specs.Batch.{key_of, with_change};
-ghost use Rattle.wp_session.specs.Client.{new_client, number_of, without_label, has_no_room};
+ghost use Rattle.wp_session.specs.Client.{new_client, number_of, numbers_of, without_label, has_no_room};
 ghost use Rattle.wp_session.specs.After.{with_staged, after_staged, after_begun, after_decision, with_labels_after};
 ghost use Rattle.wp_session.specs.Due.{client_after};
 ghost use Rattle.wp_session.specs.Plan.{plan};
@@ -94,6 +94,16 @@ impl Client {
             .iter()
             .find(|snapshot| snapshot.label == *label)
             .map(|snapshot| snapshot.number)
+    }
+
+    /// The numbers of its snapshots, which a compaction leaves the values of.
+    pub fn numbers(&self, alloc: Global) -> Result<Vec<Seq>, AllocError>
+        ensures { IfOk result (λ numbers. numbers.items ≡ numbers_of self.now.snapshots) }
+    {
+        self.snapshots
+            .iter()
+            .map(|snapshot| snapshot.number)
+            .collect(alloc)
     }
 
     /// Whether it has as many snapshots as a client may have.

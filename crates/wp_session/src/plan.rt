@@ -21,6 +21,11 @@ pub enum Plan {
     /// The log is asked to take the Undo of the prepare with this number, which has this batch, and its Close. The reply
     /// has the number of the Close.
     RollBack(Seq, Batch, Reply),
+    /// The versions that stand in memory are to be in one table more, where the tables take an edit.
+    Flush,
+    /// All tables are to be one, where the tables take an edit. It needs no version that neither a snapshot of the client
+    /// nor the newest state shows.
+    Compact,
 }
 
 /// The number of the next entry.
@@ -299,5 +304,7 @@ pub fn plan_of(
         Command::Rollback => rollback_plan(alloc, history, txn),
         Command::Leave => Ok(leave_plan(txn)),
         Command::Take(name) => take_plan(alloc, history, txn, name),
+        Command::Flush => Ok(Plan::Flush),
+        Command::Compact => Ok(Plan::Compact),
     }
 }

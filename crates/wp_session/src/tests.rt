@@ -2,7 +2,7 @@ use super::*;
 use std::alloc::Global;
 use std::test::*;
 use wp_history::History;
-use wp_model::{Batch, Change, Entry, Key, Name, Value};
+use wp_model::{Batch, Change, Entry, Key, Name, Seq, Value};
 use wp_text::{Command, Reply, read_script, reply_line};
 
 /// A session's first command, and its reply where k is written by entry 1, and x by entry 2, the prepare of t.
@@ -50,11 +50,12 @@ fn store(alloc: Global) -> Result<History, Fail> {
     Ok(history)
 }
 
-fn reply_in(plan: Plan) -> Reply {
+fn reply_in(plan: Plan) -> Result<Reply, Fail> {
     match plan {
-        Plan::Say(reply) => reply,
-        Plan::Log(_entry, reply) => reply,
-        Plan::RollBack(_p, _batch, reply) => reply,
+        Plan::Say(reply) => Ok(reply),
+        Plan::Log(_entry, reply) => Ok(reply),
+        Plan::RollBack(_p, _batch, reply) => Ok(reply),
+        Plan::Flush | Plan::Compact => Err("the tables are asked")?,
     }
 }
 
@@ -64,7 +65,7 @@ fn first_reply(alloc: Global, history: &History, command: &Command) -> Result<Re
     if let Plan::Say(reply) = &plan {
         client.take(alloc, history, command, reply)?;
     }
-    Ok(reply_in(plan))
+    reply_in(plan)
 }
 
 fn line_of(alloc: Global, history: &History, script: &[u8]) -> Result<Vec<u8>, Fail> {
@@ -86,5 +87,27 @@ fn answers_first_commands(rt: HostRuntime) -> Result<(), Fail> {
     for (script, reply) in FIRST_COMMANDS {
         assert_eq!(rt; &*line_of(alloc, &history, script)?, reply, "{script:?}");
     }
+    Ok(())
+}
+
+fn numbers_after(alloc: Global, history: &History, command: &Command) -> Result<Vec<Seq>, Fail> {
+    let mut client = Client::new(alloc);
+    if let Plan::Say(reply) = plan_of(alloc, history, &client, command)? {
+        client.take(alloc, history, command, &reply)?;
+    }
+    Ok(client.numbers(alloc)?)
+}
+
+/// With ample memory a client tells which snapshots it has.
+#[test]
+fn tells_its_snapshots(rt: HostRuntime) -> Result<(), Fail> {
+    let alloc = rt.alloc();
+    let history = store(alloc)?;
+    let snap = Command::Snap(Name::read(alloc, b"s")?);
+    assert_eq!(rt; &*numbers_after(alloc, &history, &snap)?, [2].as_slice());
+    assert_eq!(rt;
+        &*numbers_after(alloc, &history, &Command::Flush)?,
+        [].as_slice()
+    );
     Ok(())
 }

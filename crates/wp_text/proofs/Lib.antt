@@ -5,3 +5,4 @@ pub mod ScriptLaws
 pub mod Answered
 pub mod CommandCount
 pub mod Loop
+pub mod Pushed

@@ -42,6 +42,8 @@ words_again (statement.Command command.Commit) = refl
 words_again (statement.Command command.Rollback) = refl
 words_again (statement.Command command.Leave) = refl
 words_again (statement.Command (command.Take name)) = tested (is_name name) name (λ w. statement.Command (command.Take w))
+words_again (statement.Command command.Flush) = refl
+words_again (statement.Command command.Compact) = refl
 
 pub in_range_again : (s : Statement) → is_in_range s ≡ true → statement_of (statement_words s) ≡ Ok (Some s)
 in_range_again s range = words_again s ∙ ap (λ (b : Bool). cond b (Ok (Some s)) (Err BadWord)) range
@@ -180,6 +182,8 @@ after_keyword keyword.Commit words = alone_read (keyword_text keyword.Commit) co
 after_keyword keyword.Rollback words = alone_read (keyword_text keyword.Rollback) command.Rollback (refl, refl) words
 after_keyword keyword.Leave words = alone_read (keyword_text keyword.Leave) command.Leave (refl, refl) words
 after_keyword keyword.Take words = one_word_read MOST_NAME_BYTES (keyword_text keyword.Take) (λ w. statement.Command (command.Take w)) (λ w. (refl, refl)) words
+after_keyword keyword.Flush words = alone_read (keyword_text keyword.Flush) command.Flush (refl, refl) words
+after_keyword keyword.Compact words = alone_read (keyword_text keyword.Compact) command.Compact (refl, refl) words
 
 -- ---- all words of a line
 

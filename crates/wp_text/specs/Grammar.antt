@@ -49,6 +49,8 @@ command_words command.Commit = codes "commit" ∷ []
 command_words command.Rollback = codes "rollback" ∷ []
 command_words command.Leave = codes "leave" ∷ []
 command_words (command.Take name) = codes "take" ∷ name ∷ []
+command_words command.Flush = codes "flush" ∷ []
+command_words command.Compact = codes "compact" ∷ []
 
 -- the words that a statement is written with
 abbrev pub statement_words : Statement → List (List ℕ)
@@ -69,6 +71,8 @@ is_command_in_range command.Commit = true
 is_command_in_range command.Rollback = true
 is_command_in_range command.Leave = true
 is_command_in_range (command.Take name) = is_name name
+is_command_in_range command.Flush = true
+is_command_in_range command.Compact = true
 
 abbrev pub is_in_range : Statement → Bool
 is_in_range (statement.Client name) = is_name name

@@ -48,6 +48,11 @@ reply_words (reply.UnknownSnapshot name) = codes "unknown " ++ name
 reply_words (reply.Full published limit) = codes "full " ++ decimal published ++ codes " " ++ decimal limit
 reply_words reply.FaultLog = codes "fault log"
 reply_words (reply.Stopped published) = codes "stopped " ++ decimal published
+reply_words (reply.Flushed at versions) = codes "flushed " ++ numbered at ++ codes " " ++ decimal versions
+reply_words (reply.Compacted at versions) = codes "compacted " ++ numbered at ++ codes " " ++ decimal versions
+reply_words reply.Nothing = codes "nothing"
+reply_words (reply.Halted flushed) = codes "halted " ++ decimal flushed
+reply_words reply.FaultTables = codes "fault tables"
 
 abbrev pub reply_line : Reply → List ℕ
 reply_line reply = reply_words reply ++ line_end

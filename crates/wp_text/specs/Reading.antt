@@ -43,6 +43,8 @@ keyword_text keyword.Commit = codes "commit"
 keyword_text keyword.Rollback = codes "rollback"
 keyword_text keyword.Leave = codes "leave"
 keyword_text keyword.Take = codes "take"
+keyword_text keyword.Flush = codes "flush"
+keyword_text keyword.Compact = codes "compact"
 
 unfoldable pub keyword_named : List ℕ → Option Keyword
 keyword_named word = find (λ keyword. bytes_eq (keyword_text keyword) word) KEYWORDS
@@ -95,6 +97,8 @@ statement_with keyword.Leave words = alone command.Leave words
 statement_with keyword.Take words = do
   name ← one_word MOST_NAME_BYTES words
   Ok (statement.Command (command.Take name))
+statement_with keyword.Flush words = alone command.Flush words
+statement_with keyword.Compact words = alone command.Compact words
 
 -- the same where the first word names a keyword
 unfoldable pub statement_named : Option Keyword → List (List ℕ) → Result (Option Statement) Why

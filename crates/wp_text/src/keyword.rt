@@ -16,9 +16,11 @@ pub enum Keyword {
     Rollback,
     Leave,
     Take,
+    Flush,
+    Compact,
 }
 
-const KEYWORDS: [Keyword; 12] = [
+const KEYWORDS: [Keyword; 14] = [
     Keyword::Client,
     Keyword::Put,
     Keyword::Del,
@@ -31,6 +33,8 @@ const KEYWORDS: [Keyword; 12] = [
     Keyword::Rollback,
     Keyword::Leave,
     Keyword::Take,
+    Keyword::Flush,
+    Keyword::Compact,
 ];
 
 impl Keyword {
@@ -50,6 +54,8 @@ impl Keyword {
             Keyword::Rollback => b"rollback",
             Keyword::Leave => b"leave",
             Keyword::Take => b"take",
+            Keyword::Flush => b"flush",
+            Keyword::Compact => b"compact",
         }
     }
 

@@ -103,6 +103,8 @@ fn statement_with(alloc: Global, keyword: Keyword, words: &[&[u8]]) -> Result<St
         Keyword::Rollback => alone(words, Command::Rollback)?,
         Keyword::Leave => alone(words, Command::Leave)?,
         Keyword::Take => Statement::Command(Command::Take(one_word(alloc, words)?)),
+        Keyword::Flush => alone(words, Command::Flush)?,
+        Keyword::Compact => alone(words, Command::Compact)?,
     })
 }
 

@@ -19,6 +19,13 @@ fn push_with_number(out: &mut Vec<u8>, text: &[u8], n: Seq) -> Result<(), AllocE
     push_number(out, n)
 }
 
+fn push_two_numbers(out: &mut Vec<u8>, text: &[u8], n: Seq, m: u64) -> Result<(), AllocError>
+    ensures { OnOk result (out.new.items ≡ out.old.items ++ text.now ++ decimal n ++ codes " " ++ decimal m) }
+{
+    push_with_number(out, text, n)?;
+    push_with_number(out, b" ", m)
+}
+
 fn push_with_word<const MOST: usize>(
     out: &mut Vec<u8>,
     text: &[u8],
@@ -79,12 +86,16 @@ fn push_reply(out: &mut Vec<u8>, reply: &Reply) -> Result<(), AllocError>
         Reply::Busy(name) => push_with_word(out, b"busy txn ", name),
         Reply::Unknown { name, at } => push_word_at(out, b"unknown ", name, *at),
         Reply::UnknownSnapshot(name) => push_with_word(out, b"unknown ", name),
-        Reply::Full { published, limit } => {
-            push_with_number(out, b"full ", *published)?;
-            push_with_number(out, b" ", *limit)
-        }
+        Reply::Full { published, limit } => push_two_numbers(out, b"full ", *published, *limit),
         Reply::FaultLog => out.extend_from_slice(b"fault log"),
         Reply::Stopped(n) => push_with_number(out, b"stopped ", *n),
+        Reply::Flushed { at, versions } => { push_two_numbers(out, b"flushed @", *at, *versions) }
+        Reply::Compacted { at, versions } => {
+            push_two_numbers(out, b"compacted @", *at, *versions)
+        }
+        Reply::Nothing => out.extend_from_slice(b"nothing"),
+        Reply::Halted(n) => push_with_number(out, b"halted ", *n),
+        Reply::FaultTables => out.extend_from_slice(b"fault tables"),
     }
 }
 
@@ -151,7 +162,6 @@ pub fn history_line(out: &mut Vec<u8>, n: Seq, entry: &Entry) -> Result<(), Allo
 pub fn end_line(out: &mut Vec<u8>, published: Seq, undecided: u64) -> Result<(), AllocError>
     ensures { OnOk result (out.new.items ≡ out.old.items ++ text.end_line published undecided) }
 {
-    push_with_number(out, b"end ", published)?;
-    push_with_number(out, b" ", undecided)?;
+    push_two_numbers(out, b"end ", published, undecided)?;
     out.extend_from_slice(b"\n")
 }

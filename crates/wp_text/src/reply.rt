@@ -53,4 +53,14 @@ pub enum Reply {
     FaultLog,
     /// The log failed before; this is the number published.
     Stopped(Seq),
+    /// Every version numbered up to this, the number published, is in a table; the new table has so many versions.
+    Flushed { at: Seq, versions: u64 },
+    /// All tables are one, merged when this number was published. It has so many versions; with none there is no table.
+    Compacted { at: Seq, versions: u64 },
+    /// No version stands in memory alone, so there is nothing to flush; or there are too few tables to merge.
+    Nothing,
+    /// A flush or a compaction failed before; this is the flushed number that the tables have.
+    Halted(Seq),
+    /// The manifest's device or the tables' failed at the flush or the compaction. Neither is tried again in this run.
+    FaultTables,
 }

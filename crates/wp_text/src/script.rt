@@ -29,6 +29,10 @@ pub enum Command {
     Leave,
     /// Take the prepared transaction of this name.
     Take(Name),
+    /// Write every version that stands in memory alone into a table.
+    Flush,
+    /// Merge all tables into one, without the versions that no reader needs.
+    Compact,
 }
 
 /// The commands of one client, in order.

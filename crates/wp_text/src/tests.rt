@@ -51,7 +51,7 @@ fn the_first_fault_is_named(rt: HostRuntime) {
     }
 }
 
-const WRONG_COMMANDS: [(&str, Why); 34] = [
+const WRONG_COMMANDS: [(&str, Why); 36] = [
     ("del", Why::BadCommand),
     ("get", Why::BadCommand),
     ("snap", Why::BadCommand),
@@ -74,6 +74,8 @@ const WRONG_COMMANDS: [(&str, Why); 34] = [
     ("commit x", Why::BadCommand),
     ("rollback x", Why::BadCommand),
     ("leave x", Why::BadCommand),
+    ("flush x", Why::BadCommand),
+    ("compact x", Why::BadCommand),
     ("snaps s", Why::BadCommand),
     ("begin 123456789012345678901234567890123 u", Why::BadCommand),
     (
@@ -179,9 +181,11 @@ commit
 rollback
 leave
 take t12
+flush
+compact
 ";
 
-const COMMANDS_READ: [(&str, &[u8], &[u8]); 12] = [
+const COMMANDS_READ: [(&str, &[u8], &[u8]); 14] = [
     ("put", b"k1", b"v1"),
     ("del", b"k2", b""),
     ("get", b"k3", b""),
@@ -194,6 +198,8 @@ const COMMANDS_READ: [(&str, &[u8], &[u8]); 12] = [
     ("rollback", b"", b""),
     ("leave", b"", b""),
     ("take", b"t12", b""),
+    ("flush", b"", b""),
+    ("compact", b"", b""),
 ];
 
 fn parts_of(command: &Command) -> (&str, &[u8], &[u8]) {
@@ -210,6 +216,8 @@ fn parts_of(command: &Command) -> (&str, &[u8], &[u8]) {
         Command::Rollback => ("rollback", b"", b""),
         Command::Leave => ("leave", b"", b""),
         Command::Take(name) => ("take", name.bytes(), b""),
+        Command::Flush => ("flush", b"", b""),
+        Command::Compact => ("compact", b"", b""),
     }
 }
 
@@ -296,6 +304,9 @@ fn replies_have_their_lines(rt: HostRuntime) -> Result<(), Fail> {
         (Reply::RolledBack(6), "rollback @6\n"),
         (Reply::Left, "left\n"),
         (Reply::Took, "took\n"),
+        (Reply::Flushed { at: 7, versions: 2 }, "flushed @7 2\n"),
+        (Reply::Compacted { at: 8, versions: 0 }, "compacted @8 0\n"),
+        (Reply::Nothing, "nothing\n"),
     ] {
         assert_eq!(rt;
             line_of(alloc, &reply)?.as_slice(),
@@ -331,6 +342,8 @@ fn refusals_have_their_lines(rt: HostRuntime) -> Result<(), Fail> {
         ),
         (Reply::FaultLog, "fault log\n"),
         (Reply::Stopped(10), "stopped 10\n"),
+        (Reply::Halted(11), "halted 11\n"),
+        (Reply::FaultTables, "fault tables\n"),
     ] {
         assert_eq!(rt;
             line_of(alloc, &reply)?.as_slice(),

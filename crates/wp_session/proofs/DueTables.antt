@@ -1,0 +1,112 @@
+-- A reply to a flush or a compaction that is due at a moment of a history is one that the table allows.
+use Rattle.std.proofs.Common.{◌≡◌, ℕ, zero, suc, ◌≤◌, ◌⊎◌, Bool, true, false, List, [], ◌∷◌, ◌++◌, length, take, drop, None, refl, sym, ap, ◌∙◌, subst, arith, inl, inr}
+use Rattle.std.specs.List.{filter}
+use Rattle.std.specs.Prelude.{nat_lt}
+use Rattle.std.proofs.lemmas.Bool.{cases_Bool, ltb-true}
+use Rattle.std.proofs.lemmas.List.{take-append-drop}
+use Rattle.wp_model.specs.declared.entry.Entry.{Entry}
+use Rattle.wp_model.specs.Legal.{changes_in}
+use Rattle.wp_model.specs.declared.version.Version.{Version}
+use Rattle.wp_model.specs.Decision.{is_committed}
+use Rattle.wp_model.specs.Flushed.{versions_under, versions_after, later_versions}
+use Rattle.wp_keep.specs.Keep.{stays, staying, remains}
+use Rattle.wp_text.specs.declared.script.Command.{Command}
+use Rattle.wp_text.specs.declared.script.Command.TheVariants as command
+use Rattle.wp_text.specs.declared.reply.Reply.{Reply}
+use Rattle.wp_text.specs.declared.reply.Reply.TheVariants as reply
+use Rattle.wp_session.specs.Client.{Client, numbers_of}
+use Rattle.wp_session.specs.Kind.{is_logged}
+use Rattle.wp_session.specs.Replies.{OtherCompacted, IsKnown, refusal_of, IsCompactionCount, HasNothingToMerge, IsHaltedAt}
+use Rattle.wp_session.specs.Due.{unless_halted, flushed, due, IsReply}
+use Rattle.wp_session.specs.Tables.{unflushed, retained}
+use Rattle.wp_session.proofs.Scenes.{front_take, Scene, front, store_in, RowOf, IsAllowed, front_size, front_fresh, none_of, by_row}
+
+append_empty : {A : Type 0} (xs ys : List A) → xs ++ ys ≡ [] → (xs ≡ []) × (ys ≡ [])
+append_empty [] ys is = (refl, is)
+append_empty (x ∷ xs) ys is = absurd cc
+
+-- where a longer history has no version, its front has none either
+none_in_front : (front more : List Entry) (k : ℕ) → versions_after k (front ++ more) ≡ [] → versions_after k front ≡ []
+none_in_front [] more k none = refl
+none_in_front (e ∷ front) more k none =
+    let parts = append_empty (versions_under (suc k) (changes_in e)) (versions_after (suc k) (front ++ more)) none in
+    let rest = none_in_front front more (suc k) parts.1 in
+    rw (parts.0, rest) refl
+
+-- nor above a number
+none_above : (front more : List Entry) (k n : ℕ) → versions_after k (drop n (front ++ more)) ≡ [] → versions_after k (drop n front) ≡ []
+none_above front more k zero none = none_in_front front more k none
+none_above [] more k (suc n) none = refl
+none_above (e ∷ front) more k (suc n) none = none_above front more k n none
+
+-- the row of a flush or a compaction where the tables take an edit, or fail
+on_tables : {client : Client} {c : Command} {answer : Reply} (s : Scene client c answer) (made : Reply) → refusal_of client c ≡ None → due (store_in s) client c ≡ unless_halted (store_in s) made
+    → is_logged made ≡ false → RowOf s made → RowOf s reply.FaultTables → (IsHaltedAt s.evidence s.given.devices.installed.flushed → RowOf s (reply.Halted s.given.devices.installed.flushed)) → IsAllowed s
+on_tables {client = client} {c = c} {answer = answer} s made free due_is unlogged row fault halted = by_row s free (by s.given.replied)
+  where
+    by_halted : (r : Reply) → r ≡ unless_halted (store_in s) made → RowOf s r
+    by_halted r is = elim (cases_Bool s.given.devices.halted) [
+      | inl failed ↦ let answered : r ≡ reply.Halted s.given.devices.installed.flushed = rw failed at is in subst (RowOf s) (sym answered) (halted (s.given.known.flushed, s.given.known.halted failed))
+      | inr runs ↦ let answered : r ≡ made = rw runs at is in subst (RowOf s) (sym answered) row
+    ]
+
+    none_logged : is_logged (unless_halted (store_in s) made) ≡ true → ⊥
+    none_logged logs = elim (cases_Bool s.given.devices.halted) [
+      | inl failed ↦ let none : is_logged (reply.Halted s.given.devices.installed.flushed) ≡ true = rw failed at logs in absurd cc
+      | inr runs ↦ let some : is_logged made ≡ true = rw runs at logs in none_of (is_logged made) false (rw unlogged refl) some
+    ]
+
+    by : IsReply (store_in s) client c answer → RowOf s answer
+    by (inl is) = by_halted answer (is ∙ due_is)
+    by (inr (inl failed)) = absurd (none_logged (subst (λ (r : Reply). is_logged r ≡ true) due_is failed.1))
+    by (inr (inr failed)) = subst (RowOf s) (sym failed.0) fault
+
+pub flush_allowed : {client : Client} {answer : Reply} (s : Scene client command.Flush answer) → IsAllowed s
+flush_allowed {client = client} s = by (unflushed (front s) s.given.devices.installed) refl
+  where
+    by : (versions : List Version) → unflushed (front s) s.given.devices.installed ≡ versions → IsAllowed s
+    by [] is = on_tables s reply.Nothing refl (ap (λ (vs : List Version). unless_halted (store_in s) (flushed (length (front s)) vs)) is) refl (seen, (s.given.devices.installed.flushed, s.given.known.flushed, none)) tt (λ halted. halted)
+      where
+        seen : s.last ≤ length s.evidence.history
+        seen = omega (arith, s.low, s.given.earlier, s.given.grows, s.given.within)
+
+        none : later_versions (take s.last s.evidence.history) s.given.devices.installed.flushed ≡ []
+        none =
+            let low : s.last ≤ s.given.before = omega (arith, s.low, s.given.earlier) in
+            let parts : take s.last s.evidence.history ++ drop s.last (front s) ≡ front s = subst (λ (xs : List Entry). xs ++ drop s.last (front s) ≡ front s) (front_take s.evidence.history s.last s.given.before low) (take-append-drop s.last (front s)) in
+            none_above (take s.last s.evidence.history) (drop s.last (front s)) s.given.devices.installed.flushed s.given.devices.installed.flushed (rw parts is)
+    by (v ∷ versions) is =
+        let same : take (length (front s)) s.evidence.history ≡ front s = ap (λ (n : ℕ). take n s.evidence.history) (front_size s) in
+        on_tables s (reply.Flushed (length (front s)) (length (v ∷ versions))) refl (ap (λ (vs : List Version). unless_halted (store_in s) (flushed (length (front s)) vs)) is) refl
+        (front_fresh s, (s.given.devices.installed.flushed, s.given.known.flushed, ap (λ (xs : List Entry). length (later_versions xs s.given.devices.installed.flushed)) same ∙ ap (λ (vs : List Version). length vs) is)) tt (λ halted. halted)
+
+fewer : (keeps : Version → Bool) (versions : List Version) → length (filter keeps versions) ≤ length versions
+fewer keeps [] = omega arith
+fewer keeps (v ∷ versions) =
+    let rest = fewer keeps versions in
+    elim (cases_Bool (keeps v)) [ inl kept ↦ rw kept (omega (arith, rest)) | inr dropped ↦ rw dropped (omega (arith, rest)) ]
+
+pub compact_allowed : {client : Client} {answer : Reply} (s : Scene client command.Compact answer) → IsAllowed s
+compact_allowed {client = client} s =
+    elim (cases_Bool (nat_lt s.given.devices.installed.tables 2)) [
+      | inl few ↦ on_tables s reply.Nothing refl (ap (unless_halted (store_in s)) (rw few refl)) refl (few_known few s.given.known.counted) tt (λ halted. halted)
+      | inr enough ↦ on_tables s (reply.Compacted (length (front s)) (length kept)) refl (ap (unless_halted (store_in s)) (rw enough refl)) refl (front_fresh s, counted) tt (λ halted. halted)
+    ]
+  where
+    kept : List Version
+    kept = retained (front s) (numbers_of client.snapshots) s.given.devices.installed
+
+    few_known : nat_lt s.given.devices.installed.tables 2 ≡ true → (s.tables ≤ s.given.devices.installed.tables) ⊎ IsKnown s.evidence OtherCompacted → HasNothingToMerge s.evidence s.tables
+    few_known few (inl counted) = inl (omega (arith, counted, ltb-true _ _ few))
+    few_known few (inr known) = inr known
+
+    counted : IsCompactionCount s.evidence.history (length (front s)) (length kept)
+    counted =
+        let same : take (length (front s)) s.evidence.history ≡ front s = ap (λ (n : ℕ). take n s.evidence.history) (front_size s) in
+        let committed = is_committed (front s) in
+        let numbers = numbers_of client.snapshots in
+        let at = length (front s) in
+        let versions = s.given.devices.installed.versions in
+        let staying_fewer = fewer (stays committed versions numbers at) versions in
+        let remaining_fewer = fewer (remains committed (staying committed versions numbers at) at) (staying committed versions numbers at) in
+        rw same (omega (arith, staying_fewer, remaining_fewer, s.given.known.few))
