@@ -1,0 +1,50 @@
+-- A table that is made of the parts of an opening world shows that world.
+use Rattle.std.specs.Prelude.{All}
+use Rattle.std.proofs.Common.{◌≡◌, ℕ, suc, ◌+◌, true, List, [], ◌∷◌, ◌++◌, length, map, replicate, refl, sym, subst, ap, ◌∙◌, Option, None, arith}
+use Rattle.std.proofs.lemmas.List.{length-map}
+use mathlib.Core.Option.{some}
+use lib.ListN.{get_elem?}
+use Rattle.atomic_table.specs.Table.{opening}
+use Rattle.atomic_table.proofs.Lists.{at_map}
+use Rattle.wp_model.specs.declared.entry.Entry.{Entry}
+use Rattle.wp_core.specs.Turns.{Turn, write_turn, prepared_turn, snapshots_turn, store_turn, locks_turn, tables_turn, Holders, turn_holder, all_free}
+use Rattle.wp_core.specs.Tables.{Content}
+use Rattle.wp_core.specs.World.{new_actor, content_of}
+use Rattle.wp_core.specs.Changes.{turn_index}
+use Rattle.wp_core.specs.Runs.{stays}
+use Rattle.wp_rule.specs.Words.{turn_words, words_of}
+use Rattle.wp_rule.specs.Shows.{Rests, Shows, Founds}
+
+none_held : (turn : Turn) → turn_holder all_free turn ≡ None
+none_held write_turn = refl
+none_held prepared_turn = refl
+none_held snapshots_turn = refl
+none_held store_turn = refl
+none_held locks_turn = refl
+none_held tables_turn = refl
+
+zeros : (xs : List ℕ) → All (λ x. x ≡ 0) xs → xs ≡ replicate (length xs) 0
+zeros [] all = refl
+zeros (x ∷ xs) all = λ i. all 0 0 (omega arith) i ∷ zeros xs (λ k d low. all (suc k) d (omega arith)) i
+
+module _ {S : Type 0} (content : S → Option Content) (tells : S → Type 0) where
+  pub founds : (client : List ℕ) (opened : List Entry) (cells flag : ℕ) (slots : List S) (words : List ℕ) → Founds content tells client opened cells flag slots
+      → words ≡ length opened ∷ length opened ∷ flag ∷ replicate (cells + 7) 0 → Shows content tells opened cells (opening words slots (new_actor true client opened))
+  founds client opened cells flag slots words f is =
+      let w = f.world in let o = f.opening in
+      let cache : w.cache ≡ replicate cells 0 = zeros w.cache o.cache ∙ ap (λ n. replicate n 0) f.cells_are in
+      let front : length w.writes.history ∷ w.max_evicted ∷ w.delayed_flag ∷ w.old_flag ∷ [] ≡ length opened ∷ length opened ∷ flag ∷ 0 ∷ [] =
+      λ i. ap (λ (h : List Entry). length h) (o.history ∙ f.opened_is) i ∷ (o.max_evicted ∙ ap (λ (h : List Entry). length h) f.opened_is) i ∷ f.flag_is i ∷ o.old_flag i ∷ [] in
+      let behind : turn_words w.holders ++ w.cache ≡ replicate (suc (suc (suc (suc (suc (suc cells)))))) 0 = λ i. turn_words (o.holders i) ++ cache i in
+      let seven : cells + 7 ≡ suc (suc (suc (suc (suc (suc (suc cells)))))) = omega arith in
+      let all : words_of w ≡ length opened ∷ length opened ∷ flag ∷ replicate (suc (suc (suc (suc (suc (suc (suc cells))))))) 0 = λ i. front i ++ behind i in record {
+        world = w;
+        reached = (w, o, stays);
+        opened_is = f.opened_is;
+        cells_are = f.cells_are;
+        words = is ∙ (ap (λ n. length opened ∷ length opened ∷ flag ∷ replicate n 0) seven ∙ sym all);
+        deep = length-map slots some ∙ f.deep;
+        rests = λ turn. let p = f.parts turn in
+            subst (λ (h : Option ℕ). Rests content tells h (content_of w turn) (get_elem? (map some slots) (turn_index turn))) (sym (ap (λ (h : Holders). turn_holder h turn) o.holders ∙ none_held turn)) (p.0, at_map some slots (turn_index turn) p.0 p.1, p.2);
+        views = sym f.actors_are;
+      }

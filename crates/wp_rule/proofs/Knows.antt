@@ -1,0 +1,38 @@
+-- What a seat knows of the world behind the table.
+use Rattle.std.proofs.Common.{◌≡◌, ⊎_elim, ℕ, List, [], ◌∷◌, refl, subst}
+use Rattle.wp_core.specs.Lists.{IsIn}
+use Rattle.wp_core.specs.Turns.{Turn, Holders, Holds}
+use Rattle.wp_core.specs.Tables.{Content, turn_of}
+use Rattle.wp_core.specs.Views.{Fact}
+use Rattle.wp_core.specs.World.{Actor, World, content_of}
+use Rattle.wp_core.specs.Sound.Actors.{StartsWith, seen_of, learned_of, held_of, AreHeld}
+use Rattle.wp_core.specs.Sound.Views.{noter_of, IsNoted, IsSo}
+use Rattle.wp_core.specs.IsSound.{IsSound}
+use Rattle.wp_core.proofs.AllParticipants.{mine}
+use Rattle.wp_core.proofs.EachStep.{reached_is_sound}
+use Rattle.wp_core.proofs.Frames.{at_map}
+use Rattle.wp_rule.specs.Words.{Place, IsAt}
+
+pub at_sound : (p : Place) (a : Actor) (w : World) → IsAt p a w → IsSound w
+at_sound p a w k = reached_is_sound w k.reached
+
+held_among : (holders : Holders) (contents : Turn → Content) (j : ℕ) (held : List Content) (c : Content) → IsIn c held → AreHeld holders contents j held → Holds holders (turn_of c) j × (contents (turn_of c) ≡ c)
+held_among holders contents j [] c there k = absurd there
+held_among holders contents j (d ∷ held) c there k =
+    ⊎_elim (λ (e : d ≡ c). subst (λ (x : Content). Holds holders (turn_of x) j × (contents (turn_of x) ≡ x)) e (k.0, k.1)) (λ (other : IsIn c held). held_among holders contents j held c other k.3) there
+
+-- a table that the view has is the world's, and its turn is the seat's
+pub held_is : (p : Place) (a : Actor) (w : World) (c : Content) → IsAt p a w → IsIn c a.held → Holds w.holders (turn_of c) p.by × (content_of w (turn_of c) ≡ c)
+held_is p a w c k there = held_among w.holders (content_of w) p.by a.held c there ((at_sound p a w k).held p.by a.held (at_map held_of w.actors p.by a k.there))
+
+-- what was seen, and what was learned and not yet seen, begins the history
+pub seen_is : (p : Place) (a : Actor) (w : World) → IsAt p a w → StartsWith w.writes.history a.participant.seen
+seen_is p a w k = (at_sound p a w k).seen p.by 0 a.participant.seen (mine seen_of w.actors p.by a a k.there refl)
+
+pub learned_is : (p : Place) (a : Actor) (w : World) → IsAt p a w → StartsWith w.writes.history a.learned
+learned_is p a w k = (at_sound p a w k).learned p.by a.learned (at_map learned_of w.actors p.by a k.there)
+
+-- what was noted is so
+pub noted_is : (p : Place) (a : Actor) (w : World) (fact : Fact) → IsAt p a w → IsIn fact a.notes
+    → IsNoted w.holders (IsSo w.delayed_flag w.old_flag w.max_evicted w.cache w.writes w.prepared w.snapshots w.store w.locks w.installed) p.by (noter_of a) fact
+noted_is p a w fact k there = (at_sound p a w k).noted p.by (noter_of a) (at_map noter_of w.actors p.by a k.there) fact there

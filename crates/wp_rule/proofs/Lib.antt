@@ -1,0 +1,12 @@
+pub mod Forgets
+pub mod Quiet
+pub mod Knows
+pub mod Stepped
+pub mod Stores
+pub mod Rule
+pub mod Seats
+pub mod Founds
+pub mod Ends
+pub mod MadeUp
+pub mod Needed
+pub mod MayBeMade

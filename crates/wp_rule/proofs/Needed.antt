@@ -1,0 +1,244 @@
+-- What a seat knows by its view is what the machine's steps need.
+use Rattle.std.proofs.Common.{◌≡◌, ◌≢◌, inl, inr, ⊎_elim, ℕ, ◌≤◌, List, [], length, sym, subst, ap, ◌∙◌, Some, None, is_some, arith, ◌<◌, refl, true}
+use Rattle.wp_model.specs.declared.entry.Entry.{Entry}
+use Rattle.wp_model.specs.Decision.{decision_of}
+use Rattle.wp_model.specs.PreparedTables.{PreparedTables}
+use Rattle.wp_model.specs.Snapshots.{Snapshots}
+use Rattle.wp_model.specs.LockTables.{LockTables}
+use Rattle.wp_judge.specs.Words.{CommitPair}
+use Rattle.wp_judge.specs.declared.observed.Load.{Load}
+use Rattle.wp_judge.specs.declared.observed.Load.TheVariants.{FirstWord, FirstMax, DelayedFlag, InPrepared, SecondWord, SecondMax, OldFlag, IsOldCommit}
+use Rattle.wp_core.specs.Lists.{IsIn}
+use Rattle.wp_core.specs.Turns.{Turn, write_turn, prepared_turn, snapshots_turn, store_turn, locks_turn, tables_turn, Holds}
+use Rattle.wp_core.specs.Cache.{cache_place, cached, pair_at}
+use Rattle.wp_core.specs.Tables.{Content, WriteTable, StoreTable, Installed, writes, prepared, snapshots, store, locks, installed}
+use Rattle.wp_core.specs.Views.{Fact, passed, in_old_commits, apart, words_stay, versions_in_memory, versions_nowhere, number_in_heap, number_not_in_heap, undecided_at, prior_values, unprepared, direct_free, tables_stay, live_listed, nothing_flushed, frozen_stay, delayed_flag_stays, old_flag_stays}
+use Rattle.wp_core.specs.World.{Actor, World}
+use Rattle.wp_core.specs.Conditions.{IsHeldFor, MayPublish, MayLook, MayBeEvicted, MayGive}
+use Rattle.wp_core.specs.Reading.{Registration}
+use Rattle.wp_core.specs.Sound.Locks.{IsOwner, owner_of}
+use Rattle.wp_core.specs.Sound.Prepared.{IsInOldCommits}
+use Rattle.wp_core.specs.Sound.Snapshots.{has_versions, has_versions_at, view_of}
+use Rattle.wp_core.specs.Steps.{Step, load_published, register, begin_reading, load, end_reading, make_pending, log_pending, close_log, find_log_closed, drop_pending, add_prepared, take_pending_prepared, add_delayed_commit, take_out, register_again, release, add_old_commit, add_versions, take_versions, move_versions, replace_versions, install, halt, find_flushed, claim_name, take_name, leave_name, free_transaction, lock_key, free_key, lock_direct, free_direct, find_holder, tell, hear, set_batch, note, set_client, store_published, store_max_evicted, store_word, store_delayed_flag, store_old_flag, take_turn, give_turn, make_note, make_seat, learn, join_seat}
+use Rattle.wp_core.specs.Needs.{Needs}
+use Rattle.wp_core.specs.Sound.Views.{IsGuarded, IsClearing, IsApart, IsSo}
+use Rattle.wp_model.proofs.Entries.{entry_at_old}
+use Rattle.wp_core.proofs.AllParticipants.{mine}
+use Rattle.wp_core.proofs.HistoryLaws.{decision_stays}
+use Rattle.wp_core.proofs.KeepsSeen.{shorter}
+use Rattle.wp_rule.specs.Words.{Place, IsAt}
+use Rattle.wp_rule.specs.Knows.{Holding, Noted, IsUp, KnowsLook, KnowsCleared, KnowsGive, KnowsPair, KnowsFact, KnowsHeld, KnowsPublish, Knows}
+use Rattle.wp_rule.proofs.Knows.{at_sound, held_is, seen_is, noted_is}
+
+module _ (p : Place) (a : Actor) (w : World) (k : IsAt p a w) where
+  -- ---- tables
+
+  abbrev writes_in : WriteTable → Content → WriteTable
+  writes_in t (writes d) = d
+  writes_in t other = t
+
+  abbrev prepared_in : PreparedTables → Content → PreparedTables
+  prepared_in t (prepared d) = d
+  prepared_in t other = t
+
+  abbrev snapshots_in : Snapshots → Content → Snapshots
+  snapshots_in t (snapshots d) = d
+  snapshots_in t other = t
+
+  abbrev store_in : StoreTable → Content → StoreTable
+  store_in t (store d) = d
+  store_in t other = t
+
+  abbrev locks_in : LockTables → Content → LockTables
+  locks_in t (locks d) = d
+  locks_in t other = t
+
+  abbrev installed_in : Installed → Content → Installed
+  installed_in t (installed d) = d
+  installed_in t other = t
+
+  has_writes : (so : WriteTable → Type 0) → Holding a writes so → Holds w.holders write_turn p.by × so w.writes
+  has_writes so n = let h = held_is p a w (writes n.table) k n.held in (h.0, subst so (sym (ap (writes_in n.table) h.1)) n.so_is)
+
+  has_prepared : (so : PreparedTables → Type 0) → Holding a prepared so → Holds w.holders prepared_turn p.by × so w.prepared
+  has_prepared so n = let h = held_is p a w (prepared n.table) k n.held in (h.0, subst so (sym (ap (prepared_in n.table) h.1)) n.so_is)
+
+  has_snapshots : (so : Snapshots → Type 0) → Holding a snapshots so → Holds w.holders snapshots_turn p.by × so w.snapshots
+  has_snapshots so n = let h = held_is p a w (snapshots n.table) k n.held in (h.0, subst so (sym (ap (snapshots_in n.table) h.1)) n.so_is)
+
+  has_store : (so : StoreTable → Type 0) → Holding a store so → Holds w.holders store_turn p.by × so w.store
+  has_store so n = let h = held_is p a w (store n.table) k n.held in (h.0, subst so (sym (ap (store_in n.table) h.1)) n.so_is)
+
+  has_locks : (so : LockTables → Type 0) → Holding a locks so → Holds w.holders locks_turn p.by × so w.locks
+  has_locks so n = let h = held_is p a w (locks n.table) k n.held in (h.0, subst so (sym (ap (locks_in n.table) h.1)) n.so_is)
+
+  has_installed : (so : Installed → Type 0) → Holding a installed so → Holds w.holders tables_turn p.by × so w.installed
+  has_installed so n = let h = held_is p a w (installed n.table) k n.held in (h.0, subst so (sym (ap (installed_in n.table) h.1)) n.so_is)
+
+  -- ---- notes, and what was seen
+
+  is_so : (fact : Fact) → Noted a fact → IsSo w.delayed_flag w.old_flag w.max_evicted w.cache w.writes w.prepared w.snapshots w.store w.locks w.installed a.participant fact
+  is_so fact there = (noted_is p a w fact k there).is_so
+
+  delayed_up : IsUp a delayed_flag_stays → w.delayed_flag ≢ 0
+  delayed_up u e = u.2 (sym (is_so (delayed_flag_stays u.0) u.1) ∙ e)
+
+  old_up : IsUp a old_flag_stays → w.old_flag ≢ 0
+  old_up u e = u.2 (sym (is_so (old_flag_stays u.0) u.1) ∙ e)
+
+  decided_now : (q c : ℕ) → decision_of a.participant.seen q ≡ Some c → decision_of w.writes.history q ≡ Some c
+  decided_now q c e = let s = seen_is p a w k in ap (λ (h : List Entry). decision_of h q) s.1 ∙ decision_stays a.participant.seen s.0 q c e
+
+  no_longer : length a.participant.seen ≤ length w.writes.history
+  no_longer = shorter w.writes.history a.participant.seen (seen_is p a w k)
+
+  -- ---- the rest
+
+  looks : (which : Load) → KnowsLook a which → MayLook w p.by which
+  looks FirstWord n = tt
+  looks FirstMax n = tt
+  looks DelayedFlag n = tt
+  looks InPrepared n = (has_prepared (λ t. Unit {0}) n).0
+  looks SecondWord n = tt
+  looks SecondMax n = tt
+  looks OldFlag n = tt
+  looks IsOldCommit n = (has_snapshots (λ m. Unit {0}) n).0
+
+  cleared : (pair : CommitPair) → KnowsCleared a p.cells pair → (gone : CommitPair) → pair_at w.cache (cache_place (length w.cache) pair.number) ≡ Some gone → MayBeEvicted w gone
+  cleared pair n gone there =
+      let there' : pair_at w.cache (cache_place p.cells pair.number) ≡ Some gone = ap (λ c. pair_at w.cache (cache_place c pair.number)) (sym k.cells) ∙ there in
+      ⊎_elim
+      (λ e. let s = is_so (words_stay e.0 e.1) e.2 in let q : Some gone ≡ None = sym there' ∙ (ap (λ (words : List ℕ). pair_at words (cache_place p.cells pair.number)) s.1 ∙ e.3) in absurd (cc))
+      (λ e. let one = is_so (passed (cache_place p.cells pair.number) e.0) e.1 in let two = is_so (in_old_commits (cache_place p.cells pair.number) e.0) e.2 in let three = is_so (apart (cache_place p.cells pair.number) e.0) e.3 in
+      let q : Some e.0 ≡ Some gone = sym one.there ∙ there' in let same : e.0 ≡ gone = cc in
+      subst (MayBeEvicted w) {x = e.0} same (record { passed = one.so; kept = two.so; apart = three.so }))
+      n
+
+  gives : (turn : Turn) → KnowsGive a turn → Holds w.holders turn p.by × MayGive w turn
+  gives write_turn n = has_writes (λ d. d.pending ≡ []) n
+  gives prepared_turn n = let h = has_prepared _ n in (h.0, λ none. is_so (delayed_flag_stays 0) (h.1 none))
+  gives snapshots_turn n = let h = has_snapshots _ n in (h.0, λ none. is_so (old_flag_stays 0) (h.1 none))
+  gives store_turn n = has_store (λ t. Unit {0}) n
+  gives locks_turn n = has_locks (λ t. Unit {0}) n
+  gives tables_turn n = let h = has_installed _ n in (h.0, is_so nothing_flushed h.1)
+
+  -- ---- facts
+
+  pub guarded : (t : Turn) → Holds w.holders t p.by → (turn : Turn) → Some t ≡ Some turn → Holds w.holders turn p.by
+  guarded t holds turn e = let same : t ≡ turn = cc in subst (λ (x : Turn). Holds w.holders x p.by) same holds
+
+  alone : (turn : Turn) → None ≡ Some turn → Holds w.holders turn p.by
+  alone turn e = absurd (cc)
+
+  clearing : (place : ℕ) (pair : CommitPair) (so : ℕ → Type 0) → KnowsPair a (length w.writes.history) place pair so → IsClearing (length w.writes.history) w.cache place pair (so w.max_evicted)
+  clearing place pair so n =
+      let s = is_so (words_stay n.0 n.1) n.2 in record {
+        place_within = subst (λ (words : List ℕ). place < length words) (sym s.1) n.3;
+        there = ap (λ (words : List ℕ). pair_at words place) s.1 ∙ n.4;
+        published_by = n.5;
+        so = subst so (sym s.0) n.6;
+      }
+
+  facts : (fact : Fact) → KnowsFact a fact → IsGuarded w.holders fact p.by × IsSo w.delayed_flag w.old_flag w.max_evicted w.cache w.writes w.prepared w.snapshots w.store w.locks w.installed a.participant fact
+  facts (passed place pair) n = let h = has_writes _ n in (guarded write_turn h.0, clearing place pair (λ max. pair.decision ≤ max) h.1)
+  facts (in_old_commits place pair) n = let h = has_writes _ n in let g = has_snapshots _ h.1 in (guarded write_turn h.0, clearing place pair (λ max. IsInOldCommits w.snapshots pair.number pair.decision) g.1)
+  facts (apart place pair) n = let h = has_writes _ n in let g = has_prepared _ h.1 in (guarded write_turn h.0, clearing place pair (λ max. IsApart w.prepared pair) g.1)
+  facts versions_in_memory n = let h = has_writes _ n in let g = has_store _ h.1 in (guarded write_turn h.0, g.1)
+  facts versions_nowhere n = let h = has_writes _ n in let g = has_store _ h.1 in (guarded write_turn h.0, g.1)
+  facts number_in_heap n = let h = has_writes _ n in let g = has_prepared _ h.1 in (guarded write_turn h.0, g.1)
+  facts number_not_in_heap n = let h = has_writes _ n in let g = has_prepared _ h.1 in (guarded write_turn h.0, g.1)
+  facts (undecided_at name q) n = let h = has_writes _ n in let g = has_locks _ h.1 in (alone, g.1)
+  facts (prior_values name q batch) n = (alone, (has_writes _ n).1)
+  facts (unprepared name) n = (alone, (has_writes _ n).1)
+  facts (direct_free key) n = let h = has_writes _ n in let g = has_locks _ h.1 in (alone, g.1)
+  facts (tables_stay versions floor) n = let h = has_installed _ n in let g = has_store _ h.1 in (guarded tables_turn h.0, g.1)
+  facts (live_listed floor listed) n = let h = has_snapshots _ n in let low = no_longer in (alone, ((let f = h.1.0 in omega arith), h.1.1))
+  facts nothing_flushed n = let h = has_installed _ n in let g = has_store _ h.1 in (guarded tables_turn h.0, g.1)
+  facts (frozen_stay m versions) n = let h = has_installed _ n in let g = has_store _ h.1 in let low = no_longer in (guarded tables_turn h.0, ((let f = g.1.0 in omega arith), g.1.1))
+  facts (words_stay max words) n = absurd n
+  facts (delayed_flag_stays value) n = absurd n
+  facts (old_flag_stays value) n = absurd n
+
+  -- ---- publishing
+
+  owner : IsOwner w.locks (owner_of a.participant)
+  owner = (at_sound p a w k).locks.had p.by 0 (owner_of a.participant) (mine owner_of w.actors p.by a a k.there refl)
+
+  held_for : (key : List ℕ) → KnowsHeld a key → IsHeldFor w a key
+  held_for key n = ⊎_elim (λ e. inl (e, owner.direct key e)) (λ e. inr (e.0, e.1, e.2, owner.keys e.0 e.1 key e.2 e.3)) n
+
+  publishes : (entry : Entry) (others : List Entry) → Holds w.holders write_turn p.by → KnowsPublish a w.writes entry others → MayPublish w p.by a entry others
+  publishes entry others turn n = record {
+    turn = turn;
+    pending = n.pending;
+    logged = n.logged;
+    legal = n.legal;
+    versions = is_so versions_in_memory n.versions;
+    keys = λ key is. held_for key (n.keys key is);
+    transaction = λ name is. let t = n.transaction name is in (t.0, t.1, λ key changed. (t.2 key changed, owner.keys name t.0 key t.1 (t.2 key changed)));
+    number = λ is. is_so number_in_heap (n.number is);
+    pair = λ pair is. let c = n.pair pair is in let s = is_so (words_stay c.0 c.1) c.2 in ap (λ (words : List ℕ). cached words pair.number) s.1 ∙ c.3;
+  }
+
+  readable : (q : ℕ) (snapshot : Registration) → IsIn snapshot a.participant.registered → (q ≤ snapshot.number → has_versions_at a.participant.seen q ≡ true) → q ≤ snapshot.number → has_versions_at w.writes.history q ≡ true
+  readable q snapshot own has le =
+      let s = seen_is p a w k in
+      let low : snapshot.number ≤ length a.participant.seen = (at_sound p a w k).viewed p.by 0 (view_of a.participant) (mine view_of w.actors p.by a a k.there refl) snapshot own in
+      let within : q ≤ length a.participant.seen = omega arith in
+      ap (λ (h : List Entry). has_versions_at h q) s.1 ∙ (ap has_versions (entry_at_old a.participant.seen s.0 q within) ∙ has le)
+
+  pub needed : (step : Step) → Knows p a step → Needs w p.by a step
+  needed load_published n = tt
+  needed (register least) n =
+      let h = has_snapshots _ n in (h.0, ⊎_elim (λ one. inl one) (λ m. let g = has_prepared _ m in let low = no_longer in inr (g.0, (let l = g.1.0 in omega arith), g.1.1)) h.1)
+  needed (load which) n = (n.0, n.1, n.2, looks which n.3)
+  needed end_reading n = tt
+  needed (store_max_evicted m) n =
+      let h = has_writes _ n in let g = has_prepared _ h.1 in let s = is_so (words_stay g.1.0.0 g.1.0.1) g.1.0.2 in
+      (h.0, g.0, subst (λ x. x ≤ m) (sym s.0) g.1.0.3, g.1.1, ⊎_elim (λ up. inl (delayed_up up)) (λ low. inr low) g.1.2)
+  needed (store_word pair) n = let h = has_writes _ n in (h.0, h.1.0, cleared pair h.1.1)
+  needed (store_delayed_flag value) n = has_prepared _ n
+  needed (store_old_flag value) n = has_snapshots _ n
+  needed (give_turn turn) n = gives turn n
+  needed (make_pending entries) n = let h = has_writes _ n in (h.0, h.1.0, h.1.1, h.1.2)
+  needed log_pending n = let h = has_writes _ n in (h.0, h.1.0, h.1.1, h.1.2)
+  needed close_log n = let h = has_writes _ n in (h.0, h.1.0, h.1.1, h.1.2)
+  needed find_log_closed n = has_writes _ n
+  needed drop_pending n =
+      let h = has_writes _ n in let c = h.1.1 in let s = is_so (words_stay c.0 c.1) c.2 in
+      (h.0, h.1.0, (λ pair is e. c.3 pair is (ap (λ (words : List ℕ). cached words pair.number) (sym s.1) ∙ e)), is_so versions_nowhere h.1.2, is_so number_not_in_heap h.1.3)
+  needed add_prepared n = let h = has_writes _ n in let g = has_prepared _ h.1 in (h.0, g.0, g.1)
+  needed take_pending_prepared n = let h = has_writes _ n in let g = has_prepared _ h.1 in (h.0, g.0, g.1)
+  needed (add_delayed_commit pair) n = let h = has_prepared _ n in (h.0, delayed_up h.1.0, decided_now pair.number pair.decision h.1.1)
+  needed (take_out q) n = let h = has_prepared _ n in (h.0, (h.1.0, decided_now q h.1.0 h.1.1))
+  needed (register_again s) n = let h = has_snapshots _ n in (h.0, h.1.0, h.1.1)
+  needed (release front r back) n = has_snapshots _ n
+  needed (add_old_commit s q) n = let h = has_snapshots _ n in let c = h.1.2 in (h.0, h.1.0, old_up h.1.1, (c.0, decided_now q c.0 c.1, c.2, c.3))
+  needed (add_versions memory) n = let h = has_writes _ n in let g = has_store _ h.1 in (h.0, g.0, g.1)
+  needed (take_versions memory) n = let h = has_writes _ n in let g = has_store _ h.1 in (h.0, g.0, g.1)
+  needed find_flushed n = (has_installed (λ e. Unit {0}) n).0
+  needed (claim_name name) n = let h = has_locks _ n in (h.0, h.1.0, h.1.1)
+  needed (take_name name q) n = let h = has_writes _ n in let g = has_locks _ h.1 in (g.0, g.1.0, g.1.1)
+  needed (leave_name name) n = let h = has_locks _ n in let s = is_so (undecided_at name h.1.1.0) h.1.1.1 in (h.0, h.1.0, ap is_some s.1)
+  needed (free_transaction name) n = let h = has_locks _ n in (h.0, h.1.0, (is_so (unprepared name) h.1.1).1)
+  needed (lock_key name x key) n = let h = has_locks _ n in (h.0, h.1.0, h.1.1)
+  needed (free_key name x key) n = let h = has_locks _ n in (h.0, h.1.0, h.1.1, (is_so (unprepared name) h.1.2).1)
+  needed (lock_direct key) n = let h = has_locks _ n in (h.0, h.1.0, h.1.1)
+  needed (free_direct key) n = has_locks _ n
+  needed (tell label) n = (has_locks (λ t. Unit {0}) n).0
+  needed (hear label n') n = has_locks _ n
+  needed (set_batch name x batch) n = n
+  needed (set_client client) n = n
+  needed (begin_reading q snapshot) n = (n.0, readable q snapshot n.0 n.1)
+  needed (find_holder key holder account) n = absurd n
+  needed (note fact) n = let f = facts fact n.1 in (n.0, f.0, f.1)
+  needed (move_versions memory tables) n = absurd n
+  needed (replace_versions tables floor) n = absurd n
+  needed (install edit compacts) n = absurd n
+  needed (halt edit) n = absurd n
+  needed (store_published entry others) n = let h = has_writes _ n in publishes entry others h.0 h.1
+  needed (take_turn turn) n = absurd n
+  needed make_note n = absurd n
+  needed make_seat n = absurd n
+  needed (learn other b) n = absurd n
+  needed (join_seat other b) n = absurd n

@@ -1,0 +1,163 @@
+-- When a seat knows by its view alone that a step of the machine may be made.
+use Rattle.std.specs.Prelude.{◌≡◌, ◌≢◌, ◌⊎◌, ℕ, suc, ◌≤◌, ◌<◌, true, false, List, [], ◌∷◌, ◌++◌, length, Some, None}
+use Rattle.std.specs.FinSet as set
+use Rattle.std.specs.FinMap as finite
+use Rattle.wp_model.specs.declared.change.Change.{Change}
+use Rattle.wp_model.specs.declared.entry.Entry.{Entry}
+use Rattle.wp_model.specs.declared.entry.Entry.TheVariants.{Prepare}
+use Rattle.wp_model.specs.Batch.{is_batch}
+use Rattle.wp_model.specs.Covered.{is_among}
+use Rattle.wp_model.specs.Decision.{decision_of}
+use Rattle.wp_model.specs.History.{named, batch_at, is_changed, holder_of}
+use Rattle.wp_model.specs.declared.holder.Holder.TheVariants.{Txn, Client}
+use Rattle.wp_model.specs.Versions.{version_at}
+use Rattle.wp_model.specs.Legal.{IsLegal, prior}
+use Rattle.wp_model.specs.PreparedTables.{is_prepared}
+use Rattle.wp_model.specs.Snapshots.{IsLive}
+use Rattle.wp_judge.specs.Words.{CommitPair}
+use Rattle.wp_judge.specs.Order.{ask}
+use Rattle.wp_judge.specs.declared.observed.Asked.TheVariants as asked
+use Rattle.wp_judge.specs.declared.observed.Observed.{Observed}
+use Rattle.wp_judge.specs.declared.observed.Load.{Load}
+use Rattle.wp_judge.specs.declared.observed.Load.TheVariants.{InPrepared, IsOldCommit}
+use Rattle.wp_core.specs.Lists.{IsIn}
+use Rattle.wp_core.specs.Turns.{Turn, write_turn, prepared_turn, snapshots_turn, store_turn, locks_turn, tables_turn}
+use Rattle.wp_core.specs.Cache.{cached, cache_place, pair_at}
+use Rattle.wp_core.specs.Tables.{WriteTable, Content, writes, prepared, snapshots, store, locks, installed, NoneDelayed, NoOldCommits}
+use Rattle.wp_core.specs.Views.{Fact, passed, in_old_commits, apart, words_stay, versions_in_memory, versions_nowhere, number_in_heap, number_not_in_heap, undecided_at, prior_values, unprepared, direct_free, tables_stay, live_listed, nothing_flushed, frozen_stay, delayed_flag_stays, old_flag_stays}
+use Rattle.wp_core.specs.World.{Transaction, Actor}
+use Rattle.wp_core.specs.Entries.{next_of, pair_by, pending_pair, transaction_of, changes_under, IsOneRecord, HasVersionsAt}
+use Rattle.wp_core.specs.Conditions.{HasTransaction, IsPrepare}
+use Rattle.wp_core.specs.Sound.Prepared.{IsInOldCommits}
+use Rattle.wp_core.specs.Sound.Snapshots.{has_versions_at}
+use Rattle.wp_core.specs.Sound.Store.{NoneFlushed}
+use Rattle.wp_core.specs.Sound.Views.{IsApart, IsInMemory, IsNowhere, Owns}
+use Rattle.wp_core.specs.Steps.{Step, load_published, register, begin_reading, load, end_reading, store_published, store_max_evicted, store_word, store_delayed_flag, store_old_flag, give_turn, make_pending, log_pending, close_log, find_log_closed, drop_pending, add_prepared, take_pending_prepared, add_delayed_commit, take_out, register_again, release, add_old_commit, add_versions, take_versions, find_flushed, claim_name, take_name, leave_name, free_transaction, lock_key, free_key, lock_direct, free_direct, tell, hear, set_batch, note, set_client}
+use Rattle.wp_rule.specs.Words.{Place}
+
+-- the view has a table of this kind, of which this is so
+pub record Holding (a : Actor) {T : Type 0} (content : T → Content) (so : T → Type 0) : Type 0 where
+  pub table : T
+  pub held : IsIn (content table) a.held
+  pub so_is : so table
+
+-- a fact that was noted
+abbrev pub Noted : Actor → Fact → Type 0
+Noted a fact = IsIn fact a.notes
+
+-- the flag that was noted is up
+abbrev pub IsUp : Actor → (ℕ → Fact) → Type 0
+IsUp a flag = (value : ℕ) × Noted a (flag value) × (value ≢ 0)
+
+-- a look into a table needs the table
+abbrev pub KnowsLook : Actor → Load → Type 0
+KnowsLook a InPrepared = Holding a prepared (λ t. Unit {0})
+KnowsLook a IsOldCommit = Holding a snapshots (λ m. Unit {0})
+KnowsLook a other = Unit {0}
+
+-- the word at this place is no pair, or its pair was cleared
+abbrev pub KnowsCleared : Actor → ℕ → CommitPair → Type 0
+KnowsCleared a cells pair =
+    ((max : ℕ) × (words : List ℕ) × Noted a (words_stay max words) × (pair_at words (cache_place cells pair.number) ≡ None))
+    ⊎ ((gone : CommitPair) × Noted a (passed (cache_place cells pair.number) gone) × Noted a (in_old_commits (cache_place cells pair.number) gone) × Noted a (apart (cache_place cells pair.number) gone))
+
+-- a turn may be given
+abbrev pub KnowsGive : Actor → Turn → Type 0
+KnowsGive a write_turn = Holding a writes (λ d. d.pending ≡ [])
+KnowsGive a prepared_turn = Holding a prepared (λ t. NoneDelayed t → Noted a (delayed_flag_stays 0))
+KnowsGive a snapshots_turn = Holding a snapshots (λ m. NoOldCommits m → Noted a (old_flag_stays 0))
+KnowsGive a store_turn = Holding a store (λ t. Unit {0})
+KnowsGive a locks_turn = Holding a locks (λ t. Unit {0})
+KnowsGive a tables_turn = Holding a installed (λ e. Noted a nothing_flushed)
+
+-- a word of the cache that was noted has the pair, which is published
+abbrev pub KnowsPair : Actor → ℕ → ℕ → CommitPair → (ℕ → Type 0) → Type 0
+KnowsPair a published place pair so = (max : ℕ) × (words : List ℕ) × Noted a (words_stay max words) × (place < length words) × (pair_at words place ≡ Some pair) × (pair.decision ≤ published) × so max
+
+-- a fact is so
+abbrev pub KnowsFact : Actor → Fact → Type 0
+KnowsFact a (passed place pair) = Holding a writes (λ d. KnowsPair a (length d.history) place pair (λ max. pair.decision ≤ max))
+KnowsFact a (in_old_commits place pair) = Holding a writes (λ d. Holding a snapshots (λ m. KnowsPair a (length d.history) place pair (λ max. IsInOldCommits m pair.number pair.decision)))
+KnowsFact a (apart place pair) = Holding a writes (λ d. Holding a prepared (λ t. KnowsPair a (length d.history) place pair (λ max. IsApart t pair)))
+KnowsFact a versions_in_memory = Holding a writes (λ d. Holding a store (λ t. IsInMemory d t))
+KnowsFact a versions_nowhere = Holding a writes (λ d. Holding a store (λ t. IsNowhere d t))
+KnowsFact a number_in_heap = Holding a writes (λ d. Holding a prepared (λ t. set.contains t.heap (suc (length d.history)) ≡ true))
+KnowsFact a number_not_in_heap = Holding a writes (λ d. Holding a prepared (λ t. set.contains t.heap (suc (length d.history)) ≡ false))
+KnowsFact a (undecided_at name q) =
+    Holding a writes (λ d. Holding a locks (λ t. Owns a.participant name × (named d.history name ≡ Some q) × (finite.get t.names name ≡ Some (Some a.participant.client))
+    × ((key : List ℕ) → is_changed (batch_at d.history q) key ≡ true → finite.get t.keys key ≡ Some (Txn name))))
+KnowsFact a (prior_values name q batch) = Holding a writes (λ d. Owns a.participant name × (named d.history name ≡ Some q) × (prior d.history (batch_at d.history q) ≡ batch))
+KnowsFact a (unprepared name) =
+    Holding a writes (λ d. Owns a.participant name × (named d.history name ≡ None)
+    × ((x : Transaction) (key : List ℕ) → finite.get a.participant.transactions name ≡ Some x → set.contains x.locked key ≡ true → holder_of d.history key ≡ None))
+KnowsFact a (direct_free key) = Holding a writes (λ d. Holding a locks (λ t. (a.participant.direct ≡ Some key) × (finite.get t.keys key ≡ Some (Client a.participant.client)) × (holder_of d.history key ≡ None)))
+KnowsFact a (tables_stay versions floor) = Holding a installed (λ e. Holding a store (λ t. (t.tables ≡ versions) × (t.floor ≡ floor)))
+KnowsFact a (live_listed floor listed) = Holding a snapshots (λ m. (floor ≤ length a.participant.seen) × ((n : ℕ) → IsLive m n → (is_among listed n ≡ true) ⊎ (floor ≤ n)))
+KnowsFact a nothing_flushed = Holding a installed (λ e. Holding a store (λ t. NoneFlushed t.memory e.last.flushed))
+KnowsFact a (frozen_stay n versions) = Holding a installed (λ e. Holding a store (λ t. (n ≤ length a.participant.seen) × ((key : List ℕ) (q : ℕ) → q ≤ n → version_at t.memory key q ≡ version_at versions key q)))
+KnowsFact a other = ⊥
+
+-- the key is held for the seat
+abbrev pub KnowsHeld : Actor → List ℕ → Type 0
+KnowsHeld a key = (a.participant.direct ≡ Some key) ⊎ ((name : List ℕ) × (x : Transaction) × HasTransaction a name x × (set.contains x.locked key ≡ true))
+
+-- the first of the pending entries may be published
+pub record KnowsPublish (a : Actor) (d : WriteTable) (entry : Entry) (others : List Entry) : Type 0 where
+  pub pending : d.pending ≡ entry ∷ others
+  pub logged : d.logged ≡ true
+  pub legal : IsLegal (d.history ++ entry ∷ [])
+  pub versions : Noted a versions_in_memory
+  pub keys : (key : List ℕ) → is_changed (changes_under d.history entry) key ≡ true → KnowsHeld a key
+  pub transaction : (name : List ℕ) → transaction_of d.history entry ≡ Some name
+      → (x : Transaction) × HasTransaction a name x × ((key : List ℕ) → is_changed (changes_under d.history entry) key ≡ true → set.contains x.locked key ≡ true)
+  pub number : IsPrepare entry → Noted a number_in_heap
+  pub pair : (pair : CommitPair) → pair_by (suc (length d.history)) entry ≡ Some pair → (max : ℕ) × (words : List ℕ) × Noted a (words_stay max words) × (cached words pair.number ≡ Some pair.decision)
+
+-- Of the steps that need no more than the view: what each needs. Of the others more has to be known of the world.
+abbrev pub Knows : Place → Actor → Step → Type 0
+Knows p a load_published = Unit {0}
+Knows p a (register least) =
+    Holding a snapshots (λ m. (least ≡ 1) ⊎ Holding a prepared (λ t. (least ≤ suc (length a.participant.seen)) × ((q : ℕ) → is_prepared t q ≡ true → least ≤ q)))
+Knows p a (begin_reading q snapshot) = IsIn snapshot a.participant.registered × (q ≤ snapshot.number → has_versions_at a.participant.seen q ≡ true)
+Knows p a (load which) = (r : Observed) × (a.reading ≡ Some r) × (ask r ≡ asked.Load which) × KnowsLook a which
+Knows p a end_reading = Unit {0}
+Knows p a (store_published entry others) = Holding a writes (λ d. KnowsPublish a d entry others)
+Knows p a (store_max_evicted m) =
+    Holding a writes (λ d. Holding a prepared (λ t. ((max : ℕ) × (words : List ℕ) × Noted a (words_stay max words) × (max ≤ m)) × (m ≤ length d.history)
+    × (IsUp a delayed_flag_stays ⊎ ((q : ℕ) → set.contains t.heap q ≡ true → m < q))))
+Knows p a (store_word pair) = Holding a writes (λ d. (pending_pair d.history d.pending ≡ Some pair) × KnowsCleared a p.cells pair)
+Knows p a (store_delayed_flag value) = Holding a prepared (λ t. value ≡ 0 → NoneDelayed t)
+Knows p a (store_old_flag value) = Holding a snapshots (λ m. value ≡ 0 → NoOldCommits m)
+Knows p a (give_turn turn) = KnowsGive a turn
+Knows p a (make_pending entries) = Holding a writes (λ d. (d.pending ≡ []) × IsOneRecord entries × IsLegal (d.history ++ entries))
+Knows p a log_pending = Holding a writes (λ d. (d.pending ≢ []) × (d.logged ≡ false) × (d.closed ≡ false))
+Knows p a close_log = Holding a writes (λ d. (d.pending ≢ []) × (d.logged ≡ false) × (d.closed ≡ false))
+Knows p a find_log_closed = Holding a writes (λ d. d.closed ≡ true)
+Knows p a drop_pending =
+    Holding a writes (λ d. (d.logged ≡ false)
+    × ((max : ℕ) × (words : List ℕ) × Noted a (words_stay max words) × ((pair : CommitPair) → pending_pair d.history d.pending ≡ Some pair → cached words pair.number ≢ Some pair.decision))
+    × Noted a versions_nowhere × Noted a number_not_in_heap)
+Knows p a add_prepared = Holding a writes (λ d. Holding a prepared (λ t. (name : List ℕ) × (batch : List Change) × (others : List Entry) × (d.pending ≡ Prepare name batch ∷ others)))
+Knows p a take_pending_prepared = Holding a writes (λ d. Holding a prepared (λ t. (name : List ℕ) × (batch : List Change) × (others : List Entry) × (d.pending ≡ Prepare name batch ∷ others)))
+Knows p a (add_delayed_commit pair) = Holding a prepared (λ t. IsUp a delayed_flag_stays × (decision_of a.participant.seen pair.number ≡ Some pair.decision))
+Knows p a (take_out q) = Holding a prepared (λ t. (c : ℕ) × (decision_of a.participant.seen q ≡ Some c))
+Knows p a (register_again s) = Holding a snapshots (λ m. IsLive m s × (s ≤ length a.participant.seen))
+Knows p a (release front r back) = Holding a snapshots (λ m. a.participant.registered ≡ front ++ r ∷ back)
+Knows p a (add_old_commit s q) = Holding a snapshots (λ m. IsLive m s × IsUp a old_flag_stays × ((c : ℕ) × (decision_of a.participant.seen q ≡ Some c) × (q ≤ s) × (s < c)))
+Knows p a (add_versions memory) = Holding a writes (λ d. Holding a store (λ t. HasVersionsAt (next_of d.pending) (suc (length d.history)) t.memory memory))
+Knows p a (take_versions memory) = Holding a writes (λ d. Holding a store (λ t. HasVersionsAt None (suc (length d.history)) t.memory memory))
+Knows p a find_flushed = Holding a installed (λ e. Unit {0})
+Knows p a (claim_name name) = Holding a locks (λ t. (finite.get t.names name ≡ None) × (a.live ≡ true))
+Knows p a (take_name name q) = Holding a writes (λ d. Holding a locks (λ t. (finite.get t.names name ≡ Some None) × (named d.history name ≡ Some q)))
+Knows p a (leave_name name) = Holding a locks (λ t. ((x : Transaction) × HasTransaction a name x) × ((q : ℕ) × Noted a (undecided_at name q)))
+Knows p a (free_transaction name) = Holding a locks (λ t. ((x : Transaction) × HasTransaction a name x) × Noted a (unprepared name))
+Knows p a (lock_key name x key) = Holding a locks (λ t. HasTransaction a name x × (finite.get t.keys key ≡ None))
+Knows p a (free_key name x key) = Holding a locks (λ t. HasTransaction a name x × (set.contains x.locked key ≡ true) × Noted a (unprepared name))
+Knows p a (lock_direct key) = Holding a locks (λ t. (a.participant.direct ≡ None) × (finite.get t.keys key ≡ None))
+Knows p a (free_direct key) = Holding a locks (λ t. a.participant.direct ≡ Some key)
+Knows p a (tell label) = Holding a locks (λ t. Unit {0})
+Knows p a (hear label n) = Holding a locks (λ t. finite.get t.labels label ≡ Some n)
+Knows p a (set_batch name x batch) = HasTransaction a name x × (is_batch batch ≡ true)
+Knows p a (note fact) = (a.live ≡ true) × KnowsFact a fact
+Knows p a (set_client client) = (a.live ≡ true) × (a.participant.transactions ≡ finite.empty) × (a.participant.direct ≡ None)
+Knows p a other = ⊥

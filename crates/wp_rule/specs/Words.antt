@@ -1,0 +1,48 @@
+-- The words of a world, in their order, and which world may stand behind a seat.
+use Rattle.std.specs.Prelude.{◌≡◌, ℕ, ◌+◌, List, [], ◌∷◌, ◌++◌, length, Option, Some, None}
+use mathlib.Core.Option.{some}
+use lib.ListN.{get_elem?}
+use Rattle.atomic_table.specs.Seated.{TableId}
+use Rattle.wp_model.specs.declared.entry.Entry.{Entry}
+use Rattle.wp_core.specs.Turns.{Turn, Holders}
+use Rattle.wp_core.specs.Changes.{turn_index}
+use Rattle.wp_core.specs.World.{Actor, World}
+use Rattle.wp_core.specs.Runs.{Reaches}
+
+-- 1 while somebody holds the turn
+abbrev pub turn_word : Option ℕ → ℕ
+turn_word None = 0
+turn_word (Some by) = 1
+
+abbrev pub turn_words : Holders → List ℕ
+turn_words h = turn_word h.write ∷ turn_word h.prepared ∷ turn_word h.snapshots ∷ turn_word h.store ∷ turn_word h.locks ∷ turn_word h.tables ∷ []
+
+-- the published number, the bound, the delayed flag, the old-map flag, the six turns, and then the cache
+abbrev pub words_of : World → List ℕ
+words_of w = length w.writes.history ∷ w.max_evicted ∷ w.delayed_flag ∷ w.old_flag ∷ (turn_words w.holders ++ w.cache)
+
+-- the place of a turn's word
+abbrev pub turn_place : Turn → ℕ
+turn_place turn = turn_index turn + 4
+
+-- A table, as clauses see it: which it is, the history that it was opened with, and how many words the cache has.
+pub record Store : Type 0 where
+  pub table : TableId
+  pub opened : List Entry
+  pub cells : ℕ
+
+-- a seat of a table, by its number
+pub record Place : Type 0 where
+  pub opened : List Entry
+  pub cells : ℕ
+  pub by : ℕ
+
+abbrev pub place_of : Store → ℕ → Place
+place_of store by = record { opened = store.opened; cells = store.cells; by = by }
+
+-- a reached world of that table, in which the seat's actor is this one
+pub record IsAt (p : Place) (a : Actor) (w : World) : Type 0 where
+  pub reached : Reaches w
+  pub opened : w.opened ≡ p.opened
+  pub cells : length w.cache ≡ p.cells
+  pub there : get_elem? w.actors p.by ≡ some a

@@ -1,0 +1,31 @@
+//! The rule over the shared words: what threads do to an `atomic_table` is what actors do in the machine of `wp_core`.
+//!
+//! The words are the published number, the evicted bound, the delayed flag, the old-map flag, six turns, and from the eleventh
+//! on those of the commit cache. Behind each turn lies a slot with the value that the turn guards. A seat is an actor: what
+//! it knows, its view, is the actor's state in the machine, under the seat's number.
+//!
+//! The rule says that the table shows a world, and has the run of the machine that led to it. So each load, store, claim and
+//! unclaim is one of the machine's steps by the seat's actor, and all that is proved of reached worlds holds of the
+//! table at each moment. Steps that change no word, as those that change a table that the seat holds, or what it notes,
+//! are told to the rule at a load: `make` loads the published number and makes them there.
+//!
+//! While a turn is held its value is out of its slot, and the rule asks nothing of it: what the turn's table is stands in the
+//! holder's view. The value has to be that table again, with its devices, when the turn is given.
+//!
+//! No call waits but `park`, and none takes memory but `Words::new`.
+#![tactic(auto)]
+
+mod law;
+pub mod laws;
+mod opening;
+mod part;
+mod plays;
+mod steps;
+#[cfg(test)]
+mod tests;
+mod words;
+
+pub use part::{HoldsPart, Parts};
+pub use plays::Moves;
+pub use words::{WordSeat, Words};
+pub use wp_machine::{Actor, Turn};

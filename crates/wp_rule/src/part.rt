@@ -1,0 +1,22 @@
+//! What lies in a slot.
+ghost use Rattle.std.specs.Prelude.{Option};
+ghost use Rattle.wp_core.specs.Tables.{Content};
+
+/// A value behind a turn, or one that stands in its slot while it is out.
+pub trait HoldsPart {
+    /// The table that it is; none where it only stands in for one.
+    ghost content: { Self → Option Content };
+
+    /// What its devices tell, while its turn is free.
+    ghost tells: { Self → Type 0 };
+}
+
+/// The values behind the turns of a table that was closed.
+pub struct Parts<S> {
+    pub write: S,
+    pub prepared: S,
+    pub snapshots: S,
+    pub store: S,
+    pub locks: S,
+    pub tables: S,
+}

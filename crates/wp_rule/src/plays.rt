@@ -1,0 +1,107 @@
+//! What each atomic step tells its seat.
+ghost use Rattle.std.specs.Prelude.{ℕ, List, [], ◌∷◌, ◌+◌, false};
+ghost use Rattle.atomic_table.specs.Table.{rest};
+ghost use Rattle.wp_core.specs.Turns.{Turn, write_turn};
+ghost use Rattle.wp_core.specs.World.{World, new_actor};
+ghost use Rattle.wp_core.specs.Steps.{Step};
+ghost use Rattle.wp_core.specs.Changes.{made_one, informed, joins, joined_actor};
+ghost use Rattle.wp_rule.specs.Words.{Place};
+ghost use Rattle.wp_rule.specs.Plays.{loads, stores, gives, claims};
+
+use crate::part::HoldsPart;
+use atomic_table::{Join, Play, Split};
+use std::marker::{Brand, PhantomData};
+use wp_machine::Actor;
+
+/// For the proof alone: a seat, and the steps of the machine that its actor makes at an atomic step of the table. Which they
+/// are may depend on the world that the table then shows. A caller picks them, by `Brand`.
+pub trait Moves {
+    ghost place: { Place };
+
+    ghost steps: { World → List Step };
+}
+
+impl Moves for Brand {
+    ghost place = { record { opened = []; cells = 0; by = 0 } };
+
+    ghost steps = { λ w. [] };
+}
+
+/// For the proof alone: a seat, and the turn that it takes or gives.
+pub(crate) trait OfTurn {
+    ghost place: { Place };
+
+    ghost turn: { Turn };
+}
+
+impl OfTurn for Brand {
+    ghost place = { record { opened = []; cells = 0; by = 0 } };
+
+    ghost turn = { write_turn };
+}
+
+pub(crate) struct Loaded<J> {
+    of: PhantomData<J>,
+}
+
+impl<S, J: Moves> Play<S, Actor> for Loaded<J> {
+    ghost then = { loads J.place J.steps };
+}
+
+pub(crate) struct Stored<J> {
+    of: PhantomData<J>,
+}
+
+impl<S, J: Moves> Play<S, Actor> for Stored<J> {
+    ghost then = { stores J.place J.steps };
+}
+
+pub(crate) struct Given<J> {
+    of: PhantomData<J>,
+}
+
+impl<S, J: OfTurn> Play<S, Actor> for Given<J> {
+    ghost then = { gives J.place J.turn };
+}
+
+pub(crate) struct Claimed<S, J> {
+    of: PhantomData<(S, J)>,
+}
+
+impl<S: HoldsPart, J: OfTurn> Play<S, Actor> for Claimed<S, J> {
+    ghost then = { claims S.content S.tells J.place J.turn };
+}
+
+pub(crate) struct Noted;
+
+impl Split<Actor> for Noted {
+    ghost left = { λ a. a };
+
+    ghost right = { λ a. new_actor false a.participant.client a.participant.seen };
+}
+
+pub(crate) struct Seated;
+
+impl Split<Actor> for Seated {
+    ghost use Rattle.std.specs.Prelude.{true};
+
+    ghost left = { made_one };
+
+    ghost right = { λ a. new_actor true a.participant.client a.participant.seen };
+}
+
+pub(crate) struct Informed;
+
+impl Join<Actor> for Informed {
+    ghost both = { informed };
+
+    ghost spent = { joined_actor };
+}
+
+pub(crate) struct Joined;
+
+impl Join<Actor> for Joined {
+    ghost both = { joins };
+
+    ghost spent = { joined_actor };
+}

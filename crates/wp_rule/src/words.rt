@@ -1,0 +1,334 @@
+//! The table of the shared words, and the calls on it.
+ghost use Rattle.std.specs.Prelude.{◌≡◌, ℕ, ◌+◌, ◌<◌, ◌≤◌, ◌≢◌, [], ◌∷◌, List, true, false, length, replicate, slice_index, slice_get, Some, None, IfOk, IfErr, MatchBool};
+ghost use mathlib.Core.Option.{some};
+ghost use Rattle.atomic_table.specs.Table.{rest};
+ghost use Rattle.wp_model.specs.declared.entry.Entry.{Entry};
+ghost use Rattle.wp_model.specs.Legal.{IsLegal};
+ghost use Rattle.wp_core.specs.World.{Actor, World, new_actor};
+ghost use Rattle.wp_core.specs.Steps as step;
+ghost use Rattle.wp_core.specs.Steps.{store_max_evicted, give_turn};
+ghost use Rattle.wp_core.specs.Changes.{sees, made_one, informed, joins, turn_index};
+ghost use Rattle.wp_core.specs.Sound.Actors.{StartsWith};
+ghost use Rattle.wp_machine.specs.Parts.{turn_of};
+ghost use Rattle.wp_rule.specs.Words.{Place, place_of, words_of, turn_place};
+ghost use Rattle.wp_rule.specs.Moves.{MayMake, MayStep, Moved, Stepped};
+ghost use Rattle.wp_rule.specs.Shows.{Founds, Leaves};
+ghost use Rattle.wp_rule.specs.Ends.{part_of};
+ghost use Rattle.wp_rule.specs.Plays.{Took, WasHeld};
+ghost use Rattle.wp_rule.specs.Keys.{MayUnclaim, MayPublishAs};
+ghost use Rattle.wp_core.specs.Lists.{IsIn};
+ghost use Rattle.wp_core.specs.Tables.{WriteTable, writes};
+ghost use Rattle.wp_core.specs.Cache.{cache_place};
+ghost use Rattle.wp_judge.specs.Words.{CommitPair, word_of, pair_of};
+
+use crate::law::Law;
+use crate::opening::Opening;
+use crate::part::{HoldsPart, Parts};
+use crate::plays::{Informed, Joined, Moves, Noted, Seated};
+use crate::steps;
+use atomic_table::{Refused, Seat, Table};
+use std::alloc::{AllocError, Global};
+use std::marker::{Brand, Model};
+use std::snapshot::Snapshot;
+use std::sync::Wait;
+use wp_machine::{Actor, Turn};
+use wp_model::{Entry, Name, Seq};
+
+const PUBLISHED: usize = 0;
+
+const MAX: usize = 1;
+
+const DELAYED_FLAG: usize = 2;
+
+const OLD_FLAG: usize = 3;
+
+const FIRST_CELL: usize = 10;
+
+/// A seat of a table: an actor of the machine, with the values that it has out.
+pub type WordSeat<S> = Seat<S, Actor>;
+
+/// The shared words with the slots behind their turns, under the rule.
+#[derive(Drop)]
+pub struct Words<S: HoldsPart + Drop> {
+    table: Table<S, Actor, Opening, Law<S>, Global>,
+}
+
+impl<S: HoldsPart + Drop> Model for Words<S> {
+    ghost use Rattle.std.specs.Prelude.{◌≡◌, ◌+◌, ◌≤◌};
+    ghost use Rattle.wp_rule.specs.Words.{Store};
+
+    ghost Value = { Store };
+
+    ghost view = { λ w. record { table = w.table.shared.table_id; opened = w.table.shared.key.entries.value.items; cells = w.table.shared.key.cells } };
+
+    ghost invariant = { λ w. (w.table.shared.table_id.words ≡ w.table.shared.key.cells + 10) × (w.table.shared.table_id.slots ≡ 6) × (w.table.shared.key.cells ≤ 65536) };
+}
+
+fn first_words(
+    alloc: Global,
+    published: u64,
+    delayed_flag: u64,
+    cells: usize,
+) -> Result<Vec<u64>, AllocError>
+    requires { cells ≤ 65536 }
+    ensures { IfOk result (λ words. words.items ≡ published ∷ published ∷ delayed_flag ∷ replicate (cells + 7) 0) }
+{
+    let mut words = Vec::with_capacity(alloc, cells + 10)?;
+    words.push(published)?;
+    words.push(published)?;
+    words.push(delayed_flag)?;
+    words.resize(cells + 10, 0)?;
+    Ok(words)
+}
+
+impl<S: HoldsPart + Drop> Words<S> {
+    /// Makes the table, with its first seat, the client's. The slots are the values behind the turns, in their order. They come
+    /// back where memory is wanting.
+    pub fn new(
+        alloc: Global,
+        client: &Name,
+        entries: &Vec<Entry>,
+        cells: usize,
+        delayed_flag: u64,
+        slots: Vec<S>,
+    ) -> Result<(Words<S>, WordSeat<S>), Vec<S>>
+        requires parts { Founds S.content S.tells client.now entries.now.items cells delayed_flag slots.items }
+        requires cells { cells ≤ 65536 }
+        ensures words { IfOk result (λ r. (r.0.opened ≡ entries.now.items) × (r.0.cells ≡ cells)) }
+        ensures seat { IfOk result (λ r. (r.1.table_id ≡ r.0.table) × (r.1.id ≡ 0) × (r.1.me ≡ (new_actor true client.now entries.now.items, []))) }
+        ensures refused { IfErr result (λ all. all.items ≡ slots.items) }
+    {
+        let Ok(words) = first_words(alloc, entries.len() as u64, delayed_flag, cells) else {
+            return Err(slots);
+        };
+        let opening = Opening {
+            cells,
+            client: Snapshot::of(client),
+            entries: Snapshot::of(entries),
+        };
+        match Table::new(alloc, words.as_slice(), slots, &opening) {
+            Ok((table, seat)) => Ok((Words { table }, seat)),
+            Err(Refused { slots }) => Err(slots),
+        }
+    }
+
+    /// Loads the published number: the seat then has seen the history that is published.
+    pub fn load_published(&self, seat: &mut WordSeat<S>) -> Seq
+        requires { seat.old.table_id ≡ self.now.table }
+        ensures same { (seat.new.table_id ≡ seat.old.table_id) × (seat.new.id ≡ seat.old.id) }
+        ensures seen { (h : List Entry) × (seat.new.me ≡ (sees h seat.old.me.0, seat.old.me.1)) × (result ≡ length h)
+            × StartsWith h seat.old.me.0.participant.seen × StartsWith h seat.old.me.0.learned × IsLegal h }
+    {
+        steps::load::<S, Brand>(&self.table.shared, seat, PUBLISHED)
+    }
+
+    /// Loads the published number, and makes there the steps that the caller picks: changes of tables that the seat
+    /// holds, what it registers, notes or finds, and what it reads in tables.
+    pub fn make<J: Moves>(&self, seat: &mut WordSeat<S>) -> Seq
+        requires seat { (seat.old.table_id ≡ self.now.table) × (J.place ≡ place_of self.now seat.old.id) }
+        requires may { MayMake J.place seat.old.me.0 J.steps }
+        ensures same { (seat.new.table_id ≡ seat.old.table_id) × (seat.new.id ≡ seat.old.id) × (seat.new.me.1 ≡ seat.old.me.1) }
+        ensures moved { Moved J.place J.steps (λ w. result ≡ length w.writes.history) seat.old.me.0 seat.new.me.0 }
+    {
+        steps::load::<S, J>(&self.table.shared, seat, PUBLISHED)
+    }
+
+    /// Loads the evicted bound, and makes there the steps that the caller picks: none, or a reader's load of it.
+    pub fn load_max<J: Moves>(&self, seat: &mut WordSeat<S>) -> Seq
+        requires seat { (seat.old.table_id ≡ self.now.table) × (J.place ≡ place_of self.now seat.old.id) }
+        requires may { MayMake J.place seat.old.me.0 J.steps }
+        ensures same { (seat.new.table_id ≡ seat.old.table_id) × (seat.new.id ≡ seat.old.id) × (seat.new.me.1 ≡ seat.old.me.1) }
+        ensures moved { Moved J.place J.steps (λ w. result ≡ w.max_evicted) seat.old.me.0 seat.new.me.0 }
+    {
+        steps::load::<S, J>(&self.table.shared, seat, MAX)
+    }
+
+    /// Loads a word of the cache, and makes there the steps that the caller picks: none, or a reader's load of it.
+    pub fn load_word<J: Moves>(&self, seat: &mut WordSeat<S>, i: usize) -> u64
+        requires seat { (seat.old.table_id ≡ self.now.table) × (J.place ≡ place_of self.now seat.old.id) }
+        requires word { i < self.now.cells }
+        requires may { MayMake J.place seat.old.me.0 J.steps }
+        ensures same { (seat.new.table_id ≡ seat.old.table_id) × (seat.new.id ≡ seat.old.id) × (seat.new.me.1 ≡ seat.old.me.1) }
+        ensures moved { Moved J.place J.steps (λ w. result ≡ slice_index w.cache i) seat.old.me.0 seat.new.me.0 }
+    {
+        steps::load::<S, J>(&self.table.shared, seat, FIRST_CELL + i)
+    }
+
+    /// Loads the flag that is 0 only while nothing is delayed, and makes there the steps that the caller picks: none, or a
+    /// reader's load of it.
+    pub fn load_delayed_flag<J: Moves>(&self, seat: &mut WordSeat<S>) -> u64
+        requires seat { (seat.old.table_id ≡ self.now.table) × (J.place ≡ place_of self.now seat.old.id) }
+        requires may { MayMake J.place seat.old.me.0 J.steps }
+        ensures same { (seat.new.table_id ≡ seat.old.table_id) × (seat.new.id ≡ seat.old.id) × (seat.new.me.1 ≡ seat.old.me.1) }
+        ensures moved { Moved J.place J.steps (λ w. result ≡ w.delayed_flag) seat.old.me.0 seat.new.me.0 }
+    {
+        steps::load::<S, J>(&self.table.shared, seat, DELAYED_FLAG)
+    }
+
+    /// Loads the flag that is 0 only while the old commit map is empty, and makes there the steps that the caller picks: none, or
+    /// a reader's load of it.
+    pub fn load_old_flag<J: Moves>(&self, seat: &mut WordSeat<S>) -> u64
+        requires seat { (seat.old.table_id ≡ self.now.table) × (J.place ≡ place_of self.now seat.old.id) }
+        requires may { MayMake J.place seat.old.me.0 J.steps }
+        ensures same { (seat.new.table_id ≡ seat.old.table_id) × (seat.new.id ≡ seat.old.id) × (seat.new.me.1 ≡ seat.old.me.1) }
+        ensures moved { Moved J.place J.steps (λ w. result ≡ w.old_flag) seat.old.me.0 seat.new.me.0 }
+    {
+        steps::load::<S, J>(&self.table.shared, seat, OLD_FLAG)
+    }
+
+    /// Publishes the first of the pending entries, which gets this number. The caller holds the write turn, and its view has the
+    /// turn's table.
+    pub fn store_published(&self, seat: &mut WordSeat<S>, p: Seq)
+        requires seat { seat.old.table_id ≡ self.now.table }
+        requires next { MayPublishAs (place_of self.now seat.old.id) seat.old.me.0 p }
+        ensures same { (seat.new.table_id ≡ seat.old.table_id) × (seat.new.id ≡ seat.old.id) × (seat.new.me.1 ≡ seat.old.me.1) }
+        ensures published { (t : WriteTable) (entry : Entry) (others : List Entry) → IsIn (writes t) seat.old.me.0.held → t.pending ≡ entry ∷ others
+            → Stepped (place_of self.now seat.old.id) (step.store_published entry others) (λ w. w.writes ≡ t) seat.old.me.0 seat.new.me.0 }
+    {
+        steps::store::<S, Brand>(&self.table.shared, seat, PUBLISHED, p);
+    }
+
+    /// Raises the evicted bound; in the same step each number of the prepared heap up to it moves to the delayed set.
+    pub fn store_max(&self, seat: &mut WordSeat<S>, m: Seq)
+        requires seat { seat.old.table_id ≡ self.now.table }
+        requires may { MayStep (place_of self.now seat.old.id) seat.old.me.0 (store_max_evicted m) }
+        ensures same { (seat.new.table_id ≡ seat.old.table_id) × (seat.new.id ≡ seat.old.id) × (seat.new.me.1 ≡ seat.old.me.1) }
+        ensures stepped { Stepped (place_of self.now seat.old.id) (store_max_evicted m) (λ w. Unit {0}) seat.old.me.0 seat.new.me.0 }
+    {
+        steps::store::<S, Brand>(&self.table.shared, seat, MAX, m);
+    }
+
+    /// Puts the pair of this word into its place of the cache.
+    pub fn store_word(&self, seat: &mut WordSeat<S>, i: usize, word: u64)
+        requires seat { seat.old.table_id ≡ self.now.table }
+        requires pair { (pair : CommitPair) × (word ≡ word_of pair) × (pair_of word ≡ Some pair) × (i < self.now.cells) × (i ≡ cache_place self.now.cells pair.number)
+            × MayStep (place_of self.now seat.old.id) seat.old.me.0 (step.store_word pair) }
+        ensures same { (seat.new.table_id ≡ seat.old.table_id) × (seat.new.id ≡ seat.old.id) × (seat.new.me.1 ≡ seat.old.me.1) }
+        ensures stepped { (pair : CommitPair) → pair_of word ≡ Some pair → Stepped (place_of self.now seat.old.id) (step.store_word pair) (λ w. Unit {0}) seat.old.me.0 seat.new.me.0 }
+    {
+        steps::store::<S, Brand>(&self.table.shared, seat, FIRST_CELL + i, word);
+    }
+
+    pub fn store_delayed_flag(&self, seat: &mut WordSeat<S>, value: u64)
+        requires seat { seat.old.table_id ≡ self.now.table }
+        requires may { MayStep (place_of self.now seat.old.id) seat.old.me.0 (step.store_delayed_flag value) }
+        ensures same { (seat.new.table_id ≡ seat.old.table_id) × (seat.new.id ≡ seat.old.id) × (seat.new.me.1 ≡ seat.old.me.1) }
+        ensures stepped { Stepped (place_of self.now seat.old.id) (step.store_delayed_flag value) (λ w. Unit {0}) seat.old.me.0 seat.new.me.0 }
+    {
+        steps::store::<S, Brand>(&self.table.shared, seat, DELAYED_FLAG, value);
+    }
+
+    pub fn store_old_flag(&self, seat: &mut WordSeat<S>, value: u64)
+        requires seat { seat.old.table_id ≡ self.now.table }
+        requires may { MayStep (place_of self.now seat.old.id) seat.old.me.0 (step.store_old_flag value) }
+        ensures same { (seat.new.table_id ≡ seat.old.table_id) × (seat.new.id ≡ seat.old.id) × (seat.new.me.1 ≡ seat.old.me.1) }
+        ensures stepped { Stepped (place_of self.now seat.old.id) (step.store_old_flag value) (λ w. Unit {0}) seat.old.me.0 seat.new.me.0 }
+    {
+        steps::store::<S, Brand>(&self.table.shared, seat, OLD_FLAG, value);
+    }
+
+    /// One try to take a turn: false exactly where the turn was found held.
+    pub fn claim(&self, seat: &mut WordSeat<S>, turn: Turn) -> bool
+        requires seat { seat.old.table_id ≡ self.now.table }
+        requires live { seat.old.me.0.live ≡ true }
+        ensures same { (seat.new.table_id ≡ seat.old.table_id) × (seat.new.id ≡ seat.old.id) }
+        ensures turn { MatchBool result
+            (Took S.content S.tells (place_of self.now seat.old.id) (turn_of turn) seat.old.me seat.new.me)
+            (WasHeld S.content S.tells (place_of self.now seat.old.id) (turn_of turn) seat.old.me seat.new.me) }
+    {
+        steps::claim::<S, Brand>(&self.table.shared, seat, turn)
+    }
+
+    /// Gives the turn that was taken last, with the value that lies in its slot.
+    pub fn unclaim(&self, seat: &mut WordSeat<S>, turn: Turn)
+        requires seat { seat.old.table_id ≡ self.now.table }
+        requires turn { MayUnclaim S.content S.tells (place_of self.now seat.old.id) (turn_of turn) seat.old.me }
+        ensures same { (seat.new.table_id ≡ seat.old.table_id) × (seat.new.id ≡ seat.old.id) × (seat.new.me.1 ≡ rest seat.old.me.1) }
+        ensures stepped { Stepped (place_of self.now seat.old.id) (give_turn (turn_of turn)) (λ w. Unit {0}) seat.old.me.0 seat.new.me.0 }
+    {
+        steps::unclaim::<S, Brand>(&self.table.shared, seat, turn);
+    }
+
+    /// Puts a value into the slot of the turn that was taken last, for the one that lies there. The view stays as it is.
+    pub fn exchange(&self, seat: &mut WordSeat<S>, turn: Turn, value: S) -> S
+        requires seat { seat.old.table_id ≡ self.now.table }
+        requires turn { (x : S) × (seat.old.me.1 ≡ (turn_index (turn_of turn), x) ∷ rest seat.old.me.1) }
+        ensures same { (seat.new.table_id ≡ seat.old.table_id) × (seat.new.id ≡ seat.old.id) }
+        ensures out { seat.old.me.1 ≡ (turn_index (turn_of turn), result) ∷ rest seat.old.me.1 }
+        ensures home { seat.new.me ≡ (seat.old.me.0, (turn_index (turn_of turn), value) ∷ rest seat.old.me.1) }
+    {
+        self.table
+            .shared
+            .exchange(seat, turn.index() as usize, value)
+    }
+
+    /// A note of what the seat, or another note, has seen.
+    pub fn note(&self, seat: &mut WordSeat<S>) -> WordSeat<S>
+        requires { seat.old.table_id ≡ self.now.table }
+        ensures same { (seat.new.table_id ≡ seat.old.table_id) × (seat.new.id ≡ seat.old.id) × (seat.new.me ≡ seat.old.me) }
+        ensures note { (result.table_id ≡ self.now.table) × (result.me ≡ (new_actor false seat.old.me.0.participant.client seat.old.me.0.participant.seen, [])) }
+    {
+        self.table.shared.split_seat::<Noted>(seat)
+    }
+
+    /// Another seat of the same client, which the first one makes.
+    pub fn seat(&self, seat: &mut WordSeat<S>) -> WordSeat<S>
+        requires { (seat.old.table_id ≡ self.now.table) × (seat.old.id ≡ 0) }
+        ensures same { (seat.new.table_id ≡ seat.old.table_id) × (seat.new.id ≡ seat.old.id) × (seat.new.me ≡ (made_one seat.old.me.0, seat.old.me.1)) }
+        ensures seat { (result.table_id ≡ self.now.table) × (result.me ≡ (new_actor true seat.old.me.0.participant.client seat.old.me.0.participant.seen, [])) }
+    {
+        self.table.shared.split_seat::<Seated>(seat)
+    }
+
+    /// Takes in a note, and loads the published number: the seat has then seen what it and the note had.
+    pub fn learn(&self, seat: &mut WordSeat<S>, note: WordSeat<S>) -> Seq
+        requires seats { (seat.old.table_id ≡ self.now.table) × (note.table_id ≡ self.now.table) }
+        requires note { (note.me.0.live ≡ false) × (note.me.1 ≡ []) }
+        ensures same { (seat.new.table_id ≡ seat.old.table_id) × (seat.new.id ≡ seat.old.id) }
+        ensures seen { (h : List Entry) × (seat.new.me ≡ (sees h seat.old.me.0, seat.old.me.1)) × (result ≡ length h)
+            × StartsWith h note.me.0.participant.seen × StartsWith h seat.old.me.0.participant.seen × IsLegal h }
+    {
+        self.table.shared.join_seat::<Informed>(seat, note);
+        self.load_published(seat)
+    }
+
+    /// Takes in a seat that holds no turn: the first one keeps what it knew and did.
+    pub fn join(&self, first: &mut WordSeat<S>, other: WordSeat<S>)
+        requires seats { (first.old.table_id ≡ self.now.table) × (other.table_id ≡ self.now.table) × (first.old.id ≡ 0) }
+        requires other { (other.me.0.live ≡ true) × (other.me.0.held ≡ []) × (other.me.1 ≡ []) }
+        ensures same { (first.new.table_id ≡ first.old.table_id) × (first.new.id ≡ first.old.id) }
+        ensures joined { first.new.me ≡ (joins first.old.me.0 other.me.0, first.old.me.1) }
+    {
+        self.table.shared.join_seat::<Joined>(first, other);
+    }
+
+    /// Ends the table, where the first seat has taken in all that it made, and none holds a turn.
+    pub fn close(self, first: WordSeat<S>) -> Parts<S>
+        requires first { (first.table_id ≡ self.table) × (first.id ≡ 0) × (first.me.1 ≡ []) }
+        requires all { (first.me.0.held ≡ []) × (first.me.0.made ≡ length first.me.0.joined) }
+        ensures { Leaves S.content S.tells (place_of self 0) first.me.0 (part_of result) }
+    {
+        let Words { table } = self;
+        let mut closed = table.close_with(first);
+        let parts = Parts {
+            write: closed.take(0),
+            prepared: closed.take(1),
+            snapshots: closed.take(2),
+            store: closed.take(3),
+            locks: closed.take(4),
+            tables: closed.take(5),
+        };
+        closed.free();
+        parts
+    }
+
+    /// Sleeps while the turn is held, until a wake. It may also return for no reason.
+    pub fn park<R: Wait>(&self, rt: &R, turn: Turn) {
+        self.table.shared.park(rt, steps::word_of(turn), 1);
+    }
+
+    /// Wakes one that sleeps on the turn, if there is one.
+    pub fn wake_one(&self, turn: Turn) {
+        self.table.shared.wake_one(steps::word_of(turn));
+    }
+}
