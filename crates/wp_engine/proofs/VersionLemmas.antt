@@ -1,0 +1,168 @@
+-- Lists of versions and what is found in them.
+use Rattle.std.proofs.Common.{◌≡◌, ℕ, zero, suc, ◌≤◌, nat_le, ◌==◌, Bool, true, false, cond, Less, Equal, Greater, List, [], ◌∷◌, ◌++◌, length, drop, Option, Some, None, refl, sym, ap, ◌∙◌, arith}
+use Rattle.std.specs.declared.cmp.Ordering.{Ordering}
+use Rattle.std.specs.Ordering.{is_lt}
+use Rattle.std.specs.Prelude.{slice_get}
+use Rattle.std.specs.List.{list_all}
+use Rattle.std.specs.Option.{option_or}
+use Rattle.std.specs.Str.{bytes_eq}
+use Rattle.std.proofs.lemmas.Bool.{and_parts, eqb-true}
+use Rattle.std.proofs.lemmas.Cmp.{tied_itself, nat_list_cmp_total}
+use Rattle.std.proofs.lemmas.Slice.Eq.{bytes_eq-Decides}
+use Rattle.wp_model.specs.declared.change.Change.{Change}
+use Rattle.wp_model.specs.declared.entry.Entry.{Entry}
+use Rattle.wp_model.specs.declared.version.Version.{Version}
+use Rattle.wp_model.specs.Batch.{key_cmp, key_of, value_of, change_to, are_ascending, is_batch}
+use Rattle.wp_model.specs.declared.batch.TheConstants.{MOST_KEYS}
+use Rattle.wp_model.specs.Flushed.{versions_under, versions_after, later_versions}
+use Rattle.wp_model.specs.Legal.{IsLegal, changes_in}
+use Rattle.wp_model.specs.Versions.{AreInOrder, version_cmp, version_at}
+use Rattle.wp_model.proofs.BatchLemmas.{less_from_test, ascending_rest}
+use Rattle.wp_model.proofs.VersionLists.{IsBefore, in_order_parts}
+use Rattle.wp_merge.specs.Merge.{first_at, merge_of, sorted_of, weave, choose_by_order}
+use Rattle.wp_merge.proofs.Merged.{is_here, missing, same_place}
+use Rattle.wp_merge.proofs.Sorted.{own_place, own_value, at_sorted}
+use Rattle.wp_open.proofs.Later.{at_append}
+use Rattle.wp_core.proofs.PublishesVersions.{at_under}
+use Rattle.wp_engine.proofs.MemoryLemmas.{Found, after_low}
+
+-- ---- lists that have nothing, and lists that have something
+
+pub empty_list : (versions : List Version) → ((key : List ℕ) (p : ℕ) → version_at versions key p ≡ None) → versions ≡ []
+empty_list [] none = refl
+empty_list (v ∷ versions) none = let there = own_value v versions in let gone = none v.key v.number in absurd cc
+
+pub record Has (found : List ℕ → ℕ → Found) : Type 0 where
+  pub key : List ℕ
+  pub number : ℕ
+  pub value : Option (List ℕ)
+  pub there : found key number ≡ Some value
+
+pub has_some : (versions : List Version) → 1 ≤ length versions → Has (version_at versions)
+has_some [] some = absurd (omega arith)
+has_some (v ∷ versions) some = record { key = v.key; number = v.number; value = v.value; there = own_value v versions }
+
+pub some_of : (versions : List Version) (key : List ℕ) (p : ℕ) (value : Option (List ℕ)) → version_at versions key p ≡ Some value → 1 ≤ length versions
+some_of [] key p value there = absurd cc
+some_of (v ∷ versions) key p value there = omega arith
+
+-- what each version in order has, where it is found
+pub all_found : (P : Version → Bool) (versions : List Version) → AreInOrder versions → ((v : Version) → version_at versions v.key v.number ≡ Some v.value → P v ≡ true) → list_all P versions ≡ true
+all_found P [] in_order passes = refl
+all_found P (v ∷ versions) in_order passes =
+    let parts = in_order_parts v versions in_order in
+    let here : P v ≡ true = passes v (own_value v versions) in
+    let rest : list_all P versions ≡ true = all_found P versions parts.1 (λ w there. passes w (by w there (is_here w.key w.number v) refl parts.0)) in
+    rw (here, rest) refl
+  where
+    by : (w : Version) → version_at versions w.key w.number ≡ Some w.value → (b : Bool) → is_here w.key w.number v ≡ b → IsBefore v versions → version_at (v ∷ versions) w.key w.number ≡ Some w.value
+    by w there true is before = let none = missing w.key w.number v versions before is in absurd cc
+    by w there false is before = ap (λ (b : Bool). cond b (Some v.value) (version_at versions w.key w.number)) is ∙ there
+
+-- ---- parts of a store
+
+pub all_empty : (parts : List (List Version)) → list_all (λ part. length part == 0) parts ≡ true → (key : List ℕ) (p : ℕ) → first_at parts key p ≡ None
+all_empty [] all key p = refl
+all_empty ([] ∷ parts) all key p = all_empty parts all key p
+all_empty ((v ∷ part) ∷ parts) all key p =
+    let first = and_parts (length (v ∷ part) == 0) (list_all (λ others. length others == 0) parts) all in
+    absurd (omega (arith, eqb-true (length (v ∷ part)) 0 first.0))
+
+pub one_not_empty : (parts : List (List Version)) → list_all (λ part. length part == 0) parts ≡ false → Has (first_at parts)
+one_not_empty [] all = absurd cc
+one_not_empty ([] ∷ parts) all = let rest = one_not_empty parts all in record { key = rest.key; number = rest.number; value = rest.value; there = rest.there }
+one_not_empty ((v ∷ part) ∷ parts) all = record { key = v.key; number = v.number; value = v.value; there = ap (λ (o : Found). option_or o (first_at parts v.key v.number)) (own_value v part) }
+
+-- ---- how many versions are sorted
+
+-- no place stands twice
+abbrev pub Distinct : List Version → Type 0
+Distinct [] = Unit {0}
+Distinct (v ∷ versions) = (version_at versions v.key v.number ≡ None) × Distinct versions
+
+none_first : (v : Version) (versions : List Version) (key : List ℕ) (n : ℕ) → version_at (v ∷ versions) key n ≡ None → (is_here key n v ≡ false) × (version_at versions key n ≡ None)
+none_first v versions key n none = by (is_here key n v) refl none
+  where
+    by : (b : Bool) → is_here key n v ≡ b → cond b (Some v.value) (version_at versions key n) ≡ None → (is_here key n v ≡ false) × (version_at versions key n ≡ None)
+    by true is e = absurd cc
+    by false is e = (is, e)
+
+length_with : (v : Version) (versions : List Version) → version_at versions v.key v.number ≡ None → length (merge_of (v ∷ []) versions) ≡ suc (length versions)
+length_with v [] none = refl
+length_with v (w ∷ versions) none = by (version_cmp v w) refl (length_with v versions (none_first w versions v.key v.number none).1)
+  where
+    by : (o : Ordering) → version_cmp v w ≡ o → length (merge_of (v ∷ []) versions) ≡ suc (length versions) → length (choose_by_order o (v ∷ w ∷ versions) (v ∷ versions) (w ∷ weave v (merge_of []) versions)) ≡ suc (suc (length versions))
+    by Less is rest = refl
+    by Equal is rest =
+        let here : is_here v.key v.number w ≡ true = sym (same_place v.key v.number v w is) ∙ own_place v in
+        let apart = (none_first w versions v.key v.number none).0 in
+        absurd cc
+    by Greater is rest = ap (λ (n : ℕ). suc n) rest
+
+pub length_sorted : (versions : List Version) → Distinct versions → length (sorted_of versions) ≡ length versions
+length_sorted [] distinct = refl
+length_sorted (v ∷ versions) distinct =
+    length_with v (sorted_of versions) (at_sorted versions v.key v.number ∙ distinct.0) ∙ ap (λ (n : ℕ). suc n) (length_sorted versions distinct.1)
+
+-- ---- the versions of entries stand once each
+
+same_key : (a b : List ℕ) → bytes_eq a b ≡ true → a ≡ b
+same_key a b e = (bytes_eq-Decides a b).0 e
+
+change_first : (key : List ℕ) (first : Change) (others : List Change) → key_cmp key (key_of first) ≡ Less → change_to others key ≡ None → change_to (first ∷ others) key ≡ None
+change_first key first others below none = by (bytes_eq (key_of first) key) refl
+  where
+    by : (b : Bool) → bytes_eq (key_of first) key ≡ b → cond b (Some (value_of first)) (change_to others key) ≡ None
+    by false e = none
+    by true e =
+        let tied = ap (λ k. key_cmp key k) (same_key (key_of first) key e) ∙ tied_itself nat_list_cmp_total key in
+        absurd cc
+
+none_below : (key : List ℕ) (first : Change) (others : List Change) → are_ascending (first ∷ others) ≡ true → key_cmp key (key_of first) ≡ Less → change_to (first ∷ others) key ≡ None
+none_below key first [] ascending below = change_first key first [] below refl
+none_below key first (second ∷ more) ascending below =
+    let parts = and_parts (is_lt (key_cmp (key_of first) (key_of second))) (are_ascending (second ∷ more)) ascending in
+    change_first key first (second ∷ more) below (none_below key second more parts.1 (nat_list_cmp_total.trans key (key_of first) (key_of second) below (less_from_test _ parts.0)))
+
+changed_once : (first : Change) (others : List Change) → are_ascending (first ∷ others) ≡ true → change_to others (key_of first) ≡ None
+changed_once first [] ascending = refl
+changed_once first (second ∷ more) ascending =
+    let parts = and_parts (is_lt (key_cmp (key_of first) (key_of second))) (are_ascending (second ∷ more)) ascending in
+    none_below (key_of first) second more parts.1 (less_from_test _ parts.0)
+
+distinct_under : (n : ℕ) (changes : List Change) (rest : List Version) → are_ascending changes ≡ true → ((key : List ℕ) → version_at rest key n ≡ None) → Distinct rest → Distinct (versions_under n changes ++ rest)
+distinct_under n [] rest ascending none distinct = distinct
+distinct_under n (first ∷ others) rest ascending none distinct = (
+  at_append (versions_under n others) rest (key_of first) n
+      ∙ ap (λ (o : Found). option_or o (version_at rest (key_of first) n)) (at_under n others (key_of first) n ∙ ap (λ (o : Found). cond (n == n) o None) (changed_once first others ascending) ∙ same (n == n))
+      ∙ none (key_of first),
+  distinct_under n others rest (ascending_rest first others ascending) none distinct,
+)
+  where
+    same : (b : Bool) → let nothing : Found = None in cond b nothing nothing ≡ nothing
+    same true = refl
+    same false = refl
+
+-- each of the entries has a batch
+abbrev pub HaveBatches : List Entry → Type 0
+HaveBatches [] = Unit {0}
+HaveBatches (entry ∷ entries) = (is_batch (changes_in entry) ≡ true) × HaveBatches entries
+
+pub distinct_after : (n : ℕ) (entries : List Entry) → HaveBatches entries → Distinct (versions_after n entries)
+distinct_after n [] batches = tt
+distinct_after n (entry ∷ entries) batches =
+    distinct_under (suc n) (changes_in entry) (versions_after (suc n) entries) (and_parts (nat_le (length (changes_in entry)) MOST_KEYS) (are_ascending (changes_in entry)) batches.0).1
+    (λ key. after_low (suc n) entries key (suc n) (omega arith)) (distinct_after (suc n) entries batches.1)
+
+pub batches_from : (history entries : List Entry) → ((n : ℕ) (entry : Entry) → slice_get entries n ≡ Some entry → is_batch (changes_in entry) ≡ true) → HaveBatches entries
+batches_from history [] each = tt
+batches_from history (entry ∷ entries) each = (each 0 entry refl, batches_from history entries (λ n e there. each (suc n) e there))
+
+batches_dropped : (n : ℕ) (entries : List Entry) → HaveBatches entries → HaveBatches (drop n entries)
+batches_dropped zero entries batches = batches
+batches_dropped (suc n) [] batches = tt
+batches_dropped (suc n) (entry ∷ entries) batches = batches_dropped n entries batches.1
+
+pub distinct_later : (history : List Entry) (n : ℕ) → IsLegal history → Distinct (later_versions history n)
+distinct_later history n legal =
+    distinct_after n (drop n history) (batches_dropped n history (batches_from history history (λ m entry there. (legal.each m entry there).batch)))

@@ -1,0 +1,46 @@
+-- The store on one thread, between two calls.
+use Rattle.std.specs.Prelude.{ℕ, Bool, List}
+use Rattle.wp_model.specs.declared.entry.Entry.{Entry}
+use Rattle.wp_model.specs.declared.version.Version.{Version}
+use Rattle.wp_model.specs.Flushed.{InstalledEdit}
+use Rattle.wp_outside.specs.Disk.{Moment}
+use Rattle.wp_manifest.specs.Edit.{Edit}
+use Rattle.wp_merge.specs.Merge.{joined, sorted_of}
+use Rattle.wp_store.specs.Store.{StoreParts}
+use Rattle.wp_tableset.specs.Set.{TableSetState}
+use Rattle.wp_wal.specs.Wal.{WalState}
+use Rattle.std.specs.Prelude.{length}
+
+pub record EngineState : Type 0 where
+  pub entries : List Entry  -- the history so far
+  pub stopped : Bool  -- the log has failed
+  pub limit : ℕ  -- the greatest number of an entry
+  pub id : ℕ  -- the store's
+  pub installed : InstalledEdit  -- the last edit of the tables
+  pub halted : Bool  -- the manifest's device or the tables' has failed
+  pub faults : ℕ  -- how often the log's device has failed
+  pub moments : List Moment  -- the log's device's
+  pub manifest_faults : ℕ
+  pub manifest_moments : List Moment
+  pub tables_faults : ℕ
+  pub tables_moments : List Moment
+
+-- what the edit says, where these are its tables
+abbrev pub installed_of : Edit → List (List Version) → InstalledEdit
+installed_of edit parts = record { flushed = edit.flushed; versions = sorted_of (joined parts); tables = length parts }
+
+abbrev pub engine_state : WalState → List Entry → TableSetState → StoreParts → Bool → ℕ → EngineState
+engine_state wal entries set store stopped limit = record {
+  entries = entries;
+  stopped = stopped;
+  limit = limit;
+  id = wal.id;
+  installed = installed_of set.manifest.edit store.tables;
+  halted = set.halted;
+  faults = wal.faults;
+  moments = wal.moments;
+  manifest_faults = set.manifest.log.faults;
+  manifest_moments = set.manifest.log.moments;
+  tables_faults = set.faults;
+  tables_moments = set.moments;
+}

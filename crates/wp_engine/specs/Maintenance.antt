@@ -1,0 +1,61 @@
+-- What a flush and a compaction make of the store on one thread.
+use Rattle.std.specs.Prelude.{◌≡◌, ◌⊎◌, ℕ, ◌<◌, ◌≤◌, true, false, List, [], length, Option, Some, None, Result, Ok, Err}
+use Rattle.wp_model.specs.Flushed.{InstalledEdit, later_versions}
+use Rattle.wp_outside.specs.Faults.{Rose}
+use Rattle.wp_gatelog.specs.Durability.{LosesNoRecord}
+use Rattle.wp_manifest.specs.Spelling.{MAGIC}
+use Rattle.wp_session.specs.Tables.{unflushed, retained, after_flush, after_compaction}
+use Rattle.wp_tableset.specs.Device.{KeepsFronts}
+use Rattle.wp_tableset.specs.declared.error.TableSetError.{TableSetError}
+use Rattle.wp_tableset.specs.declared.error.TableSetError.TheVariants as set
+use Rattle.wp_engine.specs.declared.error.MaintenanceError.{MaintenanceError}
+use Rattle.wp_engine.specs.declared.error.MaintenanceError.TheVariants.{Memory, TablesFault, Halted}
+use Rattle.wp_engine.specs.Engine.{EngineState}
+
+-- ---- errors
+
+-- what an error of the tables means, where this is the flushed number
+abbrev pub maintenance_error : ℕ → TableSetError → MaintenanceError
+maintenance_error flushed set.Memory = Memory
+maintenance_error flushed set.Fault = TablesFault
+maintenance_error flushed set.Halted = Halted flushed
+
+-- ---- the outcome
+
+-- What was for good on the two devices before is so afterwards, and no count of faults falls.
+pub record KeepsTables (old new : EngineState) : Type 0 where
+  pub fronts : KeepsFronts old.tables_moments new.tables_moments
+  pub durable : LosesNoRecord MAGIC old.manifest_moments new.manifest_moments
+  pub later : old.tables_faults ≤ new.tables_faults
+  pub manifest_later : old.manifest_faults ≤ new.manifest_faults
+
+-- the new state is the old one, but for the two devices
+abbrev pub but_devices : EngineState → EngineState → EngineState
+but_devices old new = record old { manifest_faults = new.manifest_faults; manifest_moments = new.manifest_moments; tables_faults = new.tables_faults; tables_moments = new.tables_moments }
+
+-- the edit is the last one
+pub record HasInstalled (old new : EngineState) (edit : InstalledEdit) : Type 0 where
+  pub running : old.halted ≡ false
+  pub changed : new ≡ record (but_devices old new) { installed = edit }
+
+-- Why there is no new edit, and what that leaves. A device can fail only where there was something to do.
+abbrev pub IsRefused : EngineState → EngineState → (something : Type 0) → MaintenanceError → Type 0
+IsRefused old new something Memory = new ≡ but_devices old new
+IsRefused old new something TablesFault =
+    something × (old.halted ≡ false) × (Rose old.manifest_faults new.manifest_faults ⊎ Rose old.tables_faults new.tables_faults)
+    × (new ≡ record (but_devices old new) { halted = true })
+IsRefused old new something (Halted flushed) = (old.halted ≡ true) × (flushed ≡ old.installed.flushed) × (new ≡ old)
+
+-- a flush wrote so many versions, all that stood in memory; or none stood there; or it was refused
+abbrev pub IsFlushResult : EngineState → EngineState → Result (Option ℕ) MaintenanceError → Type 0
+IsFlushResult old new (Ok (Some count)) =
+    (1 ≤ count) × (count ≡ length (unflushed old.entries old.installed)) × HasInstalled old new (after_flush old.entries old.installed)
+IsFlushResult old new (Ok None) = (old.halted ≡ false) × (unflushed old.entries old.installed ≡ []) × (new ≡ old)
+IsFlushResult old new (Err why) = IsRefused old new (1 ≤ length (unflushed old.entries old.installed)) why
+
+-- a compaction left so many versions, or there were fewer than two tables, or it was refused
+abbrev pub IsCompactResult : EngineState → EngineState → List ℕ → Result (Option ℕ) MaintenanceError → Type 0
+IsCompactResult old new snapshots (Ok (Some count)) =
+    (2 ≤ old.installed.tables) × (count ≡ length (retained old.entries snapshots old.installed)) × HasInstalled old new (after_compaction old.entries snapshots old.installed)
+IsCompactResult old new snapshots (Ok None) = (old.halted ≡ false) × (old.installed.tables < 2) × (new ≡ old)
+IsCompactResult old new snapshots (Err why) = IsRefused old new (2 ≤ old.installed.tables) why
