@@ -1,90 +1,155 @@
--- The store later on.
-use Rattle.std.proofs.Common.{◌≡◌, ℕ, ◌≤◌, Bool, true, false, List, [], ◌++◌, refl, sym, ap, ◌∙◌, subst, append_assoc, arith, inl, inr, if◌then◌else◌}
+-- The store on one thread later on.
+use Rattle.std.proofs.Common.{◌≡◌, ℕ, ◌≤◌, Bool, true, false, List, refl, sym, ap, ◌∙◌, subst, arith, inl, inr}
+use Rattle.std.specs.Prelude.{Option, Some, None, Result, Ok, Err}
 use Rattle.std.proofs.lemmas.Bool.{cases_Bool}
-use Rattle.std.proofs.lemmas.List.{append-nil}
 use Rattle.wp_model.specs.declared.entry.Entry.{Entry}
-use Rattle.wp_outside.specs.Disk.{Moment}
+use Rattle.wp_model.specs.Flushed.{InstalledEdit}
 use Rattle.wp_outside.specs.Faults.{Rose}
-use Rattle.wp_gatelog.specs.Durability.{HasAcknowledged}
-use Rattle.wp_gatelog.specs.Moments.{Leaves}
-use Rattle.wp_text.specs.declared.script.Command.{Command}
 use Rattle.wp_text.specs.declared.reply.Reply.{Reply}
 use Rattle.wp_session.specs.Client.{Client}
-use Rattle.wp_session.specs.Kind.{is_fault}
-use Rattle.wp_session.specs.Due.{logged_entries}
-use Rattle.wp_wal.specs.Spelling.{MAGIC}
-use Rattle.wp_gatelog.proofs.DurabilityLemmas.{preserves_on}
-use Rattle.wp_run.specs.Engine.{EngineState, store_of, Later, IsCommandStep}
-use Rattle.wp_wal.specs.Wal.{LosesNothing}
-use Rattle.wp_run.proofs.StepLemmas.{false_is_true}
+use Rattle.wp_engine.specs.declared.error.MaintenanceError.{MaintenanceError}
+use Rattle.wp_engine.specs.declared.error.MaintenanceError.TheVariants as maintenance
+use Rattle.wp_engine.specs.Engine.{EngineState}
+use Rattle.wp_engine.specs.Logging.{CallsLog}
+use Rattle.wp_engine.specs.Maintenance.{KeepsTables, but_devices, HasInstalled, IsRefused, IsFlushResult, IsCompactResult}
+use Rattle.wp_run.specs.Answering.{IsLogAnswer}
+use Rattle.wp_run.specs.Later.{Later, TablesRose, store_of}
+use Rattle.wp_run.proofs.Keeping.{keeps_same, keeps_trans, records_same, fronts_same}
 
--- ---- what is preserved
+false_is_true : {P : Type 0} (b : Bool) → b ≡ false → b ≡ true → P
+false_is_true true e f = absurd cc
+false_is_true false e f = absurd cc
 
-pub durable_same : (ms : List Moment) → LosesNothing ms ms
-durable_same ms = λ id records. ([], refl, tt)
+-- ---- two in turn
 
-pub durable_trans : (old mid new : List Moment) → LosesNothing old mid → LosesNothing mid new → LosesNothing old new
-durable_trans old mid new a b = λ id records. preserves_on (Leaves (HasAcknowledged MAGIC id records)) old mid new (a id records) (b id records)
+pub later_same : (s : EngineState) → Later s s
+later_same s = record { keeps = keeps_same s; stopped = λ e. e; rose = λ e f. false_is_true s.stopped e f; halted = λ e. e; tables_rose = λ e f. false_is_true s.halted e f }
 
--- ---- the store
+pub later_equal : (old new : EngineState) → new ≡ old → Later old new
+later_equal old new e = subst (λ (s : EngineState). Later old s) (sym e) (later_same old)
 
-pub Later-same : (s : EngineState) → Later s s
-Later-same s = record {
-  grows = ([], sym (append-nil s.entries));
-  stays = λ e. refl;
-  stopped = λ e. e;
-  rose = λ e f. false_is_true s.stopped e f;
-  counted = omega arith;
-  limited = refl;
-  named = refl;
-  durable = durable_same s.moments;
-}
+-- which of two steps a device failed in
+rose_on : (a b c : ℕ) (old mid new : Bool) → (old ≡ false → mid ≡ true → Rose a b) → (mid ≡ false → new ≡ true → Rose b c) → a ≤ b → b ≤ c → old ≡ false → new ≡ true → Rose a c
+rose_on a b c old mid new first second le more fresh now = elim (cases_Bool mid) [
+  | inl up ↦ let rose : Rose a b = first fresh up in omega (arith, rose, more)
+  | inr down ↦ let rose : Rose b c = second down now in omega (arith, rose, le)
+]
 
-pub Later-equal : (old new : EngineState) → new ≡ old → Later old new
-Later-equal old new e = subst (λ (s : EngineState). Later old s) (sym e) (Later-same old)
+tables_rose_on : (old mid new : EngineState) → Later old mid → Later mid new → old.halted ≡ false → new.halted ≡ true → TablesRose old new
+tables_rose_on old mid new a b fresh now = elim (cases_Bool mid.halted) [
+  | inl up ↦ elim (a.tables_rose fresh up) [
+    | inl manifest ↦ inl (let le = b.keeps.manifest_later in omega (arith, manifest, le))
+    | inr tables ↦ inr (let le = b.keeps.tables_later in omega (arith, tables, le))
+  ]
+  | inr down ↦ elim (b.tables_rose down now) [
+    | inl manifest ↦ inl (let le = a.keeps.manifest_later in omega (arith, manifest, le))
+    | inr tables ↦ inr (let le = a.keeps.tables_later in omega (arith, tables, le))
+  ]
+]
 
-rose_between : (a b c : ℕ) → a ≤ b → Rose b c → Rose a c
-rose_between a b c le h = omega arith
-
-rose_before : (a b c : ℕ) → Rose a b → b ≤ c → Rose a c
-rose_before a b c h le = omega arith
-
--- which of two steps stopped the log
-rose_on : (old mid new : EngineState) → Later old mid → Later mid new → old.stopped ≡ false → new.stopped ≡ true → Rose old.faults new.faults
-rose_on old mid new a b fresh now =
-    elim (cases_Bool mid.stopped) [
-      | inl first ↦ rose_before old.faults mid.faults new.faults (a.rose fresh first) b.counted
-      | inr second ↦ rose_between old.faults mid.faults new.faults a.counted (b.rose second now)
-    ]
-
-pub Later-trans : (old mid new : EngineState) → Later old mid → Later mid new → Later old new
-Later-trans old mid new a b = record {
-  grows = (a.grows.0 ++ b.grows.0, b.grows.1 ∙ ap (λ (xs : List Entry). xs ++ b.grows.0) a.grows.1 ∙ append_assoc old.entries a.grows.0 b.grows.0);
-  stays = λ e. b.stays (a.stopped e) ∙ a.stays e;
+pub later_trans : (old mid new : EngineState) → Later old mid → Later mid new → Later old new
+later_trans old mid new a b = record {
+  keeps = keeps_trans old mid new a.keeps b.keeps;
   stopped = λ e. b.stopped (a.stopped e);
-  rose = rose_on old mid new a b;
-  counted = omega (arith, a.counted, b.counted);
-  limited = b.limited ∙ a.limited;
-  named = b.named ∙ a.named;
-  durable = durable_trans old.moments mid.moments new.moments a.durable b.durable;
+  rose = rose_on old.faults mid.faults new.faults old.stopped mid.stopped new.stopped a.rose b.rose a.keeps.log_later b.keeps.log_later;
+  halted = λ e. b.halted (a.halted e);
+  tables_rose = tables_rose_on old mid new a b;
 }
 
-still_stopped : (fault before now : Bool) → now ≡ (if fault then true else before) → before ≡ true → now ≡ true
-still_stopped true before now is stopped = is
-still_stopped false before now is stopped = is ∙ stopped
+-- ---- the log
 
-newly_stopped : (fault before now : Bool) → now ≡ (if fault then true else before) → before ≡ false → now ≡ true → fault ≡ true
-newly_stopped true before now is running stopped = refl
-newly_stopped false before now is running stopped = false_is_true now (is ∙ running) stopped
+-- the devices of the tables are as they were
+record AreTablesSame (old new : EngineState) : Type 0 where
+  limit : new.limit ≡ old.limit
+  id : new.id ≡ old.id
+  halted : new.halted ≡ old.halted
+  manifest_moments : new.manifest_moments ≡ old.manifest_moments
+  manifest_faults : new.manifest_faults ≡ old.manifest_faults
+  tables_moments : new.tables_moments ≡ old.tables_moments
+  tables_faults : new.tables_faults ≡ old.tables_faults
 
-pub IsCommandStep-later : (old new : EngineState) (was now : Client) (c : Command) (answer : Reply) → IsCommandStep old was c answer new now → Later old new
-IsCommandStep-later old new was now c answer step = record {
-  grows = (logged_entries (store_of old) was c answer, step.entries);
-  stays = step.stays;
-  stopped = still_stopped (is_fault answer) old.stopped new.stopped step.stopped;
-  rose = λ running stopped. step.rose (newly_stopped (is_fault answer) old.stopped new.stopped step.stopped running stopped);
-  counted = step.counted;
-  limited = step.limited;
-  named = step.named;
-  durable = step.durable;
+later_called : (old new : EngineState) (entries : List Entry) → CallsLog old new entries → AreTablesSame old new → (old.stopped ≡ false → new.stopped ≡ true → Rose old.faults new.faults) → Later old new
+later_called old new entries called same rose = record {
+  keeps = record {
+    limited = same.limit;
+    named = same.id;
+    log = called.durable;
+    edits = rw same.manifest_moments (records_same _ old.manifest_moments);
+    fronts = rw same.tables_moments (fronts_same old.tables_moments);
+    log_later = called.counted;
+    manifest_later = rw same.manifest_faults (omega arith);
+    tables_later = rw same.tables_faults (omega arith);
+  };
+  stopped = λ e. false_is_true old.stopped called.running e;
+  rose = rose;
+  halted = λ e. rw same.halted e;
+  tables_rose = λ e f. false_is_true old.halted e (rw same.halted at f);
 }
+
+same_by : (old new made : EngineState) → new ≡ made → AreTablesSame old made → AreTablesSame old new
+same_by old new made is same = subst (λ (s : EngineState). AreTablesSame old s) (sym is) same
+
+pub later_logged : (old new : EngineState) (was now : Client) (entries : List Entry) (success answer : Reply) → IsLogAnswer old was entries success answer new now → Later old new
+later_logged old new was now entries success answer answered = elim answered [
+  | inl accepted ↦ later_called old new entries accepted.0.called (same_by old new _ accepted.0.changed (record { limit = refl; id = refl; halted = refl; manifest_moments = refl; manifest_faults = refl; tables_moments = refl; tables_faults = refl }))
+      (λ e f. false_is_true old.stopped e (sym (ap (λ (s : EngineState). s.stopped) accepted.0.changed) ∙ f))
+  | inr (inl failed) ↦ later_called old new entries failed.0.called (same_by old new _ failed.0.changed (record { limit = refl; id = refl; halted = refl; manifest_moments = refl; manifest_faults = refl; tables_moments = refl; tables_faults = refl })) (λ e f. failed.0.rose)
+  | inr (inr (inl full)) ↦ later_equal old new full.0.same
+  | inr (inr (inr stopped)) ↦ later_equal old new stopped.0.same
+]
+
+-- ---- the tables
+
+-- the log is as it was
+record IsLogSame (old new : EngineState) : Type 0 where
+  limit : new.limit ≡ old.limit
+  id : new.id ≡ old.id
+  stopped : new.stopped ≡ old.stopped
+  moments : new.moments ≡ old.moments
+  faults : new.faults ≡ old.faults
+
+later_maintained : (old new : EngineState) → KeepsTables old new → IsLogSame old new → (old.halted ≡ true → new.halted ≡ true) → (old.halted ≡ false → new.halted ≡ true → TablesRose old new) → Later old new
+later_maintained old new keeps same halted rose = record {
+  keeps = record {
+    limited = same.limit;
+    named = same.id;
+    log = rw same.moments (records_same _ old.moments);
+    edits = keeps.durable;
+    fronts = keeps.fronts;
+    log_later = rw same.faults (omega arith);
+    manifest_later = keeps.manifest_later;
+    tables_later = keeps.later;
+  };
+  stopped = λ e. rw same.stopped e;
+  rose = λ e f. false_is_true old.stopped e (rw same.stopped at f);
+  halted = halted;
+  tables_rose = rose;
+}
+
+log_by : (old new made : EngineState) → new ≡ made → IsLogSame old made → IsLogSame old new
+log_by old new made is same = subst (λ (s : EngineState). IsLogSame old s) (sym is) same
+
+later_installed : (old new : EngineState) (edit : InstalledEdit) → KeepsTables old new → HasInstalled old new edit → Later old new
+later_installed old new edit keeps made = later_maintained old new keeps (log_by old new _ made.changed (record { limit = refl; id = refl; stopped = refl; moments = refl; faults = refl }))
+    (λ e. false_is_true old.halted made.running e) (λ e f. false_is_true old.halted e (sym (ap (λ (s : EngineState). s.halted) made.changed) ∙ f))
+
+later_refused : (old new : EngineState) (something : Type 0) (why : MaintenanceError) → KeepsTables old new → IsRefused old new something why → Later old new
+later_refused old new something maintenance.Memory keeps is = later_maintained old new keeps (log_by old new _ is (record { limit = refl; id = refl; stopped = refl; moments = refl; faults = refl }))
+    (λ e. ap (λ (s : EngineState). s.halted) is ∙ e) (λ e f. false_is_true old.halted e (sym (ap (λ (s : EngineState). s.halted) is) ∙ f))
+later_refused old new something maintenance.TablesFault keeps is = later_maintained old new keeps (log_by old new _ is.3 (record { limit = refl; id = refl; stopped = refl; moments = refl; faults = refl }))
+    (λ e. false_is_true old.halted is.1 e) (λ e f. is.2)
+later_refused old new something (maintenance.Halted flushed) keeps is = later_equal old new is.2
+
+pub later_flushed : (old new : EngineState) (result : Result (Option ℕ) MaintenanceError) → KeepsTables old new → IsFlushResult old new result → Later old new
+later_flushed old new (Ok (Some count)) keeps is = later_installed old new _ keeps is.2
+later_flushed old new (Ok None) keeps is = later_equal old new is.2
+later_flushed old new (Err why) keeps is = later_refused old new _ why keeps is
+
+pub later_compacted : (old new : EngineState) (snapshots : List ℕ) (result : Result (Option ℕ) MaintenanceError) → KeepsTables old new → IsCompactResult old new snapshots result → Later old new
+later_compacted old new snapshots (Ok (Some count)) keeps is = later_installed old new _ keeps is.2
+later_compacted old new snapshots (Ok None) keeps is = later_equal old new is.2
+later_compacted old new snapshots (Err why) keeps is = later_refused old new _ why keeps is
+
+-- for want of memory nothing is changed but the devices
+pub store_but_devices : (old new : EngineState) → new ≡ but_devices old new → store_of new ≡ store_of old
+store_but_devices old new is = ap store_of is

@@ -1,7 +1,11 @@
-pub mod EngineLemmas
-pub mod StepLemmas
-pub mod LaterLemmas
-pub mod RunLemmas
+pub mod Stores
+pub mod Said
+pub mod Sessions
 pub mod Explained
+pub mod Keeping
+pub mod LaterLemmas
+pub mod StepLemmas
+pub mod RunLemmas
 pub mod TextLemmas
+pub mod Opened
 pub mod TopLemmas

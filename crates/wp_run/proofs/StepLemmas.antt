@@ -7,30 +7,60 @@ use Rattle.std.proofs.lemmas.List.{append-nil}
 use Rattle.wp_model.specs.declared.change.Change.{Change}
 use Rattle.wp_model.specs.declared.entry.Entry.{Entry}
 use Rattle.wp_model.specs.declared.entry.Entry.TheVariants as entry
+use Rattle.wp_model.specs.declared.version.Version.{Version}
+use Rattle.wp_model.specs.Flushed.{InstalledEdit, later_versions}
 use Rattle.wp_text.specs.declared.script.Command.{Command}
 use Rattle.wp_text.specs.declared.script.Command.TheVariants as command
 use Rattle.wp_text.specs.declared.reply.Reply.{Reply}
 use Rattle.wp_text.specs.declared.reply.Reply.TheVariants as reply
-use Rattle.wp_session.specs.declared.plan.Plan.TheVariants.{Say, Log, RollBack}
-use Rattle.wp_session.specs.Client.{Client, ClientFits}
-use Rattle.wp_session.specs.Due.{Store, logged, reply_to, due, logged_entries, client_after}
-use Rattle.wp_session.specs.Kind.{acknowledged, is_logged, is_fault, number_in, fresh_in, is_stopped}
+use Rattle.wp_session.specs.declared.plan.Plan.TheVariants.{Say, Log, RollBack, Flush, Compact}
+use Rattle.wp_session.specs.Client.{Client, ClientFits, numbers_of}
+use Rattle.wp_session.specs.Due.{Store, logged, flushed, reply_to, due, logged_entries, store_after, client_after}
+use Rattle.wp_session.specs.Kind.{acknowledged, is_logged, is_fault, is_installed, is_tables_fault, is_halted, number_in, fresh_in, is_stopped}
 use Rattle.wp_session.specs.After.{after_decision}
-use Rattle.wp_run.specs.Engine.{EngineState, store_of, IsCommandStep}
 use Rattle.wp_session.specs.Plan.{plan, asked_of}
-use Rattle.wp_run.specs.Logging.{HasLogged, HasFailed, IsLogAnswer}
+use Rattle.wp_session.specs.Tables.{unflushed, after_flush, retained, after_compaction}
 use Rattle.wp_session.proofs.PlanLemmas.{Logs}
 use Rattle.wp_session.proofs.SaidLemmas.{plan_says, within_more}
+use Rattle.wp_engine.specs.declared.error.MaintenanceError.{MaintenanceError}
+use Rattle.wp_engine.specs.declared.error.MaintenanceError.TheVariants as maintenance
+use Rattle.wp_engine.specs.Engine.{EngineState}
+use Rattle.wp_engine.specs.Logging.{HasLogged, HasFailed}
+use Rattle.wp_engine.specs.Maintenance.{HasInstalled, IsFlushResult, IsCompactResult}
+use Rattle.wp_run.specs.Answering.{IsLogAnswer, IsFlushAnswer, IsCompactionAnswer, Flushes, Compacts}
+use Rattle.wp_run.specs.Later.{store_of}
+use Rattle.wp_run.specs.Runs.{no_edit, flushed as is_flush, compacted as is_compaction, IsStep}
 
-pub false_is_true : {P : Type 0} (b : Bool) → b ≡ false → b ≡ true → P
+false_is_true : {P : Type 0} (b : Bool) → b ≡ false → b ≡ true → P
 false_is_true true e f = absurd cc
 false_is_true false e f = absurd cc
 
+-- two stores that agree in all
+pub same_store : (a b : Store) → a.history ≡ b.history → a.stopped ≡ b.stopped → a.limit ≡ b.limit → a.installed ≡ b.installed → a.halted ≡ b.halted → a ≡ b
+same_store a b h s l i t =
+    ap (λ (x : List Entry). record { history = x; stopped = a.stopped; limit = a.limit; installed = a.installed; halted = a.halted }) h
+    ∙ ap (λ (x : Bool). record { history = b.history; stopped = x; limit = a.limit; installed = a.installed; halted = a.halted }) s
+    ∙ ap (λ (x : ℕ). record { history = b.history; stopped = b.stopped; limit = x; installed = a.installed; halted = a.halted }) l
+    ∙ ap (λ (x : InstalledEdit). record { history = b.history; stopped = b.stopped; limit = b.limit; installed = x; halted = a.halted }) i
+    ∙ ap (λ (x : Bool). record { history = b.history; stopped = b.stopped; limit = b.limit; installed = b.installed; halted = x }) t
+
 -- ---- replies that acknowledge entries
 
-faultless : (r : Reply) → is_logged r ≡ true → is_fault r ≡ false
-faultless reply.FaultLog is = absurd cc
-faultless other is = refl
+-- a reply that acknowledges entries says nothing else
+pub record IsMere (r : Reply) : Type 0 where
+  pub faultless : is_fault r ≡ false
+  pub running : is_stopped r ≡ false
+  pub uninstalled : is_installed r ≡ false
+  pub intact : is_tables_fault r ≡ false
+  pub unhalted : is_halted r ≡ false
+
+mere : (r : Reply) → is_logged r ≡ true → IsMere r
+mere (reply.Put n) is = record { faultless = refl; running = refl; uninstalled = refl; intact = refl; unhalted = refl }
+mere (reply.Del n) is = record { faultless = refl; running = refl; uninstalled = refl; intact = refl; unhalted = refl }
+mere (reply.Prepared n) is = record { faultless = refl; running = refl; uninstalled = refl; intact = refl; unhalted = refl }
+mere (reply.Committed n) is = record { faultless = refl; running = refl; uninstalled = refl; intact = refl; unhalted = refl }
+mere (reply.RolledBack n) is = record { faultless = refl; running = refl; uninstalled = refl; intact = refl; unhalted = refl }
+mere other is = absurd cc
 
 settles : (h : List Entry) (client : Client) (c : Command) (r : Reply) → is_logged r ≡ true → client_after h client c r ≡ after_decision client r
 settles h client c (reply.Put n) is = refl
@@ -58,121 +88,272 @@ logged_full store needed success running past = rw (running, lt-ltb store.limit 
 logged_stopped : (store : Store) (needed : ℕ) (success : Reply) → store.stopped ≡ true → logged store needed success ≡ reply.Stopped (length store.history)
 logged_stopped store needed success stopped = rw stopped refl
 
--- ---- steps
-
--- what a plan that asks the log comes to, where the log does not fail
-pub record Asks (s : EngineState) (client : Client) (c : Command) (entries : List Entry) (success : Reply) : Type 0 where
-  pub asked : asked_of (plan s.entries client c) ≡ entries
-  pub replies : due (store_of s) client c ≡ logged (store_of s) (length entries) success
-  pub logs : Logs s.entries client entries success
-
-pub log_asks : (s : EngineState) (client : Client) (c : Command) (e : Entry) (success : Reply) → plan s.entries client c ≡ Log e success → Logs s.entries client (e ∷ []) success → Asks s client c (e ∷ []) success
-log_asks s client c e success planned logs = record { asked = ap asked_of planned; replies = ap (reply_to (store_of s)) planned; logs = logs }
-
-pub rollback_asks : (s : EngineState) (client : Client) (c : Command) (p : ℕ) (batch : List Change) (success : Reply) → plan s.entries client c ≡ RollBack p batch success → Logs s.entries client (entry.Undo p batch ∷ entry.Close p ∷ []) success → Asks s client c (entry.Undo p batch ∷ entry.Close p ∷ []) success
-rollback_asks s client c p batch success planned logs = record { asked = ap asked_of planned; replies = ap (reply_to (store_of s)) planned; logs = logs }
+-- ---- a reply that changes nothing of the store
 
 fresh_if_numbered : (P : ℕ → Type 0) (c : Command) (r : Reply) → IfSome (number_in r) P → IfSome (fresh_in c r) P
 fresh_if_numbered P (command.GetAt key label) r is = tt
 fresh_if_numbered P other r is = is
 
-not_stopped : (r : Reply) → is_logged r ≡ true → is_stopped r ≡ false
-not_stopped (reply.Stopped n) is = absurd cc
-not_stopped other is = refl
+-- the tables have some of the history's versions
+abbrev pub AreFew : Store → Type 0
+AreFew s = length s.installed.versions ≤ length (later_versions s.history 0)
 
-takes_steps : (old new : EngineState) (was now : Client) (c : Command) (entries : List Entry) (success : Reply) → Asks old was c entries success → HasLogged old new entries → now ≡ after_decision was success → IsCommandStep old was c success new now
-takes_steps old new was now c entries success asks takes is =
-    let added_is : logged_entries (store_of old) was c success ≡ entries = rw (asks.logs.logged, asks.asked) refl in
-    let longer : new.entries ≡ old.entries ++ entries = ap (λ (s : EngineState). s.entries) takes.changed in
+-- what a reply does not say, where it changes nothing
+pub record IsStill (s : Store) (c : Command) (r : Reply) : Type 0 where
+  pub none : acknowledged r ≡ []
+  pub unlogged : is_logged r ≡ false
+  pub faultless : is_fault r ≡ false
+  pub uninstalled : is_installed r ≡ false
+  pub intact : is_tables_fault r ≡ false
+  pub stopped : is_stopped r ≡ true → s.stopped ≡ true
+  pub halted : is_halted r ≡ true → s.halted ≡ true
+  pub current : IfSome (fresh_in c r) (λ n. n ≡ length s.history)
+
+unchanged : (s : Store) (was : Client) (c : Command) (r : Reply) → is_logged r ≡ false → is_fault r ≡ false → is_installed r ≡ false → is_tables_fault r ≡ false → s ≡ store_after s was c r
+unchanged s was c r unlogged faultless uninstalled intact =
+    same_store s (store_after s was c r) (rw unlogged (sym (append-nil s.history))) (rw faultless refl) refl (rw uninstalled refl) (rw intact refl)
+
+fresh_same : (o : Option ℕ) (n : ℕ) → IfSome o (λ m. m ≡ n) → IfSome o (λ m. (n ≤ m) × (m ≤ n))
+fresh_same None n is = tt
+fresh_same (Some m) n is = (omega (arith, is), omega (arith, is))
+
+still_steps : (s : Store) (was now : Client) (c : Command) (answer : Reply) → answer ≡ due s was c → now ≡ client_after s.history was c answer → IsStill s c answer → AreFew s → IsStep s was c answer s now
+still_steps s was now c answer is client still few = record {
+  replied = inl is;
+  store = unchanged s was c answer still.unlogged still.faultless still.uninstalled still.intact;
+  client = client;
+  numbers = rw (still.none, still.unlogged) refl;
+  fresh = fresh_same (fresh_in c answer) (length s.history) still.current;
+  running = λ f. false_is_true (is_fault answer) still.faultless f;
+  stopped_before = still.stopped;
+  stays = λ e. refl;
+  tables = no_edit still.uninstalled;
+  few = few;
+  tables_running = λ f. false_is_true (is_tables_fault answer) still.intact f;
+  halted_before = still.halted;
+}
+
+-- ---- entries for the log
+
+-- what a plan that asks the log comes to, where the log does not fail
+pub record Asks (s : Store) (client : Client) (c : Command) (entries : List Entry) (success : Reply) : Type 0 where
+  pub asked : asked_of (plan s.history client c) ≡ entries
+  pub replies : due s client c ≡ logged s (length entries) success
+  pub logs : Logs s.history client entries success
+
+pub log_asks : (s : Store) (client : Client) (c : Command) (e : Entry) (success : Reply) → plan s.history client c ≡ Log e success → Logs s.history client (e ∷ []) success → Asks s client c (e ∷ []) success
+log_asks s client c e success planned logs = record { asked = ap asked_of planned; replies = ap (reply_to s client) planned; logs = logs }
+
+pub rollback_asks : (s : Store) (client : Client) (c : Command) (p : ℕ) (batch : List Change) (success : Reply) → plan s.history client c ≡ RollBack p batch success → Logs s.history client (entry.Undo p batch ∷ entry.Close p ∷ []) success → Asks s client c (entry.Undo p batch ∷ entry.Close p ∷ []) success
+rollback_asks s client c p batch success planned logs = record { asked = ap asked_of planned; replies = ap (reply_to s client) planned; logs = logs }
+
+takes_steps : (old new : EngineState) (was now : Client) (c : Command) (entries : List Entry) (success : Reply) → Asks (store_of old) was c entries success → HasLogged old new entries → now ≡ after_decision was success → AreFew (store_of old) → IsStep (store_of old) was c success (store_of new) now
+takes_steps old new was now c entries success asks takes is few =
+    let s = store_of old in
+    let plain = mere success asks.logs.logged in
+    let added_is : logged_entries s was c success ≡ entries = rw (asks.logs.logged, asks.asked) refl in
+    let longer : new.entries ≡ old.entries ++ entries = ap (λ (j : EngineState). j.entries) takes.changed in
     record {
-      replied = inl (sym (asks.replies ∙ logged_takes (store_of old) (length entries) success takes.called.running takes.called.fits));
-      entries = longer ∙ ap (λ (xs : List Entry). old.entries ++ xs) (sym added_is);
-      stopped = ap (λ (s : EngineState). s.stopped) takes.changed ∙ rw (faultless success asks.logs.logged) refl;
+      replied = inl (sym (asks.replies ∙ logged_takes s (length entries) success takes.called.running takes.called.fits));
+      store = same_store (store_of new) (store_after s was c success) (longer ∙ ap (λ (xs : List Entry). old.entries ++ xs) (sym added_is))
+          (ap (λ (j : EngineState). j.stopped) takes.changed ∙ rw plain.faultless refl) (ap (λ (j : EngineState). j.limit) takes.changed)
+          (ap (λ (j : EngineState). j.installed) takes.changed ∙ rw plain.uninstalled refl) (ap (λ (j : EngineState). j.halted) takes.changed ∙ rw plain.intact refl);
       client = is ∙ sym (settles old.entries was c success asks.logs.logged);
-      rose = λ f. false_is_true (is_fault success) (faultless success asks.logs.logged) f;
-      counted = takes.called.counted;
-      limited = ap (λ (s : EngineState). s.limit) takes.changed;
-      named = ap (λ (s : EngineState). s.id) takes.changed;
-      durable = takes.called.durable;
       numbers = asks.logs.numbers ∙ ap (λ (xs : List Entry). range_with_len (length old.entries + 1) (length xs)) (sym added_is);
       fresh = rw (longer, length-append old.entries entries) (fresh_if_numbered (λ n. (length old.entries ≤ n) × (n ≤ length old.entries + length entries)) c success asks.logs.fresh);
-      running = λ f. false_is_true (is_fault success) (faultless success asks.logs.logged) f;
-      stopped_before = λ t. false_is_true (is_stopped success) (not_stopped success asks.logs.logged) t;
-      stays = λ s. false_is_true old.stopped takes.called.running s;
+      running = λ f. false_is_true (is_fault success) plain.faultless f;
+      stopped_before = λ t. false_is_true (is_stopped success) plain.running t;
+      stays = λ e. false_is_true old.stopped takes.called.running e;
+      tables = no_edit plain.uninstalled;
+      few = few;
+      tables_running = λ f. false_is_true (is_tables_fault success) plain.intact f;
+      halted_before = λ t. false_is_true (is_halted success) plain.unhalted t;
     }
 
-fails_steps : (old new : EngineState) (was : Client) (c : Command) (entries : List Entry) (success : Reply) → Asks old was c entries success → HasFailed old new entries → IsCommandStep old was c reply.FaultLog new was
-fails_steps old new was c entries success asks fails = record {
-  replied = inr (refl, ap is_logged (asks.replies ∙ logged_takes (store_of old) (length entries) success fails.called.running fails.called.fits) ∙ asks.logs.logged);
-  entries = ap (λ (s : EngineState). s.entries) fails.changed ∙ sym (append-nil old.entries);
-  stopped = ap (λ (s : EngineState). s.stopped) fails.changed;
-  client = refl;
-  rose = λ f. fails.rose;
-  counted = fails.called.counted;
-  limited = ap (λ (s : EngineState). s.limit) fails.changed;
-  named = ap (λ (s : EngineState). s.id) fails.changed;
-  durable = fails.called.durable;
-  numbers = refl;
-  fresh = fresh_if_numbered _ c reply.FaultLog tt;
-  running = λ f. fails.called.running;
-  stopped_before = λ t. absurd cc;
-  stays = λ s. false_is_true old.stopped fails.called.running s;
-}
+fails_steps : (old new : EngineState) (was : Client) (c : Command) (entries : List Entry) (success : Reply) → Asks (store_of old) was c entries success → HasFailed old new entries → AreFew (store_of old) → IsStep (store_of old) was c reply.FaultLog (store_of new) was
+fails_steps old new was c entries success asks fails few =
+    let s = store_of old in
+    let longer : new.entries ≡ old.entries = ap (λ (j : EngineState). j.entries) fails.changed in
+    record {
+      replied = inr (inl (refl, ap is_logged (asks.replies ∙ logged_takes s (length entries) success fails.called.running fails.called.fits) ∙ asks.logs.logged));
+      store = same_store (store_of new) (store_after s was c reply.FaultLog) (longer ∙ sym (append-nil old.entries)) (ap (λ (j : EngineState). j.stopped) fails.changed) (ap (λ (j : EngineState). j.limit) fails.changed) (ap (λ (j : EngineState). j.installed) fails.changed) (ap (λ (j : EngineState). j.halted) fails.changed);
+      client = refl;
+      numbers = refl;
+      fresh = fresh_if_numbered _ c reply.FaultLog tt;
+      running = λ f. fails.called.running;
+      stopped_before = λ t. absurd cc;
+      stays = λ e. longer;
+      tables = no_edit refl;
+      few = few;
+      tables_running = λ f. absurd cc;
+      halted_before = λ t. absurd cc;
+    }
 
--- a reply without the log changes nothing of the store
-still_steps : (old : EngineState) (was now : Client) (c : Command) (answer : Reply) → answer ≡ due (store_of old) was c → now ≡ client_after old.entries was c answer → acknowledged answer ≡ [] → is_logged answer ≡ false → is_fault answer ≡ false → (is_stopped answer ≡ true → old.stopped ≡ true) → IfSome (fresh_in c answer) (λ n. n ≡ length old.entries) → IsCommandStep old was c answer old now
-still_steps old was now c answer is client none unlogged faultless stopped fresh = record {
-  replied = inl is;
-  entries = rw unlogged (sym (append-nil old.entries));
-  stopped = rw faultless refl;
-  client = client;
-  rose = λ f. false_is_true (is_fault answer) faultless f;
-  counted = omega arith;
-  limited = refl;
-  named = refl;
-  durable = λ id records. ([], refl, tt);
-  numbers = rw unlogged none;
-  fresh = if_current (fresh_in c answer) (length old.entries) fresh;
-  running = λ f. false_is_true (is_fault answer) faultless f;
-  stopped_before = stopped;
-  stays = λ s. refl;
-}
-  where
-    if_current : (number : Option ℕ) (n : ℕ) → IfSome number (λ m. m ≡ n) → IfSome number (λ m. (n ≤ m) × (m ≤ n))
-    if_current (Some m) n at = (omega (arith, at), omega (arith, at))
-    if_current None n at = tt
+-- a step to a store that is the same
+step_at : (old new : Store) (was now : Client) (c : Command) (answer said : Reply) → answer ≡ said → new ≡ old → now ≡ was → IsStep old was c said old was → IsStep old was c answer new now
+step_at old new was now c answer said is same client step =
+    subst (λ (r : Reply). IsStep old was c r new now) (sym is) (subst (λ (t : Store). IsStep old was c said t now) (sym same) (subst (λ (x : Client). IsStep old was c said old x) (sym client) step))
 
-step_at : (old new : EngineState) (was now : Client) (c : Command) (answer success : Reply) → answer ≡ success → new ≡ old → now ≡ was → IsCommandStep old was c success old was → IsCommandStep old was c answer new now
-step_at old new was now c answer success a n i step =
-    subst (λ (r : Reply). IsCommandStep old was c r new now) (sym a) (subst (λ (s : EngineState). IsCommandStep old was c success s now) (sym n) (subst (λ (x : Client). IsCommandStep old was c success old x) (sym i) step))
-
-pub logged_steps : (old new : EngineState) (was now : Client) (c : Command) (entries : List Entry) (success answer : Reply) → Asks old was c entries success → IsLogAnswer old was entries success answer new now → IsCommandStep old was c answer new now
-logged_steps old new was now c entries success answer asks answered = elim answered [
-  | inl accepted ↦ subst (λ (r : Reply). IsCommandStep old was c r new now) (sym accepted.1) (takes_steps old new was now c entries success asks accepted.0 accepted.2)
-  | inr (inl failed) ↦ subst (λ (r : Reply). IsCommandStep old was c r new now) (sym failed.1) (subst (λ (x : Client). IsCommandStep old was c reply.FaultLog new x) (sym failed.2) (fails_steps old new was c entries success asks failed.0))
-  | inr (inr (inl full)) ↦ step_at old new was now c answer (reply.Full (length old.entries) old.limit) full.1 full.0.same full.2
-      (still_steps old was was c (reply.Full (length old.entries) old.limit) (sym (asks.replies ∙ logged_full (store_of old) (length entries) success full.0.running full.0.past)) refl refl refl refl (λ t. absurd cc) (fresh_if_numbered _ c (reply.Full (length old.entries) old.limit) tt))
-  | inr (inr (inr stopped)) ↦ step_at old new was now c answer (reply.Stopped (length old.entries)) stopped.1 stopped.0.same stopped.2
-      (still_steps old was was c (reply.Stopped (length old.entries)) (sym (asks.replies ∙ logged_stopped (store_of old) (length entries) success stopped.0.stopped)) refl refl refl refl (λ t. stopped.0.stopped) (fresh_if_numbered _ c (reply.Stopped (length old.entries)) tt))
-]
+pub logged_steps : (old new : EngineState) (was now : Client) (c : Command) (entries : List Entry) (success answer : Reply) → Asks (store_of old) was c entries success → AreFew (store_of old) → IsLogAnswer old was entries success answer new now → IsStep (store_of old) was c answer (store_of new) now
+logged_steps old new was now c entries success answer asks few answered =
+    let s = store_of old in elim answered [
+      | inl accepted ↦ subst (λ (r : Reply). IsStep s was c r (store_of new) now) (sym accepted.1) (takes_steps old new was now c entries success asks accepted.0 accepted.2 few)
+      | inr (inl failed) ↦ subst (λ (r : Reply). IsStep s was c r (store_of new) now) (sym failed.1) (subst (λ (x : Client). IsStep s was c reply.FaultLog (store_of new) x) (sym failed.2) (fails_steps old new was c entries success asks failed.0 few))
+      | inr (inr (inl full)) ↦ step_at s (store_of new) was now c answer (reply.Full (length old.entries) old.limit) full.1 (ap store_of full.0.same) full.2
+          (still_steps s was was c (reply.Full (length old.entries) old.limit) (sym (asks.replies ∙ logged_full s (length entries) success full.0.running full.0.past)) refl
+          (record { none = refl; unlogged = refl; faultless = refl; uninstalled = refl; intact = refl; stopped = λ t. absurd cc; halted = λ t. absurd cc; current = fresh_if_numbered _ c (reply.Full (length old.entries) old.limit) tt }) few)
+      | inr (inr (inr stopped)) ↦ step_at s (store_of new) was now c answer (reply.Stopped (length old.entries)) stopped.1 (ap store_of stopped.0.same) stopped.2
+          (still_steps s was was c (reply.Stopped (length old.entries)) (sym (asks.replies ∙ logged_stopped s (length entries) success stopped.0.stopped)) refl
+          (record { none = refl; unlogged = refl; faultless = refl; uninstalled = refl; intact = refl; stopped = λ t. stopped.0.stopped; halted = λ t. absurd cc; current = fresh_if_numbered _ c (reply.Stopped (length old.entries)) tt }) few)
+    ]
 
 pub logged_fits : (old new : EngineState) (was now : Client) (entries : List Entry) (success answer : Reply) → Logs old.entries was entries success → ClientFits old.entries was → IsLogAnswer old was entries success answer new now → ClientFits new.entries now
 logged_fits old new was now entries success answer logs fits answered = elim answered [
   | inl accepted ↦
-      let longer : new.entries ≡ old.entries ++ entries = ap (λ (s : EngineState). s.entries) accepted.0.changed in
+      let longer : new.entries ≡ old.entries ++ entries = ap (λ (j : EngineState). j.entries) accepted.0.changed in
       subst (λ (x : Client). ClientFits new.entries x) (sym accepted.2) (record {
         txn = rw longer logs.txn;
         snapshots = rw (settled_snapshots was success, longer, length-append old.entries entries) (within_more (length old.entries) (length old.entries + length entries) was.snapshots (omega arith) fits.snapshots);
       })
-  | inr (inl failed) ↦ subst (λ (x : Client). ClientFits new.entries x) (sym failed.2) (rw (ap (λ (s : EngineState). s.entries) failed.0.changed) fits)
+  | inr (inl failed) ↦ subst (λ (x : Client). ClientFits new.entries x) (sym failed.2) (rw (ap (λ (j : EngineState). j.entries) failed.0.changed) fits)
   | inr (inr (inl full)) ↦ subst (λ (x : Client). ClientFits new.entries x) (sym full.2) (rw full.0.same fits)
   | inr (inr (inr stopped)) ↦ subst (λ (x : Client). ClientFits new.entries x) (sym stopped.2) (rw stopped.0.same fits)
 ]
 
-pub said_steps : (s : EngineState) (was now : Client) (c : Command) (answer : Reply) → plan s.entries was c ≡ Say answer → now ≡ client_after s.entries was c answer → IsCommandStep s was c answer s now
-said_steps s was now c answer planned is =
-    let plain = plan_says s.entries was c answer planned in
-    still_steps s was now c answer (sym (ap (reply_to (store_of s)) planned)) is plain.none plain.unlogged plain.faultless (λ t. false_is_true (is_stopped answer) plain.running t) plain.current
+pub said_steps : (s : Store) (was now : Client) (c : Command) (answer : Reply) → plan s.history was c ≡ Say answer → now ≡ client_after s.history was c answer → AreFew s → IsStep s was c answer s now
+said_steps s was now c answer planned is few =
+    let plain = plan_says s.history was c answer planned in
+    still_steps s was now c answer (sym (ap (reply_to s was) planned)) is (record {
+      none = plain.none;
+      unlogged = plain.unlogged;
+      faultless = plain.faultless;
+      uninstalled = plain.uninstalled;
+      intact = plain.intact;
+      stopped = λ t. false_is_true (is_stopped answer) plain.running t;
+      halted = λ t. false_is_true (is_halted answer) plain.unhalted t;
+      current = plain.current;
+    }) few
+
+-- ---- an edit for the tables
+
+-- the tables took the edit of a flush
+flush_made : (old new : EngineState) (was : Client) (c : Command) (count : ℕ) → plan old.entries was c ≡ Flush → HasInstalled old new (after_flush old.entries old.installed) → count ≡ length (unflushed old.entries old.installed)
+    → reply.Flushed (length old.entries) count ≡ due (store_of old) was c → AreFew (store_of old) → IsStep (store_of old) was c (reply.Flushed (length old.entries) count) (store_of new) was
+flush_made old new was c count planned made counted is few =
+    let s = store_of old in
+    let answer = reply.Flushed (length old.entries) count in
+    let longer : new.entries ≡ old.entries = ap (λ (j : EngineState). j.entries) made.changed in
+    record {
+      replied = inl is;
+      store = same_store (store_of new) (store_after s was c answer) (longer ∙ sym (append-nil old.entries)) (ap (λ (j : EngineState). j.stopped) made.changed) (ap (λ (j : EngineState). j.limit) made.changed) (ap (λ (j : EngineState). j.installed) made.changed ∙ rw planned refl) (ap (λ (j : EngineState). j.halted) made.changed);
+      client = refl;
+      numbers = refl;
+      fresh = fresh_if_numbered (λ n. (length old.entries ≤ n) × (n ≤ length new.entries)) c answer (omega arith, rw longer (omega arith));
+      running = λ f. absurd cc;
+      stopped_before = λ t. absurd cc;
+      stays = λ e. longer;
+      tables = is_flush planned (ap (λ (n : ℕ). reply.Flushed (length old.entries) n) counted);
+      few = few;
+      tables_running = λ f. absurd cc;
+      halted_before = λ t. absurd cc;
+    }
+
+-- that of a compaction
+compaction_made : (old new : EngineState) (was : Client) (c : Command) (count : ℕ) → plan old.entries was c ≡ Compact → HasInstalled old new (after_compaction old.entries (numbers_of was.snapshots) old.installed)
+    → count ≡ length (retained old.entries (numbers_of was.snapshots) old.installed) → reply.Compacted (length old.entries) count ≡ due (store_of old) was c → AreFew (store_of old)
+    → IsStep (store_of old) was c (reply.Compacted (length old.entries) count) (store_of new) was
+compaction_made old new was c count planned made counted is few =
+    let s = store_of old in
+    let answer = reply.Compacted (length old.entries) count in
+    let longer : new.entries ≡ old.entries = ap (λ (j : EngineState). j.entries) made.changed in
+    record {
+      replied = inl is;
+      store = same_store (store_of new) (store_after s was c answer) (longer ∙ sym (append-nil old.entries)) (ap (λ (j : EngineState). j.stopped) made.changed) (ap (λ (j : EngineState). j.limit) made.changed) (ap (λ (j : EngineState). j.installed) made.changed ∙ rw planned refl) (ap (λ (j : EngineState). j.halted) made.changed);
+      client = refl;
+      numbers = refl;
+      fresh = fresh_if_numbered (λ n. (length old.entries ≤ n) × (n ≤ length new.entries)) c answer (omega arith, rw longer (omega arith));
+      running = λ f. absurd cc;
+      stopped_before = λ t. absurd cc;
+      stays = λ e. longer;
+      tables = is_compaction planned (ap (λ (n : ℕ). reply.Compacted (length old.entries) n) counted);
+      few = few;
+      tables_running = λ f. absurd cc;
+      halted_before = λ t. absurd cc;
+    }
+
+-- a device failed as the tables took the edit
+halted_steps : (old new : EngineState) (was : Client) (c : Command) → old.halted ≡ false → store_of new ≡ record (store_of old) { halted = true } → is_installed (due (store_of old) was c) ≡ true → AreFew (store_of old) → IsStep (store_of old) was c reply.FaultTables (store_of new) was
+halted_steps old new was c running halts installs few =
+    let s = store_of old in
+    let longer : new.entries ≡ old.entries = ap (λ (t : Store). t.history) halts in
+    record {
+      replied = inr (inr (refl, installs));
+      store = same_store (store_of new) (store_after s was c reply.FaultTables) (longer ∙ sym (append-nil old.entries)) (ap (λ (t : Store). t.stopped) halts) (ap (λ (t : Store). t.limit) halts) (ap (λ (t : Store). t.installed) halts) (ap (λ (t : Store). t.halted) halts);
+      client = refl;
+      numbers = refl;
+      fresh = fresh_if_numbered _ c reply.FaultTables tt;
+      running = λ f. absurd cc;
+      stopped_before = λ t. absurd cc;
+      stays = λ e. longer;
+      tables = no_edit refl;
+      few = few;
+      tables_running = λ f. running;
+      halted_before = λ t. absurd cc;
+    }
+
+flushed_some : (n : ℕ) (versions : List Version) → 1 ≤ length versions → flushed n versions ≡ reply.Flushed n (length versions)
+flushed_some n [] le = absurd (omega arith)
+flushed_some n (v ∷ versions) le = refl
+
+nothing_still : (s : Store) (c : Command) → IsStill s c reply.Nothing
+nothing_still s c = record { none = refl; unlogged = refl; faultless = refl; uninstalled = refl; intact = refl; stopped = λ t. absurd cc; halted = λ t. absurd cc; current = fresh_if_numbered _ c reply.Nothing tt }
+
+halted_still : (s : Store) (c : Command) (n : ℕ) → s.halted ≡ true → IsStill s c (reply.Halted n)
+halted_still s c n halted = record { none = refl; unlogged = refl; faultless = refl; uninstalled = refl; intact = refl; stopped = λ t. absurd cc; halted = λ t. halted; current = fresh_if_numbered _ c (reply.Halted n) tt }
+
+-- the reply that is due to a flush that has something to write
+flush_due : (old : EngineState) (was : Client) (c : Command) → plan old.entries was c ≡ Flush → old.halted ≡ false → 1 ≤ length (unflushed old.entries old.installed) → due (store_of old) was c ≡ reply.Flushed (length old.entries) (length (unflushed old.entries old.installed))
+flush_due old was c planned running some = ap (reply_to (store_of old) was) planned ∙ rw running (flushed_some (length old.entries) (unflushed old.entries old.installed) some)
+
+compaction_due : (old : EngineState) (was : Client) (c : Command) → plan old.entries was c ≡ Compact → old.halted ≡ false → 2 ≤ old.installed.tables
+    → due (store_of old) was c ≡ reply.Compacted (length old.entries) (length (retained old.entries (numbers_of was.snapshots) old.installed))
+compaction_due old was c planned running some = ap (reply_to (store_of old) was) planned ∙ rw (running, le-ltb old.installed.tables 2 some) refl
+
+flush_answered : (old new : EngineState) (was : Client) (c : Command) (answer : Reply) (result : Result (Option ℕ) MaintenanceError) → plan old.entries was c ≡ Flush → AreFew (store_of old) → IsFlushResult old new result → IsFlushAnswer (length old.entries) result answer → IsStep (store_of old) was c answer (store_of new) was
+flush_answered old new was c answer (Ok (Some count)) planned few made is =
+    let said : reply.Flushed (length old.entries) count ≡ due (store_of old) was c =
+    ap (λ (n : ℕ). reply.Flushed (length old.entries) n) made.1 ∙ sym (flush_due old was c planned made.2.running (omega (arith, made.0, made.1))) in
+    subst (λ (r : Reply). IsStep (store_of old) was c r (store_of new) was) (sym is) (flush_made old new was c count planned made.2 made.1 said few)
+flush_answered old new was c answer (Ok None) planned few none is =
+    step_at (store_of old) (store_of new) was was c answer reply.Nothing is (ap store_of none.2) refl
+    (still_steps (store_of old) was was c reply.Nothing (sym (ap (reply_to (store_of old) was) planned ∙ rw (none.0, none.1) refl)) refl (nothing_still (store_of old) c) few)
+flush_answered old new was c answer (Err maintenance.Memory) planned few refused is = absurd is
+flush_answered old new was c answer (Err maintenance.TablesFault) planned few refused is =
+    subst (λ (r : Reply). IsStep (store_of old) was c r (store_of new) was) (sym is) (halted_steps old new was c refused.1 (ap store_of refused.3) (ap is_installed (flush_due old was c planned refused.1 refused.0)) few)
+flush_answered old new was c answer (Err (maintenance.Halted n)) planned few refused is =
+    step_at (store_of old) (store_of new) was was c answer (reply.Halted old.installed.flushed) (is ∙ ap (λ (m : ℕ). reply.Halted m) refused.1) (ap store_of refused.2) refl
+    (still_steps (store_of old) was was c (reply.Halted old.installed.flushed) (sym (ap (reply_to (store_of old) was) planned ∙ rw refused.0 refl)) refl (halted_still (store_of old) c old.installed.flushed refused.0) few)
+
+pub flush_steps : (old new : EngineState) (was : Client) (c : Command) (answer : Reply) → plan old.entries was c ≡ Flush → AreFew (store_of old) → Flushes old answer new → IsStep (store_of old) was c answer (store_of new) was
+flush_steps old new was c answer planned few answered = flush_answered old new was c answer answered.0 planned few answered.1 answered.2
+
+compaction_answered : (old new : EngineState) (was : Client) (c : Command) (answer : Reply) (result : Result (Option ℕ) MaintenanceError) → plan old.entries was c ≡ Compact → AreFew (store_of old) → IsCompactResult old new (numbers_of was.snapshots) result → IsCompactionAnswer (length old.entries) result answer → IsStep (store_of old) was c answer (store_of new) was
+compaction_answered old new was c answer (Ok (Some count)) planned few made is =
+    let said : reply.Compacted (length old.entries) count ≡ due (store_of old) was c =
+    ap (λ (n : ℕ). reply.Compacted (length old.entries) n) made.1 ∙ sym (compaction_due old was c planned made.2.running made.0) in
+    subst (λ (r : Reply). IsStep (store_of old) was c r (store_of new) was) (sym is) (compaction_made old new was c count planned made.2 made.1 said few)
+compaction_answered old new was c answer (Ok None) planned few none is =
+    step_at (store_of old) (store_of new) was was c answer reply.Nothing is (ap store_of none.2) refl
+    (still_steps (store_of old) was was c reply.Nothing (sym (ap (reply_to (store_of old) was) planned ∙ rw (none.0, lt-ltb old.installed.tables 2 none.1) refl)) refl (nothing_still (store_of old) c) few)
+compaction_answered old new was c answer (Err maintenance.Memory) planned few refused is = absurd is
+compaction_answered old new was c answer (Err maintenance.TablesFault) planned few refused is =
+    subst (λ (r : Reply). IsStep (store_of old) was c r (store_of new) was) (sym is) (halted_steps old new was c refused.1 (ap store_of refused.3) (ap is_installed (compaction_due old was c planned refused.1 refused.0)) few)
+compaction_answered old new was c answer (Err (maintenance.Halted n)) planned few refused is =
+    step_at (store_of old) (store_of new) was was c answer (reply.Halted old.installed.flushed) (is ∙ ap (λ (m : ℕ). reply.Halted m) refused.1) (ap store_of refused.2) refl
+    (still_steps (store_of old) was was c (reply.Halted old.installed.flushed) (sym (ap (reply_to (store_of old) was) planned ∙ rw refused.0 refl)) refl (halted_still (store_of old) c old.installed.flushed refused.0) few)
+
+pub compaction_steps : (old new : EngineState) (was : Client) (c : Command) (answer : Reply) → plan old.entries was c ≡ Compact → AreFew (store_of old) → Compacts old (numbers_of was.snapshots) answer new → IsStep (store_of old) was c answer (store_of new) was
+compaction_steps old new was c answer planned few answered = compaction_answered old new was c answer answered.0 planned few answered.1 answered.2
 
 -- ---- answers
 

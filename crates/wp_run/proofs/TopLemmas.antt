@@ -1,159 +1,248 @@
 -- From a run of all clients to how a call ends.
-use Rattle.std.proofs.Common.{◌≡◌, ℕ, ◌≤◌, Bool, true, false, List, [], ◌∷◌, length, Err, refl, sym, subst, inl, inr, arith}
+use Rattle.std.proofs.Common.{◌≡◌, ℕ, ◌≤◌, Bool, true, false, List, Err, refl, sym, subst, inl, inr, arith}
 use Rattle.wp_model.specs.declared.entry.Entry.{Entry}
 use Rattle.wp_model.specs.Legal.{IsLegal}
-use Rattle.wp_outside.specs.Disk.{IfKnown}
+use Rattle.wp_outside.specs.Disk.{Moment, IfKnown, ReadsItself}
 use Rattle.wp_outside.specs.Faults.{Rose}
+use Rattle.wp_gatelog.specs.Durability.{LosesNoRecord}
 use Rattle.wp_gatelog.specs.Spelling.{IsUnmade}
+use Rattle.wp_manifest.specs.Manifest.{ManifestState}
+use Rattle.wp_manifest.specs.Spelling as manifest
+use Rattle.wp_store.specs.Store.{StoreParts}
+use Rattle.wp_tableset.specs.Device.{KeepsFronts}
 use Rattle.wp_text.specs.declared.reply.Reply.{Reply}
 use Rattle.wp_text.specs.declared.script.Part.{Part}
-use Rattle.wp_run.specs.declared.status.Status.{Status}
-use Rattle.wp_run.specs.declared.status.Status.TheVariants as status
 use Rattle.wp_open.specs.declared.opening.OpenError.{OpenError}
 use Rattle.wp_open.specs.declared.opening.OpenError.TheVariants as open_error
-use Rattle.wp_outside.specs.declared.disk.Device.TheVariants as device
-use Rattle.wp_gatelog.specs.Opening.{SurvivesThrough}
-use Rattle.wp_open.specs.Opening.{IsOpenCause, IsLeftWhere}
-use Rattle.wp_run.specs.Status.{IsStatusOf}
-use Rattle.wp_wal.specs.Spelling.{MAGIC, IsLogOf}
-use Rattle.wp_wal.specs.Wal.{WalState}
-use Rattle.wp_run.specs.Stored.{CrashLeaves}
-use Rattle.wp_run.specs.Transcript.{Explains}
-use Rattle.wp_run.specs.Engine.{EngineState, Answered, fault_count, replies_of, Later, AllRun, AllRunSoFar}
+use Rattle.wp_open.specs.Opens.{AllKnown}
+use Rattle.wp_open.specs.Parts.{PartsOpened}
+use Rattle.wp_wal.specs.Spelling.{IsLogOf}
+use Rattle.wp_wal.specs.Wal.{WalState, LosesNothing}
+use Rattle.wp_session.specs.Laws.{DueIsSession}
 use Rattle.wp_words.specs.declared.choice.Action.{Action}
 use Rattle.wp_words.specs.declared.choice.Action.TheVariants as action
-use Rattle.wp_run.specs.Run.{Call, IsChosen, IsUnread, IsReadAs, Ends}
-use Rattle.wp_run.specs.Serving.{Serving, HasStored, AnswersScript, BreaksOff, Serves, IsTextOf, HasRun, IsWritten, HasEnded, Finishes}
-use Rattle.wp_run.specs.Use.{DiskUse, SinkUse}
-use Rattle.wp_session.specs.Laws.{DueIsSession}
-use Rattle.wp_run.proofs.Explained.{AllRunSoFar-later, explained}
+use Rattle.wp_engine.specs.Stored.{fault_count, IsOrOneMore, AllOpen}
+use Rattle.wp_engine.specs.Engine.{EngineState, installed_of}
+use Rattle.wp_run.specs.declared.status.Status.{Status}
+use Rattle.wp_run.specs.declared.status.Status.TheVariants as status
+use Rattle.wp_run.specs.Later.{store_of}
+use Rattle.wp_run.specs.Run.{Call, IsChosen, IsUnread, IsReadAs, IsServed, Ends}
+use Rattle.wp_run.specs.Runs.{replies_of, AllRun}
+use Rattle.wp_run.specs.Serving.{Serving, HasStored, AnswersScript, BreaksOff, IsUnopened, Serves, IsTextOf, HasRun, IsWritten, HasEnded, Finishes}
+use Rattle.wp_run.specs.Status.{IsStatusOf}
+use Rattle.wp_run.specs.Stored.{IsLeft, CrashOpens, OpensTo}
+use Rattle.wp_run.specs.Transcript.{Faults, Found, Explains, opened_store}
+use Rattle.wp_run.specs.Use.{SinkUse, IsDurable, AreUncalled, left_of}
+use Rattle.wp_run.proofs.Explained.{explained}
+use Rattle.wp_run.proofs.Keeping.{records_trans, fronts_trans}
+use Rattle.wp_run.proofs.Opened.{opens_to, fronts_synced}
 use Rattle.wp_run.proofs.RunLemmas.{firsts_ran}
 
--- each client has one list of replies
-pub AllRunSoFar-length : (old new : EngineState) (parts : List Part) (sessions : List Answered) → AllRunSoFar old parts sessions new → length parts ≡ length sessions
-AllRunSoFar-length old new [] [] h = refl
-AllRunSoFar-length old new [] (a ∷ sessions) h = absurd h
-AllRunSoFar-length old new (p ∷ parts) [] h = absurd h
-AllRunSoFar-length old new (p ∷ parts) (a ∷ sessions) (mid, run, rest) = omega (arith, AllRunSoFar-length mid new parts sessions rest)
-
 -- ---- a store
+
+abbrev pub found_in : EngineState → Found
+found_in state = record { history = state.entries; edit = state.installed }
 
 -- the store as it was opened
 pub record IsOpened (state : EngineState) (s : Serving) : Type 0 where
   pub running : state.stopped ≡ false
+  pub unhalted : state.halted ≡ false
   pub limit : state.limit ≡ s.limit
-  pub counted : s.log.faults_before ≤ state.faults
-  pub found : IfKnown s.log.before (λ m. IsLogOf state.id state.entries m.reads)
-  pub made : IfKnown s.log.before (λ m. IsUnmade m.reads → state.id ≡ s.id)
+  pub log_counted : s.disks.log.faults_before ≤ state.faults
+  pub manifest_counted : s.disks.manifest.faults_before ≤ state.manifest_faults
+  pub tables_counted : s.disks.tables.faults_before ≤ state.tables_faults
+  pub spelled : IfKnown s.disks.log.before (λ m. IsLogOf state.id state.entries m.reads)
+  pub made : IfKnown s.disks.log.before (λ m. IsUnmade m.reads → state.id ≡ s.id)
+  pub opened : AllKnown s.disks.log.before s.disks.manifest.before s.disks.tables.before (OpensTo state.id (found_in state))
 
-fault_count_few : (stopped : Bool) → fault_count stopped ≤ 1
+fault_count_few : (failed : Bool) → fault_count failed ≤ 1
 fault_count_few true = omega arith
 fault_count_few false = omega arith
 
-fault_count_is : (stopped : Bool) → 1 ≤ fault_count stopped → stopped ≡ true
+fault_count_is : (failed : Bool) → 1 ≤ fault_count failed → failed ≡ true
 fault_count_is true le = refl
 fault_count_is false le = absurd (omega arith)
 
--- how an open store and its log are after the clients ran
-pub record IsLeft (new : EngineState) (log : DiskUse) : Type 0 where
-  pub legal : IsLegal new.entries
-  pub stored : IfKnown log.after (CrashLeaves (fault_count new.stopped) new.id new.entries)
-  pub faults : new.faults ≡ log.faults_after
+abbrev pub faults_in : EngineState → Faults
+faults_in state = record { log = fault_count state.stopped; tables = fault_count state.halted }
 
-stores : (old new : EngineState) (s : Serving) → IsOpened old s → Later old new → IsLeft new s.log → HasStored s (fault_count new.stopped) old.entries new.entries
-stores old new s opened later left = record {
+-- the devices as they are left
+abbrev pub Finished : EngineState → Serving → Status → Type 0
+Finished old s end = Finishes old s.script (left_of s.disks.log) (left_of s.disks.manifest) (left_of s.disks.tables) s.sink end
+
+rose_since : (a b c d : ℕ) → a ≤ b → Rose b c → d ≡ c → Rose a d
+rose_since a b c d le rose is = omega (arith, rose, le, is)
+
+stores : (old : EngineState) (s : Serving) (end : Status) → IsOpened old s → (h : Finished old s end) → HasStored s (faults_in h.new) (found_in old) h.new.entries
+stores old s end opened h = record {
   id = old.id;
   made = opened.made;
-  found = opened.found;
-  stored = subst (λ (n : ℕ). IfKnown s.log.after (CrashLeaves (fault_count new.stopped) n new.entries)) later.named left.stored;
-  once = fault_count_few new.stopped;
-  cause = λ up.
-      let rose : Rose old.faults s.log.faults_after = subst (λ (n : ℕ). Rose old.faults n) left.faults (later.rose opened.running (fault_count_is new.stopped up)) in
-      omega (arith, rose, opened.counted);
+  spelled = opened.spelled;
+  opened = opened.opened;
+  stored = rw (← h.later.keeps.named) h.stored;
+  opens = rw (← h.later.keeps.named) h.opens;
+  once = fault_count_few h.new.stopped;
+  cause = λ up. rose_since s.disks.log.faults_before old.faults h.new.faults s.disks.log.faults_after opened.log_counted (h.later.rose opened.running (fault_count_is h.new.stopped up)) h.log_left.1;
+  tables_once = fault_count_few h.new.halted;
+  tables_cause = λ up. elim (h.later.tables_rose opened.unhalted (fault_count_is h.new.halted up)) [
+    | inl manifest ↦ inl (rose_since s.disks.manifest.faults_before old.manifest_faults h.new.manifest_faults s.disks.manifest.faults_after opened.manifest_counted manifest h.manifest_left.1)
+    | inr tables ↦ inr (rose_since s.disks.tables.faults_before old.tables_faults h.new.tables_faults s.disks.tables.faults_after opened.tables_counted tables h.tables_left.1)
+  ];
 }
 
-explains : DueIsSession → (old new : EngineState) (s : Serving) (parts : List Part) (replies : List (List Reply)) → IsOpened old s → IsLegal new.entries → AllRun old parts replies new → Explains s.limit (fault_count new.stopped) parts old.entries new.entries replies
-explains law old new s parts replies opened legal run = subst (λ (k : ℕ). Explains k (fault_count new.stopped) parts old.entries new.entries replies) opened.limit (explained law old new parts replies run opened.running legal)
+-- the store that the clients begin with
+begins_with : (state : EngineState) (s : Serving) → IsOpened state s → store_of state ≡ opened_store s.limit (found_in state)
+begins_with state s opened = rw (opened.running, opened.limit, opened.unhalted) refl
 
-breaks_off : DueIsSession → (old new : EngineState) (s : Serving) → IsOpened old s → IsLeft new s.log → HasRun old new s.script → BreaksOff s
-breaks_off law old new s opened left (sessions, ran) =
-    let alone = firsts_ran old new s.script sessions ran in
+explains : DueIsSession → (old : EngineState) (s : Serving) (new : EngineState) (parts : List Part) (replies : List (List Reply)) → IsOpened old s → IsLegal new.entries → AllRun (store_of old) parts replies (store_of new)
+    → Explains s.limit (faults_in new) parts (found_in old) new.entries replies
+explains law old s new parts replies opened legal run = explained law s.limit (found_in old) (store_of new) parts replies (rw (begins_with old s opened) at run) legal
+
+breaks_off : DueIsSession → (old : EngineState) (s : Serving) (end : Status) → IsOpened old s → (h : Finished old s end) → HasRun old h.new s.script → BreaksOff s
+breaks_off law old s end opened h (sessions, ran) =
+    let alone = firsts_ran (store_of old) (store_of h.new) s.script sessions ran in
     record {
-      faults = fault_count new.stopped;
-      opened = old.entries;
-      history = new.entries;
-      store = stores old new s opened (AllRunSoFar-later old new s.script sessions ran) left;
+      faults = faults_in h.new;
+      found = found_in old;
+      history = h.new.entries;
+      store = stores old s end opened h;
       run = alone.firsts;
       first = alone.are;
       replies = replies_of sessions;
-      explained = explains law old new s alone.firsts (replies_of sessions) opened left.legal alone.run;
+      explained = explains law old s h.new alone.firsts (replies_of sessions) opened h.legal alone.run;
     }
 
-answers : DueIsSession → (old new : EngineState) (s : Serving) (text : List ℕ) (stopped : Bool) → IsOpened old s → IsLeft new s.log → IsTextOf old new s.script text → new.stopped ≡ stopped → AnswersScript s (fault_count stopped) text
-answers law old new s text stopped opened left (sessions, ran, whole, is) stopped-is =
-    let alone = firsts_ran old new s.script sessions ran in
-    let run = subst (λ (parts : List Part). AllRun old parts (replies_of sessions) new) (alone.whole whole) alone.run in
-    subst (λ (b : Bool). AnswersScript s (fault_count b) text) stopped-is (record {
-      opened = old.entries;
-      history = new.entries;
-      store = stores old new s opened (AllRunSoFar-later old new s.script sessions ran) left;
-      transcript = (replies_of sessions, explains law old new s s.script (replies_of sessions) opened left.legal run, is);
-    })
+answers : DueIsSession → (old : EngineState) (s : Serving) (end : Status) (text : List ℕ) → IsOpened old s → (h : Finished old s end) → IsTextOf old h.new s.script text → AnswersScript s (faults_in h.new) text
+answers law old s end text opened h (sessions, ran, whole, is) =
+    let alone = firsts_ran (store_of old) (store_of h.new) s.script sessions ran in
+    let run = subst (λ (parts : List Part). AllRun (store_of old) parts (replies_of sessions) (store_of h.new)) (alone.whole whole) alone.run in
+    record {
+      found = found_in old;
+      history = h.new.entries;
+      store = stores old s end opened h;
+      transcript = (replies_of sessions, explains law old s h.new s.script (replies_of sessions) opened h.legal run, is);
+    }
 
 -- ---- how a script was served
 
-left_by : (old : EngineState) (s : Serving) (end : Status) → (h : Finishes old s.script s.log s.sink end) → IsLeft h.new s.log
-left_by old s end h = record { legal = h.legal; stored = h.stored; faults = h.faults }
+failed_in : (s : Serving) (state : EngineState) (text : List ℕ) (stopped halted : Bool) → state.stopped ≡ stopped → state.halted ≡ halted → AnswersScript s (faults_in state) text → AnswersScript s (record { log = fault_count stopped; tables = fault_count halted }) text
+failed_in s state text stopped halted a b answered = subst (λ (x : Bool). AnswersScript s (record { log = fault_count x; tables = fault_count halted }) text) a (subst (λ (x : Bool). AnswersScript s (record { log = fault_count state.stopped; tables = fault_count x }) text) b answered)
 
-pub serves : DueIsSession → (old : EngineState) (s : Serving) (end : Status) → IsOpened old s → Finishes old s.script s.log s.sink end → Serves s end
-serves law old s status.Memory opened h = inr (breaks_off law old h.new s opened (left_by old s status.Memory h) h.ended)
-serves law old s status.Ok opened h = (h.ended.0, answers law old h.new s h.ended.0 false opened (left_by old s status.Ok h) h.ended.1 h.ended.2.0, h.ended.2.1)
-serves law old s status.LogFault opened h = (h.ended.0, answers law old h.new s h.ended.0 true opened (left_by old s status.LogFault h) h.ended.1 h.ended.2.0, h.ended.2.1)
-serves law old s status.SinkFault opened h = (h.ended.2.0, fault_count h.new.stopped, h.ended.0, answers law old h.new s h.ended.0 h.new.stopped opened (left_by old s status.SinkFault h) h.ended.1 refl, h.ended.2.1)
+pub serves : DueIsSession → (old : EngineState) (s : Serving) (end : Status) → IsOpened old s → Finished old s end → Serves s end
+serves law old s status.Memory opened h = inr (breaks_off law old s status.Memory opened h h.ended)
+serves law old s status.Ok opened h = (h.ended.0, failed_in s h.new h.ended.0 false false h.ended.2.0 h.ended.2.1 (answers law old s status.Ok h.ended.0 opened h h.ended.1), h.ended.2.2)
+serves law old s status.LogFault opened h = (fault_count h.new.halted, h.ended.0, failed_in s h.new h.ended.0 true h.new.halted h.ended.2.0 refl (answers law old s status.LogFault h.ended.0 opened h h.ended.1), h.ended.2.1)
+serves law old s status.TableFault opened h = (h.ended.0, failed_in s h.new h.ended.0 false true h.ended.2.0 h.ended.2.1 (answers law old s status.TableFault h.ended.0 opened h h.ended.1), h.ended.2.2)
+serves law old s status.SinkFault opened h = (h.ended.2.0, faults_in h.new, h.ended.0, answers law old s status.SinkFault h.ended.0 opened h h.ended.1, h.ended.2.1)
 serves law old s status.Words opened h = absurd h.ended.2
 serves law old s status.SourceFault opened h = absurd h.ended.2
 serves law old s (status.Script fault) opened h = absurd h.ended.2
 serves law old s (status.Contents damage) opened h = absurd h.ended.2
 serves law old s (status.OpenFault d) opened h = absurd h.ended.2
 
-pub serves_opened : DueIsSession → (s : Serving) (wal : WalState) (entries : List Entry) (end : Status)
-    → IfKnown s.log.before (λ m. IsLogOf wal.id entries m.reads) → IfKnown s.log.before (λ m. IsUnmade m.reads → wal.id ≡ s.id) → s.log.faults_before ≤ wal.faults
-    → Finishes (record { entries = entries; stopped = false; limit = s.limit; id = wal.id; faults = wal.faults; moments = wal.moments }) s.script (record { before = wal.moments; after = s.log.after; faults_before = wal.faults; faults_after = s.log.faults_after }) s.sink end
-    → Serves s end
-serves_opened law s wal entries end found made le h =
-    serves law (record { entries = entries; stopped = false; limit = s.limit; id = wal.id; faults = wal.faults; moments = wal.moments }) s end
-    (record { running = refl; limit = refl; counted = le; found = found; made = made })
-    (record { new = h.new; legal = h.legal; stored = h.stored; faults = h.faults; ended = h.ended })
+-- the store of an opening's parts
+abbrev pub engine_of : WalState → List Entry → ManifestState → List Moment → ℕ → StoreParts → ℕ → EngineState
+engine_of wal entries edits moments faults store limit = record {
+  entries = entries;
+  stopped = false;
+  limit = limit;
+  id = wal.id;
+  installed = installed_of edits.edit store.tables;
+  halted = false;
+  faults = wal.faults;
+  moments = wal.moments;
+  manifest_faults = edits.log.faults;
+  manifest_moments = edits.log.moments;
+  tables_faults = faults;
+  tables_moments = moments;
+}
 
-pub serves_refused : (why : OpenError) (end : Status) (s : Serving)
-    → IsStatusOf why end → IsOpenCause (Rose s.log.faults_before s.log.faults_after) s.log.before why → SurvivesThrough MAGIC s.id s.log.before s.log.after → IsLeftWhere s.log.before s.log.after why → Serves s end
-serves_refused open_error.Memory end s is cause survives left = rw is (inl survives)
-serves_refused (open_error.OpenFault device.Log) end s is cause survives left = rw is (survives, cause)
-serves_refused (open_error.OpenFault device.Manifest) end s is cause survives left = absurd cause
-serves_refused (open_error.OpenFault device.Tables) end s is cause survives left = absurd cause
-serves_refused (open_error.Contents damage) end s is cause survives left = rw is (survives, cause, left)
+-- how it was served
+pub serves_opened : DueIsSession → (s : Serving) (wal : WalState) (history : List Entry) (edits : ManifestState) (moments : List Moment) (faults : ℕ) (store : StoreParts) (end : Status)
+    → PartsOpened s.id s.disks.log.before s.disks.manifest.before s.disks.tables.before wal history edits moments store
+    → s.disks.log.faults_before ≤ wal.faults → s.disks.manifest.faults_before ≤ edits.log.faults → s.disks.tables.faults_before ≤ faults
+    → Finished (engine_of wal history edits moments faults store s.limit) s end → Serves s end
+serves_opened law s wal history edits moments faults store end o log manifest tables h =
+    serves law (engine_of wal history edits moments faults store s.limit) s end (record {
+      running = refl;
+      unhalted = refl;
+      limit = refl;
+      log_counted = log;
+      manifest_counted = manifest;
+      tables_counted = tables;
+      spelled = o.found;
+      made = o.made;
+      opened = opens_to s.id s.disks.log.before s.disks.manifest.before s.disks.tables.before wal history edits moments store o;
+    }) h
+
+-- what was for good before the opening is so in the end
+pub durable_opened : (s : Serving) (wal : WalState) (history : List Entry) (edits : ManifestState) (moments : List Moment) (faults : ℕ) (store : StoreParts) (end : Status)
+    → PartsOpened s.id s.disks.log.before s.disks.manifest.before s.disks.tables.before wal history edits moments store → ReadsItself s.disks.tables.before
+    → LosesNothing s.disks.log.before wal.moments → LosesNoRecord manifest.MAGIC s.disks.manifest.before edits.log.moments
+    → s.disks.log.faults_before ≤ wal.faults → s.disks.manifest.faults_before ≤ edits.log.faults → s.disks.tables.faults_before ≤ faults
+    → Finished (engine_of wal history edits moments faults store s.limit) s end → IsDurable s.disks
+durable_opened s wal history edits moments faults store end o itself log edits_kept log_le manifest_le tables_le h =
+    let kept = h.later.keeps in
+    let synced : KeepsFronts s.disks.tables.before moments = subst (λ (ms : List Moment). KeepsFronts s.disks.tables.before ms) (sym o.synced) (fronts_synced s.disks.tables.before itself) in
+    record {
+      log = records_trans _ s.disks.log.before wal.moments s.disks.log.after log (subst (λ (ms : List Moment). LosesNothing wal.moments ms) (sym h.log_left.0) kept.log);
+      manifest = records_trans _ s.disks.manifest.before edits.log.moments s.disks.manifest.after edits_kept (subst (λ (ms : List Moment). LosesNoRecord manifest.MAGIC edits.log.moments ms) (sym h.manifest_left.0) kept.edits);
+      tables = fronts_trans s.disks.tables.before moments s.disks.tables.after synced (subst (λ (ms : List Moment). KeepsFronts moments ms) (sym h.tables_left.0) kept.fronts);
+      log_later = omega (arith, log_le, kept.log_later, h.log_left.1);
+      manifest_later = omega (arith, manifest_le, kept.manifest_later, h.manifest_left.1);
+      tables_later = omega (arith, tables_le, kept.tables_later, h.tables_left.1);
+    }
+
+pub serves_refused : (why : OpenError) (end : Status) (s : Serving) → IsStatusOf why end → IsUnopened s why → Serves s end
+serves_refused open_error.Memory end s is refused = rw is (inl refused)
+serves_refused (open_error.OpenFault device) end s is refused = rw is refused
+serves_refused (open_error.Contents damage) end s is refused = rw is refused
 
 -- ---- what an open store did
 
-has_ended : (old new : EngineState) (script : List Part) (text : List ℕ) (sink : SinkUse) (end : Status) → IsTextOf old new script text → IsWritten new.stopped sink text end → HasEnded old new script sink end
+has_ended : (old new : EngineState) (script : List Part) (text : List ℕ) (sink : SinkUse) (end : Status) → IsTextOf old new script text → IsWritten new.stopped new.halted sink text end → HasEnded old new script sink end
 has_ended old new script text sink status.Memory is written = absurd written
 has_ended old new script text sink end is written = (text, is, written)
 
-pub finishes : (old new : EngineState) (script : List Part) (log : DiskUse) (sink : SinkUse) (text : List ℕ) (stopped : Bool) (end : Status)
-    → IsTextOf old new script text → IsLegal new.entries → IfKnown log.after (CrashLeaves (fault_count new.stopped) new.id new.entries) → log.faults_after ≡ new.faults → stopped ≡ new.stopped
-    → IsWritten stopped sink text end → Finishes old script log sink end
-finishes old new script log sink text stopped end is legal stored now stopped-is written =
-    record { new = new; legal = legal; stored = stored; faults = sym now; ended = has_ended old new script text sink end is (subst (λ (b : Bool). IsWritten b sink text end) stopped-is written) }
+-- the answers were written, or what could be of them
+pub written_ends : (old new : EngineState) (script : List Part) (text : List ℕ) (stopped halted : Bool) (sink : SinkUse) (end : Status) → IsTextOf old new script text → stopped ≡ new.stopped → halted ≡ new.halted
+    → IsWritten stopped halted sink text end → HasEnded old new script sink end
+written_ends old new script text stopped halted sink end is stopped-is halted-is written =
+    has_ended old new script text sink end is (subst (λ (b : Bool). IsWritten new.stopped b sink text end) halted-is (subst (λ (b : Bool). IsWritten b halted sink text end) stopped-is written))
+
+-- what a crash leaves once the log has failed so often
+is_left : (stopped : Bool) (history left : List Entry) → IsOrOneMore stopped history left → IsLeft (fault_count stopped) history left
+is_left false history left is = is
+is_left true history left is = is
+
+-- the devices that the store on one thread gives back
+pub crash_opens : (s : EngineState) (log manifest tables : List Moment) → AllOpen s log manifest tables → CrashOpens (fault_count s.stopped) s.id s.entries log manifest tables
+crash_opens s log manifest tables all = λ l m t log_at manifest_at tables_at.
+    let left = all l m t log_at manifest_at tables_at in
+    (left.0, is_left s.stopped s.entries left.0 left.1, left.2)
+
+-- a choice whose script was served
+pub served_ends : (call : Call) (end : Status) → IsServed call end → Ends call end
+served_ends call status.Memory h = inr h
+served_ends call status.Words h = absurd h.served
+served_ends call status.SourceFault h = absurd h.served
+served_ends call (status.Script fault) h = absurd h.served
+served_ends call status.Ok h = h
+served_ends call status.SinkFault h = h
+served_ends call status.LogFault h = h
+served_ends call status.TableFault h = h
+served_ends call (status.Contents damage) h = h
+served_ends call (status.OpenFault device) h = h
 
 -- ---- no script
 
-unread_ends : (call : Call) (end : Status) → IsChosen call.words action.Run → call.log.after ≡ call.log.before → IsUnread call.source end → Ends call end
+unread_ends : (call : Call) (end : Status) → IsChosen call.words action.Run → AreUncalled call.disks → IsUnread call.source end → Ends call end
 unread_ends call status.Memory chosen same why = inl same
 unread_ends call status.SourceFault chosen same why = (chosen, why)
 unread_ends call (status.Script fault) chosen same why = (chosen, why)
 unread_ends call other chosen same why = absurd why
 
--- a choice whose script was not read, and whose log was not called
-pub scriptless_ends : (call : Call) (chosen : Action) (end : Status) → IsChosen call.words chosen → call.log.after ≡ call.log.before → IsReadAs chosen call.source (Err end) → Ends call end
+-- a choice whose script was not read, and whose devices were not called
+pub scriptless_ends : (call : Call) (chosen : Action) (end : Status) → IsChosen call.words chosen → AreUncalled call.disks → IsReadAs chosen call.source (Err end) → Ends call end
 scriptless_ends call action.Run end is same why = unread_ends call end is same why
 scriptless_ends call action.Show end is same why = rw why.1 (inl same)

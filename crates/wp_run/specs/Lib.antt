@@ -1,8 +1,9 @@
+pub mod Runs
+pub mod Later
+pub mod Answering
 pub mod Transcript
-pub mod Stored
-pub mod Engine
-pub mod Logging
-pub mod Status
 pub mod Use
+pub mod Stored
+pub mod Status
 pub mod Serving
 pub mod Run

@@ -14,7 +14,7 @@ use Rattle.wp_run.specs.declared.status.Status.{Status}
 use Rattle.wp_run.specs.declared.status.Status.TheVariants as status
 use Rattle.wp_text.specs.declared.read.TheConstants.{MOST_BYTES}
 use Rattle.wp_run.specs.Serving.{Serves}
-use Rattle.wp_run.specs.Use.{DiskUse, SourceUse, SinkUse}
+use Rattle.wp_run.specs.Use.{DisksUse, SourceUse, SinkUse, AreUncalled}
 
 -- the words choose to do this
 abbrev pub IsChosen : List (List ℕ) → Action → Type 0
@@ -55,7 +55,7 @@ IsReadAs action.Show source (Err end) = source.uncalled × (end ≡ status.Memor
 pub record Call : Type 1 where
   pub words : List (List ℕ)
   pub source : SourceUse
-  pub log : DiskUse
+  pub disks : DisksUse
   pub sink : SinkUse
 
 -- a choice of the words had its script served so
@@ -64,13 +64,13 @@ pub record IsServed (call : Call) (end : Status) : Type 0 where
   pub chosen : IsChoice call.words choice
   pub script : List Part
   pub read : IsScriptOf choice.action call.source script
-  pub served : Serves (record { limit = choice.limit; id = choice.id; script = script; log = call.log; sink = call.sink }) end
+  pub served : Serves (record { limit = choice.limit; id = choice.id; script = script; disks = call.disks; sink = call.sink }) end
 
--- How a call ended, why, what was written and what the log stores. Want of memory came before the log was opened, or as
--- the script of a choice was served.
+-- How a call ended, why, what was written and what the devices store. Want of memory came before a device was called, or
+-- as the script of a choice was served.
 abbrev pub Ends : Call → Status → Type 0
 Ends call status.Words = ¬ IsTaken call.words
 Ends call status.SourceFault = IsChosen call.words action.Run × Rose call.source.faults_before call.source.faults_after
 Ends call (status.Script fault) = IsChosen call.words action.Run × IsOutsideGrammar call.source fault
-Ends call status.Memory = (call.log.after ≡ call.log.before) ⊎ IsServed call status.Memory
+Ends call status.Memory = AreUncalled call.disks ⊎ IsServed call status.Memory
 Ends call end = IsServed call end

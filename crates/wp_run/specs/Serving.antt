@@ -3,7 +3,6 @@ use Rattle.std.specs.Prelude.{◌≡◌, ◌⊎◌, ℕ, ◌≤◌, Bool, true, 
 use Rattle.std.specs.Io.KnownBytes.{Appends}
 use Rattle.wp_model.specs.declared.entry.Entry.{Entry}
 use Rattle.wp_model.specs.Legal.{IsLegal}
-use Rattle.wp_outside.specs.declared.disk.Device.TheVariants as device
 use Rattle.wp_outside.specs.Disk.{IfKnown}
 use Rattle.wp_outside.specs.Faults.{Rose}
 use Rattle.wp_outside.specs.Sink.{AppendsPrefix}
@@ -13,39 +12,51 @@ use Rattle.wp_text.specs.declared.script.Command.{Command}
 use Rattle.wp_text.specs.declared.script.Part.{Part}
 use Rattle.wp_text.specs.declared.reply.Reply.{Reply}
 use Rattle.wp_wal.specs.Spelling.{MAGIC, IsLogOf}
-use Rattle.wp_open.specs.Opening.{IsDamaged, IsLeftBy}
+use Rattle.wp_open.specs.declared.opening.OpenError.{OpenError}
+use Rattle.wp_open.specs.declared.opening.OpenError.TheVariants as open_error
+use Rattle.wp_open.specs.Opens.{Opens, AllKnown}
+use Rattle.wp_open.specs.Refused.{IsCause, IsOutside, IsLeft}
+use Rattle.wp_engine.specs.Engine.{EngineState}
+use Rattle.wp_engine.specs.Stored.{fault_count, CrashLeaves}
 use Rattle.wp_run.specs.declared.status.Status.{Status}
 use Rattle.wp_run.specs.declared.status.Status.TheVariants as status
-use Rattle.wp_run.specs.Engine.{EngineState, Answered, AllRunSoFar, are_whole, replies_of, fault_count}
-use Rattle.wp_run.specs.Stored.{CrashLeaves}
-use Rattle.wp_run.specs.Transcript.{Explains, IsTranscript, text_of}
-use Rattle.wp_run.specs.Use.{DiskUse, SinkUse}
+use Rattle.wp_run.specs.Later.{Later, store_of}
+use Rattle.wp_run.specs.Runs.{Answered, AllRunSoFar, are_whole, replies_of}
+use Rattle.wp_run.specs.Stored.{OpensTo, CrashOpens}
+use Rattle.wp_run.specs.Transcript.{Faults, Found, Explains, IsTranscript, text_of}
+use Rattle.wp_run.specs.Use.{DisksUse, Device, SinkUse}
 
 -- ---- a served script
 
 -- a script, the limits and the devices that it was served with
-pub record Serving : Type 0 where
+pub record Serving : Type 1 where
   pub limit : ℕ  -- the greatest number of an entry
-  pub id : ℕ  -- that a new log gets
+  pub id : ℕ  -- that a new store gets
   pub script : List Part
-  pub log : DiskUse
+  pub disks : DisksUse
   pub sink : SinkUse
 
--- The log was opened to one history, and a crash leaves the other one of it. Its device failed so many times in between.
-pub record HasStored (s : Serving) (faults : ℕ) (opened history : List Entry) : Type 0 where
+-- The store was opened to what was found. A crash leaves the history of it in the log, and devices that open to it.
+-- So often the devices failed in between.
+pub record HasStored (s : Serving) (faults : Faults) (found : Found) (history : List Entry) : Type 0 where
   pub id : ℕ
-  pub made : IfKnown s.log.before (λ m. IsUnmade m.reads → id ≡ s.id)
-  pub found : IfKnown s.log.before (λ m. IsLogOf id opened m.reads)
-  pub stored : IfKnown s.log.after (CrashLeaves faults id history)
-  pub once : faults ≤ 1
-  pub cause : 1 ≤ faults → Rose s.log.faults_before s.log.faults_after
+  pub made : IfKnown s.disks.log.before (λ m. IsUnmade m.reads → id ≡ s.id)
+  pub spelled : IfKnown s.disks.log.before (λ m. IsLogOf id found.history m.reads)
+  pub opened : AllKnown s.disks.log.before s.disks.manifest.before s.disks.tables.before (OpensTo id found)
+  pub stored : IfKnown s.disks.log.after (CrashLeaves faults.log id history)
+  pub opens : CrashOpens faults.log id history s.disks.log.after s.disks.manifest.after s.disks.tables.after
+  pub once : faults.log ≤ 1
+  pub cause : 1 ≤ faults.log → Rose s.disks.log.faults_before s.disks.log.faults_after
+  pub tables_once : faults.tables ≤ 1
+  pub tables_cause : 1 ≤ faults.tables
+      → Rose s.disks.manifest.faults_before s.disks.manifest.faults_after ⊎ Rose s.disks.tables.faults_before s.disks.tables.faults_after
 
 -- The text answers the script over the store.
-pub record AnswersScript (s : Serving) (faults : ℕ) (text : List ℕ) : Type 0 where
-  pub opened : List Entry
+pub record AnswersScript (s : Serving) (faults : Faults) (text : List ℕ) : Type 0 where
+  pub found : Found
   pub history : List Entry
-  pub store : HasStored s faults opened history
-  pub transcript : IsTranscript s.limit faults s.script opened history text
+  pub store : HasStored s faults found history
+  pub transcript : IsTranscript s.limit faults s.script found history text
 
 -- the client's first commands
 abbrev pub IsFirstPart : Part → Part → Type 0
@@ -61,51 +72,70 @@ AreFirstParts (part ∷ parts) (first ∷ firsts) = IsFirstPart part first × Ar
 -- Memory was wanting once the store was open. The first commands of each client had their replies, and these explain the
 -- history: each entry is that of one of them.
 pub record BreaksOff (s : Serving) : Type 0 where
-  pub faults : ℕ
-  pub opened : List Entry
+  pub faults : Faults
+  pub found : Found
   pub history : List Entry
-  pub store : HasStored s faults opened history
+  pub store : HasStored s faults found history
   pub run : List Part
   pub first : AreFirstParts s.script run
   pub replies : List (List Reply)
-  pub explained : Explains s.limit faults run opened history replies
+  pub explained : Explains s.limit faults run found history replies
 
--- how serving ended, why, what was written and what the log stores
+-- The store was not opened, for this reason. Where the devices are known and open to a history, the reason is none of theirs.
+pub record IsUnopened (s : Serving) (why : OpenError) : Type 0 where
+  pub cause : IsCause s.id (Rose s.disks.log.faults_before s.disks.log.faults_after) (Rose s.disks.manifest.faults_before s.disks.manifest.faults_after)
+      (Rose s.disks.tables.faults_before s.disks.tables.faults_after) s.disks.log.before s.disks.manifest.before s.disks.tables.before why
+  pub only : AllKnown s.disks.log.before s.disks.manifest.before s.disks.tables.before
+      (λ log manifest tables. (id : ℕ) (history : List Entry) → Opens id history log manifest tables → (IsUnmade log → id ≡ s.id) → IsOutside why)
+  pub left : IsLeft s.disks.manifest.uncalled s.disks.tables.uncalled s.disks.log.before s.disks.log.after
+      s.disks.manifest.before s.disks.manifest.after s.disks.tables.before s.disks.tables.after why
+  pub survives : SurvivesThrough MAGIC s.id s.disks.log.before s.disks.log.after
+
+abbrev pub faults_of : ℕ → ℕ → Faults
+faults_of log tables = record { log = log; tables = tables }
+
+-- how serving ended, why, what was written and what the devices store
 abbrev pub Serves : Serving → Status → Type 0
-Serves s status.Ok = (text : List ℕ) × AnswersScript s 0 text × Appends s.sink.before s.sink.after text
-Serves s status.LogFault = (text : List ℕ) × AnswersScript s 1 text × Appends s.sink.before s.sink.after text
-Serves s status.SinkFault = Rose s.sink.faults_before s.sink.faults_after × (faults : ℕ) × (text : List ℕ) × AnswersScript s faults text × AppendsPrefix s.sink.before s.sink.after text
-Serves s status.Memory = SurvivesThrough MAGIC s.id s.log.before s.log.after ⊎ BreaksOff s
-Serves s (status.Contents damage) = SurvivesThrough MAGIC s.id s.log.before s.log.after × IfKnown s.log.before (λ m. IsDamaged m.reads damage) × IsLeftBy s.log.before s.log.after damage
-Serves s (status.OpenFault device.Log) = SurvivesThrough MAGIC s.id s.log.before s.log.after × Rose s.log.faults_before s.log.faults_after
+Serves s status.Ok = (text : List ℕ) × AnswersScript s (faults_of 0 0) text × Appends s.sink.before s.sink.after text
+Serves s status.LogFault = (tables : ℕ) × (text : List ℕ) × AnswersScript s (faults_of 1 tables) text × Appends s.sink.before s.sink.after text
+Serves s status.TableFault = (text : List ℕ) × AnswersScript s (faults_of 0 1) text × Appends s.sink.before s.sink.after text
+Serves s status.SinkFault = Rose s.sink.faults_before s.sink.faults_after × (faults : Faults) × (text : List ℕ) × AnswersScript s faults text × AppendsPrefix s.sink.before s.sink.after text
+Serves s status.Memory = IsUnopened s open_error.Memory ⊎ BreaksOff s
+Serves s (status.Contents damage) = IsUnopened s (open_error.Contents damage)
+Serves s (status.OpenFault device) = IsUnopened s (open_error.OpenFault device)
 Serves s other = ⊥
 
 -- ---- a store that is open
 
 -- the text of the replies that all clients were given, from the one state to the other
 abbrev pub IsTextOf : EngineState → EngineState → List Part → List ℕ → Type 0
-IsTextOf old new script text = (sessions : List Answered) × AllRunSoFar old script sessions new × (are_whole sessions ≡ true) × (text ≡ text_of script (replies_of sessions) new.entries)
+IsTextOf old new script text = (sessions : List Answered) × AllRunSoFar (store_of old) script sessions (store_of new) × (are_whole sessions ≡ true) × (text ≡ text_of script (replies_of sessions) new.entries)
 
 -- the clients were answered from the one state to the other, as far as memory allowed
 abbrev pub HasRun : EngineState → EngineState → List Part → Type 0
-HasRun old new script = (sessions : List Answered) × AllRunSoFar old script sessions new
+HasRun old new script = (sessions : List Answered) × AllRunSoFar (store_of old) script sessions (store_of new)
 
--- how a text was written: whole, with the log failed or not, or in part
-abbrev pub IsWritten : (stopped : Bool) → SinkUse → List ℕ → Status → Type 0
-IsWritten stopped sink text status.Ok = (stopped ≡ false) × Appends sink.before sink.after text
-IsWritten stopped sink text status.LogFault = (stopped ≡ true) × Appends sink.before sink.after text
-IsWritten stopped sink text status.SinkFault = Rose sink.faults_before sink.faults_after × AppendsPrefix sink.before sink.after text
-IsWritten stopped sink text other = ⊥
+-- how a text was written: whole, with the log failed, the tables alone, or neither; or in part
+abbrev pub IsWritten : (stopped halted : Bool) → SinkUse → List ℕ → Status → Type 0
+IsWritten stopped halted sink text status.Ok = (stopped ≡ false) × (halted ≡ false) × Appends sink.before sink.after text
+IsWritten stopped halted sink text status.LogFault = (stopped ≡ true) × Appends sink.before sink.after text
+IsWritten stopped halted sink text status.TableFault = (stopped ≡ false) × (halted ≡ true) × Appends sink.before sink.after text
+IsWritten stopped halted sink text status.SinkFault = Rose sink.faults_before sink.faults_after × AppendsPrefix sink.before sink.after text
+IsWritten stopped halted sink text other = ⊥
 
 -- what became of the answers to a script, from the one state to the other
 abbrev pub HasEnded : EngineState → EngineState → List Part → SinkUse → Status → Type 0
 HasEnded old new script sink status.Memory = HasRun old new script
-HasEnded old new script sink end = (text : List ℕ) × IsTextOf old new script text × IsWritten new.stopped sink text end
+HasEnded old new script sink end = (text : List ℕ) × IsTextOf old new script text × IsWritten new.stopped new.halted sink text end
 
--- how an open store answered a script, and how it left the log
-pub record Finishes (old : EngineState) (script : List Part) (log : DiskUse) (sink : SinkUse) (end : Status) : Type 0 where
+-- how an open store answered a script, and how it left the devices
+pub record Finishes (old : EngineState) (script : List Part) (log manifest tables : Device) (sink : SinkUse) (end : Status) : Type 0 where
   pub new : EngineState
+  pub later : Later old new
   pub legal : IsLegal new.entries
-  pub stored : IfKnown log.after (CrashLeaves (fault_count new.stopped) new.id new.entries)
-  pub faults : new.faults ≡ log.faults_after
+  pub stored : IfKnown log.moments (CrashLeaves (fault_count new.stopped) new.id new.entries)
+  pub opens : CrashOpens (fault_count new.stopped) new.id new.entries log.moments manifest.moments tables.moments
+  pub log_left : (log.moments ≡ new.moments) × (log.faults ≡ new.faults)
+  pub manifest_left : (manifest.moments ≡ new.manifest_moments) × (manifest.faults ≡ new.manifest_faults)
+  pub tables_left : (tables.moments ≡ new.tables_moments) × (tables.faults ≡ new.tables_faults)
   pub ended : HasEnded old new script sink end

@@ -13,6 +13,7 @@ code_of status.SourceFault = 4
 code_of status.SinkFault = 5
 code_of (status.Script fault) = 6
 code_of status.LogFault = 7
+code_of status.TableFault = 8
 code_of (status.Contents bad) = 9
 code_of (status.OpenFault device) = 10
 
@@ -32,6 +33,7 @@ stage_of (status.Contents damage) = AtDisks
 stage_of (status.OpenFault d) = AtDisks
 stage_of status.Ok = AtSink
 stage_of status.LogFault = AtSink
+stage_of status.TableFault = AtSink
 stage_of status.SinkFault = AtSink
 
 abbrev pub IsBeforeSink : Stage → Type 0

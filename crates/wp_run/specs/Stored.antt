@@ -1,38 +1,24 @@
--- What the log of a store on one thread stores.
-use Rattle.std.specs.Prelude.{◌≡◌, ◌⊎◌, ℕ, zero, suc, ◌+◌, ◌^◌, ◌<◌, Bool, false, true, List, [], ◌++◌, length, None}
+-- What the devices of a store were opened to, and what a crash leaves of them.
+use Rattle.std.specs.Prelude.{◌≡◌, ℕ, zero, suc, true, List}
 use Rattle.wp_model.specs.declared.entry.Entry.{Entry}
-use Rattle.wp_model.specs.Legal.{IsLegal, undone_last}
-use Rattle.wp_outside.specs.Disk.{Moment}
-use Rattle.wp_entry.specs.Record.{IsRecord}
-use Rattle.wp_gatelog.specs.Moments.{Leaves}
-use Rattle.wp_wal.specs.Spelling.{IsLogOf, HasAcknowledgedEntries}
-use Rattle.wp_wal.specs.Wal.{WalState, LeavesHistory, StoresHistory}
+use Rattle.wp_outside.specs.Disk.{Moment, images}
+use Rattle.wp_manifest.specs.Spelling.{last_edit}
+use Rattle.wp_open.specs.Opens.{Opens}
+use Rattle.wp_engine.specs.Engine.{installed_of}
+use Rattle.wp_engine.specs.Stored.{IsOrOneMore}
+use Rattle.wp_run.specs.Transcript.{Found}
 
--- ---- the log of a history
+-- the bytes open to the history, and the manifest's last edit is the one that was found
+abbrev pub OpensTo : ℕ → Found → List ℕ → List ℕ → List ℕ → Type 0
+OpensTo id found log manifest tables = (opens : Opens id found.history log manifest tables) × (found.edit ≡ installed_of (last_edit opens.edits) opens.parts)
 
--- the history, or it and one record more
-abbrev pub IsOrOneMore : List Entry → List Entry → Type 0
-IsOrOneMore history longer = (longer ≡ history) ⊎ ((next : List Entry) × IsRecord (length history + 1) next × (longer ≡ history ++ next))
+-- the history; or, once the log has failed, it or it and one record more, whole
+abbrev pub IsLeft : (faults : ℕ) → List Entry → List Entry → Type 0
+IsLeft zero history left = left ≡ history
+IsLeft (suc faults) history left = IsOrOneMore true history left
 
--- the bytes spell the history, or it and one record more, whole, and what they spell is legal
-abbrev pub IsLogOrOneMore : ℕ → List Entry → List ℕ → Type 0
-IsLogOrOneMore id history bytes = (longer : List Entry) × IsOrOneMore history longer × IsLegal longer × IsLogOf id longer bytes
-
--- What a crash leaves of the log: the history; or, once the log has failed, it or it and one record more, whole. The
--- records of the history are acknowledged there.
-abbrev pub CrashLeaves : ℕ → ℕ → List Entry → Moment → Type 0
-CrashLeaves zero id history m = LeavesHistory id history m
-CrashLeaves (suc faults) id history m = Leaves (λ image. IsLogOrOneMore id history image × HasAcknowledgedEntries id history image) m
-
--- ---- the store
-
--- The store's fields go together. Once an append has failed, the log may have its record.
-pub record IsConsistent (wal : WalState) (entries : List Entry) (stopped : Bool) (limit : ℕ) : Type 0 where
-  pub failed : List Entry
-  pub stores : StoresHistory wal entries failed
-  pub legal : IsLegal (entries ++ failed)
-  pub none : stopped ≡ false → failed ≡ []
-  pub whole : stopped ≡ true → IsRecord (length entries + 1) failed
-  pub state : wal.closed ≡ stopped
-  pub closed : undone_last entries ≡ None
-  pub numbers : limit < 2 ^ 32
+-- whichever image each of the devices is left with, they open to what is left of the history
+abbrev pub CrashOpens : (faults id : ℕ) → List Entry → (log manifest tables : List Moment) → Type 0
+CrashOpens faults id history log manifest tables = (log_image manifest_image tables_image : List ℕ)
+    → images log log_image → images manifest manifest_image → images tables tables_image
+    → (left : List Entry) × IsLeft faults history left × Opens id left log_image manifest_image tables_image

@@ -2,43 +2,68 @@
 use Rattle.std.specs.Prelude.{◌≡◌, ℕ, ◌<◌, ◌≤◌, ◌==◌, true, false, List, [], ◌∷◌, ◌++◌, length, count_by, codes}
 use Rattle.std.specs.List.{flat_map, list_any}
 use Rattle.wp_model.specs.declared.entry.Entry.{Entry}
+use Rattle.wp_model.specs.Flushed.{InstalledEdit}
 use Rattle.wp_model.specs.History.{undecided}
 use Rattle.wp_model.specs.Legal.{IsLegal}
 use Rattle.wp_text.specs.declared.script.Part.{Part}
 use Rattle.wp_text.specs.declared.reply.Reply.{Reply}
 use Rattle.wp_text.specs.Lines.{client_line, reply_line, entry_lines, end_line, line_end}
 use Rattle.wp_session.specs.Client.{new_client}
-use Rattle.wp_session.specs.Kind.{acknowledged, is_fault, is_stopped}
+use Rattle.wp_session.specs.Kind.{acknowledged, is_fault, is_stopped, is_tables_fault, is_halted}
 use Rattle.wp_session.specs.Session.{IsSession}
-use Rattle.wp_session.specs.Replies.{one_at_a_time}
+use Rattle.wp_session.specs.Replies.{Evidence}
+use Rattle.wp_session.specs.Known.{evidence_of}
+use Rattle.wp_session.specs.Due.{Store}
 use Rattle.wp_session.specs.Current.{RunsAlone}
 
--- each part has one session, which begins with the opening history
-abbrev pub AreSessions : List Entry → ℕ → ℕ → List Part → List (List Reply) → Type 0
-AreSessions history limit opened [] [] = Unit {0}
-AreSessions history limit opened [] (answers ∷ others) = ⊥
-AreSessions history limit opened (part ∷ parts) [] = ⊥
-AreSessions history limit opened (part ∷ parts) (answers ∷ others) = IsSession (one_at_a_time history limit) opened new_client part.commands answers × AreSessions history limit opened parts others
+-- what an opening found: a history, and the last edit of the tables
+pub record Found : Type 0 where
+  pub history : List Entry
+  pub edit : InstalledEdit
 
--- with one client, nobody else changes the store
-abbrev pub IsExact : ℕ → List Entry → List Part → List (List Reply) → Type 0
-IsExact limit opened (part ∷ []) (answers ∷ []) = RunsAlone (record { history = opened; stopped = false; limit = limit }) new_client part.commands answers
-IsExact limit opened script sessions = Unit {0}
+-- how often the devices failed: the log's, and those of the tables
+pub record Faults : Type 0 where
+  pub log : ℕ
+  pub tables : ℕ
 
 -- all replies, one client's after the other's
 abbrev pub all_replies : List (List Reply) → List Reply
 all_replies sessions = flat_map (λ answers. answers) sessions
 
--- The replies are explained by the history, which begins with that found at opening; so many times the log failed.
-pub record Explains (limit faults : ℕ) (script : List Part) (opened history : List Entry) (sessions : List (List Reply)) : Type 0 where
+-- what a client's replies are judged by, with those to the clients before it and after it
+abbrev pub judged_by : List Entry → ℕ → Found → List (List Reply) → List Reply → List (List Reply) → Evidence
+judged_by history limit found before answers others = evidence_of history limit found.edit.flushed (all_replies (before ++ answers ∷ others)) (all_replies (before ++ others))
+
+-- Each part has one session, which begins with what was found. These sessions come before them.
+abbrev pub AreSessions : List Entry → ℕ → Found → List (List Reply) → List Part → List (List Reply) → Type 0
+AreSessions history limit found before [] [] = Unit {0}
+AreSessions history limit found before [] (answers ∷ others) = ⊥
+AreSessions history limit found before (part ∷ parts) [] = ⊥
+AreSessions history limit found before (part ∷ parts) (answers ∷ others) =
+    IsSession (judged_by history limit found before answers others) (length found.history) found.edit.tables new_client part.commands answers
+    × AreSessions history limit found (before ++ answers ∷ []) parts others
+
+-- the store as it was opened
+abbrev pub opened_store : ℕ → Found → Store
+opened_store limit found = record { history = found.history; stopped = false; limit = limit; installed = found.edit; halted = false }
+
+-- with one client, nobody else changes the store
+abbrev pub IsExact : ℕ → Found → List Part → List (List Reply) → Type 0
+IsExact limit found (part ∷ []) (answers ∷ []) = RunsAlone (opened_store limit found) new_client part.commands answers
+IsExact limit found script sessions = Unit {0}
+
+-- The replies are explained by the history, which begins with the one that was found; so often the devices failed.
+pub record Explains (limit : ℕ) (faults : Faults) (script : List Part) (found : Found) (history : List Entry) (sessions : List (List Reply)) : Type 0 where
   pub legal : IsLegal history
-  pub begins : (added : List Entry) × (history ≡ opened ++ added)
-  pub answered : AreSessions history limit (length opened) script sessions
+  pub begins : (added : List Entry) × (history ≡ found.history ++ added)
+  pub answered : AreSessions history limit found [] script sessions
   -- each entry after the opening history is that of exactly one reply, an Undo together with its Close
-  pub paired : (n : ℕ) → length opened < n → n ≤ length history → count_by (λ m. m == n) (flat_map acknowledged (all_replies sessions)) ≡ 1
-  pub failed : count_by is_fault (all_replies sessions) ≡ faults
-  pub stopped : list_any is_stopped (all_replies sessions) ≡ true → 1 ≤ faults
-  pub exact : IsExact limit opened script sessions
+  pub paired : (n : ℕ) → length found.history < n → n ≤ length history → count_by (λ m. m == n) (flat_map acknowledged (all_replies sessions)) ≡ 1
+  pub failed : count_by is_fault (all_replies sessions) ≡ faults.log
+  pub stopped : list_any is_stopped (all_replies sessions) ≡ true → 1 ≤ faults.log
+  pub tables_failed : count_by is_tables_fault (all_replies sessions) ≡ faults.tables
+  pub halted : list_any is_halted (all_replies sessions) ≡ true → 1 ≤ faults.tables
+  pub exact : IsExact limit found script sessions
 
 -- one client's replies, below its name
 abbrev pub client_text : Part → List Reply → List ℕ
@@ -53,6 +78,6 @@ client_lines (part ∷ parts) (answers ∷ others) = client_text part answers ++
 abbrev pub text_of : List Part → List (List Reply) → List Entry → List ℕ
 text_of script sessions history = client_lines script sessions ++ codes "history" ++ line_end ++ entry_lines 1 history ++ end_line (length history) (length (undecided history))
 
--- The text answers the script from the opening history on, and shows the history.
-abbrev pub IsTranscript : ℕ → ℕ → List Part → List Entry → List Entry → List ℕ → Type 0
-IsTranscript limit faults script opened history text = (sessions : List (List Reply)) × Explains limit faults script opened history sessions × (text ≡ text_of script sessions history)
+-- The text answers the script from what was found on, and shows the history.
+abbrev pub IsTranscript : ℕ → Faults → List Part → Found → List Entry → List ℕ → Type 0
+IsTranscript limit faults script found history text = (sessions : List (List Reply)) × Explains limit faults script found history sessions × (text ≡ text_of script sessions history)

@@ -1,14 +1,15 @@
 ghost use Rattle.std.specs.Prelude.{◌≡◌, true, IfOk, OnOk, OnErr};
 ghost use Rattle.wp_model.specs.Batch.{is_batch};
 ghost use Rattle.wp_model.specs.Legal.{changes_in};
-ghost use Rattle.wp_session.specs.Client.{ClientFits};
-ghost use Rattle.wp_run.specs.Engine.{IsCommandStep, IsRunSoFar};
+ghost use Rattle.wp_session.specs.Client.{ClientFits, numbers_of};
+ghost use Rattle.wp_run.specs.Later.{Later, store_of};
+ghost use Rattle.wp_run.specs.Runs.{IsStep, IsRunSoFar};
 ghost use Rattle.wp_session.specs.Next.{AreNext};
-ghost use Rattle.wp_run.specs.Logging.{IsRefusalOf, IsLogAnswer};
+ghost use Rattle.wp_run.specs.Answering.{IsRefusalOf, IsRefusalOfTables, IsLogAnswer, Flushes, Compacts};
 
-use crate::engine::{Engine, WriteError};
 use std::alloc::{AllocError, Global};
 use std::marker::Model;
+use wp_engine::{Engine, MaintenanceError, WriteError};
 use wp_history::laws;
 use wp_model::Entry;
 use wp_outside::Disk;
@@ -23,7 +24,7 @@ pub(crate) struct Answers {
 }
 
 impl Model for Answers {
-    ghost use Rattle.wp_run.specs.Engine.{Answered};
+    ghost use Rattle.wp_run.specs.Runs.{Answered};
 
     ghost Value = { Answered };
 
@@ -56,6 +57,16 @@ fn refusal_of(error: WriteError) -> Result<Reply, AllocError>
     }
 }
 
+fn refusal_of_tables(error: MaintenanceError) -> Result<Reply, AllocError>
+    ensures { IsRefusalOfTables error result }
+{
+    match error {
+        MaintenanceError::Memory => Err(AllocError),
+        MaintenanceError::TablesFault => Ok(Reply::FaultTables),
+        MaintenanceError::Halted(flushed) => Ok(Reply::Halted(flushed)),
+    }
+}
+
 /// Logs the entries, which the reply acknowledges.
 fn log_for<D: Disk>(
     engine: &mut Engine<D>,
@@ -65,6 +76,7 @@ fn log_for<D: Disk>(
 ) -> Result<Reply, AllocError>
     requires next { AreNext engine.old.entries entries.items }
     ensures answered { IfOk result (λ answer. IsLogAnswer engine.old client.old entries.items reply answer engine.new client.new) }
+    ensures later { Later engine.old engine.new }
     ensures err { OnErr result (engine.new ≡ engine.old) }
 {
     match engine.log(entries) {
@@ -73,6 +85,45 @@ fn log_for<D: Disk>(
             Ok(reply)
         }
         Err(error) => refusal_of(error),
+    }
+}
+
+/// Writes what stands in memory into a table.
+fn flush<D: Disk>(engine: &mut Engine<D>) -> Result<Reply, AllocError>
+    ensures answered { IfOk result (λ answer. Flushes engine.old answer engine.new) }
+    ensures later { Later engine.old engine.new }
+    ensures err { OnErr result (store_of engine.new ≡ store_of engine.old) }
+{
+    let at = engine.history().published();
+    match engine.flush() {
+        Ok(Some(versions)) => Ok(Reply::Flushed {
+            at,
+            versions: versions as u64,
+        }),
+        Ok(None) => Ok(Reply::Nothing),
+        Err(error) => refusal_of_tables(error),
+    }
+}
+
+/// Makes one table of all, beside the client's snapshots.
+fn compact<D: Disk>(
+    alloc: Global,
+    engine: &mut Engine<D>,
+    client: &Client,
+) -> Result<Reply, AllocError>
+    ensures answered { IfOk result (λ answer. Compacts engine.old (numbers_of client.now.snapshots) answer engine.new) }
+    ensures later { Later engine.old engine.new }
+    ensures err { OnErr result (store_of engine.new ≡ store_of engine.old) }
+{
+    let snapshots = client.numbers(alloc)?;
+    let at = engine.history().published();
+    match engine.compact(&snapshots) {
+        Ok(Some(versions)) => Ok(Reply::Compacted {
+            at,
+            versions: versions as u64,
+        }),
+        Ok(None) => Ok(Reply::Nothing),
+        Err(error) => refusal_of_tables(error),
     }
 }
 
@@ -96,9 +147,10 @@ fn answer<D: Disk>(
     command: &Command,
 ) -> Result<Reply, AllocError>
     requires fits { ClientFits engine.old.entries client.old }
-    ensures steps { IfOk result (λ reply. IsCommandStep engine.old client.old command.now reply engine.new client.new) }
+    ensures steps { IfOk result (λ reply. IsStep (store_of engine.old) client.old command.now reply (store_of engine.new) client.new) }
     ensures fits { OnOk result (ClientFits engine.new.entries client.new) }
-    ensures err { OnErr result (engine.new ≡ engine.old) }
+    ensures later { Later engine.old engine.new }
+    ensures err { OnErr result (store_of engine.new ≡ store_of engine.old) }
 {
     laws::undecided_grows();
     laws::undo_is_followed_by_its_close();
@@ -117,6 +169,8 @@ fn answer<D: Disk>(
             let entries = vec![in alloc; Entry::Undo(p, batch), Entry::Close(p)]?;
             log_for(engine, client, entries, reply)
         }
+        Plan::Flush => flush(engine),
+        Plan::Compact => compact(alloc, engine, client),
     }
 }
 
@@ -128,7 +182,8 @@ pub(crate) fn run_session<D: Disk>(
     engine: &mut Engine<D>,
     commands: &[Command],
 ) -> Answers
-    ensures { IsRunSoFar engine.old commands.now result engine.new }
+    ensures run { IsRunSoFar (store_of engine.old) commands.now result (store_of engine.new) }
+    ensures later { Later engine.old engine.new }
 {
     let mut client = Client::new(alloc);
     let Ok(mut replies) = Vec::with_capacity(alloc, commands.len()) else {

@@ -1,9 +1,10 @@
 ghost use Rattle.std.specs.Prelude.{◌≡◌, IfOk, OnErr};
-ghost use Rattle.wp_run.specs.Engine.{Later, AllRunSoFar, are_whole};
+ghost use Rattle.wp_run.specs.Later.{Later, store_of};
+ghost use Rattle.wp_run.specs.Runs.{AllRunSoFar, are_whole};
 
 use crate::client::{Answers, run_session};
-use crate::engine::Engine;
 use std::alloc::{AllocError, Global};
+use wp_engine::Engine;
 use wp_outside::Disk;
 use wp_text::Part;
 
@@ -14,7 +15,7 @@ pub(crate) fn run_all<D: Disk>(
     engine: &mut Engine<D>,
     parts: &[Part],
 ) -> Result<Vec<Answers>, AllocError>
-    ensures runs { IfOk result (λ sessions. AllRunSoFar engine.old parts.now sessions.items engine.new) }
+    ensures runs { IfOk result (λ sessions. AllRunSoFar (store_of engine.old) parts.now sessions.items (store_of engine.new)) }
     ensures later { Later engine.old engine.new }
     ensures err { OnErr result (engine.new ≡ engine.old) }
 {

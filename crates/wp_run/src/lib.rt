@@ -1,13 +1,12 @@
-//! The program: a script with one part per client is run over one store, whose log is on a device.
+//! The program: a script with one part per client is run over one store, which is on three devices.
 //!
-//! The top call is `run`. It takes what it does from the words of a command line, opens the store's log, answers the
-//! clients of the script one after another and writes their replies and the history. The text is built whole before its
-//! first byte is written.
+//! The top call is `run`. It takes what it does from the words of a command line, opens the store, answers the clients of
+//! the script one after another and writes their replies and the history. The text is built whole before its first byte
+//! is written.
 #![tactic(auto)]
 
 mod client;
 mod clients;
-mod engine;
 mod serve;
 mod status;
 mod top_call;

@@ -1,26 +1,24 @@
 ghost use Rattle.std.specs.Prelude.{◌≡◌, ◌≤◌, ◌<◌, ◌^◌, IfOk, OnErr};
-ghost use Rattle.wp_wal.specs.Wal.{LosesNothing};
-ghost use Rattle.wp_run.specs.Engine.{Later};
+ghost use Rattle.wp_run.specs.Later.{Later};
 ghost use Rattle.wp_run.specs.Status.{IsStatusOf, IsBeforeSink, stage_of};
-ghost use Rattle.wp_run.specs.Use.{disk_use, sink_use};
+ghost use Rattle.wp_run.specs.Use.{IsDurable, device, disk_use, sink_use};
 ghost use Rattle.wp_run.specs.Serving.{IsTextOf, HasRun, IsWritten, Finishes, Serves};
 
 use crate::clients::{are_whole, run_all};
-use crate::engine::Engine;
 use crate::status::Status;
 use crate::transcript::transcript;
 use std::alloc::{AllocError, Global};
-use wp_gatelog::DiskRefused;
+use wp_engine::Engine;
 use wp_model::Seq;
-use wp_open::{OpenError, Opened, open};
-use wp_outside::{Disk, Failed, Sink, write_all};
+use wp_open::{OpenError, OpenRefused, open_parts};
+use wp_outside::{Disk, Disks, Failed, Sink, write_all};
 use wp_session::laws::due_is_session;
 use wp_text::Part;
 
-/// How a script was served, and the log's device.
+/// How a script was served, and the store's devices.
 pub(crate) struct Served<D: Disk> {
     pub(crate) status: Status,
-    pub(crate) disk: D,
+    pub(crate) disks: Disks<D>,
 }
 
 /// The text of what the script's clients are answered.
@@ -41,12 +39,14 @@ fn answer_all<D: Disk>(
     Ok(text)
 }
 
-fn write_text<K: Sink>(sink: &mut K, text: &[u8], stopped: bool) -> Status
-    ensures written { IsWritten stopped (sink_use (K.contents sink.old) (K.contents sink.new) (K.faults sink.old) (K.faults sink.new)) text.now result }
+/// Writes the text. The status says whether it was written whole, and else what failed before: the log, or the tables.
+fn write_text<K: Sink>(sink: &mut K, text: &[u8], stopped: bool, halted: bool) -> Status
+    ensures written { IsWritten stopped halted (sink_use (K.contents sink.old) (K.contents sink.new) (K.faults sink.old) (K.faults sink.new)) text.now result }
     ensures later { K.faults sink.old ≤ K.faults sink.new }
 {
     match write_all(sink, text) {
         Ok(()) if stopped => Status::LogFault,
+        Ok(()) if halted => Status::TableFault,
         Ok(()) => Status::Ok,
         Err(Failed) => Status::SinkFault,
     }
@@ -59,24 +59,25 @@ fn finish<D: Disk, K: Sink>(
     parts: &[Part],
     sink: &mut K,
 ) -> Served<D>
-    ensures finishes { Finishes engine parts.now (disk_use engine.moments (D.moments result.disk) engine.faults (D.faults result.disk)) (sink_use (K.contents sink.old) (K.contents sink.new) (K.faults sink.old) (K.faults sink.new)) result.status }
+    ensures finishes { Finishes engine parts.now (device (D.moments result.disks.log) (D.faults result.disks.log))
+        (device (D.moments result.disks.manifest) (D.faults result.disks.manifest)) (device (D.moments result.disks.tables) (D.faults result.disks.tables))
+        (sink_use (K.contents sink.old) (K.contents sink.new) (K.faults sink.old) (K.faults sink.new)) result.status }
     ensures silent { IsBeforeSink (stage_of result.status) → sink.new ≡ sink.old }
     ensures sink_later { K.faults sink.old ≤ K.faults sink.new }
-    ensures durable { LosesNothing engine.moments (D.moments result.disk) }
-    ensures log_later { engine.faults ≤ D.faults result.disk }
 {
     let text = answer_all(alloc, &mut engine, parts);
     let stopped = engine.is_stopped();
+    let halted = engine.is_halted();
     engine.history();
-    let disk = engine.into_disk();
+    let disks = engine.into_disks();
     match text {
         Ok(text) => {
-            let status = write_text(sink, &text, stopped);
-            Served { status, disk }
+            let status = write_text(sink, &text, stopped, halted);
+            Served { status, disks }
         }
         Err(AllocError) => Served {
             status: Status::Memory,
-            disk,
+            disks,
         },
     }
 }
@@ -91,13 +92,13 @@ fn status_of(why: OpenError) -> Status
     }
 }
 
-/// Opens the store whose log is on the disk, or makes it with this id, and answers the script's clients.
+/// Opens the store on the disks, or makes it with this id, and answers the script's clients.
 pub(crate) fn serve<D: Disk, K: Sink>(
     alloc: Global,
     limit: Seq,
     id: u32,
     parts: &[Part],
-    disk: D,
+    disks: Disks<D>,
     sink: &mut K,
 ) -> Served<D>
     requires { limit < 2 ^ 32 }
@@ -105,20 +106,27 @@ pub(crate) fn serve<D: Disk, K: Sink>(
       limit = limit;
       id = id;
       script = parts.now;
-      log = disk_use (D.moments disk) (D.moments result.disk) (D.faults disk) (D.faults result.disk);
+      disks = record {
+        log = disk_use (D.moments disks.log) (D.moments result.disks.log) (D.faults disks.log) (D.faults result.disks.log) (result.disks.log ≡ disks.log);
+        manifest = disk_use (D.moments disks.manifest) (D.moments result.disks.manifest) (D.faults disks.manifest) (D.faults result.disks.manifest) (result.disks.manifest ≡ disks.manifest);
+        tables = disk_use (D.moments disks.tables) (D.moments result.disks.tables) (D.faults disks.tables) (D.faults result.disks.tables) (result.disks.tables ≡ disks.tables);
+      };
       sink = sink_use (K.contents sink.old) (K.contents sink.new) (K.faults sink.old) (K.faults sink.new);
     }) result.status }
+    ensures durable { IsDurable (record {
+      log = disk_use (D.moments disks.log) (D.moments result.disks.log) (D.faults disks.log) (D.faults result.disks.log) (result.disks.log ≡ disks.log);
+      manifest = disk_use (D.moments disks.manifest) (D.moments result.disks.manifest) (D.faults disks.manifest) (D.faults result.disks.manifest) (result.disks.manifest ≡ disks.manifest);
+      tables = disk_use (D.moments disks.tables) (D.moments result.disks.tables) (D.faults disks.tables) (D.faults result.disks.tables) (result.disks.tables ≡ disks.tables);
+    }) }
     ensures silent { IsBeforeSink (stage_of result.status) → sink.new ≡ sink.old }
     ensures sink_later { K.faults sink.old ≤ K.faults sink.new }
-    ensures durable { LosesNothing (D.moments disk) (D.moments result.disk) }
-    ensures log_later { D.faults disk ≤ D.faults result.disk }
 {
     due_is_session();
-    match open(alloc, disk, id) {
-        Ok(Opened { wal, history }) => finish(alloc, Engine::new(wal, history, limit), parts, sink),
-        Err(DiskRefused { disk, why }) => {
+    match open_parts(alloc, disks, id) {
+        Ok(opened) => finish(alloc, Engine::new(alloc, opened, limit), parts, sink),
+        Err(OpenRefused { disks, why }) => {
             let status = status_of(why);
-            Served { status, disk }
+            Served { status, disks }
         }
     }
 }

@@ -24,6 +24,9 @@ pub enum Status {
     Script(Fault),
     /// The log's device failed in the run, and the text says at which command. The whole text was written.
     LogFault,
+    /// The manifest's device or the tables' failed in the run, and the log's did not. The text says at which command. The
+    /// whole text was written.
+    TableFault,
     /// What is on the devices is outside the formats. Nothing was written.
     Contents(Bad),
     /// The device failed while the store was opened. Nothing was written, and no entry was added.
@@ -43,6 +46,7 @@ impl Status {
             Status::SinkFault => 5,
             Status::Script(_) => 6,
             Status::LogFault => 7,
+            Status::TableFault => 8,
             Status::Contents(_) => 9,
             Status::OpenFault(_) => 10,
         }
@@ -58,6 +62,7 @@ impl Status {
             Status::SinkFault => "wp: output could not be written".to_string(alloc)?,
             Status::Script(fault) => format!(in alloc; "wp: {fault}")?,
             Status::LogFault => "wp: log fault".to_string(alloc)?,
+            Status::TableFault => "wp: table fault".to_string(alloc)?,
             Status::Contents(bad) => format!(in alloc; "wp: contents: {bad}")?,
             Status::OpenFault(device) => format!(in alloc; "wp: opening failed: {device}")?,
         };

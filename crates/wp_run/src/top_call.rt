@@ -1,8 +1,7 @@
 ghost use Rattle.std.specs.Prelude.{◌≡◌, ◌≤◌, map};
 ghost use Rattle.std.specs.String.{string_bytes};
-ghost use Rattle.wp_wal.specs.Wal.{LosesNothing};
 ghost use Rattle.wp_run.specs.Run.{Call, Ends, IsChosen, IsReadAs};
-ghost use Rattle.wp_run.specs.Use.{disk_use, source_use, sink_use};
+ghost use Rattle.wp_run.specs.Use.{IsDurable, disk_use, source_use, sink_use};
 ghost use Rattle.wp_run.specs.Status.{LeavesUncalled, stage_of};
 
 use crate::serve::{Served, serve};
@@ -48,8 +47,7 @@ fn script_of<S: Source>(alloc: Global, action: Action, source: &mut S) -> Result
     }
 }
 
-/// Runs the program on the words of its command line, of which the first is its name. Of the devices only the log is
-/// called so far.
+/// Runs the program on the words of its command line, of which the first is its name.
 pub fn run<R: Threads + Wait + Sync, D: Disk + Send, S: Source, K: Sink, G: Gate + Sync>(
     _rt: &R,
     alloc: Global,
@@ -59,22 +57,28 @@ pub fn run<R: Threads + Wait + Sync, D: Disk + Send, S: Source, K: Sink, G: Gate
     sink: &mut K,
     _gate: &G,
 ) -> Ended<D>
-    // How the call ended and why, what was written and what the log stores, by the status.
+    // How the call ended and why, what was written and what the devices store, by the status.
     ensures ends { Ends (record {
       words = map string_bytes words.now;
       source = source_use (S.left source.old) (S.left source.new) (S.faults source.old) (S.faults source.new) (source.new ≡ source.old);
-      log = disk_use (D.moments disks.log) (D.moments result.disks.log) (D.faults disks.log) (D.faults result.disks.log);
+      disks = record {
+        log = disk_use (D.moments disks.log) (D.moments result.disks.log) (D.faults disks.log) (D.faults result.disks.log) (result.disks.log ≡ disks.log);
+        manifest = disk_use (D.moments disks.manifest) (D.moments result.disks.manifest) (D.faults disks.manifest) (D.faults result.disks.manifest) (result.disks.manifest ≡ disks.manifest);
+        tables = disk_use (D.moments disks.tables) (D.moments result.disks.tables) (D.faults disks.tables) (D.faults result.disks.tables) (result.disks.tables ≡ disks.tables);
+      };
       sink = sink_use (K.contents sink.old) (K.contents sink.new) (K.faults sink.old) (K.faults sink.new);
     }) result.status }
-    // However it ended, no crash takes what each crash would have left acknowledged before.
-    ensures durable { LosesNothing (D.moments disks.log) (D.moments result.disks.log) }
+    // However it ended, no crash takes what each crash would have left before: acknowledged entries and edits, and the
+    // bytes of tables.
+    ensures durable { IsDurable (record {
+      log = disk_use (D.moments disks.log) (D.moments result.disks.log) (D.faults disks.log) (D.faults result.disks.log) (result.disks.log ≡ disks.log);
+      manifest = disk_use (D.moments disks.manifest) (D.moments result.disks.manifest) (D.faults disks.manifest) (D.faults result.disks.manifest) (result.disks.manifest ≡ disks.manifest);
+      tables = disk_use (D.moments disks.tables) (D.moments result.disks.tables) (D.faults disks.tables) (D.faults result.disks.tables) (result.disks.tables ≡ disks.tables);
+    }) }
     ensures uncalled { LeavesUncalled (stage_of result.status) (source.new ≡ source.old) (result.disks ≡ disks) (sink.new ≡ sink.old) }
     ensures shown { IsChosen (map string_bytes words.now) Action.Show → source.new ≡ source.old }
-    ensures manifest { result.disks.manifest ≡ disks.manifest }
-    ensures tables { result.disks.tables ≡ disks.tables }
     ensures source_later { S.faults source.old ≤ S.faults source.new }
     ensures sink_later { K.faults sink.old ≤ K.faults sink.new }
-    ensures log_later { D.faults disks.log ≤ D.faults result.disks.log }
 {
     words_choose_once();
     let choice = match choice_of(alloc, words) {
@@ -92,25 +96,13 @@ pub fn run<R: Threads + Wait + Sync, D: Disk + Send, S: Source, K: Sink, G: Gate
         Ok(script) => script,
         Err(status) => return Ended { status, disks },
     };
-    let Disks {
-        log,
-        manifest,
-        tables,
-    } = disks;
-    let Served { status, disk } = serve(
+    let Served { status, disks } = serve(
         alloc,
         choice.limit,
         choice.id,
         script.as_slice(),
-        log,
+        disks,
         sink,
     );
-    Ended {
-        status,
-        disks: Disks {
-            log: disk,
-            manifest,
-            tables,
-        },
-    }
+    Ended { status, disks }
 }

@@ -1,7 +1,7 @@
 ghost use Rattle.std.specs.Prelude.{◌≡◌, ◌++◌, ◌≤◌, ◌<◌, ◌^◌, length, IfOk, OnOk};
 ghost use Rattle.std.specs.List.{flat_map};
 ghost use Rattle.wp_text.specs.Lines as text;
-ghost use Rattle.wp_run.specs.Engine.{replies_of};
+ghost use Rattle.wp_run.specs.Runs.{replies_of};
 ghost use Rattle.wp_run.specs.Transcript.{client_text, client_lines, text_of};
 
 use crate::client::Answers;

@@ -1,7 +1,8 @@
 use Rattle.std.proofs.Common.{rules, ◌≡◌}
 use Rattle.wp_session.specs.declared.plan.Plan.TheVariants.{Say, Log, RollBack}
 use Rattle.wp_session.specs.Plan.{plan}
-use Rattle.wp_run.specs.Logging.{IsLogAnswer}
+use Rattle.wp_run.specs.Answering.{IsLogAnswer}
+use Rattle.wp_run.specs.Later.{store_of}
 use Rattle.wp_session.proofs.PlanLemmas.{plan_logs, plan_rolls_back}
 use Rattle.wp_session.proofs.SaidLemmas.{plan_fits}
 use Rattle.wp_run.proofs.StepLemmas.{log_asks, rollback_asks, logged_steps, logged_fits, said_steps, if_answered, on_answered}
@@ -28,8 +29,8 @@ pub returns-in_ok-entries-in-Log-clause-steps : goal.returns-in_ok-entries-in-Lo
 returns-in_ok-entries-in-Log-clause-steps g c =
     let planned : plan c.args.engine.now.entries c.args.client.now c.args.command.now ≡ Log c.in-Log.entry c.in-Log.reply = search rules in
     let logs = plan_logs c.undecided_grows.ensures.prepared _ _ _ _ _ c.history.ensures.legal c.history.ensures.closed c.requires.fits c.changes_are_a_batch.ensures planned in
-    let asks = log_asks c.args.engine.now _ _ _ _ planned logs in
-    if_answered _ _ _ c.log_for.ensures.answered (λ answer logged. logged_steps _ _ _ _ _ _ _ answer asks (rw c.in_ok-entries-in-Log.ensures.items at logged))
+    let asks = log_asks (store_of c.args.engine.now) _ _ _ _ planned logs in
+    if_answered _ (λ r. IsLogAnswer c.args.engine.now c.args.client.now c.in_ok-entries-in-Log.entries.items c.in-Log.reply r c.log_for.new.engine c.log_for.new.client) _ c.log_for.ensures.answered (λ answer logged. logged_steps _ _ _ _ _ _ _ answer asks c.history.ensures.few (rw c.in_ok-entries-in-Log.ensures.items at logged))
 
 pub returns-in_ok-entries-in-Log-clause-fits : goal.returns-in_ok-entries-in-Log-clause-fits
 returns-in_ok-entries-in-Log-clause-fits g c =
@@ -41,8 +42,8 @@ pub returns-in_ok-entries-in-RollBack-clause-steps : goal.returns-in_ok-entries-
 returns-in_ok-entries-in-RollBack-clause-steps g c =
     let planned : plan c.args.engine.now.entries c.args.client.now c.args.command.now ≡ RollBack c.in-RollBack.p c.in-RollBack.batch c.in-RollBack.reply = search rules in
     let logs = plan_rolls_back c.undo_is_followed_by_its_close.ensures _ _ _ _ _ _ c.history.ensures.closed c.requires.fits c.changes.ensures.batch planned in
-    let asks = rollback_asks c.args.engine.now _ _ _ _ _ planned logs in
-    if_answered _ _ _ c.log_for-in-RollBack.ensures.answered (λ answer logged. logged_steps _ _ _ _ _ _ _ answer asks (rw c.in_ok-entries-in-RollBack.ensures.items at logged))
+    let asks = rollback_asks (store_of c.args.engine.now) _ _ _ _ _ planned logs in
+    if_answered _ (λ r. IsLogAnswer c.args.engine.now c.args.client.now c.in_ok-entries-in-RollBack.entries.items c.in-RollBack.reply r c.log_for-in-RollBack.new.engine c.log_for-in-RollBack.new.client) _ c.log_for-in-RollBack.ensures.answered (λ answer logged. logged_steps _ _ _ _ _ _ _ answer asks c.history.ensures.few (rw c.in_ok-entries-in-RollBack.ensures.items at logged))
 
 pub returns-in_ok-entries-in-RollBack-clause-fits : goal.returns-in_ok-entries-in-RollBack-clause-fits
 returns-in_ok-entries-in-RollBack-clause-fits g c =
@@ -53,4 +54,4 @@ returns-in_ok-entries-in-RollBack-clause-fits g c =
 pub returns-in_ok-take-in-Say-clause-steps : goal.returns-in_ok-take-in-Say-clause-steps
 returns-in_ok-take-in-Say-clause-steps g c =
     let planned : plan c.args.engine.now.entries c.args.client.now c.args.command.now ≡ Say c.in-Say.reply = search rules in
-    said_steps _ _ _ _ _ planned (rw (← c.history-in-Say.ensures.entries) c.in_ok-take-in-Say.ensures)
+    said_steps (store_of c.args.engine.now) _ _ _ _ planned (rw (← c.history-in-Say.ensures.entries) c.in_ok-take-in-Say.ensures) c.history.ensures.few

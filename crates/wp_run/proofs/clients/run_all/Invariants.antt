@@ -1,10 +1,12 @@
 use Rattle.std.proofs.Common.{◌≡◌, ◌≤◌, length, take, vec_capacity}
-use Rattle.wp_run.specs.Engine.{AllRunSoFar}
+use Rattle.wp_run.specs.Later.{Later, store_of}
+use Rattle.wp_run.specs.Runs.{AllRunSoFar}
 use Rattle.wp_run.proofs.clients.run_all.Given as goal
 
 abbrev pub invariant-loop-part : goal.invariant-loop-part
 invariant-loop-part g l = record {
-  runs : AllRunSoFar l.initial.engine (take l.part-index l.parts) l.sessions.items l.engine;
+  runs : AllRunSoFar (store_of l.initial.engine) (take l.part-index l.parts) l.sessions.items (store_of l.engine);
+  later : Later l.initial.engine l.engine;
   count : length l.sessions.items ≡ l.part-index;
   room : length l.parts ≤ vec_capacity l.sessions;
 }

@@ -1,0 +1,100 @@
+-- What replies to clients one after another say of the tables of the store.
+use Rattle.std.proofs.Common.{◌≡◌, ◌⊎◌, ℕ, ◌≤◌, Bool, true, false, List, [], ◌∷◌, ◌++◌, length, refl, sym, ap, ◌∙◌, subst, arith, inl, inr, if◌then◌else◌}
+use Rattle.std.specs.Prelude.{◌||◌}
+use Rattle.std.specs.List.{list_any}
+use Rattle.std.proofs.lemmas.Bool.{eq-eqb}
+use Rattle.std.proofs.lemmas.List.Folds.{list_any-append}
+use Rattle.wp_text.specs.declared.script.Command.{Command}
+use Rattle.wp_text.specs.declared.reply.Reply.{Reply}
+use Rattle.wp_text.specs.declared.reply.Reply.TheVariants as reply
+use Rattle.wp_session.specs.Client.{Client, numbers_of}
+use Rattle.wp_session.specs.Kind.{is_flushed, is_compacted, is_installed, is_tables_fault, tables_after}
+use Rattle.wp_session.specs.Tables.{after_flush, after_compaction}
+use Rattle.wp_session.specs.Due.{Store}
+use Rattle.wp_run.specs.Runs.{no_edit, flushed, compacted, IsStep, Runs}
+
+pub any_front : (p : Reply → Bool) (xs ys : List Reply) → list_any p xs ≡ true → list_any p (xs ++ ys) ≡ true
+any_front p xs ys is = list_any-append p xs ys ∙ rw is refl
+
+pub any_back : (p : Reply → Bool) (xs ys : List Reply) → list_any p ys ≡ true → list_any p (xs ++ ys) ≡ true
+any_back p xs ys is = list_any-append p xs ys ∙ by (list_any p xs)
+  where
+    by : (b : Bool) → (b || list_any p ys) ≡ true
+    by true = refl
+    by false = is
+
+-- What the replies say is how the edit and the failure came about: the flushed number is the first one's or a reply's, and
+-- a failure was answered. There are as many tables as at first, or all were made one.
+pub record AreSaid (old : Store) (answers : List Reply) (new : Store) : Type 0 where
+  pub flushed : (new.installed.flushed ≡ old.installed.flushed) ⊎ (list_any (is_flushed new.installed.flushed) answers ≡ true)
+  pub halted : new.halted ≡ true → (old.halted ≡ true) ⊎ (list_any is_tables_fault answers ≡ true)
+  pub tables : (old.installed.tables ≤ new.installed.tables) ⊎ (list_any is_compacted answers ≡ true)
+
+pub none_said : (s : Store) → AreSaid s [] s
+none_said s = record { flushed = inl refl; halted = λ e. inl e; tables = inl (omega arith) }
+
+pub said_trans : (old mid new : Store) (xs ys : List Reply) → AreSaid old xs mid → AreSaid mid ys new → AreSaid old (xs ++ ys) new
+said_trans old mid new xs ys a b = record {
+  flushed = elim b.flushed [
+    | inl same ↦ elim a.flushed [
+      | inl first ↦ inl (same ∙ first)
+      | inr said ↦ inr (any_front (is_flushed new.installed.flushed) xs ys (subst (λ (n : ℕ). list_any (is_flushed n) xs ≡ true) (sym same) said))
+    ]
+    | inr said ↦ inr (any_back (is_flushed new.installed.flushed) xs ys said)
+  ];
+  halted = λ e. elim (b.halted e) [
+    | inl before ↦ elim (a.halted before) [ inl first ↦ inl first | inr said ↦ inr (any_front is_tables_fault xs ys said) ]
+    | inr said ↦ inr (any_back is_tables_fault xs ys said)
+  ];
+  tables = elim b.tables [
+    | inl more ↦ elim a.tables [ inl first ↦ inl (omega (arith, more, first)) | inr said ↦ inr (any_front is_compacted xs ys said) ]
+    | inr said ↦ inr (any_back is_compacted xs ys said)
+  ];
+}
+
+-- ---- one step
+
+-- a client that has counted the tables counts them after its reply
+pub record StepSays (old : Store) (answer : Reply) (new : Store) : Type 0 where
+  pub said : AreSaid old (answer ∷ []) new
+  pub counted : (tables : ℕ) → tables ≤ old.installed.tables → tables_after tables answer ≤ new.installed.tables
+
+uncounted : (answer : Reply) (tables : ℕ) → is_installed answer ≡ false → tables_after tables answer ≡ tables
+uncounted (reply.Flushed n versions) tables is = absurd cc
+uncounted (reply.Compacted n versions) tables is = absurd cc
+uncounted other tables is = refl
+
+failed_now : (fault before now : Bool) → now ≡ (if fault then true else before) → now ≡ true → (before ≡ true) ⊎ ((fault || false) ≡ true)
+failed_now true before now is e = inr refl
+failed_now false before now is e = inl (sym is ∙ e)
+
+pub step_says : (old new : Store) (was now : Client) (c : Command) (answer : Reply) → IsStep old was c answer new now → StepSays old answer new
+step_says old new was now c answer step =
+    let halted = failed_now (is_tables_fault answer) old.halted new.halted (ap (λ (s : Store). s.halted) step.store) in
+    elim step.tables [
+      | no_edit none ↦
+          let same : new.installed ≡ old.installed = ap (λ (s : Store). s.installed) step.store ∙ rw none refl in
+          record {
+            said = record { flushed = inl (rw same refl); halted = halted; tables = inl (rw same (omega arith)) };
+            counted = λ tables le. rw (uncounted answer tables none, same) le;
+          }
+      | flushed planned is ↦
+          let next : new.installed ≡ after_flush old.history old.installed = ap (λ (s : Store). s.installed) step.store ∙ rw (is, planned) refl in
+          record {
+            said = record { flushed = inr (rw (next, is, eq-eqb (length old.history) (length old.history) refl) refl); halted = halted; tables = inl (rw next (omega arith)) };
+            counted = λ tables le. rw (next, is) (omega (arith, le));
+          }
+      | compacted planned is ↦
+          let next : new.installed ≡ after_compaction old.history (numbers_of was.snapshots) old.installed = ap (λ (s : Store). s.installed) step.store ∙ rw (is, planned) refl in
+          record {
+            said = record { flushed = inl (rw next refl); halted = halted; tables = inr (rw is refl) };
+            counted = λ tables le. rw (next, is) (omega arith);
+          }
+    ]
+
+pub runs_say : (old new : Store) (was now : Client) (commands : List Command) (answers : List Reply) → Runs old was commands answers new now → AreSaid old answers new
+runs_say old new was now [] [] e = subst (λ (s : Store). AreSaid old [] s) (sym e.0) (none_said old)
+runs_say old new was now [] (a ∷ answers) h = absurd h
+runs_say old new was now (c ∷ commands) [] h = absurd h
+runs_say old new was now (c ∷ commands) (a ∷ answers) (mid, next, step, rest) =
+    said_trans old mid new (a ∷ []) answers (step_says old mid was next c a step).said (runs_say mid new next now commands answers rest)
