@@ -6,9 +6,15 @@ use wp_outside::{Disks, MemDisk, MemSink, MemSource, OpenGate};
 use wp_run::{Ended, run};
 
 mod crashes;
+mod damaged;
 mod examples;
+mod faults;
 mod reopening;
 mod sessions;
+mod sweeps;
+mod tables;
+mod worked_faults;
+mod worked_stores;
 
 /// The log of store 1 with the put of `1` under `k` as its entry 1.
 const LOG: &[u8; 32] =
@@ -20,6 +26,35 @@ const FIRST: &str = "client a\nput @1\nget 1 @1\nhistory\n1 write put k 1\nend 1
 /// Room for each test's texts and logs.
 const ROOM: u64 = 4096;
 
+/// A device as it is handed to a run.
+#[derive(Clone, Copy, Drop)]
+struct Handed<'a> {
+    bytes: &'a [u8],
+
+    /// The calls that fail, counted from 1.
+    fails: &'a [u64],
+
+    /// How many calls it answers.
+    calls: u64,
+}
+
+/// A device of these bytes, with nothing that fails.
+fn sound<'a>(bytes: &'a [u8]) -> Handed<'a> {
+    Handed {
+        bytes,
+        fails: &[],
+        calls: 1000,
+    }
+}
+
+/// A device of these bytes that fails at these calls.
+fn failing_at<'a>(bytes: &'a [u8], fails: &'a [u64]) -> Handed<'a> {
+    Handed {
+        fails,
+        ..sound(bytes)
+    }
+}
+
 /// What is handed to a run.
 #[derive(Clone, Copy, Drop)]
 struct Given<'a> {
@@ -27,19 +62,48 @@ struct Given<'a> {
     script: &'a [u8],
     source_fails: &'a [u64],
     sink_room: u64,
-    log: &'a [u8],
-    log_fails: &'a [u64],
+    log: Handed<'a>,
+    manifest: Handed<'a>,
+    tables: Handed<'a>,
 }
 
-/// A run of this script on a log of these bytes, with nothing that fails.
+/// A run of this script on a log of these bytes, without tables, with nothing that fails.
 fn script<'a>(script: &'a str, log: &'a [u8]) -> Given<'a> {
     Given {
         words: &["wp", "run"],
         script: script.as_bytes(),
         source_fails: &[],
         sink_room: ROOM,
-        log,
-        log_fails: &[],
+        log: sound(log),
+        manifest: sound(&[]),
+        tables: sound(&[]),
+    }
+}
+
+/// The bytes of a store's devices.
+#[derive(Clone, Copy, Drop)]
+struct Stored<'a> {
+    log: &'a [u8],
+    manifest: &'a [u8],
+    tables: &'a [u8],
+}
+
+/// A run of this script on these devices, with nothing that fails.
+fn on<'a>(stored: Stored<'a>, commands: &'a [u8]) -> Given<'a> {
+    Given {
+        script: commands,
+        manifest: sound(stored.manifest),
+        tables: sound(stored.tables),
+        ..script("", stored.log)
+    }
+}
+
+/// A store that is shown without its source, which would fail.
+fn show_of<'a>(stored: Stored<'a>) -> Given<'a> {
+    Given {
+        words: &["wp", "show"],
+        source_fails: &[1],
+        ..on(stored, &[])
     }
 }
 
@@ -49,15 +113,38 @@ struct Outcome {
     line: Vec<u8>,
     text: Vec<u8>,
     log: Vec<u8>,
+    manifest: Vec<u8>,
+    tables: Vec<u8>,
 }
 
-fn disk(alloc: Global, bytes: &[u8], fails: &[u64]) -> Result<MemDisk, AllocError> {
+/// New devices, before any run.
+fn untouched(alloc: Global) -> Outcome {
+    Outcome {
+        code: 0,
+        line: Vec::new(alloc),
+        text: Vec::new(alloc),
+        log: Vec::new(alloc),
+        manifest: Vec::new(alloc),
+        tables: Vec::new(alloc),
+    }
+}
+
+/// The devices that a run left.
+fn left_by(outcome: &Outcome) -> Stored<'_> {
+    Stored {
+        log: &outcome.log,
+        manifest: &outcome.manifest,
+        tables: &outcome.tables,
+    }
+}
+
+fn disk(alloc: Global, handed: Handed<'_>) -> Result<MemDisk, AllocError> {
     MemDisk::new(
         alloc,
-        bytes.to_vec(alloc)?,
+        handed.bytes.to_vec(alloc)?,
         ROOM,
-        1000,
-        fails.to_vec(alloc)?,
+        handed.calls,
+        handed.fails.to_vec(alloc)?,
     )
 }
 
@@ -71,9 +158,9 @@ fn words_of(alloc: Global, words: &[&str]) -> Result<Vec<String>, AllocError> {
 
 fn disks_of(alloc: Global, given: &Given<'_>) -> Result<Disks<MemDisk>, AllocError> {
     Ok(Disks {
-        log: disk(alloc, given.log, given.log_fails)?,
-        manifest: disk(alloc, &[], &[])?,
-        tables: disk(alloc, &[], &[])?,
+        log: disk(alloc, given.log)?,
+        manifest: disk(alloc, given.manifest)?,
+        tables: disk(alloc, given.tables)?,
     })
 }
 
@@ -94,6 +181,8 @@ fn outcome_of(
         line: ended.status.line(alloc)?,
         text: sink.bytes().to_vec(alloc)?,
         log: ended.disks.log.bytes().to_vec(alloc)?,
+        manifest: ended.disks.manifest.bytes().to_vec(alloc)?,
+        tables: ended.disks.tables.bytes().to_vec(alloc)?,
     })
 }
 
@@ -139,7 +228,7 @@ fn refused_command_lines_touch_nothing(rt: HostRuntime) -> Result<(), Fail> {
         let given = Given {
             words,
             source_fails: &[1],
-            log_fails: &[1],
+            log: failing_at(LOG, &[1]),
             ..script("client a\nput k 1\n", LOG)
         };
         let seen = seen(&rt, &given)?;
@@ -155,7 +244,7 @@ fn refused_command_lines_touch_nothing(rt: HostRuntime) -> Result<(), Fail> {
 fn source_that_fails_ends_the_run_before_the_log(rt: HostRuntime) -> Result<(), Fail> {
     let given = Given {
         source_fails: &[1],
-        log_fails: &[1],
+        log: failing_at(&[], &[1]),
         ..script("client a\nput k 1\n", &[])
     };
     let seen = seen(&rt, &given)?;
@@ -169,17 +258,17 @@ fn source_that_fails_ends_the_run_before_the_log(rt: HostRuntime) -> Result<(), 
     Ok(())
 }
 
-/// A store is shown without its source, which would fail.
+/// Shows a store that has this log, and no tables.
 fn shown<R: Threads + Wait + Sync + AllocGlobal>(
     rt: &R,
     log: &[u8],
 ) -> Result<Outcome, AllocError> {
-    let given = Given {
-        words: &["wp", "show"],
-        source_fails: &[1],
-        ..script("", log)
+    let stored = Stored {
+        log,
+        manifest: &[],
+        tables: &[],
     };
-    seen(rt, &given)
+    seen(rt, &show_of(stored))
 }
 
 #[test]
@@ -352,8 +441,9 @@ fn swept<R: Threads + Wait + Sync + AllocGlobal>(
     rt: &R,
     call: u64,
 ) -> Result<(Outcome, Outcome), AllocError> {
+    let fails = [call];
     let given = Given {
-        log_fails: &[call],
+        log: failing_at(&[], &fails),
         ..script("client a\nput k 1\nput k 2\nget k\nput k 3\n", &[])
     };
     let outcome = seen(rt, &given)?;

@@ -1,7 +1,7 @@
 //! A script with each kind of record in its log, whose device fails at each call, or which is broken off by a crash at
 //! each moment of an append.
 
-use super::{Given, Outcome, script, seen, shown, stores, with_gate};
+use super::{Given, Outcome, failing_at, script, seen, shown, stores, with_gate};
 use std::alloc::{AllocError, AllocGlobal, Global};
 use std::sync::Wait;
 use std::test::Fail;
@@ -138,9 +138,10 @@ fn failing<R: Threads + Wait + Sync + AllocGlobal>(
     call: u64,
 ) -> Result<Outcome, AllocError> {
     let text = begun(rt.alloc(), commands)?;
+    let fails = [call];
     let given = Given {
         script: &text,
-        log_fails: &[call],
+        log: failing_at(&[], &fails),
         ..script("", &[])
     };
     seen(rt, &given)
@@ -200,8 +201,9 @@ fn each_call_of_a_reopening_may_fail(rt: HostRuntime) -> Result<(), Fail> {
     let left = stage_after(RECORDS);
     let log = logged(&rt, left)?;
     for call in 1..22 {
+        let fails = [call];
         let given = Given {
-            log_fails: &[call],
+            log: failing_at(&log, &fails),
             ..script(DECISION, &log)
         };
         let outcome = seen(&rt, &given)?;

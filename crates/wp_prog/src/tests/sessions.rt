@@ -4,20 +4,21 @@ use super::{Given, script, seen};
 use std::alloc::{AllocError, Global};
 use std::test::Fail;
 
-const RUN: &[&str] = &["wp", "run"];
+pub(super) const RUN: &[&str] = &["wp", "run"];
 
 const NO_CACHE: &[&str] = &["wp", "run", "--bits", "0"];
 
 const LIMIT_3: &[&str] = &["wp", "run", "--limit", "3"];
 
-/// A script of one client on a new store: its commands with their replies, and the lines after `history`.
+/// A script of one client: its commands with their replies, and the lines after `history`.
 #[derive(Clone, Copy, Drop)]
-struct Worked {
-    words: &'static [&'static str],
-    steps: &'static [(&'static str, &'static str)],
-    history: &'static [&'static str],
+pub(super) struct Worked {
+    pub(super) words: &'static [&'static str],
+    pub(super) steps: &'static [(&'static str, &'static str)],
+    pub(super) history: &'static [&'static str],
 }
 
+/// Scripts on new stores.
 const WORKED: [Worked; 10] = [
     Worked {
         words: NO_CACHE,
@@ -196,7 +197,7 @@ fn push_line(text: &mut Vec<u8>, line: &str) -> Result<(), AllocError> {
     Ok(())
 }
 
-fn commands_of(alloc: Global, worked: &Worked) -> Result<Vec<u8>, AllocError> {
+pub(super) fn commands_of(alloc: Global, worked: &Worked) -> Result<Vec<u8>, AllocError> {
     let mut text = b"client a\n".to_vec(alloc)?;
     for (command, _) in worked.steps {
         push_line(&mut text, command)?;
@@ -212,7 +213,7 @@ fn replies_of(alloc: Global, worked: &Worked) -> Result<Vec<u8>, AllocError> {
     Ok(text)
 }
 
-fn transcript_of(alloc: Global, worked: &Worked) -> Result<Vec<u8>, AllocError> {
+pub(super) fn transcript_of(alloc: Global, worked: &Worked) -> Result<Vec<u8>, AllocError> {
     let mut text = replies_of(alloc, worked)?;
     push_line(&mut text, "history")?;
     for line in worked.history {

@@ -1,0 +1,384 @@
+//! Scripts over three devices, one of which fails at each of its calls in turn, or stops there and is left as a crash may
+//! leave it.
+
+use super::sweeps::{SWEPT, Stage, Swept};
+use super::{Given, Handed, Outcome, Stored, left_by, on, seen, show_of, untouched};
+use std::alloc::{AllocError, AllocGlobal, Global};
+use std::sync::Wait;
+use std::test::Fail;
+use std::thread::Threads;
+use wp_outside::Device;
+
+const DEVICES: [Device; 3] = [Device::Log, Device::Manifest, Device::Tables];
+
+/// What shows the stage.
+fn shown_of(alloc: Global, stage: Stage) -> Result<Vec<u8>, AllocError> {
+    let Stage {
+        entries,
+        published,
+        undecided,
+        ..
+    } = stage;
+    let text = format!(in alloc; "history\n{entries}end {published} {undecided}\n")?;
+    Ok(text.into_bytes())
+}
+
+/// Puts a key that no transaction holds, and reads it and another one behind a flush.
+const NEXT: &[u8] = b"client c\nput z 9\nflush\nget z\nget k\n";
+
+/// The transcript of that from the stage on, up to how many versions were flushed and behind it.
+fn next_of(alloc: Global, stage: Stage) -> Result<(Vec<u8>, Vec<u8>), AllocError> {
+    let Stage {
+        entries,
+        published,
+        undecided,
+        value,
+    } = stage;
+    let n = published.saturating_add(1);
+    let front = format!(in alloc; "client c\nput @{n}\nflushed @{n} ")?;
+    let end = format!(in alloc;
+        "\nget 9 @{n}\n{value} @{n}\nhistory\n{entries}{n} write put z 9\nend {n} {undecided}\n"
+    )?;
+    Ok((front.into_bytes(), end.into_bytes()))
+}
+
+/// Whether the devices open to the stage.
+fn shows<R: Threads + Wait + Sync + AllocGlobal>(
+    rt: &R,
+    stored: Stored<'_>,
+    stage: Stage,
+) -> Result<bool, AllocError> {
+    let show = seen(rt, &show_of(stored))?;
+    Ok(show.code == 0 && show.text == shown_of(rt.alloc(), stage)?)
+}
+
+/// Whether the devices of the stage work on, and open to what they then have.
+fn works_on<R: Threads + Wait + Sync + AllocGlobal>(
+    rt: &R,
+    stored: Stored<'_>,
+    stage: Stage,
+) -> Result<bool, AllocError> {
+    let (front, end) = next_of(rt.alloc(), stage)?;
+    let next = seen(rt, &on(stored, NEXT))?;
+    if next.code != 0 || !next.text.starts_with(&front) || !next.text.ends_with(&end) {
+        return Ok(false);
+    }
+    let again = seen(rt, &show_of(left_by(&next)))?;
+    Ok(again.code == 0 && next.text.ends_with(&again.text))
+}
+
+/// Whether the devices open to one of the stages and work on.
+fn open_to<R: Threads + Wait + Sync + AllocGlobal>(
+    rt: &R,
+    stored: Stored<'_>,
+    stages: &[Stage],
+) -> Result<bool, AllocError> {
+    for stage in stages {
+        if shows(rt, stored, *stage)? {
+            return works_on(rt, stored, *stage);
+        }
+    }
+    Ok(false)
+}
+
+/// What acknowledges a record.
+const ACKNOWLEDGED: [&[u8]; 5] = [
+    b"\nput @",
+    b"\ndel @",
+    b"\nprepare @",
+    b"\ncommit @",
+    b"\nrollback @",
+];
+
+/// How many records the transcript acknowledges.
+fn acknowledged(text: &[u8]) -> usize {
+    let mut count: usize = 0;
+    for place in 0..text.len() {
+        let rest = text.get(place..).unwrap_or(&[]);
+        if ACKNOWLEDGED.iter().any(|word| rest.starts_with(word)) {
+            count = count.saturating_add(1);
+        }
+    }
+    count
+}
+
+/// The stages that the devices may open to after a run: that of the acknowledged records, and where the log failed also that
+/// of one record more.
+fn stages_of<'a>(swept: &'a Swept, outcome: &Outcome) -> &'a [Stage] {
+    let count = acknowledged(&outcome.text);
+    let more = if outcome.code == 7 { 2 } else { 1 };
+    let from = swept.stages.get(count..).unwrap_or(&[]);
+    from.get(..more).unwrap_or(from)
+}
+
+/// The status of a run in which that call of the device is the first to fail.
+fn code_of(swept: &Swept, device: Device, call: u64) -> u8 {
+    let (opening, code) = match device {
+        Device::Log => (swept.opening.log, 7),
+        Device::Manifest => (swept.opening.manifest, 8),
+        Device::Tables => (swept.opening.tables, 8),
+    };
+    if call <= opening { 10 } else { code }
+}
+
+fn line_of(alloc: Global, code: u8, device: Device) -> Result<Vec<u8>, AllocError> {
+    let line = match code {
+        7 => "wp: log fault".to_string(alloc)?,
+        8 => "wp: table fault".to_string(alloc)?,
+        _ => format!(in alloc; "wp: opening failed: {device}")?,
+    };
+    Ok(line.into_bytes())
+}
+
+/// Whether the text is whole, with the history of the stage, or there is none where the opening failed.
+fn is_whole(alloc: Global, outcome: &Outcome, stages: &[Stage]) -> Result<bool, AllocError> {
+    if outcome.code == 10 {
+        return Ok(outcome.text.is_empty());
+    }
+    match stages.first() {
+        Some(stage) => Ok(outcome.text.ends_with(&shown_of(alloc, *stage)?)),
+        None => Ok(false),
+    }
+}
+
+/// Whether the run ended as one does in which that call of the device is the first to fail.
+fn ended_so(
+    alloc: Global,
+    swept: &Swept,
+    outcome: &Outcome,
+    device: Device,
+    call: u64,
+) -> Result<bool, AllocError> {
+    let code = code_of(swept, device, call);
+    let line = line_of(alloc, code, device)?;
+    let whole = is_whole(alloc, outcome, stages_of(swept, outcome))?;
+    Ok(whole && outcome.code == code && outcome.line == line)
+}
+
+/// The devices before the script.
+fn made<R: Threads + Wait + Sync + AllocGlobal>(
+    rt: &R,
+    swept: &Swept,
+) -> Result<Outcome, AllocError> {
+    let mut made = untouched(rt.alloc());
+    if !swept.before.is_empty() {
+        made = seen(rt, &on(left_by(&made), swept.before.as_bytes()))?;
+    }
+    made.log.extend_from_slice(swept.junk)?;
+    made.manifest.extend_from_slice(swept.junk)?;
+    made.tables.extend_from_slice(swept.junk)?;
+    Ok(made)
+}
+
+/// The bytes of the device.
+fn bytes_of<'a>(stored: Stored<'a>, device: Device) -> &'a [u8] {
+    match device {
+        Device::Log => stored.log,
+        Device::Manifest => stored.manifest,
+        Device::Tables => stored.tables,
+    }
+}
+
+/// The devices with these bytes on that one.
+fn with_bytes<'a>(stored: Stored<'a>, device: Device, bytes: &'a [u8]) -> Stored<'a> {
+    match device {
+        Device::Log => Stored {
+            log: bytes,
+            ..stored
+        },
+        Device::Manifest => Stored {
+            manifest: bytes,
+            ..stored
+        },
+        Device::Tables => Stored {
+            tables: bytes,
+            ..stored
+        },
+    }
+}
+
+/// The script on these devices, of which that one is handed so.
+fn given<'a>(
+    swept: &'a Swept,
+    stored: Stored<'a>,
+    device: Device,
+    fails: &'a [u64],
+    calls: u64,
+) -> Given<'a> {
+    let handed = Handed {
+        bytes: bytes_of(stored, device),
+        fails,
+        calls,
+    };
+    let whole = Given {
+        words: swept.words,
+        ..on(stored, swept.commands.as_bytes())
+    };
+    match device {
+        Device::Log => Given {
+            log: handed,
+            ..whole
+        },
+        Device::Manifest => Given {
+            manifest: handed,
+            ..whole
+        },
+        Device::Tables => Given {
+            tables: handed,
+            ..whole
+        },
+    }
+}
+
+/// No script has so many calls of a device.
+const MOST_CALLS: u64 = 100;
+
+/// The first call of the device that fails with another end than is due; none where the script comes to a run without fault.
+fn wrong_fault<R: Threads + Wait + Sync + AllocGlobal>(
+    rt: &R,
+    swept: &Swept,
+    device: Device,
+) -> Result<Option<u64>, AllocError> {
+    let made = made(rt, swept)?;
+    for call in 1..MOST_CALLS {
+        let fails = [call];
+        let outcome = seen(rt, &given(swept, left_by(&made), device, &fails, 1000))?;
+        if outcome.code == 0 {
+            return Ok(None);
+        }
+        let stages = stages_of(swept, &outcome);
+        if !ended_so(rt.alloc(), swept, &outcome, device, call)?
+            || !open_to(rt, left_by(&outcome), stages)?
+        {
+            return Ok(Some(call));
+        }
+    }
+    Ok(Some(MOST_CALLS))
+}
+
+#[test]
+fn each_call_of_each_device_may_fail(rt: HostRuntime) -> Result<(), Fail> {
+    for (index, swept) in SWEPT.iter().enumerate() {
+        for device in DEVICES {
+            assert_eq!(rt;
+                wrong_fault(&rt, swept, device)?,
+                None,
+                "script {index}, {device}"
+            );
+        }
+    }
+    Ok(())
+}
+
+/// How many bytes both begin with.
+fn common(old: &[u8], new: &[u8]) -> usize {
+    let len = old.len().min(new.len());
+    for place in 0..len {
+        if old.get(place) != new.get(place) {
+            return place;
+        }
+    }
+    len
+}
+
+/// Where the last byte is that one call changed, and what is behind it stayed.
+fn end_of(old: &[u8], new: &[u8]) -> usize {
+    if old.len() != new.len() {
+        return old.len().max(new.len());
+    }
+    let mut end = 0;
+    for place in 0..new.len() {
+        if old.get(place) != new.get(place) {
+            end = place.saturating_add(1);
+        }
+    }
+    end
+}
+
+/// What a crash may leave of the last call, which made `new` of `old` and was not synced: of the bytes that it changed only
+/// these many are as they were asked for, and others stand behind them; or, of a device that was made longer or shorter,
+/// nothing does.
+fn image(
+    alloc: Global,
+    old: &[u8],
+    new: &[u8],
+    written: usize,
+    with_junk: bool,
+) -> Result<Vec<u8>, AllocError> {
+    let changed = if old.len() > new.len() { old } else { new };
+    let end = end_of(old, new);
+    let torn = common(old, new).saturating_add(written).min(end);
+    let mut bytes = changed.get(..torn).unwrap_or(&[]).to_vec(alloc)?;
+    if with_junk || old.len() == new.len() {
+        while bytes.len() < end {
+            bytes.push(0xA5)?;
+        }
+        bytes.extend_from_slice(changed.get(end..).unwrap_or(&[]))?;
+    }
+    Ok(bytes)
+}
+
+/// The lengths at which a call's bytes are torn.
+const WRITTEN: [usize; 6] = [0, 1, 8, 9, 20, 1000];
+
+/// Whether each image that a crash may leave of the device's last call opens to one of the stages and works on.
+fn images_open<R: Threads + Wait + Sync + AllocGlobal>(
+    rt: &R,
+    stored: Stored<'_>,
+    device: Device,
+    old: &[u8],
+    stages: &[Stage],
+) -> Result<bool, AllocError> {
+    let new = bytes_of(stored, device);
+    if old == new {
+        return open_to(rt, stored, stages);
+    }
+    for written in WRITTEN {
+        for with_junk in [false, true] {
+            let bytes = image(rt.alloc(), old, new, written, with_junk)?;
+            if !open_to(rt, with_bytes(stored, device, &bytes), stages)? {
+                return Ok(false);
+            }
+        }
+    }
+    Ok(true)
+}
+
+/// The first number of calls after which the device stops with another end than is due, or leaves an image that does not
+/// open; none where the script comes to a run without fault.
+fn wrong_stop<R: Threads + Wait + Sync + AllocGlobal>(
+    rt: &R,
+    swept: &Swept,
+    device: Device,
+) -> Result<Option<u64>, AllocError> {
+    let made = made(rt, swept)?;
+    let mut old = bytes_of(left_by(&made), device).to_vec(rt.alloc())?;
+    for calls in 0..MOST_CALLS {
+        let outcome = seen(rt, &given(swept, left_by(&made), device, &[], calls))?;
+        if outcome.code == 0 {
+            return Ok(None);
+        }
+        let stages = stages_of(swept, &outcome);
+        if !ended_so(rt.alloc(), swept, &outcome, device, calls + 1)?
+            || !images_open(rt, left_by(&outcome), device, &old, stages)?
+        {
+            return Ok(Some(calls));
+        }
+        old = bytes_of(left_by(&outcome), device).to_vec(rt.alloc())?;
+    }
+    Ok(Some(MOST_CALLS))
+}
+
+#[test]
+fn each_device_may_stop_after_each_call(rt: HostRuntime) -> Result<(), Fail> {
+    for (index, swept) in SWEPT.iter().enumerate() {
+        for device in DEVICES {
+            assert_eq!(rt;
+                wrong_stop(&rt, swept, device)?,
+                None,
+                "script {index}, {device}"
+            );
+        }
+    }
+    Ok(())
+}
