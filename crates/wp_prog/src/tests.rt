@@ -26,34 +26,8 @@ const FIRST: &str = "client a\nput @1\nget 1 @1\nhistory\n1 write put k 1\nend 1
 /// Room for each test's texts and logs.
 const ROOM: u64 = 4096;
 
-/// A device as it is handed to a run.
-#[derive(Clone, Copy, Drop)]
-struct Handed<'a> {
-    bytes: &'a [u8],
-
-    /// The calls that fail, counted from 1.
-    fails: &'a [u64],
-
-    /// How many calls it answers.
-    calls: u64,
-}
-
-/// A device of these bytes, with nothing that fails.
-fn sound<'a>(bytes: &'a [u8]) -> Handed<'a> {
-    Handed {
-        bytes,
-        fails: &[],
-        calls: 1000,
-    }
-}
-
-/// A device of these bytes that fails at these calls.
-fn failing_at<'a>(bytes: &'a [u8], fails: &'a [u64]) -> Handed<'a> {
-    Handed {
-        fails,
-        ..sound(bytes)
-    }
-}
+/// More calls than a device has in any test.
+const CALLS: u64 = 1000;
 
 /// What is handed to a run.
 #[derive(Clone, Copy, Drop)]
@@ -62,9 +36,19 @@ struct Given<'a> {
     script: &'a [u8],
     source_fails: &'a [u64],
     sink_room: u64,
-    log: Handed<'a>,
-    manifest: Handed<'a>,
-    tables: Handed<'a>,
+    log: &'a [u8],
+    manifest: &'a [u8],
+    tables: &'a [u8],
+
+    /// The calls of each device that fail, counted from 1.
+    log_fails: &'a [u64],
+    manifest_fails: &'a [u64],
+    tables_fails: &'a [u64],
+
+    /// How many calls each device answers.
+    log_calls: u64,
+    manifest_calls: u64,
+    tables_calls: u64,
 }
 
 /// A run of this script on a log of these bytes, without tables, with nothing that fails.
@@ -74,9 +58,15 @@ fn script<'a>(script: &'a str, log: &'a [u8]) -> Given<'a> {
         script: script.as_bytes(),
         source_fails: &[],
         sink_room: ROOM,
-        log: sound(log),
-        manifest: sound(&[]),
-        tables: sound(&[]),
+        log,
+        manifest: &[],
+        tables: &[],
+        log_fails: &[],
+        manifest_fails: &[],
+        tables_fails: &[],
+        log_calls: CALLS,
+        manifest_calls: CALLS,
+        tables_calls: CALLS,
     }
 }
 
@@ -92,8 +82,8 @@ struct Stored<'a> {
 fn on<'a>(stored: Stored<'a>, commands: &'a [u8]) -> Given<'a> {
     Given {
         script: commands,
-        manifest: sound(stored.manifest),
-        tables: sound(stored.tables),
+        manifest: stored.manifest,
+        tables: stored.tables,
         ..script("", stored.log)
     }
 }
@@ -138,13 +128,13 @@ fn left_by(outcome: &Outcome) -> Stored<'_> {
     }
 }
 
-fn disk(alloc: Global, handed: Handed<'_>) -> Result<MemDisk, AllocError> {
+fn disk(alloc: Global, bytes: &[u8], fails: &[u64], calls: u64) -> Result<MemDisk, AllocError> {
     MemDisk::new(
         alloc,
-        handed.bytes.to_vec(alloc)?,
+        bytes.to_vec(alloc)?,
         ROOM,
-        handed.calls,
-        handed.fails.to_vec(alloc)?,
+        calls,
+        fails.to_vec(alloc)?,
     )
 }
 
@@ -158,9 +148,14 @@ fn words_of(alloc: Global, words: &[&str]) -> Result<Vec<String>, AllocError> {
 
 fn disks_of(alloc: Global, given: &Given<'_>) -> Result<Disks<MemDisk>, AllocError> {
     Ok(Disks {
-        log: disk(alloc, given.log)?,
-        manifest: disk(alloc, given.manifest)?,
-        tables: disk(alloc, given.tables)?,
+        log: disk(alloc, given.log, given.log_fails, given.log_calls)?,
+        manifest: disk(
+            alloc,
+            given.manifest,
+            given.manifest_fails,
+            given.manifest_calls,
+        )?,
+        tables: disk(alloc, given.tables, given.tables_fails, given.tables_calls)?,
     })
 }
 
@@ -228,7 +223,7 @@ fn refused_command_lines_touch_nothing(rt: HostRuntime) -> Result<(), Fail> {
         let given = Given {
             words,
             source_fails: &[1],
-            log: failing_at(LOG, &[1]),
+            log_fails: &[1],
             ..script("client a\nput k 1\n", LOG)
         };
         let seen = seen(&rt, &given)?;
@@ -244,7 +239,7 @@ fn refused_command_lines_touch_nothing(rt: HostRuntime) -> Result<(), Fail> {
 fn source_that_fails_ends_the_run_before_the_log(rt: HostRuntime) -> Result<(), Fail> {
     let given = Given {
         source_fails: &[1],
-        log: failing_at(&[], &[1]),
+        log_fails: &[1],
         ..script("client a\nput k 1\n", &[])
     };
     let seen = seen(&rt, &given)?;
@@ -443,7 +438,7 @@ fn swept<R: Threads + Wait + Sync + AllocGlobal>(
 ) -> Result<(Outcome, Outcome), AllocError> {
     let fails = [call];
     let given = Given {
-        log: failing_at(&[], &fails),
+        log_fails: &fails,
         ..script("client a\nput k 1\nput k 2\nget k\nput k 3\n", &[])
     };
     let outcome = seen(rt, &given)?;

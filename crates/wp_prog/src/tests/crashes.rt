@@ -1,7 +1,7 @@
 //! A script with each kind of record in its log, whose device fails at each call, or which is broken off by a crash at
 //! each moment of an append.
 
-use super::{Given, Outcome, failing_at, script, seen, shown, stores, with_gate};
+use super::{Given, Outcome, script, seen, shown, stores, with_gate};
 use std::alloc::{AllocError, AllocGlobal, Global};
 use std::sync::Wait;
 use std::test::Fail;
@@ -141,7 +141,7 @@ fn failing<R: Threads + Wait + Sync + AllocGlobal>(
     let fails = [call];
     let given = Given {
         script: &text,
-        log: failing_at(&[], &fails),
+        log_fails: &fails,
         ..script("", &[])
     };
     seen(rt, &given)
@@ -203,7 +203,7 @@ fn each_call_of_a_reopening_may_fail(rt: HostRuntime) -> Result<(), Fail> {
     for call in 1..22 {
         let fails = [call];
         let given = Given {
-            log: failing_at(&log, &fails),
+            log_fails: &fails,
             ..script(DECISION, &log)
         };
         let outcome = seen(&rt, &given)?;

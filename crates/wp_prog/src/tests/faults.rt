@@ -2,7 +2,7 @@
 //! leave it.
 
 use super::sweeps::{SWEPT, Stage, Swept};
-use super::{Given, Handed, Outcome, Stored, left_by, on, seen, show_of, untouched};
+use super::{CALLS, Given, Outcome, Stored, left_by, on, seen, show_of, untouched};
 use std::alloc::{AllocError, AllocGlobal, Global};
 use std::sync::Wait;
 use std::test::Fail;
@@ -197,7 +197,7 @@ fn with_bytes<'a>(stored: Stored<'a>, device: Device, bytes: &'a [u8]) -> Stored
     }
 }
 
-/// The script on these devices, of which that one is handed so.
+/// The script on these devices, of which that one fails at these calls, or answers so many.
 fn given<'a>(
     swept: &'a Swept,
     stored: Stored<'a>,
@@ -205,26 +205,24 @@ fn given<'a>(
     fails: &'a [u64],
     calls: u64,
 ) -> Given<'a> {
-    let handed = Handed {
-        bytes: bytes_of(stored, device),
-        fails,
-        calls,
-    };
     let whole = Given {
         words: swept.words,
         ..on(stored, swept.commands.as_bytes())
     };
     match device {
         Device::Log => Given {
-            log: handed,
+            log_fails: fails,
+            log_calls: calls,
             ..whole
         },
         Device::Manifest => Given {
-            manifest: handed,
+            manifest_fails: fails,
+            manifest_calls: calls,
             ..whole
         },
         Device::Tables => Given {
-            tables: handed,
+            tables_fails: fails,
+            tables_calls: calls,
             ..whole
         },
     }
@@ -242,7 +240,7 @@ fn wrong_fault<R: Threads + Wait + Sync + AllocGlobal>(
     let made = made(rt, swept)?;
     for call in 1..MOST_CALLS {
         let fails = [call];
-        let outcome = seen(rt, &given(swept, left_by(&made), device, &fails, 1000))?;
+        let outcome = seen(rt, &given(swept, left_by(&made), device, &fails, CALLS))?;
         if outcome.code == 0 {
             return Ok(None);
         }

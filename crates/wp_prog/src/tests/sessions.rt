@@ -1,8 +1,10 @@
 //! What clients are answered in their sessions, by scripts that were worked by hand.
 
-use super::{Given, script, seen};
-use std::alloc::{AllocError, Global};
+use super::{Given, Outcome, script, seen};
+use std::alloc::{AllocError, AllocGlobal, Global};
+use std::sync::Wait;
 use std::test::Fail;
+use std::thread::Threads;
 
 pub(super) const RUN: &[&str] = &["wp", "run"];
 
@@ -222,17 +224,25 @@ pub(super) fn transcript_of(alloc: Global, worked: &Worked) -> Result<Vec<u8>, A
     Ok(text)
 }
 
+/// Runs the script on a new store.
+fn answered<R: Threads + Wait + Sync + AllocGlobal>(
+    rt: &R,
+    worked: &Worked,
+) -> Result<Outcome, AllocError> {
+    let commands = commands_of(rt.alloc(), worked)?;
+    let given = Given {
+        words: worked.words,
+        script: &commands,
+        ..script("", &[])
+    };
+    seen(rt, &given)
+}
+
 #[test]
 fn sessions_are_answered_as_worked(rt: HostRuntime) -> Result<(), Fail> {
     let alloc = rt.alloc();
     for (index, worked) in WORKED.iter().enumerate() {
-        let commands = commands_of(alloc, worked)?;
-        let given = Given {
-            words: worked.words,
-            script: &commands,
-            ..script("", &[])
-        };
-        let seen = seen(&rt, &given)?;
+        let seen = answered(&rt, worked)?;
         assert_eq!(rt; seen.code, 0, "script {index}");
         assert_eq!(rt;
             seen.text.as_slice(),

@@ -4,7 +4,7 @@
 use super::sessions::{RUN, Worked, commands_of, transcript_of};
 use super::worked_faults::HALTED_STORES;
 use super::worked_stores::{Run, STORES, Store};
-use super::{Given, Outcome, Stored, failing_at, left_by, on, seen, untouched};
+use super::{Given, Outcome, Stored, left_by, on, seen, untouched};
 use std::alloc::{AllocError, AllocGlobal, Global};
 use std::sync::Wait;
 use std::test::Fail;
@@ -26,10 +26,13 @@ fn outcome_of<R: Threads + Wait + Sync + AllocGlobal>(
     stored: Stored<'_>,
 ) -> Result<Outcome, AllocError> {
     let commands = commands_of(rt.alloc(), &worked_of(run))?;
+    let log = [run.fails.log];
+    let manifest = [run.fails.manifest];
+    let tables = [run.fails.tables];
     let given = Given {
-        log: failing_at(stored.log, run.fails.log),
-        manifest: failing_at(stored.manifest, run.fails.manifest),
-        tables: failing_at(stored.tables, run.fails.tables),
+        log_fails: &log,
+        manifest_fails: &manifest,
+        tables_fails: &tables,
         ..on(stored, &commands)
     };
     seen(rt, &given)

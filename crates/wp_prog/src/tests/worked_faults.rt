@@ -9,10 +9,7 @@ pub(super) const HALTED_STORES: [Store; 4] = [
         name: "the tables' device fails at its first write",
         runs: &[
             Run {
-                fails: Fails {
-                    tables: &[4],
-                    ..NONE
-                },
+                fails: Fails { tables: 4, ..NONE },
                 code: 8,
                 steps: &[
                     ("put k 1", "put @1"),
@@ -37,7 +34,7 @@ pub(super) const HALTED_STORES: [Store; 4] = [
         runs: &[
             Run {
                 fails: Fails {
-                    manifest: &[14],
+                    manifest: 14,
                     ..NONE
                 },
                 code: 8,
@@ -69,10 +66,7 @@ pub(super) const HALTED_STORES: [Store; 4] = [
         name: "versions of one key in memory, in a part that a refused flush has left, and in two tables",
         runs: &[
             Run {
-                fails: Fails {
-                    tables: &[10],
-                    ..NONE
-                },
+                fails: Fails { tables: 10, ..NONE },
                 code: 8,
                 steps: &[
                     ("put k 1", "put @1"),
@@ -123,8 +117,8 @@ pub(super) const HALTED_STORES: [Store; 4] = [
         runs: &[
             Run {
                 fails: Fails {
-                    log: &[14],
-                    tables: &[5],
+                    log: 14,
+                    tables: 5,
                     ..NONE
                 },
                 code: 7,
@@ -139,7 +133,7 @@ pub(super) const HALTED_STORES: [Store; 4] = [
                 history: &["1 write put k 1", "end 1 0"],
             },
             Run {
-                fails: Fails { log: &[12], ..NONE },
+                fails: Fails { log: 12, ..NONE },
                 code: 7,
                 steps: &[
                     ("flush", "flushed @1 1"),

@@ -1,17 +1,17 @@
 //! Scripts with flushes and compactions, with what they are answered, worked by hand.
 
-/// The calls of each device that fail, counted from 1.
+/// The call of each device that fails, counted from 1; 0 for none.
 #[derive(Clone, Copy, Drop)]
 pub(super) struct Fails {
-    pub(super) log: &'static [u64],
-    pub(super) manifest: &'static [u64],
-    pub(super) tables: &'static [u64],
+    pub(super) log: u64,
+    pub(super) manifest: u64,
+    pub(super) tables: u64,
 }
 
 pub(super) const NONE: Fails = Fails {
-    log: &[],
-    manifest: &[],
-    tables: &[],
+    log: 0,
+    manifest: 0,
+    tables: 0,
 };
 
 /// A run on the devices that the one before it left.
