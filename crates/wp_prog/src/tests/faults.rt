@@ -308,7 +308,7 @@ fn image(
     let torn = common(old, new).saturating_add(written).min(end);
     let mut bytes = changed.get(..torn).unwrap_or(&[]).to_vec(alloc)?;
     if with_junk || old.len() == new.len() {
-        while bytes.len() < end {
+        for _ in torn..end {
             bytes.push(0xA5)?;
         }
         bytes.extend_from_slice(changed.get(end..).unwrap_or(&[]))?;
