@@ -21,11 +21,11 @@ use Rattle.wp_merge.specs.Merge.{AreMerged, first_at, joined, sorted_of}
 use Rattle.wp_merge.proofs.Merged.{or_none}
 use Rattle.wp_merge.proofs.Sorted.{in_order_sorted, in_order_same, merged_is_sorted}
 use Rattle.wp_open.proofs.Later.{at_append}
+use Rattle.wp_open.specs.Opens.{installed_of}
 use Rattle.wp_session.specs.Tables.{retained, after_compaction}
 use Rattle.wp_store.specs.Store.{with_newest}
 use Rattle.wp_table.specs.Table as table
 use Rattle.wp_tableset.specs.Changes.{compacted_parts, one_part}
-use Rattle.wp_engine.specs.Engine.{installed_of}
 use Rattle.wp_engine.specs.Memory.{HaveSame}
 use Rattle.wp_engine.proofs.MemoryLemmas.{Found}
 use Rattle.wp_engine.proofs.TableLemmas.{later_low}

@@ -14,10 +14,10 @@ use Rattle.wp_merge.specs.Merge.{AreMerged, first_at, joined, sorted_of}
 use Rattle.wp_merge.proofs.Merged.{or_none}
 use Rattle.wp_merge.proofs.Sorted.{in_order_sorted, at_sorted, in_order_same, merged_sorted}
 use Rattle.wp_open.proofs.Later.{at_append}
+use Rattle.wp_open.specs.Opens.{installed_of}
 use Rattle.wp_session.specs.Tables.{after_flush}
 use Rattle.wp_store.specs.Store.{StoreParts, is_flushed}
 use Rattle.wp_table.specs.Table as table
-use Rattle.wp_engine.specs.Engine.{installed_of}
 use Rattle.wp_engine.specs.Memory.{HaveSame}
 use Rattle.wp_engine.specs.Stored.{HasLater}
 use Rattle.wp_engine.proofs.MemoryLemmas.{Found}

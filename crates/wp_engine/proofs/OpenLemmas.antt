@@ -13,12 +13,13 @@ use Rattle.wp_manifest.specs.Spelling.{MAGIC, IsManifestOf, last_edit}
 use Rattle.wp_manifest.proofs.EditLemmas.{last-push}
 use Rattle.wp_merge.specs.Merge.{joined, sorted_of}
 use Rattle.wp_merge.proofs.Sorted.{merged_sorted}
+use Rattle.wp_open.specs.Opens.{installed_of}
 use Rattle.wp_store.specs.Store.{StoreParts}
 use Rattle.wp_table.specs.File.{HasTables}
 use Rattle.wp_tableset.specs.Set.{TableSetState}
 use Rattle.wp_wal.specs.Spelling.{IsLogOf}
 use Rattle.wp_wal.specs.Wal.{WalState, StoresHistory, LeavesHistory}
-use Rattle.wp_engine.specs.Engine.{installed_of, engine_state}
+use Rattle.wp_engine.specs.Engine.{engine_state}
 use Rattle.wp_engine.specs.Stored.{IsOrOneMore, AllOpen, IsLogged, IsTabled, IsConsistent}
 use Rattle.wp_engine.proofs.TableLemmas.{covered_on}
 

@@ -6,13 +6,14 @@ use Rattle.wp_model.specs.Flushed.{InstalledEdit, IsEditCovered}
 use Rattle.wp_manifest.specs.Edit.{Edit, no_edit}
 use Rattle.wp_manifest.specs.Manifest.{ManifestState}
 use Rattle.wp_merge.specs.Merge.{first_at}
+use Rattle.wp_open.specs.Opens.{installed_of}
 use Rattle.wp_store.specs.Store.{StoreParts}
 use Rattle.wp_tableset.specs.Changes.{Installed, Refused, Keeps}
 use Rattle.wp_tableset.specs.Set.{TableSetState, StoresTables}
 use Rattle.wp_tableset.specs.declared.error.TableSetError.{TableSetError}
 use Rattle.wp_tableset.specs.declared.error.TableSetError.TheVariants.{Memory, Fault, Halted}
 use Rattle.wp_wal.specs.Wal.{WalState}
-use Rattle.wp_engine.specs.Engine.{installed_of, engine_state}
+use Rattle.wp_engine.specs.Engine.{engine_state}
 use Rattle.wp_engine.specs.Maintenance.{KeepsTables, but_devices}
 use Rattle.wp_engine.specs.Stored.{HasLater, IsTabled}
 

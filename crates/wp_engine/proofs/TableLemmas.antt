@@ -17,7 +17,7 @@ use Rattle.wp_manifest.specs.Manifest.{ManifestState}
 use Rattle.wp_merge.specs.Merge.{first_at}
 use Rattle.wp_merge.proofs.Merged.{or_none}
 use Rattle.wp_merge.proofs.Sorted.{at_sorted, merged_is_sorted}
-use Rattle.wp_open.specs.Opens.{AreCovering}
+use Rattle.wp_open.specs.Opens.{AreCovering, installed_of}
 use Rattle.wp_open.specs.Parts.{PartsOpened}
 use Rattle.wp_open.proofs.Later.{at_append}
 use Rattle.wp_store.specs.Store.{StoreParts}
@@ -26,7 +26,6 @@ use Rattle.wp_table.specs.Table.{IsTable, is_version}
 use Rattle.wp_tableset.specs.Set.{TableSetState, RestsWith, StoresTables}
 use Rattle.wp_wal.specs.Wal.{WalState}
 use Rattle.wp_core.proofs.PublishesVersions.{edit_part}
-use Rattle.wp_engine.specs.Engine.{installed_of}
 use Rattle.wp_engine.specs.Memory.{HaveSame, HasAfter, HasNoneAbove}
 use Rattle.wp_engine.specs.Stored.{HasLater, IsTabled}
 use Rattle.wp_engine.proofs.MemoryLemmas.{Found, or_or, after_low, after_high}

@@ -1,15 +1,12 @@
 -- The store on one thread, between two calls.
 use Rattle.std.specs.Prelude.{ℕ, Bool, List}
 use Rattle.wp_model.specs.declared.entry.Entry.{Entry}
-use Rattle.wp_model.specs.declared.version.Version.{Version}
 use Rattle.wp_model.specs.Flushed.{InstalledEdit}
 use Rattle.wp_outside.specs.Disk.{Moment}
-use Rattle.wp_manifest.specs.Edit.{Edit}
-use Rattle.wp_merge.specs.Merge.{joined, sorted_of}
+use Rattle.wp_open.specs.Opens.{installed_of}
 use Rattle.wp_store.specs.Store.{StoreParts}
 use Rattle.wp_tableset.specs.Set.{TableSetState}
 use Rattle.wp_wal.specs.Wal.{WalState}
-use Rattle.std.specs.Prelude.{length}
 
 pub record EngineState : Type 0 where
   pub entries : List Entry  -- the history so far
@@ -24,10 +21,6 @@ pub record EngineState : Type 0 where
   pub manifest_moments : List Moment
   pub tables_faults : ℕ
   pub tables_moments : List Moment
-
--- what the edit says, where these are its tables
-abbrev pub installed_of : Edit → List (List Version) → InstalledEdit
-installed_of edit parts = record { flushed = edit.flushed; versions = sorted_of (joined parts); tables = length parts }
 
 abbrev pub engine_state : WalState → List Entry → TableSetState → StoreParts → Bool → ℕ → EngineState
 engine_state wal entries set store stopped limit = record {

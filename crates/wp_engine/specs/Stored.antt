@@ -11,11 +11,11 @@ use Rattle.wp_gatelog.specs.Moments.{Leaves}
 use Rattle.wp_wal.specs.Spelling.{IsLogOf, HasAcknowledgedEntries}
 use Rattle.wp_manifest.specs.Edit.{Edit, no_edit}
 use Rattle.wp_merge.specs.Merge.{first_at}
-use Rattle.wp_open.specs.Opens.{Opens}
+use Rattle.wp_open.specs.Opens.{Opens, installed_of}
 use Rattle.wp_store.specs.Store.{StoreParts}
 use Rattle.wp_tableset.specs.Set.{TableSetState, StoresTables}
 use Rattle.wp_wal.specs.Wal.{WalState, LeavesHistory, StoresHistory}
-use Rattle.wp_engine.specs.Engine.{EngineState, installed_of}
+use Rattle.wp_engine.specs.Engine.{EngineState}
 
 -- ---- the log of a history
 

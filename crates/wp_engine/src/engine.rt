@@ -3,8 +3,9 @@ ghost use Rattle.wp_model.specs.Flushed.{later_versions};
 ghost use Rattle.wp_model.specs.Legal.{IsLegal, undone_last};
 ghost use Rattle.wp_outside.specs.Disk.{Moment, IfKnown};
 ghost use Rattle.wp_open.specs.Parts.{PartsOpened};
+ghost use Rattle.wp_open.specs.Opens.{installed_of};
 ghost use Rattle.wp_session.specs.Next.{AreLegalNext, AreNext};
-ghost use Rattle.wp_engine.specs.Engine.{engine_state, EngineState, installed_of};
+ghost use Rattle.wp_engine.specs.Engine.{engine_state, EngineState};
 ghost use Rattle.wp_engine.specs.Logging.{IsLogResult};
 ghost use Rattle.wp_engine.specs.Stored.{AllOpen, CrashLeaves, fault_count};
 

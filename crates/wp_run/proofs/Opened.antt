@@ -6,7 +6,7 @@ use Rattle.wp_outside.proofs.Moments.{image_of_synced}
 use Rattle.wp_gatelog.specs.Moments.{Leaves}
 use Rattle.wp_manifest.specs.Edit.{Edit}
 use Rattle.wp_manifest.specs.Manifest.{ManifestState}
-use Rattle.wp_open.specs.Opens.{AllKnown, AreCovering}
+use Rattle.wp_open.specs.Opens.{AllKnown, AreCovering, OpensTo, installed_of}
 use Rattle.wp_open.specs.Parts.{PartsOpened}
 use Rattle.wp_open.specs.declared.opening.OpenError.{OpenError}
 use Rattle.wp_open.specs.Refused.{IsLeft, at_log, at_manifest, at_edit, at_tables}
@@ -15,18 +15,12 @@ use Rattle.wp_store.specs.Store.{StoreParts}
 use Rattle.wp_table.specs.File.{HasTables}
 use Rattle.wp_tableset.specs.Device.{BeginsWith, KeepsFronts}
 use Rattle.wp_wal.specs.Wal.{WalState}
-use Rattle.wp_engine.specs.Engine.{installed_of}
-use Rattle.wp_run.specs.Stored.{OpensTo}
-use Rattle.wp_run.specs.Transcript.{Found}
 use Rattle.wp_run.proofs.Keeping.{fronts_same}
 
 -- ---- what was found
 
-abbrev pub found_by : List Entry → ManifestState → StoreParts → Found
-found_by history edits store = record { history = history; edit = installed_of edits.edit store.tables }
-
 opens_known : (asked : ℕ) (l m t : Moment) (ls ms ts : List Moment) (wal : WalState) (history : List Entry) (edits : ManifestState) (now : List Moment) (store : StoreParts)
-    → PartsOpened asked (l ∷ ls) (m ∷ ms) (t ∷ ts) wal history edits now store → OpensTo wal.id (found_by history edits store) l.reads m.reads t.reads
+    → PartsOpened asked (l ∷ ls) (m ∷ ms) (t ∷ ts) wal history edits now store → OpensTo wal.id history (installed_of edits.edit store.tables) l.reads m.reads t.reads
 opens_known asked l m t ls ms ts wal history edits now store o =
     let last = o.installed.stores.last in (
       record {
@@ -44,7 +38,7 @@ opens_known asked l m t ls ms ts wal history edits now store o =
 
 -- where the devices are known, they open to what is handed out
 pub opens_to : (asked : ℕ) (log manifest tables : List Moment) (wal : WalState) (history : List Entry) (edits : ManifestState) (now : List Moment) (store : StoreParts)
-    → PartsOpened asked log manifest tables wal history edits now store → AllKnown log manifest tables (OpensTo wal.id (found_by history edits store))
+    → PartsOpened asked log manifest tables wal history edits now store → AllKnown log manifest tables (OpensTo wal.id history (installed_of edits.edit store.tables))
 opens_to asked [] manifest tables wal history edits now store o = tt
 opens_to asked (l ∷ ls) [] tables wal history edits now store o = tt
 opens_to asked (l ∷ ls) (m ∷ ms) [] wal history edits now store o = tt

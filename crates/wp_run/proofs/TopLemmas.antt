@@ -14,7 +14,7 @@ use Rattle.wp_text.specs.declared.reply.Reply.{Reply}
 use Rattle.wp_text.specs.declared.script.Part.{Part}
 use Rattle.wp_open.specs.declared.opening.OpenError.{OpenError}
 use Rattle.wp_open.specs.declared.opening.OpenError.TheVariants as open_error
-use Rattle.wp_open.specs.Opens.{AllKnown}
+use Rattle.wp_open.specs.Opens.{AllKnown, OpensTo, installed_of}
 use Rattle.wp_open.specs.Parts.{PartsOpened}
 use Rattle.wp_wal.specs.Spelling.{IsLogOf}
 use Rattle.wp_wal.specs.Wal.{WalState, LosesNothing}
@@ -22,7 +22,7 @@ use Rattle.wp_session.specs.Laws.{DueIsSession}
 use Rattle.wp_words.specs.declared.choice.Action.{Action}
 use Rattle.wp_words.specs.declared.choice.Action.TheVariants as action
 use Rattle.wp_engine.specs.Stored.{fault_count, IsOrOneMore, AllOpen}
-use Rattle.wp_engine.specs.Engine.{EngineState, installed_of}
+use Rattle.wp_engine.specs.Engine.{EngineState}
 use Rattle.wp_run.specs.declared.status.Status.{Status}
 use Rattle.wp_run.specs.declared.status.Status.TheVariants as status
 use Rattle.wp_run.specs.Later.{store_of}
@@ -30,7 +30,7 @@ use Rattle.wp_run.specs.Run.{Call, IsChosen, IsUnread, IsReadAs, IsServed, Ends}
 use Rattle.wp_run.specs.Runs.{replies_of, AllRun}
 use Rattle.wp_run.specs.Serving.{Serving, HasStored, AnswersScript, BreaksOff, IsUnopened, Serves, IsTextOf, HasRun, IsWritten, HasEnded, Finishes}
 use Rattle.wp_run.specs.Status.{IsStatusOf}
-use Rattle.wp_run.specs.Stored.{IsLeft, CrashOpens, OpensTo}
+use Rattle.wp_run.specs.Stored.{IsLeft, CrashOpens}
 use Rattle.wp_run.specs.Transcript.{Faults, Found, Explains, opened_store}
 use Rattle.wp_run.specs.Use.{SinkUse, IsDurable, AreUncalled, left_of}
 use Rattle.wp_run.proofs.Explained.{explained}
@@ -53,7 +53,7 @@ pub record IsOpened (state : EngineState) (s : Serving) : Type 0 where
   pub tables_counted : s.disks.tables.faults_before ≤ state.tables_faults
   pub spelled : IfKnown s.disks.log.before (λ m. IsLogOf state.id state.entries m.reads)
   pub made : IfKnown s.disks.log.before (λ m. IsUnmade m.reads → state.id ≡ s.id)
-  pub opened : AllKnown s.disks.log.before s.disks.manifest.before s.disks.tables.before (OpensTo state.id (found_in state))
+  pub opened : AllKnown s.disks.log.before s.disks.manifest.before s.disks.tables.before (OpensTo state.id state.entries state.installed)
 
 fault_count_few : (failed : Bool) → fault_count failed ≤ 1
 fault_count_few true = omega arith

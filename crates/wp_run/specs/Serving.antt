@@ -14,7 +14,7 @@ use Rattle.wp_text.specs.declared.reply.Reply.{Reply}
 use Rattle.wp_wal.specs.Spelling.{MAGIC, IsLogOf}
 use Rattle.wp_open.specs.declared.opening.OpenError.{OpenError}
 use Rattle.wp_open.specs.declared.opening.OpenError.TheVariants as open_error
-use Rattle.wp_open.specs.Opens.{Opens, AllKnown}
+use Rattle.wp_open.specs.Opens.{Opens, OpensTo, AllKnown}
 use Rattle.wp_open.specs.Refused.{IsCause, IsOutside, IsLeft}
 use Rattle.wp_engine.specs.Engine.{EngineState}
 use Rattle.wp_engine.specs.Stored.{fault_count, CrashLeaves}
@@ -22,7 +22,7 @@ use Rattle.wp_run.specs.declared.status.Status.{Status}
 use Rattle.wp_run.specs.declared.status.Status.TheVariants as status
 use Rattle.wp_run.specs.Later.{Later, store_of}
 use Rattle.wp_run.specs.Runs.{Answered, AllRunSoFar, are_whole, replies_of}
-use Rattle.wp_run.specs.Stored.{OpensTo, CrashOpens}
+use Rattle.wp_run.specs.Stored.{CrashOpens}
 use Rattle.wp_run.specs.Transcript.{Faults, Found, Explains, IsTranscript, text_of}
 use Rattle.wp_run.specs.Use.{DisksUse, Device, SinkUse}
 
@@ -42,7 +42,7 @@ pub record HasStored (s : Serving) (faults : Faults) (found : Found) (history : 
   pub id : ℕ
   pub made : IfKnown s.disks.log.before (λ m. IsUnmade m.reads → id ≡ s.id)
   pub spelled : IfKnown s.disks.log.before (λ m. IsLogOf id found.history m.reads)
-  pub opened : AllKnown s.disks.log.before s.disks.manifest.before s.disks.tables.before (OpensTo id found)
+  pub opened : AllKnown s.disks.log.before s.disks.manifest.before s.disks.tables.before (OpensTo id found.history found.edit)
   pub stored : IfKnown s.disks.log.after (CrashLeaves faults.log id history)
   pub opens : CrashOpens faults.log id history s.disks.log.after s.disks.manifest.after s.disks.tables.after
   pub once : faults.log ≤ 1

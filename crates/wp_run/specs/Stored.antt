@@ -1,16 +1,9 @@
--- What the devices of a store were opened to, and what a crash leaves of them.
+-- What a crash leaves of the devices of a store.
 use Rattle.std.specs.Prelude.{◌≡◌, ℕ, zero, suc, true, List}
 use Rattle.wp_model.specs.declared.entry.Entry.{Entry}
 use Rattle.wp_outside.specs.Disk.{Moment, images}
-use Rattle.wp_manifest.specs.Spelling.{last_edit}
 use Rattle.wp_open.specs.Opens.{Opens}
-use Rattle.wp_engine.specs.Engine.{installed_of}
 use Rattle.wp_engine.specs.Stored.{IsOrOneMore}
-use Rattle.wp_run.specs.Transcript.{Found}
-
--- the bytes open to the history, and the manifest's last edit is the one that was found
-abbrev pub OpensTo : ℕ → Found → List ℕ → List ℕ → List ℕ → Type 0
-OpensTo id found log manifest tables = (opens : Opens id found.history log manifest tables) × (found.edit ≡ installed_of (last_edit opens.edits) opens.parts)
 
 -- the history; or, once the log has failed, it or it and one record more, whole
 abbrev pub IsLeft : (faults : ℕ) → List Entry → List Entry → Type 0

@@ -3,10 +3,10 @@ use Rattle.wp_model.specs.Decision.{is_committed}
 use Rattle.wp_model.specs.declared.version.Version.{Version}
 use Rattle.wp_history.proofs.Growth.{legal_before}
 use Rattle.wp_keep.specs.Keep.{retained_of}
+use Rattle.wp_open.specs.Opens.{installed_of}
 use Rattle.wp_session.specs.Tables.{after_compaction}
 use Rattle.wp_store.specs.Store.{StoreParts}
 use Rattle.wp_tableset.specs.Changes.{compacted_edit, compacted_parts}
-use Rattle.wp_engine.specs.Engine.{installed_of}
 use Rattle.wp_engine.proofs.CompactLemmas.{same_test, one_table, kept_numbered, kept_flushed, kept_low, compacted_covered, retained_is, is_after_compaction}
 use Rattle.wp_engine.proofs.SetLemmas.{tabled_installed, tabled_refused, keeps_tables, installed_state}
 use Rattle.wp_engine.proofs.engine.Engine.compact.Goals as goal

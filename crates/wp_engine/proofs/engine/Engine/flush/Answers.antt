@@ -1,9 +1,9 @@
 use Rattle.std.proofs.Common.{◌≡◌, ◌≤◌, ◌∷◌, [], false, length, refl, sym, ap, ◌∙◌, rules}
+use Rattle.wp_open.specs.Opens.{installed_of}
 use Rattle.wp_store.specs.Store.{StoreParts}
 use Rattle.wp_history.proofs.Growth.{legal_before}
 use Rattle.wp_session.specs.Tables.{after_flush, unflushed}
 use Rattle.wp_tableset.specs.Changes.{flushed_edit}
-use Rattle.wp_engine.specs.Engine.{installed_of}
 use Rattle.wp_engine.proofs.FlushLemmas.{nothing_later, some_versions, rises, all_numbered, all_flushed, count_is, flushed_covered, flushed_low, nothing_in_memory, is_after_flush}
 use Rattle.wp_engine.proofs.SetLemmas.{tabled_installed, tabled_refused, keeps_tables, installed_state}
 use Rattle.wp_engine.proofs.engine.Engine.flush.Goals as goal

@@ -1,7 +1,7 @@
+use Rattle.wp_open.specs.Opens.{installed_of}
 use Rattle.wp_session.proofs.Counts.{few_in_edit}
 use Rattle.wp_merge.proofs.Sorted.{in_order_sorted}
 use Rattle.wp_merge.specs.Merge.{joined}
-use Rattle.wp_engine.specs.Engine.{installed_of}
 use Rattle.wp_engine.proofs.engine.Engine.history.Goals as goal
 
 pub returns-clause-few : goal.returns-clause-few
