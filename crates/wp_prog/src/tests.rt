@@ -2,7 +2,8 @@ use std::alloc::{AllocError, AllocGlobal, Global};
 use std::sync::Wait;
 use std::test::Fail;
 use std::thread::Threads;
-use wp_outside::{Disks, MemDisk, MemSink, MemSource, OpenGate};
+use synced_disk::SyncedDisk;
+use wp_outside::{Disks, MemSink, MemSource, OpenGate};
 use wp_run::{Ended, run};
 
 mod crashes;
@@ -12,6 +13,7 @@ mod faults;
 mod reopening;
 mod sessions;
 mod sweeps;
+mod synced_disk;
 mod tables;
 mod worked_faults;
 mod worked_stores;
@@ -105,6 +107,11 @@ struct Outcome {
     log: Vec<u8>,
     manifest: Vec<u8>,
     tables: Vec<u8>,
+
+    /// The bytes of each device at its last sync.
+    synced_log: Vec<u8>,
+    synced_manifest: Vec<u8>,
+    synced_tables: Vec<u8>,
 }
 
 /// New devices, before any run.
@@ -116,6 +123,9 @@ fn untouched(alloc: Global) -> Outcome {
         log: Vec::new(alloc),
         manifest: Vec::new(alloc),
         tables: Vec::new(alloc),
+        synced_log: Vec::new(alloc),
+        synced_manifest: Vec::new(alloc),
+        synced_tables: Vec::new(alloc),
     }
 }
 
@@ -128,16 +138,6 @@ fn left_by(outcome: &Outcome) -> Stored<'_> {
     }
 }
 
-fn disk(alloc: Global, bytes: &[u8], fails: &[u64], calls: u64) -> Result<MemDisk, AllocError> {
-    MemDisk::new(
-        alloc,
-        bytes.to_vec(alloc)?,
-        ROOM,
-        calls,
-        fails.to_vec(alloc)?,
-    )
-}
-
 fn words_of(alloc: Global, words: &[&str]) -> Result<Vec<String>, AllocError> {
     let mut owned = Vec::new(alloc);
     for word in words {
@@ -146,16 +146,23 @@ fn words_of(alloc: Global, words: &[&str]) -> Result<Vec<String>, AllocError> {
     Ok(owned)
 }
 
-fn disks_of(alloc: Global, given: &Given<'_>) -> Result<Disks<MemDisk>, AllocError> {
+fn disks_of(alloc: Global, given: &Given<'_>) -> Result<Disks<SyncedDisk>, AllocError> {
     Ok(Disks {
-        log: disk(alloc, given.log, given.log_fails, given.log_calls)?,
-        manifest: disk(
+        log: SyncedDisk::new(alloc, given.log, ROOM, given.log_calls, given.log_fails)?,
+        manifest: SyncedDisk::new(
             alloc,
             given.manifest,
-            given.manifest_fails,
+            ROOM,
             given.manifest_calls,
+            given.manifest_fails,
         )?,
-        tables: disk(alloc, given.tables, given.tables_fails, given.tables_calls)?,
+        tables: SyncedDisk::new(
+            alloc,
+            given.tables,
+            ROOM,
+            given.tables_calls,
+            given.tables_fails,
+        )?,
     })
 }
 
@@ -168,7 +175,7 @@ fn source_of(alloc: Global, given: &Given<'_>) -> Result<MemSource, AllocError> 
 
 fn outcome_of(
     alloc: Global,
-    ended: &Ended<MemDisk>,
+    ended: &Ended<SyncedDisk>,
     sink: &MemSink,
 ) -> Result<Outcome, AllocError> {
     Ok(Outcome {
@@ -178,6 +185,9 @@ fn outcome_of(
         log: ended.disks.log.bytes().to_vec(alloc)?,
         manifest: ended.disks.manifest.bytes().to_vec(alloc)?,
         tables: ended.disks.tables.bytes().to_vec(alloc)?,
+        synced_log: ended.disks.log.synced().to_vec(alloc)?,
+        synced_manifest: ended.disks.manifest.synced().to_vec(alloc)?,
+        synced_tables: ended.disks.tables.synced().to_vec(alloc)?,
     })
 }
 

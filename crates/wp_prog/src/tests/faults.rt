@@ -170,36 +170,10 @@ fn made<R: Threads + Wait + Sync + AllocGlobal>(
     Ok(made)
 }
 
-/// The bytes of the device.
-fn bytes_of<'a>(stored: Stored<'a>, device: Device) -> &'a [u8] {
-    match device {
-        Device::Log => stored.log,
-        Device::Manifest => stored.manifest,
-        Device::Tables => stored.tables,
-    }
-}
-
-/// The devices with these bytes on that one.
-fn with_bytes<'a>(stored: Stored<'a>, device: Device, bytes: &'a [u8]) -> Stored<'a> {
-    match device {
-        Device::Log => Stored {
-            log: bytes,
-            ..stored
-        },
-        Device::Manifest => Stored {
-            manifest: bytes,
-            ..stored
-        },
-        Device::Tables => Stored {
-            tables: bytes,
-            ..stored
-        },
-    }
-}
-
-/// The script on these devices, of which that one fails at these calls, or answers so many.
+/// These commands of the script on these devices, of which that one fails at these calls, or answers so many.
 fn given<'a>(
     swept: &'a Swept,
+    commands: &'a [u8],
     stored: Stored<'a>,
     device: Device,
     fails: &'a [u64],
@@ -207,7 +181,7 @@ fn given<'a>(
 ) -> Given<'a> {
     let whole = Given {
         words: swept.words,
-        ..on(stored, swept.commands.as_bytes())
+        ..on(stored, commands)
     };
     match device {
         Device::Log => Given {
@@ -240,7 +214,9 @@ fn wrong_fault<R: Threads + Wait + Sync + AllocGlobal>(
     let made = made(rt, swept)?;
     for call in 1..MOST_CALLS {
         let fails = [call];
-        let outcome = seen(rt, &given(swept, left_by(&made), device, &fails, CALLS))?;
+        let commands = swept.commands.as_bytes();
+        let given = given(swept, commands, left_by(&made), device, &fails, CALLS);
+        let outcome = seen(rt, &given)?;
         if outcome.code == 0 {
             return Ok(None);
         }
@@ -279,62 +255,97 @@ fn common(old: &[u8], new: &[u8]) -> usize {
     len
 }
 
-/// Where the last byte is that one call changed, and what is behind it stayed.
-fn end_of(old: &[u8], new: &[u8]) -> usize {
-    if old.len() != new.len() {
-        return old.len().max(new.len());
-    }
-    let mut end = 0;
-    for place in 0..new.len() {
-        if old.get(place) != new.get(place) {
-            end = place.saturating_add(1);
-        }
-    }
-    end
+/// What a crash leaves in the places that it tore: what was there before, other bytes, or no bytes behind the shorter end.
+#[derive(Clone, Copy, Drop)]
+enum Rest {
+    Old,
+    Junk,
+    Nothing,
 }
 
-/// What a crash may leave of the last call, which made `new` of `old` and was not synced: of the bytes that it changed only
-/// these many are as they were asked for, and others stand behind them; or, of a device that was made longer or shorter,
-/// nothing does.
+/// What a crash may leave of a device that was synced with the bytes `old` and reads `new`: of the places in which these
+/// differ so many of the first are as in `new`.
 fn image(
     alloc: Global,
     old: &[u8],
     new: &[u8],
     written: usize,
-    with_junk: bool,
+    rest: Rest,
 ) -> Result<Vec<u8>, AllocError> {
-    let changed = if old.len() > new.len() { old } else { new };
-    let end = end_of(old, new);
-    let torn = common(old, new).saturating_add(written).min(end);
-    let mut bytes = changed.get(..torn).unwrap_or(&[]).to_vec(alloc)?;
-    if with_junk || old.len() == new.len() {
-        for _ in torn..end {
-            bytes.push(0xA5)?;
+    let torn = common(old, new).saturating_add(written);
+    let shorter = old.len().min(new.len());
+    let mut bytes = Vec::new(alloc);
+    for place in 0..old.len().max(new.len()) {
+        let (was, is) = (old.get(place).copied(), new.get(place).copied());
+        let byte = match rest {
+            _ if was == is || place < torn => is.or(was),
+            Rest::Old => was,
+            Rest::Nothing if place < shorter => was,
+            Rest::Nothing => None,
+            Rest::Junk => Some(0xA5),
+        };
+        match byte {
+            Some(byte) => bytes.push(byte)?,
+            None => return Ok(bytes),
         }
-        bytes.extend_from_slice(changed.get(end..).unwrap_or(&[]))?;
     }
     Ok(bytes)
 }
 
-/// The lengths at which a call's bytes are torn.
+/// The lengths at which bytes are torn.
 const WRITTEN: [usize; 6] = [0, 1, 8, 9, 20, 1000];
 
-/// Whether each image that a crash may leave of the device's last call opens to one of the stages and works on.
-fn images_open<R: Threads + Wait + Sync + AllocGlobal>(
+/// Whether this image of each device opens to one of the stages and works on.
+fn image_opens<R: Threads + Wait + Sync + AllocGlobal>(
     rt: &R,
-    stored: Stored<'_>,
-    device: Device,
-    old: &[u8],
+    outcome: &Outcome,
+    written: usize,
+    rest: Rest,
     stages: &[Stage],
 ) -> Result<bool, AllocError> {
-    let new = bytes_of(stored, device);
-    if old == new {
-        return open_to(rt, stored, stages);
+    let alloc = rt.alloc();
+    let log = image(alloc, &outcome.synced_log, &outcome.log, written, rest)?;
+    let manifest = image(
+        alloc,
+        &outcome.synced_manifest,
+        &outcome.manifest,
+        written,
+        rest,
+    )?;
+    let tables = image(
+        alloc,
+        &outcome.synced_tables,
+        &outcome.tables,
+        written,
+        rest,
+    )?;
+    let stored = Stored {
+        log: &log,
+        manifest: &manifest,
+        tables: &tables,
+    };
+    open_to(rt, stored, stages)
+}
+
+/// Whether all bytes of the devices were synced.
+fn is_synced(outcome: &Outcome) -> bool {
+    outcome.log == outcome.synced_log
+        && outcome.manifest == outcome.synced_manifest
+        && outcome.tables == outcome.synced_tables
+}
+
+/// Whether the images that a crash may leave of the devices open to one of the stages and work on.
+fn images_open<R: Threads + Wait + Sync + AllocGlobal>(
+    rt: &R,
+    outcome: &Outcome,
+    stages: &[Stage],
+) -> Result<bool, AllocError> {
+    if is_synced(outcome) {
+        return open_to(rt, left_by(outcome), stages);
     }
     for written in WRITTEN {
-        for with_junk in [false, true] {
-            let bytes = image(rt.alloc(), old, new, written, with_junk)?;
-            if !open_to(rt, with_bytes(stored, device, &bytes), stages)? {
+        for rest in [Rest::Old, Rest::Junk, Rest::Nothing] {
+            if !image_opens(rt, outcome, written, rest, stages)? {
                 return Ok(false);
             }
         }
@@ -342,37 +353,80 @@ fn images_open<R: Threads + Wait + Sync + AllocGlobal>(
     Ok(true)
 }
 
+/// How many lines the text has.
+fn count_lines(text: &[u8]) -> usize {
+    text.iter().filter(|byte| **byte == b'\n').count()
+}
+
+/// The text's first lines.
+fn first_lines(text: &[u8], count: usize) -> &[u8] {
+    let mut left = count;
+    for place in 0..text.len() {
+        if left == 0 {
+            return text.get(..place).unwrap_or(&[]);
+        }
+        if text.get(place) == Some(&b'\n') {
+            left -= 1;
+        }
+    }
+    text
+}
+
 /// The first number of calls after which the device stops with another end than is due, or leaves an image that does not
-/// open; none where the script comes to a run without fault.
+/// open; none where the script comes to a run without fault. The script is run as far as these lines, and then as far as each
+/// line after them, the device stopping at each call that is new there.
 fn wrong_stop<R: Threads + Wait + Sync + AllocGlobal>(
     rt: &R,
     swept: &Swept,
     device: Device,
+    lines: usize,
 ) -> Result<Option<u64>, AllocError> {
     let made = made(rt, swept)?;
-    let mut old = bytes_of(left_by(&made), device).to_vec(rt.alloc())?;
-    for calls in 0..MOST_CALLS {
-        let outcome = seen(rt, &given(swept, left_by(&made), device, &[], calls))?;
-        if outcome.code == 0 {
-            return Ok(None);
+    let script = swept.commands.as_bytes();
+    let mut calls = 0;
+    for lines in lines..=count_lines(script) {
+        let commands = first_lines(script, lines);
+        for _ in calls..MOST_CALLS {
+            let given = given(swept, commands, left_by(&made), device, &[], calls);
+            let outcome = seen(rt, &given)?;
+            if outcome.code == 0 {
+                break;
+            }
+            let stages = stages_of(swept, &outcome);
+            if !ended_so(rt.alloc(), swept, &outcome, device, calls + 1)?
+                || !images_open(rt, &outcome, stages)?
+            {
+                return Ok(Some(calls));
+            }
+            calls += 1;
         }
-        let stages = stages_of(swept, &outcome);
-        if !ended_so(rt.alloc(), swept, &outcome, device, calls + 1)?
-            || !images_open(rt, left_by(&outcome), device, &old, stages)?
-        {
-            return Ok(Some(calls));
-        }
-        old = bytes_of(left_by(&outcome), device).to_vec(rt.alloc())?;
     }
-    Ok(Some(MOST_CALLS))
+    Ok(if calls < MOST_CALLS { None } else { Some(calls) })
 }
 
+/// The other devices go on.
 #[test]
 fn each_device_may_stop_after_each_call(rt: HostRuntime) -> Result<(), Fail> {
     for (index, swept) in SWEPT.iter().enumerate() {
+        let lines = count_lines(swept.commands.as_bytes());
         for device in DEVICES {
             assert_eq!(rt;
-                wrong_stop(&rt, swept, device)?,
+                wrong_stop(&rt, swept, device, lines)?,
+                None,
+                "script {index}, {device}"
+            );
+        }
+    }
+    Ok(())
+}
+
+/// A script that ends with the command in which a device stops calls no other device after that stop, so all three stop there.
+#[test]
+fn all_devices_may_stop_at_once_after_each_call(rt: HostRuntime) -> Result<(), Fail> {
+    for (index, swept) in SWEPT.iter().enumerate() {
+        for device in DEVICES {
+            assert_eq!(rt;
+                wrong_stop(&rt, swept, device, 1)?,
                 None,
                 "script {index}, {device}"
             );
