@@ -9,8 +9,9 @@ use Rattle.wp_model.specs.Versions.{version_at}
 use Rattle.wp_manifest.specs.Edit.{Edit}
 use Rattle.wp_merge.specs.Merge.{AreMerged, sorted_of}
 use Rattle.wp_merge.proofs.Merged.{or_none}
+use Rattle.wp_merge.proofs.Sorted.{at_sorted}
 use Rattle.wp_open.specs.Opens.{AreCovering}
-use Rattle.wp_open.proofs.Later.{at_append, at_sorted}
+use Rattle.wp_open.proofs.Later.{at_append}
 
 -- ---- what covers a history hangs on look-ups alone
 

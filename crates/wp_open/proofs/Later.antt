@@ -1,4 +1,4 @@
--- The versions of later entries, taken one entry after another, and in order.
+-- The versions of later entries, taken one entry after another.
 use Rattle.std.proofs.Common.{◌≡◌, ℕ, suc, ◌<◌, Bool, true, false, true≢false, cond, ◌==◌, ◌&&◌, eq-eqb, ne_eqb, List, [], ◌∷◌, ◌++◌, Option, Some, None, refl, sym, ap, ◌∙◌, arith}
 use Rattle.std.specs.Option.{option_or}
 use Rattle.std.specs.Str.{bytes_eq}
@@ -10,11 +10,11 @@ use Rattle.wp_model.specs.Batch.{key_of, value_of, change_to}
 use Rattle.wp_model.specs.Flushed.{versions_under, versions_after}
 use Rattle.wp_model.specs.Legal.{changes_in}
 use Rattle.wp_model.specs.Versions.{AreInOrder, version_at}
-use Rattle.wp_model.proofs.VersionLists.{in_order_nil, in_order_cons, or_cond}
+use Rattle.wp_model.proofs.VersionLists.{in_order_nil, or_cond}
 use Rattle.wp_memtable.specs.Memtable.{HasChanges}
 use Rattle.wp_merge.specs.Merge.{sorted_of}
-use Rattle.wp_merge.proofs.Merged.{in_order-merge, at_merge, or_none}
-use Rattle.wp_store.proofs.OneMerge.{one_list}
+use Rattle.wp_merge.proofs.Merged.{or_none}
+use Rattle.wp_merge.proofs.Sorted.{in_order_sorted, at_sorted, in_order_same}
 
 -- ---- look-ups
 
@@ -37,26 +37,6 @@ one_under false false v x = refl
 at_under : (m : ℕ) (changes : List Change) (key : List ℕ) (p : ℕ) → version_at (versions_under m changes) key p ≡ cond (m == p) (change_to changes key) None
 at_under m [] key p = none_either (m == p)
 at_under m (c ∷ changes) key p = ap (cond (bytes_eq (key_of c) key && (m == p)) (Some (value_of c))) (at_under m changes key p) ∙ one_under (bytes_eq (key_of c) key) (m == p) (value_of c) (change_to changes key)
-
--- ---- in order
-
-in_order-one : (v : Version) → AreInOrder (v ∷ [])
-in_order-one v = in_order_cons v [] tt in_order_nil
-
-in_order-sorted : (versions : List Version) → AreInOrder (sorted_of versions)
-in_order-sorted [] = in_order_nil
-in_order-sorted (v ∷ versions) = in_order-merge (v ∷ []) (sorted_of versions) (in_order-one v) (in_order-sorted versions)
-
-pub at_sorted : (versions : List Version) (key : List ℕ) (p : ℕ) → version_at (sorted_of versions) key p ≡ version_at versions key p
-at_sorted [] key p = refl
-at_sorted (v ∷ versions) key p =
-    let here : Bool = bytes_eq v.key key && (v.number == p) in
-    at_merge key p (v ∷ []) (sorted_of versions) (in_order-one v)
-    ∙ sym (or_cond here v.value None (version_at (sorted_of versions) key p))
-    ∙ ap (cond here (Some v.value)) (at_sorted versions key p)
-
-sorted_is : (versions sorted : List Version) → AreInOrder sorted → ((key : List ℕ) (p : ℕ) → version_at sorted key p ≡ version_at versions key p) → sorted ≡ sorted_of versions
-sorted_is versions sorted h same = one_list sorted (sorted_of versions) h (in_order-sorted versions) (λ key p. same key p ∙ sym (at_sorted versions key p))
 
 -- ---- entry after entry
 
@@ -118,4 +98,5 @@ module _ (n next : ℕ) (entry : Entry) (others : List Entry) (old new : List Ve
 
 pub all_taken : (all : List Version) (entries : List Entry) (n : ℕ) (memory : List Version) → entries ≡ [] → AreTaken all entries n memory → memory ≡ sorted_of all
 all_taken all entries n memory none t =
-    sorted_is all memory t.in_order (λ key p. sym (or_none key p (version_at memory key p)) ∙ ap (λ (es : List Entry). option_or (version_at memory key p) (version_at (versions_after n es) key p)) (sym none) ∙ t.each key p)
+    in_order_same memory (sorted_of all) t.in_order (in_order_sorted all)
+    (λ key p. sym (or_none key p (version_at memory key p)) ∙ ap (λ (es : List Entry). option_or (version_at memory key p) (version_at (versions_after n es) key p)) (sym none) ∙ t.each key p ∙ sym (at_sorted all key p))
