@@ -4,4 +4,4 @@ pub mod Reading
 pub mod OneWay
 pub mod Stages
 pub mod OneFault
-pub mod Again
+pub mod Opened

@@ -21,7 +21,7 @@ use Rattle.wp_table.specs.Table.{IsTable, table_bytes}
 use Rattle.wp_open.specs.declared.bad.Bad.{Bad}
 use Rattle.wp_open.specs.declared.bad.Bad.TheVariants as bad
 use Rattle.wp_open.specs.Damage.{IsLogDamaged, Finds, IsManifestDamaged, bytes_at, IsBadTable, IsFirstBadTable, IsTableNamed, IsEditDamaged, log_behind, in_tables, uncovered, IsDamaged, in_log, in_manifest, in_edit}
-use Rattle.wp_open.specs.Opens.{AreCovering, Opens}
+use Rattle.wp_open.specs.Opens.{AreCovering, Opens, installed_of}
 
 -- ---- what the laws below say
 
@@ -115,6 +115,34 @@ same_parts laws id flushed bytes (placed ∷ tables) (part ∷ parts) (other ∷
     let first : part ≡ other = laws.one_table id flushed part other has.0.is too.0.is (sym (there id flushed bytes placed part has.0) ∙ there id flushed bytes placed other too.0) in
     let rest = same_parts laws id flushed bytes tables parts others has.1 too.1 in
     λ i. first i ∷ rest i
+
+-- under any two ids the manifest's last edit says one thing
+pub same_edit : SpellOneId → ManifestLaws → TableLaws → (manifest tables : List ℕ) (id other : ℕ) (list others : List Edit) (parts more : List (List Version)) → id < 2 ^ 32 → other < 2 ^ 32
+    → edits.IsManifestOf id list manifest → edits.IsManifestOf other others manifest → HasTables id (edits.last_edit list).flushed tables (edits.last_edit list).tables parts → HasTables other (edits.last_edit others).flushed tables (edits.last_edit others).tables more
+    → installed_of (edits.last_edit list) parts ≡ installed_of (edits.last_edit others) more
+same_edit one lists laws manifest tables id other list others parts more fits less spells also has too = elim (unmade_or_made manifest) [
+  | inl unmade ↦
+      let nothing : edits.IsManifestOf id [] manifest = ([], inl (unmade, refl), record { spelled = refl; are = tt }) in
+      let none : list ≡ [] = lists.one_list manifest id id list [] spells nothing in
+      let none_too : others ≡ [] = lists.one_list manifest other id others [] also nothing in
+      let parts_are : parts ≡ [] = no_parts id tables parts (subst (λ (l : List Edit). HasTables id (edits.last_edit l).flushed tables (edits.last_edit l).tables parts) none has) in
+      let more_are : more ≡ [] = no_parts other tables more (subst (λ (l : List Edit). HasTables other (edits.last_edit l).flushed tables (edits.last_edit l).tables more) none_too too) in
+      let same_list : list ≡ others = none ∙ sym none_too in
+      let same : parts ≡ more = parts_are ∙ sym more_are in
+      λ i. installed_of (edits.last_edit (same_list i)) (same i)
+  | inr made ↦
+      let ids : other ≡ id = one manifest edits.MAGIC other id also.0 spells.0 made less fits also.1 spells.1 in
+      let same_list : list ≡ others = lists.one_list manifest id other list others spells also in
+      let here : HasTables id (edits.last_edit list).flushed tables (edits.last_edit list).tables more =
+      subst (λ (l : List Edit). HasTables id (edits.last_edit l).flushed tables (edits.last_edit l).tables more) (sym same_list)
+      (subst (λ (n : ℕ). HasTables n (edits.last_edit others).flushed tables (edits.last_edit others).tables more) ids too) in
+      let same : parts ≡ more = same_parts laws id (edits.last_edit list).flushed tables (edits.last_edit list).tables parts more has here in
+      λ i. installed_of (edits.last_edit (same_list i)) (same i)
+]
+  where
+    no_parts : (n : ℕ) (bytes : List ℕ) (versions : List (List Version)) → HasTables n 0 bytes [] versions → versions ≡ []
+    no_parts n bytes [] h = refl
+    no_parts n bytes (part ∷ versions) h = absurd h
 
 edit_is_right : TableLaws → (id : ℕ) (history : List Entry) (edit : Edit) (bytes : List ℕ) (damage : Bad) (parts : List (List Version)) → HasTables id edit.flushed bytes edit.tables parts → AreCovering history edit parts → IsEditDamaged id history edit bytes damage → ⊥
 edit_is_right laws id history edit bytes damage parts has covering (log_behind lt named) = let low = covering.covered.flushed in omega (arith, low, lt)

@@ -11,7 +11,7 @@ ghost use Rattle.wp_manifest.specs.Spelling as manifest;
 ghost use Rattle.std.specs.List.{AllByRecursion};
 ghost use Rattle.wp_table.specs.File.{HasTables};
 ghost use Rattle.wp_table.specs.Table.{IsTable};
-ghost use Rattle.wp_open.specs.Opens.{Opens, AllKnown};
+ghost use Rattle.wp_open.specs.Opens.{Opens, OpensTo, AllKnown, installed_of};
 ghost use Rattle.wp_open.specs.Tables.{IsEditCause, LeavesTables};
 ghost use Rattle.wp_open.specs.Parts.{IsStoreOf, PartsOpened};
 ghost use Rattle.wp_open.specs.Refused.{IsCause, IsOutside, IsLeft};
@@ -125,8 +125,9 @@ pub fn open_parts<D: Disk>(
 ) -> Result<Parts<D>, OpenRefused<D>>
     ensures opened { IfOk result (λ parts. PartsOpened id (D.moments disks.log) (D.moments disks.manifest) (D.moments disks.tables) parts.wal parts.history.entries parts.manifest (D.moments parts.tables) parts.store) }
 
-    // What the devices read opens to the history that is handed out.
-    ensures opens { IfOk result (λ parts. AllKnown (D.moments disks.log) (D.moments disks.manifest) (D.moments disks.tables) (Opens parts.wal.id parts.history.entries)) }
+    // What the devices read opens to the history that is handed out, and to the edit that names the store's tables.
+    ensures opens { IfOk result (λ parts. AllKnown (D.moments disks.log) (D.moments disks.manifest) (D.moments disks.tables)
+        (OpensTo parts.wal.id parts.history.entries (installed_of parts.manifest.edit parts.store.tables))) }
 
     // Each refusal of the bytes comes where they are so, and none comes where they open to a history.
     ensures cause { IfErr result (λ refused. IsCause id (Rose (D.faults disks.log) (D.faults refused.disks.log))

@@ -1,10 +1,23 @@
+use Rattle.std.proofs.Common.{sym, ◌∙◌}
 use Rattle.wp_open.proofs.OneFault.{one_damage}
-use Rattle.wp_open.proofs.OneWay.{log_id, opens_or_damaged}
+use Rattle.wp_open.proofs.OneWay.{log_id, same_edit, opens_or_damaged}
 use Rattle.wp_open.proofs.laws.a_store_is_opened_in_one_way.Goals as goal
 
 pub returns-clause-one_history : goal.returns-clause-one_history
 returns-clause-one_history c = λ log manifest tables id other history another o p.
     c.a_log_is_read_in_one_way.ensures.one_history log id other history another o.spelled p.spelled
+
+pub returns-clause-one_edit : goal.returns-clause-one_edit
+returns-clause-one_edit c =
+    let manifests = c.a_manifest_is_read_in_one_way.ensures in
+    let table = c.bytes_are_read_in_one_way-2.ensures in
+    λ log manifest tables id other history another edit also o p.
+    o.1
+    ∙ same_edit c.bytes_are_read_in_one_way.ensures.one_id
+    (record { one_list = manifests.one_list; bad_head = manifests.edits_or_bad_head; bad_edit = manifests.edits_or_bad_edit; stranger = manifests.edits_or_stranger })
+    (record { one_table = table.one_table; not_both = table.not_both })
+    manifest tables id other o.0.edits p.0.edits o.0.parts p.0.parts o.0.id_fits p.0.id_fits o.0.installed p.0.installed o.0.there p.0.there
+    ∙ sym p.1
 
 pub returns-clause-one_id : goal.returns-clause-one_id
 returns-clause-one_id c = λ log manifest tables id other history another made o p.

@@ -12,6 +12,7 @@ use Rattle.std.specs.List.{AllByRecursion}
 use Rattle.wp_open.specs.Damage.{Finds}
 use Rattle.wp_open.specs.Parts.{IsStoreOf}
 use Rattle.wp_open.specs.Refused.{IsLogLeft, at_log, at_manifest}
+use Rattle.wp_open.proofs.Opened.{opens_to}
 use Rattle.wp_open.proofs.Stages.{log_cause, manifest_cause, edit_cause, only_outside, finds_here, kept_tables, manifest_rests, edit_left, log_left}
 use Rattle.wp_open.proofs.opening.open_parts.Goals as goal
 
@@ -91,6 +92,9 @@ returns-in-Ok-open_store-clause-opened g c =
       are = subst (λ (n : ℕ). AllByRecursion (IsTable n edit.flushed) parts) c.id-found.ensures (subst (λ (e : Edit). AllByRecursion (IsTable c.id-found.result e.flushed) parts) c.edit.ensures c.in-Ok-open_store.ensures.are);
       kept = kept_tables (λ bytes. HasTables wal.id edit.flushed bytes edit.tables parts) tables (g.D.Disk.moments c.open_store.new.tables) c.in-Ok-open_store.ensures.synced there;
     }
+
+pub returns-in-Ok-open_store-clause-opens : goal.returns-in-Ok-open_store-clause-opens
+returns-in-Ok-open_store-clause-opens g c = opens_to _ _ _ _ _ _ _ _ _ (returns-in-Ok-open_store-clause-opened g c)
 
 -- ---- what the last edit says is refused
 
