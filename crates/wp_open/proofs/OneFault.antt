@@ -142,13 +142,13 @@ module _ (laws : TableLaws) (faults : TablesHaveOneFault) (id flushed : ℕ) (by
   one_of_edit : (history : List Entry) (edit : Edit) (one other : Bad) → edit.flushed ≡ flushed → IsEditDamaged id history edit bytes one → IsEditDamaged id history edit bytes other → one ≡ other
   one_of_edit history edit one other at (log_behind lt named) (log_behind less also) = named ∙ sym also
   one_of_edit history edit one other at (log_behind lt named) (in_tables low also) = absurd (omega (arith, lt, low))
-  one_of_edit history edit one other at (log_behind lt named) (uncovered low parts has none also) = absurd (omega (arith, lt, low))
+  one_of_edit history edit one other at (log_behind lt named) (uncovered low none also) = absurd (omega (arith, lt, low))
   one_of_edit history edit one other at (in_tables low named) (log_behind lt also) = absurd (omega (arith, lt, low))
   one_of_edit history edit one other at (in_tables low named) (in_tables small also) = one_named edit.tables one other (subst (λ (n : ℕ). IsTableNamed id n bytes edit.tables one) at named) (subst (λ (n : ℕ). IsTableNamed id n bytes edit.tables other) at also)
-  one_of_edit history edit one other at (in_tables low named) (uncovered small parts has none also) = absurd (none_named laws id edit.flushed bytes edit.tables parts one has named)
-  one_of_edit history edit one other at (uncovered low parts has none named) (log_behind lt also) = absurd (omega (arith, lt, low))
-  one_of_edit history edit one other at (uncovered low parts has none named) (in_tables small also) = absurd (none_named laws id edit.flushed bytes edit.tables parts other has also)
-  one_of_edit history edit one other at (uncovered low parts has none named) (uncovered small others too not also) = named ∙ sym also
+  one_of_edit history edit one other at (in_tables low named) (uncovered small none also) = absurd (none_named laws id edit.flushed bytes edit.tables none.0 one none.1 named)
+  one_of_edit history edit one other at (uncovered low none named) (log_behind lt also) = absurd (omega (arith, lt, low))
+  one_of_edit history edit one other at (uncovered low none named) (in_tables small also) = absurd (none_named laws id edit.flushed bytes edit.tables none.0 other none.1 also)
+  one_of_edit history edit one other at (uncovered low none named) (uncovered small none_too also) = named ∙ sym also
 
 -- ---- all three
 

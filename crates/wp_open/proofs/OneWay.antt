@@ -147,7 +147,7 @@ same_edit one lists laws manifest tables id other list others parts more fits le
 edit_is_right : TableLaws → (id : ℕ) (history : List Entry) (edit : Edit) (bytes : List ℕ) (damage : Bad) (parts : List (List Version)) → HasTables id edit.flushed bytes edit.tables parts → AreCovering history edit parts → IsEditDamaged id history edit bytes damage → ⊥
 edit_is_right laws id history edit bytes damage parts has covering (log_behind lt named) = let low = covering.covered.flushed in omega (arith, low, lt)
 edit_is_right laws id history edit bytes damage parts has covering (in_tables low named) = none_named laws id edit.flushed bytes edit.tables parts damage has named
-edit_is_right laws id history edit bytes damage parts has covering (uncovered low others too not named) =
+edit_is_right laws id history edit bytes damage parts has covering (uncovered low (others, too, not) named) =
     not (subst (λ (l : List (List Version)). AreCovering history edit l) (same_parts laws id edit.flushed bytes edit.tables parts others has too) covering)
 
 -- ---- all three

@@ -19,7 +19,7 @@ use Rattle.wp_table.specs.Table.{IsTable, table_bytes}
 use Rattle.wp_open.specs.declared.bad.Bad.TheVariants as bad
 use Rattle.wp_open.specs.declared.opening.OpenError.{OpenError}
 use Rattle.wp_open.specs.declared.opening.OpenError.TheVariants as open_error
-use Rattle.wp_open.specs.Damage.{bytes_at, IsBadTable, IsFirstBadTable, IsOwnFault, IsTableNamed}
+use Rattle.wp_open.specs.Damage.{bytes_at, IsBadTable, IsFirstBadTable}
 use Rattle.wp_open.specs.Refused.{IsTableReason}
 use Rattle.wp_open.specs.Tables.{IsTableCause, AreTablesCause}
 
@@ -74,19 +74,19 @@ module _ (id : ℕ) (edit : Edit) (len start mid now : ℕ) (moments : List Mome
       by [] has len_is bad = tt
       by (m ∷ past) has len_is bad = record { before = before; size = placed.1; after = after; parts = parts; listed = listed; right = has; wrong = bad len_is }
 
-  stranger : (log found : ℕ) → log ≡ id → IfKnown moments (λ m. IsFirstBadTable id edit.flushed m.reads edit.tables placed.0 (table.Stranger found)) → IfKnown moments (λ m. IsTableNamed id edit.flushed m.reads edit.tables (bad.Stranger log found))
-  stranger log found is wrong = known_map (λ m. IsFirstBadTable id edit.flushed m.reads edit.tables placed.0 (table.Stranger found)) (λ m. IsTableNamed id edit.flushed m.reads edit.tables (bad.Stranger log found)) (λ m w. (is, placed.0, w)) moments wrong
+  at_its_place : (place : ℕ) (why : TableError) → place ≡ placed.0 → IfKnown moments (λ m. IsFirstBadTable id edit.flushed m.reads edit.tables placed.0 why) → IfKnown moments (λ m. IsFirstBadTable id edit.flushed m.reads edit.tables place why)
+  at_its_place place why is wrong = subst (λ (p : ℕ). IfKnown moments (λ m. IsFirstBadTable id edit.flushed m.reads edit.tables p why)) (sym is) wrong
 
-  bad_table : (place : ℕ) (why : TableError) → place ≡ placed.0 → IsOwnFault why → IfKnown moments (λ m. IsFirstBadTable id edit.flushed m.reads edit.tables placed.0 why) → IfKnown moments (λ m. IsTableNamed id edit.flushed m.reads edit.tables (bad.BadTable place why))
-  bad_table place why is own wrong = known_map (λ m. IsFirstBadTable id edit.flushed m.reads edit.tables placed.0 why) (λ m. IsTableNamed id edit.flushed m.reads edit.tables (bad.BadTable place why)) (λ m w. (own, subst (λ (p : ℕ). IsFirstBadTable id edit.flushed m.reads edit.tables p why) (sym is) w)) moments wrong
+  somewhere : (why : TableError) → IfKnown moments (λ m. IsFirstBadTable id edit.flushed m.reads edit.tables placed.0 why) → IfKnown moments (λ m. (place : ℕ) × IsFirstBadTable id edit.flushed m.reads edit.tables place why)
+  somewhere why wrong = known_map (λ m. IsFirstBadTable id edit.flushed m.reads edit.tables placed.0 why) (λ m. (place : ℕ) × IsFirstBadTable id edit.flushed m.reads edit.tables place why) (λ m w. (placed.0, w)) moments wrong
 
   pub tables_cause : (error : OpenError) → IsTableCause id edit.flushed placed len (Rose mid now) moments error → AreTablesCause id edit (Rose start now) moments error
   tables_cause open_error.Memory cause = tt
   tables_cause (open_error.OpenFault device.Tables) cause = omega (arith, cause, later)
   tables_cause (open_error.OpenFault device.Log) cause = cause
   tables_cause (open_error.OpenFault device.Manifest) cause = cause
-  tables_cause (open_error.Contents (bad.Stranger log found)) cause = stranger log found cause.0 (first_bad (table.Stranger found) cause.1)
-  tables_cause (open_error.Contents (bad.BadTable place why)) cause = bad_table place why cause.0 cause.1 (first_bad why cause.2)
+  tables_cause (open_error.Contents (bad.Stranger log found)) cause = (cause.0, somewhere (table.Stranger found) (first_bad (table.Stranger found) cause.1))
+  tables_cause (open_error.Contents (bad.BadTable place why)) cause = (cause.1, at_its_place place why cause.0 (first_bad why cause.2))
   tables_cause (open_error.Contents other) cause = absurd cause
 
 pub at_place : (items tables : List (ℕ × ℕ)) (i : ℕ) (d : ℕ × ℕ) → i < length items → items ≡ tables → tables ≡ take i items ++ get_or items i d ∷ drop (suc i) items

@@ -1,5 +1,5 @@
 -- What each step of an opening says of the whole: why it is refused, and what it leaves.
-use Rattle.std.proofs.Common.{◌≡◌, ◌↔◌, ℕ, ◌<◌, ◌≤◌, ◌^◌, Bool, true, false, true≢false, List, [], ◌∷◌, length, inl, inr, refl, sym, subst, ◌∙◌}
+use Rattle.std.proofs.Common.{◌≡◌, ◌↔◌, ℕ, ◌<◌, ◌^◌, Bool, true, false, true≢false, List, [], ◌∷◌, length, inl, inr, sym, subst, ◌∙◌}
 use Rattle.wp_model.specs.declared.entry.Entry.{Entry}
 use Rattle.wp_model.specs.declared.version.Version.{Version}
 use Rattle.wp_model.specs.Legal.{IsLegal}
@@ -8,7 +8,6 @@ use Rattle.wp_outside.specs.Disk.{Moment, IfKnown, added, after_sync, images}
 use Rattle.wp_outside.proofs.Moments.{image_of_synced}
 use Rattle.wp_gatelog.specs.Left.{IsLeftAtRest, RestsAsSpelled}
 use Rattle.wp_gatelog.specs.Log.{IsAtRest}
-use Rattle.wp_gatelog.specs.Opening.{SurvivesThrough}
 use Rattle.wp_gatelog.specs.Spelling.{IsUnmade, Spells}
 use Rattle.wp_wal.specs.declared.error.WalError.{WalError}
 use Rattle.wp_wal.specs.declared.error.WalError.TheVariants as wal_error
@@ -26,84 +25,73 @@ use Rattle.wp_open.specs.declared.bad.Bad.{Bad}
 use Rattle.wp_open.specs.declared.bad.Bad.TheVariants as bad
 use Rattle.wp_open.specs.declared.opening.OpenError.{OpenError}
 use Rattle.wp_open.specs.declared.opening.OpenError.TheVariants as open_error
-use Rattle.wp_open.specs.Damage.{Finds, IsEditDamaged, uncovered, IsDamaged, in_log, in_manifest, in_edit}
+use Rattle.wp_open.specs.Damage.{Finds, IsLogDamaged, IsManifestDamaged, IsTableNamed, IsUncovered, IsEditDamaged, log_behind, in_tables, uncovered, IsDamaged, in_log, in_manifest, in_edit}
 use Rattle.wp_open.specs.Opens.{AreCovering, Opens, AllKnown}
-use Rattle.wp_open.specs.Refused.{IsCause, IsOutside, IsLogReason, IsManifestReason, IsLogLeft, IsLeft, at_edit, at_tables}
-use Rattle.wp_open.specs.Tables.{IsEditCause, LeavesTables}
+use Rattle.wp_open.specs.Refused.{IsCause, of_log, of_manifest, of_edit, IsOfTables, IsOutside, IsLogReason, IsManifestReason, IsLogLeft, IsManifestLeft, IsLeft, at_log, at_manifest, at_edit, at_tables}
+use Rattle.wp_open.specs.Tables.{AreTablesCause, IsStoreCause, behind, of_tables, not_covered, IsAtMostSynced, LeavesSynced}
 
 -- ---- the tables, once synced
 
 pub not_covering : (r : Bool) (P : Type 0) → (r ≡ true) ↔ P → r ≡ false → P → ⊥
 not_covering r P is e p = true≢false (sym (is.1 p) ∙ e)
 
-pub uncovered_here : (id : ℕ) (history : List Entry) (edit : Edit) (old new : List Moment) (parts : List (List Version)) → new ≡ added after_sync old → edit.flushed ≤ length history → IfKnown new (λ m. HasTables id edit.flushed m.reads edit.tables parts) → (AreCovering history edit parts → ⊥) → IfKnown old (λ m. IsEditDamaged id history edit m.reads bad.Uncovered)
-uncovered_here id history edit [] new parts synced low has none = tt
-uncovered_here id history edit (m ∷ past) new parts synced low has none =
-    uncovered low parts (subst (λ (ms : List Moment). IfKnown ms (λ n. HasTables id edit.flushed n.reads edit.tables parts)) synced has) none refl
+pub uncovered_here : (id : ℕ) (history : List Entry) (edit : Edit) (old new : List Moment) (parts : List (List Version)) → new ≡ added after_sync old → IfKnown new (λ m. HasTables id edit.flushed m.reads edit.tables parts) → (AreCovering history edit parts → ⊥) → IfKnown old (λ m. IsUncovered id history edit m.reads)
+uncovered_here id history edit [] new parts synced has none = tt
+uncovered_here id history edit (m ∷ past) new parts synced has none =
+    (parts, subst (λ (ms : List Moment). IfKnown ms (λ n. HasTables id edit.flushed n.reads edit.tables parts)) synced has, none)
 
 pub kept_tables : (P : List ℕ → Type 0) (old new : List Moment) → new ≡ added after_sync old → IfKnown old (λ m. P m.reads) → (image : List ℕ) → images new image → P image
 kept_tables P [] new synced has image is = absurd (subst (λ (ms : List Moment). images ms image) synced is)
 kept_tables P (m ∷ past) new synced has image is =
     subst P (sym (image_of_synced m.reads image (subst (λ (ms : List Moment). images ms image) synced is))) has
 
--- ---- what is known of all three
-
-always : (P : List ℕ → List ℕ → List ℕ → Type 0) (log manifest tables : List Moment) → ((l m t : List ℕ) → P l m t) → AllKnown log manifest tables P
-always P [] manifest tables f = tt
-always P (l ∷ ls) [] tables f = tt
-always P (l ∷ ls) (m ∷ ms) [] f = tt
-always P (l ∷ ls) (m ∷ ms) (t ∷ ts) f = f l.reads m.reads t.reads
-
-implied : (P Q : List ℕ → List ℕ → List ℕ → Type 0) (log manifest tables : List Moment) → ((l m t : List ℕ) → P l m t → Q l m t) → AllKnown log manifest tables P → AllKnown log manifest tables Q
-implied P Q [] manifest tables f p = tt
-implied P Q (l ∷ ls) [] tables f p = tt
-implied P Q (l ∷ ls) (m ∷ ms) [] f p = tt
-implied P Q (l ∷ ls) (m ∷ ms) (t ∷ ts) f p = f l.reads m.reads t.reads p
-
-pub all_known : (L M T : List ℕ → Type 0) (P : List ℕ → List ℕ → List ℕ → Type 0) (log manifest tables : List Moment) → ((l m t : List ℕ) → L l → M m → T t → P l m t) → IfKnown log (λ l. L l.reads) → IfKnown manifest (λ m. M m.reads) → IfKnown tables (λ t. T t.reads) → AllKnown log manifest tables P
-all_known L M T P [] manifest tables f l m t = tt
-all_known L M T P (x ∷ xs) [] tables f l m t = tt
-all_known L M T P (x ∷ xs) (y ∷ ys) [] f l m t = tt
-all_known L M T P (x ∷ xs) (y ∷ ys) (z ∷ zs) f l m t = f x.reads y.reads z.reads l m t
-
-nothing : (moments : List Moment) → IfKnown moments (λ m. Unit {0})
-nothing [] = tt
-nothing (m ∷ past) = tt
-
 -- ---- why
 
-module _ (asked : ℕ) (log_rose manifest_rose tables_rose : Type 0) (log manifest tables : List Moment) where
-  damaged : (L M T : List ℕ → Type 0) (damage : Bad) → ((l m t : List ℕ) → L l → M m → T t → IsDamaged asked l m t damage) → IfKnown log (λ l. L l.reads) → IfKnown manifest (λ m. M m.reads) → IfKnown tables (λ t. T t.reads) → IsCause asked log_rose manifest_rose tables_rose log manifest tables (open_error.Contents damage)
-  damaged L M T damage f l m t = all_known L M T (λ l m t. IsDamaged asked l m t damage) log manifest tables f l m t
+same_damage : (one other : Bad) → open_error.Contents one ≡ open_error.Contents other → one ≡ other
+same_damage one other same = cc
 
-  pub log_cause : (refusal : WalError) (why : OpenError) → IsLogCause log_rose log refusal → IsLogReason refusal why → IsCause asked log_rose manifest_rose tables_rose log manifest tables why
-  log_cause wal_error.Memory why cause is = rw is tt
-  log_cause wal_error.DiskFault why cause is = rw is cause
-  log_cause wal_error.BadHead why cause is = rw is (damaged _ (λ m. Unit {0}) (λ t. Unit {0}) (bad.BadHead device.Log) (λ l m t x y z. in_log x) cause (nothing manifest) (nothing tables))
-  log_cause (wal_error.BadRecord index fault) why cause is = rw is (damaged _ (λ m. Unit {0}) (λ t. Unit {0}) (bad.BadRecord index fault) (λ l m t x y z. in_log x) cause (nothing manifest) (nothing tables))
-  log_cause (wal_error.Illegal number) why cause is = rw is (damaged _ (λ m. Unit {0}) (λ t. Unit {0}) (bad.Illegal number) (λ l m t x y z. in_log x) cause (nothing manifest) (nothing tables))
+log_damaged : (rose : Type 0) (l : Moment) (past : List Moment) (refusal : WalError) (damage : Bad) → IsLogReason refusal (open_error.Contents damage) → IsLogCause rose (l ∷ past) refusal → IsLogDamaged l.reads damage
+log_damaged rose l past wal_error.Memory damage is cause = absurd cc
+log_damaged rose l past wal_error.DiskFault damage is cause = absurd cc
+log_damaged rose l past wal_error.BadHead damage is cause = rw (same_damage damage (bad.BadHead device.Log) is) cause
+log_damaged rose l past (wal_error.BadRecord index fault) damage is cause = rw (same_damage damage (bad.BadRecord index fault) is) cause
+log_damaged rose l past (wal_error.Illegal number) damage is cause = rw (same_damage damage (bad.Illegal number) is) cause
 
-  module _ (id : ℕ) (history : List Entry) (finds : IfKnown log (λ l. Finds asked id history l.reads)) where
-    pub manifest_cause : (refusal : ManifestError) (why : OpenError) → IsManifestCause id manifest_rose manifest refusal → IsManifestReason refusal why → IsCause asked log_rose manifest_rose tables_rose log manifest tables why
-    manifest_cause manifest_error.Memory why cause is = rw is tt
-    manifest_cause manifest_error.DiskFault why cause is = rw is cause
-    manifest_cause manifest_error.BadHead why cause is = rw is (damaged (Finds asked id history) _ (λ t. Unit {0}) (bad.BadHead device.Manifest) (λ l m t x y z. in_manifest id history x y) finds cause (nothing tables))
-    manifest_cause (manifest_error.Stranger ours found) why cause is = rw is.1 (damaged (Finds asked id history) _ (λ t. Unit {0}) (bad.Stranger ours found) (λ l m t x y z. in_manifest id history x (is.0, y)) finds cause (nothing tables))
-    manifest_cause (manifest_error.BadEdit index) why cause is = rw is (damaged (Finds asked id history) _ (λ t. Unit {0}) (bad.BadEdit index) (λ l m t x y z. in_manifest id history x y) finds cause (nothing tables))
+manifest_damaged : (id : ℕ) (rose : Type 0) (m : Moment) (past : List Moment) (refusal : ManifestError) (damage : Bad) → IsManifestReason refusal (open_error.Contents damage) → IsManifestCause id rose (m ∷ past) refusal → IsManifestDamaged id m.reads damage
+manifest_damaged id rose m past manifest_error.Memory damage is cause = absurd cc
+manifest_damaged id rose m past manifest_error.DiskFault damage is cause = absurd cc
+manifest_damaged id rose m past manifest_error.BadHead damage is cause = rw (same_damage damage (bad.BadHead device.Manifest) is) cause
+manifest_damaged id rose m past (manifest_error.Stranger log found) damage is cause = rw (same_damage damage (bad.Stranger log found) is.1) (is.0, cause)
+manifest_damaged id rose m past (manifest_error.BadEdit index) damage is cause = rw (same_damage damage (bad.BadEdit index) is) cause
 
-    pub edit_cause : (list : List Edit) (edit : Edit) (why : OpenError) → IfKnown manifest (λ m. edits.IsManifestOf id list m.reads) → edit ≡ edits.last_edit list → IsEditCause id history edit tables_rose tables why → IsCause asked log_rose manifest_rose tables_rose log manifest tables why
-    edit_cause list edit open_error.Memory spells is cause = tt
-    edit_cause list edit (open_error.OpenFault device.Tables) spells is cause = cause
-    edit_cause list edit (open_error.OpenFault device.Log) spells is cause = absurd cause
-    edit_cause list edit (open_error.OpenFault device.Manifest) spells is cause = absurd cause
-    edit_cause list edit (open_error.Contents damage) spells is cause =
-        damaged (Finds asked id history) (edits.IsManifestOf id list) (λ t. IsEditDamaged id history edit t damage) damage
-        (λ l m t x y z. in_edit id history list x y (subst (λ (e : Edit). IsEditDamaged id history e t damage) is z)) finds spells cause
+tables_named : (id : ℕ) (edit : Edit) (rose : Type 0) (t : Moment) (past : List Moment) (damage : Bad) → AreTablesCause id edit rose (t ∷ past) (open_error.Contents damage) → IsTableNamed id edit.flushed t.reads edit.tables damage
+tables_named id edit rose t past (bad.Stranger log found) cause = (cause.0, cause.1.0, cause.1.1)
+tables_named id edit rose t past (bad.BadTable place why) cause = cause
+tables_named id edit rose t past other cause = absurd cause
 
-  pub only_outside : ((l m t : List ℕ) (asked id : ℕ) (history : List Entry) (damage : Bad) → (IsUnmade l → id ≡ asked) → Opens id history l m t → IsDamaged asked l m t damage → ⊥) → (why : OpenError) → IsCause asked log_rose manifest_rose tables_rose log manifest tables why → AllKnown log manifest tables (λ l m t. (found : ℕ) (history : List Entry) → Opens found history l m t → (IsUnmade l → found ≡ asked) → IsOutside why)
-  only_outside law open_error.Memory cause = always _ log manifest tables (λ l m t found history o asks. tt)
-  only_outside law (open_error.OpenFault d) cause = always _ log manifest tables (λ l m t found history o asks. tt)
-  only_outside law (open_error.Contents damage) cause = implied (λ l m t. IsDamaged asked l m t damage) (λ l m t. (found : ℕ) (history : List Entry) → Opens found history l m t → (IsUnmade l → found ≡ asked) → IsOutside (open_error.Contents damage)) log manifest tables (λ l m t is found history o asks. law l m t asked found history damage asks o is) cause
+edit_damaged : (id : ℕ) (history : List Entry) (edit : Edit) (rose : Type 0) (t : Moment) (past : List Moment) (damage : Bad) → IsStoreCause id history edit rose (t ∷ past) (open_error.Contents damage) → IsEditDamaged id history edit t.reads damage
+edit_damaged id history edit rose t past damage (behind lt is) = log_behind lt (same_damage damage (bad.LogBehind edit.flushed (length history)) is)
+edit_damaged id history edit rose t past damage (of_tables low cause) = in_tables low (tables_named id edit rose t past damage cause)
+edit_damaged id history edit rose t past damage (not_covered low is none) = uncovered low none (same_damage damage bad.Uncovered is)
+
+-- where all three devices are known, they are damaged as the refusal says
+damaged : (asked : ℕ) (log_rose manifest_rose tables_rose : Type 0) (l m t : Moment) (ls ms ts : List Moment) (damage : Bad) → IsCause asked log_rose manifest_rose tables_rose (l ∷ ls) (m ∷ ms) (t ∷ ts) (open_error.Contents damage) → IsDamaged asked l.reads m.reads t.reads damage
+damaged asked log_rose manifest_rose tables_rose l m t ls ms ts damage (of_log refusal is cause) = in_log (log_damaged log_rose l ls refusal damage is cause)
+damaged asked log_rose manifest_rose tables_rose l m t ls ms ts damage (of_manifest id history refusal finds is cause) = in_manifest id history finds (manifest_damaged id manifest_rose m ms refusal damage is cause)
+damaged asked log_rose manifest_rose tables_rose l m t ls ms ts damage (of_edit id history list finds spells cause) = in_edit id history list finds spells (edit_damaged id history (edits.last_edit list) tables_rose t ts damage cause)
+
+abbrev pub OpensOrDamaged : Type 0
+OpensOrDamaged = (l m t : List ℕ) (asked id : ℕ) (history : List Entry) (damage : Bad) → (IsUnmade l → id ≡ asked) → Opens id history l m t → IsDamaged asked l m t damage → ⊥
+
+-- so where they open to a history, no refusal is about their contents
+pub only_outside : OpensOrDamaged → (asked : ℕ) (log_rose manifest_rose tables_rose : Type 0) (log manifest tables : List Moment) (why : OpenError) → IsCause asked log_rose manifest_rose tables_rose log manifest tables why → AllKnown log manifest tables (λ l m t. (found : ℕ) (history : List Entry) → Opens found history l m t → (IsUnmade l → found ≡ asked) → IsOutside why)
+only_outside law asked log_rose manifest_rose tables_rose [] manifest tables why cause = tt
+only_outside law asked log_rose manifest_rose tables_rose (l ∷ ls) [] tables why cause = tt
+only_outside law asked log_rose manifest_rose tables_rose (l ∷ ls) (m ∷ ms) [] why cause = tt
+only_outside law asked log_rose manifest_rose tables_rose (l ∷ ls) (m ∷ ms) (t ∷ ts) open_error.Memory cause = λ found history opens asks. tt
+only_outside law asked log_rose manifest_rose tables_rose (l ∷ ls) (m ∷ ms) (t ∷ ts) (open_error.OpenFault failed) cause = λ found history opens asks. tt
+only_outside law asked log_rose manifest_rose tables_rose (l ∷ ls) (m ∷ ms) (t ∷ ts) (open_error.Contents damage) cause =
+    λ found history opens asks. law l.reads m.reads t.reads asked found history damage asks opens (damaged asked log_rose manifest_rose tables_rose l m t ls ms ts damage cause)
 
 pub finds_here : (asked id : ℕ) (history : List Entry) (log : List Moment) → id < 2 ^ 32 → IsLegal history → IfKnown log (λ l. IsLogOf id history l.reads) → IfKnown log (λ l. IsUnmade l.reads → id ≡ asked) → IfKnown log (λ l. Finds asked id history l.reads)
 finds_here asked id history [] fits legal spells unmade = tt
@@ -130,9 +118,37 @@ manifest_rests id (m ∷ past) state o = by state.log.moments (o.stores.rests o.
 
 -- ---- how far an opening came
 
-pub log_left : (id : ℕ) (history : List Entry) (old now wal : List Moment) → now ≡ wal → IfKnown old (λ m. IsLogOf id history m.reads) → IfKnown wal (LeavesHistory id history) → IsLogLeft id old now
-log_left id history old now wal same found left = record { history = history; found = found; left = subst (λ (ms : List Moment). IfKnown ms (LeavesHistory id history)) (sym same) left }
+pub log_left : (id : ℕ) (history : List Entry) (old now wal : List Moment) → now ≡ wal → IfKnown old (λ m. IsLogOf id history m.reads) → IfKnown wal (LeavesHistory id history) → IsLogLeft id history old now
+log_left id history old now wal same found left = record { found = found; left = subst (λ (ms : List Moment). IfKnown ms (LeavesHistory id history)) (sym same) left }
 
-pub edit_left : (same_manifest same_tables called : Type 0) (log log_now manifest manifest_now tables tables_now : List Moment) (id : ℕ) (history : List Entry) (edit : Edit) (why : OpenError) → (called → same_tables) → IsLogLeft id log log_now → IsLeftAtRest edits.MAGIC manifest manifest_now → SurvivesThrough edits.MAGIC id manifest manifest_now → LeavesTables called history edit tables tables_now why → IsLeft same_manifest same_tables log log_now manifest manifest_now tables tables_now why
-edit_left same_manifest same_tables called log log_now manifest manifest_now tables tables_now id history edit why same left rests survives (inl behind) = at_edit id edit.flushed (length history) left rests survives behind.named (same behind.untouched)
-edit_left same_manifest same_tables called log log_now manifest manifest_now tables tables_now id history edit why same left rests survives (inr synced) = at_tables id left rests survives synced
+of_the_tables : (id : ℕ) (edit : Edit) (rose : Type 0) (moments : List Moment) (why : OpenError) → AreTablesCause id edit rose moments why → IsOfTables id why
+of_the_tables id edit rose moments open_error.Memory cause = tt
+of_the_tables id edit rose moments (open_error.OpenFault device.Tables) cause = tt
+of_the_tables id edit rose moments (open_error.OpenFault device.Log) cause = absurd cause
+of_the_tables id edit rose moments (open_error.OpenFault device.Manifest) cause = absurd cause
+of_the_tables id edit rose moments (open_error.Contents (bad.Stranger log found)) cause = cause.0
+of_the_tables id edit rose moments (open_error.Contents (bad.BadTable place why)) cause = cause.0
+of_the_tables id edit rose moments (open_error.Contents other) cause = absurd cause
+
+-- after a log and a manifest that are right
+pub edit_left : (same_manifest same_tables rose : Type 0) (log log_now manifest manifest_now tables tables_now : List Moment) (id : ℕ) (history : List Entry) (list : List Edit) (edit : Edit) (why : OpenError) → edit ≡ edits.last_edit list → IsLogLeft id history log log_now → IsManifestLeft id list manifest manifest_now → IsStoreCause id history edit rose tables why → LeavesSynced same_tables tables tables_now why
+    → IsLeft same_manifest same_tables log log_now manifest manifest_now tables tables_now why
+edit_left same_manifest same_tables rose log log_now manifest manifest_now tables tables_now id history list edit why is log_rests rests (behind lt named) left =
+    at_edit id history list log_rests rests (rw (← is) lt) (rw (← is) named) (subst (LeavesSynced same_tables tables tables_now) named left)
+edit_left same_manifest same_tables rose log log_now manifest manifest_now tables tables_now id history list edit why is log_rests rests (of_tables low cause) left =
+    at_tables id history list log_rests rests (rw (← is) low) (of_the_tables id edit rose tables why cause) left
+edit_left same_manifest same_tables rose log log_now manifest manifest_now tables tables_now id history list edit why is log_rests rests (not_covered low named none) left =
+    at_tables id history list log_rests rests (rw (← is) low) (subst (IsOfTables id) (sym named) tt) left
+
+synced_or_same : (same : Type 0) (old new : List Moment) (why : OpenError) → (same → new ≡ old) → LeavesSynced same old new why → IsAtMostSynced old new
+synced_or_same same old new open_error.Memory is left = inr left
+synced_or_same same old new (open_error.OpenFault failed) is left = left
+synced_or_same same old new (open_error.Contents (bad.LogBehind flushed published)) is left = inl (is left)
+synced_or_same same old new (open_error.Contents other) is left = inr left
+
+-- whatever the reason, the tables' device was at most synced
+pub tables_left : (same_manifest same_tables : Type 0) (log log_now manifest manifest_now tables tables_now : List Moment) (why : OpenError) → (same_tables → tables_now ≡ tables) → IsLeft same_manifest same_tables log log_now manifest manifest_now tables tables_now why → IsAtMostSynced tables tables_now
+tables_left same_manifest same_tables log log_now manifest manifest_now tables tables_now why is (at_log refusal reason records manifest_same tables_same) = inl (is tables_same)
+tables_left same_manifest same_tables log log_now manifest manifest_now tables tables_now why is (at_manifest id history refusal log_rests reason list survives tables_same) = inl (is tables_same)
+tables_left same_manifest same_tables log log_now manifest manifest_now tables tables_now why is (at_edit id history list log_rests rests lt named tables_same) = inl (is tables_same)
+tables_left same_manifest same_tables log log_now manifest manifest_now tables tables_now why is (at_tables id history list log_rests rests low reason left) = synced_or_same same_tables tables tables_now why is left

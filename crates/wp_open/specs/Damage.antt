@@ -78,12 +78,16 @@ IsTableNamed id flushed bytes tables (bad.Stranger log found) = (log ≡ id) × 
 IsTableNamed id flushed bytes tables (bad.BadTable place why) = IsOwnFault why × IsFirstBadTable id flushed bytes tables place why
 IsTableNamed id flushed bytes tables other = ⊥
 
+-- all of the edit's tables are right, and do not cover the history
+abbrev pub IsUncovered : ℕ → List Entry → Edit → List ℕ → Type 0
+IsUncovered id history edit bytes = (parts : List (List Version)) × HasTables id edit.flushed bytes edit.tables parts × (AreCovering history edit parts → ⊥)
+
 -- The edit has flushed more entries than the log has; or one of its tables is wrong; or all are right, and do not cover the
 -- history.
 pub data IsEditDamaged (id : ℕ) (history : List Entry) (edit : Edit) (bytes : List ℕ) (damage : Bad) : Type 0 where
   log_behind : length history < edit.flushed → damage ≡ bad.LogBehind edit.flushed (length history) → IsEditDamaged id history edit bytes damage
   in_tables : edit.flushed ≤ length history → IsTableNamed id edit.flushed bytes edit.tables damage → IsEditDamaged id history edit bytes damage
-  uncovered : edit.flushed ≤ length history → (parts : List (List Version)) → HasTables id edit.flushed bytes edit.tables parts → (AreCovering history edit parts → ⊥) → damage ≡ bad.Uncovered → IsEditDamaged id history edit bytes damage
+  uncovered : edit.flushed ≤ length history → IsUncovered id history edit bytes → damage ≡ bad.Uncovered → IsEditDamaged id history edit bytes damage
 
 -- ---- all three
 

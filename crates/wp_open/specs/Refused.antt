@@ -1,5 +1,5 @@
 -- Why a store is not opened, and what that leaves of its devices.
-use Rattle.std.specs.Prelude.{◌≡◌, ℕ, ◌<◌, ◌^◌, List}
+use Rattle.std.specs.Prelude.{◌≡◌, ℕ, ◌<◌, ◌≤◌, ◌^◌, List, length}
 use Rattle.wp_model.specs.declared.entry.Entry.{Entry}
 use Rattle.wp_outside.specs.declared.disk.Device.TheVariants as device
 use Rattle.wp_outside.specs.Disk.{Moment, IfKnown}
@@ -7,38 +7,23 @@ use Rattle.wp_gatelog.specs.Left.{IsLeftAtRest}
 use Rattle.wp_gatelog.specs.Opening.{SurvivesThrough}
 use Rattle.wp_wal.specs.declared.error.WalError.{WalError}
 use Rattle.wp_wal.specs.declared.error.WalError.TheVariants as wal_error
-use Rattle.wp_wal.specs.Opening.{LeavesRecords}
+use Rattle.wp_wal.specs.Opening.{IsLogCause, LeavesRecords}
 use Rattle.wp_wal.specs.Spelling.{IsLogOf}
 use Rattle.wp_wal.specs.Wal.{LeavesHistory}
 use Rattle.wp_manifest.specs.declared.error.ManifestError.{ManifestError}
 use Rattle.wp_manifest.specs.declared.error.ManifestError.TheVariants as manifest_error
-use Rattle.wp_manifest.specs.Opening.{LeavesEdits}
-use Rattle.wp_manifest.specs.Spelling as edits
+use Rattle.wp_manifest.specs.Edit.{Edit}
+use Rattle.wp_manifest.specs.Opening.{IsManifestCause, LeavesEdits}
+use Rattle.wp_manifest.specs.Spelling.{MAGIC, IsManifestOf, last_edit}
 use Rattle.wp_table.specs.declared.error.TableError.{TableError}
 use Rattle.wp_table.specs.declared.error.TableError.TheVariants as table
 use Rattle.wp_open.specs.declared.bad.Bad.TheVariants as bad
 use Rattle.wp_open.specs.declared.opening.OpenError.{OpenError}
 use Rattle.wp_open.specs.declared.opening.OpenError.TheVariants as open_error
-use Rattle.wp_open.specs.Damage.{IsDamaged}
-use Rattle.wp_open.specs.Opens.{AllKnown}
-use Rattle.wp_open.specs.Tables.{IsAtMostSynced}
+use Rattle.wp_open.specs.Damage.{Finds, IsOwnFault}
+use Rattle.wp_open.specs.Tables.{IsStoreCause, LeavesSynced}
 
--- ---- why
-
--- Why a store was not opened: the device's count of faults rose, or, where what the devices read is known, that is damaged
--- so. Want of memory needs no cause.
-abbrev pub IsCause : ℕ → (log_rose manifest_rose tables_rose : Type 0) → List Moment → List Moment → List Moment → OpenError → Type 0
-IsCause asked log_rose manifest_rose tables_rose log manifest tables open_error.Memory = Unit {0}
-IsCause asked log_rose manifest_rose tables_rose log manifest tables (open_error.OpenFault device.Log) = log_rose
-IsCause asked log_rose manifest_rose tables_rose log manifest tables (open_error.OpenFault device.Manifest) = manifest_rose
-IsCause asked log_rose manifest_rose tables_rose log manifest tables (open_error.OpenFault device.Tables) = tables_rose
-IsCause asked log_rose manifest_rose tables_rose log manifest tables (open_error.Contents bad) =
-    AllKnown log manifest tables (λ l m t. IsDamaged asked l m t bad)
-
--- the contents of the devices are not what it is about
-abbrev pub IsOutside : OpenError → Type 0
-IsOutside (open_error.Contents bad) = ⊥
-IsOutside other = Unit {0}
+-- ---- what the errors of the parts mean
 
 -- what an error of the log means for the opening
 abbrev pub IsLogReason : WalError → OpenError → Type 0
@@ -62,18 +47,47 @@ IsTableReason id place table.Memory why = why ≡ open_error.Memory
 IsTableReason id place (table.Stranger found) why = why ≡ open_error.Contents (bad.Stranger id found)
 IsTableReason id place other why = why ≡ open_error.Contents (bad.BadTable place other)
 
+-- Once the log has all entries that were flushed, in the store with that id: memory ran out, the tables' device failed, a table
+-- is another store's or wrong, or the tables do not cover the history.
+abbrev pub IsOfTables : ℕ → OpenError → Type 0
+IsOfTables id open_error.Memory = Unit {0}
+IsOfTables id (open_error.OpenFault device.Tables) = Unit {0}
+IsOfTables id (open_error.Contents (bad.Stranger log found)) = log ≡ id
+IsOfTables id (open_error.Contents (bad.BadTable place why)) = IsOwnFault why
+IsOfTables id (open_error.Contents bad.Uncovered) = Unit {0}
+IsOfTables id other = ⊥
+
+-- ---- why
+
+-- Why a store was not opened. The log was refused; or, after a log that is right, the manifest; or, after both, what its last
+-- edit says. Each speaks of the bytes of the devices that it needs, where they are known, and of no later one.
+pub data IsCause (asked : ℕ) (log_rose manifest_rose tables_rose : Type 0) (log manifest tables : List Moment) (why : OpenError) : Type 0 where
+  of_log : (refusal : WalError) → IsLogReason refusal why → IsLogCause log_rose log refusal → IsCause asked log_rose manifest_rose tables_rose log manifest tables why
+  of_manifest : (id : ℕ) (history : List Entry) (refusal : ManifestError) → IfKnown log (λ l. Finds asked id history l.reads) → IsManifestReason refusal why → IsManifestCause id manifest_rose manifest refusal → IsCause asked log_rose manifest_rose tables_rose log manifest tables why
+  of_edit : (id : ℕ) (history : List Entry) (edits : List Edit) → IfKnown log (λ l. Finds asked id history l.reads) → IfKnown manifest (λ m. IsManifestOf id edits m.reads) → IsStoreCause id history (last_edit edits) tables_rose tables why → IsCause asked log_rose manifest_rose tables_rose log manifest tables why
+
+-- the contents of the devices are not what it is about
+abbrev pub IsOutside : OpenError → Type 0
+IsOutside (open_error.Contents bad) = ⊥
+IsOutside other = Unit {0}
+
 -- ---- what is left
 
 -- a log that was opened, and let go of: a crash leaves its history
-pub record IsLogLeft (id : ℕ) (old new : List Moment) : Type 0 where
-  pub history : List Entry
+pub record IsLogLeft (id : ℕ) (history : List Entry) (old new : List Moment) : Type 0 where
   pub found : IfKnown old (λ m. IsLogOf id history m.reads)
   pub left : IfKnown new (LeavesHistory id history)
+
+-- a manifest that was opened, and let go of: it is at rest with the edits that it spelled
+pub record IsManifestLeft (id : ℕ) (edits : List Edit) (old new : List Moment) : Type 0 where
+  pub found : IfKnown old (λ m. IsManifestOf id edits m.reads)
+  pub rests : IsLeftAtRest MAGIC old new
+  pub survives : SurvivesThrough MAGIC id old new
 
 -- How far a refused opening came, and what it left, besides what a stop in the opening of the log would leave. The devices that it
 -- did not reach are the same: `same_manifest` and `same_tables` say so.
 pub data IsLeft (same_manifest same_tables : Type 0) (log log_now manifest manifest_now tables tables_now : List Moment) (why : OpenError) : Type 0 where
   at_log : (refusal : WalError) → IsLogReason refusal why → LeavesRecords log log_now refusal → same_manifest → same_tables → IsLeft same_manifest same_tables log log_now manifest manifest_now tables tables_now why
-  at_manifest : (id : ℕ) (refusal : ManifestError) → IsLogLeft id log log_now → IsManifestReason refusal why → LeavesEdits manifest manifest_now refusal → SurvivesThrough edits.MAGIC id manifest manifest_now → same_tables → IsLeft same_manifest same_tables log log_now manifest manifest_now tables tables_now why
-  at_edit : (id flushed published : ℕ) → IsLogLeft id log log_now → IsLeftAtRest edits.MAGIC manifest manifest_now → SurvivesThrough edits.MAGIC id manifest manifest_now → why ≡ open_error.Contents (bad.LogBehind flushed published) → same_tables → IsLeft same_manifest same_tables log log_now manifest manifest_now tables tables_now why
-  at_tables : (id : ℕ) → IsLogLeft id log log_now → IsLeftAtRest edits.MAGIC manifest manifest_now → SurvivesThrough edits.MAGIC id manifest manifest_now → IsAtMostSynced tables tables_now → IsLeft same_manifest same_tables log log_now manifest manifest_now tables tables_now why
+  at_manifest : (id : ℕ) (history : List Entry) (refusal : ManifestError) → IsLogLeft id history log log_now → IsManifestReason refusal why → LeavesEdits manifest manifest_now refusal → SurvivesThrough MAGIC id manifest manifest_now → same_tables → IsLeft same_manifest same_tables log log_now manifest manifest_now tables tables_now why
+  at_edit : (id : ℕ) (history : List Entry) (edits : List Edit) → IsLogLeft id history log log_now → IsManifestLeft id edits manifest manifest_now → length history < (last_edit edits).flushed → why ≡ open_error.Contents (bad.LogBehind (last_edit edits).flushed (length history)) → same_tables → IsLeft same_manifest same_tables log log_now manifest manifest_now tables tables_now why
+  at_tables : (id : ℕ) (history : List Entry) (edits : List Edit) → IsLogLeft id history log log_now → IsManifestLeft id edits manifest manifest_now → (last_edit edits).flushed ≤ length history → IsOfTables id why → LeavesSynced same_tables tables tables_now why → IsLeft same_manifest same_tables log log_now manifest manifest_now tables tables_now why

@@ -1,5 +1,5 @@
--- Why the tables of an edit, or one of them, could not be read, or are none of the history.
-use Rattle.std.specs.Prelude.{◌≡◌, ◌⊎◌, ℕ, List, length}
+-- Why the tables of an edit, or one of them, could not be read, or are none of the history; and what that leaves of their device.
+use Rattle.std.specs.Prelude.{◌≡◌, ◌⊎◌, ℕ, ◌<◌, ◌≤◌, List, length}
 use Rattle.wp_model.specs.declared.entry.Entry.{Entry}
 use Rattle.wp_outside.specs.declared.disk.Device.TheVariants as device
 use Rattle.wp_outside.specs.Disk.{Moment, IfKnown, added, after_sync}
@@ -8,7 +8,9 @@ use Rattle.wp_table.specs.declared.error.TableError.TheVariants as table
 use Rattle.wp_open.specs.declared.bad.Bad.TheVariants as bad
 use Rattle.wp_open.specs.declared.opening.OpenError.{OpenError}
 use Rattle.wp_open.specs.declared.opening.OpenError.TheVariants as open_error
-use Rattle.wp_open.specs.Damage.{IsBadTable, IsOwnFault, IsTableNamed, IsEditDamaged}
+use Rattle.wp_open.specs.Damage.{IsBadTable, IsFirstBadTable, IsOwnFault, IsUncovered}
+
+-- ---- why
 
 -- the device failed, or memory ran out
 abbrev pub IsReadCause : (rose : Type 0) → OpenError → Type 0
@@ -24,27 +26,29 @@ IsTableCause id flushed placed len rose moments (open_error.Contents (bad.BadTab
     (place ≡ placed.0) × IsOwnFault why × IfKnown moments (λ m. len ≡ length m.reads → IsBadTable id flushed m.reads placed why)
 IsTableCause id flushed placed len rose moments other = IsReadCause rose other
 
--- ... or one of the edit's tables is
+-- ... or one of the edit's tables is, and it is the first
 abbrev pub AreTablesCause : ℕ → Edit → (rose : Type 0) → List Moment → OpenError → Type 0
-AreTablesCause id edit rose moments (open_error.Contents damage) = IfKnown moments (λ m. IsTableNamed id edit.flushed m.reads edit.tables damage)
+AreTablesCause id edit rose moments (open_error.Contents (bad.Stranger log found)) =
+    (log ≡ id) × IfKnown moments (λ m. (place : ℕ) × IsFirstBadTable id edit.flushed m.reads edit.tables place (table.Stranger found))
+AreTablesCause id edit rose moments (open_error.Contents (bad.BadTable place why)) =
+    IsOwnFault why × IfKnown moments (λ m. IsFirstBadTable id edit.flushed m.reads edit.tables place why)
 AreTablesCause id edit rose moments other = IsReadCause rose other
 
--- ---- with the history
+-- Why the store of an edit was not opened. The log is behind the edit; or it is not, and the tables were refused, or they
+-- do not cover the history.
+pub data IsStoreCause (id : ℕ) (history : List Entry) (edit : Edit) (rose : Type 0) (moments : List Moment) (why : OpenError) : Type 0 where
+  behind : length history < edit.flushed → why ≡ open_error.Contents (bad.LogBehind edit.flushed (length history)) → IsStoreCause id history edit rose moments why
+  of_tables : edit.flushed ≤ length history → AreTablesCause id edit rose moments why → IsStoreCause id history edit rose moments why
+  not_covered : edit.flushed ≤ length history → why ≡ open_error.Contents bad.Uncovered → IfKnown moments (λ m. IsUncovered id history edit m.reads) → IsStoreCause id history edit rose moments why
 
--- ... or what the edit says is damaged
-abbrev pub IsEditCause : ℕ → List Entry → Edit → (rose : Type 0) → List Moment → OpenError → Type 0
-IsEditCause id history edit rose moments (open_error.Contents damage) = IfKnown moments (λ m. IsEditDamaged id history edit m.reads damage)
-IsEditCause id history edit rose moments other = IsReadCause rose other
+-- ---- what is left
 
 -- all of the device's bytes are as they were, and at most they were made to stay for good
 abbrev pub IsAtMostSynced : List Moment → List Moment → Type 0
 IsAtMostSynced old new = (new ≡ old) ⊎ (new ≡ added after_sync old)
 
--- the device was not called, since the log is behind the edit
-pub record IsBehind (same : Type 0) (history : List Entry) (edit : Edit) (why : OpenError) : Type 0 where
-  pub untouched : same
-  pub named : why ≡ open_error.Contents (bad.LogBehind edit.flushed (length history))
-
--- what a refusal leaves of the device
-abbrev pub LeavesTables : (same : Type 0) → List Entry → Edit → List Moment → List Moment → OpenError → Type 0
-LeavesTables same history edit old new why = IsBehind same history edit why ⊎ IsAtMostSynced old new
+-- The device was not called where the log is behind the edit; else it was synced, unless it failed.
+abbrev pub LeavesSynced : (same : Type 0) → List Moment → List Moment → OpenError → Type 0
+LeavesSynced same old new (open_error.Contents (bad.LogBehind flushed published)) = same
+LeavesSynced same old new (open_error.OpenFault failed) = IsAtMostSynced old new
+LeavesSynced same old new other = new ≡ added after_sync old

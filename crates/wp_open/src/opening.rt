@@ -12,7 +12,7 @@ ghost use Rattle.std.specs.List.{AllByRecursion};
 ghost use Rattle.wp_table.specs.File.{HasTables};
 ghost use Rattle.wp_table.specs.Table.{IsTable};
 ghost use Rattle.wp_open.specs.Opens.{Opens, OpensTo, AllKnown, installed_of};
-ghost use Rattle.wp_open.specs.Tables.{IsEditCause, LeavesTables};
+ghost use Rattle.wp_open.specs.Tables.{IsStoreCause, LeavesSynced};
 ghost use Rattle.wp_open.specs.Parts.{IsStoreOf, PartsOpened};
 ghost use Rattle.wp_open.specs.Refused.{IsCause, IsOutside, IsLeft};
 
@@ -93,8 +93,8 @@ fn open_store<D: Disk>(
     ensures there { IfOk result (λ store. IfKnown (D.moments tables.old) (λ m. HasTables id edit.now.flushed m.reads edit.now.tables store.tables)) }
     ensures are { IfOk result (λ store. AllByRecursion (IsTable id edit.now.flushed) store.tables) }
     ensures synced { OnOk result (D.moments tables.new ≡ added after_sync (D.moments tables.old)) }
-    ensures cause { IfErr result (IsEditCause id history.now.entries edit.now (Rose (D.faults tables.old) (D.faults tables.new)) (D.moments tables.old)) }
-    ensures left { IfErr result (LeavesTables (tables.new ≡ tables.old) history.now.entries edit.now (D.moments tables.old) (D.moments tables.new)) }
+    ensures cause { IfErr result (IsStoreCause id history.now.entries edit.now (Rose (D.faults tables.old) (D.faults tables.new)) (D.moments tables.old)) }
+    ensures left { IfErr result (LeavesSynced (tables.new ≡ tables.old) (D.moments tables.old) (D.moments tables.new)) }
     ensures later { D.faults tables.old ≤ D.faults tables.new }
 {
     let published = history.published();

@@ -1,10 +1,11 @@
-use Rattle.std.proofs.Common.{ℕ, ◌≤◌, List, length, map, ap, ◌∙◌, subst, arith}
+use Rattle.std.proofs.Common.{ℕ, ◌≤◌, List, length, map, refl, ap, ◌∙◌, subst, arith}
 use Rattle.std.specs.Arc.{arc_value}
 use Rattle.wp_model.specs.declared.version.Version.{Version}
 use Rattle.wp_model.specs.Flushed.{later_versions}
 use Rattle.wp_manifest.specs.Edit.{Edit}
 use Rattle.wp_merge.specs.Merge.{sorted_of}
 use Rattle.wp_open.specs.Opens.{AreCovering}
+use Rattle.wp_open.specs.Tables.{not_covered}
 use Rattle.wp_open.proofs.Stages.{not_covering, uncovered_here}
 use Rattle.wp_open.proofs.opening.open_store.Goals as goal
 
@@ -17,5 +18,5 @@ returns-then-not-branch-clause-cause g c =
     let memory_is = c.new-store.ensures.memory ∙ c.in_ok-memory.ensures ∙ ap (λ (n : ℕ). sorted_of (later_versions history n)) flushed_is in
     let covering = c.in_ok-are_covering.ensures edit low memory_is c.new-store.ensures.frozen in
     let parts_is = c.new-store.ensures.tables in
-    uncovered_here c.args.id history edit (g.D.Disk.moments c.args.tables.now) (g.D.Disk.moments c.sync.new.self) (map arc_value c.in_ok-parts.parts.items) c.in-Ok.ensures.done low c.in_ok-parts.ensures.found
-    (subst (λ (parts : List (List Version)). AreCovering history edit parts → ⊥) parts_is (not_covering c.in_ok-are_covering.field-0 (AreCovering history edit c.new-store.result.tables) covering c.if-not-branch.true))
+    not_covered low refl (uncovered_here c.args.id history edit (g.D.Disk.moments c.args.tables.now) (g.D.Disk.moments c.sync.new.self) (map arc_value c.in_ok-parts.parts.items) c.in-Ok.ensures.done c.in_ok-parts.ensures.found
+    (subst (λ (parts : List (List Version)). AreCovering history edit parts → ⊥) parts_is (not_covering c.in_ok-are_covering.field-0 (AreCovering history edit c.new-store.result.tables) covering c.if-not-branch.true)))
