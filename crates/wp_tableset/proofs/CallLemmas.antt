@@ -2,18 +2,27 @@
 use Rattle.std.proofs.Common.{◌≡◌, ℕ, ◌≤◌, ◌<◌, true, false, List, [], ◌∷◌, length, Result, Ok, Err, refl, arith}
 use Rattle.std.specs.List.{list_all}
 use Rattle.wp_model.specs.declared.version.Version.{Version}
+use Rattle.wp_manifest.specs.Edit.{Edit}
 use Rattle.wp_table.specs.Table.{is_flushed, is_numbered}
 use Rattle.wp_tableset.specs.Changes.{Installs, flushed_edit, compacted_edit, compacted_parts}
-use Rattle.wp_tableset.specs.Install.{InstallsEdit, Puts}
+use Rattle.wp_tableset.specs.Install.{InstallsEdit, Puts, Remain}
 use Rattle.wp_tableset.specs.Set.{TableSetState}
 use Rattle.wp_tableset.specs.declared.error.TableSetError.{TableSetError}
 use Rattle.wp_tableset.proofs.FileLemmas.{tables_on}
 use Rattle.wp_tableset.proofs.SetLemmas.{none_ready, ready_installed, ready_refused}
 
+-- the old edit's tables are those that remain in a flush
+pub all_remain : (old : Edit) (flushed : ℕ) (others : List (ℕ × ℕ)) → others ≡ old.tables → old.flushed ≤ flushed → Remain old flushed others (λ parts. parts)
+all_remain old flushed others same later id bytes parts has = rw same (tables_on id old.flushed flushed bytes old.tables parts later has)
+
+-- ... and none do in a compaction
+pub none_remain : (old : Edit) (flushed : ℕ) (others : List (ℕ × ℕ)) → others ≡ [] → Remain old flushed others (λ _. [])
+none_remain old flushed others none id bytes parts has = rw none tt
+
 pub flush_installs : {T : Type 0} (old new : TableSetState) (versions : List Version) (flushed : ℕ) (others : List (ℕ × ℕ)) (result : Result T TableSetError) → others ≡ old.manifest.edit.tables → old.manifest.edit.flushed ≤ flushed → Puts old new versions flushed others result
     → (place : ℕ) × Installs old new (flushed_edit old versions flushed place) (λ parts. versions ∷ parts) result
 flush_installs old new versions flushed others result same later puts =
-    let installs = puts.1 (λ parts. parts) (λ id bytes parts has. rw same (tables_on id old.manifest.edit.flushed flushed bytes old.manifest.edit.tables parts later has)) in
+    let installs = puts.1 (λ parts. parts) (all_remain old.manifest.edit flushed others same later) in
     (puts.0, rw same at installs)
 
 -- ---- a compaction
@@ -31,17 +40,17 @@ pub compact_installed : {T U : Type 0} (old new : TableSetState) (versions : Lis
     → (place : ℕ) × Installs {T = U} old new (compacted_edit old versions place) (λ _. compacted_parts versions) (Ok y)
 compact_installed old new [] flushed others x y some none same puts = absurd (omega arith)
 compact_installed old new (v ∷ versions) flushed others x y some none same puts =
-    let installs = puts.1 (λ _. []) (λ id bytes parts has. rw none tt) in
+    let installs = puts.1 (λ _. []) (none_remain old.manifest.edit flushed others none) in
     let named = rw (none, same) at installs in
-    (puts.0, record { passed = named.passed; installed = named.installed; refused = tt })
+    (puts.0, record { passed = named.passed; there = named.there; installed = named.installed; refused = tt })
 
 pub compact_refused : {T U : Type 0} (old new : TableSetState) (versions : List Version) (flushed : ℕ) (others : List (ℕ × ℕ)) (why : TableSetError) → 1 ≤ length versions → others ≡ [] → flushed ≡ old.manifest.edit.flushed → Puts {T = T} old new versions flushed others (Err why)
     → (place : ℕ) × Installs {T = U} old new (compacted_edit old versions place) (λ _. compacted_parts versions) (Err why)
 compact_refused old new [] flushed others why some none same puts = absurd (omega arith)
 compact_refused old new (v ∷ versions) flushed others why some none same puts =
-    let installs = puts.1 (λ _. []) (λ id bytes parts has. rw none tt) in
+    let installs = puts.1 (λ _. []) (none_remain old.manifest.edit flushed others none) in
     let named = rw (none, same) at installs in
-    (puts.0, record { passed = named.passed; installed = tt; refused = named.refused })
+    (puts.0, record { passed = named.passed; there = named.there; installed = tt; refused = named.refused })
 
 pub none_installed : {T : Type 0} (old new : TableSetState) (versions : List Version) (flushed : ℕ) (tables : List (ℕ × ℕ)) (x : T) → old.halted ≡ false → versions ≡ [] → tables ≡ [] → flushed ≡ old.manifest.edit.flushed → InstallsEdit {T = Unit {0}} old new (record { flushed = flushed; tables = tables }) (Ok tt)
     → (place : ℕ) × Installs {T = T} old new (compacted_edit old versions place) (λ _. compacted_parts versions) (Ok x)

@@ -3,10 +3,9 @@ use Rattle.std.proofs.Common.{◌≡◌, inl, inr, ℕ, List, [], ◌∷◌, ◌
 use Rattle.std.proofs.lemmas.List.{append_assoc}
 use Rattle.wp_outside.specs.Disk.{Moment, IsImage, IfKnown, synced, added, after_write, after_sync, Tears}
 use Rattle.wp_gatelog.specs.Moments.{Goes, Leaves, IsSynced}
-use Rattle.wp_gatelog.proofs.ChangeLemmas.{synced_steps}
 use Rattle.wp_gatelog.proofs.DurabilityLemmas.{torn_preserves, synced_preserves}
-use Rattle.wp_gatelog.proofs.MomentLemmas.{goes_map, torn_goes, synced_goes, known_as, image_after, reads_after, write_reads_image}
-use Rattle.wp_tableset.specs.Device.{BeginsWith, GrowsFrom}
+use Rattle.wp_gatelog.proofs.MomentLemmas.{goes_map, torn_goes, synced_goes, image_after, reads_after, write_reads_image}
+use Rattle.wp_tableset.specs.Device.{BeginsWith, GrowsFrom, IsEnd}
 
 -- nothing was done
 pub unmoved : (P : Moment → Type 0) (moments : List Moment) → Goes P moments moments
@@ -29,7 +28,7 @@ module _ (before bytes : List ℕ) (place : ℕ) where
   begins is m leaves image h = image_after before place bytes image is (leaves image h)
 
   -- where the device is unknown, nothing is known of its length
-  pub torn_grows : (old new : List Moment) → IsSynced before old → IfKnown old (λ m. place ≡ length m.reads) → Tears (after_write place bytes) old new → GrowsFrom before old new
+  pub torn_grows : (old new : List Moment) → IsSynced before old → IsEnd old place → Tears (after_write place bytes) old new → GrowsFrom before old new
   torn_grows [] new known at torn = unmoved_grows before [] new (elim torn [ inl same ↦ same | inr w ↦ w.1 ])
   torn_grows (m ∷ past) new known at torn =
       let is : place ≡ length before = at ∙ ap (λ (n : Moment). length n.reads) known in
@@ -38,7 +37,7 @@ module _ (before bytes : List ℕ) (place : ℕ) where
         fronts = λ front. torn_preserves (BeginsWith front) (after_write place bytes) before (spared is front) (m ∷ past) new known torn;
       }
 
-  pub synced_grows : {T E : Type 0} (old mid new : List Moment) (result : Result T E) → IsSynced before old → IfKnown old (λ m. place ≡ length m.reads)
+  pub synced_grows : {T E : Type 0} (old mid new : List Moment) (result : Result T E) → IsSynced before old → IsEnd old place
       → mid ≡ added (after_write place bytes) old → OnOk result (new ≡ added after_sync mid) → OnErr result (new ≡ mid) → GrowsFrom before old new
   synced_grows [] mid new (Ok x) known at adds syncs stays = unmoved_grows before [] new (syncs ∙ ap (λ (ms : List Moment). added after_sync ms) adds)
   synced_grows [] mid new (Err e) known at adds syncs stays = unmoved_grows before [] new (stays ∙ adds)
@@ -50,13 +49,12 @@ module _ (before bytes : List ℕ) (place : ℕ) where
         fronts = λ front. synced_preserves (BeginsWith front) (after_write place bytes) before (spared is front) (m ∷ past) mid new result reads known adds syncs stays;
       }
 
-  pub synced_behind : (old mid new : List Moment) → IsSynced before old → IfKnown old (λ m. place ≡ length m.reads)
-      → mid ≡ added (after_write place bytes) old → new ≡ added after_sync mid → IsSynced (before ++ bytes) new
-  synced_behind [] mid new known at adds syncs = subst (IsSynced (before ++ bytes)) (sym (syncs ∙ ap (λ (ms : List Moment). added after_sync ms) adds)) tt
-  synced_behind (m ∷ past) mid new known at adds syncs =
-      known_as new (after_write place bytes (synced before)).reads (before ++ bytes) (reads_after before bytes place (at ∙ ap (λ (n : Moment). length n.reads) known))
-      (synced_steps (after_write place bytes) before {T = Unit {0}} {E = ℕ} (m ∷ past) mid new (Ok tt) (write_reads_image place bytes before) known adds syncs tt).done
+reads_behind : (bytes : List ℕ) (place : ℕ) (m : Moment) → place ≡ length m.reads → (after_write place bytes m).reads ≡ m.reads ++ bytes
+reads_behind [] place m at = reads_after m.reads [] place at
+reads_behind (b ∷ bytes) place m at = reads_after m.reads (b ∷ bytes) place at
 
-pub place_behind : (before : List ℕ) (place : ℕ) (old : List Moment) → IsSynced before old → IfKnown old (λ m. place ≡ length m.reads) → IfKnown old (λ _. place ≡ length before)
-place_behind before place [] known at = tt
-place_behind before place (m ∷ past) known at = at ∙ ap (λ (n : Moment). length n.reads) known
+-- once synced, the old bytes and the new ones are there for good
+pub synced_behind : (bytes : List ℕ) (place : ℕ) (old mid new : List Moment) → IsEnd old place → mid ≡ added (after_write place bytes) old → new ≡ added after_sync mid → IfKnown old (λ m. IsSynced (m.reads ++ bytes) new)
+synced_behind bytes place [] mid new at adds syncs = tt
+synced_behind bytes place (m ∷ past) mid new at adds syncs =
+    subst (IsSynced (m.reads ++ bytes)) (sym (syncs ∙ ap (λ (ms : List Moment). added after_sync ms) adds)) (ap synced (reads_behind bytes place m at))

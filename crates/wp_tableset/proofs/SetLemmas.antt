@@ -1,12 +1,12 @@
 -- What the two devices store while a table is written and an edit is installed.
-use Rattle.std.proofs.Common.{◌≡◌, inl, inr, ℕ, ◌≤◌, ◌<◌, ◌^◌, Bool, true, false, List, [], ◌∷◌, ◌++◌, length, Result, Ok, Err, refl, sym, ap, subst, arith}
+use Rattle.std.proofs.Common.{◌≡◌, ◌⊎◌, inl, inr, ℕ, ◌≤◌, ◌<◌, ◌^◌, Bool, true, false, List, [], ◌∷◌, ◌++◌, length, Result, Ok, Err, refl, sym, ap, subst, arith}
 use Rattle.wp_model.specs.declared.version.Version.{Version}
 use Rattle.wp_outside.specs.Disk.{Moment, IsImage, IfKnown, Each, Passes, synced}
 use Rattle.wp_outside.specs.Faults.{Rose}
 use Rattle.wp_outside.proofs.Moments.{image_of_synced}
 use Rattle.wp_gatelog.specs.Durability.{LosesNoRecord}
 use Rattle.wp_gatelog.specs.Moments.{Leaves, IsSynced}
-use Rattle.wp_gatelog.proofs.MomentLemmas.{goes_map, known_map}
+use Rattle.wp_gatelog.proofs.MomentLemmas.{goes_map, known_map, known_both}
 use Rattle.wp_gatelog.proofs.SurvivalLemmas.{goes_passes}
 use Rattle.wp_manifest.specs.Edit.{Edit, IsEdit, no_edit}
 use Rattle.wp_manifest.specs.Manifest.{ManifestState, StoresEdits, InstallRefused}
@@ -14,9 +14,9 @@ use Rattle.wp_manifest.specs.Spelling.{MAGIC, IsManifestOrNext, last_edit}
 use Rattle.wp_manifest.specs.declared.error.InstallError.TheVariants as install
 use Rattle.wp_table.specs.File.{HasTables}
 use Rattle.wp_table.specs.Table.{IsTable, table_bytes}
-use Rattle.wp_tableset.specs.Changes.{placed, Refused, Installs, Keeps}
-use Rattle.wp_tableset.specs.Device.{BeginsWith, KeepsFronts, GrowsFrom}
-use Rattle.wp_tableset.specs.Install.{IsReady, InstallsEdit, Remain}
+use Rattle.wp_tableset.specs.Changes.{placed, NewestIsBehind, Refused, Installs, Keeps}
+use Rattle.wp_tableset.specs.Device.{BeginsWith, IsEnd, KeepsFronts, GrowsFrom}
+use Rattle.wp_tableset.specs.Install.{IsReady, InstallsEdit, LeavesNext, Remain}
 use Rattle.wp_tableset.specs.Set.{TableSetState, LeavesTables, RestsWith, StoresTables}
 use Rattle.wp_tableset.specs.declared.error.TableSetError.{TableSetError}
 use Rattle.wp_tableset.specs.declared.error.TableSetError.TheVariants.{Memory, Fault, Halted}
@@ -42,11 +42,11 @@ none_left id (m ∷ past) = λ image h. tt
 abbrev pub Grows : List Moment → List Moment → Type 0
 Grows old mid = (before : List ℕ) → IsSynced before old → GrowsFrom before old mid
 
-abbrev pub IsBehind : List Moment → ℕ → Type 0
-IsBehind old place = (before : List ℕ) → IsSynced before old → IfKnown old (λ _. place ≡ length before)
-
 abbrev pub SyncsBehind : List Moment → List Moment → List ℕ → Type 0
-SyncsBehind old mid bytes = (before : List ℕ) → IsSynced before old → IsSynced (before ++ bytes) mid
+SyncsBehind old mid bytes = IfKnown old (λ m. IsSynced (m.reads ++ bytes) mid)
+
+read_bytes : (m : Moment) (bytes : List ℕ) → m ≡ synced bytes → m.reads ≡ bytes
+read_bytes m bytes is = ap (λ (n : Moment). n.reads) is
 
 module _ (id : ℕ) (last : Edit) (parts : List (List Version)) where
   -- the old tables stay
@@ -73,20 +73,45 @@ module _ (id : ℕ) (last : Edit) (parts : List (List Version)) where
   pub rests_grown : (bytes : List ℕ) (old mid : List Moment) → Grows old mid → SyncsBehind old mid bytes → IfKnown old (RestsWith id last parts) → IfKnown mid (RestsWith id last parts)
   rests_grown bytes [] mid grows syncs rests = unknown_still (RestsWith id last parts) mid grows
   rests_grown bytes (m ∷ past) mid grows syncs rests =
-      known_map (λ n. n ≡ synced (rests.bytes ++ bytes)) (RestsWith id last parts)
-      (λ n is. record { bytes = rests.bytes ++ bytes; on_disk = is; tables = tables_in_front id last.flushed rests.bytes bytes last.tables parts rests.tables }) mid (syncs rests.bytes rests.on_disk)
+      known_map (λ n. n ≡ synced (m.reads ++ bytes)) (RestsWith id last parts)
+      (λ n is. record {
+        bytes = m.reads ++ bytes;
+        on_disk = is;
+        tables = tables_in_front id last.flushed m.reads bytes last.tables parts (subst (λ (l : List ℕ). HasTables id last.flushed l last.tables parts) (sym (read_bytes m rests.bytes rests.on_disk)) rests.tables);
+      }) mid syncs
 
-  -- and the new one is there too
-  pub table_rests : (versions : List Version) (flushed place : ℕ) (others : List (ℕ × ℕ)) (after : List (List Version) → List (List Version)) (old mid : List Moment) → Grows old mid → IsBehind old place → SyncsBehind old mid (table_bytes id versions) → IsTable id flushed versions → Remain last flushed others after
-      → IfKnown old (RestsWith id last parts) → IfKnown mid (RestsWith id (record { flushed = flushed; tables = placed id versions place ∷ others }) (versions ∷ after parts))
-  table_rests versions flushed place others after [] mid grows behind syncs is remain rests = unknown_still (RestsWith id (record { flushed = flushed; tables = placed id versions place ∷ others }) (versions ∷ after parts)) mid grows
-  table_rests versions flushed place others after (m ∷ past) mid grows behind syncs is remain rests =
-      known_map (λ n. n ≡ synced (rests.bytes ++ table_bytes id versions)) (RestsWith id (record { flushed = flushed; tables = placed id versions place ∷ others }) (versions ∷ after parts))
-      (λ n on_disk. record {
-        bytes = rests.bytes ++ table_bytes id versions;
-        on_disk = on_disk;
-        tables = (table_behind id flushed rests.bytes place versions (behind rests.bytes rests.on_disk) is, tables_in_front id flushed rests.bytes (table_bytes id versions) others (after parts) (remain id rests.bytes parts rests.tables));
-      }) mid (syncs rests.bytes rests.on_disk)
+-- the new table is there too
+module _ (id : ℕ) (last : Edit) (parts : List (List Version)) (versions : List Version) (flushed place : ℕ) (others : List (ℕ × ℕ)) (after : List (List Version) → List (List Version)) (old mid : List Moment) (grows : Grows old mid) (end : IsEnd old place) (syncs : SyncsBehind old mid (table_bytes id versions)) (is : IsTable id flushed versions) (remain : Remain last flushed others after) where
+  abbrev next : Edit
+  next = record { flushed = flushed; tables = placed id versions place ∷ others }
+
+  -- behind bytes that have the old ones
+  both_there : (m : Moment) → place ≡ length m.reads → HasTables id last.flushed (m.reads ++ table_bytes id versions) last.tables parts → HasTables id flushed (m.reads ++ table_bytes id versions) next.tables (versions ∷ after parts)
+  both_there m at has = (table_behind id flushed m.reads place versions at is, remain id (m.reads ++ table_bytes id versions) parts has)
+
+  pub table_rests : IfKnown old (RestsWith id last parts) → IfKnown mid (RestsWith id next (versions ∷ after parts))
+  table_rests rests = by old grows end syncs rests
+    where
+      by : (ms : List Moment) → Grows ms mid → IsEnd ms place → SyncsBehind ms mid (table_bytes id versions) → IfKnown ms (RestsWith id last parts) → IfKnown mid (RestsWith id next (versions ∷ after parts))
+      by [] grows end syncs rests = unknown_still id last parts (RestsWith id next (versions ∷ after parts)) mid grows
+      by (m ∷ past) grows end syncs rests =
+          known_map (λ n. n ≡ synced (m.reads ++ table_bytes id versions)) (RestsWith id next (versions ∷ after parts))
+          (λ n on_disk. record {
+            bytes = m.reads ++ table_bytes id versions;
+            on_disk = on_disk;
+            tables = both_there m end (tables_in_front id last.flushed m.reads (table_bytes id versions) last.tables parts (subst (λ (l : List ℕ). HasTables id last.flushed l last.tables parts) (sym (read_bytes m rests.bytes rests.on_disk)) rests.tables));
+          }) mid syncs
+
+  pub table_left : IfKnown mid (LeavesTables id last parts) → IfKnown mid (LeavesTables id next (versions ∷ after parts))
+  table_left left = by old grows end syncs
+    where
+      by : (ms : List Moment) → Grows ms mid → IsEnd ms place → SyncsBehind ms mid (table_bytes id versions) → IfKnown mid (LeavesTables id next (versions ∷ after parts))
+      by [] grows end syncs = unknown_still id last parts (LeavesTables id next (versions ∷ after parts)) mid grows
+      by (m ∷ past) grows end syncs =
+          known_both (λ n. n ≡ synced (m.reads ++ table_bytes id versions)) (LeavesTables id last parts) (LeavesTables id next (versions ∷ after parts))
+          (λ n on_disk leaves image h.
+          let same : image ≡ m.reads ++ table_bytes id versions = image_of_synced (m.reads ++ table_bytes id versions) image (subst (λ (x : Moment). IsImage x image) on_disk h) in
+          subst (λ (l : List ℕ). HasTables id flushed l next.tables (versions ∷ after parts)) (sym same) (both_there m end (subst (λ (l : List ℕ). HasTables id last.flushed l last.tables parts) same (leaves image h)))) mid syncs left
 
 -- ---- the manifest alone
 
@@ -120,6 +145,7 @@ module _ (old new : ManifestState) (moments : List Moment) (faults : ℕ) (halte
 -- there for good.
 pub record Ready (old : TableSetState) (mid : List Moment) (next : Edit) (after : List (List Version) → List (List Version)) : Type 0 where
   pub was_running : old.halted ≡ false
+  pub behind : NewestIsBehind old.moments next.tables
   pub last_rests : (parts : List (List Version)) → IfKnown old.moments (RestsWith old.manifest.log.id old.manifest.edit parts) → IfKnown mid (RestsWith old.manifest.log.id old.manifest.edit parts)
   pub next_rests : (parts : List (List Version)) → IfKnown old.moments (RestsWith old.manifest.log.id old.manifest.edit parts) → IfKnown mid (RestsWith old.manifest.log.id next (after parts))
 
@@ -127,13 +153,19 @@ module _ (old new : TableSetState) (mid : List Moment) (faults : ℕ) (next : Ed
   abbrev id : ℕ
   id = old.manifest.log.id
 
+  there : {U : Type 0} (result : Result U TableSetError) → InstallsEdit (record old { moments = mid; faults = faults }) new next result → (edits : List Edit) (parts : List (List Version)) → StoresTables old edits no_edit parts []
+      → (new.manifest.log.moments ≡ old.manifest.log.moments) ⊎ IfKnown new.moments (LeavesTables id next (after parts))
+  there result installs edits parts stores = inr (rw installs.moments (left_of id next (after parts) mid (ready.next_rests parts (stores.rests ready.was_running))))
+
   pub ready_installed : {T : Type 0} (x : T) → InstallsEdit {T = Unit {0}} (record old { moments = mid; faults = faults }) new next (Ok tt) → Installs {T = T} old new next after (Ok x)
   ready_installed x installs = record {
     passed = installs.passed;
+    there = there (Ok tt) installs;
     installed = record {
       was_running = ready.was_running;
       running = installs.installed.0;
       last = installs.installed.1;
+      behind = ready.behind;
       stores = λ edits parts stores.
           let rests : IfKnown mid (RestsWith id next (after parts)) = ready.next_rests parts (stores.rests ready.was_running) in record {
             manifest = installs.installed.2 edits stores.manifest;
@@ -158,6 +190,7 @@ module _ (old new : TableSetState) (mid : List Moment) (faults : ℕ) (next : Ed
     inr (record {
       rose = installs.refused.1;
       last = installs.refused.2;
+      behind = ready.behind;
       stores = λ edits parts stores. record {
         manifest = installs.refused.3 edits stores.manifest;
         rests = λ running. absurd cc;
@@ -169,22 +202,33 @@ module _ (old new : TableSetState) (mid : List Moment) (faults : ℕ) (next : Ed
   refused Halted installs = absurd installs.refused
 
   pub ready_refused : {T : Type 0} (why : TableSetError) → InstallsEdit {T = Unit {0}} (record old { moments = mid; faults = faults }) new next (Err why) → Installs {T = T} old new next after (Err why)
-  ready_refused why installs = record { passed = installs.passed; installed = tt; refused = refused why installs }
+  ready_refused why installs = record { passed = installs.passed; there = there {U = Unit {0}} (Err why) installs; installed = tt; refused = refused why installs }
 
 -- ---- the exits of the calls
 
-pub table_ready : (old : TableSetState) (mid : List Moment) (versions : List Version) (flushed place : ℕ) (others : List (ℕ × ℕ)) → old.halted ≡ false → Grows old.moments mid → IsBehind old.moments place → SyncsBehind old.moments mid (table_bytes old.manifest.log.id versions) → IsTable old.manifest.log.id flushed versions
+pub table_ready : (old : TableSetState) (mid : List Moment) (versions : List Version) (flushed place : ℕ) (others : List (ℕ × ℕ)) → old.halted ≡ false → Grows old.moments mid → IsEnd old.moments place → SyncsBehind old.moments mid (table_bytes old.manifest.log.id versions) → IsTable old.manifest.log.id flushed versions
     → (after : List (List Version) → List (List Version)) → Remain old.manifest.edit flushed others after → Ready old mid (record { flushed = flushed; tables = placed old.manifest.log.id versions place ∷ others }) (λ parts. versions ∷ after parts)
-table_ready old mid versions flushed place others running grows behind syncs is after remain = record {
+table_ready old mid versions flushed place others running grows end syncs is after remain = record {
   was_running = running;
+  behind = end;
   last_rests = λ parts rests. rests_grown old.manifest.log.id old.manifest.edit parts (table_bytes old.manifest.log.id versions) old.moments mid grows syncs rests;
-  next_rests = λ parts rests. table_rests old.manifest.log.id old.manifest.edit parts versions flushed place others after old.moments mid grows behind syncs is remain rests;
+  next_rests = λ parts rests. table_rests old.manifest.log.id old.manifest.edit parts versions flushed place others after old.moments mid grows end syncs is remain rests;
 }
 
+-- the tables of that edit are there as it is installed
+pub table_next : (old : TableSetState) (mid : List Moment) (faults : ℕ) (versions : List Version) (flushed place : ℕ) (others : List (ℕ × ℕ)) → Grows old.moments mid → IsEnd old.moments place → SyncsBehind old.moments mid (table_bytes old.manifest.log.id versions) → IsTable old.manifest.log.id flushed versions
+    → (after : List (List Version) → List (List Version)) × Remain old.manifest.edit flushed others after → LeavesNext (record old { moments = mid; faults = faults }) (record { flushed = flushed; tables = placed old.manifest.log.id versions place ∷ others })
+table_next old mid faults versions flushed place others grows end syncs is (after, remain) =
+    λ parts left. (versions ∷ after parts, table_left old.manifest.log.id old.manifest.edit parts versions flushed place others after old.moments mid grows end syncs is remain left)
+
 -- an edit without tables
+pub none_next : (set : TableSetState) (flushed : ℕ) → LeavesNext set (record { flushed = flushed; tables = [] })
+none_next set flushed = λ parts left. ([], known_map (LeavesTables set.manifest.log.id set.manifest.edit parts) (LeavesTables set.manifest.log.id (record { flushed = flushed; tables = [] }) []) (λ m leaves image h. tt) set.moments left)
+
 pub none_ready : (old : TableSetState) (flushed : ℕ) → old.halted ≡ false → Ready old old.moments (record { flushed = flushed; tables = [] }) (λ _. [])
 none_ready old flushed running = record {
   was_running = running;
+  behind = tt;
   last_rests = λ parts rests. rests;
   next_rests = λ parts rests. known_map (RestsWith old.manifest.log.id old.manifest.edit parts) (RestsWith old.manifest.log.id (record { flushed = flushed; tables = [] }) []) (λ m r. record { bytes = r.bytes; on_disk = r.on_disk; tables = tt }) old.moments rests;
 }
@@ -193,6 +237,7 @@ pub tables_failed : {T : Type 0} (old : TableSetState) (mid : List Moment) (faul
     → Installs {T = T} old (record old { moments = mid; faults = faults; halted = true }) next after (Err Fault)
 tables_failed old mid faults next after running grows rose = record {
   passed = λ edits stores is. ([], refl, tt);
+  there = λ edits parts stores. inl refl;
   installed = tt;
   refused = (
     running,

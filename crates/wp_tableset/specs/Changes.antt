@@ -1,7 +1,7 @@
 -- What a call makes of the tables of a store.
 use Rattle.std.specs.Prelude.{◌≡◌, ◌⊎◌, ◌≤◌, ℕ, true, false, List, [], ◌∷◌, ◌++◌, length, Option, Some, None, Result, OnOk, IfErr}
 use Rattle.wp_model.specs.declared.version.Version.{Version}
-use Rattle.wp_outside.specs.Disk.{Passes}
+use Rattle.wp_outside.specs.Disk.{Moment, IfKnown, Passes}
 use Rattle.wp_outside.specs.Faults.{Rose}
 use Rattle.wp_gatelog.specs.Durability.{LosesNoRecord}
 use Rattle.wp_gatelog.specs.Moments.{Leaves}
@@ -9,7 +9,7 @@ use Rattle.wp_manifest.specs.Edit.{Edit, no_edit}
 use Rattle.wp_manifest.specs.Manifest.{StoresEdits}
 use Rattle.wp_manifest.specs.Spelling.{MAGIC, IsManifestOrNext}
 use Rattle.wp_table.specs.Table.{table_bytes}
-use Rattle.wp_tableset.specs.Device.{KeepsFronts}
+use Rattle.wp_tableset.specs.Device.{IsEnd, KeepsFronts}
 use Rattle.wp_tableset.specs.Set.{TableSetState, LeavesTables, StoresTables}
 use Rattle.wp_tableset.specs.declared.error.TableSetError.{TableSetError}
 use Rattle.wp_tableset.specs.declared.error.TableSetError.TheVariants.{Memory, Fault, Halted}
@@ -46,11 +46,17 @@ compacted_parts (v ∷ versions) = (v ∷ versions) ∷ []
 
 -- ---- an install
 
+-- the newest of these tables, if there is one, begins where the device's bytes ended
+abbrev pub NewestIsBehind : List Moment → List (ℕ × ℕ) → Type 0
+NewestIsBehind moments [] = Unit {0}
+NewestIsBehind moments (table ∷ tables) = IsEnd moments table.0
+
 -- the next edit is the last one, and the set stores its tables, which `after` makes of the old ones
 pub record Installed (old new : TableSetState) (next : Edit) (after : List (List Version) → List (List Version)) : Type 0 where
   pub was_running : old.halted ≡ false
   pub running : new.halted ≡ false
   pub last : new.manifest.edit ≡ next
+  pub behind : NewestIsBehind old.moments next.tables
   pub stores : (edits : List Edit) (parts : List (List Version)) → StoresTables old edits no_edit parts []
       → StoresTables new (edits ++ next ∷ []) no_edit (after parts) []
 
@@ -65,6 +71,7 @@ pub record TablesFailed (old new : TableSetState) : Type 0 where
 pub record InstallFailed (old new : TableSetState) (next : Edit) (after : List (List Version) → List (List Version)) : Type 0 where
   pub rose : Rose old.manifest.log.faults new.manifest.log.faults
   pub last : new.manifest.edit ≡ old.manifest.edit
+  pub behind : NewestIsBehind old.moments next.tables
   pub stores : (edits : List Edit) (parts : List (List Version)) → StoresTables old edits no_edit parts []
       → StoresTables new edits next parts (after parts)
 
@@ -77,11 +84,13 @@ Refused old new next after Memory =
 Refused old new next after Fault = (old.halted ≡ false) × (new.halted ≡ true) × (TablesFailed old new ⊎ InstallFailed old new next after)
 Refused old new next after Halted = (old.halted ≡ true) × (new ≡ old)
 
--- At each moment a crash leaves the edits before, or those and the next one, whole; and in the end the next one is
--- installed, or refused.
+-- At each moment a crash leaves the edits before, or those and the next one, whole. Where the manifest's device was called,
+-- a crash leaves the next one's tables. In the end the next one is installed, or refused.
 pub record Installs {T : Type 0} (old new : TableSetState) (next : Edit) (after : List (List Version) → List (List Version)) (result : Result T TableSetError) : Type 0 where
   pub passed : (edits : List Edit) → StoresEdits old.manifest edits no_edit → old.manifest.log.closed ≡ false
       → Passes (Leaves (IsManifestOrNext old.manifest.log.id edits next)) old.manifest.log.moments new.manifest.log.moments
+  pub there : (edits : List Edit) (parts : List (List Version)) → StoresTables old edits no_edit parts []
+      → (new.manifest.log.moments ≡ old.manifest.log.moments) ⊎ IfKnown new.moments (LeavesTables old.manifest.log.id next (after parts))
   pub installed : OnOk result (Installed old new next after)
   pub refused : IfErr result (Refused old new next after)
 

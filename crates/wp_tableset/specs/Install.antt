@@ -1,7 +1,7 @@
 -- The parts of a call: a table is written, and then an edit is installed.
 use Rattle.std.specs.Prelude.{◌≡◌, ◌≤◌, ◌<◌, ◌^◌, ℕ, Bool, true, false, List, [], ◌∷◌, ◌++◌, length, Result, OnOk, IfErr}
 use Rattle.wp_model.specs.declared.version.Version.{Version}
-use Rattle.wp_outside.specs.Disk.{Passes}
+use Rattle.wp_outside.specs.Disk.{IfKnown, Passes}
 use Rattle.wp_outside.specs.Faults.{Rose}
 use Rattle.wp_gatelog.specs.Durability.{LosesNoRecord}
 use Rattle.wp_gatelog.specs.Moments.{Leaves}
@@ -10,7 +10,7 @@ use Rattle.wp_manifest.specs.Manifest.{ManifestState, StoresEdits}
 use Rattle.wp_manifest.specs.Spelling.{MAGIC, IsManifestOrNext}
 use Rattle.wp_table.specs.File.{HasTables}
 use Rattle.wp_tableset.specs.Changes.{Installs, placed}
-use Rattle.wp_tableset.specs.Set.{TableSetState}
+use Rattle.wp_tableset.specs.Set.{TableSetState, LeavesTables}
 use Rattle.wp_tableset.specs.declared.error.TableSetError.{TableSetError}
 use Rattle.wp_tableset.specs.declared.error.TableSetError.TheVariants.{Memory, Fault, Halted}
 
@@ -21,6 +21,11 @@ pub record IsReady (manifest : ManifestState) (halted : Bool) : Type 0 where
   pub count : length manifest.edit.tables ≤ manifest.edit.flushed
 
 -- ---- the edit
+
+-- where a crash leaves the last edit's tables, it leaves those of the next one
+abbrev pub LeavesNext : TableSetState → Edit → Type 0
+LeavesNext set next = (parts : List (List Version)) → IfKnown set.moments (LeavesTables set.manifest.log.id set.manifest.edit parts)
+    → (next_parts : List (List Version)) × IfKnown set.moments (LeavesTables set.manifest.log.id next next_parts)
 
 -- why the edit was not installed: for want of memory, or the manifest's device failed
 abbrev pub InstallStopped : TableSetState → TableSetState → Edit → TableSetError → Type 0

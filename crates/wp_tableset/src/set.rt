@@ -8,7 +8,7 @@ ghost use Rattle.wp_manifest.specs.Edit.{Edit, no_edit};
 ghost use Rattle.wp_manifest.specs.Manifest.{StoresEdits};
 ghost use Rattle.wp_table.specs.Table.{is_flushed, is_numbered};
 ghost use Rattle.wp_tableset.specs.Changes.{Installs, Keeps, placed, flushed_edit, compacted_edit, compacted_parts, one_part};
-ghost use Rattle.wp_tableset.specs.Install.{InstallsEdit, Puts};
+ghost use Rattle.wp_tableset.specs.Install.{InstallsEdit, LeavesNext, Puts, Remain};
 ghost use Rattle.wp_tableset.specs.Set.{RestsWith, StoresTables};
 
 use crate::device::write_behind;
@@ -155,6 +155,7 @@ impl<D: Disk> TableSet<D> {
         requires fits { flushed < 2 ^ 32 }
         requires count { length places.items < flushed }
         requires room { length places.items < vec_capacity places }
+        requires remain { (after : List (List Version) → List (List Version)) × Remain self.old.manifest.edit flushed places.items after }
         ensures table { IfOk result (λ table. arc_value table ≡ versions.now) }
         ensures puts { Puts self.old self.new versions.now flushed places.items result }
         ensures keeps { Keeps self.old self.new }
@@ -171,11 +172,12 @@ impl<D: Disk> TableSet<D> {
         Ok(table)
     }
 
-    /// Makes the edit the last one. Its tables are there for good before.
+    /// Makes the edit the last one.
     fn install(&mut self, edit: Edit) -> Result<(), TableSetError>
         requires running { self.old.halted ≡ false }
         requires fits { edit.flushed < 2 ^ 32 }
         requires count { length edit.tables ≤ edit.flushed }
+        requires there { LeavesNext self.old edit }
         ensures { InstallsEdit self.old self.new edit result }
     {
         match self.manifest.install(edit) {

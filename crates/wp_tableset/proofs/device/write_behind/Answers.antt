@@ -11,4 +11,4 @@ pub returns-clause-grows : goal.returns-clause-grows
 returns-clause-grows g c = λ before known. synced_grows before c.args.bytes.now c.in_ok-place.place _ _ _ c.sync.result known c.in_ok-place.ensures.length (rw c.in_ok-place.ensures.unchanged at c.in_ok-write_at.ensures.done) c.sync.ensures.done c.sync.ensures.unchanged
 
 pub returns-clause-synced : goal.returns-clause-synced
-returns-clause-synced g c = λ before known. synced_behind before c.args.bytes.now c.in_ok-place.place _ _ _ known c.in_ok-place.ensures.length (rw c.in_ok-place.ensures.unchanged at c.in_ok-write_at.ensures.done) c.in_ok-sync.ensures.done
+returns-clause-synced g c = synced_behind c.args.bytes.now c.in_ok-place.place _ _ _ c.in_ok-place.ensures.length (rw c.in_ok-place.ensures.unchanged at c.in_ok-write_at.ensures.done) c.in_ok-sync.ensures.done

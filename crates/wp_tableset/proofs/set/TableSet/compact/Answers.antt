@@ -1,6 +1,6 @@
-use Rattle.std.proofs.Common.{◌≡◌, ◌≤◌, length, false, rules}
+use Rattle.std.proofs.Common.{◌≡◌, ◌≤◌, [], length, false, rules}
 use Rattle.std.proofs.lemmas.Result.{err_from_is_err_and}
-use Rattle.wp_tableset.proofs.CallLemmas.{empty_of, flushed_some, compact_installed, compact_refused, none_installed, none_refused}
+use Rattle.wp_tableset.proofs.CallLemmas.{none_remain, empty_of, flushed_some, compact_installed, compact_refused, none_installed, none_refused}
 use Rattle.wp_tableset.proofs.set.TableSet.compact.Goals as goal
 
 pub returns-in_err-install-clause-installs : goal.returns-in_err-install-clause-installs
@@ -17,6 +17,9 @@ returns-then-is_empty-clause-installs g c =
     let none : length c.args.versions.now ≡ 0 = search rules in
     let same : c.behind-self.inside.flushed ≡ c.args.self.now.manifest.edit.flushed = search rules in
     none_installed _ _ _ _ _ _ running (empty_of _ none) c.new-tables.ensures.items same c.in_ok-install.ensures
+
+pub put-requires-clause-remain : goal.put-requires-clause-remain
+put-requires-clause-remain g c = (λ _. [], none_remain _ _ _ c.in_ok-places.ensures.items)
 
 pub put-requires-clause-count : goal.put-requires-clause-count
 put-requires-clause-count g c =
