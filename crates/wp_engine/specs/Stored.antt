@@ -2,7 +2,7 @@
 use Rattle.std.specs.Prelude.{◌≡◌, ◌⊎◌, ℕ, zero, suc, ◌+◌, ◌^◌, ◌<◌, ◌≤◌, Bool, true, false, List, [], ◌∷◌, ◌++◌, length, None}
 use Rattle.wp_model.specs.declared.entry.Entry.{Entry}
 use Rattle.wp_model.specs.declared.version.Version.{Version}
-use Rattle.wp_model.specs.Flushed.{IsEditCovered, later_versions}
+use Rattle.wp_model.specs.Flushed.{InstalledEdit, IsEditCovered, later_versions}
 use Rattle.wp_model.specs.Legal.{IsLegal, undone_last}
 use Rattle.wp_model.specs.Versions.{AreInOrder, version_at}
 use Rattle.wp_outside.specs.Disk.{Moment, images}
@@ -11,23 +11,46 @@ use Rattle.wp_gatelog.specs.Moments.{Leaves}
 use Rattle.wp_wal.specs.Spelling.{IsLogOf, HasAcknowledgedEntries}
 use Rattle.wp_manifest.specs.Edit.{Edit, no_edit}
 use Rattle.wp_merge.specs.Merge.{first_at}
-use Rattle.wp_open.specs.Opens.{Opens, installed_of}
+use Rattle.wp_open.specs.Opens.{OpensTo, installed_of}
 use Rattle.wp_store.specs.Store.{StoreParts}
 use Rattle.wp_tableset.specs.Set.{TableSetState, StoresTables}
 use Rattle.wp_wal.specs.Wal.{WalState, LeavesHistory, StoresHistory}
 use Rattle.wp_engine.specs.Engine.{EngineState}
 
--- ---- the log of a history
+-- ---- what a crash leaves
 
--- the history, or, once the log has failed, it and one record more
-abbrev pub IsOrOneMore : (stopped : Bool) → List Entry → List Entry → Type 0
-IsOrOneMore false history longer = longer ≡ history
-IsOrOneMore true history longer = (longer ≡ history) ⊎ ((next : List Entry) × IsRecord (length history + 1) next × (longer ≡ history ++ next))
+-- how often a device of a store can have failed: once it has, it is not called any more
+abbrev pub fault_count : Bool → ℕ
+fault_count false = 0
+fault_count true = 1
 
--- whatever a crash leaves of the three devices opens to the history, or, once the log has failed, to it and one record more
+-- the history; or, once the log has failed, it or it and one record more
+abbrev pub IsOrOneMore : (faults : ℕ) → List Entry → List Entry → Type 0
+IsOrOneMore zero history longer = longer ≡ history
+IsOrOneMore (suc faults) history longer = (longer ≡ history) ⊎ ((next : List Entry) × IsRecord (length history + 1) next × (longer ≡ history ++ next))
+
+-- the edit that was installed; or, once a device of the tables has failed, any edit
+abbrev pub MayBeLast : (faults : ℕ) → InstalledEdit → InstalledEdit → Type 0
+MayBeLast zero installed edit = edit ≡ installed
+MayBeLast (suc faults) installed edit = Unit {0}
+
+-- the bytes of the three devices open to such a history, and to such an edit as the last one
+pub record OpensAs (id : ℕ) (IsHistory : List Entry → Type 0) (IsLast : InstalledEdit → Type 0) (log manifest tables : List ℕ) : Type 0 where
+  pub history : List Entry
+  pub edit : InstalledEdit
+  pub is : IsHistory history
+  pub last : IsLast edit
+  pub opens : OpensTo id history edit log manifest tables
+
+-- Whichever image each of the devices is left with, they open to the history, or, once the log has failed, to it or it and
+-- one record more; and the edit that was installed is the last one, unless a device of the tables has failed.
+abbrev pub CrashOpens : (log_faults tables_faults id : ℕ) → List Entry → InstalledEdit → (log manifest tables : List Moment) → Type 0
+CrashOpens log_faults tables_faults id history installed log manifest tables = (l m t : List ℕ) → images log l → images manifest m → images tables t
+    → OpensAs id (IsOrOneMore log_faults history) (MayBeLast tables_faults installed) l m t
+
+-- the devices of the store are left so
 abbrev pub AllOpen : EngineState → List Moment → List Moment → List Moment → Type 0
-AllOpen s log manifest tables = (l m t : List ℕ) → images log l → images manifest m → images tables t
-    → (longer : List Entry) × IsOrOneMore s.stopped s.entries longer × Opens s.id longer l m t
+AllOpen s = CrashOpens (fault_count s.stopped) (fault_count s.halted) s.id s.entries s.installed
 
 -- ---- the parts of the store
 
@@ -68,14 +91,9 @@ pub record IsConsistent (wal : WalState) (entries : List Entry) (set : TableSetS
 
 -- ---- the log alone
 
--- how often the log of a store can have failed: once it has, it takes nothing more
-abbrev pub fault_count : Bool → ℕ
-fault_count false = 0
-fault_count true = 1
-
 -- the bytes spell the history, or it and one record more, whole, and what they spell is legal
 abbrev pub IsLogOrOneMore : ℕ → List Entry → List ℕ → Type 0
-IsLogOrOneMore id history bytes = (longer : List Entry) × IsOrOneMore true history longer × IsLegal longer × IsLogOf id longer bytes
+IsLogOrOneMore id history bytes = (longer : List Entry) × IsOrOneMore 1 history longer × IsLegal longer × IsLogOf id longer bytes
 
 -- What a crash leaves of the log: the history; or, once the log has failed, it or it and one record more, whole. The
 -- records of the history are acknowledged there.
