@@ -8,7 +8,7 @@ use Rattle.wp_model.specs.declared.entry.Entry.{Entry}
 use Rattle.wp_model.specs.declared.version.Version.{Version}
 use Rattle.wp_model.specs.Covered.{IsCovered}
 use Rattle.wp_model.specs.Decision.{decision_of, is_by, is_committed, IsCommittedAt, entry_version}
-use Rattle.wp_model.specs.Flushed.{IsEditCovered, later_versions}
+use Rattle.wp_model.specs.Flushed.{later_versions}
 use Rattle.wp_model.specs.Legal.{IsLegal}
 use Rattle.wp_model.specs.Versions.{AreInOrder, version_at}
 use Rattle.wp_keep.specs.declared.pair.Pair.{Pair}
@@ -18,19 +18,23 @@ use Rattle.wp_keep.specs.MayGo.{DecidesAt, MayGo}
 use Rattle.wp_keep.proofs.Covers.{covers}
 use Rattle.wp_manifest.specs.Edit.{Edit}
 use Rattle.wp_merge.specs.Merge.{AreMerged, first_at, joined, sorted_of}
+use Rattle.wp_store.specs.Store.{StoreParts, with_newest}
 use Rattle.wp_merge.proofs.Merged.{or_none}
 use Rattle.wp_merge.proofs.Sorted.{in_order_sorted, in_order_same, merged_is_sorted}
 use Rattle.wp_open.proofs.Later.{at_append}
 use Rattle.wp_open.specs.Opens.{installed_of}
 use Rattle.wp_session.specs.Tables.{retained, after_compaction}
-use Rattle.wp_store.specs.Store.{with_newest}
 use Rattle.wp_table.specs.Table as table
 use Rattle.wp_tableset.specs.Changes.{compacted_parts, one_part}
+use Rattle.wp_tableset.specs.Set.{TableSetState}
+use Rattle.wp_core.proofs.PendingVersions.{covers_same}
 use Rattle.wp_engine.specs.Memory.{HaveSame}
+use Rattle.wp_engine.specs.Stored.{IsTabled}
 use Rattle.wp_engine.proofs.MemoryLemmas.{Found}
 use Rattle.wp_engine.proofs.TableLemmas.{later_low}
 use Rattle.wp_engine.proofs.VersionLemmas.{all_found}
-use Rattle.wp_engine.proofs.FlushLemmas.{covers_same, at_tables, swapped}
+use Rattle.wp_engine.proofs.SetLemmas.{MayFollow}
+use Rattle.wp_engine.proofs.FlushLemmas.{at_tables, swapped}
 
 -- ---- which numbers are committed
 
@@ -47,8 +51,13 @@ committed_only history p n is = by (decision_of history p) refl is
 decides : (history : List Entry) (versions : List Version) (n : ℕ) → DecidesAt (is_committed history) history versions n
 decides history versions n = record { true_of = λ key p there at. committed_true history p n at; true_only = λ key p there is. committed_only history p n is }
 
-pub same_test : (pairs : List Pair) (history : List Entry) → ((p n : ℕ) → keep.is_committed pairs p n ≡ is_committed history p n) → keep.is_committed pairs ≡ is_committed history
+same_test : (pairs : List Pair) (history : List Entry) → ((p n : ℕ) → keep.is_committed pairs p n ≡ is_committed history p n) → keep.is_committed pairs ≡ is_committed history
 same_test pairs history same = λ i p n. same p n i
+
+-- what stays of the tables' versions, merged
+pub retained_is : (entries : List Entry) (tables : List (List Version)) (pairs : List Pair) (merged kept : List Version) (snapshots : List ℕ) → AreMerged tables merged → ((p n : ℕ) → keep.is_committed pairs p n ≡ is_committed entries p n) → kept ≡ retained_of (keep.is_committed pairs) merged snapshots (length entries)
+    → kept ≡ retained_of (is_committed entries) (sorted_of (joined tables)) snapshots (length entries)
+retained_is entries tables pairs merged kept snapshots are same is = is ∙ (λ i. retained_of (same_test pairs entries same i) (merged_is_sorted tables merged are i) snapshots (length entries))
 
 -- ---- what stays is some of what was there
 
@@ -92,96 +101,101 @@ count_one : (kept : List Version) → length (compacted_parts kept) ≡ min (len
 count_one [] = refl
 count_one (v ∷ kept) = omega arith
 
-module _ (entries : List Entry) (snapshots : List ℕ) (edit : Edit) (tables : List (List Version)) (legal : IsLegal entries) (low : (key : List ℕ) (p : ℕ) → edit.flushed < p → first_at tables key p ≡ None) (covered : IsEditCovered entries (installed_of edit tables)) (merged kept : List Version) (are : AreMerged tables merged) (kept_is : kept ≡ retained_of (is_committed entries) merged snapshots (length entries)) where
-  merged_is : merged ≡ sorted_of (joined tables)
-  merged_is = merged_is_sorted tables merged are
+module _ (id : ℕ) (entries : List Entry) (set : TableSetState) (store : StoreParts) (whole : IsTabled id entries set store) (legal : IsLegal entries) (snapshots : List ℕ) (kept : List Version) (kept_is : kept ≡ retained entries snapshots (installed_of set.manifest.edit store.tables)) where
+  abbrev flushed : ℕ
+  flushed = set.manifest.edit.flushed
 
-  numbered : (v : Version) → version_at merged v.key v.number ≡ Some v.value → (1 ≤ v.number) × (v.number ≤ edit.flushed) × (v.number ≤ length entries)
-  numbered v there = (above (v.number) refl, below (cases_lt edit.flushed v.number), within)
+  abbrev later : List Version
+  later = later_versions entries flushed
+
+  abbrev merged : List Version
+  merged = sorted_of (joined store.tables)
+
+  in_order : AreInOrder merged
+  in_order = in_order_sorted (joined store.tables)
+
+  numbered : (v : Version) → version_at merged v.key v.number ≡ Some v.value → (1 ≤ v.number) × (v.number ≤ flushed) × (v.number ≤ length entries)
+  numbered v there = (above (v.number) refl, below (cases_lt flushed v.number), within)
     where
       here : entry_version entries v.number v.key ≡ Some v.value
       here =
-          covered.covered.part v.key v.number v.value (
-          at_append (sorted_of (joined tables)) (later_versions entries edit.flushed) v.key v.number
-          ∙ ap (λ (o : Found). option_or o (version_at (later_versions entries edit.flushed) v.key v.number)) (ap (λ (vs : List Version). version_at vs v.key v.number) (sym merged_is) ∙ there)
+          whole.covered.covered.part v.key v.number v.value (
+          at_append merged later v.key v.number
+          ∙ ap (λ (o : Found). option_or o (version_at later v.key v.number)) there
           )
 
       above : (n : ℕ) → v.number ≡ n → 1 ≤ v.number
       above zero is = let none = ap (λ (m : ℕ). entry_version entries m v.key) (sym is) ∙ here in absurd cc
       above (suc n) is = omega (arith, is)
 
-      below : (edit.flushed < v.number) ⊎ (v.number ≤ edit.flushed) → v.number ≤ edit.flushed
-      below (inl past) = let none = sym (are.each v.key v.number) ∙ there in let gone = low v.key v.number past in absurd cc
+      below : (flushed < v.number) ⊎ (v.number ≤ flushed) → v.number ≤ flushed
+      below (inl past) = let none = sym (at_tables store.tables v.key v.number) ∙ there in let gone = whole.low v.key v.number past in absurd cc
       below (inr le) = le
 
       within : v.number ≤ length entries
-      within = let l = below (cases_lt edit.flushed v.number) in let f = covered.flushed in omega (arith, l, f)
+      within = let l = below (cases_lt flushed v.number) in let f = whole.covered.flushed in omega (arith, l, f)
 
   pub kept_numbered : list_all table.is_numbered kept ≡ true
   kept_numbered =
       let few = legal.few in
-      rw kept_is (all_retained table.is_numbered (is_committed entries) merged snapshots (length entries) (all_found table.is_numbered merged are.in_order (λ v there. let n = numbered v there in grind (arith, n.0, n.2, few))))
+      rw kept_is (all_retained table.is_numbered (is_committed entries) merged snapshots (length entries) (all_found table.is_numbered merged in_order (λ v there. let n = numbered v there in grind (arith, n.0, n.2, few))))
 
-  pub kept_flushed : list_all (table.is_flushed edit.flushed) kept ≡ true
-  kept_flushed = rw kept_is (all_retained (table.is_flushed edit.flushed) (is_committed entries) merged snapshots (length entries) (all_found (table.is_flushed edit.flushed) merged are.in_order (λ v there. let n = numbered v there in grind (arith, n.1))))
+  pub kept_flushed : list_all (table.is_flushed flushed) kept ≡ true
+  kept_flushed = rw kept_is (all_retained (table.is_flushed flushed) (is_committed entries) merged snapshots (length entries) (all_found (table.is_flushed flushed) merged in_order (λ v there. let n = numbered v there in grind (arith, n.1))))
 
-  pub kept_low : (key : List ℕ) (p : ℕ) → edit.flushed < p → first_at (compacted_parts kept) key p ≡ None
-  kept_low key p above = at_one kept key p ∙ none_past edit.flushed kept kept_flushed key p above
+  merged_low : (key : List ℕ) (p : ℕ) → flushed < p → version_at merged key p ≡ None
+  merged_low key p above = at_tables store.tables key p ∙ whole.low key p above
 
-  merged_low : (key : List ℕ) (p : ℕ) → edit.flushed < p → version_at merged key p ≡ None
-  merged_low key p above = are.each key p ∙ low key p above
-
-  apart : (versions : List Version) → ((key : List ℕ) (p : ℕ) → edit.flushed < p → version_at versions key p ≡ None) → (key : List ℕ) (p : ℕ) → (version_at versions key p ≡ None) ⊎ (version_at (later_versions entries edit.flushed) key p ≡ None)
-  apart versions none key p = by (cases_lt edit.flushed p)
+  apart : (versions : List Version) → ((key : List ℕ) (p : ℕ) → flushed < p → version_at versions key p ≡ None) → (key : List ℕ) (p : ℕ) → (version_at versions key p ≡ None) ⊎ (version_at later key p ≡ None)
+  apart versions none key p = by (cases_lt flushed p)
     where
-      by : (edit.flushed < p) ⊎ (p ≤ edit.flushed) → (version_at versions key p ≡ None) ⊎ (version_at (later_versions entries edit.flushed) key p ≡ None)
+      by : (flushed < p) ⊎ (p ≤ flushed) → (version_at versions key p ≡ None) ⊎ (version_at later key p ≡ None)
       by (inl above) = inl (none key p above)
-      by (inr below) = inr (later_low entries edit.flushed key p below)
+      by (inr below) = inr (later_low entries flushed key p below)
 
   -- in either order
-  turned : (versions : List Version) → ((key : List ℕ) (p : ℕ) → edit.flushed < p → version_at versions key p ≡ None) → HaveSame (versions ++ later_versions entries edit.flushed) (later_versions entries edit.flushed ++ versions)
+  turned : (versions : List Version) → ((key : List ℕ) (p : ℕ) → flushed < p → version_at versions key p ≡ None) → HaveSame (versions ++ later) (later ++ versions)
   turned versions none key p =
-      at_append (later_versions entries edit.flushed) versions key p
-      ∙ sym (swapped (version_at versions key p) (version_at (later_versions entries edit.flushed) key p) (apart versions none key p))
-      ∙ sym (at_append versions (later_versions entries edit.flushed) key p)
+      at_append later versions key p
+      ∙ sym (swapped (version_at versions key p) (version_at later key p) (apart versions none key p))
+      ∙ sym (at_append versions later key p)
 
-  may_go : MayGo (is_committed entries) entries (later_versions entries edit.flushed) merged snapshots (length entries)
+  may_go : MayGo (is_committed entries) entries later merged snapshots (length entries)
   may_go = record {
-    in_order = are.in_order;
-    no_older = λ key p q newer older. by key p q newer older (cases_lt edit.flushed p) (cases_lt edit.flushed q);
+    in_order = in_order;
+    no_older = λ key p q newer older. by key p q newer older (cases_lt flushed p) (cases_lt flushed q);
     at_floor = decides entries merged (length entries);
     at_snapshots = λ n among. decides entries merged n;
   }
     where
-      by : (key : List ℕ) (p q : ℕ) → is_some (version_at (later_versions entries edit.flushed) key p) ≡ true → is_some (version_at merged key q) ≡ true → (edit.flushed < p) ⊎ (p ≤ edit.flushed) → (edit.flushed < q) ⊎ (q ≤ edit.flushed) → q ≤ p
-      by key p q newer older (inr below) second = let none = later_low entries edit.flushed key p below in absurd cc
+      by : (key : List ℕ) (p q : ℕ) → is_some (version_at later key p) ≡ true → is_some (version_at merged key q) ≡ true → (flushed < p) ⊎ (p ≤ flushed) → (flushed < q) ⊎ (q ≤ flushed) → q ≤ p
+      by key p q newer older (inr below) second = let none = later_low entries flushed key p below in absurd cc
       by key p q newer older (inl above) (inl past) = let none = merged_low key q past in absurd cc
       by key p q newer older (inl above) (inr le) = omega (arith, above, le)
 
-  still : IsCovered (later_versions entries edit.flushed ++ kept) entries [] (length entries)
+  still : IsCovered (later ++ kept) entries [] (length entries)
   still =
-      let before : IsCovered (merged ++ later_versions entries edit.flushed) entries [] (length entries) = rw merged_is covered.covered in
-      let turned_before = covers_same _ _ entries [] (length entries) (turned merged merged_low) before in
-      rw kept_is (covers (is_committed entries) entries (later_versions entries edit.flushed) merged snapshots (length entries) may_go [] (length entries) legal (omega arith) (λ n among. absurd cc) turned_before)
+      let turned_before = covers_same _ _ entries [] (length entries) (turned merged merged_low) whole.covered.covered in
+      rw kept_is (covers (is_committed entries) entries later merged snapshots (length entries) may_go [] (length entries) legal (omega arith) (λ n among. absurd cc) turned_before)
 
-  module _ (next : Edit) (next_is : next.flushed ≡ edit.flushed) where
-    pub compacted_covered : IsEditCovered entries (installed_of next (compacted_parts kept))
-    compacted_covered = record {
-      flushed = rw next_is covered.flushed;
-      covered = rw next_is (covers_same _ _ entries [] (length entries) same still);
+  module _ (next : Edit) (next_is : next.flushed ≡ flushed) where
+    pub compact_follows : MayFollow entries next (compacted_parts kept)
+    compact_follows = record {
+      covered = record {
+        flushed = rw next_is whole.covered.flushed;
+        covered = rw next_is (covers_same _ _ entries [] (length entries) same still);
+      };
+      low = λ key p above. let past : flushed < p = omega (arith, above, next_is) in at_one kept key p ∙ none_past flushed kept kept_flushed key p past;
     }
       where
-        same : HaveSame (later_versions entries edit.flushed ++ kept) (sorted_of (joined (compacted_parts kept)) ++ later_versions entries edit.flushed)
+        same : HaveSame (later ++ kept) (sorted_of (joined (compacted_parts kept)) ++ later)
         same key p =
-            at_append (sorted_of (joined (compacted_parts kept))) (later_versions entries edit.flushed) key p
-            ∙ ap (λ (o : Found). option_or o (version_at (later_versions entries edit.flushed) key p)) (at_tables (compacted_parts kept) key p ∙ at_one kept key p)
-            ∙ swapped (version_at kept key p) (version_at (later_versions entries edit.flushed) key p) (apart kept (none_past edit.flushed kept kept_flushed) key p)
-            ∙ sym (at_append (later_versions entries edit.flushed) kept key p)
+            at_append (sorted_of (joined (compacted_parts kept))) later key p
+            ∙ ap (λ (o : Found). option_or o (version_at later key p)) (at_tables (compacted_parts kept) key p ∙ at_one kept key p)
+            ∙ swapped (version_at kept key p) (version_at later key p) (apart kept (none_past flushed kept kept_flushed) key p)
+            ∙ sym (at_append later kept key p)
 
-    pub retained_is : kept ≡ retained entries snapshots (installed_of edit tables)
-    retained_is = kept_is ∙ ap (λ (vs : List Version). retained_of (is_committed entries) vs snapshots (length entries)) merged_is
-
-    pub is_after_compaction : AreInOrder kept → installed_of next (compacted_parts kept) ≡ after_compaction entries snapshots (installed_of edit tables)
-    is_after_compaction in_order =
-        let list : sorted_of (joined (compacted_parts kept)) ≡ kept = in_order_same _ _ (in_order_sorted (joined (compacted_parts kept))) in_order (λ key p. at_tables (compacted_parts kept) key p ∙ at_one kept key p) in
-        rw (next_is, list, count_one kept, ← retained_is) refl
+    pub is_after_compaction : AreInOrder kept → installed_of next (compacted_parts kept) ≡ after_compaction entries snapshots (installed_of set.manifest.edit store.tables)
+    is_after_compaction kept_in_order =
+        let list : sorted_of (joined (compacted_parts kept)) ≡ kept = in_order_same _ _ (in_order_sorted (joined (compacted_parts kept))) kept_in_order (λ key p. at_tables (compacted_parts kept) key p ∙ at_one kept key p) in
+        rw (next_is, list, count_one kept, ← kept_is) refl

@@ -6,3 +6,4 @@ pub mod VersionLemmas
 pub mod FlushLemmas
 pub mod SetLemmas
 pub mod CompactLemmas
+pub mod ThroughoutLemmas

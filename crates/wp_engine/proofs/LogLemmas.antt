@@ -4,7 +4,8 @@ use Rattle.std.proofs.lemmas.List.{append-nil}
 use Rattle.wp_model.specs.declared.entry.Entry.{Entry}
 use Rattle.wp_model.specs.declared.entry.Entry.TheVariants as entry
 use Rattle.wp_model.specs.Legal.{IsLegal, IsLegalNext, undone_last}
-use Rattle.wp_outside.specs.Disk.{Moment, IfKnown}
+use Rattle.wp_outside.specs.Disk.{Moment, IfKnown, Passes}
+use Rattle.wp_gatelog.specs.Moments.{Leaves}
 use Rattle.wp_entry.specs.Record.{FormRecord, IsRecord}
 use Rattle.wp_wal.specs.Spelling.{AreEntries, IsLogOrNext}
 use Rattle.wp_wal.specs.Wal.{Reserved, WalState, reserved_of, LeavesHistory, LeavesHistoryOrNext, StoresHistory, IsReserved, Appended, Refuses}
@@ -74,6 +75,10 @@ ready_for old ready entries added stopped limit whole running is record_is =
 -- to reserve a record is nothing to the disk
 pub durable_from : (old ready : WalState) (new : List Moment) (reserved : Option Reserved) → ready ≡ record old { reserved = reserved } → LosesNothing ready.moments new → LosesNothing old.moments new
 durable_from old ready new reserved is durable = subst (λ (w : WalState). LosesNothing w.moments new) is durable
+
+pub passed_from : (old ready : WalState) (new : List Moment) (entries added : List Entry) (reserved : Option Reserved) → ready ≡ record old { reserved = reserved }
+    → Passes (Leaves (IsLogOrNext ready.id entries added)) ready.moments new → Passes (Leaves (IsLogOrNext old.id entries added)) old.moments new
+passed_from old ready new entries added reserved is passed = subst (λ (w : WalState). Passes (Leaves (IsLogOrNext w.id entries added)) w.moments new) is passed
 
 -- the log took the entries
 pub logged_on : ((history : List Entry) (e : Entry) → IsLegal history → IsLegalNext history e → length history + 1 < 2 ^ 32 → IsLegal (history ++ e ∷ []))

@@ -25,14 +25,14 @@ use Rattle.wp_engine.specs.Engine.{engine_state}
 use Rattle.wp_engine.specs.Stored.{fault_count, IsOrOneMore, MayBeLast, OpensAs, AllOpen, IsLogged, IsTabled, IsConsistent}
 use Rattle.wp_engine.proofs.TableLemmas.{covered_on}
 
-known_image : (P : List ℕ → Type 0) (moments : List Moment) (image : List ℕ) → images moments image → IfKnown moments (Leaves P) → P image
+pub known_image : (P : List ℕ → Type 0) (moments : List Moment) (image : List ℕ) → images moments image → IfKnown moments (Leaves P) → P image
 known_image P [] image at left = elim at [ ]
 known_image P (m ∷ past) image at left = left image at
 
 -- ---- the log
 
 -- what the log spells: such a history, which is legal
-record Spelled (id : ℕ) (entries : List Entry) (IsHistory : List Entry → Type 0) (image : List ℕ) : Type 0 where
+pub record Spelled (id : ℕ) (entries : List Entry) (IsHistory : List Entry → Type 0) (image : List ℕ) : Type 0 where
   more : List Entry
   is : IsHistory (entries ++ more)
   legal : IsLegal (entries ++ more)
@@ -46,7 +46,7 @@ alone id entries IsHistory image is legal spelled = record {
   spelled = subst (λ (h : List Entry). IsLogOf id h image) (sym (append-nil entries)) spelled;
 }
 
-log_spelled : (wal : WalState) (entries : List Entry) (stopped : Bool) (limit : ℕ) (image : List ℕ) → IsLogged wal entries stopped limit → images wal.moments image → Spelled wal.id entries (IsOrOneMore (fault_count stopped) entries) image
+pub log_spelled : (wal : WalState) (entries : List Entry) (stopped : Bool) (limit : ℕ) (image : List ℕ) → IsLogged wal entries stopped limit → images wal.moments image → Spelled wal.id entries (IsOrOneMore (fault_count stopped) entries) image
 log_spelled wal entries false limit image whole at =
     let spells = rest_spells log_spelling.MAGIC wal.id wal.end whole.stores.records wal.moments (whole.stores.rests whole.state) image at in
     alone wal.id entries (IsOrOneMore 0 entries) image refl (legal_before entries whole.failed whole.legal) (whole.stores.records, spells, whole.stores.spelled)
@@ -58,13 +58,17 @@ log_spelled wal entries true limit image whole at = elim (known_image _ wal.mome
 -- ---- the manifest and the tables
 
 -- what the manifest spells, and the tables of its last edit, which is such and covers the history
-record Named (id : ℕ) (entries : List Entry) (IsLast : InstalledEdit → Type 0) (manifest tables : List ℕ) : Type 0 where
+pub record Named (id : ℕ) (entries : List Entry) (IsLast : InstalledEdit → Type 0) (manifest tables : List ℕ) : Type 0 where
   edits : List Edit
   installed : IsManifestOf id edits manifest
   parts : List (List Version)
   there : HasTables id (last_edit edits).flushed tables (last_edit edits).tables parts
   covered : IsEditCovered entries (installed_of (last_edit edits) parts)
   is : IsLast (installed_of (last_edit edits) parts)
+
+pub named_as : (id : ℕ) (entries : List Entry) (edits : List Edit) (edit : Edit) (parts : List (List Version)) (IsLast : InstalledEdit → Type 0) (manifest tables : List ℕ) → edit ≡ last_edit edits → IsManifestOf id edits manifest → HasTables id edit.flushed tables edit.tables parts → IsEditCovered entries (installed_of edit parts) → IsLast (installed_of edit parts)
+    → Named id entries IsLast manifest tables
+named_as id entries edits edit parts IsLast manifest tables last spelled there covered is = record { edits = edits; installed = spelled; parts = parts; there = rw (← last) there; covered = rw (← last) covered; is = rw (← last) is }
 
 itself : (faults : ℕ) (edit : InstalledEdit) → MayBeLast faults edit edit
 itself zero edit = refl
@@ -75,24 +79,14 @@ module _ (id : ℕ) (entries : List Entry) (set : TableSetState) (store : StoreP
   MayBe = MayBeLast (fault_count set.halted) (installed_of set.manifest.edit store.tables)
 
   last_named : IsManifestOf id whole.edits manifest → Named id entries MayBe manifest tables
-  last_named spelled = record {
-    edits = whole.edits;
-    installed = spelled;
-    parts = store.tables;
-    there = rw (← whole.stores.manifest.last, ← whole.same_id) (known_image _ set.moments tables tables_at whole.stores.left);
-    covered = rw (← whole.stores.manifest.last) whole.covered;
-    is = rw (← whole.stores.manifest.last) (itself (fault_count set.halted) (installed_of set.manifest.edit store.tables));
-  }
+  last_named spelled =
+      named_as id entries whole.edits set.manifest.edit store.tables MayBe manifest tables whole.stores.manifest.last spelled
+      (rw (← whole.same_id) (known_image _ set.moments tables tables_at whole.stores.left)) whole.covered (itself (fault_count set.halted) (installed_of set.manifest.edit store.tables))
 
   next_named : set.halted ≡ true → set.manifest.log.closed ≡ true → IsManifestOf id (whole.edits ++ whole.next ∷ []) manifest → Named id entries MayBe manifest tables
-  next_named halted closed spelled = record {
-    edits = whole.edits ++ whole.next ∷ [];
-    installed = spelled;
-    parts = whole.next_parts;
-    there = rw (last-push whole.edits whole.next, ← whole.same_id) (known_image _ set.moments tables tables_at whole.stores.left_next);
-    covered = rw (last-push whole.edits whole.next) (whole.next_covered halted closed);
-    is = rw halted tt;
-  }
+  next_named halted closed spelled =
+      named_as id entries (whole.edits ++ whole.next ∷ []) whole.next whole.next_parts MayBe manifest tables (sym (last-push whole.edits whole.next)) spelled
+      (rw (← whole.same_id) (known_image _ set.moments tables tables_at whole.stores.left_next)) (whole.next_covered halted closed) (rw halted tt)
 
   halted_where_closed : (halted : Bool) → set.halted ≡ halted → (set.halted ≡ false → set.manifest.log.closed ≡ false) → set.manifest.log.closed ≡ true → set.halted ≡ true
   halted_where_closed true is running closed = is
@@ -115,7 +109,7 @@ module _ (id : ℕ) (entries : List Entry) (set : TableSetState) (store : StoreP
 
 -- ---- all three
 
-opens_as : (id : ℕ) (entries : List Entry) (IsHistory : List Entry → Type 0) (IsLast : InstalledEdit → Type 0) (log manifest tables : List ℕ) → id < 2 ^ 32 → Spelled id entries IsHistory log → Named id entries IsLast manifest tables
+pub opens_as : (id : ℕ) (entries : List Entry) (IsHistory : List Entry → Type 0) (IsLast : InstalledEdit → Type 0) (log manifest tables : List ℕ) → id < 2 ^ 32 → Spelled id entries IsHistory log → Named id entries IsLast manifest tables
     → OpensAs id IsHistory IsLast log manifest tables
 opens_as id entries IsHistory IsLast log manifest tables fits history edit = record {
   history = entries ++ history.more;

@@ -17,28 +17,39 @@ use Rattle.wp_engine.specs.Engine.{engine_state}
 use Rattle.wp_engine.specs.Maintenance.{KeepsTables, but_devices}
 use Rattle.wp_engine.specs.Stored.{HasLater, IsTabled}
 
-module _ (id : ℕ) (entries : List Entry) (set new : TableSetState) (store kept : StoreParts) (next : Edit) (after : List (List Version) → List (List Version)) (whole : IsTabled id entries set store) (keeps : Keeps set new) (running : set.halted ≡ false) (next_covered : IsEditCovered entries (installed_of next (after store.tables))) where
-  stored : StoresTables set whole.edits no_edit store.tables []
-  stored =
-      let none = whole.none running in
-      subst (λ (parts : List (List Version)). StoresTables set whole.edits no_edit store.tables parts) none.1 (subst (λ (edit : Edit). StoresTables set whole.edits edit store.tables whole.next_parts) none.0 whole.stores)
+-- ---- the next edit
 
-  pub tabled_installed : Installed set new next after → kept.tables ≡ after store.tables → ((key : List ℕ) (p : ℕ) → next.flushed < p → first_at (after store.tables) key p ≡ None) → HasLater entries next.flushed kept → IsTabled id entries new kept
-  tabled_installed installed tables low memory = record {
+-- It may be installed next, where these are its tables: they cover the history, and have no version above the flushed number.
+pub record MayFollow (entries : List Entry) (next : Edit) (parts : List (List Version)) : Type 0 where
+  pub covered : IsEditCovered entries (installed_of next parts)
+  pub low : (key : List ℕ) (p : ℕ) → next.flushed < p → first_at parts key p ≡ None
+
+-- no edit is on its way, as long as no device has failed
+pub stored_running : (id : ℕ) (entries : List Entry) (set : TableSetState) (store : StoreParts) (whole : IsTabled id entries set store) → set.halted ≡ false → StoresTables set whole.edits no_edit store.tables []
+stored_running id entries set store whole running =
+    let none = whole.none running in
+    subst (λ (parts : List (List Version)). StoresTables set whole.edits no_edit store.tables parts) none.1 (subst (λ (edit : Edit). StoresTables set whole.edits edit store.tables whole.next_parts) none.0 whole.stores)
+
+module _ (id : ℕ) (entries : List Entry) (set new : TableSetState) (store kept : StoreParts) (next : Edit) (after : List (List Version) → List (List Version)) (whole : IsTabled id entries set store) (keeps : Keeps set new) (running : set.halted ≡ false) (follows : MayFollow entries next (after store.tables)) where
+  stored : StoresTables set whole.edits no_edit store.tables []
+  stored = stored_running id entries set store whole running
+
+  pub tabled_installed : Installed set new next after → kept.tables ≡ after store.tables → HasLater entries next.flushed kept → IsTabled id entries new kept
+  tabled_installed installed tables memory = record {
     edits = whole.edits ++ next ∷ [];
     next = no_edit;
     next_parts = [];
     stores = rw tables (installed.stores whole.edits store.tables stored);
     none = λ _. (refl, refl);
     same_id = keeps.id ∙ whole.same_id;
-    low = rw (installed.last, tables) low;
-    covered = rw (installed.last, tables) next_covered;
+    low = rw (installed.last, tables) follows.low;
+    covered = rw (installed.last, tables) follows.covered;
     next_covered = λ halted closed. let runs = installed.running in absurd cc;
     memory = rw installed.last memory;
   }
 
   module _ (open_ : set.manifest.log.closed ≡ false) (tables : kept.tables ≡ store.tables) (memory : HasLater entries set.manifest.edit.flushed kept) where
-    with_manifest : new.manifest ≡ set.manifest → (StoresTables new whole.edits no_edit store.tables []) → IsTabled id entries new kept
+    with_manifest : new.manifest ≡ set.manifest → StoresTables new whole.edits no_edit store.tables [] → IsTabled id entries new kept
     with_manifest same stores = record {
       edits = whole.edits;
       next = no_edit;
@@ -65,7 +76,7 @@ module _ (id : ℕ) (entries : List Entry) (set new : TableSetState) (store kept
         same_id = keeps.id ∙ whole.same_id;
         low = rw (failed.last, tables) whole.low;
         covered = rw (failed.last, tables) whole.covered;
-        next_covered = λ halted closed. next_covered;
+        next_covered = λ halted closed. follows.covered;
         memory = rw failed.last memory;
       }
     ]

@@ -1,8 +1,10 @@
 -- What a flush and a compaction make of the store on one thread.
 use Rattle.std.specs.Prelude.{◌≡◌, ◌⊎◌, ℕ, ◌<◌, ◌≤◌, true, false, List, [], length, Option, Some, None, Result, Ok, Err}
 use Rattle.wp_model.specs.Flushed.{InstalledEdit, later_versions}
+use Rattle.wp_outside.specs.Disk.{Passes, images}
 use Rattle.wp_outside.specs.Faults.{Rose}
 use Rattle.wp_gatelog.specs.Durability.{LosesNoRecord}
+use Rattle.wp_gatelog.specs.Moments.{Leaves}
 use Rattle.wp_manifest.specs.Spelling.{MAGIC}
 use Rattle.wp_session.specs.Tables.{unflushed, retained, after_flush, after_compaction}
 use Rattle.wp_tableset.specs.Device.{KeepsFronts}
@@ -11,6 +13,7 @@ use Rattle.wp_tableset.specs.declared.error.TableSetError.TheVariants as set
 use Rattle.wp_engine.specs.declared.error.MaintenanceError.{MaintenanceError}
 use Rattle.wp_engine.specs.declared.error.MaintenanceError.TheVariants.{Memory, TablesFault, Halted}
 use Rattle.wp_engine.specs.Engine.{EngineState}
+use Rattle.wp_engine.specs.Stored.{fault_count, IsOrOneMore, OpensAs}
 
 -- ---- errors
 
@@ -19,6 +22,17 @@ abbrev pub maintenance_error : ℕ → TableSetError → MaintenanceError
 maintenance_error flushed set.Memory = Memory
 maintenance_error flushed set.Fault = TablesFault
 maintenance_error flushed set.Halted = Halted flushed
+
+-- ---- the moments in between
+
+-- At each moment that a device passed in the call, a crash leaves devices that open to the history, or, once the log has
+-- failed, to it and one record more. While the tables' device is called, the manifest is as before, and the last edit is the
+-- old one; while the manifest's is, the tables' device is as it is in the end, and the last edit is that or the next one.
+pub record OpensThroughout (old new : EngineState) (next : InstalledEdit) : Type 0 where
+  pub tables : Passes (Leaves (λ t. (l m : List ℕ) → images old.moments l → images old.manifest_moments m
+      → OpensAs old.id (IsOrOneMore (fault_count old.stopped) old.entries) (λ edit. edit ≡ old.installed) l m t)) old.tables_moments new.tables_moments
+  pub manifest : Passes (Leaves (λ m. (l t : List ℕ) → images old.moments l → images new.tables_moments t
+      → OpensAs old.id (IsOrOneMore (fault_count old.stopped) old.entries) (λ edit. (edit ≡ old.installed) ⊎ (edit ≡ next)) l m t)) old.manifest_moments new.manifest_moments
 
 -- ---- the outcome
 

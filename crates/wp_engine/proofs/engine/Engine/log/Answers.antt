@@ -2,7 +2,7 @@ use Rattle.std.proofs.Common.{◌≡◌, ◌+◌, ◌<◌, ◌≤◌, ◌^◌, f
 use Rattle.wp_model.specs.declared.entry.Entry.{Entry}
 use Rattle.wp_wal.specs.Wal.{WalState}
 use Rattle.wp_session.specs.Next.{AreNext}
-use Rattle.wp_engine.proofs.LogLemmas.{ready_for, durable_from, legal_after, logged_on, logged_failed, logged_id, failed_id}
+use Rattle.wp_engine.proofs.LogLemmas.{ready_for, durable_from, passed_from, legal_after, logged_on, logged_failed, logged_id, failed_id}
 use Rattle.wp_engine.proofs.MemoryLemmas.{same_again, memory_alone}
 use Rattle.wp_engine.proofs.TableLemmas.{none_above, tabled_on, tabled_same}
 use Rattle.wp_engine.proofs.engine.Engine.log.Goals as goal
@@ -52,7 +52,7 @@ returns-in-Ok g c =
     let ready = ready_for inside.wal c.reserve.new.self inside.history.entries c.deref.result.now inside.stopped inside.limit c.self.invariant.log c.if-self.false c.in_ok-reserve.ensures.ok c.in_ok-reserve.ensures.record in
     let id = logged_id inside.wal c.reserve.new.self c.append.new.self _ c.in_ok-reserve.ensures.ok c.in-Ok.ensures.ok in
     record {
-      called = record { running = search rules; fits = search rules; counted = search rules; durable = rw (← c.self.view_is) (durable_from inside.wal c.reserve.new.self c.append.new.self.moments _ c.in_ok-reserve.ensures.ok (c.append.ensures.durable inside.history.entries [] ready.stores)) };
+      called = record { running = search rules; fits = search rules; counted = search rules; durable = rw (← c.self.view_is) (durable_from inside.wal c.reserve.new.self c.append.new.self.moments _ c.in_ok-reserve.ensures.ok (c.append.ensures.durable inside.history.entries [] ready.stores)); passed = rw (← c.self.view_is, ← c.deref.ensures.value) (passed_from inside.wal c.reserve.new.self c.append.new.self.moments inside.history.entries c.deref.result.now _ c.in_ok-reserve.ensures.ok (c.append.ensures.any_moment inside.history.entries c.deref.result.now ready)) };
       changed = rw (← c.self.view_is, id, c.push_all.ensures, c.reserve-2.ensures.entries, c.insert_all.ensures.others) refl;
     }
 
@@ -64,7 +64,8 @@ returns-in-Err-DiskFault g c =
     let id = failed_id inside.wal c.reserve.new.self c.append.new.self _ c.in_ok-reserve.ensures.ok e.err in
     let kept = memory_alone inside.store c.insert_all.new.store c.remove_all.new.store _ c.insert_all.ensures.others c.remove_all.ensures.others in
     record {
-      called = record { running = search rules; fits = search rules; counted = search rules; durable = rw (← c.self.view_is) (durable_from inside.wal c.reserve.new.self c.append.new.self.moments _ c.in_ok-reserve.ensures.ok (c.append.ensures.durable inside.history.entries [] ready.stores)) };
+      called = record { running = search rules; fits = search rules; counted = search rules; durable = rw (← c.self.view_is) (durable_from inside.wal c.reserve.new.self c.append.new.self.moments _ c.in_ok-reserve.ensures.ok (c.append.ensures.durable inside.history.entries [] ready.stores)); passed = rw (← c.self.view_is, ← c.deref.ensures.value) (passed_from inside.wal c.reserve.new.self c.append.new.self.moments inside.history.entries c.deref.result.now _ c.in_ok-reserve.ensures.ok (c.append.ensures.any_moment inside.history.entries c.deref.result.now ready)) };
       changed = rw (← c.self.view_is, id, c.reserve-2.ensures.entries, kept) refl;
       rose = search rules;
+      left = rw (← c.self.view_is, ← c.deref.ensures.value) (rw id at ((e.refused inside.history.entries c.deref.result.now ready).left (ap (λ (w : WalState). w.closed) e.err.2)));
     }
