@@ -20,7 +20,7 @@ use Rattle.wp_table.specs.Table as table
 use Rattle.wp_engine.specs.Memory.{HaveSame}
 use Rattle.wp_tableset.specs.Set.{TableSetState}
 use Rattle.wp_core.proofs.PendingVersions.{covers_same}
-use Rattle.wp_engine.specs.Stored.{HasLater, IsTabled}
+use Rattle.wp_engine.specs.Stored.{HasUnflushed, IsTabled}
 use Rattle.wp_engine.proofs.MemoryLemmas.{Found}
 use Rattle.wp_engine.proofs.SetLemmas.{MayFollow}
 use Rattle.wp_engine.proofs.TableLemmas.{later_low, later_high}
@@ -138,7 +138,7 @@ module _ (id : ℕ) (entries : List Entry) (set : TableSetState) (store : StoreP
             ap (λ (o : Found). option_or o (first_at store.tables key p)) (same key p ∙ later_high entries flushed key p whole.covered.flushed past) ∙ whole.low key p beyond;
       }
 
-      pub nothing_in_memory : (kept : StoreParts) → kept.memory ≡ [] → kept.frozen ≡ [] → HasLater entries next.flushed kept
+      pub nothing_in_memory : (kept : StoreParts) → kept.memory ≡ [] → kept.frozen ≡ [] → HasUnflushed entries next.flushed kept
       nothing_in_memory kept memory frozen key p = rw (next_is, memory, frozen) (nothing_left key p)
 
       pub is_after_flush : installed_of next (versions ∷ store.tables) ≡ after_flush entries (installed_of set.manifest.edit store.tables)

@@ -15,7 +15,7 @@ use Rattle.wp_tableset.specs.declared.error.TableSetError.TheVariants.{Memory, F
 use Rattle.wp_wal.specs.Wal.{WalState}
 use Rattle.wp_engine.specs.Engine.{engine_state}
 use Rattle.wp_engine.specs.Maintenance.{KeepsTables, but_devices}
-use Rattle.wp_engine.specs.Stored.{HasLater, IsTabled}
+use Rattle.wp_engine.specs.Stored.{HasUnflushed, IsTabled}
 
 -- ---- the next edit
 
@@ -34,7 +34,7 @@ module _ (id : ℕ) (entries : List Entry) (set new : TableSetState) (store kept
   stored : StoresTables set whole.edits no_edit store.tables []
   stored = stored_running id entries set store whole running
 
-  pub tabled_installed : Installed set new next after → kept.tables ≡ after store.tables → HasLater entries next.flushed kept → IsTabled id entries new kept
+  pub tabled_installed : Installed set new next after → kept.tables ≡ after store.tables → HasUnflushed entries next.flushed kept → IsTabled id entries new kept
   tabled_installed installed tables memory = record {
     edits = whole.edits ++ next ∷ [];
     next = no_edit;
@@ -48,7 +48,7 @@ module _ (id : ℕ) (entries : List Entry) (set new : TableSetState) (store kept
     memory = rw installed.last memory;
   }
 
-  module _ (open_ : set.manifest.log.closed ≡ false) (tables : kept.tables ≡ store.tables) (memory : HasLater entries set.manifest.edit.flushed kept) where
+  module _ (open_ : set.manifest.log.closed ≡ false) (tables : kept.tables ≡ store.tables) (memory : HasUnflushed entries set.manifest.edit.flushed kept) where
     with_manifest : new.manifest ≡ set.manifest → StoresTables new whole.edits no_edit store.tables [] → IsTabled id entries new kept
     with_manifest same stores = record {
       edits = whole.edits;

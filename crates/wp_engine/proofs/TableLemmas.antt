@@ -27,7 +27,7 @@ use Rattle.wp_tableset.specs.Set.{TableSetState, RestsWith, StoresTables}
 use Rattle.wp_wal.specs.Wal.{WalState}
 use Rattle.wp_core.proofs.PublishesVersions.{edit_part}
 use Rattle.wp_engine.specs.Memory.{HaveSame, HasAfter, HasNoneAbove}
-use Rattle.wp_engine.specs.Stored.{HasLater, IsTabled}
+use Rattle.wp_engine.specs.Stored.{HasUnflushed, IsTabled}
 use Rattle.wp_engine.proofs.MemoryLemmas.{Found, or_or, after_low, after_high}
 
 -- ---- the versions above a number, as entries join
@@ -65,11 +65,11 @@ or_parts : (a b : Found) → option_or a b ≡ None → (a ≡ None) × (b ≡ N
 or_parts None b h = (refl, h)
 or_parts (Some v) b h = absurd cc
 
-pub none_above : (entries : List Entry) (flushed : ℕ) (store : StoreParts) → flushed ≤ length entries → HasLater entries flushed store → HasNoneAbove (length entries) store.memory
+pub none_above : (entries : List Entry) (flushed : ℕ) (store : StoreParts) → flushed ≤ length entries → HasUnflushed entries flushed store → HasNoneAbove (length entries) store.memory
 none_above entries flushed store within has key p above = (or_parts (version_at store.memory key p) (first_at store.frozen key p) (sym (has key p) ∙ later_high entries flushed key p within above)).0
 
 -- the same versions under each key and number are as good
-pub later_same : (entries : List Entry) (flushed : ℕ) (old new : StoreParts) → HasLater entries flushed old → new ≡ record old { memory = new.memory } → HaveSame old.memory new.memory → HasLater entries flushed new
+pub later_same : (entries : List Entry) (flushed : ℕ) (old new : StoreParts) → HasUnflushed entries flushed old → new ≡ record old { memory = new.memory } → HaveSame old.memory new.memory → HasUnflushed entries flushed new
 later_same entries flushed old new has others same key p =
     let frozen : new.frozen ≡ old.frozen = ap (λ (s : StoreParts). s.frozen) others in
     has key p ∙ ap (λ (o : Found). option_or o (first_at old.frozen key p)) (sym (same key p)) ∙ ap (λ (parts : List (List Version)). option_or (version_at new.memory key p) (first_at parts key p)) (sym frozen)
@@ -79,7 +79,7 @@ swapped a b c (inl none) = rw none refl
 swapped None b c (inr none) = refl
 swapped (Some v) b c (inr none) = rw none refl
 
-pub later_grown : (entries more : List Entry) (flushed : ℕ) (old new : StoreParts) → flushed ≤ length entries → HasLater entries flushed old → new ≡ record old { memory = new.memory } → HasAfter (length entries) more old.memory new.memory → HasLater (entries ++ more) flushed new
+pub later_grown : (entries more : List Entry) (flushed : ℕ) (old new : StoreParts) → flushed ≤ length entries → HasUnflushed entries flushed old → new ≡ record old { memory = new.memory } → HasAfter (length entries) more old.memory new.memory → HasUnflushed (entries ++ more) flushed new
 later_grown entries more flushed old new within has others after key p =
     let frozen : new.frozen ≡ old.frozen = ap (λ (s : StoreParts). s.frozen) others in
     let late : Found = version_at (versions_after (length entries) more) key p in
@@ -165,7 +165,7 @@ module _ (asked : ℕ) (log manifest tables : List Moment) (wal : WalState) (his
   merged_covered : (parts : List (List Version)) → AreCovering history edits.edit parts → IsEditCovered history (installed_of edits.edit parts)
   merged_covered parts covering = subst (λ (vs : List Version). IsEditCovered history (record { flushed = edits.edit.flushed; versions = vs; tables = length parts })) (merged_is_sorted parts covering.all covering.merged) covering.covered
 
-  later_opened : HasLater history edits.edit.flushed store
+  later_opened : HasUnflushed history edits.edit.flushed store
   later_opened key p =
       sym (at_sorted (later_versions history edits.edit.flushed) key p)
       ∙ ap (λ (vs : List Version). version_at vs key p) (sym opened.store.memory)

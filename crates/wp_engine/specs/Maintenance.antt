@@ -43,33 +43,45 @@ pub record KeepsTables (old new : EngineState) : Type 0 where
   pub later : old.tables_faults ≤ new.tables_faults
   pub manifest_later : old.manifest_faults ≤ new.manifest_faults
 
--- the new state is the old one, but for the two devices
+-- the tables' device was not called
+abbrev pub TablesUncalled : EngineState → EngineState → Type 0
+TablesUncalled old new = (new.tables_faults ≡ old.tables_faults) × (new.tables_moments ≡ old.tables_moments)
+
+-- the new state is the old one, but for the tables' device
+abbrev pub but_tables : EngineState → EngineState → EngineState
+but_tables old new = record old { tables_faults = new.tables_faults; tables_moments = new.tables_moments }
+
+-- ... and for the manifest's
 abbrev pub but_devices : EngineState → EngineState → EngineState
-but_devices old new = record old { manifest_faults = new.manifest_faults; manifest_moments = new.manifest_moments; tables_faults = new.tables_faults; tables_moments = new.tables_moments }
+but_devices old new = record (but_tables old new) { manifest_faults = new.manifest_faults; manifest_moments = new.manifest_moments }
 
 -- the edit is the last one
 pub record HasInstalled (old new : EngineState) (edit : InstalledEdit) : Type 0 where
   pub running : old.halted ≡ false
   pub changed : new ≡ record (but_devices old new) { installed = edit }
 
--- Why there is no new edit, and what that leaves. A device can fail only where there was something to do.
-abbrev pub IsRefused : EngineState → EngineState → (something : Type 0) → MaintenanceError → Type 0
-IsRefused old new something Memory = new ≡ but_devices old new
-IsRefused old new something TablesFault =
+-- Why there is no new edit, and what that leaves. Where memory was wanting, the manifest's device was not called. A device
+-- can fail only where there was something to do.
+abbrev pub IsNotInstalled : EngineState → EngineState → (something : Type 0) → MaintenanceError → Type 0
+IsNotInstalled old new something Memory = new ≡ but_tables old new
+IsNotInstalled old new something TablesFault =
     something × (old.halted ≡ false) × (Rose old.manifest_faults new.manifest_faults ⊎ Rose old.tables_faults new.tables_faults)
     × (new ≡ record (but_devices old new) { halted = true })
-IsRefused old new something (Halted flushed) = (old.halted ≡ true) × (flushed ≡ old.installed.flushed) × (new ≡ old)
+IsNotInstalled old new something (Halted flushed) = (old.halted ≡ true) × (flushed ≡ old.installed.flushed) × (new ≡ old)
 
 -- a flush wrote so many versions, all that stood in memory; or none stood there; or it was refused
 abbrev pub IsFlushResult : EngineState → EngineState → Result (Option ℕ) MaintenanceError → Type 0
 IsFlushResult old new (Ok (Some count)) =
     (1 ≤ count) × (count ≡ length (unflushed old.entries old.installed)) × HasInstalled old new (after_flush old.entries old.installed)
 IsFlushResult old new (Ok None) = (old.halted ≡ false) × (unflushed old.entries old.installed ≡ []) × (new ≡ old)
-IsFlushResult old new (Err why) = IsRefused old new (1 ≤ length (unflushed old.entries old.installed)) why
+IsFlushResult old new (Err why) = IsNotInstalled old new (1 ≤ length (unflushed old.entries old.installed)) why
 
--- a compaction left so many versions, or there were fewer than two tables, or it was refused
+-- A compaction left so many versions, or there were fewer than two tables, or it was refused. To leave no version it does
+-- not call the tables' device.
 abbrev pub IsCompactResult : EngineState → EngineState → List ℕ → Result (Option ℕ) MaintenanceError → Type 0
 IsCompactResult old new snapshots (Ok (Some count)) =
     (2 ≤ old.installed.tables) × (count ≡ length (retained old.entries snapshots old.installed)) × HasInstalled old new (after_compaction old.entries snapshots old.installed)
+    × (retained old.entries snapshots old.installed ≡ [] → TablesUncalled old new)
 IsCompactResult old new snapshots (Ok None) = (old.halted ≡ false) × (old.installed.tables < 2) × (new ≡ old)
-IsCompactResult old new snapshots (Err why) = IsRefused old new (2 ≤ old.installed.tables) why
+IsCompactResult old new snapshots (Err why) =
+    IsNotInstalled old new (2 ≤ old.installed.tables) why × (retained old.entries snapshots old.installed ≡ [] → TablesUncalled old new)

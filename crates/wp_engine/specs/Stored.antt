@@ -67,8 +67,8 @@ pub record IsLogged (wal : WalState) (entries : List Entry) (stopped : Bool) (li
   pub id_fits : wal.id < 2 ^ 32
 
 -- memory and the frozen parts have the history's versions above the flushed number, and no others
-abbrev pub HasLater : List Entry → ℕ → StoreParts → Type 0
-HasLater entries flushed store = (key : List ℕ) (p : ℕ) → version_at (later_versions entries flushed) key p ≡ first_at (store.memory ∷ store.frozen) key p
+abbrev pub HasUnflushed : List Entry → ℕ → StoreParts → Type 0
+HasUnflushed entries flushed store = (key : List ℕ) (p : ℕ) → version_at (later_versions entries flushed) key p ≡ first_at (store.memory ∷ store.frozen) key p
 
 -- The set stores its edits, and the tables are the last one's. Once an install has failed, those of its edit are there too.
 -- With the history's later versions they show each reader what the history holds.
@@ -82,7 +82,7 @@ pub record IsTabled (id : ℕ) (entries : List Entry) (set : TableSetState) (sto
   pub low : (key : List ℕ) (p : ℕ) → set.manifest.edit.flushed < p → first_at store.tables key p ≡ None
   pub covered : IsEditCovered entries (installed_of set.manifest.edit store.tables)
   pub next_covered : set.halted ≡ true → set.manifest.log.closed ≡ true → IsEditCovered entries (installed_of next next_parts)
-  pub memory : HasLater entries set.manifest.edit.flushed store
+  pub memory : HasUnflushed entries set.manifest.edit.flushed store
 
 -- all parts go together
 pub record IsConsistent (wal : WalState) (entries : List Entry) (set : TableSetState) (store : StoreParts) (stopped : Bool) (limit : ℕ) : Type 0 where

@@ -6,7 +6,7 @@ ghost use Rattle.wp_keep.specs.Keep.{retained_of};
 ghost use Rattle.wp_merge.specs.Merge.{AreMerged, joined, sorted_of};
 ghost use Rattle.wp_session.specs.Tables.{after_flush, after_compaction};
 ghost use Rattle.wp_engine.specs.Maintenance.{IsFlushResult, IsCompactResult, KeepsTables, OpensThroughout, maintenance_error};
-ghost use Rattle.wp_engine.specs.Stored.{HasLater};
+ghost use Rattle.wp_engine.specs.Stored.{HasUnflushed};
 
 use crate::decisions::decided_pairs;
 use crate::engine::Engine;
@@ -34,7 +34,7 @@ fn freeze(store: &mut Store) -> Result<Versions, AllocError>
     ensures merged { IfOk result (λ versions. AreMerged (store.old.memory ∷ store.old.frozen) versions) }
     ensures frozen { OnOk result ((store.new.memory ≡ []) × (1 ≤ store.new.room)) }
     ensures tables { store.new.tables ≡ store.old.tables }
-    ensures later { (entries : List Entry) (flushed : ℕ) → HasLater entries flushed store.old → HasLater entries flushed store.new }
+    ensures later { (entries : List Entry) (flushed : ℕ) → HasUnflushed entries flushed store.old → HasUnflushed entries flushed store.new }
 {
     store.freeze()?;
     store.reserve()?;

@@ -72,6 +72,7 @@ returns-in-Ok-clause-compacted g c =
         running = running;
         changed = installed_state inside.wal inside.history.entries inside.set c.compact.new.self inside.store c.replace.new.self inside.stopped inside.limit _ edit (installed.running ∙ sym running);
       },
+      λ none. let same = c.compact.ensures.uncalled (c.in_ok-kept.ensures ∙ none) in (same.1, same.0),
     )
 
 pub returns-in-Ok-clause-keeps : goal.returns-in-Ok-clause-keeps
