@@ -1,6 +1,6 @@
 -- What a flush and a compaction make of the store on one thread.
 use Rattle.std.specs.Prelude.{◌≡◌, ◌⊎◌, ℕ, ◌<◌, ◌≤◌, true, false, List, [], length, Option, Some, None, Result, Ok, Err}
-use Rattle.wp_model.specs.Flushed.{InstalledEdit, later_versions}
+use Rattle.wp_model.specs.Flushed.{InstalledEdit}
 use Rattle.wp_outside.specs.Disk.{Passes, images}
 use Rattle.wp_outside.specs.Faults.{Rose}
 use Rattle.wp_gatelog.specs.Durability.{LosesNoRecord}

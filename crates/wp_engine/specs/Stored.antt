@@ -1,10 +1,10 @@
 -- What the devices of a store on one thread store.
-use Rattle.std.specs.Prelude.{◌≡◌, ◌⊎◌, ℕ, zero, suc, ◌+◌, ◌^◌, ◌<◌, ◌≤◌, Bool, true, false, List, [], ◌∷◌, ◌++◌, length, None}
+use Rattle.std.specs.Prelude.{◌≡◌, ◌⊎◌, ℕ, zero, suc, ◌+◌, ◌^◌, ◌<◌, Bool, true, false, List, [], ◌∷◌, ◌++◌, length, None}
 use Rattle.wp_model.specs.declared.entry.Entry.{Entry}
 use Rattle.wp_model.specs.declared.version.Version.{Version}
 use Rattle.wp_model.specs.Flushed.{InstalledEdit, IsEditCovered, later_versions}
 use Rattle.wp_model.specs.Legal.{IsLegal, undone_last}
-use Rattle.wp_model.specs.Versions.{AreInOrder, version_at}
+use Rattle.wp_model.specs.Versions.{version_at}
 use Rattle.wp_outside.specs.Disk.{Moment, images}
 use Rattle.wp_entry.specs.Record.{IsRecord}
 use Rattle.wp_gatelog.specs.Moments.{Leaves}
