@@ -52,16 +52,23 @@ pub(super) fn add_all(
     Ok(true)
 }
 
-/// The history of the world, if it is legal.
-pub(super) fn history_of(world: &World) -> Result<Option<History>, AllocError>
-    ensures { IfOk result (λ history. IfSome history (λ h. h.entries ≡ world.now.writes.history)) }
+/// The entries as a history, if they are legal.
+fn read(entries: &[Entry], alloc: Global) -> Result<Option<History>, AllocError>
+    ensures { IfOk result (λ history. IfSome history (λ h. h.entries ≡ entries.now)) }
 {
-    let mut history = History::new(world.alloc);
-    if add_all(&mut history, &world.writes.history, world.alloc)? {
+    let mut history = History::new(alloc);
+    if add_all(&mut history, entries, alloc)? {
         Ok(Some(history))
     } else {
         Ok(None)
     }
+}
+
+/// The history of the world, if it is legal.
+pub(super) fn history_of(world: &World) -> Result<Option<History>, AllocError>
+    ensures { IfOk result (λ history. IfSome history (λ h. h.entries ≡ world.now.writes.history)) }
+{
+    read(world.writes.entries(), world.alloc)
 }
 
 /// The place of the Commit or the Close of the prepare.
@@ -89,11 +96,15 @@ fn decision_of(history: &History, p: Seq) -> Option<Seq>
     }
 }
 
-/// The number that decides the version in that world, if its history is legal.
-pub(super) fn decision_in(world: &World, p: Seq) -> Result<Option<Seq>, AllocError>
-    ensures { IfOk result (λ decision. IfSome decision (λ c. decision_of world.now.writes.history p ≡ Some c)) }
+/// The number that decides the version among the entries, if they are legal.
+pub(super) fn decision_in(
+    entries: &[Entry],
+    p: Seq,
+    alloc: Global,
+) -> Result<Option<Seq>, AllocError>
+    ensures { IfOk result (λ decision. IfSome decision (λ c. decision_of entries.now p ≡ Some c)) }
 {
-    let Some(history) = history_of(world)? else {
+    let Some(history) = read(entries, alloc)? else {
         return Ok(None);
     };
     Ok(decision_of(&history, p))

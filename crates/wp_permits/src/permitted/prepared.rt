@@ -1,5 +1,5 @@
 //! Whether a step with the prepared turn may be made.
-ghost use Rattle.std.specs.Prelude.{◌≡◌, true, Some, IfOk, IfSome};
+ghost use Rattle.std.specs.Prelude.{◌≡◌, true, ℕ, Some, IfOk, IfSome};
 ghost use Rattle.wp_core.specs.World.{Actor};
 ghost use Rattle.wp_core.specs.Conditions.{IsPreparePending};
 ghost use Rattle.wp_core.specs.Steps as step;
@@ -8,7 +8,7 @@ ghost use Rattle.wp_machine.specs.Machine.{prepared_step};
 ghost use Rattle.wp_needs.specs.Offered.{IsOffered};
 
 use crate::permitted::history::decision_in;
-use std::alloc::AllocError;
+use std::alloc::{AllocError, Global};
 use wp_machine::{PreparedStep, Turn, World};
 use wp_model::{Entry, Seq};
 
@@ -32,19 +32,27 @@ fn may_add_delayed_commit(world: &World, by: usize, p: Seq, c: Seq) -> Result<bo
     if !world.holders.holds(Turn::Prepared, by) || world.delayed_flag == 0 {
         return Ok(false);
     }
-    let decision = decision_in(world, p)?;
+    let decision = decision_in(world.writes.entries(), p, world.alloc)?;
     Ok(decision == Some(c))
 }
 
-/// Only a decided number is taken out.
+/// The entries are legal, and decide the version.
+fn is_decided(entries: &[Entry], p: Seq, alloc: Global) -> Result<bool, AllocError>
+    ensures { IfOk result (λ decided. decided ≡ true → (c : ℕ) × (decision_of entries.now p ≡ Some c)) }
+{
+    let decision = decision_in(entries, p, alloc)?;
+    Ok(decision.is_some())
+}
+
+/// Only a number whose decision is published is taken out.
 fn may_take_out(world: &World, by: usize, p: Seq) -> Result<bool, AllocError>
     ensures { IfOk result (λ yes. yes ≡ true → (a : Actor) → IsOffered world.now by a (Some (step.take_out p))) }
 {
     if !world.holders.holds(Turn::Prepared, by) {
         return Ok(false);
     }
-    let decision = decision_in(world, p)?;
-    Ok(decision.is_some())
+    let decided = is_decided(world.writes.entries(), p, world.alloc)?;
+    Ok(decided)
 }
 
 pub(super) fn prepared(world: &World, by: usize, kind: &PreparedStep) -> Result<bool, AllocError>

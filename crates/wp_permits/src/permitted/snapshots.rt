@@ -35,7 +35,7 @@ fn may_add_old_commit(world: &World, by: usize, s: Seq, p: Seq) -> Result<bool, 
     if world.snapshots.at(s).is_none() {
         return Ok(false);
     }
-    let Some(c) = decision_in(world, p)? else {
+    let Some(c) = decision_in(world.writes.entries(), p, world.alloc)? else {
         return Ok(false);
     };
     Ok(p <= s && s < c)
