@@ -1,5 +1,6 @@
 mod acts;
 mod readers;
 mod refusals;
+mod scripts;
 mod seats;
 mod writers;

@@ -1,16 +1,12 @@
-//! What a writer and a reader do, as lists of acts, each a step of the machine that has to be permitted.
-use crate::permits;
+//! What a client does: each act is a step of the machine.
 use std::alloc::Global;
 use std::test::Fail;
-use wp_judge::{Asked, Load, ask};
+use wp_judge::Load;
 use wp_machine::{
-    ActorsStep, Kind, LocksStep, OwnStep, PreparedStep, ReaderStep, SnapshotsStep, Step, StoreStep,
-    Turn, TurnStep, WordStep, World, WriteStep, actor_at, apply,
+    ActorsStep, Kind, LocksStep, OwnStep, PreparedStep, ReaderStep, SnapshotsStep, StoreStep, Turn,
+    TurnStep, WordStep, WriteStep,
 };
 use wp_model::{Batch, Change, Entry, Key, Name, Seq, Value};
-
-/// The one client, which writes and reads.
-const SEAT: usize = 0;
 
 /// A step of the client. Its transaction is t, which puts the key k; its direct write puts the key d.
 #[derive(Clone, Copy)]
@@ -34,6 +30,7 @@ pub(super) enum Act {
     AddOldCommit(Seq, Seq),
     AddDelayedCommit(Seq, Seq),
     TakeOut(Seq),
+    LoadPublished,
     /// The published number is registered with this smallest.
     Register(Seq),
     /// The live number is registered once more.
@@ -102,7 +99,7 @@ fn locks_step(alloc: Global, locking: Locking) -> Result<LocksStep, Fail> {
     }
 }
 
-fn entry_of(alloc: Global, pending: Pending) -> Result<Entry, Fail> {
+pub(super) fn entry_of(alloc: Global, pending: Pending) -> Result<Entry, Fail> {
     match pending {
         Pending::Write => Ok(Entry::Write(batch_of(alloc, direct_key(alloc)?)?)),
         Pending::Prepare => Ok(Entry::Prepare(name(alloc)?, batch_of(alloc, key(alloc)?)?)),
@@ -161,7 +158,18 @@ fn actors_step(act: Act) -> Option<ActorsStep> {
     }
 }
 
-fn kind_of(alloc: Global, act: Act) -> Result<Kind, Fail> {
+fn reader_step(act: Act) -> Option<ReaderStep> {
+    match act {
+        Act::LoadPublished => Some(ReaderStep::LoadPublished),
+        Act::Register(smallest) => Some(ReaderStep::Register(smallest)),
+        Act::Read(p) => Some(ReaderStep::BeginReading(p, 0)),
+        Act::Load(load) => Some(ReaderStep::Load(load)),
+        _ => None,
+    }
+}
+
+/// The step that the act is.
+pub(super) fn kind_of(alloc: Global, act: Act) -> Result<Kind, Fail> {
     if let Some(step) = word_step(act) {
         return Ok(Kind::Word(step));
     }
@@ -174,6 +182,9 @@ fn kind_of(alloc: Global, act: Act) -> Result<Kind, Fail> {
     if let Some(step) = actors_step(act) {
         return Ok(Kind::Actors(step));
     }
+    if let Some(step) = reader_step(act) {
+        return Ok(Kind::Reader(step));
+    }
     match act {
         Act::Take(turn) => Ok(Kind::Turn(TurnStep::Take(turn))),
         Act::Give(turn) => Ok(Kind::Turn(TurnStep::Give(turn))),
@@ -184,9 +195,6 @@ fn kind_of(alloc: Global, act: Act) -> Result<Kind, Fail> {
         Act::TakeVersions => Ok(Kind::Store(StoreStep::TakeVersions)),
         Act::Log => Ok(Kind::Write(WriteStep::LogPending)),
         Act::Drop => Ok(Kind::Write(WriteStep::DropPending)),
-        Act::Register(smallest) => Ok(Kind::Reader(ReaderStep::Register(smallest))),
-        Act::Read(p) => Ok(Kind::Reader(ReaderStep::BeginReading(p, 0))),
-        Act::Load(load) => Ok(Kind::Reader(ReaderStep::Load(load))),
         _ => Err(Fail::from("each act is a step")),
     }
 }
@@ -225,8 +233,8 @@ pub(super) const FREE_DIRECT: &[Act] = &[
     Act::Give(Turn::Locks),
 ];
 
-/// The next number is prepared for t.
-pub(super) const PREPARE: &[Act] = &[
+/// A prepare of t is pending, its number in the heap.
+pub(super) const PEND_PREPARE: &[Act] = &[
     Act::Take(Turn::Locks),
     Act::Lock(Locking::ClaimName),
     Act::Lock(Locking::LockKey),
@@ -236,6 +244,10 @@ pub(super) const PREPARE: &[Act] = &[
     Act::Pend(Pending::Prepare),
     Act::Take(Turn::Prepared),
     Act::AddPrepared,
+];
+
+/// It is logged and published, with its versions.
+pub(super) const PUBLISH_PREPARE: &[Act] = &[
     Act::Give(Turn::Prepared),
     Act::Take(Turn::Store),
     Act::AddVersions,
@@ -253,122 +265,20 @@ pub(super) const END: &[Act] = &[
     Act::Give(Turn::Locks),
 ];
 
-pub(super) fn pend_commit(p: Seq) -> [Act; 2] {
-    [Act::Take(Turn::Write), Act::Pend(Pending::Commit(p))]
-}
+/// The commit of the prepare with the number 1 is pending.
+pub(super) const PEND_COMMIT: &[Act] = &[Act::Take(Turn::Write), Act::Pend(Pending::Commit(1))];
 
-/// The bound rises, with no number to move.
-pub(super) fn raise(m: Seq) -> [Act; 3] {
-    [
-        Act::Take(Turn::Prepared),
-        Act::Raise(m),
-        Act::Give(Turn::Prepared),
-    ]
-}
+/// The decided number 1 leaves the prepared tables, and with it as the last one the flag goes down.
+pub(super) const CLEAN_UP: &[Act] = &[
+    Act::Take(Turn::Prepared),
+    Act::TakeOut(1),
+    Act::SetDelayedFlag(0),
+    Act::Give(Turn::Prepared),
+];
 
-/// The bound rises past a prepared number, with the flag up before.
-pub(super) fn raise_past_prepared(m: Seq) -> [Act; 4] {
-    [
-        Act::Take(Turn::Prepared),
-        Act::SetDelayedFlag(1),
-        Act::Raise(m),
-        Act::Give(Turn::Prepared),
-    ]
-}
-
-/// The version is noted in the old commit map under the live number, with the flag up before.
-pub(super) fn keep(s: Seq, p: Seq) -> [Act; 4] {
-    [
-        Act::Take(Turn::Snapshots),
-        Act::SetOldFlag(1),
-        Act::AddOldCommit(s, p),
-        Act::Give(Turn::Snapshots),
-    ]
-}
-
-/// The pair of a prepared number becomes a delayed commit.
-pub(super) fn delay(p: Seq, c: Seq) -> [Act; 3] {
-    [
-        Act::Take(Turn::Prepared),
-        Act::AddDelayedCommit(p, c),
-        Act::Give(Turn::Prepared),
-    ]
-}
-
-/// A decided number leaves the prepared tables, and with the last one the flag goes down.
-pub(super) fn clean_up(p: Seq) -> [Act; 4] {
-    [
-        Act::Take(Turn::Prepared),
-        Act::TakeOut(p),
-        Act::SetDelayedFlag(0),
-        Act::Give(Turn::Prepared),
-    ]
-}
-
-/// The published number is registered with this smallest.
-pub(super) fn register(smallest: Seq) -> [Act; 3] {
-    [
-        Act::Take(Turn::Snapshots),
-        Act::Register(smallest),
-        Act::Give(Turn::Snapshots),
-    ]
-}
-
-// ---- playing
-
-/// The world after a step, if it is permitted.
-fn step(world: World, kind: Kind) -> Result<World, Fail> {
-    let step = Step { by: SEAT, kind };
-    if !permits(&world, &step)? {
-        return Err(Fail::from("the step is not permitted"));
-    }
-    Ok(apply(world, step)?)
-}
-
-fn play_scene(mut world: World, acts: &[Act]) -> Result<World, Fail> {
-    for act in acts {
-        let kind = kind_of(world.alloc, *act)?;
-        world = step(world, kind)?;
-    }
-    Ok(world)
-}
-
-/// The world after all of these, of which each has to be permitted.
-pub(super) fn play(mut world: World, scenes: &[&[Act]]) -> Result<World, Fail> {
-    for acts in scenes {
-        world = play_scene(world, acts)?;
-    }
-    Ok(world)
-}
-
-/// The world after these, from the opening on the empty history on.
-pub(super) fn played(alloc: Global, scenes: &[&[Act]]) -> Result<World, Fail> {
-    play(World::new(alloc, Name::read(alloc, b"a")?)?, scenes)
-}
-
-pub(super) fn is_refused(world: &World, act: Act) -> Result<bool, Fail> {
-    let kind = kind_of(world.alloc, act)?;
-    Ok(!permits(world, &Step { by: SEAT, kind })?)
-}
-
-/// The reader's answer, where it has one.
-pub(super) fn answer(world: &World) -> Option<bool> {
-    if world.actors.is_empty() {
-        return None;
-    }
-    let seen = actor_at(world, SEAT).reading?;
-    match ask(&seen) {
-        Asked::Answer(visible) => Some(visible),
-        Asked::Load(_) => None,
-    }
-}
-
-/// How many entries are published.
-pub(super) fn published(world: &World) -> usize {
-    world.writes.history.len()
-}
-
-/// Whether an entry is pending.
-pub(super) fn has_pending(world: &World) -> bool {
-    !world.writes.pending.is_empty()
-}
+/// The published number is registered with the smallest 1.
+pub(super) const REGISTER: &[Act] = &[
+    Act::Take(Turn::Snapshots),
+    Act::Register(1),
+    Act::Give(Turn::Snapshots),
+];

@@ -1,12 +1,12 @@
 //! What decides a reader, beside a writer.
 use crate::tests::acts::{
-    Act, END, FINISH, FREE_DIRECT, PEND_WRITE, PREPARE, answer, clean_up, delay, keep, pend_commit,
-    play, played, raise, raise_past_prepared, register,
+    Act, CLEAN_UP, END, FINISH, FREE_DIRECT, PEND_COMMIT, PEND_PREPARE, PEND_WRITE,
+    PUBLISH_PREPARE, REGISTER,
 };
-use std::alloc::Global;
+use crate::tests::scripts::{Line, Script, wrong_script};
 use std::test::Fail;
 use wp_judge::Load;
-use wp_machine::{Turn, World};
+use wp_machine::Turn;
 
 /// The word and the bound, for the first time.
 const LOOK: &[Act] = &[Act::Load(Load::FirstWord), Act::Load(Load::FirstMax)];
@@ -31,156 +31,204 @@ const LOOK_INTO_PREPARED: &[Act] = &[
     Act::Give(Turn::Prepared),
 ];
 
+/// The bound rises to 1, with no number to move.
+const RAISE_TO_1: &[Act] = &[
+    Act::Take(Turn::Prepared),
+    Act::Raise(1),
+    Act::Give(Turn::Prepared),
+];
+
+const RAISE_TO_2: &[Act] = &[
+    Act::Take(Turn::Prepared),
+    Act::Raise(2),
+    Act::Give(Turn::Prepared),
+];
+
+const RAISE_TO_3: &[Act] = &[
+    Act::Take(Turn::Prepared),
+    Act::Raise(3),
+    Act::Give(Turn::Prepared),
+];
+
+const RAISE_TO_4: &[Act] = &[
+    Act::Take(Turn::Prepared),
+    Act::Raise(4),
+    Act::Give(Turn::Prepared),
+];
+
+/// The bound rises past the prepared number 1, with the flag up before.
+const RAISE_PAST_PREPARED: &[Act] = &[
+    Act::Take(Turn::Prepared),
+    Act::SetDelayedFlag(1),
+    Act::Raise(2),
+    Act::Give(Turn::Prepared),
+];
+
+/// 1 is noted in the old commit map under the live number 3, with the flag up before.
+const KEEP_UNDER_3: &[Act] = &[
+    Act::Take(Turn::Snapshots),
+    Act::SetOldFlag(1),
+    Act::AddOldCommit(3, 1),
+    Act::Give(Turn::Snapshots),
+];
+
+const KEEP_UNDER_1: &[Act] = &[
+    Act::Take(Turn::Snapshots),
+    Act::SetOldFlag(1),
+    Act::AddOldCommit(1, 1),
+    Act::Give(Turn::Snapshots),
+];
+
+/// The pair (1, 4) of the prepared number 1 becomes a delayed commit.
+const DELAY: &[Act] = &[
+    Act::Take(Turn::Prepared),
+    Act::AddDelayedCommit(1, 4),
+    Act::Give(Turn::Prepared),
+];
+
 /// A reader of 1 at 3 has loaded the word and the bound. 1 is prepared, 2 and 3 are written: the word has 3, the bound is
 /// 2, and 1 is delayed.
-fn read_in_part(alloc: Global) -> Result<World, Fail> {
-    played(
-        alloc,
-        &[
-            PREPARE,
-            PEND_WRITE,
-            FINISH,
-            FREE_DIRECT,
-            PEND_WRITE,
-            &raise_past_prepared(2),
-            FINISH,
-            FREE_DIRECT,
-            &register(1),
-            &[Act::Read(1)],
-            LOOK,
-        ],
-    )
-}
+const READ_IN_PART: Line = Line::Play(&[
+    PEND_PREPARE,
+    PUBLISH_PREPARE,
+    PEND_WRITE,
+    FINISH,
+    FREE_DIRECT,
+    PEND_WRITE,
+    RAISE_PAST_PREPARED,
+    FINISH,
+    FREE_DIRECT,
+    REGISTER,
+    &[Act::Read(1)],
+    LOOK,
+]);
 
-/// The same, and then 1 is committed as 4: the word has it, and the bound is 3.
-fn committed_meanwhile(alloc: Global) -> Result<World, Fail> {
-    let world = read_in_part(alloc)?;
-    play(world, &[&pend_commit(1), &raise(3), FINISH])
-}
+/// 1 is committed as 4: the word has it, and the bound is 3.
+const COMMIT_MEANWHILE: Line = Line::Play(&[PEND_COMMIT, RAISE_TO_3, FINISH]);
 
 /// 1 leaves the prepared tables, and 5 is written, which keeps 1 under 3.
-#[test]
-fn two_evictions_between_two_looks(rt: HostRuntime) -> Result<(), Fail> {
-    let world = committed_meanwhile(rt.alloc())?;
-    let world = play(
-        world,
-        &[
-            &clean_up(1),
-            END,
-            PEND_WRITE,
-            &raise(4),
-            &keep(3, 1),
-            FINISH,
-            FREE_DIRECT,
-            READ_ON,
-        ],
-    )?;
-    assert!(rt; answer(&world) == None);
-    let world = play(world, &[LOOK_INTO_OLD_COMMITS])?;
-    assert!(rt; answer(&world) == Some(false));
-    Ok(())
-}
+const TWO_EVICTIONS: &[Line] = &[
+    READ_IN_PART,
+    COMMIT_MEANWHILE,
+    Line::Play(&[
+        CLEAN_UP,
+        END,
+        PEND_WRITE,
+        RAISE_TO_4,
+        KEEP_UNDER_3,
+        FINISH,
+        FREE_DIRECT,
+        READ_ON,
+    ]),
+    Line::Answer(None),
+    Line::Play(&[LOOK_INTO_OLD_COMMITS]),
+    Line::Answer(Some(false)),
+];
 
 /// 2 is registered with the smallest 2: nothing is prepared, and 2 comes after 1.
-#[test]
-fn a_smallest_decides(rt: HostRuntime) -> Result<(), Fail> {
-    let world = played(
-        rt.alloc(),
+const SMALLEST: &[Line] = &[
+    Line::Play(&[
+        PEND_WRITE,
+        FINISH,
+        FREE_DIRECT,
         &[
-            PEND_WRITE,
-            FINISH,
-            FREE_DIRECT,
-            &[Act::Take(Turn::Prepared)],
-            &register(2),
-            &[Act::Give(Turn::Prepared), Act::Read(1)],
+            Act::Take(Turn::Prepared),
+            Act::Take(Turn::Snapshots),
+            Act::Register(2),
+            Act::Give(Turn::Snapshots),
+            Act::Give(Turn::Prepared),
+            Act::Read(1),
         ],
-    )?;
-    assert!(rt; answer(&world) == Some(true));
-    Ok(())
-}
+    ]),
+    Line::Answer(Some(true)),
+];
 
 /// 1 was committed as 4 and cleaned up since the first look: the reader looks into no table, and finds its word.
-#[test]
-fn a_delayed_flag_of_0_decides(rt: HostRuntime) -> Result<(), Fail> {
-    let world = committed_meanwhile(rt.alloc())?;
-    let second = [Act::Load(Load::DelayedFlag), Act::Load(Load::SecondWord)];
-    let world = play(world, &[&clean_up(1), END, &second])?;
-    assert!(rt; answer(&world) == Some(false));
-    Ok(())
-}
+const DELAYED_FLAG: &[Line] = &[
+    READ_IN_PART,
+    COMMIT_MEANWHILE,
+    Line::Play(&[
+        CLEAN_UP,
+        END,
+        &[Act::Load(Load::DelayedFlag), Act::Load(Load::SecondWord)],
+    ]),
+    Line::Answer(Some(false)),
+];
 
 /// 1 is evicted, and the bound is the snapshot's number: with nothing in the old commit map it was committed by then.
-#[test]
-fn an_old_flag_of_0_decides(rt: HostRuntime) -> Result<(), Fail> {
-    let world = played(
-        rt.alloc(),
-        &[
-            PEND_WRITE,
-            FINISH,
-            FREE_DIRECT,
-            PEND_WRITE,
-            &raise(1),
-            FINISH,
-            FREE_DIRECT,
-            &register(1),
-            &[Act::Read(1)],
-            LOOK,
-            PEND_WRITE,
-            &raise(2),
-            FINISH,
-            FREE_DIRECT,
-            READ_ON,
-        ],
-    )?;
-    assert!(rt; answer(&world) == Some(true));
-    Ok(())
-}
+const OLD_FLAG: &[Line] = &[
+    Line::Play(&[
+        PEND_WRITE,
+        FINISH,
+        FREE_DIRECT,
+        PEND_WRITE,
+        RAISE_TO_1,
+        FINISH,
+        FREE_DIRECT,
+        REGISTER,
+        &[Act::Read(1)],
+        LOOK,
+        PEND_WRITE,
+        RAISE_TO_2,
+        FINISH,
+        FREE_DIRECT,
+        READ_ON,
+    ]),
+    Line::Answer(Some(true)),
+];
 
 /// The pair (1, 4) goes while 1 is still prepared, so it becomes a delayed commit: the reader finds 4, above 3.
-#[test]
-fn a_delayed_commit_decides(rt: HostRuntime) -> Result<(), Fail> {
-    let world = committed_meanwhile(rt.alloc())?;
-    let world = play(
-        world,
-        &[
-            PEND_WRITE,
-            &raise(4),
-            &keep(3, 1),
-            &delay(1, 4),
-            FINISH,
-            FREE_DIRECT,
-            &[Act::Load(Load::DelayedFlag)],
-        ],
-    )?;
-    assert!(rt; answer(&world) == None);
-    let world = play(world, &[LOOK_INTO_PREPARED])?;
-    assert!(rt; answer(&world) == Some(false));
-    Ok(())
-}
+const DELAYED_COMMIT: &[Line] = &[
+    READ_IN_PART,
+    COMMIT_MEANWHILE,
+    Line::Play(&[
+        PEND_WRITE,
+        RAISE_TO_4,
+        KEEP_UNDER_3,
+        DELAY,
+        FINISH,
+        FREE_DIRECT,
+        &[Act::Load(Load::DelayedFlag)],
+    ]),
+    Line::Answer(None),
+    Line::Play(&[LOOK_INTO_PREPARED]),
+    Line::Answer(Some(false)),
+];
 
 /// 1 was committed as 2, above the snapshot 1, and evicted by 3.
+const OLD_COMMIT_MAP: &[Line] = &[
+    Line::Play(&[
+        PEND_PREPARE,
+        PUBLISH_PREPARE,
+        REGISTER,
+        &[Act::Read(1)],
+        PEND_COMMIT,
+        FINISH,
+        CLEAN_UP,
+        END,
+        PEND_WRITE,
+        RAISE_TO_2,
+        KEEP_UNDER_1,
+        FINISH,
+        FREE_DIRECT,
+        LOOK,
+        READ_ON,
+        LOOK_INTO_OLD_COMMITS,
+    ]),
+    Line::Answer(Some(false)),
+];
+
+const SCRIPTS: [Script; 6] = [
+    ("two evictions between two looks", TWO_EVICTIONS),
+    ("a smallest decides", SMALLEST),
+    ("a delayed flag of 0 decides", DELAYED_FLAG),
+    ("an old flag of 0 decides", OLD_FLAG),
+    ("a delayed commit decides", DELAYED_COMMIT),
+    ("the old commit map decides", OLD_COMMIT_MAP),
+];
+
 #[test]
-fn the_old_commit_map_decides(rt: HostRuntime) -> Result<(), Fail> {
-    let world = played(
-        rt.alloc(),
-        &[
-            PREPARE,
-            &register(1),
-            &[Act::Read(1)],
-            &pend_commit(1),
-            FINISH,
-            &clean_up(1),
-            END,
-            PEND_WRITE,
-            &raise(2),
-            &keep(1, 1),
-            FINISH,
-            FREE_DIRECT,
-            LOOK,
-            READ_ON,
-            LOOK_INTO_OLD_COMMITS,
-        ],
-    )?;
-    assert!(rt; answer(&world) == Some(false));
+fn readers_are_decided(rt: HostRuntime) -> Result<(), Fail> {
+    assert_eq!(rt; wrong_script(rt.alloc(), &SCRIPTS)?, None);
     Ok(())
 }

@@ -1,81 +1,98 @@
 //! Steps that are not permitted.
-use crate::permits;
 use crate::tests::acts::{
-    ADD_VERSIONS, Act, FINISH, FREE_DIRECT, Locking, PEND_WRITE, PREPARE, is_refused, play, played,
+    ADD_VERSIONS, Act, FINISH, FREE_DIRECT, Locking, PEND_COMMIT, PEND_PREPARE, PEND_WRITE,
+    PUBLISH_PREPARE,
 };
+use crate::tests::scripts::{Line, Script, wrong_script};
 use std::test::Fail;
-use wp_machine::{Kind, ReaderStep, Step, Turn};
+use wp_machine::Turn;
 
-#[test]
-fn a_turn_that_is_held_is_not_taken(rt: HostRuntime) -> Result<(), Fail> {
-    let take = Act::Take(Turn::Write);
-    let world = played(rt.alloc(), &[&[take]])?;
-    assert!(rt; is_refused(&world, take)?);
-    let world = play(world, &[&[Act::Give(Turn::Write)]])?;
-    assert!(rt; !is_refused(&world, take)?);
-    Ok(())
-}
+const TAKE: Act = Act::Take(Turn::Write);
+
+const HELD_TURN: &[Line] = &[
+    Line::Play(&[&[TAKE]]),
+    Line::Refused(TAKE),
+    Line::Play(&[&[Act::Give(Turn::Write)]]),
+    Line::Permitted(TAKE),
+];
+
+const LOCK: Act = Act::Lock(Locking::LockKey);
 
 /// The transaction t has the key k, and asks for it once more.
-#[test]
-fn a_key_that_is_held_is_not_locked(rt: HostRuntime) -> Result<(), Fail> {
-    let lock = Act::Lock(Locking::LockKey);
-    let claim = [Act::Take(Turn::Locks), Act::Lock(Locking::ClaimName)];
-    let world = played(rt.alloc(), &[&claim])?;
-    assert!(rt; !is_refused(&world, lock)?);
-    let world = play(world, &[&[lock]])?;
-    assert!(rt; is_refused(&world, lock)?);
-    Ok(())
-}
+const HELD_KEY: &[Line] = &[
+    Line::Play(&[&[Act::Take(Turn::Locks), Act::Lock(Locking::ClaimName)]]),
+    Line::Permitted(LOCK),
+    Line::Play(&[&[LOCK]]),
+    Line::Refused(LOCK),
+];
 
 /// The pair (1, 1) is above the bound.
-#[test]
-fn a_word_waits_for_the_bound(rt: HostRuntime) -> Result<(), Fail> {
-    let world = played(rt.alloc(), &[PEND_WRITE, FINISH, FREE_DIRECT, PEND_WRITE])?;
-    assert!(rt; is_refused(&world, Act::StoreWord)?);
-    Ok(())
-}
+const WORD_BEFORE_BOUND: &[Line] = &[
+    Line::Play(&[PEND_WRITE, FINISH, FREE_DIRECT, PEND_WRITE]),
+    Line::Refused(Act::StoreWord),
+];
 
-#[test]
-fn an_entry_waits_for_its_pair(rt: HostRuntime) -> Result<(), Fail> {
-    let world = played(rt.alloc(), &[PEND_WRITE, ADD_VERSIONS, &[Act::Log]])?;
-    assert!(rt; is_refused(&world, Act::Publish)?);
-    let world = play(world, &[&[Act::StoreWord]])?;
-    assert!(rt; !is_refused(&world, Act::Publish)?);
-    Ok(())
-}
+const ENTRY_BEFORE_PAIR: &[Line] = &[
+    Line::Play(&[PEND_WRITE, ADD_VERSIONS, &[Act::Log]]),
+    Line::Refused(Act::Publish),
+    Line::Play(&[&[Act::StoreWord]]),
+    Line::Permitted(Act::Publish),
+];
 
 /// 1 is prepared, and the bound is to rise past it.
-#[test]
-fn the_heap_waits_for_the_flag(rt: HostRuntime) -> Result<(), Fail> {
-    let turns = [Act::Take(Turn::Write), Act::Take(Turn::Prepared)];
-    let world = played(rt.alloc(), &[PREPARE, &turns])?;
-    assert!(rt; is_refused(&world, Act::Raise(1))?);
-    let world = play(world, &[&[Act::SetDelayedFlag(1), Act::Raise(1)]])?;
-    assert!(rt; is_refused(&world, Act::SetDelayedFlag(0))?);
-    assert!(rt; is_refused(&world, Act::TakeOut(1))?);
-    Ok(())
-}
+const HEAP_BEFORE_FLAG: &[Line] = &[
+    Line::Play(&[
+        PEND_PREPARE,
+        PUBLISH_PREPARE,
+        &[Act::Take(Turn::Write), Act::Take(Turn::Prepared)],
+    ]),
+    Line::Refused(Act::Raise(1)),
+    Line::Play(&[&[Act::SetDelayedFlag(1), Act::Raise(1)]]),
+    Line::Refused(Act::SetDelayedFlag(0)),
+    Line::Refused(Act::TakeOut(1)),
+];
 
-#[test]
-fn a_flag_goes_down_before_its_turn(rt: HostRuntime) -> Result<(), Fail> {
-    let give = Act::Give(Turn::Prepared);
-    let up = [Act::Take(Turn::Prepared), Act::SetDelayedFlag(1)];
-    let world = played(rt.alloc(), &[&up])?;
-    assert!(rt; is_refused(&world, give)?);
-    let world = play(world, &[&[Act::SetDelayedFlag(0)]])?;
-    assert!(rt; !is_refused(&world, give)?);
-    Ok(())
-}
+/// The commit of 1 is logged, and then published.
+const TAKEN_OUT_BEFORE_PUBLISHED: &[Line] = &[
+    Line::Play(&[
+        PEND_PREPARE,
+        PUBLISH_PREPARE,
+        PEND_COMMIT,
+        &[Act::Log, Act::Take(Turn::Prepared)],
+    ]),
+    Line::Refused(Act::TakeOut(1)),
+    Line::Play(&[&[Act::StoreWord, Act::Publish]]),
+    Line::Permitted(Act::TakeOut(1)),
+];
+
+const GIVE: Act = Act::Give(Turn::Prepared);
+
+const FLAG_BEFORE_TURN: &[Line] = &[
+    Line::Play(&[&[Act::Take(Turn::Prepared), Act::SetDelayedFlag(1)]]),
+    Line::Refused(GIVE),
+    Line::Play(&[&[Act::SetDelayedFlag(0)]]),
+    Line::Permitted(GIVE),
+];
 
 /// No actor has the number 1.
+const NOBODY_ELSE: &[Line] = &[Line::RefusedTo(1, Act::LoadPublished)];
+
+const SCRIPTS: [Script; 8] = [
+    ("a turn that is held is not taken", HELD_TURN),
+    ("a key that is held is not locked", HELD_KEY),
+    ("a word waits for the bound", WORD_BEFORE_BOUND),
+    ("an entry waits for its pair", ENTRY_BEFORE_PAIR),
+    ("the heap waits for the flag", HEAP_BEFORE_FLAG),
+    (
+        "a prepared number stays until its commit is published",
+        TAKEN_OUT_BEFORE_PUBLISHED,
+    ),
+    ("a flag goes down before its turn", FLAG_BEFORE_TURN),
+    ("nobody else steps", NOBODY_ELSE),
+];
+
 #[test]
-fn nobody_else_steps(rt: HostRuntime) -> Result<(), Fail> {
-    let world = played(rt.alloc(), &[])?;
-    let step = Step {
-        by: 1,
-        kind: Kind::Reader(ReaderStep::LoadPublished),
-    };
-    assert!(rt; !permits(&world, &step)?);
+fn steps_are_refused(rt: HostRuntime) -> Result<(), Fail> {
+    assert_eq!(rt; wrong_script(rt.alloc(), &SCRIPTS)?, None);
     Ok(())
 }

@@ -1,92 +1,103 @@
 //! What writers do beside publishing.
 use crate::tests::acts::{
-    ADD_VERSIONS, Act, END, FINISH, FREE_DIRECT, Locking, PEND_WRITE, PREPARE, Pending,
-    has_pending, is_refused, pend_commit, play, played, published,
+    ADD_VERSIONS, Act, END, FINISH, FREE_DIRECT, Locking, PEND_COMMIT, PEND_PREPARE, PEND_WRITE,
+    PUBLISH_PREPARE, Pending, entry_of,
 };
+use crate::tests::scripts::{Line, Script, wrong_from, wrong_script};
 use std::alloc::Global;
 use std::test::Fail;
 use wp_history::History;
 use wp_machine::{Turn, World};
-use wp_model::{Batch, Change, Entry, Key, Name, Value};
+use wp_model::Name;
 
 /// The versions of an entry that is not logged leave memory before it is dropped. Its number is that of the next one.
-#[test]
-fn a_write_is_dropped(rt: HostRuntime) -> Result<(), Fail> {
-    let world = played(rt.alloc(), &[PEND_WRITE, ADD_VERSIONS])?;
-    assert!(rt; is_refused(&world, Act::Drop)?);
-    let take = [
-        Act::Take(Turn::Store),
-        Act::TakeVersions,
-        Act::Give(Turn::Store),
-    ];
-    let drop = [Act::Drop, Act::Give(Turn::Write)];
-    let world = play(world, &[&take, &drop, FREE_DIRECT, PEND_WRITE, FINISH])?;
-    assert!(rt; published(&world) == 1);
-    Ok(())
-}
+const DROPPED_WRITE: &[Line] = &[
+    Line::Play(&[PEND_WRITE, ADD_VERSIONS]),
+    Line::Refused(Act::Drop),
+    Line::Play(&[
+        &[
+            Act::Take(Turn::Store),
+            Act::TakeVersions,
+            Act::Give(Turn::Store),
+        ],
+        &[Act::Drop, Act::Give(Turn::Write)],
+        FREE_DIRECT,
+        PEND_WRITE,
+        FINISH,
+    ]),
+    Line::Published(1),
+];
 
 /// The number of a prepare that is not logged leaves the heap before the prepare is dropped.
-#[test]
-fn a_prepare_is_dropped(rt: HostRuntime) -> Result<(), Fail> {
-    let begin = [
-        Act::Take(Turn::Locks),
-        Act::Lock(Locking::ClaimName),
-        Act::Lock(Locking::LockKey),
-        Act::Give(Turn::Locks),
-        Act::SetBatch,
-    ];
-    let pend = [
-        Act::Take(Turn::Write),
-        Act::Pend(Pending::Prepare),
-        Act::Take(Turn::Prepared),
-        Act::AddPrepared,
-    ];
-    let world = played(rt.alloc(), &[&begin, &pend])?;
-    assert!(rt; is_refused(&world, Act::Drop)?);
-    let world = play(world, &[&[Act::TakePrepared, Act::Drop]])?;
-    assert!(rt; !has_pending(&world));
-    Ok(())
-}
+const DROPPED_PREPARE: &[Line] = &[
+    Line::Play(&[PEND_PREPARE]),
+    Line::Refused(Act::Drop),
+    Line::Play(&[&[Act::TakePrepared, Act::Drop]]),
+    Line::NonePending,
+];
 
-/// The transaction t, which nobody has now, is taken and committed.
+/// The transaction t, which nobody has now, is taken.
 const TAKE: &[Act] = &[
     Act::Take(Turn::Locks),
     Act::Lock(Locking::TakeName(1)),
     Act::Give(Turn::Locks),
 ];
 
+const LEFT_AND_TAKEN: &[Line] = &[
+    Line::Play(&[PEND_PREPARE, PUBLISH_PREPARE, &[Act::Take(Turn::Locks)]]),
+    Line::Refused(Act::Lock(Locking::TakeName(1))),
+    Line::Play(&[
+        &[Act::Lock(Locking::LeaveName), Act::Give(Turn::Locks)],
+        TAKE,
+        PEND_COMMIT,
+        FINISH,
+        END,
+    ]),
+    Line::Published(2),
+];
+
+const SCRIPTS: [Script; 3] = [
+    ("a write is dropped", DROPPED_WRITE),
+    ("a prepare is dropped", DROPPED_PREPARE),
+    ("a transaction is left and taken", LEFT_AND_TAKEN),
+];
+
 #[test]
-fn a_transaction_is_left_and_taken(rt: HostRuntime) -> Result<(), Fail> {
-    let world = played(rt.alloc(), &[PREPARE, &[Act::Take(Turn::Locks)]])?;
-    assert!(rt; is_refused(&world, Act::Lock(Locking::TakeName(1)))?);
-    let leave = [Act::Lock(Locking::LeaveName), Act::Give(Turn::Locks)];
-    let world = play(world, &[&leave, TAKE, &pend_commit(1), FINISH, END])?;
-    assert!(rt; published(&world) == 2);
+fn entries_are_dropped_and_transactions_taken(rt: HostRuntime) -> Result<(), Fail> {
+    assert_eq!(rt; wrong_script(rt.alloc(), &SCRIPTS)?, None);
     Ok(())
 }
 
-/// A world whose history is a prepare of t, which changes k.
-fn opened_with_a_prepare(alloc: Global) -> Result<World, Fail> {
-    let change = Change::Put(Key::read(alloc, b"k")?, Value::read(alloc, b"v")?);
-    let entry = Entry::Prepare(Name::read(alloc, b"t")?, Batch::of(alloc, change)?);
+/// The history of one prepare, of t.
+fn prepared(alloc: Global) -> Result<History, Fail> {
+    let entry = entry_of(alloc, Pending::Prepare)?;
     let mut history = History::new(alloc);
     if !history.is_legal_next(&entry) {
         return Err("the prepare may stand there")?;
     }
     history.reserve(1)?;
     history.push(entry);
+    Ok(history)
+}
+
+/// The world on that history.
+fn opened_with_a_prepare(alloc: Global) -> Result<World, Fail> {
+    let history = prepared(alloc)?;
     if history.undone_last().is_some() {
         return Err("nothing is undone")?;
     }
     Ok(World::opened(alloc, Name::read(alloc, b"a")?, &history, 1)?)
 }
 
+const FOUND_PREPARE: &[Line] = &[
+    Line::DelayedFlag(1),
+    Line::Play(&[TAKE, PEND_COMMIT, FINISH, END]),
+    Line::Published(2),
+];
+
 #[test]
 fn a_prepare_found_at_the_opening_is_committed(rt: HostRuntime) -> Result<(), Fail> {
     let world = opened_with_a_prepare(rt.alloc())?;
-    let flag = world.delayed_flag;
-    assert!(rt; flag == 1);
-    let world = play(world, &[TAKE, &pend_commit(1), FINISH, END])?;
-    assert!(rt; published(&world) == 2);
+    assert_eq!(rt; wrong_from(world, FOUND_PREPARE)?, None);
     Ok(())
 }
