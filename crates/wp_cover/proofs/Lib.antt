@@ -1,6 +1,6 @@
 mod HistoryLemmas
 pub mod Order
-mod Presence
+pub mod Presence
 mod Stores
 mod Shows
 mod Together

@@ -68,7 +68,7 @@ none_below key first (second ∷ more) ascending below =
     let parts = and_parts (is_lt (key_cmp (key_of first) (key_of second))) (are_ascending (second ∷ more)) ascending in
     none_first key first (second ∷ more) below (none_below key second more parts.1 (nat_list_cmp_total.trans key (key_of first) (key_of second) below (less_from_test _ parts.0)))
 
-none_after : (key : List ℕ) (first : Change) (others : List Change) → are_ascending (first ∷ others) ≡ true → bytes_eq (key_of first) key ≡ true → change_to others key ≡ None
+pub none_after : (key : List ℕ) (first : Change) (others : List Change) → are_ascending (first ∷ others) ≡ true → bytes_eq (key_of first) key ≡ true → change_to others key ≡ None
 none_after key first [] ascending same = refl
 none_after key first (second ∷ more) ascending same =
     let parts = and_parts (is_lt (key_cmp (key_of first) (key_of second))) (are_ascending (second ∷ more)) ascending in

@@ -12,7 +12,7 @@ use std::marker::Model;
 use wp_history::History;
 use wp_model::{Entry, Seq};
 
-/// A history, with what decides its prepares.
+/// A history, with what decides its prepares: one pass over its entries notes that, so that no decision is searched for.
 #[derive(Drop)]
 pub struct Decisions<'a> {
     history: &'a History,
@@ -66,6 +66,7 @@ fn deciders_of(alloc: Global, entries: &[Entry]) -> Result<BTreeMap<Seq, Seq>, A
 }
 
 impl<'a> Decisions<'a> {
+    /// Passes over the history once. It is refused only for want of memory.
     pub fn of(alloc: Global, history: &'a History) -> Result<Decisions<'a>, AllocError>
         ensures { IfOk result (λ decisions. decisions ≡ history.now.entries) }
     {
@@ -75,14 +76,16 @@ impl<'a> Decisions<'a> {
         })
     }
 
+    /// The history itself.
     pub fn history(&self) -> &History
         ensures { result.now.entries ≡ self.now }
     {
         self.history
     }
 
-    /// The number that decides the entry with that number.
-    fn decision_of(&self, p: Seq) -> Option<Seq>
+    /// The number that decides the entry with that number: of a write or an undo its own, of a prepare that of the first
+    /// entry that commits or closes it. None, where nothing decides it yet, and at a commit, a close or no entry.
+    pub fn decision_of(&self, p: Seq) -> Option<Seq>
         ensures { result ≡ decision_of self.now p }
     {
         match self.history.entry_at(p)? {

@@ -1,4 +1,5 @@
-//! The test whether versions show every reader what a history holds, as an opening of a store asks it.
+//! The test whether versions show every reader what a history holds, as an opening of a store asks it; and what decides
+//! the numbers of a history, which a compaction asks for too.
 //!
 //! Each version has to be that of its entry. The versions of undecided prepares have to be there, and those of an undo
 //! that ends the history. At each number that is asked for, two maps are made: what the entries leave, from the first
@@ -8,6 +9,7 @@
 #![tactic(auto)]
 
 pub use covering::covers;
+pub use decisions::Decisions;
 
 mod covering;
 mod decisions;

@@ -1,28 +1,26 @@
 -- Lists of versions and what is found in them.
 use Rattle.std.proofs.Common.{◌≡◌, ℕ, zero, suc, ◌≤◌, nat_le, ◌==◌, Bool, true, false, cond, Less, Equal, Greater, List, [], ◌∷◌, ◌++◌, length, drop, Option, Some, None, refl, sym, ap, ◌∙◌, arith}
 use Rattle.std.specs.declared.cmp.Ordering.{Ordering}
-use Rattle.std.specs.Ordering.{is_lt}
 use Rattle.std.specs.Prelude.{slice_get}
 use Rattle.std.specs.List.{list_all}
 use Rattle.std.specs.Option.{option_or}
-use Rattle.std.specs.Str.{bytes_eq}
 use Rattle.std.proofs.lemmas.Bool.{and_parts, eqb-true}
-use Rattle.std.proofs.lemmas.Cmp.{tied_itself, nat_list_cmp_total}
-use Rattle.std.proofs.lemmas.Slice.Eq.{bytes_eq-Decides}
 use Rattle.wp_model.specs.declared.change.Change.{Change}
 use Rattle.wp_model.specs.declared.entry.Entry.{Entry}
 use Rattle.wp_model.specs.declared.version.Version.{Version}
-use Rattle.wp_model.specs.Batch.{key_cmp, key_of, value_of, change_to, are_ascending, is_batch}
+use Rattle.wp_model.specs.Batch.{key_of, are_ascending, is_batch}
 use Rattle.wp_model.specs.declared.batch.TheConstants.{MOST_KEYS}
 use Rattle.wp_model.specs.Flushed.{versions_under, versions_after, later_versions}
 use Rattle.wp_model.specs.Legal.{IsLegal, changes_in}
 use Rattle.wp_model.specs.Versions.{AreInOrder, version_cmp, version_at}
-use Rattle.wp_model.proofs.BatchLemmas.{less_from_test, ascending_rest}
+use Rattle.wp_model.proofs.BatchLemmas.{ascending_rest}
 use Rattle.wp_model.proofs.VersionLists.{IsBefore, in_order_parts}
 use Rattle.wp_merge.specs.Merge.{first_at, merge_of, sorted_of, weave, choose_by_order}
 use Rattle.wp_merge.proofs.Merged.{is_here, missing, same_place}
 use Rattle.wp_merge.proofs.Sorted.{own_place, own_value, at_sorted}
 use Rattle.wp_open.proofs.Later.{at_append}
+use Rattle.wp_cover.proofs.Order.{key_itself}
+use Rattle.wp_cover.proofs.Presence.{none_after}
 use Rattle.wp_core.proofs.PublishesVersions.{at_under}
 use Rattle.wp_engine.proofs.MemoryLemmas.{Found, after_low}
 
@@ -106,35 +104,11 @@ length_sorted (v ∷ versions) distinct =
 
 -- ---- the versions of entries stand once each
 
-same_key : (a b : List ℕ) → bytes_eq a b ≡ true → a ≡ b
-same_key a b e = (bytes_eq-Decides a b).0 e
-
-change_first : (key : List ℕ) (first : Change) (others : List Change) → key_cmp key (key_of first) ≡ Less → change_to others key ≡ None → change_to (first ∷ others) key ≡ None
-change_first key first others below none = by (bytes_eq (key_of first) key) refl
-  where
-    by : (b : Bool) → bytes_eq (key_of first) key ≡ b → cond b (Some (value_of first)) (change_to others key) ≡ None
-    by false e = none
-    by true e =
-        let tied = ap (λ k. key_cmp key k) (same_key (key_of first) key e) ∙ tied_itself nat_list_cmp_total key in
-        absurd cc
-
-none_below : (key : List ℕ) (first : Change) (others : List Change) → are_ascending (first ∷ others) ≡ true → key_cmp key (key_of first) ≡ Less → change_to (first ∷ others) key ≡ None
-none_below key first [] ascending below = change_first key first [] below refl
-none_below key first (second ∷ more) ascending below =
-    let parts = and_parts (is_lt (key_cmp (key_of first) (key_of second))) (are_ascending (second ∷ more)) ascending in
-    change_first key first (second ∷ more) below (none_below key second more parts.1 (nat_list_cmp_total.trans key (key_of first) (key_of second) below (less_from_test _ parts.0)))
-
-changed_once : (first : Change) (others : List Change) → are_ascending (first ∷ others) ≡ true → change_to others (key_of first) ≡ None
-changed_once first [] ascending = refl
-changed_once first (second ∷ more) ascending =
-    let parts = and_parts (is_lt (key_cmp (key_of first) (key_of second))) (are_ascending (second ∷ more)) ascending in
-    none_below (key_of first) second more parts.1 (less_from_test _ parts.0)
-
 distinct_under : (n : ℕ) (changes : List Change) (rest : List Version) → are_ascending changes ≡ true → ((key : List ℕ) → version_at rest key n ≡ None) → Distinct rest → Distinct (versions_under n changes ++ rest)
 distinct_under n [] rest ascending none distinct = distinct
 distinct_under n (first ∷ others) rest ascending none distinct = (
   at_append (versions_under n others) rest (key_of first) n
-      ∙ ap (λ (o : Found). option_or o (version_at rest (key_of first) n)) (at_under n others (key_of first) n ∙ ap (λ (o : Found). cond (n == n) o None) (changed_once first others ascending) ∙ same (n == n))
+      ∙ ap (λ (o : Found). option_or o (version_at rest (key_of first) n)) (at_under n others (key_of first) n ∙ ap (λ (o : Found). cond (n == n) o None) (none_after (key_of first) first others ascending (key_itself (key_of first))) ∙ same (n == n))
       ∙ none (key_of first),
   distinct_under n others rest (ascending_rest first others ascending) none distinct,
 )
