@@ -8,7 +8,7 @@ use Rattle.wp_manifest.specs.Manifest.{ManifestState}
 use Rattle.wp_merge.specs.Merge.{first_at}
 use Rattle.wp_open.specs.Opens.{installed_of}
 use Rattle.wp_store.specs.Store.{StoreParts}
-use Rattle.wp_tableset.specs.Changes.{Installed, Refused, Keeps}
+use Rattle.wp_tableset.specs.Changes.{NextInstalled, NextRefused, LosesNoTable}
 use Rattle.wp_tableset.specs.Set.{TableSetState, StoresTables}
 use Rattle.wp_tableset.specs.declared.error.TableSetError.{TableSetError}
 use Rattle.wp_tableset.specs.declared.error.TableSetError.TheVariants.{Memory, Fault, Halted}
@@ -30,11 +30,11 @@ stored_running id entries set store whole running =
     let none = whole.none running in
     subst (λ (parts : List (List Version)). StoresTables set whole.edits no_edit store.tables parts) none.1 (subst (λ (edit : Edit). StoresTables set whole.edits edit store.tables whole.next_parts) none.0 whole.stores)
 
-module _ (id : ℕ) (entries : List Entry) (set new : TableSetState) (store kept : StoreParts) (next : Edit) (after : List (List Version) → List (List Version)) (whole : IsTabled id entries set store) (keeps : Keeps set new) (running : set.halted ≡ false) (follows : MayFollow entries next (after store.tables)) where
+module _ (id : ℕ) (entries : List Entry) (set new : TableSetState) (store kept : StoreParts) (next : Edit) (after : List (List Version) → List (List Version)) (whole : IsTabled id entries set store) (keeps : LosesNoTable set new) (running : set.halted ≡ false) (follows : MayFollow entries next (after store.tables)) where
   stored : StoresTables set whole.edits no_edit store.tables []
   stored = stored_running id entries set store whole running
 
-  pub tabled_installed : Installed set new next after → kept.tables ≡ after store.tables → HasUnflushed entries next.flushed kept → IsTabled id entries new kept
+  pub tabled_installed : NextInstalled set new next after → kept.tables ≡ after store.tables → HasUnflushed entries next.flushed kept → IsTabled id entries new kept
   tabled_installed installed tables memory = record {
     edits = whole.edits ++ next ∷ [];
     next = no_edit;
@@ -63,7 +63,7 @@ module _ (id : ℕ) (entries : List Entry) (set new : TableSetState) (store kept
       memory = rw same memory;
     }
 
-    pub tabled_refused : (why : TableSetError) → Refused set new next after why → IsTabled id entries new kept
+    pub tabled_refused : (why : TableSetError) → NextRefused set new next after why → IsTabled id entries new kept
     tabled_refused Memory refused = with_manifest (ap (λ (s : TableSetState). s.manifest) refused.0) (refused.1 whole.edits store.tables stored)
     tabled_refused Fault refused = elim refused.2 [
       | inl failed ↦ with_manifest failed.manifest (failed.stores whole.edits store.tables stored)
@@ -84,7 +84,7 @@ module _ (id : ℕ) (entries : List Entry) (set new : TableSetState) (store kept
 
 -- ---- what clauses see
 
-pub keeps_tables : (id : ℕ) (entries : List Entry) (wal : WalState) (set new : TableSetState) (store kept : StoreParts) (stopped : Bool) (limit : ℕ) → IsTabled id entries set store → Keeps set new
+pub keeps_tables : (id : ℕ) (entries : List Entry) (wal : WalState) (set new : TableSetState) (store kept : StoreParts) (stopped : Bool) (limit : ℕ) → IsTabled id entries set store → LosesNoTable set new
     → KeepsTables (engine_state wal entries set store stopped limit) (engine_state wal entries new kept stopped limit)
 keeps_tables id entries wal set new store kept stopped limit whole keeps = record {
   fronts = keeps.fronts whole.edits whole.next store.tables whole.next_parts whole.stores;

@@ -13,7 +13,7 @@ use Rattle.wp_manifest.proofs.EditLemmas.{last-push}
 use Rattle.wp_open.specs.Opens.{installed_of}
 use Rattle.wp_store.specs.Store.{StoreParts}
 use Rattle.wp_table.specs.File.{HasTables}
-use Rattle.wp_tableset.specs.Changes.{Installs, Keeps}
+use Rattle.wp_tableset.specs.Changes.{Installs, LosesNoTable}
 use Rattle.wp_tableset.specs.Set.{TableSetState, LeavesTables, StoresTables}
 use Rattle.wp_tableset.specs.declared.error.TableSetError.{TableSetError}
 use Rattle.wp_tableset.specs.declared.error.TableSetError.TheVariants.{Memory, Fault, Halted}
@@ -35,7 +35,7 @@ passes_map P Q f old new passes = (passes.0, passes.1, each_map P Q f passes.0 p
 pub opens_unchanged : (s : EngineState) (next : InstalledEdit) → OpensThroughout s s next
 opens_unchanged s next = record { tables = ([], refl, tt); manifest = ([], refl, tt) }
 
-module _ (wal : WalState) (entries : List Entry) (set new : TableSetState) (store kept : StoreParts) (stopped : Bool) (limit : ℕ) (next : Edit) (after : List (List Version) → List (List Version)) (edit : InstalledEdit) (whole : IsConsistent wal entries set store stopped limit) (keeps : Keeps set new) (running : set.halted ≡ false) (open_ : set.manifest.log.closed ≡ false) (follows : MayFollow entries next (after store.tables)) (edit_is : installed_of next (after store.tables) ≡ edit) where
+module _ (wal : WalState) (entries : List Entry) (set new : TableSetState) (store kept : StoreParts) (stopped : Bool) (limit : ℕ) (next : Edit) (after : List (List Version) → List (List Version)) (edit : InstalledEdit) (whole : IsConsistent wal entries set store stopped limit) (keeps : LosesNoTable set new) (running : set.halted ≡ false) (open_ : set.manifest.log.closed ≡ false) (follows : MayFollow entries next (after store.tables)) (edit_is : installed_of next (after store.tables) ≡ edit) where
   abbrev id : ℕ
   id = set.manifest.log.id
 

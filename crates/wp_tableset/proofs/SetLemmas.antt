@@ -14,7 +14,7 @@ use Rattle.wp_manifest.specs.Spelling.{MAGIC, IsManifestOrNext, last_edit}
 use Rattle.wp_manifest.specs.declared.error.InstallError.TheVariants as install
 use Rattle.wp_table.specs.File.{HasTables}
 use Rattle.wp_table.specs.Table.{IsTable, table_bytes}
-use Rattle.wp_tableset.specs.Changes.{placed, NewestIsBehind, Refused, Installs, Keeps}
+use Rattle.wp_tableset.specs.Changes.{placed, NewestIsBehind, NextRefused, Installs, LosesNoTable}
 use Rattle.wp_tableset.specs.Device.{BeginsWith, IsEnd, KeepsFronts, GrowsFrom}
 use Rattle.wp_tableset.specs.Install.{IsReady, InstallsEdit, LeavesNext, Remain}
 use Rattle.wp_tableset.specs.Set.{TableSetState, LeavesTables, RestsWith, StoresTables}
@@ -177,7 +177,7 @@ module _ (old new : TableSetState) (mid : List Moment) (faults : ℕ) (next : Ed
     refused = tt;
   }
 
-  refused : (why : TableSetError) → InstallsEdit {T = Unit {0}} (record old { moments = mid; faults = faults }) new next (Err why) → Refused old new next after why
+  refused : (why : TableSetError) → InstallsEdit {T = Unit {0}} (record old { moments = mid; faults = faults }) new next (Err why) → NextRefused old new next after why
   refused Memory installs = (
     rw installs.refused refl,
     λ edits parts stores.
@@ -255,7 +255,7 @@ tables_failed old mid faults next after running grows rose = record {
   );
 }
 
-pub keeps_all : (old new : TableSetState) → Grows old.moments new.moments → old.halted ≡ false → LosesNoEdit old.manifest new.manifest → new.manifest.log.id ≡ old.manifest.log.id → old.faults ≤ new.faults → old.manifest.log.faults ≤ new.manifest.log.faults → Keeps old new
+pub keeps_all : (old new : TableSetState) → Grows old.moments new.moments → old.halted ≡ false → LosesNoEdit old.manifest new.manifest → new.manifest.log.id ≡ old.manifest.log.id → old.faults ≤ new.faults → old.manifest.log.faults ≤ new.manifest.log.faults → LosesNoTable old new
 keeps_all old new grows running durable same later manifest_later = record {
   tables = λ edits next parts next_parts stores. passes_grown old.manifest.log.id old.manifest.edit parts old.moments new.moments grows (stores.rests running);
   fronts = λ edits next parts next_parts stores. fronts_grown old.manifest.log.id old.manifest.edit parts old.moments new.moments grows (stores.rests running);
@@ -269,7 +269,7 @@ keeps_all old new grows running durable same later manifest_later = record {
 pub loses_none : (moments : List Moment) → LosesNoRecord MAGIC moments moments
 loses_none moments log records = ([], refl, tt)
 
-pub keeps_installed : {T : Type 0} (old new : TableSetState) (mid : List Moment) (faults : ℕ) (edit : Edit) (result : Result T TableSetError) → Grows old.moments mid → old.halted ≡ false → old.faults ≤ faults → InstallsEdit (record old { moments = mid; faults = faults }) new edit result → Keeps old new
+pub keeps_installed : {T : Type 0} (old new : TableSetState) (mid : List Moment) (faults : ℕ) (edit : Edit) (result : Result T TableSetError) → Grows old.moments mid → old.halted ≡ false → old.faults ≤ faults → InstallsEdit (record old { moments = mid; faults = faults }) new edit result → LosesNoTable old new
 keeps_installed old new mid faults edit result grows running later installs =
     keeps_all old new (rw installs.moments grows) running installs.durable installs.id (rw installs.faults later) installs.later
 

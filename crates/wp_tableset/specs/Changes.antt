@@ -52,7 +52,7 @@ NewestIsBehind moments [] = Unit {0}
 NewestIsBehind moments (table ∷ tables) = IsEnd moments table.0
 
 -- the next edit is the last one, and the set stores its tables, which `after` makes of the old ones
-pub record Installed (old new : TableSetState) (next : Edit) (after : List (List Version) → List (List Version)) : Type 0 where
+pub record NextInstalled (old new : TableSetState) (next : Edit) (after : List (List Version) → List (List Version)) : Type 0 where
   pub was_running : old.halted ≡ false
   pub running : new.halted ≡ false
   pub last : new.manifest.edit ≡ next
@@ -77,12 +77,12 @@ pub record InstallFailed (old new : TableSetState) (next : Edit) (after : List (
 
 -- Why the next edit was not installed, and what that leaves. For want of memory there may be more bytes on the tables'
 -- device, and nothing else is changed.
-abbrev pub Refused : TableSetState → TableSetState → Edit → (List (List Version) → List (List Version)) → TableSetError → Type 0
-Refused old new next after Memory =
+abbrev pub NextRefused : TableSetState → TableSetState → Edit → (List (List Version) → List (List Version)) → TableSetError → Type 0
+NextRefused old new next after Memory =
     (new ≡ record old { moments = new.moments; faults = new.faults })
     × ((edits : List Edit) (parts : List (List Version)) → StoresTables old edits no_edit parts [] → StoresTables new edits no_edit parts [])
-Refused old new next after Fault = (old.halted ≡ false) × (new.halted ≡ true) × (TablesFailed old new ⊎ InstallFailed old new next after)
-Refused old new next after Halted = (old.halted ≡ true) × (new ≡ old)
+NextRefused old new next after Fault = (old.halted ≡ false) × (new.halted ≡ true) × (TablesFailed old new ⊎ InstallFailed old new next after)
+NextRefused old new next after Halted = (old.halted ≡ true) × (new ≡ old)
 
 -- At each moment a crash leaves the edits before, or those and the next one, whole. Where the manifest's device was called,
 -- a crash leaves the next one's tables. In the end the next one is installed, or refused.
@@ -91,14 +91,14 @@ pub record Installs {T : Type 0} (old new : TableSetState) (next : Edit) (after 
       → Passes (Leaves (IsManifestOrNext old.manifest.log.id edits next)) old.manifest.log.moments new.manifest.log.moments
   pub there : (edits : List Edit) (parts : List (List Version)) → StoresTables old edits no_edit parts []
       → (new.manifest.log.moments ≡ old.manifest.log.moments) ⊎ IfKnown new.moments (LeavesTables old.manifest.log.id next (after parts))
-  pub installed : OnOk result (Installed old new next after)
-  pub refused : IfErr result (Refused old new next after)
+  pub installed : OnOk result (NextInstalled old new next after)
+  pub refused : IfErr result (NextRefused old new next after)
 
 -- ---- what stays
 
 -- At each moment a crash leaves the tables of the old edit; what was for good before is so afterwards; and no count of
 -- faults falls.
-pub record Keeps (old new : TableSetState) : Type 0 where
+pub record LosesNoTable (old new : TableSetState) : Type 0 where
   pub tables : (edits : List Edit) (next : Edit) (parts next_parts : List (List Version)) → StoresTables old edits next parts next_parts
       → Passes (LeavesTables old.manifest.log.id old.manifest.edit parts) old.moments new.moments
   pub fronts : (edits : List Edit) (next : Edit) (parts next_parts : List (List Version)) → StoresTables old edits next parts next_parts

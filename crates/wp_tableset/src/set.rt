@@ -7,7 +7,7 @@ ghost use Rattle.wp_outside.specs.Disk.{IfKnown};
 ghost use Rattle.wp_manifest.specs.Edit.{Edit, no_edit};
 ghost use Rattle.wp_manifest.specs.Manifest.{StoresEdits};
 ghost use Rattle.wp_table.specs.Table.{is_flushed, is_numbered};
-ghost use Rattle.wp_tableset.specs.Changes.{Installs, Keeps, placed, flushed_edit, compacted_edit, compacted_parts, one_part};
+ghost use Rattle.wp_tableset.specs.Changes.{Installs, LosesNoTable, placed, flushed_edit, compacted_edit, compacted_parts, one_part};
 ghost use Rattle.wp_tableset.specs.Install.{InstallsEdit, LeavesNext, Puts, Remain};
 ghost use Rattle.wp_tableset.specs.Set.{RestsWith, StoresTables};
 
@@ -106,7 +106,7 @@ impl<D: Disk> TableSet<D> {
         requires fits { flushed < 2 ^ 32 }
         ensures table { IfOk result (λ table. arc_value table ≡ versions.now) }
         ensures installs { (place : ℕ) × Installs self.old self.new (flushed_edit self.old versions.now flushed place) (λ parts. versions.now ∷ parts) result }
-        ensures keeps { Keeps self.old self.new }
+        ensures keeps { LosesNoTable self.old self.new }
     {
         if self.halted {
             return Err(TableSetError::Halted);
@@ -124,7 +124,7 @@ impl<D: Disk> TableSet<D> {
         requires flushed { list_all (is_flushed self.old.manifest.edit.flushed) versions.now ≡ true }
         ensures table { IfOk result (λ table. option_map arc_value table ≡ one_part versions.now) }
         ensures installs { (place : ℕ) × Installs self.old self.new (compacted_edit self.old versions.now place) (λ _. compacted_parts versions.now) result }
-        ensures keeps { Keeps self.old self.new }
+        ensures keeps { LosesNoTable self.old self.new }
         ensures uncalled { versions.now ≡ [] → (self.new.moments ≡ self.old.moments) × (self.new.faults ≡ self.old.faults) }
     {
         if self.halted {
@@ -158,7 +158,7 @@ impl<D: Disk> TableSet<D> {
         requires remain { (after : List (List Version) → List (List Version)) × Remain self.old.manifest.edit flushed places.items after }
         ensures table { IfOk result (λ table. arc_value table ≡ versions.now) }
         ensures puts { Puts self.old self.new versions.now flushed places.items result }
-        ensures keeps { Keeps self.old self.new }
+        ensures keeps { LosesNoTable self.old self.new }
     {
         let (table, bytes) = prepare(self.alloc, self.manifest.id(), versions, flushed)?;
         let place = match write_behind(&mut self.tables, &bytes) {
