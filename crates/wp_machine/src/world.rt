@@ -1,6 +1,7 @@
-ghost use Rattle.std.specs.Prelude.{◌≡◌, ◌≤◌, None, replicate, IfOk};
+ghost use Rattle.std.specs.Prelude.{◌≡◌, ◌≤◌, true, [], ◌∷◌, None, replicate, IfOk};
 ghost use Rattle.wp_model.specs.Legal.{IsLegal, undone_last};
 ghost use Rattle.wp_core.specs.Runs.{IsOpening};
+ghost use Rattle.wp_core.specs.World.{new_actor};
 ghost use Rattle.wp_core.proofs.Openings.{opened_world, flag_of};
 
 use crate::actor::Actor;
@@ -55,7 +56,10 @@ impl Model for World {
 impl World {
     /// An opening on the empty history: one client, and a commit cache of one word.
     pub fn new(alloc: Global, client: Name) -> Result<World, AllocError>
-        ensures { IfOk result IsOpening }
+        ensures opening { IfOk result IsOpening }
+        ensures history { IfOk result (λ world. world.opened ≡ []) }
+        ensures cache { IfOk result (λ world. world.cache ≡ 0 ∷ []) }
+        ensures seat { IfOk result (λ world. world.actors ≡ new_actor true client [] ∷ []) }
     {
         World::opened(alloc, client, &History::new(alloc), 1)
     }
@@ -71,6 +75,9 @@ impl World {
         requires some { 1 ≤ words }
         ensures opening { IfOk result IsOpening }
         ensures history { IfOk result (λ world. world.opened ≡ history.now.entries) }
+        ensures cache { IfOk result (λ world. world.cache ≡ replicate words 0) }
+        ensures tables { IfOk result (λ world. world.store.tables ≡ []) }
+        ensures seat { IfOk result (λ world. world.actors ≡ new_actor true client history.now.entries ∷ []) }
     {
         World::on(alloc, client, history, words)
     }
