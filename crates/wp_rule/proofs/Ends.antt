@@ -1,6 +1,6 @@
 -- What a table leaves that is closed with its first seat, once that has taken in all others.
 use Rattle.std.proofs.Common.{◌≡◌, ◌≢◌, ℕ, zero, suc, ◌<◌, Bool, true, false, List, [], ◌∷◌, length, get_or, set, refl, sym, subst, ap, ◌∙◌, Option, Some, None, arith}
-use mathlib.Core.Option.{some, some-injective}
+use mathlib.Core.Option.{some, some-injective, some-ne-none}
 use mathlib.Core.Logic.{dite}
 use native.Mathlib.Decide.{ℕ_discrete}
 use lib.ListN.{get_elem?}
@@ -21,9 +21,10 @@ use Rattle.wp_core.proofs.Registered.{total_at}
 use Rattle.wp_rule.specs.declared.part.Parts.{Parts}
 use Rattle.wp_rule.specs.Ends.{part_of}
 use Rattle.wp_rule.specs.Words.{Place}
-use Rattle.wp_rule.specs.Shows.{IsPart, Shows, Leaves}
+use Rattle.wp_rule.specs.Shows.{IsPart, Shows, DidNothing, Leaves}
 use Rattle.wp_rule.proofs.Knows.{at_sound}
-use Rattle.wp_rule.proofs.Rule.{at_world, is_home}
+use Rattle.wp_rule.proofs.OnlyFirst.{only_first}
+use Rattle.wp_rule.proofs.KeepsRule.{at_world, is_home}
 
 -- ---- slots that were emptied
 
@@ -85,6 +86,23 @@ module _ (w : World) (s : IsSound w) (a : Actor) (at : get_elem? w.actors 0 ≡ 
         (λ (z : j ≡ 0). let same : b.0 ≡ a = some-injective b.0 a (sym b.1 ∙ (ap (get_elem? w.actors) z ∙ at)) in absurd (nothing_in k.2 k.0 (sym b.2 ∙ (ap held_of same ∙ idle)) k.3))
         (λ (ne : j ≢ 0). absurd (nothing_in k.2 k.0 (sym b.2 ∙ (s.idle j b.0 b.1 (others_idle j b.0 b.1 ne)).held) k.3))
 
+-- the actors of a world whose first is this one
+behind : (actors : List Actor) (a : Actor) → get_elem? actors 0 ≡ some a → (others : List Actor) × (actors ≡ a ∷ others)
+behind [] a at = absurd (some-ne-none a (sym at))
+behind (b ∷ others) a at = (others, ap (λ (c : Actor). c ∷ others) (some-injective b a at))
+
+-- the others did nothing
+pub nothing_done : (w : World) (s : IsSound w) (a : Actor) (at : get_elem? w.actors 0 ≡ some a) (all : a.made ≡ length a.joined) → EachAt (λ j b. j ≢ 0 → DidNothing b) w.actors
+nothing_done w s a at all j b there ne =
+    let quiet = others_idle w s a at all j b there ne in
+    (quiet, s.idle j b there quiet, (s.led.others j (role_of b) (at_map role_of w.actors j b there) ne).1)
+
+pub first_alone : (w : World) (s : IsSound w) (a : Actor) → get_elem? w.actors 0 ≡ some a → a.made ≡ length a.joined → ((turn : Turn) → turn_holder w.holders turn ≡ None) → IsSound (record w { actors = a ∷ [] })
+first_alone w s a at all free =
+    let o = behind w.actors a at in let k = s.led in
+    let is : role_of a ≡ k.first = some-injective (role_of a) k.first (sym (at_map role_of w.actors 0 a at) ∙ k.there) in
+    only_first w a o.0 o.1 (λ j b there. nothing_done w s a at all (suc j) b (ap (λ (actors : List Actor). get_elem? actors (suc j)) o.1 ∙ there) (λ e. omega (arith, e))) s free (ap (λ (r : Role). r.live) is ∙ k.live) all
+
 module _ {S : Type 0} (content : S → Option Content) (tells : S → Type 0) (opened : List Entry) (cells : ℕ) where
   pub leaves : (p : Place) (id : ℕ) (a : Actor) (words : List ℕ) (slots : List S) (parts : Turn → S) → p ≡ record { opened = opened; cells = cells; by = 0 } → id ≡ 0 → a.held ≡ [] → a.made ≡ length a.joined
       → Final (Seen (Shows content tells opened cells) id a) words slots → ((turn : Turn) → get_elem? slots (turn_index turn) ≡ some (parts turn)) → Leaves content tells p a parts
@@ -96,7 +114,8 @@ module _ {S : Type 0} (content : S → Option Content) (tells : S → Type 0) (o
         world = w;
         before = k;
         free = free;
-        others = others_idle w sound a k.there all;
+        others = nothing_done w sound a k.there all;
+        alone = first_alone w sound a k.there all free;
         are_parts = λ turn. let h = is_home content tells opened cells (turn_holder w.holders turn) (content_of w turn) (get_elem? s.homes (turn_index turn)) (free turn) (r.rests turn) in
             let same : h.0 ≡ parts turn = some-injective h.0 (parts turn) (sym (f.4 (turn_index turn) h.0 h.1) ∙ there turn) in subst (λ (x : S). IsPart content tells x (content_of w turn)) same h.2;
       })

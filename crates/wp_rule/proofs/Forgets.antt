@@ -4,7 +4,7 @@ use Rattle.wp_model.specs.declared.entry.Entry.{Entry}
 use Rattle.wp_core.specs.Turns.{Turn, write_turn, prepared_turn, snapshots_turn, tables_turn}
 use Rattle.wp_core.specs.Views.{Fact, passed, in_old_commits, apart, words_stay, versions_in_memory, versions_nowhere, number_in_heap, number_not_in_heap, undecided_at, prior_values, unprepared, direct_free, tables_stay, live_listed, nothing_flushed, frozen_stay, delayed_flag_stays, old_flag_stays}
 use Rattle.wp_core.specs.World.{Actor}
-use Rattle.wp_core.specs.Steps.{Step, load_published, take_turn, make_seat, learn, join_seat}
+use Rattle.wp_core.specs.Steps.{Step, load_published, take_turn, note, make_seat, learn, join_seat}
 use Rattle.wp_core.specs.Notes.{ends, forgets, gives_guard, stores_at, stores_words, stores_delayed_flag, stores_old_flag, ends_pending, adds_versions, takes_versions, adds_prepared, takes_prepared, ends_transaction, frees_direct, moves_versions, replaces_versions, installs}
 
 pub record EndsNothing (step : Step) : Type 0 where
@@ -56,6 +56,9 @@ load_ends = record { guard = λ turn. refl; place = λ words place. refl; words 
 
 pub take_ends : (turn : Turn) → EndsNothing (take_turn turn)
 take_ends turn = record { guard = λ turn. refl; place = λ words place. refl; words = refl; delayed_flag = refl; old_flag = refl; pending = refl; adds = refl; takes = refl; prepared = refl; unprepared = refl; transaction = λ history name. refl; direct = refl; moves = refl; replaces = refl; installing = refl }
+
+pub note_ends : (fact : Fact) → EndsNothing (note fact)
+note_ends fact = record { guard = λ turn. refl; place = λ words place. refl; words = refl; delayed_flag = refl; old_flag = refl; pending = refl; adds = refl; takes = refl; prepared = refl; unprepared = refl; transaction = λ history name. refl; direct = refl; moves = refl; replaces = refl; installing = refl }
 
 pub make_ends : EndsNothing make_seat
 make_ends = record { guard = λ turn. refl; place = λ words place. refl; words = refl; delayed_flag = refl; old_flag = refl; pending = refl; adds = refl; takes = refl; prepared = refl; unprepared = refl; transaction = λ history name. refl; direct = refl; moves = refl; replaces = refl; installing = refl }

@@ -1,5 +1,5 @@
 -- The world for tests is an opening.
-use Rattle.std.proofs.Common.{◌≡◌, ◌<◌, ℕ, zero, suc, List, [], ◌∷◌, length, take, slice_get, refl, subst, ap, Option, Some, None, unwrap_or, arith, inl, sym}
+use Rattle.std.proofs.Common.{◌≡◌, ◌<◌, ℕ, zero, suc, List, [], ◌∷◌, length, take, slice_get, refl, subst, ap, Option, Some, None, unwrap_or, arith}
 use Rattle.std.specs.Prelude.{slice_index_or}
 use mathlib.Core.Option.{some}
 use lib.ListN.{get_elem?}
@@ -8,19 +8,11 @@ use Rattle.wp_model.specs.declared.entry.Entry.{Entry}
 use Rattle.wp_model.specs.declared.entry.Entry.TheVariants.{Write}
 use Rattle.wp_model.specs.Legal.{IsLegalNext, IsLegal}
 use Rattle.wp_core.specs.Turns.{Turn, write_turn, prepared_turn, snapshots_turn, store_turn, locks_turn, tables_turn}
-use Rattle.wp_model.specs.LockTables.{LockTables}
-use Rattle.atomic_table.specs.Table.{Me}
-use Rattle.wp_core.specs.Tables.{Content, turn_of, writes, prepared, snapshots, store, locks, installed}
-use Rattle.wp_core.specs.Steps.{give_turn}
 use Rattle.wp_core.specs.Changes.{turn_index}
-use Rattle.wp_core.specs.World.{Actor, content_of}
+use Rattle.wp_core.specs.Tables.{Content}
+use Rattle.wp_core.specs.World.{content_of}
 use Rattle.wp_core.proofs.Openings.{world_opened, one_word}
 use Rattle.wp_rule.specs.MadeUp.{one_write, client, made_up}
-use Rattle.wp_rule.specs.Words.{Place}
-use Rattle.wp_rule.specs.Plays.{Took}
-use Rattle.wp_rule.specs.Keys.{MayUnclaim}
-use Rattle.wp_rule.specs.Knows.{Holding}
-use Rattle.wp_rule.proofs.Needed.{needed}
 use Rattle.wp_rule.specs.Shows.{IsPart, Founds}
 
 legal : IsLegal one_write
@@ -52,20 +44,3 @@ module _ {S : Type 0} (content : S → Option Content) (tells : S → Type 0) wh
   pub made_up_founds : (slots : List S) → length slots ≡ 6 → Stands slots write_turn → Stands slots prepared_turn → Stands slots snapshots_turn → Stands slots store_turn → Stands slots locks_turn → Stands slots tables_turn → Founds content tells client one_write 1 0 slots
   made_up_founds slots six a b c d e f =
       record { world = made_up; opening = world_opened one_write one_word client legal refl (omega arith) (λ i d lt. only_zero i d lt); opened_is = refl; cells_are = refl; flag_is = refl; actors_are = refl; deep = six; parts = six_stand slots a b c d e f }
-
--- ---- a turn that is given as it was found
-
-locks_table : (c : Content) → turn_of c ≡ locks_turn → (t : LockTables) × (c ≡ locks t)
-locks_table (writes t) e = absurd (cc)
-locks_table (prepared t) e = absurd (cc)
-locks_table (snapshots t) e = absurd (cc)
-locks_table (store t) e = absurd (cc)
-locks_table (locks t) e = (t, refl)
-locks_table (installed t) e = absurd (cc)
-
-pub locks_given_back : {S : Type 0} (content : S → Option Content) (tells : S → Type 0) (p : Place) (m m' : Me S Actor) → Took content tells p locks_turn m m' → MayUnclaim content tells p locks_turn m'
-locks_given_back {S} content tells p m m' t =
-    let x = locks_table t.table t.of_turn in let a : Actor = record m.0 { held = t.table ∷ m.0.held } in
-    let has : Holding a locks (λ l. Unit {0}) = record { table = x.0; held = inl x.1; so_is = tt } in
-    subst (MayUnclaim content tells p locks_turn) (sym t.after)
-    (record { table = t.table; part = t.part; held = inl refl; of_turn = t.of_turn; last_taken = refl; is_part = t.is_part; may = λ w k. needed p a w k (give_turn locks_turn) has })

@@ -1,9 +1,17 @@
 -- What a seat knows by its view is what the machine's steps need.
-use Rattle.std.proofs.Common.{◌≡◌, ◌≢◌, inl, inr, ⊎_elim, ℕ, ◌≤◌, List, [], length, sym, subst, ap, ◌∙◌, Some, None, is_some, arith, ◌<◌, refl, true}
+use Rattle.std.proofs.Common.{◌≡◌, ◌≢◌, inl, inr, ⊎_elim, ℕ, suc, ◌≤◌, ◌<◌, Bool, true, false, true≢false, ◌||◌, List, [], ◌∷◌, length, length-append, sym, subst, ap, ◌∙◌, Option, Some, None, is_some, arith, refl}
+use Rattle.std.specs.FinSet as set
+use Rattle.std.specs.FinMap as finite
+use Rattle.std.proofs.lemmas.Bool.{false_from_ne_true}
+use Rattle.std.proofs.lemmas.Slice.Eq.{bytes_eq-Decides}
 use Rattle.wp_model.specs.declared.entry.Entry.{Entry}
-use Rattle.wp_model.specs.Decision.{decision_of}
-use Rattle.wp_model.specs.PreparedTables.{PreparedTables}
-use Rattle.wp_model.specs.Snapshots.{Snapshots}
+use Rattle.wp_model.specs.declared.holder.Holder.TheVariants.{Txn, Client}
+use Rattle.wp_model.specs.Decision.{decision_of, version_in}
+use Rattle.wp_model.specs.Flushed.{InstalledEdit, IsEditCovered}
+use Rattle.wp_model.specs.History.{entry_at, name_at, batch_at, named, is_changed, is_prepare, holder_of}
+use Rattle.wp_model.specs.PreparedTables.{PreparedTables, is_prepared}
+use Rattle.wp_model.specs.Snapshots.{Snapshots, Snapshot, IsLive}
+use Rattle.wp_model.specs.Versions.{version_at}
 use Rattle.wp_model.specs.LockTables.{LockTables}
 use Rattle.wp_judge.specs.Words.{CommitPair}
 use Rattle.wp_judge.specs.declared.observed.Load.{Load}
@@ -13,7 +21,8 @@ use Rattle.wp_core.specs.Turns.{Turn, write_turn, prepared_turn, snapshots_turn,
 use Rattle.wp_core.specs.Cache.{cache_place, cached, pair_at}
 use Rattle.wp_core.specs.Tables.{Content, WriteTable, StoreTable, Installed, writes, prepared, snapshots, store, locks, installed}
 use Rattle.wp_core.specs.Views.{Fact, passed, in_old_commits, apart, words_stay, versions_in_memory, versions_nowhere, number_in_heap, number_not_in_heap, undecided_at, prior_values, unprepared, direct_free, tables_stay, live_listed, nothing_flushed, frozen_stay, delayed_flag_stays, old_flag_stays}
-use Rattle.wp_core.specs.World.{Actor, World}
+use Rattle.wp_core.specs.World.{Transaction, Actor, World}
+use Rattle.wp_core.specs.Entries.{next_of, extended}
 use Rattle.wp_core.specs.Conditions.{IsHeldFor, MayPublish, MayLook, MayBeEvicted, MayGive}
 use Rattle.wp_core.specs.Reading.{Registration}
 use Rattle.wp_core.specs.Sound.Locks.{IsOwner, owner_of}
@@ -21,14 +30,20 @@ use Rattle.wp_core.specs.Sound.Prepared.{IsInOldCommits}
 use Rattle.wp_core.specs.Sound.Snapshots.{has_versions, has_versions_at, view_of}
 use Rattle.wp_core.specs.Steps.{Step, load_published, register, begin_reading, load, end_reading, make_pending, log_pending, close_log, find_log_closed, drop_pending, add_prepared, take_pending_prepared, add_delayed_commit, take_out, register_again, release, add_old_commit, add_versions, take_versions, move_versions, replace_versions, install, halt, find_flushed, claim_name, take_name, leave_name, free_transaction, lock_key, free_key, lock_direct, free_direct, find_holder, tell, hear, set_batch, note, set_client, store_published, store_max_evicted, store_word, store_delayed_flag, store_old_flag, take_turn, give_turn, make_note, make_seat, learn, join_seat}
 use Rattle.wp_core.specs.Needs.{Needs}
-use Rattle.wp_core.specs.Sound.Views.{IsGuarded, IsClearing, IsApart, IsSo}
-use Rattle.wp_model.proofs.Entries.{entry_at_old}
+use Rattle.wp_core.specs.Sound.Views.{IsGuarded, IsClearing, IsApart, IsInMemory, IsNowhere, IsSo}
+use Rattle.wp_core.specs.IsSound.{IsSound}
+use Rattle.wp_model.proofs.Entries.{entry_at_old, entry_at_past, slice_get_next, prepared_within}
+use Rattle.wp_model.proofs.Found.{found_holder, found_named}
 use Rattle.wp_core.proofs.AllParticipants.{mine}
+use Rattle.wp_core.proofs.HistoryGrows.{none_is}
+use Rattle.wp_core.proofs.HistoryHolders.{none_named}
 use Rattle.wp_core.proofs.HistoryLaws.{decision_stays}
 use Rattle.wp_core.proofs.KeepsSeen.{shorter}
+use Rattle.wp_core.proofs.Tests.{none_some}
 use Rattle.wp_rule.specs.Words.{Place, IsAt}
-use Rattle.wp_rule.specs.Knows.{Holding, Noted, IsUp, KnowsLook, KnowsCleared, KnowsGive, KnowsPair, KnowsFact, KnowsHeld, KnowsPublish, Knows}
+use Rattle.wp_rule.specs.Knows.{Holding, Noted, IsUp, KnowsLook, KnowsCleared, KnowsGive, KnowsPair, HasNoVersions, KnowsFact, KnowsHeld, KnowsPublish, Knows}
 use Rattle.wp_rule.proofs.Knows.{at_sound, held_is, seen_is, noted_is}
+use Rattle.wp_rule.proofs.Maintenance.{edit_later, moved, next_stays, replaced, installed_now, halted_now, halted_only}
 
 module _ (p : Place) (a : Actor) (w : World) (k : IsAt p a w) where
   -- ---- tables
@@ -57,19 +72,19 @@ module _ (p : Place) (a : Actor) (w : World) (k : IsAt p a w) where
   installed_in t (installed d) = d
   installed_in t other = t
 
-  has_writes : (so : WriteTable → Type 0) → Holding a writes so → Holds w.holders write_turn p.by × so w.writes
+  pub has_writes : (so : WriteTable → Type 0) → Holding a writes so → Holds w.holders write_turn p.by × so w.writes
   has_writes so n = let h = held_is p a w (writes n.table) k n.held in (h.0, subst so (sym (ap (writes_in n.table) h.1)) n.so_is)
 
-  has_prepared : (so : PreparedTables → Type 0) → Holding a prepared so → Holds w.holders prepared_turn p.by × so w.prepared
+  pub has_prepared : (so : PreparedTables → Type 0) → Holding a prepared so → Holds w.holders prepared_turn p.by × so w.prepared
   has_prepared so n = let h = held_is p a w (prepared n.table) k n.held in (h.0, subst so (sym (ap (prepared_in n.table) h.1)) n.so_is)
 
-  has_snapshots : (so : Snapshots → Type 0) → Holding a snapshots so → Holds w.holders snapshots_turn p.by × so w.snapshots
+  pub has_snapshots : (so : Snapshots → Type 0) → Holding a snapshots so → Holds w.holders snapshots_turn p.by × so w.snapshots
   has_snapshots so n = let h = held_is p a w (snapshots n.table) k n.held in (h.0, subst so (sym (ap (snapshots_in n.table) h.1)) n.so_is)
 
   has_store : (so : StoreTable → Type 0) → Holding a store so → Holds w.holders store_turn p.by × so w.store
   has_store so n = let h = held_is p a w (store n.table) k n.held in (h.0, subst so (sym (ap (store_in n.table) h.1)) n.so_is)
 
-  has_locks : (so : LockTables → Type 0) → Holding a locks so → Holds w.holders locks_turn p.by × so w.locks
+  pub has_locks : (so : LockTables → Type 0) → Holding a locks so → Holds w.holders locks_turn p.by × so w.locks
   has_locks so n = let h = held_is p a w (locks n.table) k n.held in (h.0, subst so (sym (ap (locks_in n.table) h.1)) n.so_is)
 
   has_installed : (so : Installed → Type 0) → Holding a installed so → Holds w.holders tables_turn p.by × so w.installed
@@ -122,12 +137,64 @@ module _ (p : Place) (a : Actor) (w : World) (k : IsAt p a w) where
   gives locks_turn n = has_locks (λ t. Unit {0}) n
   gives tables_turn n = let h = has_installed _ n in (h.0, is_so nothing_flushed h.1)
 
+  -- ---- names and keys
+
+  sound : IsSound w
+  sound = at_sound p a w k
+
+  owner : IsOwner w.locks (owner_of a.participant)
+  owner = sound.locks.had p.by 0 (owner_of a.participant) (mine owner_of w.actors p.by a a k.there refl)
+
+  -- the key of an undecided prepare is held for its transaction
+  held_by : (key : List ℕ) (q : ℕ) → holder_of w.writes.history key ≡ Some q → finite.get w.locks.keys key ≡ Some (Txn (name_at w.writes.history q))
+  held_by key q e = let f = found_holder w.writes.history key q e in sound.locks.prepared_keys q key f.0 f.1
+
+  -- a key that a transaction without a prepare locked is in no undecided batch
+  pub free_of : (name : List ℕ) (x : Transaction) (key : List ℕ) → named w.writes.history name ≡ None → finite.get a.participant.transactions name ≡ Some x → set.contains x.locked key ≡ true → holder_of w.writes.history key ≡ None
+  free_of name x key none has locked = none_is (holder_of w.writes.history key) (λ q e.
+      let same : Some (Txn (name_at w.writes.history q)) ≡ Some (Txn name) = sym (held_by key q e) ∙ owner.keys name x key has locked in
+      let is : name_at w.writes.history q ≡ name = cc in none_named w.writes.history name q none (found_holder w.writes.history key q e).0 is)
+
+  free_direct_key : (key : List ℕ) → a.participant.direct ≡ Some key → holder_of w.writes.history key ≡ None
+  free_direct_key key has = none_is (holder_of w.writes.history key) (λ q e. let same : Some (Txn (name_at w.writes.history q)) ≡ Some (Client a.participant.client) = sym (held_by key q e) ∙ owner.direct key has in absurd cc)
+
+  -- the prepare with the name, and its keys
+  pub undecided_of : (name : List ℕ) (q : ℕ) (key : List ℕ) → named w.writes.history name ≡ Some q → is_changed (batch_at w.writes.history q) key ≡ true → finite.get w.locks.keys key ≡ Some (Txn name)
+  undecided_of name q key is changed =
+      let f = found_named w.writes.history name q is in
+      sound.locks.prepared_keys q key f.0 changed ∙ ap (λ (z : List ℕ). Some (Txn z)) ((bytes_eq-Decides (name_at w.writes.history q) name).0 f.1)
+
+  -- ---- the next number
+
+  pub next_entry : (pending : List Entry) → entry_at (extended w.writes.history pending) (suc (length w.writes.history)) ≡ next_of pending
+  next_entry [] = entry_at_past w.writes.history (suc (length w.writes.history)) (omega arith)
+  next_entry (entry ∷ others) = slice_get_next w.writes.history entry []
+
+  extended_within : (pending : List Entry) → length (extended w.writes.history pending) ≤ suc (length w.writes.history)
+  extended_within [] = omega arith
+  extended_within (entry ∷ others) = let l = length-append w.writes.history (entry ∷ []) in omega (arith, l)
+
+  pub not_in_heap : is_prepare (next_of w.writes.pending) ≡ false → set.contains w.prepared.heap (suc (length w.writes.history)) ≡ false
+  not_in_heap other = false_from_ne_true (set.contains w.prepared.heap (suc (length w.writes.history))) (λ there.
+      let is = sound.undecided.known (suc (length w.writes.history)) (ap (λ (b : Bool). b || set.contains w.prepared.delayed (suc (length w.writes.history))) there) in
+      true≢false (sym is ∙ (ap is_prepare (next_entry w.writes.pending) ∙ other)))
+
+  pub within_next : (q : ℕ) → is_prepared w.prepared q ≡ true → q ≤ suc (length w.writes.history)
+  within_next q is = let e = extended_within w.writes.pending in let l = (prepared_within (extended w.writes.history w.writes.pending) q (sound.undecided.known q is)).1 in omega (arith, e, l)
+
+  none_in_memory : HasNoVersions (next_of w.writes.pending) → IsInMemory w.writes w.store
+  none_in_memory none key value e = absurd (none_some (version_in (next_of w.writes.pending) key) value (none key) e)
+
+  pub nowhere : HasNoVersions (next_of w.writes.pending) → IsNowhere w.writes w.store
+  nowhere none key = none_is (version_at w.store.memory key (suc (length w.writes.history))) (λ v there.
+      none_some (version_in (next_of w.writes.pending) key) v (none key) (sound.versions.next key (suc (length w.writes.history)) v (omega arith) there).1)
+
   -- ---- facts
 
   pub guarded : (t : Turn) → Holds w.holders t p.by → (turn : Turn) → Some t ≡ Some turn → Holds w.holders turn p.by
   guarded t holds turn e = let same : t ≡ turn = cc in subst (λ (x : Turn). Holds w.holders x p.by) same holds
 
-  alone : (turn : Turn) → None ≡ Some turn → Holds w.holders turn p.by
+  pub alone : (turn : Turn) → None ≡ Some turn → Holds w.holders turn p.by
   alone turn e = absurd (cc)
 
   clearing : (place : ℕ) (pair : CommitPair) (so : ℕ → Type 0) → KnowsPair a (length w.writes.history) place pair so → IsClearing (length w.writes.history) w.cache place pair (so w.max_evicted)
@@ -139,18 +206,18 @@ module _ (p : Place) (a : Actor) (w : World) (k : IsAt p a w) where
         so = subst so (sym s.0) n.6;
       }
 
-  facts : (fact : Fact) → KnowsFact a fact → IsGuarded w.holders fact p.by × IsSo w.delayed_flag w.old_flag w.max_evicted w.cache w.writes w.prepared w.snapshots w.store w.locks w.installed a.participant fact
+  pub facts : (fact : Fact) → KnowsFact a fact → IsGuarded w.holders fact p.by × IsSo w.delayed_flag w.old_flag w.max_evicted w.cache w.writes w.prepared w.snapshots w.store w.locks w.installed a.participant fact
   facts (passed place pair) n = let h = has_writes _ n in (guarded write_turn h.0, clearing place pair (λ max. pair.decision ≤ max) h.1)
   facts (in_old_commits place pair) n = let h = has_writes _ n in let g = has_snapshots _ h.1 in (guarded write_turn h.0, clearing place pair (λ max. IsInOldCommits w.snapshots pair.number pair.decision) g.1)
   facts (apart place pair) n = let h = has_writes _ n in let g = has_prepared _ h.1 in (guarded write_turn h.0, clearing place pair (λ max. IsApart w.prepared pair) g.1)
-  facts versions_in_memory n = let h = has_writes _ n in let g = has_store _ h.1 in (guarded write_turn h.0, g.1)
-  facts versions_nowhere n = let h = has_writes _ n in let g = has_store _ h.1 in (guarded write_turn h.0, g.1)
+  facts versions_in_memory n = let h = has_writes _ n in (guarded write_turn h.0, ⊎_elim none_in_memory (λ m. (has_store _ m).1) h.1)
+  facts versions_nowhere n = let h = has_writes _ n in (guarded write_turn h.0, ⊎_elim nowhere (λ m. (has_store _ m).1) h.1)
   facts number_in_heap n = let h = has_writes _ n in let g = has_prepared _ h.1 in (guarded write_turn h.0, g.1)
-  facts number_not_in_heap n = let h = has_writes _ n in let g = has_prepared _ h.1 in (guarded write_turn h.0, g.1)
-  facts (undecided_at name q) n = let h = has_writes _ n in let g = has_locks _ h.1 in (alone, g.1)
+  facts number_not_in_heap n = let h = has_writes _ n in (guarded write_turn h.0, ⊎_elim not_in_heap (λ m. (has_prepared _ m).1) h.1)
+  facts (undecided_at name q) n = let h = has_writes _ n in let x = h.1.0 in (alone, (x, h.1.1, owner.names name x.0 x.1, λ key changed. undecided_of name q key h.1.1 changed))
   facts (prior_values name q batch) n = (alone, (has_writes _ n).1)
-  facts (unprepared name) n = (alone, (has_writes _ n).1)
-  facts (direct_free key) n = let h = has_writes _ n in let g = has_locks _ h.1 in (alone, g.1)
+  facts (unprepared name) n = let h = has_writes _ n in (alone, (h.1.0, h.1.1, λ x key has locked. free_of name x key h.1.1 has locked))
+  facts (direct_free key) n = (alone, (n, owner.direct key n, free_direct_key key n))
   facts (tables_stay versions floor) n = let h = has_installed _ n in let g = has_store _ h.1 in (guarded tables_turn h.0, g.1)
   facts (live_listed floor listed) n = let h = has_snapshots _ n in let low = no_longer in (alone, ((let f = h.1.0 in omega arith), h.1.1))
   facts nothing_flushed n = let h = has_installed _ n in let g = has_store _ h.1 in (guarded tables_turn h.0, g.1)
@@ -160,9 +227,6 @@ module _ (p : Place) (a : Actor) (w : World) (k : IsAt p a w) where
   facts (old_flag_stays value) n = absurd n
 
   -- ---- publishing
-
-  owner : IsOwner w.locks (owner_of a.participant)
-  owner = (at_sound p a w k).locks.had p.by 0 (owner_of a.participant) (mine owner_of w.actors p.by a a k.there refl)
 
   held_for : (key : List ℕ) → KnowsHeld a key → IsHeldFor w a key
   held_for key n = ⊎_elim (λ e. inl (e, owner.direct key e)) (λ e. inr (e.0, e.1, e.2, owner.keys e.0 e.1 key e.2 e.3)) n
@@ -180,6 +244,18 @@ module _ (p : Place) (a : Actor) (w : World) (k : IsAt p a w) where
     pair = λ pair is. let c = n.pair pair is in let s = is_so (words_stay c.0 c.1) c.2 in ap (λ (words : List ℕ). cached words pair.number) s.1 ∙ c.3;
   }
 
+  -- ---- maintenance
+
+  live_of : (s : ℕ) (o : Option Snapshot) → finite.get w.snapshots s ≡ o → is_some o ≡ true → s ≤ length w.writes.history
+  live_of s None is live = absurd cc
+  live_of s (Some x) is live = (sound.registrations.live s x is).1
+
+  live_within : (s : ℕ) → IsLive w.snapshots s → s ≤ length w.writes.history
+  live_within s live = live_of s (finite.get w.snapshots s) refl live
+
+  covers : (edit : InstalledEdit) → IsEditCovered a.participant.seen edit → IsEditCovered w.writes.history edit
+  covers edit c = edit_later w.writes.history a.participant.seen edit (seen_is p a w k) sound.history.legal c
+
   readable : (q : ℕ) (snapshot : Registration) → IsIn snapshot a.participant.registered → (q ≤ snapshot.number → has_versions_at a.participant.seen q ≡ true) → q ≤ snapshot.number → has_versions_at w.writes.history q ≡ true
   readable q snapshot own has le =
       let s = seen_is p a w k in
@@ -190,7 +266,7 @@ module _ (p : Place) (a : Actor) (w : World) (k : IsAt p a w) where
   pub needed : (step : Step) → Knows p a step → Needs w p.by a step
   needed load_published n = tt
   needed (register least) n =
-      let h = has_snapshots _ n in (h.0, ⊎_elim (λ one. inl one) (λ m. let g = has_prepared _ m in let low = no_longer in inr (g.0, (let l = g.1.0 in omega arith), g.1.1)) h.1)
+      let h = has_snapshots _ n in (h.0, ⊎_elim (λ one. inl one) (λ m. let g = has_prepared _ m in let low = no_longer in inr (g.0, ⊎_elim (λ seen. omega (arith, low, seen)) (λ there. within_next least there) g.1.0, g.1.1)) h.1)
   needed (load which) n = (n.0, n.1, n.2, looks which n.3)
   needed end_reading n = tt
   needed (store_max_evicted m) n =
@@ -232,10 +308,18 @@ module _ (p : Place) (a : Actor) (w : World) (k : IsAt p a w) where
   needed (begin_reading q snapshot) n = (n.0, readable q snapshot n.0 n.1)
   needed (find_holder key holder account) n = absurd n
   needed (note fact) n = let f = facts fact n.1 in (n.0, f.0, f.1)
-  needed (move_versions memory tables) n = absurd n
-  needed (replace_versions tables floor) n = absurd n
-  needed (install edit compacts) n = absurd n
-  needed (halt edit) n = absurd n
+  needed (move_versions memory tables) n =
+      let h = has_store _ n in let g = has_installed _ h.1 in
+      let is = moved w.writes.history w.writes.pending w.snapshots w.store w.installed sound.versions memory tables g.1 in
+      let stays = next_stays w.writes.history w.writes.pending w.snapshots w.store w.installed sound.versions memory tables g.1 in (h.0, g.0, (g.1.same, stays), is)
+  needed (replace_versions tables floor) n =
+      let h = has_store _ n in let g = has_installed _ h.1 in let r = g.1 in
+      (h.0, g.0, r.rises, replaced w.writes.history w.writes.pending w.snapshots w.store w.installed sound.versions a tables floor r sound.history.legal (seen_is p a w k) (is_so (live_listed floor r.listed) r.live).1 live_within)
+  needed (install edit compacts) n =
+      let h = has_installed _ n in let m = h.1 in
+      (h.0, m.running, installed_now w.writes.history w.writes.pending w.snapshots w.store w.installed sound.versions edit (covers edit m.covered) m.rises, m.one_more, m.keeps)
+  needed (halt None) n = let h = has_installed _ n in (h.0, h.1, halted_only w.writes.history w.writes.pending w.snapshots w.store w.installed sound.versions)
+  needed (halt (Some edit)) n = let h = has_installed _ n in (h.0, h.1.0, halted_now w.writes.history w.writes.pending w.snapshots w.store w.installed sound.versions edit (covers edit h.1.1))
   needed (store_published entry others) n = let h = has_writes _ n in publishes entry others h.0 h.1
   needed (take_turn turn) n = absurd n
   needed make_note n = absurd n

@@ -17,7 +17,7 @@ use Rattle.wp_core.specs.Runs.{goes_on}
 use Rattle.wp_rule.specs.Shows.{Shows}
 use Rattle.wp_rule.proofs.Forgets.{forgets_nothing, make_ends, learn_ends, join_ends}
 use Rattle.wp_rule.proofs.Quiet.{same_contents}
-use Rattle.wp_rule.proofs.Rule.{rests_still}
+use Rattle.wp_rule.proofs.KeepsRule.{rests_still}
 
 module _ {S : Type 0} (content : S → Option Content) (tells : S → Type 0) (opened : List Entry) (cells : ℕ) where
   abbrev Rule : State S Actor → Type 0

@@ -1,15 +1,16 @@
 -- When a seat knows by its view alone that a step of the machine may be made.
-use Rattle.std.specs.Prelude.{◌≡◌, ◌≢◌, ◌⊎◌, ℕ, suc, ◌≤◌, ◌<◌, true, false, List, [], ◌∷◌, ◌++◌, length, Some, None}
+use Rattle.std.specs.Prelude.{◌≡◌, ◌≢◌, ◌⊎◌, ℕ, suc, ◌+◌, ◌≤◌, ◌<◌, Bool, true, false, List, [], ◌∷◌, ◌++◌, length, Option, Some, None}
 use Rattle.std.specs.FinSet as set
 use Rattle.std.specs.FinMap as finite
 use Rattle.wp_model.specs.declared.change.Change.{Change}
 use Rattle.wp_model.specs.declared.entry.Entry.{Entry}
 use Rattle.wp_model.specs.declared.entry.Entry.TheVariants.{Prepare}
 use Rattle.wp_model.specs.Batch.{is_batch}
-use Rattle.wp_model.specs.Covered.{is_among}
-use Rattle.wp_model.specs.Decision.{decision_of}
-use Rattle.wp_model.specs.History.{named, batch_at, is_changed, holder_of}
-use Rattle.wp_model.specs.declared.holder.Holder.TheVariants.{Txn, Client}
+use Rattle.wp_model.specs.declared.version.Version.{Version}
+use Rattle.wp_model.specs.Covered.{IsCovered, is_among}
+use Rattle.wp_model.specs.Flushed.{InstalledEdit, IsEditCovered}
+use Rattle.wp_model.specs.Decision.{decision_of, version_in}
+use Rattle.wp_model.specs.History.{named, batch_at, is_changed, is_prepare}
 use Rattle.wp_model.specs.Versions.{version_at}
 use Rattle.wp_model.specs.Legal.{IsLegal, prior}
 use Rattle.wp_model.specs.PreparedTables.{is_prepared}
@@ -23,7 +24,7 @@ use Rattle.wp_judge.specs.declared.observed.Load.TheVariants.{InPrepared, IsOldC
 use Rattle.wp_core.specs.Lists.{IsIn}
 use Rattle.wp_core.specs.Turns.{Turn, write_turn, prepared_turn, snapshots_turn, store_turn, locks_turn, tables_turn}
 use Rattle.wp_core.specs.Cache.{cached, cache_place, pair_at}
-use Rattle.wp_core.specs.Tables.{WriteTable, Content, writes, prepared, snapshots, store, locks, installed, NoneDelayed, NoOldCommits}
+use Rattle.wp_core.specs.Tables.{WriteTable, StoreTable, Installed, Content, writes, prepared, snapshots, store, locks, installed, up_to, NoneDelayed, NoOldCommits}
 use Rattle.wp_core.specs.Views.{Fact, passed, in_old_commits, apart, words_stay, versions_in_memory, versions_nowhere, number_in_heap, number_not_in_heap, undecided_at, prior_values, unprepared, direct_free, tables_stay, live_listed, nothing_flushed, frozen_stay, delayed_flag_stays, old_flag_stays}
 use Rattle.wp_core.specs.World.{Transaction, Actor}
 use Rattle.wp_core.specs.Entries.{next_of, pair_by, pending_pair, transaction_of, changes_under, IsOneRecord, HasVersionsAt}
@@ -32,7 +33,7 @@ use Rattle.wp_core.specs.Sound.Prepared.{IsInOldCommits}
 use Rattle.wp_core.specs.Sound.Snapshots.{has_versions_at}
 use Rattle.wp_core.specs.Sound.Store.{NoneFlushed}
 use Rattle.wp_core.specs.Sound.Views.{IsApart, IsInMemory, IsNowhere, Owns}
-use Rattle.wp_core.specs.Steps.{Step, load_published, register, begin_reading, load, end_reading, store_published, store_max_evicted, store_word, store_delayed_flag, store_old_flag, give_turn, make_pending, log_pending, close_log, find_log_closed, drop_pending, add_prepared, take_pending_prepared, add_delayed_commit, take_out, register_again, release, add_old_commit, add_versions, take_versions, find_flushed, claim_name, take_name, leave_name, free_transaction, lock_key, free_key, lock_direct, free_direct, tell, hear, set_batch, note, set_client}
+use Rattle.wp_core.specs.Steps.{Step, load_published, register, begin_reading, load, end_reading, store_published, store_max_evicted, store_word, store_delayed_flag, store_old_flag, give_turn, make_pending, log_pending, close_log, find_log_closed, drop_pending, add_prepared, take_pending_prepared, add_delayed_commit, take_out, register_again, release, add_old_commit, add_versions, take_versions, move_versions, replace_versions, install, halt, find_flushed, claim_name, take_name, leave_name, free_transaction, lock_key, free_key, lock_direct, free_direct, tell, hear, set_batch, note, set_client}
 use Rattle.wp_rule.specs.Words.{Place}
 
 -- the view has a table of this kind, of which this is so
@@ -74,23 +75,23 @@ KnowsGive a tables_turn = Holding a installed (λ e. Noted a nothing_flushed)
 abbrev pub KnowsPair : Actor → ℕ → ℕ → CommitPair → (ℕ → Type 0) → Type 0
 KnowsPair a published place pair so = (max : ℕ) × (words : List ℕ) × Noted a (words_stay max words) × (place < length words) × (pair_at words place ≡ Some pair) × (pair.decision ≤ published) × so max
 
+-- the entry, if there is one, has no versions
+abbrev pub HasNoVersions : Option Entry → Type 0
+HasNoVersions entry = (key : List ℕ) → version_in entry key ≡ None
+
 -- a fact is so
 abbrev pub KnowsFact : Actor → Fact → Type 0
 KnowsFact a (passed place pair) = Holding a writes (λ d. KnowsPair a (length d.history) place pair (λ max. pair.decision ≤ max))
 KnowsFact a (in_old_commits place pair) = Holding a writes (λ d. Holding a snapshots (λ m. KnowsPair a (length d.history) place pair (λ max. IsInOldCommits m pair.number pair.decision)))
 KnowsFact a (apart place pair) = Holding a writes (λ d. Holding a prepared (λ t. KnowsPair a (length d.history) place pair (λ max. IsApart t pair)))
-KnowsFact a versions_in_memory = Holding a writes (λ d. Holding a store (λ t. IsInMemory d t))
-KnowsFact a versions_nowhere = Holding a writes (λ d. Holding a store (λ t. IsNowhere d t))
+KnowsFact a versions_in_memory = Holding a writes (λ d. HasNoVersions (next_of d.pending) ⊎ Holding a store (λ t. IsInMemory d t))
+KnowsFact a versions_nowhere = Holding a writes (λ d. HasNoVersions (next_of d.pending) ⊎ Holding a store (λ t. IsNowhere d t))
 KnowsFact a number_in_heap = Holding a writes (λ d. Holding a prepared (λ t. set.contains t.heap (suc (length d.history)) ≡ true))
-KnowsFact a number_not_in_heap = Holding a writes (λ d. Holding a prepared (λ t. set.contains t.heap (suc (length d.history)) ≡ false))
-KnowsFact a (undecided_at name q) =
-    Holding a writes (λ d. Holding a locks (λ t. Owns a.participant name × (named d.history name ≡ Some q) × (finite.get t.names name ≡ Some (Some a.participant.client))
-    × ((key : List ℕ) → is_changed (batch_at d.history q) key ≡ true → finite.get t.keys key ≡ Some (Txn name))))
+KnowsFact a number_not_in_heap = Holding a writes (λ d. (is_prepare (next_of d.pending) ≡ false) ⊎ Holding a prepared (λ t. set.contains t.heap (suc (length d.history)) ≡ false))
+KnowsFact a (undecided_at name q) = Holding a writes (λ d. Owns a.participant name × (named d.history name ≡ Some q))
 KnowsFact a (prior_values name q batch) = Holding a writes (λ d. Owns a.participant name × (named d.history name ≡ Some q) × (prior d.history (batch_at d.history q) ≡ batch))
-KnowsFact a (unprepared name) =
-    Holding a writes (λ d. Owns a.participant name × (named d.history name ≡ None)
-    × ((x : Transaction) (key : List ℕ) → finite.get a.participant.transactions name ≡ Some x → set.contains x.locked key ≡ true → holder_of d.history key ≡ None))
-KnowsFact a (direct_free key) = Holding a writes (λ d. Holding a locks (λ t. (a.participant.direct ≡ Some key) × (finite.get t.keys key ≡ Some (Client a.participant.client)) × (holder_of d.history key ≡ None)))
+KnowsFact a (unprepared name) = Holding a writes (λ d. Owns a.participant name × (named d.history name ≡ None))
+KnowsFact a (direct_free key) = a.participant.direct ≡ Some key
 KnowsFact a (tables_stay versions floor) = Holding a installed (λ e. Holding a store (λ t. (t.tables ≡ versions) × (t.floor ≡ floor)))
 KnowsFact a (live_listed floor listed) = Holding a snapshots (λ m. (floor ≤ length a.participant.seen) × ((n : ℕ) → IsLive m n → (is_among listed n ≡ true) ⊎ (floor ≤ n)))
 KnowsFact a nothing_flushed = Holding a installed (λ e. Holding a store (λ t. NoneFlushed t.memory e.last.flushed))
@@ -113,11 +114,40 @@ pub record KnowsPublish (a : Actor) (d : WriteTable) (entry : Entry) (others : L
   pub number : IsPrepare entry → Noted a number_in_heap
   pub pair : (pair : CommitPair) → pair_by (suc (length d.history)) entry ≡ Some pair → (max : ℕ) × (words : List ℕ) × Noted a (words_stay max words) × (cached words pair.number ≡ Some pair.decision)
 
+-- ---- maintenance
+
+-- Versions may move from memory to tables: none comes or goes, those in memory above the flushed number stay there, and in
+-- tables is what was there or was in memory up to that number.
+pub record KnowsMoved (t : StoreTable) (flushed : ℕ) (memory tables : List Version) : Type 0 where
+  pub same : (key : List ℕ) (q : ℕ) → version_at (memory ++ tables) key q ≡ version_at (t.memory ++ t.tables) key q
+  pub above : (key : List ℕ) (q : ℕ) → flushed < q → version_at memory key q ≡ version_at t.memory key q
+  pub below : (key : List ℕ) (q : ℕ) (value : Option (List ℕ)) → version_at tables key q ≡ Some value → (version_at t.tables key q ≡ Some value) ⊎ ((q ≤ flushed) × (version_at t.memory key q ≡ Some value))
+
+-- Old versions may go from tables: what is left shows the history that the seat has seen at the listed numbers, and at each
+-- from the new floor on; and the live ones are listed or are not below that floor.
+pub record KnowsReplaced (a : Actor) (t : StoreTable) (flushed : ℕ) (tables : List Version) (floor : ℕ) : Type 0 where
+  pub rises : t.floor ≤ floor
+  pub seen_floor : floor ≤ length a.participant.seen
+  pub seen_flushed : flushed ≤ length a.participant.seen
+  pub listed : List ℕ
+  pub live : Noted a (live_listed floor listed)
+  pub seen_listed : (n : ℕ) → is_among listed n ≡ true → n ≤ length a.participant.seen
+  pub part : (key : List ℕ) (q : ℕ) (value : Option (List ℕ)) → version_at tables key q ≡ Some value → version_at t.tables key q ≡ Some value
+  pub covered : IsCovered (up_to (length a.participant.seen) (t.memory ++ tables)) a.participant.seen listed floor
+
+-- An edit may be installed: its tables answer for the history that the seat has seen, and it flushes no less than the last.
+pub record KnowsInstalled (a : Actor) (e : Installed) (edit : InstalledEdit) (compacts : Bool) : Type 0 where
+  pub running : e.halted ≡ false
+  pub covered : IsEditCovered a.participant.seen edit
+  pub rises : e.last.flushed ≤ edit.flushed
+  pub one_more : compacts ≡ false → edit.tables ≡ e.last.tables + 1
+  pub keeps : compacts ≡ true → edit.flushed ≡ e.last.flushed
+
 -- Of the steps that need no more than the view: what each needs. Of the others more has to be known of the world.
 abbrev pub Knows : Place → Actor → Step → Type 0
 Knows p a load_published = Unit {0}
 Knows p a (register least) =
-    Holding a snapshots (λ m. (least ≡ 1) ⊎ Holding a prepared (λ t. (least ≤ suc (length a.participant.seen)) × ((q : ℕ) → is_prepared t q ≡ true → least ≤ q)))
+    Holding a snapshots (λ m. (least ≡ 1) ⊎ Holding a prepared (λ t. ((least ≤ suc (length a.participant.seen)) ⊎ (is_prepared t least ≡ true)) × ((q : ℕ) → is_prepared t q ≡ true → least ≤ q)))
 Knows p a (begin_reading q snapshot) = IsIn snapshot a.participant.registered × (q ≤ snapshot.number → has_versions_at a.participant.seen q ≡ true)
 Knows p a (load which) = (r : Observed) × (a.reading ≡ Some r) × (ask r ≡ asked.Load which) × KnowsLook a which
 Knows p a end_reading = Unit {0}
@@ -146,6 +176,11 @@ Knows p a (release front r back) = Holding a snapshots (λ m. a.participant.regi
 Knows p a (add_old_commit s q) = Holding a snapshots (λ m. IsLive m s × IsUp a old_flag_stays × ((c : ℕ) × (decision_of a.participant.seen q ≡ Some c) × (q ≤ s) × (s < c)))
 Knows p a (add_versions memory) = Holding a writes (λ d. Holding a store (λ t. HasVersionsAt (next_of d.pending) (suc (length d.history)) t.memory memory))
 Knows p a (take_versions memory) = Holding a writes (λ d. Holding a store (λ t. HasVersionsAt None (suc (length d.history)) t.memory memory))
+Knows p a (move_versions memory tables) = Holding a store (λ t. Holding a installed (λ e. KnowsMoved t e.last.flushed memory tables))
+Knows p a (replace_versions tables floor) = Holding a store (λ t. Holding a installed (λ e. KnowsReplaced a t e.last.flushed tables floor))
+Knows p a (install edit compacts) = Holding a installed (λ e. KnowsInstalled a e edit compacts)
+Knows p a (halt None) = Holding a installed (λ e. e.halted ≡ false)
+Knows p a (halt (Some edit)) = Holding a installed (λ e. (e.halted ≡ false) × IsEditCovered a.participant.seen edit)
 Knows p a find_flushed = Holding a installed (λ e. Unit {0})
 Knows p a (claim_name name) = Holding a locks (λ t. (finite.get t.names name ≡ None) × (a.live ≡ true))
 Knows p a (take_name name q) = Holding a writes (λ d. Holding a locks (λ t. (finite.get t.names name ≡ Some None) × (named d.history name ≡ Some q)))

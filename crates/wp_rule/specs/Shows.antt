@@ -11,7 +11,13 @@ use Rattle.wp_core.specs.Changes.{turn_index}
 use Rattle.wp_core.specs.Tables.{Content}
 use Rattle.wp_core.specs.World.{Actor, World, new_actor, content_of}
 use Rattle.wp_core.specs.Runs.{IsOpening, Reaches}
+use Rattle.wp_core.specs.Sound.Actors.{IsIdle}
+use Rattle.wp_core.specs.IsSound.{IsSound}
 use Rattle.wp_rule.specs.Words.{words_of, Place, IsAt}
+
+-- the actor is not live, did nothing and has nothing, and took in nobody
+abbrev pub DidNothing : Actor → Type 0
+DidNothing a = (a.live ≡ false) × IsIdle a × (a.joined ≡ [])
 
 module _ {S : Type 0} (content : S → Option Content) (tells : S → Type 0) where
   -- the value stands for the table, and its devices tell what they should
@@ -45,11 +51,12 @@ module _ {S : Type 0} (content : S → Option Content) (tells : S → Type 0) wh
     pub deep : length slots ≡ 6
     pub parts : (turn : Turn) → (x : S) × (get_elem? slots (turn_index turn) ≡ some x) × IsPart x (content_of world turn)
 
-  -- What the closed table leaves: the world that it showed at the end, in which no turn is held and no other seat is live, and
-  -- behind each turn its table.
+  -- What the closed table leaves: the world that it showed at the end, in which no turn is held, and behind each turn its
+  -- table. Nobody did anything but the participants of the first seat: the world is sound with that seat as its only actor.
   pub record Leaves (p : Place) (a : Actor) (parts : Turn → S) : Type 0 where
     pub world : World
     pub before : IsAt p a world
     pub free : (turn : Turn) → turn_holder world.holders turn ≡ None
-    pub others : EachAt (λ j b. j ≢ 0 → b.live ≡ false) world.actors
     pub are_parts : (turn : Turn) → IsPart (parts turn) (content_of world turn)
+    pub others : EachAt (λ j b. j ≢ 0 → DidNothing b) world.actors
+    pub alone : IsSound (record world { actors = a ∷ [] })

@@ -8,6 +8,7 @@ use Rattle.wp_core.specs.Turns.{Turn, Holders}
 use Rattle.wp_core.specs.Changes.{turn_index}
 use Rattle.wp_core.specs.World.{Actor, World}
 use Rattle.wp_core.specs.Runs.{Reaches}
+use Rattle.wp_rule.specs.declared.opening.Opening.{Opening}
 
 -- 1 while somebody holds the turn
 abbrev pub turn_word : Option ℕ → ℕ
@@ -25,22 +26,27 @@ words_of w = length w.writes.history ∷ w.max_evicted ∷ w.delayed_flag ∷ w.
 abbrev pub turn_place : Turn → ℕ
 turn_place turn = turn_index turn + 4
 
--- A table, as clauses see it: which it is, the history that it was opened with, and how many words the cache has.
-pub record Store : Type 0 where
+-- The shared words, as clauses see them: in which table they lie, the history that was opened, and how many of them are the
+-- cache's.
+pub record SharedWords : Type 0 where
   pub table : TableId
   pub opened : List Entry
   pub cells : ℕ
 
--- a seat of a table, by its number
+-- a seat of them, by its number
 pub record Place : Type 0 where
   pub opened : List Entry
   pub cells : ℕ
   pub by : ℕ
 
-abbrev pub place_of : Store → ℕ → Place
-place_of store by = record { opened = store.opened; cells = store.cells; by = by }
+abbrev pub place_of : SharedWords → ℕ → Place
+place_of words by = record { opened = words.opened; cells = words.cells; by = by }
 
--- a reached world of that table, in which the seat's actor is this one
+-- the same, by what the rule is told
+abbrev pub place_under : Opening → ℕ → Place
+place_under key by = record { opened = key.entries.value.items; cells = key.cells; by = by }
+
+-- a reached world of these words, in which the seat's actor is this one
 pub record IsAt (p : Place) (a : Actor) (w : World) : Type 0 where
   pub reached : Reaches w
   pub opened : w.opened ≡ p.opened

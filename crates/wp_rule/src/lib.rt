@@ -15,11 +15,11 @@
 //! No call waits but `park`, and none takes memory but `Words::new`.
 #![tactic(auto)]
 
-mod law;
 pub mod laws;
 mod opening;
 mod part;
 mod plays;
+mod rule;
 mod steps;
 #[cfg(test)]
 mod tests;

@@ -6,7 +6,7 @@ ghost use Rattle.wp_core.specs.World.{World, new_actor};
 ghost use Rattle.wp_core.specs.Steps.{Step};
 ghost use Rattle.wp_core.specs.Changes.{made_one, informed, joins, joined_actor};
 ghost use Rattle.wp_rule.specs.Words.{Place};
-ghost use Rattle.wp_rule.specs.Plays.{loads, stores, gives, claims};
+ghost use Rattle.wp_rule.specs.Plays.{loads, stores, unclaims, claims};
 
 use crate::part::HoldsPart;
 use atomic_table::{Join, Play, Split};
@@ -40,49 +40,49 @@ impl OfTurn for Brand {
     ghost turn = { write_turn };
 }
 
-pub(crate) struct Loaded<J> {
+pub(crate) struct LoadPlay<J> {
     of: PhantomData<J>,
 }
 
-impl<S, J: Moves> Play<S, Actor> for Loaded<J> {
+impl<S, J: Moves> Play<S, Actor> for LoadPlay<J> {
     ghost then = { loads J.place J.steps };
 }
 
-pub(crate) struct Stored<J> {
+pub(crate) struct StorePlay<J> {
     of: PhantomData<J>,
 }
 
-impl<S, J: Moves> Play<S, Actor> for Stored<J> {
+impl<S, J: Moves> Play<S, Actor> for StorePlay<J> {
     ghost then = { stores J.place J.steps };
 }
 
-pub(crate) struct Given<J> {
+pub(crate) struct UnclaimPlay<J> {
     of: PhantomData<J>,
 }
 
-impl<S, J: OfTurn> Play<S, Actor> for Given<J> {
-    ghost then = { gives J.place J.turn };
+impl<S, J: OfTurn> Play<S, Actor> for UnclaimPlay<J> {
+    ghost then = { unclaims J.place J.turn };
 }
 
-pub(crate) struct Claimed<S, J> {
+pub(crate) struct ClaimPlay<S, J> {
     of: PhantomData<(S, J)>,
 }
 
-impl<S: HoldsPart, J: OfTurn> Play<S, Actor> for Claimed<S, J> {
+impl<S: HoldsPart, J: OfTurn> Play<S, Actor> for ClaimPlay<S, J> {
     ghost then = { claims S.content S.tells J.place J.turn };
 }
 
-pub(crate) struct Noted;
+pub(crate) struct NoteSplit;
 
-impl Split<Actor> for Noted {
+impl Split<Actor> for NoteSplit {
     ghost left = { λ a. a };
 
     ghost right = { λ a. new_actor false a.participant.client a.participant.seen };
 }
 
-pub(crate) struct Seated;
+pub(crate) struct SeatSplit;
 
-impl Split<Actor> for Seated {
+impl Split<Actor> for SeatSplit {
     ghost use Rattle.std.specs.Prelude.{true};
 
     ghost left = { made_one };
@@ -90,17 +90,17 @@ impl Split<Actor> for Seated {
     ghost right = { λ a. new_actor true a.participant.client a.participant.seen };
 }
 
-pub(crate) struct Informed;
+pub(crate) struct LearnJoin;
 
-impl Join<Actor> for Informed {
+impl Join<Actor> for LearnJoin {
     ghost both = { informed };
 
     ghost spent = { joined_actor };
 }
 
-pub(crate) struct Joined;
+pub(crate) struct SeatJoin;
 
-impl Join<Actor> for Joined {
+impl Join<Actor> for SeatJoin {
     ghost both = { joins };
 
     ghost spent = { joined_actor };

@@ -3,53 +3,53 @@ ghost use Rattle.std.specs.Prelude.{◌≡◌, ℕ, ◌+◌, ◌<◌, [], ◌∷
 ghost use Rattle.atomic_table.specs.Table.{rest};
 ghost use Rattle.wp_core.specs.Steps.{give_turn};
 ghost use Rattle.wp_machine.specs.Parts.{turn_of};
-ghost use Rattle.wp_rule.specs.Words.{words_of, turn_place};
-ghost use Rattle.wp_rule.specs.Moves.{MayMake, MayStore, Moved, Stepped};
-ghost use Rattle.wp_rule.specs.Plays.{Took, WasHeld};
-ghost use Rattle.wp_rule.specs.Keys.{place_under, MayUnclaim};
+ghost use Rattle.wp_rule.specs.Words.{words_of, turn_place, place_under};
+ghost use Rattle.wp_rule.specs.Moves.{MayMake, MayStore, Moved};
+ghost use Rattle.wp_rule.specs.Plays.{Claimed, WasHeld, MayUnclaim};
 
-use crate::law::Law;
 use crate::opening::Opening;
 use crate::part::HoldsPart;
-use crate::plays::{Claimed, Given, Loaded, Moves, OfTurn, Stored};
+use crate::plays::{ClaimPlay, LoadPlay, Moves, OfTurn, StorePlay, UnclaimPlay};
+use crate::rule::Rule;
 use atomic_table::{Seat, Shared};
 use wp_machine::{Actor, Turn};
 
 const FIRST_TURN: usize = 4;
 
-pub(crate) type Board<S> = Shared<S, Actor, Opening, Law<S>>;
+/// The table in which the words and the slots lie.
+pub(crate) type WordTable<S> = Shared<S, Actor, Opening, Rule<S>>;
 
 pub(crate) fn load<S: HoldsPart, J: Moves>(
-    board: &Board<S>,
+    table: &WordTable<S>,
     seat: &mut Seat<S, Actor>,
     word: usize,
 ) -> u64
-    requires seat { (seat.old.table_id ≡ board.now.table_id) × (J.place ≡ place_under board.now.key seat.old.id) }
-    requires word { word < board.now.table_id.words }
+    requires seat { (seat.old.table_id ≡ table.now.table_id) × (J.place ≡ place_under table.now.key seat.old.id) }
+    requires word { word < table.now.table_id.words }
     requires may { MayMake J.place seat.old.me.0 J.steps }
     ensures same { (seat.new.table_id ≡ seat.old.table_id) × (seat.new.id ≡ seat.old.id) × (seat.new.me.1 ≡ seat.old.me.1) }
     ensures moved { Moved J.place J.steps (λ w. result ≡ slice_index (words_of w) word) seat.old.me.0 seat.new.me.0 }
 {
-    board.load::<Loaded<J>>(seat, word)
+    table.load::<LoadPlay<J>>(seat, word)
 }
 
 pub(crate) fn store<S: HoldsPart, J: Moves>(
-    board: &Board<S>,
+    table: &WordTable<S>,
     seat: &mut Seat<S, Actor>,
     word: usize,
     n: u64,
 )
-    requires seat { (seat.old.table_id ≡ board.now.table_id) × (J.place ≡ place_under board.now.key seat.old.id) }
-    requires word { word < board.now.table_id.words }
+    requires seat { (seat.old.table_id ≡ table.now.table_id) × (J.place ≡ place_under table.now.key seat.old.id) }
+    requires word { word < table.now.table_id.words }
     requires may { MayStore J.place seat.old.me.0 J.steps word n }
     ensures same { (seat.new.table_id ≡ seat.old.table_id) × (seat.new.id ≡ seat.old.id) × (seat.new.me.1 ≡ seat.old.me.1) }
     ensures moved { Moved J.place J.steps (λ w. Unit {0}) seat.old.me.0 seat.new.me.0 }
 {
-    board.store::<Stored<J>>(seat, word, n);
+    table.store::<StorePlay<J>>(seat, word, n);
 }
 
 /// The place of the turn's word.
-pub(crate) fn word_of(turn: Turn) -> usize
+pub(crate) fn turn_place(turn: Turn) -> usize
     ensures { result ≡ turn_place (turn_of turn) }
 {
     FIRST_TURN + turn.index() as usize
@@ -57,30 +57,30 @@ pub(crate) fn word_of(turn: Turn) -> usize
 
 /// One try to take a turn.
 pub(crate) fn claim<S: HoldsPart, J: OfTurn>(
-    board: &Board<S>,
+    table: &WordTable<S>,
     seat: &mut Seat<S, Actor>,
     turn: Turn,
 ) -> bool
-    requires seat { (seat.old.table_id ≡ board.now.table_id) × (J.place ≡ place_under board.now.key seat.old.id) }
-    requires turn { (J.turn ≡ turn_of turn) × (9 < board.now.table_id.words) }
+    requires seat { (seat.old.table_id ≡ table.now.table_id) × (J.place ≡ place_under table.now.key seat.old.id) }
+    requires turn { (J.turn ≡ turn_of turn) × (9 < table.now.table_id.words) }
     requires live { seat.old.me.0.live ≡ true }
     ensures same { (seat.new.table_id ≡ seat.old.table_id) × (seat.new.id ≡ seat.old.id) }
-    ensures claimed { MatchBool result (Took S.content S.tells J.place J.turn seat.old.me seat.new.me) (WasHeld S.content S.tells J.place J.turn seat.old.me seat.new.me) }
+    ensures claimed { MatchBool result (Claimed S.content S.tells J.place J.turn seat.old.me seat.new.me) (WasHeld S.content S.tells J.place J.turn seat.old.me seat.new.me) }
 {
-    board.compare_exchange::<Claimed<S, J>>(seat, word_of(turn), 0, 1) == 0
+    table.compare_exchange::<ClaimPlay<S, J>>(seat, turn_place(turn), 0, 1) == 0
 }
 
 /// Gives a turn.
 pub(crate) fn unclaim<S: HoldsPart, J: OfTurn>(
-    board: &Board<S>,
+    table: &WordTable<S>,
     seat: &mut Seat<S, Actor>,
     turn: Turn,
 )
-    requires seat { (seat.old.table_id ≡ board.now.table_id) × (J.place ≡ place_under board.now.key seat.old.id) }
-    requires turn { (J.turn ≡ turn_of turn) × (9 < board.now.table_id.words) }
+    requires seat { (seat.old.table_id ≡ table.now.table_id) × (J.place ≡ place_under table.now.key seat.old.id) }
+    requires turn { (J.turn ≡ turn_of turn) × (9 < table.now.table_id.words) }
     requires held { MayUnclaim S.content S.tells J.place J.turn seat.old.me }
     ensures same { (seat.new.table_id ≡ seat.old.table_id) × (seat.new.id ≡ seat.old.id) × (seat.new.me.1 ≡ rest seat.old.me.1) }
-    ensures stepped { Stepped J.place (give_turn J.turn) (λ w. Unit {0}) seat.old.me.0 seat.new.me.0 }
+    ensures moved { Moved J.place (λ w. give_turn J.turn ∷ []) (λ w. Unit {0}) seat.old.me.0 seat.new.me.0 }
 {
-    board.store::<Given<J>>(seat, word_of(turn), 0);
+    table.store::<UnclaimPlay<J>>(seat, turn_place(turn), 0);
 }

@@ -6,25 +6,25 @@ ghost use Rattle.wp_model.specs.declared.entry.Entry.{Entry};
 ghost use Rattle.wp_model.specs.Legal.{IsLegal};
 ghost use Rattle.wp_core.specs.World.{Actor, World, new_actor};
 ghost use Rattle.wp_core.specs.Steps as step;
-ghost use Rattle.wp_core.specs.Steps.{store_max_evicted, give_turn};
+ghost use Rattle.wp_core.specs.Steps.{store_max_evicted, give_turn, note};
 ghost use Rattle.wp_core.specs.Changes.{sees, made_one, informed, joins, turn_index};
 ghost use Rattle.wp_core.specs.Sound.Actors.{StartsWith};
+ghost use Rattle.wp_core.specs.Views.{delayed_flag_stays, old_flag_stays};
 ghost use Rattle.wp_machine.specs.Parts.{turn_of};
 ghost use Rattle.wp_rule.specs.Words.{Place, place_of, words_of, turn_place};
-ghost use Rattle.wp_rule.specs.Moves.{MayMake, MayStep, Moved, Stepped};
+ghost use Rattle.wp_rule.specs.Moves.{MayMake, MayStep, MayPublishAs, Moved, storing_max, storing_word};
 ghost use Rattle.wp_rule.specs.Shows.{Founds, Leaves};
 ghost use Rattle.wp_rule.specs.Ends.{part_of};
-ghost use Rattle.wp_rule.specs.Plays.{Took, WasHeld};
-ghost use Rattle.wp_rule.specs.Keys.{MayUnclaim, MayPublishAs};
+ghost use Rattle.wp_rule.specs.Plays.{Claimed, WasHeld, MayLie, MayUnclaim};
 ghost use Rattle.wp_core.specs.Lists.{IsIn};
 ghost use Rattle.wp_core.specs.Tables.{WriteTable, writes};
 ghost use Rattle.wp_core.specs.Cache.{cache_place};
 ghost use Rattle.wp_judge.specs.Words.{CommitPair, word_of, pair_of};
 
-use crate::law::Law;
 use crate::opening::Opening;
 use crate::part::{HoldsPart, Parts};
-use crate::plays::{Informed, Joined, Moves, Noted, Seated};
+use crate::plays::{LearnJoin, Moves, NoteSplit, SeatJoin, SeatSplit};
+use crate::rule::Rule;
 use crate::steps;
 use atomic_table::{Refused, Seat, Table};
 use std::alloc::{AllocError, Global};
@@ -44,20 +44,20 @@ const OLD_FLAG: usize = 3;
 
 const FIRST_CELL: usize = 10;
 
-/// A seat of a table: an actor of the machine, with the values that it has out.
+/// A seat of the words: an actor of the machine, with the values that it has out.
 pub type WordSeat<S> = Seat<S, Actor>;
 
 /// The shared words with the slots behind their turns, under the rule.
 #[derive(Drop)]
 pub struct Words<S: HoldsPart + Drop> {
-    table: Table<S, Actor, Opening, Law<S>, Global>,
+    table: Table<S, Actor, Opening, Rule<S>, Global>,
 }
 
 impl<S: HoldsPart + Drop> Model for Words<S> {
     ghost use Rattle.std.specs.Prelude.{◌≡◌, ◌+◌, ◌≤◌};
-    ghost use Rattle.wp_rule.specs.Words.{Store};
+    ghost use Rattle.wp_rule.specs.Words.{SharedWords};
 
-    ghost Value = { Store };
+    ghost Value = { SharedWords };
 
     ghost view = { λ w. record { table = w.table.shared.table_id; opened = w.table.shared.key.entries.value.items; cells = w.table.shared.key.cells } };
 
@@ -183,57 +183,60 @@ impl<S: HoldsPart + Drop> Words<S> {
         requires next { MayPublishAs (place_of self.now seat.old.id) seat.old.me.0 p }
         ensures same { (seat.new.table_id ≡ seat.old.table_id) × (seat.new.id ≡ seat.old.id) × (seat.new.me.1 ≡ seat.old.me.1) }
         ensures published { (t : WriteTable) (entry : Entry) (others : List Entry) → IsIn (writes t) seat.old.me.0.held → t.pending ≡ entry ∷ others
-            → Stepped (place_of self.now seat.old.id) (step.store_published entry others) (λ w. w.writes ≡ t) seat.old.me.0 seat.new.me.0 }
+            → Moved (place_of self.now seat.old.id) (λ w. step.store_published entry others ∷ []) (λ w. w.writes ≡ t) seat.old.me.0 seat.new.me.0 }
     {
         steps::store::<S, Brand>(&self.table.shared, seat, PUBLISHED, p);
     }
 
-    /// Raises the evicted bound; in the same step each number of the prepared heap up to it moves to the delayed set.
+    /// Raises the evicted bound; in the same step each number of the prepared heap up to it moves to the delayed set. The seat
+    /// notes the bound with the words of the cache.
     pub fn store_max(&self, seat: &mut WordSeat<S>, m: Seq)
         requires seat { seat.old.table_id ≡ self.now.table }
         requires may { MayStep (place_of self.now seat.old.id) seat.old.me.0 (store_max_evicted m) }
         ensures same { (seat.new.table_id ≡ seat.old.table_id) × (seat.new.id ≡ seat.old.id) × (seat.new.me.1 ≡ seat.old.me.1) }
-        ensures stepped { Stepped (place_of self.now seat.old.id) (store_max_evicted m) (λ w. Unit {0}) seat.old.me.0 seat.new.me.0 }
+        ensures moved { Moved (place_of self.now seat.old.id) (storing_max m) (λ w. Unit {0}) seat.old.me.0 seat.new.me.0 }
     {
         steps::store::<S, Brand>(&self.table.shared, seat, MAX, m);
     }
 
-    /// Puts the pair of this word into its place of the cache.
+    /// Puts the pair of this word into its place of the cache. The seat notes the words of the cache with the bound.
     pub fn store_word(&self, seat: &mut WordSeat<S>, i: usize, word: u64)
         requires seat { seat.old.table_id ≡ self.now.table }
         requires pair { (pair : CommitPair) × (word ≡ word_of pair) × (pair_of word ≡ Some pair) × (i < self.now.cells) × (i ≡ cache_place self.now.cells pair.number)
             × MayStep (place_of self.now seat.old.id) seat.old.me.0 (step.store_word pair) }
         ensures same { (seat.new.table_id ≡ seat.old.table_id) × (seat.new.id ≡ seat.old.id) × (seat.new.me.1 ≡ seat.old.me.1) }
-        ensures stepped { (pair : CommitPair) → pair_of word ≡ Some pair → Stepped (place_of self.now seat.old.id) (step.store_word pair) (λ w. Unit {0}) seat.old.me.0 seat.new.me.0 }
+        ensures moved { (pair : CommitPair) → pair_of word ≡ Some pair → Moved (place_of self.now seat.old.id) (storing_word pair) (λ w. Unit {0}) seat.old.me.0 seat.new.me.0 }
     {
         steps::store::<S, Brand>(&self.table.shared, seat, FIRST_CELL + i, word);
     }
 
+    /// Stores the flag of what is delayed, and notes it.
     pub fn store_delayed_flag(&self, seat: &mut WordSeat<S>, value: u64)
         requires seat { seat.old.table_id ≡ self.now.table }
         requires may { MayStep (place_of self.now seat.old.id) seat.old.me.0 (step.store_delayed_flag value) }
         ensures same { (seat.new.table_id ≡ seat.old.table_id) × (seat.new.id ≡ seat.old.id) × (seat.new.me.1 ≡ seat.old.me.1) }
-        ensures stepped { Stepped (place_of self.now seat.old.id) (step.store_delayed_flag value) (λ w. Unit {0}) seat.old.me.0 seat.new.me.0 }
+        ensures moved { Moved (place_of self.now seat.old.id) (λ w. step.store_delayed_flag value ∷ note (delayed_flag_stays value) ∷ []) (λ w. Unit {0}) seat.old.me.0 seat.new.me.0 }
     {
         steps::store::<S, Brand>(&self.table.shared, seat, DELAYED_FLAG, value);
     }
 
+    /// Stores the flag of the old commit map, and notes it.
     pub fn store_old_flag(&self, seat: &mut WordSeat<S>, value: u64)
         requires seat { seat.old.table_id ≡ self.now.table }
         requires may { MayStep (place_of self.now seat.old.id) seat.old.me.0 (step.store_old_flag value) }
         ensures same { (seat.new.table_id ≡ seat.old.table_id) × (seat.new.id ≡ seat.old.id) × (seat.new.me.1 ≡ seat.old.me.1) }
-        ensures stepped { Stepped (place_of self.now seat.old.id) (step.store_old_flag value) (λ w. Unit {0}) seat.old.me.0 seat.new.me.0 }
+        ensures moved { Moved (place_of self.now seat.old.id) (λ w. step.store_old_flag value ∷ note (old_flag_stays value) ∷ []) (λ w. Unit {0}) seat.old.me.0 seat.new.me.0 }
     {
         steps::store::<S, Brand>(&self.table.shared, seat, OLD_FLAG, value);
     }
 
-    /// One try to take a turn: false exactly where the turn was found held.
+    /// One try to take a turn: false exactly where the turn was found held. The seat notes what the turn guards besides its table.
     pub fn claim(&self, seat: &mut WordSeat<S>, turn: Turn) -> bool
         requires seat { seat.old.table_id ≡ self.now.table }
         requires live { seat.old.me.0.live ≡ true }
         ensures same { (seat.new.table_id ≡ seat.old.table_id) × (seat.new.id ≡ seat.old.id) }
         ensures turn { MatchBool result
-            (Took S.content S.tells (place_of self.now seat.old.id) (turn_of turn) seat.old.me seat.new.me)
+            (Claimed S.content S.tells (place_of self.now seat.old.id) (turn_of turn) seat.old.me seat.new.me)
             (WasHeld S.content S.tells (place_of self.now seat.old.id) (turn_of turn) seat.old.me seat.new.me) }
     {
         steps::claim::<S, Brand>(&self.table.shared, seat, turn)
@@ -244,15 +247,17 @@ impl<S: HoldsPart + Drop> Words<S> {
         requires seat { seat.old.table_id ≡ self.now.table }
         requires turn { MayUnclaim S.content S.tells (place_of self.now seat.old.id) (turn_of turn) seat.old.me }
         ensures same { (seat.new.table_id ≡ seat.old.table_id) × (seat.new.id ≡ seat.old.id) × (seat.new.me.1 ≡ rest seat.old.me.1) }
-        ensures stepped { Stepped (place_of self.now seat.old.id) (give_turn (turn_of turn)) (λ w. Unit {0}) seat.old.me.0 seat.new.me.0 }
+        ensures moved { Moved (place_of self.now seat.old.id) (λ w. give_turn (turn_of turn) ∷ []) (λ w. Unit {0}) seat.old.me.0 seat.new.me.0 }
     {
         steps::unclaim::<S, Brand>(&self.table.shared, seat, turn);
     }
 
-    /// Puts a value into the slot of the turn that was taken last, for the one that lies there. The view stays as it is.
+    /// Puts a value into the slot of the turn that was taken last, for the one that lies there: one that stands in for it, or
+    /// home again the turn's table as the seat left it. The view stays as it is.
     pub fn exchange(&self, seat: &mut WordSeat<S>, turn: Turn, value: S) -> S
         requires seat { seat.old.table_id ≡ self.now.table }
         requires turn { (x : S) × (seat.old.me.1 ≡ (turn_index (turn_of turn), x) ∷ rest seat.old.me.1) }
+        requires value { MayLie S.content S.tells (turn_of turn) seat.old.me.0 value }
         ensures same { (seat.new.table_id ≡ seat.old.table_id) × (seat.new.id ≡ seat.old.id) }
         ensures out { seat.old.me.1 ≡ (turn_index (turn_of turn), result) ∷ rest seat.old.me.1 }
         ensures home { seat.new.me ≡ (seat.old.me.0, (turn_index (turn_of turn), value) ∷ rest seat.old.me.1) }
@@ -268,7 +273,7 @@ impl<S: HoldsPart + Drop> Words<S> {
         ensures same { (seat.new.table_id ≡ seat.old.table_id) × (seat.new.id ≡ seat.old.id) × (seat.new.me ≡ seat.old.me) }
         ensures note { (result.table_id ≡ self.now.table) × (result.me ≡ (new_actor false seat.old.me.0.participant.client seat.old.me.0.participant.seen, [])) }
     {
-        self.table.shared.split_seat::<Noted>(seat)
+        self.table.shared.split_seat::<NoteSplit>(seat)
     }
 
     /// Another seat of the same client, which the first one makes.
@@ -277,7 +282,7 @@ impl<S: HoldsPart + Drop> Words<S> {
         ensures same { (seat.new.table_id ≡ seat.old.table_id) × (seat.new.id ≡ seat.old.id) × (seat.new.me ≡ (made_one seat.old.me.0, seat.old.me.1)) }
         ensures seat { (result.table_id ≡ self.now.table) × (result.me ≡ (new_actor true seat.old.me.0.participant.client seat.old.me.0.participant.seen, [])) }
     {
-        self.table.shared.split_seat::<Seated>(seat)
+        self.table.shared.split_seat::<SeatSplit>(seat)
     }
 
     /// Takes in a note, and loads the published number: the seat has then seen what it and the note had.
@@ -288,7 +293,7 @@ impl<S: HoldsPart + Drop> Words<S> {
         ensures seen { (h : List Entry) × (seat.new.me ≡ (sees h seat.old.me.0, seat.old.me.1)) × (result ≡ length h)
             × StartsWith h note.me.0.participant.seen × StartsWith h seat.old.me.0.participant.seen × IsLegal h }
     {
-        self.table.shared.join_seat::<Informed>(seat, note);
+        self.table.shared.join_seat::<LearnJoin>(seat, note);
         self.load_published(seat)
     }
 
@@ -299,7 +304,7 @@ impl<S: HoldsPart + Drop> Words<S> {
         ensures same { (first.new.table_id ≡ first.old.table_id) × (first.new.id ≡ first.old.id) }
         ensures joined { first.new.me ≡ (joins first.old.me.0 other.me.0, first.old.me.1) }
     {
-        self.table.shared.join_seat::<Joined>(first, other);
+        self.table.shared.join_seat::<SeatJoin>(first, other);
     }
 
     /// Ends the table, where the first seat has taken in all that it made, and none holds a turn.
@@ -324,11 +329,11 @@ impl<S: HoldsPart + Drop> Words<S> {
 
     /// Sleeps while the turn is held, until a wake. It may also return for no reason.
     pub fn park<R: Wait>(&self, rt: &R, turn: Turn) {
-        self.table.shared.park(rt, steps::word_of(turn), 1);
+        self.table.shared.park(rt, steps::turn_place(turn), 1);
     }
 
     /// Wakes one that sleeps on the turn, if there is one.
     pub fn wake_one(&self, turn: Turn) {
-        self.table.shared.wake_one(steps::word_of(turn));
+        self.table.shared.wake_one(steps::turn_place(turn));
     }
 }

@@ -1,5 +1,5 @@
 use Rattle.std.proofs.Common.{rules}
-use Rattle.wp_rule.proofs.Rule.{loads}
+use Rattle.wp_rule.proofs.KeepsRule.{loads}
 use Rattle.wp_rule.proofs.steps.load.Goals as goal
 
 pub load-requires : goal.load-requires

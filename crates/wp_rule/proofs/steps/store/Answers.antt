@@ -1,5 +1,5 @@
 use Rattle.std.proofs.Common.{rules}
-use Rattle.wp_rule.proofs.Rule.{stores}
+use Rattle.wp_rule.proofs.KeepsRule.{stores}
 use Rattle.wp_rule.proofs.steps.store.Goals as goal
 
 pub store-requires : goal.store-requires

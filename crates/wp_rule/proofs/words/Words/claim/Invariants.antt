@@ -1,6 +1,6 @@
 use Rattle.wp_machine.specs.Parts.{turn_of}
-use Rattle.wp_rule.specs.Keys.{place_under}
+use Rattle.wp_rule.specs.Words.{place_under}
 use Rattle.wp_rule.proofs.words.Words.claim.Given as goal
 
 abbrev pub ghosts-claim : goal.ghosts-claim
-ghosts-claim g a = record { place = place_under a.board.now.key a.seat.now.id; turn = turn_of a.turn }
+ghosts-claim g a = record { place = place_under a.table.now.key a.seat.now.id; turn = turn_of a.turn }

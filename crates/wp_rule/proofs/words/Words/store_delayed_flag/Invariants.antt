@@ -1,7 +1,8 @@
 use Rattle.std.specs.Prelude.{[], ◌∷◌}
-use Rattle.wp_core.specs.Steps.{store_delayed_flag}
-use Rattle.wp_rule.specs.Keys.{place_under}
+use Rattle.wp_core.specs.Steps.{store_delayed_flag, note}
+use Rattle.wp_core.specs.Views.{delayed_flag_stays}
+use Rattle.wp_rule.specs.Words.{place_under}
 use Rattle.wp_rule.proofs.words.Words.store_delayed_flag.Given as goal
 
 abbrev pub ghosts-store : goal.ghosts-store
-ghosts-store g a = record { place = place_under a.board.now.key a.seat.now.id; steps = λ w. store_delayed_flag a.n ∷ [] }
+ghosts-store g a = record { place = place_under a.table.now.key a.seat.now.id; steps = λ w. store_delayed_flag a.n ∷ note (delayed_flag_stays a.n) ∷ [] }

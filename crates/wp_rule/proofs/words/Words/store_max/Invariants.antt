@@ -1,7 +1,6 @@
-use Rattle.std.specs.Prelude.{[], ◌∷◌}
-use Rattle.wp_core.specs.Steps.{store_max_evicted}
-use Rattle.wp_rule.specs.Keys.{place_under}
+use Rattle.wp_rule.specs.Words.{place_under}
+use Rattle.wp_rule.specs.Moves.{storing_max}
 use Rattle.wp_rule.proofs.words.Words.store_max.Given as goal
 
 abbrev pub ghosts-store : goal.ghosts-store
-ghosts-store g a = record { place = place_under a.board.now.key a.seat.now.id; steps = λ w. store_max_evicted a.n ∷ [] }
+ghosts-store g a = record { place = place_under a.table.now.key a.seat.now.id; steps = storing_max a.n }

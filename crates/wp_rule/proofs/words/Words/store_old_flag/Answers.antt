@@ -1,13 +1,14 @@
-use Rattle.std.proofs.Common.{sym, subst}
-use Rattle.wp_core.specs.Steps.{store_old_flag}
-use Rattle.wp_rule.specs.Words.{Store, place_of}
-use Rattle.wp_rule.specs.Moves.{MayStep, Stepped}
-use Rattle.wp_rule.proofs.Stepped.{stepped_of}
+use Rattle.std.proofs.Common.{[], ◌∷◌, sym, subst}
+use Rattle.wp_core.specs.Steps.{store_old_flag, note}
+use Rattle.wp_core.specs.Views.{old_flag_stays}
+use Rattle.wp_rule.specs.Words.{SharedWords, place_of}
+use Rattle.wp_rule.specs.Moves.{MayStep, Moved}
 use Rattle.wp_rule.proofs.Stores.{may_old}
 use Rattle.wp_rule.proofs.words.Words.store_old_flag.Goals as goal
 
 pub store-requires-clause-may : goal.store-requires-clause-may
-store-requires-clause-may g c = may_old _ _ _ (subst (λ (z : Store). MayStep (place_of z c.args.seat.now.id) c.args.seat.now.me.0 (store_old_flag c.args.value)) (sym c.self.view_is) c.requires.may)
+store-requires-clause-may g c = may_old _ _ _ (subst (λ (z : SharedWords). MayStep (place_of z c.args.seat.now.id) c.args.seat.now.me.0 (store_old_flag c.args.value)) (sym c.self.view_is) c.requires.may)
 
-pub returns-clause-stepped : goal.returns-clause-stepped
-returns-clause-stepped g c = subst (λ (z : Store). Stepped (place_of z c.args.seat.now.id) (store_old_flag c.args.value) (λ w. Unit {0}) c.args.seat.now.me.0 c.store.new.seat.me.0) c.self.view_is (stepped_of _ _ _ _ _ c.store.ensures.moved)
+pub returns-clause-moved : goal.returns-clause-moved
+returns-clause-moved g c =
+    subst (λ (z : SharedWords). Moved (place_of z c.args.seat.now.id) (λ w. store_old_flag c.args.value ∷ note (old_flag_stays c.args.value) ∷ []) (λ w. Unit {0}) c.args.seat.now.me.0 c.store.new.seat.me.0) c.self.view_is c.store.ensures.moved

@@ -1,6 +1,6 @@
 use Rattle.wp_rule.specs.Moves.{publishing}
-use Rattle.wp_rule.specs.Keys.{place_under}
+use Rattle.wp_rule.specs.Words.{place_under}
 use Rattle.wp_rule.proofs.words.Words.store_published.Given as goal
 
 abbrev pub ghosts-store : goal.ghosts-store
-ghosts-store g a = record { place = place_under a.board.now.key a.seat.now.id; steps = λ w. publishing w.writes.pending }
+ghosts-store g a = record { place = place_under a.table.now.key a.seat.now.id; steps = λ w. publishing w.writes.pending }

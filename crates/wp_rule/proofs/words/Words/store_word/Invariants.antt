@@ -1,7 +1,7 @@
 use Rattle.wp_judge.specs.Words.{pair_of}
+use Rattle.wp_rule.specs.Words.{place_under}
 use Rattle.wp_rule.specs.Moves.{storing}
-use Rattle.wp_rule.specs.Keys.{place_under}
 use Rattle.wp_rule.proofs.words.Words.store_word.Given as goal
 
 abbrev pub ghosts-store : goal.ghosts-store
-ghosts-store g a = record { place = place_under a.board.now.key a.seat.now.id; steps = λ w. storing (pair_of a.n) }
+ghosts-store g a = record { place = place_under a.table.now.key a.seat.now.id; steps = storing (pair_of a.n) }

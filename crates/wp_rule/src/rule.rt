@@ -9,11 +9,11 @@ use atomic_table::TableRule;
 use std::marker::PhantomData;
 use wp_machine::Actor;
 
-pub struct Law<S> {
+pub struct Rule<S> {
     of: PhantomData<S>,
 }
 
-impl<S: HoldsPart> TableRule<S, Actor, Opening> for Law<S> {
+impl<S: HoldsPart> TableRule<S, Actor, Opening> for Rule<S> {
     ghost holds = { λ key. Shows S.content S.tells key.entries.value.items key.cells };
 
     ghost first = { λ key. new_actor true key.client.value key.entries.value.items };

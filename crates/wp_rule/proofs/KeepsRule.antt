@@ -1,6 +1,6 @@
 -- Each atomic step keeps the rule.
 use Rattle.std.specs.Prelude.{MatchBool}
-use Rattle.std.proofs.Common.{◌≡◌, ◌≢◌, ℕ, ◌<◌, eqb, true, List, [], ◌∷◌, length, get_or, set, refl, sym, subst, ap, ◌∙◌, Option, Some, None, length-set, eq-eqb, ne_eqb, arith}
+use Rattle.std.proofs.Common.{◌≡◌, ◌≢◌, ℕ, ◌<◌, eqb, true, List, length, get_or, set, refl, sym, subst, ap, ◌∙◌, inl, Option, Some, None, length-set, eq-eqb, ne_eqb, arith}
 use mathlib.Core.Option.{some, none}
 use mathlib.Core.Option as maybe
 use mathlib.Core.Logic.{dite}
@@ -12,24 +12,22 @@ use Rattle.atomic_table.specs.Table.{State, Me, step, Act, keeps, takes, gives, 
 use Rattle.atomic_table.proofs.Lists.{set_here, set_else, set_again, exchanged}
 use Rattle.wp_model.specs.declared.entry.Entry.{Entry}
 use Rattle.wp_core.specs.Turns.{Turn, write_turn, prepared_turn, snapshots_turn, store_turn, locks_turn, tables_turn, turn_holder, with_holder}
-use Rattle.wp_core.specs.Tables.{Content, turn_of}
+use Rattle.wp_core.specs.Tables.{Content}
 use Rattle.wp_core.specs.World.{Actor, World, content_of}
-use Rattle.wp_core.specs.Changes.{turn_index, held_without}
-use Rattle.wp_core.specs.Steps.{Step, take_turn, give_turn}
-use Rattle.wp_core.specs.Effects.{done}
-use Rattle.wp_core.specs.Notes.{forgets}
+use Rattle.wp_core.specs.Changes.{turn_index}
+use Rattle.wp_core.specs.Steps.{Step, give_turn}
 use Rattle.wp_core.specs.Runs.{Reaches}
 use Rattle.wp_core.proofs.Frames.{here}
 use Rattle.wp_core.proofs.Gives.{now_holder, other_holder, same_turn}
 use Rattle.wp_rule.specs.Words.{turn_word, words_of, turn_place, Place, IsAt}
-use Rattle.wp_rule.specs.Moves.{Makes, MayMake, MayStore, Left}
+use Rattle.wp_rule.specs.Moves.{world_after_step, actor_after_step, world_after, actor_after, MayMake, MayStore, Leave}
 use Rattle.wp_rule.specs.Shows.{IsPart, Rests, Shows}
 use Rattle.wp_rule.specs.Plays as plays
-use Rattle.wp_rule.specs.Plays.{Took, WasHeld}
-use Rattle.wp_rule.specs.Keys.{MayUnclaim}
-use Rattle.wp_rule.proofs.Forgets.{forgets_nothing, take_ends}
-use Rattle.wp_rule.proofs.Knows.{held_is}
-use Rattle.wp_rule.proofs.Quiet.{quiet_steps, there_after, made_reached, same_contents}
+use Rattle.wp_rule.specs.Plays.{MayUnclaim, taking, with_turn}
+use Rattle.wp_rule.proofs.Knows.{at_sound, held_is}
+use Rattle.wp_rule.proofs.Needed.{needed}
+use Rattle.wp_rule.proofs.Quiet.{quiet_steps, quiet_reached, there_after, same_contents, reached_next}
+use Rattle.wp_rule.proofs.Takes.{table_of, taking_is_met, actor_taken, world_taken, taking_reached, may_give, knows_give}
 
 -- ---- the words of the turns
 
@@ -56,14 +54,6 @@ turn_low snapshots_turn = omega arith
 turn_low store_turn = omega arith
 turn_low locks_turn = omega arith
 turn_low tables_turn = omega arith
-
-table_of : (w : World) (turn : Turn) → turn_of (content_of w turn) ≡ turn
-table_of w write_turn = refl
-table_of w prepared_turn = refl
-table_of w snapshots_turn = refl
-table_of w store_turn = refl
-table_of w locks_turn = refl
-table_of w tables_turn = refl
 
 free_word : (h : Option ℕ) → turn_word h ≡ 0 → h ≡ None
 free_word None e = refl
@@ -101,8 +91,8 @@ module _ {S : Type 0} (content : S → Option Content) (tells : S → Type 0) (o
   rests_still h h' c c' home e same r = subst (λ (x : Option ℕ). Rests content tells x c' home) (sym e) (rests_again h c c' home same r)
 
   -- steps that leave the turns, with these words
-  left : (s : St) (r : Rule s) (id : ℕ) (words words' : List ℕ) (last : World) → Reaches last → (l : Left id r.world words last) → words' ≡ words → Rule record { words = words'; homes = s.homes; views = set s.views id l.actor }
-  left s r id words words' last reached l same = record {
+  left : (s : St) (r : Rule s) (id : ℕ) (words words' : List ℕ) (last : World) (b : Actor) → Reaches last → Leave id r.world words last b → words' ≡ words → Rule record { words = words'; homes = s.homes; views = set s.views id b }
+  left s r id words words' last b reached l same = record {
     world = last;
     reached = reached;
     opened_is = l.opened ∙ r.opened_is;
@@ -110,34 +100,32 @@ module _ {S : Type 0} (content : S → Option Content) (tells : S → Type 0) (o
     words = same ∙ sym l.words_are;
     deep = r.deep;
     rests = λ turn. rests_still (turn_holder r.world.holders turn) (turn_holder last.holders turn) (content_of r.world turn) (content_of last turn) (get_elem? s.homes (turn_index turn)) (ap (λ h. turn_holder h turn) l.holders) (l.contents turn) (r.rests turn);
-    views = ap (λ (views : List Actor). set views id l.actor) r.views ∙ sym l.actors;
+    views = ap (λ (views : List Actor). set views id b) r.views ∙ sym l.actors;
   }
 
-  at_last : (s : St) (r : Rule s) (id : ℕ) (a : Actor) (words : List ℕ) (last : World) → get_elem? s.views id ≡ some a → Reaches last → (l : Left id r.world words last) → IsAt (place id) l.actor last
-  at_last s r id a words last at reached l = let k = at_world s r id a at in record { reached = reached; opened = l.opened ∙ k.opened; cells = l.cells ∙ k.cells; there = there_after r.world last id a words k.there l }
+  at_last : (s : St) (r : Rule s) (id : ℕ) (a b : Actor) (words : List ℕ) (last : World) → get_elem? s.views id ≡ some a → Reaches last → Leave id r.world words last b → IsAt (place id) b last
+  at_last s r id a b words last at reached l = let k = at_world s r id a at in record { reached = reached; opened = l.opened ∙ k.opened; cells = l.cells ∙ k.cells; there = there_after r.world last id a b words k.there l }
 
   pub loads : (slots id i : ℕ) (m : Me S Actor) (p : Place) (steps : World → List Step) → p ≡ place id → MayMake p m.0 steps → Allows Rule slots id m i (λ n. n) (plays.loads p steps (step slots i 0 0 none) m)
   loads slots id i m p steps is may = subst (λ (q : Place). MayMake q m.0 steps → Allows Rule slots id m i (λ n. n) (plays.loads q steps (step slots i 0 0 none) m)) (sym is) (λ may' s r deep at low.
-      let k = at_world s r id m.0 at in let d = may' r.world k in let last : World = d.1.0 in
-      let reached : Reaches last = made_reached id (steps r.world) r.world last r.reached d.1.1 in
-      let l : Left id r.world (words_of r.world) last = quiet_steps id (steps r.world) r.world last m.0 k.there d.0 d.1.1 in (
-        l.actor,
+      let w = r.world in let k = at_world s r id m.0 at in let d = may' w k in let last : World = world_after (steps w) w id m.0 in let b : Actor = actor_after (steps w) w id m.0 in
+      let reached : Reaches last = quiet_reached (steps w) w id m.0 k.there r.reached d.0 d.1 in
+      let l = quiet_steps (steps w) w id m.0 k.there d.0 d.1 in (
+        b,
         keeps,
         tt,
-        left s r id (words_of r.world) (set s.words i (get_or s.words i 0)) last reached l (set-get_or s.words i 0 ∙ r.words),
-        (refl, record { world = r.world; last = last; before = k; made = d.1.1; after = at_last s r id m.0 (words_of r.world) last at reached l; so_is = ap (λ (words : List ℕ). get_or words i 0) r.words }),
+        left s r id (words_of w) (set s.words i (get_or s.words i 0)) last b reached l (set-get_or s.words i 0 ∙ r.words),
+        (refl, record { world = w; before = k; met = d.1; after = at_last s r id m.0 b (words_of w) last at reached l; actor = refl; so_is = ap (λ (words : List ℕ). get_or words i 0) r.words }),
       )) may
 
   pub stores : (slots id i n : ℕ) (m : Me S Actor) (p : Place) (steps : World → List Step) → p ≡ place id → MayStore p m.0 steps i n → Allows Rule slots id m i (λ _. n) (λ _. plays.stores p steps (step slots i n 0 none) m n)
   stores slots id i n m p steps is may = subst (λ (q : Place). MayStore q m.0 steps i n → Allows Rule slots id m i (λ _. n) (λ _. plays.stores q steps (step slots i n 0 none) m n)) (sym is) (λ may' s r deep at low.
-      let k = at_world s r id m.0 at in let d = may' r.world k in let last : World = d.0 in
-      let reached : Reaches last = made_reached id (steps r.world) r.world last r.reached d.1 in
-      let l : Left id r.world (set (words_of r.world) i n) last = d.2 in (
-        l.actor,
+      let w = r.world in let k = at_world s r id m.0 at in let d = may' w k in let last : World = world_after (steps w) w id m.0 in let b : Actor = actor_after (steps w) w id m.0 in (
+        b,
         keeps,
         tt,
-        left s r id (set (words_of r.world) i n) (set s.words i n) last reached l (ap (λ (words : List ℕ). set words i n) r.words),
-        (refl, record { world = r.world; last = last; before = k; made = d.1; after = at_last s r id m.0 (set (words_of r.world) i n) last at reached l; so_is = tt }),
+        left s r id (set (words_of w) i n) (set s.words i n) last b d.1 d.2 (ap (λ (words : List ℕ). set words i n) r.words),
+        (refl, record { world = w; before = k; met = d.0; after = at_last s r id m.0 b (set (words_of w) i n) last at d.1 d.2; actor = refl; so_is = tt }),
       )) may
 
   -- ---- turns
@@ -176,27 +164,36 @@ module _ {S : Type 0} (content : S → Option Content) (tells : S → Type 0) (o
 
   claimed : (id : ℕ) (turn : Turn) (m : Me S Actor) (s : St) (r : Rule s) → m.0.live ≡ true → get_elem? s.views id ≡ some m.0 → get_or s.words (turn_place turn) 0 ≡ 0 → Claim id turn m s (get_or s.words (turn_place turn) 0) 1
   claimed id turn m s r live at zero =
-      let w = r.world in let k = at_world s r id m.0 at in
+      let w = r.world in let k = at_world s r id m.0 at in let sound = at_sound (place id) m.0 w k in
       let free : turn_holder w.holders turn ≡ None = free_word (turn_holder w.holders turn) (sym (turn_at w turn) ∙ (ap (λ (words : List ℕ). get_or words (turn_place turn) 0) (sym r.words) ∙ zero)) in
       let h = is_home (turn_holder w.holders turn) (content_of w turn) (get_elem? s.homes (turn_index turn)) free (r.rests turn) in
-      let x : S = h.0 in let a : Actor = forgets w.writes.history (length w.cache) (take_turn turn) m.0 in
-      let b : Actor = record a { held = content_of w turn ∷ a.held } in
-      let next : World = done w id a (take_turn turn) in
-      let made : Makes id w (take_turn turn ∷ []) next = (next, (m.0, k.there, (free, live), refl), refl) in
-      let reached : Reaches next = made_reached id (take_turn turn ∷ []) w next r.reached made in
+      let x : S = h.0 in let b : Actor = with_turn turn w m.0 in let may = may_give w turn sound free in
+      let last : World = record w { holders = with_holder w.holders turn (Some id); actors = set w.actors id b } in
+      let met = taking_is_met w id m.0 sound live turn free in let same : world_after (taking turn w) w id m.0 ≡ last = world_taken w id m.0 turn in
+      let reached : Reaches last = subst Reaches same (taking_reached w id m.0 turn k.there r.reached met) in
       let deep = r.deep in let low = turn_low turn in (
         b,
         takes (turn_index turn) x,
         h.1,
-        turned s r id turn (Some id) b next (set s.homes (turn_index turn) none) reached refl (length-set s.homes (turn_index turn) none ∙ r.deep) (set_here s.homes (turn_index turn) none (omega arith)) (λ u ne. set_else s.homes (turn_index turn) u none ne),
+        turned s r id turn (Some id) b last (set s.homes (turn_index turn) none) reached refl (length-set s.homes (turn_index turn) none ∙ r.deep) (set_here s.homes (turn_index turn) none (omega arith)) (λ u ne. set_else s.homes (turn_index turn) u none ne),
         (
           (λ zero'. record {
-            part = x;
-            table = content_of w turn;
-            of_turn = table_of w turn;
-            is_part = h.2;
-            after = ap (λ (y : Actor). (record y { held = content_of w turn ∷ y.held }, (turn_index turn, x) ∷ m.1)) (forgets_nothing w.writes.history (length w.cache) (take_turn turn) m.0 (take_ends turn));
-            stepped = record { world = w; before = k; needs = (free, live); after = record { reached = reached; opened = k.opened; cells = k.cells; there = here w.actors id m.0 b k.there }; so_is = (free, refl) };
+            value = x;
+            moved = record {
+              world = w;
+              before = k;
+              met = met;
+              after = subst (IsAt (place id) b) (sym same) (record { reached = reached; opened = k.opened; cells = k.cells; there = here w.actors id m.0 b k.there });
+              actor = sym (actor_taken w id m.0 turn);
+              so_is = (free, h.2, may);
+            };
+            after = refl;
+            back = record {
+              value = x;
+              last_taken = refl;
+              left = record { table = content_of w turn; held = inl refl; of_turn = table_of w turn; is_part = h.2 };
+              may = λ v there. needed (place id) b v there (give_turn turn) (knows_give w m.0 turn may);
+            };
           }),
           λ ne. absurd (ne zero),
         ),
@@ -228,30 +225,27 @@ module _ {S : Type 0} (content : S → Option Content) (tells : S → Type 0) (o
   -- ---- giving
 
   given : (id : ℕ) (turn : Turn) (m : Me S Actor) → MayUnclaim content tells (place id) turn m
-      → Allows Rule 6 id m (turn_place turn) (λ _. 0) (λ _. plays.gives (place id) turn (step 6 (turn_place turn) 0 0 none) m 0)
+      → Allows Rule 6 id m (turn_place turn) (λ _. 0) (λ _. plays.unclaims (place id) turn (step 6 (turn_place turn) 0 0 none) m 0)
   given id turn m may s r deep at low =
-      let w = r.world in let k = at_world s r id m.0 at in let n = may.may w k in
-      let has = held_is (place id) m.0 w may.table k may.held in
-      let same : content_of w turn ≡ may.table = subst (λ (t : Turn). content_of w t ≡ may.table) may.of_turn has.1 in
+      let w = r.world in let k = at_world s r id m.0 at in let n = may.may w k in let it = may.left in
+      let has = held_is (place id) m.0 w it.table k it.held in
+      let same : content_of w turn ≡ it.table = subst (λ (t : Turn). content_of w t ≡ it.table) it.of_turn has.1 in
       let out : get_elem? s.homes (turn_index turn) ≡ some none = is_out (turn_holder w.holders turn) id (content_of w turn) (get_elem? s.homes (turn_index turn)) n.0 (r.rests turn) in
-      let a : Actor = forgets w.writes.history (length w.cache) (give_turn turn) m.0 in
-      let b : Actor = record a { held = held_without a.held turn } in
-      let next : World = done w id a (give_turn turn) in
-      let made : Makes id w (give_turn turn ∷ []) next = (next, (m.0, k.there, n, refl), refl) in
-      let reached : Reaches next = made_reached id (give_turn turn ∷ []) w next r.reached made in
-      let homes : List (maybe.Option S) = set s.homes (turn_index turn) (some may.part) in
+      let b : Actor = actor_after_step w m.0 (give_turn turn) in let next : World = world_after_step w id m.0 (give_turn turn) in
+      let reached : Reaches next = reached_next w id m.0 (give_turn turn) k.there r.reached n in
+      let homes : List (maybe.Option S) = set s.homes (turn_index turn) (some may.value) in
       let back : put_back s.homes m.1 ≡ homes = ap (put_back s.homes) may.last_taken in
       let six = r.deep in let under = turn_low turn in (
         b,
         gives,
         tt,
         subst (λ (z : List (maybe.Option S)). Rule record { words = set s.words (turn_place turn) 0; homes = z; views = set s.views id b }) (sym back)
-            (turned s r id turn None b next homes reached refl (length-set s.homes (turn_index turn) (some may.part) ∙ r.deep)
-            (may.part, set_here s.homes (turn_index turn) (some may.part) (omega arith), (may.is_part.0 ∙ ap Some (sym same), may.is_part.1)) (λ u ne. set_else s.homes (turn_index turn) u (some may.part) ne)),
-        (refl, record { world = w; before = k; needs = n; after = record { reached = reached; opened = k.opened; cells = k.cells; there = here w.actors id m.0 b k.there }; so_is = tt }),
+            (turned s r id turn None b next homes reached refl (length-set s.homes (turn_index turn) (some may.value) ∙ r.deep)
+            (may.value, set_here s.homes (turn_index turn) (some may.value) (omega arith), (it.is_part.0 ∙ ap Some (sym same), it.is_part.1)) (λ u ne. set_else s.homes (turn_index turn) u (some may.value) ne)),
+        (refl, record { world = w; before = k; met = (n, tt); after = record { reached = reached; opened = k.opened; cells = k.cells; there = here w.actors id m.0 b k.there }; actor = refl; so_is = tt }),
       )
 
   pub unclaims : (slots id word : ℕ) (m : Me S Actor) (p : Place) (turn : Turn) → p ≡ place id → word ≡ turn_place turn → MayUnclaim content tells p turn m
-      → Allows Rule slots id m word (λ _. 0) (λ _. plays.gives p turn (step slots word 0 0 none) m 0)
+      → Allows Rule slots id m word (λ _. 0) (λ _. plays.unclaims p turn (step slots word 0 0 none) m 0)
   unclaims slots id word m p turn is which may =
-      subst (λ (q : Place × ℕ). MayUnclaim content tells q.0 turn m → Allows Rule slots id m q.1 (λ _. 0) (λ _. plays.gives q.0 turn (step slots q.1 0 0 none) m 0)) (λ i. (sym is i, sym which i)) (λ may' s r deep at low. given id turn m may' s r r.deep at low) may
+      subst (λ (q : Place × ℕ). MayUnclaim content tells q.0 turn m → Allows Rule slots id m q.1 (λ _. 0) (λ _. plays.unclaims q.0 turn (step slots q.1 0 0 none) m 0)) (λ i. (sym is i, sym which i)) (λ may' s r deep at low. given id turn m may' s r r.deep at low) may

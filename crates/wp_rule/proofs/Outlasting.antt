@@ -1,0 +1,67 @@
+-- What was noted outlasts the steps that do not end it.
+use Rattle.std.proofs.Common.{not, List, [], ◌∷◌, length, inr, ap, ℕ}
+use Rattle.wp_core.specs.Views.{Fact}
+use Rattle.wp_core.specs.World.{Actor, World}
+use Rattle.wp_core.specs.Steps.{Step, note, make_note, learn, join_seat, load_published, register, begin_reading, load, end_reading, store_published, store_max_evicted, store_word, store_delayed_flag, store_old_flag, take_turn, give_turn, make_pending, log_pending, close_log, find_log_closed, drop_pending, add_prepared, take_pending_prepared, add_delayed_commit, take_out, register_again, release, add_old_commit, add_versions, take_versions, move_versions, replace_versions, install, halt, find_flushed, claim_name, take_name, leave_name, free_transaction, lock_key, free_key, lock_direct, free_direct, find_holder, tell, hear, set_batch, set_client, make_seat}
+use Rattle.wp_core.specs.Notes.{ends, forgets}
+use Rattle.wp_core.proofs.Frames.{filter_in}
+use Rattle.wp_rule.specs.Moves.{actor_after_step, world_after_step, actor_after, TakesIn, Outlasts}
+use Rattle.wp_rule.specs.Knows.{Noted}
+
+-- of its notes a step takes from an actor only those that it ends
+left_noted : (w : World) (a : Actor) (step : Step) (fact : Fact) → (TakesIn step → ⊥) → Noted a fact → Noted (forgets w.writes.history (length w.cache) step a) fact → Noted (actor_after_step w a step) fact
+left_noted w a (note other) fact alone there left = inr left
+left_noted w a make_note fact alone there left = there
+left_noted w a (learn other b) fact alone there left = absurd (alone tt)
+left_noted w a (join_seat other b) fact alone there left = absurd (alone tt)
+left_noted w a load_published fact alone there left = left
+left_noted w a (register smallest) fact alone there left = left
+left_noted w a (begin_reading p snapshot) fact alone there left = left
+left_noted w a (load which) fact alone there left = left
+left_noted w a end_reading fact alone there left = left
+left_noted w a (store_published entry others) fact alone there left = left
+left_noted w a (store_max_evicted m) fact alone there left = left
+left_noted w a (store_word pair) fact alone there left = left
+left_noted w a (store_delayed_flag value) fact alone there left = left
+left_noted w a (store_old_flag value) fact alone there left = left
+left_noted w a (take_turn turn) fact alone there left = left
+left_noted w a (give_turn turn) fact alone there left = left
+left_noted w a (make_pending entries) fact alone there left = left
+left_noted w a log_pending fact alone there left = left
+left_noted w a close_log fact alone there left = left
+left_noted w a find_log_closed fact alone there left = left
+left_noted w a drop_pending fact alone there left = left
+left_noted w a add_prepared fact alone there left = left
+left_noted w a take_pending_prepared fact alone there left = left
+left_noted w a (add_delayed_commit pair) fact alone there left = left
+left_noted w a (take_out p) fact alone there left = left
+left_noted w a (register_again s) fact alone there left = left
+left_noted w a (release front r back) fact alone there left = left
+left_noted w a (add_old_commit s p) fact alone there left = left
+left_noted w a (add_versions memory) fact alone there left = left
+left_noted w a (take_versions memory) fact alone there left = left
+left_noted w a (move_versions memory tables) fact alone there left = left
+left_noted w a (replace_versions tables floor) fact alone there left = left
+left_noted w a (install edit compacts) fact alone there left = left
+left_noted w a (halt edit) fact alone there left = left
+left_noted w a find_flushed fact alone there left = left
+left_noted w a (claim_name name) fact alone there left = left
+left_noted w a (take_name name p) fact alone there left = left
+left_noted w a (leave_name name) fact alone there left = left
+left_noted w a (free_transaction name) fact alone there left = left
+left_noted w a (lock_key name t key) fact alone there left = left
+left_noted w a (free_key name t key) fact alone there left = left
+left_noted w a (lock_direct key) fact alone there left = left
+left_noted w a (free_direct key) fact alone there left = left
+left_noted w a (find_holder key holder account) fact alone there left = left
+left_noted w a (tell label) fact alone there left = left
+left_noted w a (hear label n) fact alone there left = left
+left_noted w a (set_batch name t batch) fact alone there left = left
+left_noted w a (set_client client) fact alone there left = left
+left_noted w a make_seat fact alone there left = left
+
+pub outlasts : (fact : Fact) (steps : List Step) (w : World) (by : ℕ) (a : Actor) → Noted a fact → Outlasts fact steps w by a → Noted (actor_after steps w by a) fact
+outlasts fact [] w by a there o = there
+outlasts fact (step ∷ steps) w by a there o =
+    let left : Noted (forgets w.writes.history (length w.cache) step a) fact = filter_in (λ other. not (ends w.writes.history (length w.cache) step other)) fact a.notes (ap not o.1) there in
+    outlasts fact steps (world_after_step w by a step) by (actor_after_step w a step) (left_noted w a step fact o.0 there left) o.2
