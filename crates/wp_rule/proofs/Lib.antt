@@ -12,6 +12,7 @@ pub mod Founds
 pub mod OnlyFirst
 pub mod Ends
 pub mod MadeUp
+pub mod TurnsTaken
 pub mod Accounts
 pub mod MayBeMade
 pub mod Outlasting

@@ -12,6 +12,7 @@ abbrev pub IsHolderIn : LockTables → Option (List ℕ) → Holder → Type 0
 IsHolderIn t (Some key) holder = finite.get t.keys key ≡ Some holder
 IsHolderIn t None holder = (name : List ℕ) × (holder ≡ Txn name) × (is_some (finite.get t.names name) ≡ true)
 
+-- it is this key
 abbrev pub is_key : Option (List ℕ) → List ℕ → Bool
 is_key None key = false
 is_key (Some other) key = bytes_eq other key
@@ -27,9 +28,11 @@ abbrev pub account_by : ℕ → Option (Option (List ℕ)) → Account
 account_by published (Some None) = prepare_at published
 account_by published other = another
 
+-- the account of a holder that is not the finder itself
 abbrev pub account_else : LockTables → ℕ → Holder → Account
 account_else t published (Txn name) = account_by published (finite.get t.names name)
 account_else t published (Client client) = another
 
+-- the account of a holder that this participant finds, where so many entries are published
 abbrev pub account_of : Participant → LockTables → ℕ → Option (List ℕ) → Holder → Account
 account_of p t published key holder = if is_self p key holder then own else account_else t published holder

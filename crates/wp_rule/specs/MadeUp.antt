@@ -17,12 +17,15 @@ use Rattle.wp_machine.specs.Parts.{turn_of}
 abbrev pub one_write : List Entry
 one_write = Write (Put (107 ∷ []) (118 ∷ []) ∷ []) ∷ []
 
+-- whose seat the first one is
 abbrev pub client : List ℕ
 client = 97 ∷ []
 
+-- nothing was flushed
 abbrev pub no_table : InstalledEdit
 no_table = record { flushed = 0; versions = []; tables = 0 }
 
+-- the world that is opened on it, with no table and all versions in memory
 abbrev pub made_up : World
 made_up =
     record {

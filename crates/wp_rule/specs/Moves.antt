@@ -22,6 +22,7 @@ use Rattle.wp_rule.specs.Words.{Place, IsAt, words_of}
 abbrev pub world_after_step : World → ℕ → Actor → Step → World
 world_after_step w by a step = done w by (forgets w.writes.history (length w.cache) step a) step
 
+-- the first of these, or this one where there is none
 abbrev pub first_of : List Actor → Actor → Actor
 first_of [] a = a
 first_of (b ∷ others) a = b

@@ -1,10 +1,10 @@
-//! A table whose slots hold nothing but the name of their turn.
-ghost use Rattle.std.specs.Prelude.{◌≡◌, [], ◌∷◌, List, Some, IfOk, true};
+//! Words over a made-up store. What lies in a slot is the name of its turn.
+ghost use Rattle.std.specs.Prelude.{◌≡◌, [], ◌∷◌, List, IfOk, true};
 ghost use Rattle.wp_core.specs.World.{new_actor};
 ghost use Rattle.wp_machine.specs.declared.turn.Turn.TheVariants as turn;
 ghost use Rattle.wp_rule.specs.MadeUp.{made_up_table, one_write, client};
 
-use crate::{HoldsPart, Turn, WordSeat, Words};
+use crate::{HoldsPart, Parts, Turn, WordSeat, Words};
 use std::alloc::{AllocError, Global};
 use std::marker::Brand;
 use std::test::*;
@@ -22,20 +22,22 @@ impl HoldsPart for Stub {
     ghost tells = { λ stub. Unit {0} };
 }
 
+fn behind(turn: Turn) -> Stub
+    ensures { result ≡ record { turn = turn } }
+{
+    Stub { turn }
+}
+
 fn stubs(alloc: Global) -> Result<Vec<Stub>, AllocError>
     ensures { IfOk result (λ v. v.items ≡ record { turn = turn.Write } ∷ record { turn = turn.Prepared } ∷ record { turn = turn.Snapshots } ∷ record { turn = turn.Store } ∷ record { turn = turn.Locks } ∷ record { turn = turn.Tables } ∷ []) }
 {
     let mut slots = Vec::with_capacity(alloc, 6)?;
-    slots.push(Stub { turn: Turn::Write })?;
-    slots.push(Stub {
-        turn: Turn::Prepared,
-    })?;
-    slots.push(Stub {
-        turn: Turn::Snapshots,
-    })?;
-    slots.push(Stub { turn: Turn::Store })?;
-    slots.push(Stub { turn: Turn::Locks })?;
-    slots.push(Stub { turn: Turn::Tables })?;
+    slots.push(behind(Turn::Write))?;
+    slots.push(behind(Turn::Prepared))?;
+    slots.push(behind(Turn::Snapshots))?;
+    slots.push(behind(Turn::Store))?;
+    slots.push(behind(Turn::Locks))?;
+    slots.push(behind(Turn::Tables))?;
     Ok(slots)
 }
 
@@ -48,7 +50,7 @@ fn entries(alloc: Global) -> Result<Vec<Entry>, Fail>
     Ok(entries)
 }
 
-/// The table with its first seat.
+/// The words with their first seat.
 fn opened(alloc: Global) -> Result<(Words<Stub>, WordSeat<Stub>), Fail>
     ensures words { IfOk result (λ r. (r.0.opened ≡ one_write) × (r.0.cells ≡ 1)) }
     ensures seat { IfOk result (λ r. (r.1.table_id ≡ r.0.table) × (r.1.id ≡ 0) × (r.1.me ≡ (new_actor true client one_write, []))) }
@@ -56,7 +58,7 @@ fn opened(alloc: Global) -> Result<(Words<Stub>, WordSeat<Stub>), Fail>
     let name = Name::read(alloc, b"a")?;
     match Words::new(alloc, &name, &entries(alloc)?, 1, 0, stubs(alloc)?) {
         Ok(made) => Ok(made),
-        Err(_) => Err(Fail::from("no memory for a table")),
+        Err(_) => Err(Fail::from("no memory for the words")),
     }
 }
 
@@ -64,32 +66,85 @@ fn goes_to_a_thread<T: Send>(_seat: &T) {}
 
 fn is_shared_by_threads<T: Sync>(_words: &T) {}
 
-/// Takes the locks turn and gives it with its table as it was; false where the turn was held.
-fn taken_and_given(words: &Words<Stub>, seat: &mut WordSeat<Stub>) -> bool
+/// Takes the six turns in the order in which a call holds them, and gives them in the opposite order, each with its table as it
+/// was. False where one was held.
+fn six_turns(words: &Words<Stub>, seat: &mut WordSeat<Stub>) -> bool
     requires { (seat.old.table_id ≡ words.now.table) × (seat.old.me.0.live ≡ true) × (seat.old.me.1 ≡ []) }
-    ensures { (seat.new.table_id ≡ seat.old.table_id) × (seat.new.id ≡ seat.old.id) × (seat.new.me.1 ≡ []) }
+    ensures same { (seat.new.table_id ≡ seat.old.table_id) × (seat.new.id ≡ seat.old.id) }
+    ensures given { result ≡ true → seat.new.me.1 ≡ [] }
 {
+    if !words.claim(seat, Turn::Tables) {
+        return false;
+    }
+    if !words.claim(seat, Turn::Write) {
+        return false;
+    }
+    if !words.claim(seat, Turn::Prepared) {
+        return false;
+    }
+    if !words.claim(seat, Turn::Snapshots) {
+        return false;
+    }
+    if !words.claim(seat, Turn::Store) {
+        return false;
+    }
     if !words.claim(seat, Turn::Locks) {
         return false;
     }
     words.unclaim(seat, Turn::Locks);
+    words.unclaim(seat, Turn::Store);
+    words.unclaim(seat, Turn::Snapshots);
+    words.unclaim(seat, Turn::Prepared);
+    words.unclaim(seat, Turn::Write);
+    words.unclaim(seat, Turn::Tables);
     true
 }
 
 #[test]
-fn words_of_an_opened_table(rt: HostRuntime) -> Result<(), Fail> {
+fn words_as_they_are_opened(rt: HostRuntime) -> Result<(), Fail> {
     let (words, mut seat) = opened(rt.alloc())?;
     assert_eq!(rt; words.load_published(&mut seat), 1);
     assert_eq!(rt; words.load_max::<Brand>(&mut seat), 1);
     assert_eq!(rt; words.load_word::<Brand>(&mut seat, 0), 0);
+    assert_eq!(rt; words.load_delayed_flag::<Brand>(&mut seat), 0);
+    assert_eq!(rt; words.load_old_flag::<Brand>(&mut seat), 0);
     let note = words.note(&mut seat);
     assert_eq!(rt; words.learn(&mut seat, note), 1);
     goes_to_a_thread(&seat);
     is_shared_by_threads(&words);
-    let mut other = words.seat(&mut seat);
-    let mut third = words.seat(&mut seat);
-    assert!(rt; taken_and_given(&words, &mut third));
-    assert!(rt; words.claim(&mut seat, Turn::Locks));
-    assert!(rt; !words.claim(&mut other, Turn::Locks));
+    Ok(())
+}
+
+#[test]
+fn each_turn_is_taken_and_given(rt: HostRuntime) -> Result<(), Fail> {
+    let (words, mut first) = opened(rt.alloc())?;
+    let mut seat = words.seat(&mut first);
+    assert!(rt; six_turns(&words, &mut seat));
+    let mut second = words.seat(&mut first);
+    let mut third = words.seat(&mut first);
+    assert!(rt; words.claim(&mut second, Turn::Locks));
+    assert!(rt; !six_turns(&words, &mut third));
+    Ok(())
+}
+
+#[test]
+fn what_is_closed_comes_back(rt: HostRuntime) -> Result<(), Fail> {
+    let (words, mut first) = opened(rt.alloc())?;
+    let other = words.seat(&mut first);
+    words.join(&mut first, other);
+    let Parts {
+        write,
+        prepared,
+        snapshots,
+        store,
+        locks,
+        tables,
+    } = words.close(first);
+    assert!(rt; write.turn == Turn::Write);
+    assert!(rt; prepared.turn == Turn::Prepared);
+    assert!(rt; snapshots.turn == Turn::Snapshots);
+    assert!(rt; store.turn == Turn::Store);
+    assert!(rt; locks.turn == Turn::Locks);
+    assert!(rt; tables.turn == Turn::Tables);
     Ok(())
 }
