@@ -6,7 +6,7 @@ use Rattle.wp_gatelog.specs.Moments.{Leaves}
 use Rattle.wp_gatelog.proofs.DurabilityLemmas.{preserves_on}
 use Rattle.wp_tableset.specs.Device.{BeginsWith, KeepsFronts}
 use Rattle.wp_engine.specs.Engine.{EngineState}
-use Rattle.wp_run.specs.Later.{Keeps}
+use Rattle.wp_run.specs.Later.{KeepsDevices}
 
 pub records_same : (magic : List ℕ) (ms : List Moment) → LosesNoRecord magic ms ms
 records_same magic ms = λ id records. ([], refl, tt)
@@ -20,7 +20,7 @@ fronts_same ms = λ front. ([], refl, tt)
 pub fronts_trans : (old mid new : List Moment) → KeepsFronts old mid → KeepsFronts mid new → KeepsFronts old new
 fronts_trans old mid new a b = λ front. preserves_on (Leaves (BeginsWith front)) old mid new (a front) (b front)
 
-pub keeps_same : (s : EngineState) → Keeps s s
+pub keeps_same : (s : EngineState) → KeepsDevices s s
 keeps_same s = record {
   limited = refl;
   named = refl;
@@ -32,7 +32,7 @@ keeps_same s = record {
   tables_later = omega arith;
 }
 
-pub keeps_trans : (old mid new : EngineState) → Keeps old mid → Keeps mid new → Keeps old new
+pub keeps_trans : (old mid new : EngineState) → KeepsDevices old mid → KeepsDevices mid new → KeepsDevices old new
 keeps_trans old mid new a b = record {
   limited = b.limited ∙ a.limited;
   named = b.named ∙ a.named;

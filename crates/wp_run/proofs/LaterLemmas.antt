@@ -11,19 +11,20 @@ use Rattle.wp_engine.specs.declared.error.MaintenanceError.{MaintenanceError}
 use Rattle.wp_engine.specs.declared.error.MaintenanceError.TheVariants as maintenance
 use Rattle.wp_engine.specs.Engine.{EngineState}
 use Rattle.wp_engine.specs.Logging.{CallsLog}
-use Rattle.wp_engine.specs.Maintenance.{KeepsTables, but_devices, HasInstalled, IsRefused, IsFlushResult, IsCompactResult}
+use Rattle.wp_engine.specs.Maintenance.{KeepsTables, but_tables, HasInstalled, IsNotInstalled, IsFlushResult, IsCompactResult}
 use Rattle.wp_run.specs.Answering.{IsLogAnswer}
 use Rattle.wp_run.specs.Later.{Later, TablesRose, store_of}
 use Rattle.wp_run.proofs.Keeping.{keeps_same, keeps_trans, records_same, fronts_same}
 
-false_is_true : {P : Type 0} (b : Bool) → b ≡ false → b ≡ true → P
+-- no test has both answers
+pub false_is_true : {P : Type 0} (b : Bool) → b ≡ false → b ≡ true → P
 false_is_true true e f = absurd cc
 false_is_true false e f = absurd cc
 
 -- ---- two in turn
 
 pub later_same : (s : EngineState) → Later s s
-later_same s = record { keeps = keeps_same s; stopped = λ e. e; rose = λ e f. false_is_true s.stopped e f; halted = λ e. e; tables_rose = λ e f. false_is_true s.halted e f }
+later_same s = record { keeps = keeps_same s; stopped = λ e. e; ended = λ e. (refl, refl); rose = λ e f. false_is_true s.stopped e f; halted = λ e. e; tables_rose = λ e f. false_is_true s.halted e f }
 
 pub later_equal : (old new : EngineState) → new ≡ old → Later old new
 later_equal old new e = subst (λ (s : EngineState). Later old s) (sym e) (later_same old)
@@ -51,6 +52,10 @@ pub later_trans : (old mid new : EngineState) → Later old mid → Later mid ne
 later_trans old mid new a b = record {
   keeps = keeps_trans old mid new a.keeps b.keeps;
   stopped = λ e. b.stopped (a.stopped e);
+  ended = λ e.
+      let first = a.ended e in
+      let second = b.ended (a.stopped e) in
+      (second.0 ∙ first.0, second.1 ∙ first.1);
   rose = rose_on old.faults mid.faults new.faults old.stopped mid.stopped new.stopped a.rose b.rose a.keeps.log_later b.keeps.log_later;
   halted = λ e. b.halted (a.halted e);
   tables_rose = tables_rose_on old mid new a b;
@@ -81,6 +86,7 @@ later_called old new entries called same rose = record {
     tables_later = rw same.tables_faults (omega arith);
   };
   stopped = λ e. false_is_true old.stopped called.running e;
+  ended = λ e. false_is_true old.stopped called.running e;
   rose = rose;
   halted = λ e. rw same.halted e;
   tables_rose = λ e f. false_is_true old.halted e (rw same.halted at f);
@@ -102,6 +108,7 @@ later_logged old new was now entries success answer answered = elim answered [
 
 -- the log is as it was
 record IsLogSame (old new : EngineState) : Type 0 where
+  entries : new.entries ≡ old.entries
   limit : new.limit ≡ old.limit
   id : new.id ≡ old.id
   stopped : new.stopped ≡ old.stopped
@@ -121,6 +128,7 @@ later_maintained old new keeps same halted rose = record {
     tables_later = keeps.later;
   };
   stopped = λ e. rw same.stopped e;
+  ended = λ e. (same.entries, same.moments);
   rose = λ e f. false_is_true old.stopped e (rw same.stopped at f);
   halted = halted;
   tables_rose = rose;
@@ -130,13 +138,13 @@ log_by : (old new made : EngineState) → new ≡ made → IsLogSame old made �
 log_by old new made is same = subst (λ (s : EngineState). IsLogSame old s) (sym is) same
 
 later_installed : (old new : EngineState) (edit : InstalledEdit) → KeepsTables old new → HasInstalled old new edit → Later old new
-later_installed old new edit keeps made = later_maintained old new keeps (log_by old new _ made.changed (record { limit = refl; id = refl; stopped = refl; moments = refl; faults = refl }))
+later_installed old new edit keeps made = later_maintained old new keeps (log_by old new _ made.changed (record { entries = refl; limit = refl; id = refl; stopped = refl; moments = refl; faults = refl }))
     (λ e. false_is_true old.halted made.running e) (λ e f. false_is_true old.halted e (sym (ap (λ (s : EngineState). s.halted) made.changed) ∙ f))
 
-later_refused : (old new : EngineState) (something : Type 0) (why : MaintenanceError) → KeepsTables old new → IsRefused old new something why → Later old new
-later_refused old new something maintenance.Memory keeps is = later_maintained old new keeps (log_by old new _ is (record { limit = refl; id = refl; stopped = refl; moments = refl; faults = refl }))
+later_refused : (old new : EngineState) (something : Type 0) (why : MaintenanceError) → KeepsTables old new → IsNotInstalled old new something why → Later old new
+later_refused old new something maintenance.Memory keeps is = later_maintained old new keeps (log_by old new _ is (record { entries = refl; limit = refl; id = refl; stopped = refl; moments = refl; faults = refl }))
     (λ e. ap (λ (s : EngineState). s.halted) is ∙ e) (λ e f. false_is_true old.halted e (sym (ap (λ (s : EngineState). s.halted) is) ∙ f))
-later_refused old new something maintenance.TablesFault keeps is = later_maintained old new keeps (log_by old new _ is.3 (record { limit = refl; id = refl; stopped = refl; moments = refl; faults = refl }))
+later_refused old new something maintenance.TablesFault keeps is = later_maintained old new keeps (log_by old new _ is.3 (record { entries = refl; limit = refl; id = refl; stopped = refl; moments = refl; faults = refl }))
     (λ e. false_is_true old.halted is.1 e) (λ e f. is.2)
 later_refused old new something (maintenance.Halted flushed) keeps is = later_equal old new is.2
 
@@ -148,8 +156,8 @@ later_flushed old new (Err why) keeps is = later_refused old new _ why keeps is
 pub later_compacted : (old new : EngineState) (snapshots : List ℕ) (result : Result (Option ℕ) MaintenanceError) → KeepsTables old new → IsCompactResult old new snapshots result → Later old new
 later_compacted old new snapshots (Ok (Some count)) keeps is = later_installed old new _ keeps is.2
 later_compacted old new snapshots (Ok None) keeps is = later_equal old new is.2
-later_compacted old new snapshots (Err why) keeps is = later_refused old new _ why keeps is
+later_compacted old new snapshots (Err why) keeps is = later_refused old new _ why keeps is.0
 
--- for want of memory nothing is changed but the devices
-pub store_but_devices : (old new : EngineState) → new ≡ but_devices old new → store_of new ≡ store_of old
-store_but_devices old new is = ap store_of is
+-- for want of memory nothing is changed but the tables' device
+pub store_but_tables : (old new : EngineState) → new ≡ but_tables old new → store_of new ≡ store_of old
+store_but_tables old new is = ap store_of is

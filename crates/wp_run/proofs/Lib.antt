@@ -4,6 +4,8 @@ pub mod Sessions
 pub mod Explained
 pub mod Keeping
 pub mod LaterLemmas
+pub mod Asked
+pub mod Failing
 pub mod StepLemmas
 pub mod RunLemmas
 pub mod TextLemmas

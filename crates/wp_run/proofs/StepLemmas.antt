@@ -15,11 +15,11 @@ use Rattle.wp_text.specs.declared.reply.Reply.{Reply}
 use Rattle.wp_text.specs.declared.reply.Reply.TheVariants as reply
 use Rattle.wp_session.specs.declared.plan.Plan.TheVariants.{Say, Log, RollBack, Flush, Compact}
 use Rattle.wp_session.specs.Client.{Client, ClientFits, numbers_of}
-use Rattle.wp_session.specs.Due.{Store, logged, flushed, reply_to, due, logged_entries, store_after, client_after}
+use Rattle.wp_session.specs.Due.{Store, logged, flushed, reply_to, due, logged_entries, edit_of, installed_edit, store_after, client_after}
 use Rattle.wp_session.specs.Kind.{acknowledged, is_logged, is_fault, is_installed, is_tables_fault, is_halted, number_in, fresh_in, is_stopped}
 use Rattle.wp_session.specs.After.{after_decision}
 use Rattle.wp_session.specs.Plan.{plan, asked_of}
-use Rattle.wp_session.specs.Tables.{unflushed, after_flush, retained, after_compaction}
+use Rattle.wp_session.specs.Tables.{unflushed, retained}
 use Rattle.wp_session.proofs.PlanLemmas.{Logs}
 use Rattle.wp_session.proofs.SaidLemmas.{plan_says, within_more}
 use Rattle.wp_engine.specs.declared.error.MaintenanceError.{MaintenanceError}
@@ -29,11 +29,8 @@ use Rattle.wp_engine.specs.Logging.{HasLogged, HasFailed}
 use Rattle.wp_engine.specs.Maintenance.{HasInstalled, IsFlushResult, IsCompactResult}
 use Rattle.wp_run.specs.Answering.{IsLogAnswer, IsFlushAnswer, IsCompactionAnswer, Flushes, Compacts}
 use Rattle.wp_run.specs.Later.{store_of}
-use Rattle.wp_run.specs.Runs.{no_edit, flushed as is_flush, compacted as is_compaction, IsStep}
-
-false_is_true : {P : Type 0} (b : Bool) → b ≡ false → b ≡ true → P
-false_is_true true e f = absurd cc
-false_is_true false e f = absurd cc
+use Rattle.wp_run.specs.Runs.{no_edit, flushed as is_flush, compacted as is_compaction, TablesStep, IsStep}
+use Rattle.wp_run.proofs.LaterLemmas.{false_is_true}
 
 -- two stores that agree in all
 pub same_store : (a b : Store) → a.history ≡ b.history → a.stopped ≡ b.stopped → a.limit ≡ b.limit → a.installed ≡ b.installed → a.halted ≡ b.halted → a ≡ b
@@ -98,40 +95,47 @@ fresh_if_numbered P other r is = is
 abbrev pub AreFew : Store → Type 0
 AreFew s = length s.installed.versions ≤ length (later_versions s.history 0)
 
--- what a reply does not say, where it changes nothing
-pub record IsStill (s : Store) (c : Command) (r : Reply) : Type 0 where
+-- a reply that acknowledges no entry and tells of no new failure
+pub record LogsNothing (s : Store) (c : Command) (r : Reply) : Type 0 where
   pub none : acknowledged r ≡ []
   pub unlogged : is_logged r ≡ false
   pub faultless : is_fault r ≡ false
-  pub uninstalled : is_installed r ≡ false
   pub intact : is_tables_fault r ≡ false
   pub stopped : is_stopped r ≡ true → s.stopped ≡ true
   pub halted : is_halted r ≡ true → s.halted ≡ true
   pub current : IfSome (fresh_in c r) (λ n. n ≡ length s.history)
 
-unchanged : (s : Store) (was : Client) (c : Command) (r : Reply) → is_logged r ≡ false → is_fault r ≡ false → is_installed r ≡ false → is_tables_fault r ≡ false → s ≡ store_after s was c r
-unchanged s was c r unlogged faultless uninstalled intact =
-    same_store s (store_after s was c r) (rw unlogged (sym (append-nil s.history))) (rw faultless refl) refl (rw uninstalled refl) (rw intact refl)
-
 fresh_same : (o : Option ℕ) (n : ℕ) → IfSome o (λ m. m ≡ n) → IfSome o (λ m. (n ≤ m) × (m ≤ n))
 fresh_same None n is = tt
 fresh_same (Some m) n is = (omega (arith, is), omega (arith, is))
 
-still_steps : (s : Store) (was now : Client) (c : Command) (answer : Reply) → answer ≡ due s was c → now ≡ client_after s.history was c answer → IsStill s c answer → AreFew s → IsStep s was c answer s now
-still_steps s was now c answer is client still few = record {
-  replied = inl is;
-  store = unchanged s was c answer still.unlogged still.faultless still.uninstalled still.intact;
-  client = client;
-  numbers = rw (still.none, still.unlogged) refl;
-  fresh = fresh_same (fresh_in c answer) (length s.history) still.current;
-  running = λ f. false_is_true (is_fault answer) still.faultless f;
-  stopped_before = still.stopped;
-  stays = λ e. refl;
-  tables = no_edit still.uninstalled;
-  few = few;
-  tables_running = λ f. false_is_true (is_tables_fault answer) still.intact f;
-  halted_before = still.halted;
-}
+-- the store with the edit that is the last one after a reply
+abbrev pub with_edit : Store → Client → Command → Reply → Store
+with_edit s was c answer = record s { installed = installed_edit s was c answer }
+
+-- nothing but the edit changes
+edit_steps : (s new : Store) (was now : Client) (c : Command) (answer : Reply) → answer ≡ due s was c → now ≡ client_after s.history was c answer → LogsNothing s c answer → new ≡ with_edit s was c answer → TablesStep s was c answer → AreFew s → IsStep s was c answer new now
+edit_steps s new was now c answer is client plain edited tables few =
+    let same : new.history ≡ s.history = ap (λ (t : Store). t.history) edited in
+    record {
+      replied = inl is;
+      store = edited ∙ same_store (with_edit s was c answer) (store_after s was c answer) (rw plain.unlogged (sym (append-nil s.history))) (rw plain.faultless refl) refl refl (rw plain.intact refl);
+      client = client;
+      numbers = rw (plain.none, plain.unlogged) refl;
+      fresh = rw same (fresh_same (fresh_in c answer) (length s.history) plain.current);
+      running = λ f. false_is_true (is_fault answer) plain.faultless f;
+      stopped_before = plain.stopped;
+      stays = λ e. same;
+      tables = tables;
+      few = few;
+      tables_running = λ f. false_is_true (is_tables_fault answer) plain.intact f;
+      halted_before = plain.halted;
+    }
+
+-- a reply that changes nothing of the store
+still_steps : (s : Store) (was now : Client) (c : Command) (answer : Reply) → answer ≡ due s was c → now ≡ client_after s.history was c answer → LogsNothing s c answer → is_installed answer ≡ false → AreFew s → IsStep s was c answer s now
+still_steps s was now c answer is client plain none few =
+    edit_steps s s was now c answer is client plain (same_store s (with_edit s was c answer) refl refl refl (rw none refl) refl) (no_edit none) few
 
 -- ---- entries for the log
 
@@ -201,10 +205,10 @@ logged_steps old new was now c entries success answer asks few answered =
       | inr (inl failed) ↦ subst (λ (r : Reply). IsStep s was c r (store_of new) now) (sym failed.1) (subst (λ (x : Client). IsStep s was c reply.FaultLog (store_of new) x) (sym failed.2) (fails_steps old new was c entries success asks failed.0 few))
       | inr (inr (inl full)) ↦ step_at s (store_of new) was now c answer (reply.Full (length old.entries) old.limit) full.1 (ap store_of full.0.same) full.2
           (still_steps s was was c (reply.Full (length old.entries) old.limit) (sym (asks.replies ∙ logged_full s (length entries) success full.0.running full.0.past)) refl
-          (record { none = refl; unlogged = refl; faultless = refl; uninstalled = refl; intact = refl; stopped = λ t. absurd cc; halted = λ t. absurd cc; current = fresh_if_numbered _ c (reply.Full (length old.entries) old.limit) tt }) few)
+          (record { none = refl; unlogged = refl; faultless = refl; intact = refl; stopped = λ t. absurd cc; halted = λ t. absurd cc; current = fresh_if_numbered _ c (reply.Full (length old.entries) old.limit) tt }) refl few)
       | inr (inr (inr stopped)) ↦ step_at s (store_of new) was now c answer (reply.Stopped (length old.entries)) stopped.1 (ap store_of stopped.0.same) stopped.2
           (still_steps s was was c (reply.Stopped (length old.entries)) (sym (asks.replies ∙ logged_stopped s (length entries) success stopped.0.stopped)) refl
-          (record { none = refl; unlogged = refl; faultless = refl; uninstalled = refl; intact = refl; stopped = λ t. stopped.0.stopped; halted = λ t. absurd cc; current = fresh_if_numbered _ c (reply.Stopped (length old.entries)) tt }) few)
+          (record { none = refl; unlogged = refl; faultless = refl; intact = refl; stopped = λ t. stopped.0.stopped; halted = λ t. absurd cc; current = fresh_if_numbered _ c (reply.Stopped (length old.entries)) tt }) refl few)
     ]
 
 pub logged_fits : (old new : EngineState) (was now : Client) (entries : List Entry) (success answer : Reply) → Logs old.entries was entries success → ClientFits old.entries was → IsLogAnswer old was entries success answer new now → ClientFits new.entries now
@@ -227,59 +231,19 @@ said_steps s was now c answer planned is few =
       none = plain.none;
       unlogged = plain.unlogged;
       faultless = plain.faultless;
-      uninstalled = plain.uninstalled;
       intact = plain.intact;
       stopped = λ t. false_is_true (is_stopped answer) plain.running t;
       halted = λ t. false_is_true (is_halted answer) plain.unhalted t;
       current = plain.current;
-    }) few
+    }) plain.uninstalled few
 
 -- ---- an edit for the tables
 
--- the tables took the edit of a flush
-flush_made : (old new : EngineState) (was : Client) (c : Command) (count : ℕ) → plan old.entries was c ≡ Flush → HasInstalled old new (after_flush old.entries old.installed) → count ≡ length (unflushed old.entries old.installed)
-    → reply.Flushed (length old.entries) count ≡ due (store_of old) was c → AreFew (store_of old) → IsStep (store_of old) was c (reply.Flushed (length old.entries) count) (store_of new) was
-flush_made old new was c count planned made counted is few =
-    let s = store_of old in
-    let answer = reply.Flushed (length old.entries) count in
-    let longer : new.entries ≡ old.entries = ap (λ (j : EngineState). j.entries) made.changed in
-    record {
-      replied = inl is;
-      store = same_store (store_of new) (store_after s was c answer) (longer ∙ sym (append-nil old.entries)) (ap (λ (j : EngineState). j.stopped) made.changed) (ap (λ (j : EngineState). j.limit) made.changed) (ap (λ (j : EngineState). j.installed) made.changed ∙ rw planned refl) (ap (λ (j : EngineState). j.halted) made.changed);
-      client = refl;
-      numbers = refl;
-      fresh = fresh_if_numbered (λ n. (length old.entries ≤ n) × (n ≤ length new.entries)) c answer (omega arith, rw longer (omega arith));
-      running = λ f. absurd cc;
-      stopped_before = λ t. absurd cc;
-      stays = λ e. longer;
-      tables = is_flush planned (ap (λ (n : ℕ). reply.Flushed (length old.entries) n) counted);
-      few = few;
-      tables_running = λ f. absurd cc;
-      halted_before = λ t. absurd cc;
-    }
-
--- that of a compaction
-compaction_made : (old new : EngineState) (was : Client) (c : Command) (count : ℕ) → plan old.entries was c ≡ Compact → HasInstalled old new (after_compaction old.entries (numbers_of was.snapshots) old.installed)
-    → count ≡ length (retained old.entries (numbers_of was.snapshots) old.installed) → reply.Compacted (length old.entries) count ≡ due (store_of old) was c → AreFew (store_of old)
-    → IsStep (store_of old) was c (reply.Compacted (length old.entries) count) (store_of new) was
-compaction_made old new was c count planned made counted is few =
-    let s = store_of old in
-    let answer = reply.Compacted (length old.entries) count in
-    let longer : new.entries ≡ old.entries = ap (λ (j : EngineState). j.entries) made.changed in
-    record {
-      replied = inl is;
-      store = same_store (store_of new) (store_after s was c answer) (longer ∙ sym (append-nil old.entries)) (ap (λ (j : EngineState). j.stopped) made.changed) (ap (λ (j : EngineState). j.limit) made.changed) (ap (λ (j : EngineState). j.installed) made.changed ∙ rw planned refl) (ap (λ (j : EngineState). j.halted) made.changed);
-      client = refl;
-      numbers = refl;
-      fresh = fresh_if_numbered (λ n. (length old.entries ≤ n) × (n ≤ length new.entries)) c answer (omega arith, rw longer (omega arith));
-      running = λ f. absurd cc;
-      stopped_before = λ t. absurd cc;
-      stays = λ e. longer;
-      tables = is_compaction planned (ap (λ (n : ℕ). reply.Compacted (length old.entries) n) counted);
-      few = few;
-      tables_running = λ f. absurd cc;
-      halted_before = λ t. absurd cc;
-    }
+-- the tables took the edit of a flush, or of a compaction
+edit_made : (old new : EngineState) (was : Client) (c : Command) (answer : Reply) → HasInstalled old new (edit_of (store_of old) was (plan old.entries was c)) → answer ≡ due (store_of old) was c → client_after old.entries was c answer ≡ was → is_installed answer ≡ true
+    → LogsNothing (store_of old) c answer → TablesStep (store_of old) was c answer → AreFew (store_of old) → IsStep (store_of old) was c answer (store_of new) was
+edit_made old new was c answer made is client installs plain tables few =
+    edit_steps (store_of old) (store_of new) was was c answer is (sym client) plain (ap store_of made.changed ∙ ap (λ (e : InstalledEdit). record (store_of old) { installed = e }) (rw installs refl)) tables few
 
 -- a device failed as the tables took the edit
 halted_steps : (old new : EngineState) (was : Client) (c : Command) → old.halted ≡ false → store_of new ≡ record (store_of old) { halted = true } → is_installed (due (store_of old) was c) ≡ true → AreFew (store_of old) → IsStep (store_of old) was c reply.FaultTables (store_of new) was
@@ -305,11 +269,11 @@ flushed_some : (n : ℕ) (versions : List Version) → 1 ≤ length versions →
 flushed_some n [] le = absurd (omega arith)
 flushed_some n (v ∷ versions) le = refl
 
-nothing_still : (s : Store) (c : Command) → IsStill s c reply.Nothing
-nothing_still s c = record { none = refl; unlogged = refl; faultless = refl; uninstalled = refl; intact = refl; stopped = λ t. absurd cc; halted = λ t. absurd cc; current = fresh_if_numbered _ c reply.Nothing tt }
+of_nothing : (s : Store) (c : Command) → LogsNothing s c reply.Nothing
+of_nothing s c = record { none = refl; unlogged = refl; faultless = refl; intact = refl; stopped = λ t. absurd cc; halted = λ t. absurd cc; current = fresh_if_numbered _ c reply.Nothing tt }
 
-halted_still : (s : Store) (c : Command) (n : ℕ) → s.halted ≡ true → IsStill s c (reply.Halted n)
-halted_still s c n halted = record { none = refl; unlogged = refl; faultless = refl; uninstalled = refl; intact = refl; stopped = λ t. absurd cc; halted = λ t. halted; current = fresh_if_numbered _ c (reply.Halted n) tt }
+of_halted : (s : Store) (c : Command) (n : ℕ) → s.halted ≡ true → LogsNothing s c (reply.Halted n)
+of_halted s c n halted = record { none = refl; unlogged = refl; faultless = refl; intact = refl; stopped = λ t. absurd cc; halted = λ t. halted; current = fresh_if_numbered _ c (reply.Halted n) tt }
 
 -- the reply that is due to a flush that has something to write
 flush_due : (old : EngineState) (was : Client) (c : Command) → plan old.entries was c ≡ Flush → old.halted ≡ false → 1 ≤ length (unflushed old.entries old.installed) → due (store_of old) was c ≡ reply.Flushed (length old.entries) (length (unflushed old.entries old.installed))
@@ -323,16 +287,19 @@ flush_answered : (old new : EngineState) (was : Client) (c : Command) (answer : 
 flush_answered old new was c answer (Ok (Some count)) planned few made is =
     let said : reply.Flushed (length old.entries) count ≡ due (store_of old) was c =
     ap (λ (n : ℕ). reply.Flushed (length old.entries) n) made.1 ∙ sym (flush_due old was c planned made.2.running (omega (arith, made.0, made.1))) in
-    subst (λ (r : Reply). IsStep (store_of old) was c r (store_of new) was) (sym is) (flush_made old new was c count planned made.2 made.1 said few)
+    subst (λ (r : Reply). IsStep (store_of old) was c r (store_of new) was) (sym is)
+    (edit_made old new was c (reply.Flushed (length old.entries) count) (rw planned made.2) said refl refl (record {
+      none = refl; unlogged = refl; faultless = refl; intact = refl; stopped = λ t. absurd cc; halted = λ t. absurd cc; current = fresh_if_numbered _ c (reply.Flushed (length old.entries) count) refl;
+    }) (is_flush planned (ap (λ (n : ℕ). reply.Flushed (length old.entries) n) made.1)) few)
 flush_answered old new was c answer (Ok None) planned few none is =
     step_at (store_of old) (store_of new) was was c answer reply.Nothing is (ap store_of none.2) refl
-    (still_steps (store_of old) was was c reply.Nothing (sym (ap (reply_to (store_of old) was) planned ∙ rw (none.0, none.1) refl)) refl (nothing_still (store_of old) c) few)
+    (still_steps (store_of old) was was c reply.Nothing (sym (ap (reply_to (store_of old) was) planned ∙ rw (none.0, none.1) refl)) refl (of_nothing (store_of old) c) refl few)
 flush_answered old new was c answer (Err maintenance.Memory) planned few refused is = absurd is
 flush_answered old new was c answer (Err maintenance.TablesFault) planned few refused is =
     subst (λ (r : Reply). IsStep (store_of old) was c r (store_of new) was) (sym is) (halted_steps old new was c refused.1 (ap store_of refused.3) (ap is_installed (flush_due old was c planned refused.1 refused.0)) few)
 flush_answered old new was c answer (Err (maintenance.Halted n)) planned few refused is =
     step_at (store_of old) (store_of new) was was c answer (reply.Halted old.installed.flushed) (is ∙ ap (λ (m : ℕ). reply.Halted m) refused.1) (ap store_of refused.2) refl
-    (still_steps (store_of old) was was c (reply.Halted old.installed.flushed) (sym (ap (reply_to (store_of old) was) planned ∙ rw refused.0 refl)) refl (halted_still (store_of old) c old.installed.flushed refused.0) few)
+    (still_steps (store_of old) was was c (reply.Halted old.installed.flushed) (sym (ap (reply_to (store_of old) was) planned ∙ rw refused.0 refl)) refl (of_halted (store_of old) c old.installed.flushed refused.0) refl few)
 
 pub flush_steps : (old new : EngineState) (was : Client) (c : Command) (answer : Reply) → plan old.entries was c ≡ Flush → AreFew (store_of old) → Flushes old answer new → IsStep (store_of old) was c answer (store_of new) was
 flush_steps old new was c answer planned few answered = flush_answered old new was c answer answered.0 planned few answered.1 answered.2
@@ -341,16 +308,19 @@ compaction_answered : (old new : EngineState) (was : Client) (c : Command) (answ
 compaction_answered old new was c answer (Ok (Some count)) planned few made is =
     let said : reply.Compacted (length old.entries) count ≡ due (store_of old) was c =
     ap (λ (n : ℕ). reply.Compacted (length old.entries) n) made.1 ∙ sym (compaction_due old was c planned made.2.running made.0) in
-    subst (λ (r : Reply). IsStep (store_of old) was c r (store_of new) was) (sym is) (compaction_made old new was c count planned made.2 made.1 said few)
+    subst (λ (r : Reply). IsStep (store_of old) was c r (store_of new) was) (sym is)
+    (edit_made old new was c (reply.Compacted (length old.entries) count) (rw planned made.2) said refl refl (record {
+      none = refl; unlogged = refl; faultless = refl; intact = refl; stopped = λ t. absurd cc; halted = λ t. absurd cc; current = fresh_if_numbered _ c (reply.Compacted (length old.entries) count) refl;
+    }) (is_compaction planned (ap (λ (n : ℕ). reply.Compacted (length old.entries) n) made.1)) few)
 compaction_answered old new was c answer (Ok None) planned few none is =
     step_at (store_of old) (store_of new) was was c answer reply.Nothing is (ap store_of none.2) refl
-    (still_steps (store_of old) was was c reply.Nothing (sym (ap (reply_to (store_of old) was) planned ∙ rw (none.0, lt-ltb old.installed.tables 2 none.1) refl)) refl (nothing_still (store_of old) c) few)
+    (still_steps (store_of old) was was c reply.Nothing (sym (ap (reply_to (store_of old) was) planned ∙ rw (none.0, lt-ltb old.installed.tables 2 none.1) refl)) refl (of_nothing (store_of old) c) refl few)
 compaction_answered old new was c answer (Err maintenance.Memory) planned few refused is = absurd is
 compaction_answered old new was c answer (Err maintenance.TablesFault) planned few refused is =
-    subst (λ (r : Reply). IsStep (store_of old) was c r (store_of new) was) (sym is) (halted_steps old new was c refused.1 (ap store_of refused.3) (ap is_installed (compaction_due old was c planned refused.1 refused.0)) few)
+    subst (λ (r : Reply). IsStep (store_of old) was c r (store_of new) was) (sym is) (halted_steps old new was c refused.0.1 (ap store_of refused.0.3) (ap is_installed (compaction_due old was c planned refused.0.1 refused.0.0)) few)
 compaction_answered old new was c answer (Err (maintenance.Halted n)) planned few refused is =
-    step_at (store_of old) (store_of new) was was c answer (reply.Halted old.installed.flushed) (is ∙ ap (λ (m : ℕ). reply.Halted m) refused.1) (ap store_of refused.2) refl
-    (still_steps (store_of old) was was c (reply.Halted old.installed.flushed) (sym (ap (reply_to (store_of old) was) planned ∙ rw refused.0 refl)) refl (halted_still (store_of old) c old.installed.flushed refused.0) few)
+    step_at (store_of old) (store_of new) was was c answer (reply.Halted old.installed.flushed) (is ∙ ap (λ (m : ℕ). reply.Halted m) refused.0.1) (ap store_of refused.0.2) refl
+    (still_steps (store_of old) was was c (reply.Halted old.installed.flushed) (sym (ap (reply_to (store_of old) was) planned ∙ rw refused.0.0 refl)) refl (of_halted (store_of old) c old.installed.flushed refused.0.0) refl few)
 
 pub compaction_steps : (old new : EngineState) (was : Client) (c : Command) (answer : Reply) → plan old.entries was c ≡ Compact → AreFew (store_of old) → Compacts old (numbers_of was.snapshots) answer new → IsStep (store_of old) was c answer (store_of new) was
 compaction_steps old new was c answer planned few answered = compaction_answered old new was c answer answered.0 planned few answered.1 answered.2

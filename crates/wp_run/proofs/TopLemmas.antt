@@ -1,5 +1,9 @@
 -- From a run of all clients to how a call ends.
-use Rattle.std.proofs.Common.{◌≡◌, ℕ, ◌≤◌, Bool, true, false, List, Err, refl, sym, subst, inl, inr, arith}
+use Rattle.std.specs.Prelude.{Result, Ok, Err, IfOk, OnErr}
+use Rattle.std.specs.Global.{Vec}
+use Rattle.std.specs.declared.alloc.AllocError.{AllocError}
+use Rattle.std.proofs.Common.{◌≡◌, ℕ, ◌≤◌, Bool, true, false, List, length, refl, sym, subst, inl, inr, arith}
+use Rattle.std.proofs.lemmas.Bool.{cases_Bool}
 use Rattle.wp_model.specs.declared.entry.Entry.{Entry}
 use Rattle.wp_model.specs.Legal.{IsLegal}
 use Rattle.wp_outside.specs.Disk.{Moment, IfKnown, ReadsItself}
@@ -18,36 +22,37 @@ use Rattle.wp_open.specs.Opens.{AllKnown, OpensTo, installed_of}
 use Rattle.wp_open.specs.Parts.{PartsOpened}
 use Rattle.wp_wal.specs.Spelling.{IsLogOf}
 use Rattle.wp_wal.specs.Wal.{WalState, LosesNothing}
+use Rattle.wp_session.specs.Due.{Store}
 use Rattle.wp_session.specs.Laws.{DueIsSession}
 use Rattle.wp_words.specs.declared.choice.Action.{Action}
 use Rattle.wp_words.specs.declared.choice.Action.TheVariants as action
-use Rattle.wp_engine.specs.Stored.{fault_count, IsOrOneMore, AllOpen}
+use Rattle.wp_engine.specs.Stored.{fault_count}
 use Rattle.wp_engine.specs.Engine.{EngineState}
 use Rattle.wp_run.specs.declared.status.Status.{Status}
 use Rattle.wp_run.specs.declared.status.Status.TheVariants as status
+use Rattle.wp_run.specs.Failed.{OneFaultAsks, IfFailed}
 use Rattle.wp_run.specs.Later.{store_of}
 use Rattle.wp_run.specs.Run.{Call, IsChosen, IsUnread, IsReadAs, IsServed, Ends}
 use Rattle.wp_run.specs.Runs.{replies_of, AllRun}
 use Rattle.wp_run.specs.Serving.{Serving, HasStored, AnswersScript, BreaksOff, IsUnopened, Serves, IsTextOf, HasRun, IsWritten, HasEnded, Finishes}
 use Rattle.wp_run.specs.Status.{IsStatusOf}
-use Rattle.wp_run.specs.Stored.{IsLeft, CrashOpens}
-use Rattle.wp_run.specs.Transcript.{Faults, Found, Explains, opened_store}
+use Rattle.wp_run.specs.Transcript.{Faults, stored_in, Explains, opened_store}
 use Rattle.wp_run.specs.Use.{SinkUse, IsDurable, AreUncalled, left_of}
+use Rattle.wp_run.proofs.Asked.{AllAskOnly, all_ask_only, all_none_yet}
 use Rattle.wp_run.proofs.Explained.{explained}
+use Rattle.wp_run.proofs.Failing.{HasFailedTo, has_failed}
 use Rattle.wp_run.proofs.Keeping.{records_trans, fronts_trans}
 use Rattle.wp_run.proofs.Opened.{opens_to, fronts_synced}
 use Rattle.wp_run.proofs.RunLemmas.{firsts_ran}
 
 -- ---- a store
 
-abbrev pub found_in : EngineState → Found
-found_in state = record { history = state.entries; edit = state.installed }
-
 -- the store as it was opened
 pub record IsOpened (state : EngineState) (s : Serving) : Type 0 where
   pub running : state.stopped ≡ false
   pub unhalted : state.halted ≡ false
   pub limit : state.limit ≡ s.limit
+  pub within : state.installed.flushed ≤ length state.entries
   pub log_counted : s.disks.log.faults_before ≤ state.faults
   pub manifest_counted : s.disks.manifest.faults_before ≤ state.manifest_faults
   pub tables_counted : s.disks.tables.faults_before ≤ state.tables_faults
@@ -73,14 +78,19 @@ Finished old s end = Finishes old s.script (left_of s.disks.log) (left_of s.disk
 rose_since : (a b c d : ℕ) → a ≤ b → Rose b c → d ≡ c → Rose a d
 rose_since a b c d le rose is = omega (arith, rose, le, is)
 
-stores : (old : EngineState) (s : Serving) (end : Status) → IsOpened old s → (h : Finished old s end) → HasStored s (faults_in h.new) (found_in old) h.new.entries
-stores old s end opened h = record {
+-- what the log failed to take in a run
+failed_to : (old : EngineState) (s : Serving) (end : Status) → IsOpened old s → (h : Finished old s end) → (A : List Entry → Type 0) → IfFailed old h.new A → HasFailedTo h.new A
+failed_to old s end opened h A failed = has_failed old h.new A opened.running failed (rw (← h.log_left.0) h.stored)
+
+stores : (old : EngineState) (s : Serving) (end : Status) (A : List Entry → Type 0) → IsOpened old s → (h : Finished old s end) → (failed : HasFailedTo h.new A) → HasStored s (faults_in h.new) (stored_in (store_of old)) (stored_in (store_of h.new)) failed.entries
+stores old s end A opened h failed = record {
   id = old.id;
   made = opened.made;
   spelled = opened.spelled;
   opened = opened.opened;
-  stored = rw (← h.later.keeps.named) h.stored;
+  stored = rw (← h.later.keeps.named, h.log_left.0) failed.left;
   opens = rw (← h.later.keeps.named) h.opens;
+  unfailed = failed.none;
   once = fault_count_few h.new.stopped;
   cause = λ up. rose_since s.disks.log.faults_before old.faults h.new.faults s.disks.log.faults_after opened.log_counted (h.later.rose opened.running (fault_count_is h.new.stopped up)) h.log_left.1;
   tables_once = fault_count_few h.new.halted;
@@ -91,36 +101,49 @@ stores old s end opened h = record {
 }
 
 -- the store that the clients begin with
-begins_with : (state : EngineState) (s : Serving) → IsOpened state s → store_of state ≡ opened_store s.limit (found_in state)
+begins_with : (state : EngineState) (s : Serving) → IsOpened state s → store_of state ≡ opened_store s.limit (stored_in (store_of state))
 begins_with state s opened = rw (opened.running, opened.limit, opened.unhalted) refl
 
-explains : DueIsSession → (old : EngineState) (s : Serving) (new : EngineState) (parts : List Part) (replies : List (List Reply)) → IsOpened old s → IsLegal new.entries → AllRun (store_of old) parts replies (store_of new)
-    → Explains s.limit (faults_in new) parts (found_in old) new.entries replies
-explains law old s new parts replies opened legal run = explained law s.limit (found_in old) (store_of new) parts replies (rw (begins_with old s opened) at run) legal
+-- each fault's command asked for what the log failed to take
+ask_only : (old new : EngineState) (parts : List Part) (replies : List (List Reply)) (failed : List Entry) → AllRun (store_of old) parts replies (store_of new) → (new.stopped ≡ true → OneFaultAsks failed (store_of old) parts replies) → AllAskOnly failed (store_of old) parts replies
+ask_only old new parts replies failed run asked = elim (cases_Bool new.stopped) [
+  | inl up ↦ all_ask_only failed (store_of old) (store_of new) parts replies run (asked up)
+  | inr down ↦ all_none_yet failed (store_of old) (store_of new) parts replies run down
+]
+
+explains : DueIsSession → (old : EngineState) (s : Serving) (new : EngineState) (parts : List Part) (replies : List (List Reply)) (failed : List Entry) → IsOpened old s → IsLegal new.entries → AllRun (store_of old) parts replies (store_of new)
+    → (new.stopped ≡ true → OneFaultAsks failed (store_of old) parts replies) → Explains s.limit (faults_in new) parts (stored_in (store_of old)) (stored_in (store_of new)) failed replies
+explains law old s new parts replies failed opened legal run asked =
+    explained law s.limit (stored_in (store_of old)) failed (store_of new) parts replies opened.within (subst (λ (t : Store). AllRun t parts replies (store_of new)) (begins_with old s opened) run)
+    (subst (λ (t : Store). AllAskOnly failed t parts replies) (begins_with old s opened) (ask_only old new parts replies failed run asked)) legal
 
 breaks_off : DueIsSession → (old : EngineState) (s : Serving) (end : Status) → IsOpened old s → (h : Finished old s end) → HasRun old h.new s.script → BreaksOff s
 breaks_off law old s end opened h (sessions, ran) =
-    let alone = firsts_ran (store_of old) (store_of h.new) s.script sessions ran in
+    let alone = firsts_ran (store_of old) (store_of h.new) s.script sessions ran.0 in
+    let failed = failed_to old s end opened h _ ran.1 in
     record {
       faults = faults_in h.new;
-      found = found_in old;
-      history = h.new.entries;
-      store = stores old s end opened h;
+      found = stored_in (store_of old);
+      left = stored_in (store_of h.new);
+      failed = failed.entries;
+      store = stores old s end _ opened h failed;
       run = alone.firsts;
       first = alone.are;
       replies = replies_of sessions;
-      explained = explains law old s h.new alone.firsts (replies_of sessions) opened h.legal alone.run;
+      explained = explains law old s h.new alone.firsts (replies_of sessions) failed.entries opened h.legal alone.run (λ up. alone.asks failed.entries (failed.asked up));
     }
 
 answers : DueIsSession → (old : EngineState) (s : Serving) (end : Status) (text : List ℕ) → IsOpened old s → (h : Finished old s end) → IsTextOf old h.new s.script text → AnswersScript s (faults_in h.new) text
 answers law old s end text opened h (sessions, ran, whole, is) =
-    let alone = firsts_ran (store_of old) (store_of h.new) s.script sessions ran in
+    let alone = firsts_ran (store_of old) (store_of h.new) s.script sessions ran.0 in
+    let failed = failed_to old s end opened h _ ran.1 in
     let run = subst (λ (parts : List Part). AllRun (store_of old) parts (replies_of sessions) (store_of h.new)) (alone.whole whole) alone.run in
     record {
-      found = found_in old;
-      history = h.new.entries;
-      store = stores old s end opened h;
-      transcript = (replies_of sessions, explains law old s h.new s.script (replies_of sessions) opened h.legal run, is);
+      found = stored_in (store_of old);
+      left = stored_in (store_of h.new);
+      failed = failed.entries;
+      store = stores old s end _ opened h failed;
+      transcript = (replies_of sessions, explains law old s h.new s.script (replies_of sessions) failed.entries opened h.legal run failed.asked, is);
     }
 
 -- ---- how a script was served
@@ -167,6 +190,7 @@ serves_opened law s wal history edits moments faults store end o log manifest ta
       running = refl;
       unhalted = refl;
       limit = refl;
+      within = o.store.covering.covered.flushed;
       log_counted = log;
       manifest_counted = manifest;
       tables_counted = tables;
@@ -205,21 +229,16 @@ has_ended old new script text sink status.Memory is written = absurd written
 has_ended old new script text sink end is written = (text, is, written)
 
 -- the answers were written, or what could be of them
-pub written_ends : (old new : EngineState) (script : List Part) (text : List ℕ) (stopped halted : Bool) (sink : SinkUse) (end : Status) → IsTextOf old new script text → stopped ≡ new.stopped → halted ≡ new.halted
+written_ends : (old new : EngineState) (script : List Part) (text : List ℕ) (stopped halted : Bool) (sink : SinkUse) (end : Status) → IsTextOf old new script text → stopped ≡ new.stopped → halted ≡ new.halted
     → IsWritten stopped halted sink text end → HasEnded old new script sink end
 written_ends old new script text stopped halted sink end is stopped-is halted-is written =
     has_ended old new script text sink end is (subst (λ (b : Bool). IsWritten new.stopped b sink text end) halted-is (subst (λ (b : Bool). IsWritten b halted sink text end) stopped-is written))
 
--- what a crash leaves once the log has failed so often
-is_left : (stopped : Bool) (history left : List Entry) → IsOrOneMore stopped history left → IsLeft (fault_count stopped) history left
-is_left false history left is = is
-is_left true history left is = is
-
--- the devices that the store on one thread gives back
-pub crash_opens : (s : EngineState) (log manifest tables : List Moment) → AllOpen s log manifest tables → CrashOpens (fault_count s.stopped) s.id s.entries log manifest tables
-crash_opens s log manifest tables all = λ l m t log_at manifest_at tables_at.
-    let left = all l m t log_at manifest_at tables_at in
-    (left.0, is_left s.stopped s.entries left.0 left.1, left.2)
+-- what became of the answers, where there was memory for their text, and where there was none
+pub answers_end : (old new : EngineState) (script : List Part) (text : Result (Vec ℕ) AllocError) (stopped halted : Bool) (sink : SinkUse) (end : Status) → IfOk text (λ t. IsTextOf old new script t.items) → OnErr text (HasRun old new script)
+    → stopped ≡ new.stopped → halted ≡ new.halted → IfOk text (λ t. IsWritten stopped halted sink t.items end) → OnErr text (end ≡ status.Memory) → HasEnded old new script sink end
+answers_end old new script (Ok text) stopped halted sink end is run stopped-is halted-is written none = written_ends old new script text.items stopped halted sink end is stopped-is halted-is written
+answers_end old new script (Err e) stopped halted sink end is run stopped-is halted-is written none = rw none run
 
 -- a choice whose script was served
 pub served_ends : (call : Call) (end : Status) → IsServed call end → Ends call end

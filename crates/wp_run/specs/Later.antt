@@ -14,7 +14,7 @@ store_of s = record { history = s.entries; stopped = s.stopped; limit = s.limit;
 
 -- What stays, whatever is done: the limit and the store's number; what was for good on a device before; and no count of
 -- faults falls.
-pub record Keeps (old new : EngineState) : Type 0 where
+pub record KeepsDevices (old new : EngineState) : Type 0 where
   pub limited : new.limit ≡ old.limit
   pub named : new.id ≡ old.id
   pub log : LosesNothing old.moments new.moments
@@ -28,10 +28,12 @@ pub record Keeps (old new : EngineState) : Type 0 where
 abbrev pub TablesRose : EngineState → EngineState → Type 0
 TablesRose old new = Rose old.manifest_faults new.manifest_faults ⊎ Rose old.tables_faults new.tables_faults
 
--- What was for good on the devices is so still. What has failed stays so, and its device's count has risen since.
+-- What was for good on the devices is so still. What has failed stays so, and its device's count has risen since; a log
+-- that has failed is not called any more.
 pub record Later (old new : EngineState) : Type 0 where
-  pub keeps : Keeps old new
+  pub keeps : KeepsDevices old new
   pub stopped : old.stopped ≡ true → new.stopped ≡ true
+  pub ended : old.stopped ≡ true → (new.entries ≡ old.entries) × (new.moments ≡ old.moments)
   pub rose : old.stopped ≡ false → new.stopped ≡ true → Rose old.faults new.faults
   pub halted : old.halted ≡ true → new.halted ≡ true
   pub tables_rose : old.halted ≡ false → new.halted ≡ true → TablesRose old new

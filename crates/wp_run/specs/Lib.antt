@@ -1,9 +1,9 @@
 pub mod Runs
 pub mod Later
 pub mod Answering
+pub mod Failed
 pub mod Transcript
 pub mod Use
-pub mod Stored
 pub mod Status
 pub mod Serving
 pub mod Run

@@ -12,18 +12,19 @@ use Rattle.wp_text.specs.declared.script.Command.{Command}
 use Rattle.wp_text.specs.declared.script.Part.{Part}
 use Rattle.wp_text.specs.declared.reply.Reply.{Reply}
 use Rattle.wp_wal.specs.Spelling.{MAGIC, IsLogOf}
+use Rattle.wp_wal.specs.Wal.{LeavesHistoryOrNext}
 use Rattle.wp_open.specs.declared.opening.OpenError.{OpenError}
 use Rattle.wp_open.specs.declared.opening.OpenError.TheVariants as open_error
 use Rattle.wp_open.specs.Opens.{Opens, OpensTo, AllKnown}
 use Rattle.wp_open.specs.Refused.{IsCause, IsOutside, IsLeft}
 use Rattle.wp_engine.specs.Engine.{EngineState}
-use Rattle.wp_engine.specs.Stored.{fault_count, CrashLeaves}
+use Rattle.wp_engine.specs.Stored.{fault_count, CrashLeaves, CrashOpens, AllOpen}
 use Rattle.wp_run.specs.declared.status.Status.{Status}
 use Rattle.wp_run.specs.declared.status.Status.TheVariants as status
+use Rattle.wp_run.specs.Failed.{IfFailed, OneFaultAsks}
 use Rattle.wp_run.specs.Later.{Later, store_of}
 use Rattle.wp_run.specs.Runs.{Answered, AllRunSoFar, are_whole, replies_of}
-use Rattle.wp_run.specs.Stored.{CrashOpens}
-use Rattle.wp_run.specs.Transcript.{Faults, Found, Explains, IsTranscript, text_of}
+use Rattle.wp_run.specs.Transcript.{Faults, StoredState, Explains, IsTranscript, text_of}
 use Rattle.wp_run.specs.Use.{DisksUse, Device, SinkUse}
 
 -- ---- a served script
@@ -36,15 +37,16 @@ pub record Serving : Type 1 where
   pub disks : DisksUse
   pub sink : SinkUse
 
--- The store was opened to what was found. A crash leaves the history of it in the log, and devices that open to it.
--- So often the devices failed in between.
-pub record HasStored (s : Serving) (faults : Faults) (found : Found) (history : List Entry) : Type 0 where
+-- The store was opened to what was found. A crash leaves its history in the log, or it and the entries that the log failed
+-- to take, whole; and devices that open to its history and to its last edit. So often the devices failed in between.
+pub record HasStored (s : Serving) (faults : Faults) (found left : StoredState) (failed : List Entry) : Type 0 where
   pub id : ℕ
   pub made : IfKnown s.disks.log.before (λ m. IsUnmade m.reads → id ≡ s.id)
   pub spelled : IfKnown s.disks.log.before (λ m. IsLogOf id found.history m.reads)
   pub opened : AllKnown s.disks.log.before s.disks.manifest.before s.disks.tables.before (OpensTo id found.history found.edit)
-  pub stored : IfKnown s.disks.log.after (CrashLeaves faults.log id history)
-  pub opens : CrashOpens faults.log id history s.disks.log.after s.disks.manifest.after s.disks.tables.after
+  pub stored : IfKnown s.disks.log.after (LeavesHistoryOrNext id left.history failed)
+  pub opens : CrashOpens faults.log faults.tables id left.history left.edit s.disks.log.after s.disks.manifest.after s.disks.tables.after
+  pub unfailed : faults.log ≡ 0 → failed ≡ []
   pub once : faults.log ≤ 1
   pub cause : 1 ≤ faults.log → Rose s.disks.log.faults_before s.disks.log.faults_after
   pub tables_once : faults.tables ≤ 1
@@ -53,10 +55,11 @@ pub record HasStored (s : Serving) (faults : Faults) (found : Found) (history : 
 
 -- The text answers the script over the store.
 pub record AnswersScript (s : Serving) (faults : Faults) (text : List ℕ) : Type 0 where
-  pub found : Found
-  pub history : List Entry
-  pub store : HasStored s faults found history
-  pub transcript : IsTranscript s.limit faults s.script found history text
+  pub found : StoredState
+  pub left : StoredState
+  pub failed : List Entry
+  pub store : HasStored s faults found left failed
+  pub transcript : IsTranscript s.limit faults s.script found left failed text
 
 -- the client's first commands
 abbrev pub IsFirstPart : Part → Part → Type 0
@@ -69,17 +72,18 @@ AreFirstParts [] (first ∷ firsts) = ⊥
 AreFirstParts (part ∷ parts) [] = ⊥
 AreFirstParts (part ∷ parts) (first ∷ firsts) = IsFirstPart part first × AreFirstParts parts firsts
 
--- Memory was wanting once the store was open. The first commands of each client had their replies, and these explain the
--- history: each entry is that of one of them.
+-- Memory was wanting once the store was open. The first commands of each client had their replies, and these explain what
+-- is left: each entry is that of one of them.
 pub record BreaksOff (s : Serving) : Type 0 where
   pub faults : Faults
-  pub found : Found
-  pub history : List Entry
-  pub store : HasStored s faults found history
+  pub found : StoredState
+  pub left : StoredState
+  pub failed : List Entry
+  pub store : HasStored s faults found left failed
   pub run : List Part
   pub first : AreFirstParts s.script run
   pub replies : List (List Reply)
-  pub explained : Explains s.limit faults run found history replies
+  pub explained : Explains s.limit faults run found left failed replies
 
 -- The store was not opened, for this reason. Where the devices are known and open to a history, the reason is none of theirs.
 pub record IsUnopened (s : Serving) (why : OpenError) : Type 0 where
@@ -107,13 +111,18 @@ Serves s other = ⊥
 
 -- ---- a store that is open
 
+-- The clients were answered so, as far as memory allowed, from the one state to the other. If the log failed, it did so at
+-- what one of them had asked for.
+abbrev pub HaveRun : EngineState → EngineState → List Part → List Answered → Type 0
+HaveRun old new script sessions = AllRunSoFar (store_of old) script sessions (store_of new) × IfFailed old new (λ entries. OneFaultAsks entries (store_of old) script (replies_of sessions))
+
 -- the text of the replies that all clients were given, from the one state to the other
 abbrev pub IsTextOf : EngineState → EngineState → List Part → List ℕ → Type 0
-IsTextOf old new script text = (sessions : List Answered) × AllRunSoFar (store_of old) script sessions (store_of new) × (are_whole sessions ≡ true) × (text ≡ text_of script (replies_of sessions) new.entries)
+IsTextOf old new script text = (sessions : List Answered) × HaveRun old new script sessions × (are_whole sessions ≡ true) × (text ≡ text_of script (replies_of sessions) new.entries)
 
 -- the clients were answered from the one state to the other, as far as memory allowed
 abbrev pub HasRun : EngineState → EngineState → List Part → Type 0
-HasRun old new script = (sessions : List Answered) × AllRunSoFar (store_of old) script sessions (store_of new)
+HasRun old new script = (sessions : List Answered) × HaveRun old new script sessions
 
 -- how a text was written: whole, with the log failed, the tables alone, or neither; or in part
 abbrev pub IsWritten : (stopped halted : Bool) → SinkUse → List ℕ → Status → Type 0
@@ -134,7 +143,7 @@ pub record Finishes (old : EngineState) (script : List Part) (log manifest table
   pub later : Later old new
   pub legal : IsLegal new.entries
   pub stored : IfKnown log.moments (CrashLeaves (fault_count new.stopped) new.id new.entries)
-  pub opens : CrashOpens (fault_count new.stopped) new.id new.entries log.moments manifest.moments tables.moments
+  pub opens : AllOpen new log.moments manifest.moments tables.moments
   pub log_left : (log.moments ≡ new.moments) × (log.faults ≡ new.faults)
   pub manifest_left : (manifest.moments ≡ new.manifest_moments) × (manifest.faults ≡ new.manifest_faults)
   pub tables_left : (tables.moments ≡ new.tables_moments) × (tables.faults ≡ new.tables_faults)

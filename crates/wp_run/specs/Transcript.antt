@@ -1,5 +1,5 @@
--- A transcript: the replies of all clients, and the one history that explains them.
-use Rattle.std.specs.Prelude.{◌≡◌, ℕ, ◌<◌, ◌≤◌, ◌==◌, true, false, List, [], ◌∷◌, ◌++◌, length, count_by, codes}
+-- A transcript: the replies of all clients, and the one history and the last edit that explain them.
+use Rattle.std.specs.Prelude.{◌≡◌, ◌⊎◌, ℕ, ◌<◌, ◌≤◌, ◌==◌, true, false, List, [], ◌∷◌, ◌++◌, length, count_by, codes}
 use Rattle.std.specs.List.{flat_map, list_any}
 use Rattle.wp_model.specs.declared.entry.Entry.{Entry}
 use Rattle.wp_model.specs.Flushed.{InstalledEdit}
@@ -9,17 +9,20 @@ use Rattle.wp_text.specs.declared.script.Part.{Part}
 use Rattle.wp_text.specs.declared.reply.Reply.{Reply}
 use Rattle.wp_text.specs.Lines.{client_line, reply_line, entry_lines, end_line, line_end}
 use Rattle.wp_session.specs.Client.{new_client}
-use Rattle.wp_session.specs.Kind.{acknowledged, is_fault, is_stopped, is_tables_fault, is_halted}
+use Rattle.wp_session.specs.Kind.{acknowledged, is_fault, is_stopped, is_flushed, is_installed, is_tables_fault, is_halted}
 use Rattle.wp_session.specs.Session.{IsSession}
 use Rattle.wp_session.specs.Replies.{Evidence}
 use Rattle.wp_session.specs.Known.{evidence_of}
 use Rattle.wp_session.specs.Due.{Store}
 use Rattle.wp_session.specs.Current.{RunsAlone}
 
--- what an opening found: a history, and the last edit of the tables
-pub record Found : Type 0 where
+-- what a store has on its devices: a history, and the last edit of the tables
+pub record StoredState : Type 0 where
   pub history : List Entry
   pub edit : InstalledEdit
+
+abbrev pub stored_in : Store → StoredState
+stored_in store = record { history = store.history; edit = store.installed }
 
 -- how often the devices failed: the log's, and those of the tables
 pub record Faults : Type 0 where
@@ -31,39 +34,49 @@ abbrev pub all_replies : List (List Reply) → List Reply
 all_replies sessions = flat_map (λ answers. answers) sessions
 
 -- what a client's replies are judged by, with those to the clients before it and after it
-abbrev pub judged_by : List Entry → ℕ → Found → List (List Reply) → List Reply → List (List Reply) → Evidence
-judged_by history limit found before answers others = evidence_of history limit found.edit.flushed (all_replies (before ++ answers ∷ others)) (all_replies (before ++ others))
+abbrev pub judged_by : List Entry → ℕ → List Entry → StoredState → List (List Reply) → List Reply → List (List Reply) → Evidence
+judged_by history limit failed found before answers others = evidence_of history limit failed found.edit.flushed (all_replies (before ++ answers ∷ others)) (all_replies (before ++ others))
 
 -- Each part has one session, which begins with what was found. These sessions come before them.
-abbrev pub AreSessions : List Entry → ℕ → Found → List (List Reply) → List Part → List (List Reply) → Type 0
-AreSessions history limit found before [] [] = Unit {0}
-AreSessions history limit found before [] (answers ∷ others) = ⊥
-AreSessions history limit found before (part ∷ parts) [] = ⊥
-AreSessions history limit found before (part ∷ parts) (answers ∷ others) =
-    IsSession (judged_by history limit found before answers others) (length found.history) found.edit.tables new_client part.commands answers
-    × AreSessions history limit found (before ++ answers ∷ []) parts others
+abbrev pub AreSessions : List Entry → ℕ → List Entry → StoredState → List (List Reply) → List Part → List (List Reply) → Type 0
+AreSessions history limit failed found before [] [] = Unit {0}
+AreSessions history limit failed found before [] (answers ∷ others) = ⊥
+AreSessions history limit failed found before (part ∷ parts) [] = ⊥
+AreSessions history limit failed found before (part ∷ parts) (answers ∷ others) =
+    IsSession (judged_by history limit failed found before answers others) (length found.history) found.edit.tables new_client part.commands answers
+    × AreSessions history limit failed found (before ++ answers ∷ []) parts others
 
 -- the store as it was opened
-abbrev pub opened_store : ℕ → Found → Store
+abbrev pub opened_store : ℕ → StoredState → Store
 opened_store limit found = record { history = found.history; stopped = false; limit = limit; installed = found.edit; halted = false }
 
--- with one client, nobody else changes the store
-abbrev pub IsExact : ℕ → Found → List Part → List (List Reply) → Type 0
-IsExact limit found (part ∷ []) (answers ∷ []) = RunsAlone (opened_store limit found) new_client part.commands answers
-IsExact limit found script sessions = Unit {0}
+-- With one client, nobody else changes the store: what is left is what its replies leave.
+abbrev pub IsExact : ℕ → (found left : StoredState) → List Part → List (List Reply) → Type 0
+IsExact limit found left (part ∷ []) (answers ∷ []) = (last : Store) × RunsAlone (opened_store limit found) new_client part.commands answers last × (left ≡ stored_in last)
+IsExact limit found left script sessions = Unit {0}
 
--- The replies are explained by the history, which begins with the one that was found; so often the devices failed.
-pub record Explains (limit : ℕ) (faults : Faults) (script : List Part) (found : Found) (history : List Entry) (sessions : List (List Reply)) : Type 0 where
-  pub legal : IsLegal history
-  pub begins : (added : List Entry) × (history ≡ found.history ++ added)
-  pub answered : AreSessions history limit found [] script sessions
+-- What the replies say of the last edit. Its flushed number is the one that was found or that of a `flushed` reply, and is
+-- less than none of these; where no reply says that an edit was installed, it is the edit that was found.
+pub record IsLastEdit (found left : InstalledEdit) (answers : List Reply) : Type 0 where
+  pub said : (left.flushed ≡ found.flushed) ⊎ (list_any (is_flushed left.flushed) answers ≡ true)
+  pub kept : found.flushed ≤ left.flushed
+  pub greatest : (n : ℕ) → list_any (is_flushed n) answers ≡ true → n ≤ left.flushed
+  pub unchanged : list_any is_installed answers ≡ false → left ≡ found
+
+-- The replies are explained by the history that is left, which begins with the one that was found, by the last edit, and by
+-- the entries that the log failed to take, which the command of that reply asked for. So often the devices failed.
+pub record Explains (limit : ℕ) (faults : Faults) (script : List Part) (found left : StoredState) (failed : List Entry) (sessions : List (List Reply)) : Type 0 where
+  pub legal : IsLegal left.history
+  pub begins : (added : List Entry) × (left.history ≡ found.history ++ added)
+  pub answered : AreSessions left.history limit failed found [] script sessions
   -- each entry after the opening history is that of exactly one reply, an Undo together with its Close
-  pub paired : (n : ℕ) → length found.history < n → n ≤ length history → count_by (λ m. m == n) (flat_map acknowledged (all_replies sessions)) ≡ 1
-  pub failed : count_by is_fault (all_replies sessions) ≡ faults.log
+  pub paired : (n : ℕ) → length found.history < n → n ≤ length left.history → count_by (λ m. m == n) (flat_map acknowledged (all_replies sessions)) ≡ 1
+  pub log_failed : count_by is_fault (all_replies sessions) ≡ faults.log
   pub stopped : list_any is_stopped (all_replies sessions) ≡ true → 1 ≤ faults.log
   pub tables_failed : count_by is_tables_fault (all_replies sessions) ≡ faults.tables
   pub halted : list_any is_halted (all_replies sessions) ≡ true → 1 ≤ faults.tables
-  pub exact : IsExact limit found script sessions
+  pub edit : IsLastEdit found.edit left.edit (all_replies sessions)
+  pub exact : IsExact limit found left script sessions
 
 -- one client's replies, below its name
 abbrev pub client_text : Part → List Reply → List ℕ
@@ -78,6 +91,6 @@ client_lines (part ∷ parts) (answers ∷ others) = client_text part answers ++
 abbrev pub text_of : List Part → List (List Reply) → List Entry → List ℕ
 text_of script sessions history = client_lines script sessions ++ codes "history" ++ line_end ++ entry_lines 1 history ++ end_line (length history) (length (undecided history))
 
--- The text answers the script from what was found on, and shows the history.
-abbrev pub IsTranscript : ℕ → Faults → List Part → Found → List Entry → List ℕ → Type 0
-IsTranscript limit faults script found history text = (sessions : List (List Reply)) × Explains limit faults script found history sessions × (text ≡ text_of script sessions history)
+-- The text answers the script from what was found on, and shows the history that is left.
+abbrev pub IsTranscript : ℕ → Faults → List Part → (found left : StoredState) → List Entry → List ℕ → Type 0
+IsTranscript limit faults script found left failed text = (sessions : List (List Reply)) × Explains limit faults script found left failed sessions × (text ≡ text_of script sessions left.history)

@@ -1,6 +1,7 @@
 ghost use Rattle.std.specs.Prelude.{◌≡◌, IfOk, OnErr};
-ghost use Rattle.wp_run.specs.Later.{Later, store_of};
-ghost use Rattle.wp_run.specs.Runs.{AllRunSoFar, are_whole};
+ghost use Rattle.wp_run.specs.Later.{Later};
+ghost use Rattle.wp_run.specs.Runs.{are_whole};
+ghost use Rattle.wp_run.specs.Serving.{HaveRun};
 
 use crate::client::{Answers, run_session};
 use std::alloc::{AllocError, Global};
@@ -15,7 +16,7 @@ pub(crate) fn run_all<D: Disk>(
     engine: &mut Engine<D>,
     parts: &[Part],
 ) -> Result<Vec<Answers>, AllocError>
-    ensures runs { IfOk result (λ sessions. AllRunSoFar (store_of engine.old) parts.now sessions.items (store_of engine.new)) }
+    ensures runs { IfOk result (λ sessions. HaveRun engine.old engine.new parts.now sessions.items) }
     ensures later { Later engine.old engine.new }
     ensures err { OnErr result (engine.new ≡ engine.old) }
 {

@@ -39,12 +39,23 @@ fn answer_all<D: Disk>(
     Ok(text)
 }
 
-/// Writes the text. The status says whether it was written whole, and else what failed before: the log, or the tables.
-fn write_text<K: Sink>(sink: &mut K, text: &[u8], stopped: bool, halted: bool) -> Status
-    ensures written { IsWritten stopped halted (sink_use (K.contents sink.old) (K.contents sink.new) (K.faults sink.old) (K.faults sink.new)) text.now result }
+/// Writes the text, where there was memory for it. The status says whether it was written whole, and else what failed
+/// before: the log, or the tables.
+fn write_text<K: Sink>(
+    sink: &mut K,
+    text: Result<Vec<u8>, AllocError>,
+    stopped: bool,
+    halted: bool,
+) -> Status
+    ensures written { IfOk text (λ text. IsWritten stopped halted (sink_use (K.contents sink.old) (K.contents sink.new) (K.faults sink.old) (K.faults sink.new)) text.items result) }
+    ensures unwritten { OnErr text (result ≡ Status.Memory) }
+    ensures silent { IsBeforeSink (stage_of result) → sink.new ≡ sink.old }
     ensures later { K.faults sink.old ≤ K.faults sink.new }
 {
-    match write_all(sink, text) {
+    let Ok(text) = text else {
+        return Status::Memory;
+    };
+    match write_all(sink, &text) {
         Ok(()) if stopped => Status::LogFault,
         Ok(()) if halted => Status::TableFault,
         Ok(()) => Status::Ok,
@@ -70,16 +81,8 @@ fn finish<D: Disk, K: Sink>(
     let halted = engine.is_halted();
     engine.history();
     let disks = engine.into_disks();
-    match text {
-        Ok(text) => {
-            let status = write_text(sink, &text, stopped, halted);
-            Served { status, disks }
-        }
-        Err(AllocError) => Served {
-            status: Status::Memory,
-            disks,
-        },
-    }
+    let status = write_text(sink, text, stopped, halted);
+    Served { status, disks }
 }
 
 fn status_of(why: OpenError) -> Status

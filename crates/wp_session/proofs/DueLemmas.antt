@@ -23,8 +23,8 @@ use Rattle.wp_session.specs.declared.plan.Plan.TheVariants.{Say, Log, RollBack}
 use Rattle.wp_session.specs.Client.{Client, AreWithin, number_of, own_batch, has_no_room}
 use Rattle.wp_session.specs.After.{with_staged, labels_after}
 use Rattle.wp_session.specs.Kind.{is_logged, fresh_in, last_after, tables_after}
-use Rattle.wp_session.specs.Replies.{Evidence, refusal_of, refuses_change, IsLoggedAt, WasUndecided, IsBusy, TxnIsOpen, TxnIsWithin, OwnSays, needed, unless_labelled, unless_idle, unless_open, if_idle, unless_prepared, PreparesAt, CommitsAt, RollsBackAt, UnlessRefused}
-use Rattle.wp_session.specs.Plan.{plan, next, busy_or, change_plan, read_reply, get_reply, get_at_reply, free_reply, begin_reply, begin_plan, prepare_plan, commit_plan, rollback_plan, leave_plan, take_reply, take_plan}
+use Rattle.wp_session.specs.Replies.{Evidence, refusal_of, refuses_change, IsLoggedAt, WasUndecided, IsBusy, TxnIsOpen, TxnIsWithin, OwnSays, needed, AsksFor, unless_labelled, unless_idle, unless_open, if_idle, unless_prepared, PreparesAt, CommitsAt, RollsBackAt, UnlessRefused}
+use Rattle.wp_session.specs.Plan.{plan, asked_of, next, busy_or, change_plan, read_reply, get_reply, get_at_reply, free_reply, begin_reply, begin_plan, prepare_plan, commit_plan, rollback_plan, leave_plan, take_reply, take_plan}
 use Rattle.wp_session.specs.Due.{reply_to, due, taken, client_after}
 use Rattle.wp_session.specs.Moments.{AreDueFrom}
 use Rattle.wp_session.specs.Session.{IsSession}
@@ -48,11 +48,11 @@ option_cases None = inl refl
 option_cases (Some a) = inr (a, refl)
 
 change_allowed : {client : Client} {c : Command} {answer : Reply} (s : Scene client c answer) (change : Change) (made : Reply)
-    → plan (front s) client c ≡ change_plan (front s) client.txn change made → refusal_of client c ≡ refuses_change client.txn (key_of change) → (client.txn ≡ Idle → needed client.txn c ≡ 1) → is_logged made ≡ true
+    → plan (front s) client c ≡ change_plan (front s) client.txn change made → refusal_of client c ≡ refuses_change client.txn (key_of change) → (client.txn ≡ Idle → needed client.txn c ≡ 1) → (client.txn ≡ Idle → AsksFor client.txn c (entry.Write (change ∷ []) ∷ [])) → is_logged made ≡ true
     → (client.txn ≡ Idle → IsLoggedAt s.evidence.history s.last (next (front s)) (entry.Write (change ∷ [])) → RowOf s made)
     → ((name : List ℕ) → IsBusy s.evidence s.last (key_of change) name → RowOf s (reply.Busy name))
     → (TxnIsOpen client.txn → RowOf s reply.Held) → IsAllowed s
-change_allowed {client = client} {c = c} s change made plan_is refusal_is needs logs row busy held = by client.txn refl
+change_allowed {client = client} {c = c} s change made plan_is refusal_is needs asks logs row busy held = by client.txn refl
   where
     on_holder : (other : Plan) → plan (front s) client c ≡ busy_or (front s) (holder_of (front s) (key_of change)) other → refusal_of client c ≡ None → (plan (front s) client c ≡ other → IsAllowed s) → IsAllowed s
     on_holder other is free rest =
@@ -65,7 +65,7 @@ change_allowed {client = client} {c = c} s change made plan_is refusal_is needs 
     by Idle is =
         let asked : plan (front s) client c ≡ change_plan (front s) Idle change made = plan_is ∙ ap (λ (t : Txn). change_plan (front s) t change made) is in
         let free : refusal_of client c ≡ None = refusal_is ∙ ap (λ (t : Txn). refuses_change t (key_of change)) is in
-        on_holder (Log (entry.Write (change ∷ [])) made) asked free (λ log. one_allowed s (entry.Write (change ∷ [])) made log logs free (needs is) (row is))
+        on_holder (Log (entry.Write (change ∷ [])) made) asked free (λ log. one_allowed s (entry.Write (change ∷ [])) made log logs free (needs is) (asks is) (row is))
     by (Open name batch) is =
         let asked : plan (front s) client c ≡ change_plan (front s) (Open name batch) change made = plan_is ∙ ap (λ (t : Txn). change_plan (front s) t change made) is in
         let refuses : refusal_of client c ≡ refuses_change (Open name batch) (key_of change) = refusal_is ∙ ap (λ (t : Txn). refuses_change t (key_of change)) is in
@@ -167,7 +167,7 @@ prepare_allowed {client = client} s = by client.txn refl
   where
     by : (txn : Txn) → client.txn ≡ txn → IsAllowed s
     by Idle is = say_refused s reply.State (ap (prepare_plan (front s)) is) refl (ap unless_open is)
-    by (Open name batch) is = one_allowed s (entry.Prepare name batch) (reply.Prepared (next (front s))) (ap (prepare_plan (front s)) is) refl (ap unless_open is) (ap (λ (t : Txn). needed t command.Prepare) is) (λ here. subst (λ (t : Txn). PreparesAt s.evidence.history s.last t (next (front s))) (sym is) here)
+    by (Open name batch) is = one_allowed s (entry.Prepare name batch) (reply.Prepared (next (front s))) (ap (prepare_plan (front s)) is) refl (ap unless_open is) (ap (λ (t : Txn). needed t command.Prepare) is) (subst (λ (t : Txn). AsksFor t command.Prepare (entry.Prepare name batch ∷ [])) (sym is) refl) (λ here. subst (λ (t : Txn). PreparesAt s.evidence.history s.last t (next (front s))) (sym is) here)
     by (Prepared p) is = say_refused s reply.State (ap (prepare_plan (front s)) is) refl (ap unless_open is)
 
 commit_allowed : {client : Client} {answer : Reply} (s : Scene client command.Commit answer) → IsAllowed s
@@ -175,8 +175,8 @@ commit_allowed {client = client} s = by client.txn refl
   where
     by : (txn : Txn) → client.txn ≡ txn → IsAllowed s
     by Idle is = say_refused s reply.State (ap (commit_plan (front s)) is) refl (ap if_idle is)
-    by (Open name batch) is = one_allowed s (entry.Write batch) (reply.Committed (next (front s))) (ap (commit_plan (front s)) is) refl (ap if_idle is) (ap (λ (t : Txn). needed t command.Commit) is) (λ here. subst (λ (t : Txn). CommitsAt s.evidence.history s.last t (next (front s))) (sym is) here)
-    by (Prepared p) is = one_allowed s (entry.Commit p) (reply.Committed (next (front s))) (ap (commit_plan (front s)) is) refl (ap if_idle is) (ap (λ (t : Txn). needed t command.Commit) is) (λ here. subst (λ (t : Txn). CommitsAt s.evidence.history s.last t (next (front s))) (sym is) here)
+    by (Open name batch) is = one_allowed s (entry.Write batch) (reply.Committed (next (front s))) (ap (commit_plan (front s)) is) refl (ap if_idle is) (ap (λ (t : Txn). needed t command.Commit) is) (subst (λ (t : Txn). AsksFor t command.Commit (entry.Write batch ∷ [])) (sym is) refl) (λ here. subst (λ (t : Txn). CommitsAt s.evidence.history s.last t (next (front s))) (sym is) here)
+    by (Prepared p) is = one_allowed s (entry.Commit p) (reply.Committed (next (front s))) (ap (commit_plan (front s)) is) refl (ap if_idle is) (ap (λ (t : Txn). needed t command.Commit) is) (subst (λ (t : Txn). AsksFor t command.Commit (entry.Commit p ∷ [])) (sym is) refl) (λ here. subst (λ (t : Txn). CommitsAt s.evidence.history s.last t (next (front s))) (sym is) here)
 
 rollback_allowed : {client : Client} {answer : Reply} (s : Scene client command.Rollback answer) → IsAllowed s
 rollback_allowed {client = client} {answer = answer} s = by client.txn refl
@@ -194,7 +194,7 @@ rollback_allowed {client = client} {answer = answer} s = by client.txn refl
     by : (txn : Txn) → client.txn ≡ txn → IsAllowed s
     by Idle is = say_refused s reply.State (ap (rollback_plan (front s)) is) refl (ap if_idle is)
     by (Open name batch) is = say_allowed s reply.Dropped (ap (rollback_plan (front s)) is) refl (ap if_idle is) (subst TxnIsOpen (sym is) tt)
-    by (Prepared p) is = log_allowed s 2 (reply.RolledBack (next (front s) + 1)) (ap if_idle is) (ap (λ (t : Txn). needed t command.Rollback) is) (omega arith) (ap (λ (t : Txn). reply_to (store_in s) client (rollback_plan (front s) t)) is) refl (λ answered. subst (λ (t : Txn). RollsBackAt s.evidence.history s.last t (next (front s) + 1)) (sym is) (rolled p is answered))
+    by (Prepared p) is = log_allowed s 2 (reply.RolledBack (next (front s) + 1)) (ap if_idle is) (ap (λ (t : Txn). needed t command.Rollback) is) (omega arith) (subst (λ (t : Txn). AsksFor t command.Rollback (asked_of (rollback_plan (front s) t))) (sym is) (prior (front s) (batch_at (front s) p), refl)) (ap (λ (t : Txn). reply_to (store_in s) client (rollback_plan (front s) t)) is) refl (λ answered. subst (λ (t : Txn). RollsBackAt s.evidence.history s.last t (next (front s) + 1)) (sym is) (rolled p is answered))
 
 leave_allowed : {client : Client} {answer : Reply} (s : Scene client command.Leave answer) → IsAllowed s
 leave_allowed {client = client} s = by client.txn refl
@@ -223,8 +223,8 @@ take_allowed {client = client} name s = by client.txn refl
 -- ---- all commands
 
 due_allowed : (client : Client) (c : Command) (answer : Reply) (s : Scene client c answer) → IsAllowed s
-due_allowed client (command.Put key value) answer s = change_allowed s (change.Put key value) (reply.Put (next (front s))) refl refl (λ is. ap (λ (t : Txn). needed t (command.Put key value)) is) refl (λ is here. (is, here)) (λ name busy. busy) (λ opened. opened)
-due_allowed client (command.Del key) answer s = change_allowed s (change.Del key) (reply.Del (next (front s))) refl refl (λ is. ap (λ (t : Txn). needed t (command.Del key)) is) refl (λ is here. (is, here)) (λ name busy. busy) (λ opened. opened)
+due_allowed client (command.Put key value) answer s = change_allowed s (change.Put key value) (reply.Put (next (front s))) refl refl (λ is. ap (λ (t : Txn). needed t (command.Put key value)) is) (λ is. subst (λ (t : Txn). AsksFor t (command.Put key value) (entry.Write (change.Put key value ∷ []) ∷ [])) (sym is) refl) refl (λ is here. (is, here)) (λ name busy. busy) (λ opened. opened)
+due_allowed client (command.Del key) answer s = change_allowed s (change.Del key) (reply.Del (next (front s))) refl refl (λ is. ap (λ (t : Txn). needed t (command.Del key)) is) (λ is. subst (λ (t : Txn). AsksFor t (command.Del key) (entry.Write (change.Del key ∷ []) ∷ [])) (sym is) refl) refl (λ is here. (is, here)) (λ name busy. busy) (λ opened. opened)
 due_allowed client (command.Get key) answer s = get_allowed key s
 due_allowed client (command.GetAt key label) answer s = get_at_allowed key label s
 due_allowed client (command.Snap label) answer s = snap_allowed label s

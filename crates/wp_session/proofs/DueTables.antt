@@ -78,7 +78,7 @@ flush_allowed {client = client} s = by (unflushed (front s) s.given.devices.inst
     by (v ∷ versions) is =
         let same : take (length (front s)) s.evidence.history ≡ front s = ap (λ (n : ℕ). take n s.evidence.history) (front_size s) in
         on_tables s (reply.Flushed (length (front s)) (length (v ∷ versions))) refl (ap (λ (vs : List Version). unless_halted (store_in s) (flushed (length (front s)) vs)) is) refl
-        (front_fresh s, (s.given.devices.installed.flushed, s.given.known.flushed, ap (λ (xs : List Entry). length (later_versions xs s.given.devices.installed.flushed)) same ∙ ap (λ (vs : List Version). length vs) is)) tt (λ halted. halted)
+        (front_fresh s, omega arith, (s.given.devices.installed.flushed, s.given.known.flushed, ap (λ (xs : List Entry). length (later_versions xs s.given.devices.installed.flushed)) same ∙ ap (λ (vs : List Version). length vs) is)) tt (λ halted. halted)
 
 fewer : (keeps : Version → Bool) (versions : List Version) → length (filter keeps versions) ≤ length versions
 fewer keeps [] = omega arith

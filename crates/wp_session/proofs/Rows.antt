@@ -147,7 +147,7 @@ row_more e more later f last tables client p command.Rollback (reply.RolledBack 
 row_more e more later f last tables client p command.Leave reply.Left k = k
 row_more e more later f last tables client p (command.Take name) reply.Took k = was_more e.history more last name p k
 row_more e more later f last tables client p (command.Take name) (reply.Unknown other n) k = (k.0, fresh_more e.history more last n k.1, front_more (λ f. named f name ≡ None) e.history more n k.1.1 k.2)
-row_more e more later f last tables client p command.Flush (reply.Flushed n versions) k = (fresh_more e.history more last n k.0, flush_count_more e more later f n versions k.0.1 k.1)
+row_more e more later f last tables client p command.Flush (reply.Flushed n versions) k = (fresh_more e.history more last n k.0, k.1, flush_count_more e more later f n versions k.0.1 k.2)
 row_more e more later f last tables client p command.Flush reply.Nothing k = nothing_to_flush_more e more later f last k
 row_more e more later f last tables client p command.Flush (reply.Halted flushed) k = halted_more e more later f flushed k
 row_more e more later f last tables client p command.Flush reply.FaultTables k = k

@@ -11,8 +11,8 @@ use Rattle.wp_text.specs.declared.reply.Reply.TheVariants as reply
 use Rattle.wp_session.specs.declared.plan.Plan.{Plan}
 use Rattle.wp_session.specs.declared.plan.Plan.TheVariants.{Say, Log}
 use Rattle.wp_session.specs.Client.{Client, AreWithin}
-use Rattle.wp_session.specs.Kind.{Kind, Logged, RolledBack, kind, is_logged, says_logged, is_installed, says_installed}
-use Rattle.wp_session.specs.Replies.{LogFailed, Evidence, IsKnown, refusal_of, IsFresh, IsLoggedAt, TxnIsWithin, needed, Row, UnlessRefused, Allows}
+use Rattle.wp_session.specs.Kind.{Kind, Logged, RolledBack, kind, is_logged, says_logged, is_fault, is_installed, says_installed}
+use Rattle.wp_session.specs.Replies.{LogFailed, Evidence, IsKnown, refusal_of, IsFresh, IsLoggedAt, TxnIsWithin, needed, AsksFor, Row, UnlessRefused, Allows}
 use Rattle.wp_session.specs.Plan.{plan, asked_of, next}
 use Rattle.wp_session.specs.Due.{Store, logged, reply_to, due, IsReply, logged_entries, taken}
 use Rattle.wp_session.specs.Moments.{store_at, IsDueFrom}
@@ -134,9 +134,9 @@ logged_uninstalled store count made logs installs =
     ]
 
 -- the log takes so many entries, and the reply is this one; or it refuses them
-pub log_allowed : {client : Client} {c : Command} {answer : Reply} (s : Scene client c answer) (count : ℕ) (made : Reply) → refusal_of client c ≡ None → needed client.txn c ≡ count → 1 ≤ count
+pub log_allowed : {client : Client} {c : Command} {answer : Reply} (s : Scene client c answer) (count : ℕ) (made : Reply) → refusal_of client c ≡ None → needed client.txn c ≡ count → 1 ≤ count → AsksFor client.txn c (asked_of (plan (front s) client c))
     → due (store_in s) client c ≡ logged (store_in s) count made → is_logged made ≡ true → (answer ≡ made → RowOf s made) → IsAllowed s
-log_allowed {client = client} {c = c} {answer = answer} s count made free needs some due_is logs row = by_row s free (by s.given.replied)
+log_allowed {client = client} {c = c} {answer = answer} s count made free needs some asks due_is logs row = by_row s free (by s.given.replied)
   where
     needs_some : 1 ≤ needed client.txn c
     needs_some = omega (arith, needs, some)
@@ -160,7 +160,7 @@ log_allowed {client = client} {c = c} {answer = answer} s count made free needs 
 
     by : IsReply (store_in s) client c answer → RowOf s answer
     by (inl is) = on_log (is ∙ due_is)
-    by (inr (inl fault)) = subst (RowOf s) (sym fault.0) needs_some
+    by (inr (inl fault)) = subst (RowOf s) (sym fault.0) (subst (AsksFor client.txn c) (sym (s.given.asked (ap is_fault fault.0))) asks)
     by (inr (inr fault)) = let installs : is_installed (logged (store_in s) count made) ≡ true = subst (λ (r : Reply). is_installed r ≡ true) due_is fault.1 in absurd (logged_uninstalled (store_in s) count made logs installs)
 
 -- the entries of a reply that acknowledges them
@@ -170,10 +170,10 @@ entries_in {client = client} {c = c} s p made is logs answered =
     rw (logs, is) at all
 
 -- a plan with one entry
-pub one_allowed : {client : Client} {c : Command} {answer : Reply} (s : Scene client c answer) (e : Entry) (made : Reply) → plan (front s) client c ≡ Log e made → is_logged made ≡ true → refusal_of client c ≡ None → needed client.txn c ≡ 1
+pub one_allowed : {client : Client} {c : Command} {answer : Reply} (s : Scene client c answer) (e : Entry) (made : Reply) → plan (front s) client c ≡ Log e made → is_logged made ≡ true → refusal_of client c ≡ None → needed client.txn c ≡ 1 → AsksFor client.txn c (e ∷ [])
     → (IsLoggedAt s.evidence.history s.last (next (front s)) e → RowOf s made) → IsAllowed s
-one_allowed {client = client} s e made is logs free needs row =
-    log_allowed s 1 made free needs (omega arith) (ap (reply_to (store_in s) client) is) logs (λ answered.
+one_allowed {client = client} {c = c} s e made is logs free needs asks row =
+    log_allowed s 1 made free needs (omega arith) (subst (AsksFor client.txn c) (sym (ap asked_of is)) asks) (ap (reply_to (store_in s) client) is) logs (λ answered.
     let all = entries_in s (Log e made) made is logs answered in
     let here = entry_in_front s.evidence.history s.given.after (next (front s)) e (subst (λ (xs : List Entry). entry_at xs (next (front s)) ≡ Some e) (sym all) (next_entry (front s) [] e (next (front s)) refl)) in
     row (omega (arith, (front_fresh s).0), here))

@@ -13,7 +13,7 @@ pub data Kind : Type 0 where
   Stopped : Kind  -- the log had failed before
   Flushed : ℕ → Kind  -- one table more was installed, and this is the flushed number from then on
   Compacted : ℕ → ℕ → Kind  -- over so many entries all tables were merged, and so many versions are left
-  FailedTables : Kind  -- the manifest's device or the tables' failed
+  TablesFailed : Kind  -- the manifest's device or the tables' failed
   Halted : Kind  -- one of them had failed before
   Plain : Kind  -- it speaks of no entry
 
@@ -31,7 +31,7 @@ kind reply.FaultLog = Failed
 kind (reply.Stopped n) = Stopped
 kind (reply.Flushed n versions) = Flushed n
 kind (reply.Compacted n versions) = Compacted n versions
-kind reply.FaultTables = FailedTables
+kind reply.FaultTables = TablesFailed
 kind (reply.Halted flushed) = Halted
 kind other = Plain
 
@@ -95,7 +95,7 @@ abbrev pub is_compacted : Reply → Bool
 is_compacted answer = says_compacted (kind answer)
 
 abbrev pub says_tables_failed : Kind → Bool
-says_tables_failed FailedTables = true
+says_tables_failed TablesFailed = true
 says_tables_failed other = false
 
 -- the manifest's device or the tables' failed at its command

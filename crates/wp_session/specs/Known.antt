@@ -16,5 +16,5 @@ is_said history flushed all others OtherCompacted = list_any is_compacted others
 is_said history flushed all others claim = false
 
 -- what a client's replies are judged by
-abbrev pub evidence_of : List Entry → ℕ → ℕ → List Reply → List Reply → Evidence
-evidence_of history limit flushed all others = record { history = history; limit = limit; known = is_said history flushed all others }
+abbrev pub evidence_of : List Entry → ℕ → List Entry → ℕ → List Reply → List Reply → Evidence
+evidence_of history limit failed flushed all others = record { history = history; limit = limit; failed = failed; known = is_said history flushed all others }

@@ -5,7 +5,8 @@ use Rattle.wp_text.specs.declared.script.Command.{Command}
 use Rattle.wp_text.specs.declared.reply.Reply.{Reply}
 use Rattle.wp_session.specs.Client.{Client}
 use Rattle.wp_session.specs.Due.{Store, IsReply, logged_entries, client_after}
-use Rattle.wp_session.specs.Kind.{fresh_in, tables_after}
+use Rattle.wp_session.specs.Kind.{is_fault, fresh_in, tables_after}
+use Rattle.wp_session.specs.Plan.{plan, asked_of}
 use Rattle.wp_session.specs.Replies.{LogFailed, WasFlushed, TablesFailed, OtherCompacted, Evidence, IsKnown}
 
 -- what a store has beside its history
@@ -42,6 +43,8 @@ pub record IsDueFrom (evidence : Evidence) (from tables : ℕ) (client : Client)
   pub replied : IsReply (store_at evidence devices before) client command answer
   pub logged : take after evidence.history ≡ take before evidence.history ++ logged_entries (store_at evidence devices before) client command answer
   pub fresh : IfSome (fresh_in command answer) (λ n. (before ≤ n) × (n ≤ after))
+  -- what the log failed to take is what the command asked for
+  pub asked : is_fault answer ≡ true → evidence.failed ≡ asked_of (plan (take before evidence.history) client command)
 
 abbrev pub AreDueFrom : Evidence → ℕ → ℕ → Client → List Command → List Reply → Type 0
 AreDueFrom evidence from tables client [] [] = Unit {0}

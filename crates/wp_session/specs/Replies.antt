@@ -33,6 +33,7 @@ pub data Claim : Type 0 where
 pub record Evidence : Type 0 where
   pub history : List Entry
   pub limit : ℕ  -- the greatest number that an entry may have
+  pub failed : List Entry  -- the entries of the record that the log failed to take
   pub known : Claim → Bool  -- what is known of the other clients, of the log and of the tables
 
 abbrev pub IsKnown : Evidence → Claim → Type 0
@@ -141,6 +142,16 @@ needed (Prepared p) command.Commit = 1
 needed (Prepared p) command.Rollback = 2
 needed txn other = 0
 
+-- the entries that the command asks the log for, as one record
+abbrev pub AsksFor : Txn → Command → List Entry → Type 0
+AsksFor Idle (command.Put key value) entries = entries ≡ entry.Write (change.Put key value ∷ []) ∷ []
+AsksFor Idle (command.Del key) entries = entries ≡ entry.Write (change.Del key ∷ []) ∷ []
+AsksFor (Open name batch) command.Prepare entries = entries ≡ entry.Prepare name batch ∷ []
+AsksFor (Open name batch) command.Commit entries = entries ≡ entry.Write batch ∷ []
+AsksFor (Prepared p) command.Commit entries = entries ≡ entry.Commit p ∷ []
+AsksFor (Prepared p) command.Rollback entries = (batch : List Change) × (entries ≡ entry.Undo p batch ∷ entry.Close p ∷ [])
+AsksFor txn other entries = ⊥
+
 -- ---- transactions in the log
 
 abbrev pub PreparesAt : List Entry → ℕ → Txn → ℕ → Type 0
@@ -188,7 +199,7 @@ IsHaltedAt evidence flushed = IsKnown evidence (WasFlushed flushed) × IsKnown e
 -- alone decides.
 abbrev pub Row : Evidence → ℕ → ℕ → Client → ℕ → Command → Reply → Type 0
 Row evidence last tables client p command (reply.Full published most) = (1 ≤ needed client.txn command) × IsFresh evidence.history last published × (most ≡ evidence.limit) × (evidence.limit < published + needed client.txn command)
-Row evidence last tables client p command reply.FaultLog = 1 ≤ needed client.txn command
+Row evidence last tables client p command reply.FaultLog = AsksFor client.txn command evidence.failed
 Row evidence last tables client p command (reply.Stopped n) = (1 ≤ needed client.txn command) × IsFresh evidence.history last n × IsKnown evidence (LogFailed n)
 Row evidence last tables client p (command.Put key value) (reply.Put n) = (client.txn ≡ Idle) × IsLoggedAt evidence.history last n (entry.Write (change.Put key value ∷ []))
 Row evidence last tables client p (command.Put key value) reply.Held = TxnIsOpen client.txn
@@ -213,7 +224,7 @@ Row evidence last tables client p command.Rollback (reply.RolledBack n) = RollsB
 Row evidence last tables client p command.Leave reply.Left = Unit {0}
 Row evidence last tables client p (command.Take name) reply.Took = WasUndecided evidence.history last name p
 Row evidence last tables client p (command.Take name) (reply.Unknown other n) = (other ≡ name) × IsFresh evidence.history last n × (named (take n evidence.history) name ≡ None)
-Row evidence last tables client p command.Flush (reply.Flushed n versions) = IsFresh evidence.history last n × IsFlushCount evidence n versions
+Row evidence last tables client p command.Flush (reply.Flushed n versions) = IsFresh evidence.history last n × (1 ≤ versions) × IsFlushCount evidence n versions
 Row evidence last tables client p command.Flush reply.Nothing = HasNothingToFlush evidence last
 Row evidence last tables client p command.Flush (reply.Halted flushed) = IsHaltedAt evidence flushed
 Row evidence last tables client p command.Flush reply.FaultTables = Unit {0}

@@ -1,4 +1,5 @@
-use Rattle.std.proofs.Common.{rules, ◌≡◌}
+use Rattle.std.proofs.Common.{rules, ◌≡◌, refl}
+use Rattle.wp_run.proofs.Failing.{not_failed, log_fails}
 use Rattle.wp_session.specs.declared.plan.Plan.TheVariants.{Say, Log, RollBack}
 use Rattle.wp_session.specs.Plan.{plan}
 use Rattle.wp_run.specs.Answering.{IsLogAnswer}
@@ -50,6 +51,21 @@ returns-in_ok-entries-in-RollBack-clause-fits g c =
     let planned : plan c.args.engine.now.entries c.args.client.now c.args.command.now ≡ RollBack c.in-RollBack.p c.in-RollBack.batch c.in-RollBack.reply = search rules in
     let logs = plan_rolls_back c.undo_is_followed_by_its_close.ensures _ _ _ _ _ _ c.history.ensures.closed c.requires.fits c.changes.ensures.batch planned in
     on_answered _ (λ r. IsLogAnswer c.args.engine.now c.args.client.now c.in_ok-entries-in-RollBack.entries.items c.in-RollBack.reply r c.log_for-in-RollBack.new.engine c.log_for-in-RollBack.new.client) _ c.log_for-in-RollBack.ensures.answered (λ answer logged. logged_fits _ _ _ _ _ _ answer logs c.requires.fits (rw c.in_ok-entries-in-RollBack.ensures.items at logged))
+
+pub returns-in_ok-entries-in-Log-clause-failed : goal.returns-in_ok-entries-in-Log-clause-failed
+returns-in_ok-entries-in-Log-clause-failed g c =
+    let planned : plan c.args.engine.now.entries c.args.client.now c.args.command.now ≡ Log c.in-Log.entry c.in-Log.reply = search rules in
+    if_answered _ (λ r. IsLogAnswer c.args.engine.now c.args.client.now c.in_ok-entries-in-Log.entries.items c.in-Log.reply r c.log_for.new.engine c.log_for.new.client) _ c.log_for.ensures.answered
+    (λ answer logged. log_fails _ _ _ _ c.args.command.now _ _ answer (rw (planned, c.in_ok-entries-in-Log.ensures.items) refl) logged)
+
+pub returns-in_ok-entries-in-RollBack-clause-failed : goal.returns-in_ok-entries-in-RollBack-clause-failed
+returns-in_ok-entries-in-RollBack-clause-failed g c =
+    let planned : plan c.args.engine.now.entries c.args.client.now c.args.command.now ≡ RollBack c.in-RollBack.p c.in-RollBack.batch c.in-RollBack.reply = search rules in
+    if_answered _ (λ r. IsLogAnswer c.args.engine.now c.args.client.now c.in_ok-entries-in-RollBack.entries.items c.in-RollBack.reply r c.log_for-in-RollBack.new.engine c.log_for-in-RollBack.new.client) _ c.log_for-in-RollBack.ensures.answered
+    (λ answer logged. log_fails _ _ _ _ c.args.command.now _ _ answer (rw (planned, c.in_ok-entries-in-RollBack.ensures.items) refl) logged)
+
+pub returns-in_ok-take-in-Say-clause-failed : goal.returns-in_ok-take-in-Say-clause-failed
+returns-in_ok-take-in-Say-clause-failed g c = not_failed c.args.engine.now c.args.engine.now _ refl
 
 pub returns-in_ok-take-in-Say-clause-steps : goal.returns-in_ok-take-in-Say-clause-steps
 returns-in_ok-take-in-Say-clause-steps g c =
