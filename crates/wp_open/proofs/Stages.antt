@@ -1,5 +1,5 @@
 -- What each step of an opening says of the whole: why it is refused, and what it leaves.
-use Rattle.std.proofs.Common.{◌≡◌, ◌↔◌, ℕ, ◌<◌, ◌^◌, Bool, true, false, true≢false, List, [], ◌∷◌, length, inl, inr, sym, subst, ◌∙◌}
+use Rattle.std.proofs.Common.{◌≡◌, ◌↔◌, ℕ, ◌<◌, ◌^◌, Bool, true, false, true≢false, List, [], ◌∷◌, length, sym, subst, ◌∙◌}
 use Rattle.wp_model.specs.declared.entry.Entry.{Entry}
 use Rattle.wp_model.specs.declared.version.Version.{Version}
 use Rattle.wp_model.specs.Legal.{IsLegal}
@@ -27,8 +27,8 @@ use Rattle.wp_open.specs.declared.opening.OpenError.{OpenError}
 use Rattle.wp_open.specs.declared.opening.OpenError.TheVariants as open_error
 use Rattle.wp_open.specs.Damage.{Finds, IsLogDamaged, IsManifestDamaged, IsTableNamed, IsUncovered, IsEditDamaged, log_behind, in_tables, uncovered, IsDamaged, in_log, in_manifest, in_edit}
 use Rattle.wp_open.specs.Opens.{AreCovering, Opens, AllKnown}
-use Rattle.wp_open.specs.Refused.{IsCause, of_log, of_manifest, of_edit, IsOfTables, IsOutside, IsLogReason, IsManifestReason, IsLogLeft, IsManifestLeft, IsLeft, at_log, at_manifest, at_edit, at_tables}
-use Rattle.wp_open.specs.Tables.{AreTablesCause, IsStoreCause, behind, of_tables, not_covered, IsAtMostSynced, LeavesSynced}
+use Rattle.wp_open.specs.Refused.{IsCause, of_log, of_manifest, of_edit, IsOfTables, IsOutside, IsLogReason, IsManifestReason, IsLogLeft, IsManifestLeft, IsLeft, at_edit, at_tables}
+use Rattle.wp_open.specs.Tables.{AreTablesCause, IsStoreCause, behind, of_tables, not_covered, LeavesSynced}
 
 -- ---- the tables, once synced
 
@@ -139,16 +139,3 @@ edit_left same_manifest same_tables rose log log_now manifest manifest_now table
     at_tables id history list log_rests rests (rw (← is) low) (of_the_tables id edit rose tables why cause) left
 edit_left same_manifest same_tables rose log log_now manifest manifest_now tables tables_now id history list edit why is log_rests rests (not_covered low named none) left =
     at_tables id history list log_rests rests (rw (← is) low) (subst (IsOfTables id) (sym named) tt) left
-
-synced_or_same : (same : Type 0) (old new : List Moment) (why : OpenError) → (same → new ≡ old) → LeavesSynced same old new why → IsAtMostSynced old new
-synced_or_same same old new open_error.Memory is left = inr left
-synced_or_same same old new (open_error.OpenFault failed) is left = left
-synced_or_same same old new (open_error.Contents (bad.LogBehind flushed published)) is left = inl (is left)
-synced_or_same same old new (open_error.Contents other) is left = inr left
-
--- whatever the reason, the tables' device was at most synced
-pub tables_left : (same_manifest same_tables : Type 0) (log log_now manifest manifest_now tables tables_now : List Moment) (why : OpenError) → (same_tables → tables_now ≡ tables) → IsLeft same_manifest same_tables log log_now manifest manifest_now tables tables_now why → IsAtMostSynced tables tables_now
-tables_left same_manifest same_tables log log_now manifest manifest_now tables tables_now why is (at_log refusal reason records manifest_same tables_same) = inl (is tables_same)
-tables_left same_manifest same_tables log log_now manifest manifest_now tables tables_now why is (at_manifest id history refusal log_rests reason list survives tables_same) = inl (is tables_same)
-tables_left same_manifest same_tables log log_now manifest manifest_now tables tables_now why is (at_edit id history list log_rests rests lt named tables_same) = inl (is tables_same)
-tables_left same_manifest same_tables log log_now manifest manifest_now tables tables_now why is (at_tables id history list log_rests rests low reason left) = synced_or_same same_tables tables tables_now why is left
