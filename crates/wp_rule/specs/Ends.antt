@@ -2,6 +2,7 @@
 use Rattle.wp_core.specs.Turns.{Turn, write_turn, prepared_turn, snapshots_turn, store_turn, locks_turn, tables_turn}
 use Rattle.wp_rule.specs.declared.part.Parts.{Parts}
 
+-- the value behind a turn
 abbrev pub part_of : {S : Type 0} → Parts S → Turn → S
 part_of parts write_turn = parts.write
 part_of parts prepared_turn = parts.prepared

@@ -36,11 +36,12 @@ abbrev pub AreMet : List Step → World → ℕ → Actor → Type 0
 AreMet [] w by a = Unit {0}
 AreMet (step ∷ steps) w by a = Needs w by a step × AreMet steps (world_after_step w by a step) by (actor_after_step w a step)
 
--- the world, and the actor, once all were made
+-- the world once all were made
 abbrev pub world_after : List Step → World → ℕ → Actor → World
 world_after [] w by a = w
 world_after (step ∷ steps) w by a = world_after steps (world_after_step w by a step) by (actor_after_step w a step)
 
+-- the actor once it made them all
 abbrev pub actor_after : List Step → World → ℕ → Actor → Actor
 actor_after [] w by a = a
 actor_after (step ∷ steps) w by a = actor_after steps (world_after_step w by a step) by (actor_after_step w a step)
@@ -71,6 +72,7 @@ IsQuiet (learn other b) = ⊥
 IsQuiet (join_seat other b) = ⊥
 IsQuiet other = Unit {0}
 
+-- each of them may be
 abbrev pub AreQuiet : List Step → Type 0
 AreQuiet [] = Unit {0}
 AreQuiet (step ∷ steps) = IsQuiet step × AreQuiet steps

@@ -28,6 +28,7 @@ facts_at other w = []
 abbrev pub taking : Turn → World → List machine.Step
 taking turn w = take_turn turn ∷ map note (facts_at turn w)
 
+-- the actor then: it has the table, and has noted these
 abbrev pub with_turn : Turn → World → Actor → Actor
 with_turn turn w a = record a { held = content_of w turn ∷ a.held; notes = facts_at turn w ++ a.notes }
 
@@ -38,6 +39,7 @@ module _ {S : Type 0} (p : Place) where
   abbrev pub loads : (World → List machine.Step) → Step S → Me S Actor → ℕ → Me S Actor → Type 0
   loads steps st m found m' = (m'.1 ≡ m.1) × Moved p steps (λ w. found ≡ slice_index (words_of w) st.word) m.0 m'.0
 
+  -- the steps were made
   abbrev pub stores : (World → List machine.Step) → Step S → Me S Actor → ℕ → Me S Actor → Type 0
   stores steps st m stored m' = (m'.1 ≡ m.1) × Moved p steps (λ w. Unit {0}) m.0 m'.0
 

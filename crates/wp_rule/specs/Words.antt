@@ -15,6 +15,7 @@ abbrev pub turn_word : Option ℕ → ℕ
 turn_word None = 0
 turn_word (Some by) = 1
 
+-- the words of the six, in their order
 abbrev pub turn_words : Holders → List ℕ
 turn_words h = turn_word h.write ∷ turn_word h.prepared ∷ turn_word h.snapshots ∷ turn_word h.store ∷ turn_word h.locks ∷ turn_word h.tables ∷ []
 
@@ -39,6 +40,7 @@ pub record Place : Type 0 where
   pub cells : ℕ
   pub by : ℕ
 
+-- the place of a seat with this number
 abbrev pub place_of : SharedWords → ℕ → Place
 place_of words by = record { opened = words.opened; cells = words.cells; by = by }
 
