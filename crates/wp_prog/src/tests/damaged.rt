@@ -179,6 +179,26 @@ const FIVE: &str = "client a\nput k 1\nput k 2\nput k 3\nput k 4\nput k 5\n";
 const SEVEN: &[u8] =
     b"\x01WPMF\x01\0\0\0\x01\x01\0\0\0\0\0\0\0\x08\0\0\0\x02\0\0\0\0\x01\0\0\0\0\0\0\0\x08\0\0\0\x07\0\0\0\0\0";
 
+/// A manifest without an edit, of store 1.
+const NO_EDIT: &[u8; 11] = b"\x01WPMF\x01\0\0\0\x01\0";
+
+/// Manifests that a crash left unfinished, and what an opening makes of them: what stands behind a closed gate goes, also where
+/// it is a whole edit, of a table that is not there.
+const UNFINISHED: [(&[u8], &[u8]); 6] = [
+    (b"", NO_EDIT),
+    (b"\0", NO_EDIT),
+    (b"\x01", NO_EDIT),
+    (b"\0WPMF\x01\0\0\0\x02\x01\0\0", NO_EDIT),
+    (
+        b"\x01WPMF\x01\0\0\0\x01\x01\0\0\0\0\0\0\0\x18\0\0\0\x01\0\0\0\x01\0\0\0\0\0\0\0\0\0\0\0\0\0\0\0\x35\0\0\0\0",
+        MANIFEST,
+    ),
+    (
+        b"\x01WPMF\x01\0\0\0\x01\x01\0\0\0\0\0\0\0\x18\0\0\0\x01\0\0\0\x01\0\0\0\0\0\0\0\0\0\0\0\0\0\0\0\x35\0\0\0\0\0\0\0\0\x18\0\0\0\x01\0\0\0\x01\0\0\0\0\0\0\0\x35\0\0\0\0\0\0\0\x35\0",
+        MANIFEST,
+    ),
+];
+
 /// The bytes with one of them replaced.
 fn with_byte(alloc: Global, bytes: &[u8], place: usize, byte: u8) -> Result<Vec<u8>, AllocError> {
     let mut changed = bytes.to_vec(alloc)?;
@@ -252,5 +272,17 @@ fn devices_that_are_damaged_or_disagree_are_refused(rt: HostRuntime) -> Result<(
         is_refused(&rt, stored, "wp: contents: log behind 7 5")?,
         "log behind"
     );
+    Ok(())
+}
+
+#[test]
+fn an_unfinished_manifest_is_repaired_or_made(rt: HostRuntime) -> Result<(), Fail> {
+    for (manifest, left) in UNFINISHED {
+        let show = seen(&rt, &show_of(Stored { manifest, ..WHOLE }))?;
+        assert_eq!(rt; show.code, 0);
+        assert_eq!(rt; show.text.as_slice(), b"history\n1 write put k 1\nend 1 0\n".as_slice());
+        assert_eq!(rt; show.manifest.as_slice(), left);
+        assert_eq!(rt; show.tables.as_slice(), TABLE.as_slice());
+    }
     Ok(())
 }
