@@ -1,5 +1,5 @@
 -- What the log failed to take, as the clients are answered one after another.
-use Rattle.std.proofs.Common.{◌≡◌, ◌⊎◌, Bool, true, false, true≢false, List, [], ◌∷◌, ◌++◌, refl, sym, ap, ◌∙◌, subst, inl, inr}
+use Rattle.std.proofs.Common.{◌≡◌, Bool, true, false, true≢false, List, [], ◌∷◌, ◌++◌, refl, sym, ap, ◌∙◌, subst, inl, inr}
 use Rattle.std.proofs.lemmas.List.{append-nil}
 use Rattle.wp_model.specs.declared.entry.Entry.{Entry}
 use Rattle.wp_text.specs.declared.script.Command.{Command}
@@ -60,7 +60,7 @@ asks_first e old new was now (c ∷ commands) rest [] h asks = absurd h
 asks_first e old new was now (c ∷ commands) rest (a ∷ answers) h (inl here) = inl here
 asks_first e old new was now (c ∷ commands) rest (a ∷ answers) (mid, next, step, more) (inr asks) =
     inr (after_step (λ s x. FaultAsks e s x commands answers) old mid was next c a step
-        (asks_first e mid new next now commands rest answers more (from_step (λ s x. FaultAsks e s x (commands ++ rest) answers) old mid was next c a step asks)))
+    (asks_first e mid new next now commands rest answers more (from_step (λ s x. FaultAsks e s x (commands ++ rest) answers) old mid was next c a step asks)))
 
 -- ---- one client more
 

@@ -289,7 +289,13 @@ flush_answered old new was c answer (Ok (Some count)) planned few made is =
     ap (λ (n : ℕ). reply.Flushed (length old.entries) n) made.1 ∙ sym (flush_due old was c planned made.2.running (omega (arith, made.0, made.1))) in
     subst (λ (r : Reply). IsStep (store_of old) was c r (store_of new) was) (sym is)
     (edit_made old new was c (reply.Flushed (length old.entries) count) (rw planned made.2) said refl refl (record {
-      none = refl; unlogged = refl; faultless = refl; intact = refl; stopped = λ t. absurd cc; halted = λ t. absurd cc; current = fresh_if_numbered _ c (reply.Flushed (length old.entries) count) refl;
+      none = refl;
+      unlogged = refl;
+      faultless = refl;
+      intact = refl;
+      stopped = λ t. absurd cc;
+      halted = λ t. absurd cc;
+      current = fresh_if_numbered _ c (reply.Flushed (length old.entries) count) refl;
     }) (is_flush planned (ap (λ (n : ℕ). reply.Flushed (length old.entries) n) made.1)) few)
 flush_answered old new was c answer (Ok None) planned few none is =
     step_at (store_of old) (store_of new) was was c answer reply.Nothing is (ap store_of none.2) refl
@@ -310,7 +316,13 @@ compaction_answered old new was c answer (Ok (Some count)) planned few made is =
     ap (λ (n : ℕ). reply.Compacted (length old.entries) n) made.1 ∙ sym (compaction_due old was c planned made.2.running made.0) in
     subst (λ (r : Reply). IsStep (store_of old) was c r (store_of new) was) (sym is)
     (edit_made old new was c (reply.Compacted (length old.entries) count) (rw planned made.2) said refl refl (record {
-      none = refl; unlogged = refl; faultless = refl; intact = refl; stopped = λ t. absurd cc; halted = λ t. absurd cc; current = fresh_if_numbered _ c (reply.Compacted (length old.entries) count) refl;
+      none = refl;
+      unlogged = refl;
+      faultless = refl;
+      intact = refl;
+      stopped = λ t. absurd cc;
+      halted = λ t. absurd cc;
+      current = fresh_if_numbered _ c (reply.Compacted (length old.entries) count) refl;
     }) (is_compaction planned (ap (λ (n : ℕ). reply.Compacted (length old.entries) n) made.1)) few)
 compaction_answered old new was c answer (Ok None) planned few none is =
     step_at (store_of old) (store_of new) was was c answer reply.Nothing is (ap store_of none.2) refl

@@ -42,7 +42,7 @@ use Rattle.wp_run.proofs.Asked.{AllAskOnly, all_ask_only, all_none_yet}
 use Rattle.wp_run.proofs.Explained.{explained}
 use Rattle.wp_run.proofs.Failing.{HasFailedTo, has_failed}
 use Rattle.wp_run.proofs.Keeping.{records_trans, fronts_trans}
-use Rattle.wp_run.proofs.Opened.{opens_to, fronts_synced}
+use Rattle.wp_run.proofs.Opened.{fronts_synced}
 use Rattle.wp_run.proofs.RunLemmas.{firsts_ran}
 
 -- ---- a store
@@ -183,9 +183,10 @@ engine_of wal entries edits moments faults store limit = record {
 -- how it was served
 pub serves_opened : DueIsSession → (s : Serving) (wal : WalState) (history : List Entry) (edits : ManifestState) (moments : List Moment) (faults : ℕ) (store : StoreParts) (end : Status)
     → PartsOpened s.id s.disks.log.before s.disks.manifest.before s.disks.tables.before wal history edits moments store
+    → AllKnown s.disks.log.before s.disks.manifest.before s.disks.tables.before (OpensTo wal.id history (installed_of edits.edit store.tables))
     → s.disks.log.faults_before ≤ wal.faults → s.disks.manifest.faults_before ≤ edits.log.faults → s.disks.tables.faults_before ≤ faults
     → Finished (engine_of wal history edits moments faults store s.limit) s end → Serves s end
-serves_opened law s wal history edits moments faults store end o log manifest tables h =
+serves_opened law s wal history edits moments faults store end o opens log manifest tables h =
     serves law (engine_of wal history edits moments faults store s.limit) s end (record {
       running = refl;
       unhalted = refl;
@@ -196,7 +197,7 @@ serves_opened law s wal history edits moments faults store end o log manifest ta
       tables_counted = tables;
       spelled = o.found;
       made = o.made;
-      opened = opens_to s.id s.disks.log.before s.disks.manifest.before s.disks.tables.before wal history edits moments store o;
+      opened = opens;
     }) h
 
 -- what was for good before the opening is so in the end

@@ -25,7 +25,7 @@ pub returns-in-Ok-clause-serves : goal.returns-in-Ok-clause-serves
 returns-in-Ok-clause-serves g c =
     let opened = c.in-Ok.opened in
     serves_opened c.due_is_session.ensures _ opened.wal opened.history.entries opened.manifest _ _ opened.store c.finish.result.status
-    c.in-Ok.ensures.opened c.in-Ok.ensures.log_later c.in-Ok.ensures.manifest_later c.in-Ok.ensures.tables_later
+    c.in-Ok.ensures.opened c.in-Ok.ensures.opens c.in-Ok.ensures.log_later c.in-Ok.ensures.manifest_later c.in-Ok.ensures.tables_later
     (rw c.new.ensures at c.finish.ensures.finishes)
 
 pub returns-in-Ok-clause-durable : goal.returns-in-Ok-clause-durable
