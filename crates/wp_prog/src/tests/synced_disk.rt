@@ -43,13 +43,13 @@ impl SyncedDisk {
     pub(super) fn synced(&self) -> &[u8] {
         &self.synced
     }
+}
 
-    /// Keeps the bytes; without memory none of them, so that a test fails.
-    fn keep(&mut self) {
-        self.synced.clear();
-        if self.synced.extend_from_slice(self.disk.bytes()).is_err() {
-            self.synced.clear();
-        }
+/// Keeps these bytes in place of the others; without memory none, so that a test fails.
+fn keep(synced: &mut Vec<u8>, bytes: &[u8]) {
+    synced.clear();
+    if synced.extend_from_slice(bytes).is_err() {
+        synced.clear();
     }
 }
 
@@ -76,7 +76,7 @@ impl Disk for SyncedDisk {
 
     fn sync(&mut self) -> Result<(), Failed> {
         self.disk.sync()?;
-        self.keep();
+        keep(&mut self.synced, self.disk.bytes());
         Ok(())
     }
 
