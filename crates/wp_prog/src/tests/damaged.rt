@@ -280,7 +280,10 @@ fn an_unfinished_manifest_is_repaired_or_made(rt: HostRuntime) -> Result<(), Fai
     for (manifest, left) in UNFINISHED {
         let show = seen(&rt, &show_of(Stored { manifest, ..WHOLE }))?;
         assert_eq!(rt; show.code, 0);
-        assert_eq!(rt; show.text.as_slice(), b"history\n1 write put k 1\nend 1 0\n".as_slice());
+        assert_eq!(rt;
+            show.text.as_slice(),
+            b"history\n1 write put k 1\nend 1 0\n".as_slice()
+        );
         assert_eq!(rt; show.manifest.as_slice(), left);
         assert_eq!(rt; show.tables.as_slice(), TABLE.as_slice());
     }

@@ -401,7 +401,11 @@ fn wrong_stop<R: Threads + Wait + Sync + AllocGlobal>(
             calls += 1;
         }
     }
-    Ok(if calls < MOST_CALLS { None } else { Some(calls) })
+    Ok(if calls < MOST_CALLS {
+        None
+    } else {
+        Some(calls)
+    })
 }
 
 /// The other devices go on.
