@@ -293,7 +293,7 @@ fn image(
 }
 
 /// The lengths at which bytes are torn.
-const WRITTEN: [usize; 6] = [0, 1, 8, 9, 20, 1000];
+const WRITTEN: [usize; 4] = [0, 1, 9, 1000];
 
 /// Whether this image of each device opens to one of the stages and works on.
 fn image_opens<R: Threads + Wait + Sync + AllocGlobal>(
@@ -372,9 +372,34 @@ fn first_lines(text: &[u8], count: usize) -> &[u8] {
     text
 }
 
-/// The first number of calls after which the device stops with another end than is due, or leaves an image that does not
-/// open; none where the script comes to a run without fault. The script is run as far as these lines, and then as far as each
-/// line after them, the device stopping at each call that is new there.
+/// Lets the device stop after so many calls and after each number more, until these commands come to a run without fault: after
+/// how many calls that is; or else after how many it stops with another end than is due, or leaves an image that does not open.
+fn stops<R: Threads + Wait + Sync + AllocGlobal>(
+    rt: &R,
+    swept: &Swept,
+    commands: &[u8],
+    made: &Outcome,
+    device: Device,
+    from: u64,
+) -> Result<Result<u64, u64>, AllocError> {
+    for calls in from..MOST_CALLS {
+        let given = given(swept, commands, left_by(made), device, &[], calls);
+        let outcome = seen(rt, &given)?;
+        if outcome.code == 0 {
+            return Ok(Ok(calls));
+        }
+        let stages = stages_of(swept, &outcome);
+        if !ended_so(rt.alloc(), swept, &outcome, device, calls.saturating_add(1))?
+            || !images_open(rt, &outcome, stages)?
+        {
+            return Ok(Err(calls));
+        }
+    }
+    Ok(Err(MOST_CALLS))
+}
+
+/// The first number of calls after which the device stops wrongly. The script is run as far as these lines, and then as far as
+/// each line after them, the device stopping at each call that is new there.
 fn wrong_stop<R: Threads + Wait + Sync + AllocGlobal>(
     rt: &R,
     swept: &Swept,
@@ -383,29 +408,15 @@ fn wrong_stop<R: Threads + Wait + Sync + AllocGlobal>(
 ) -> Result<Option<u64>, AllocError> {
     let made = made(rt, swept)?;
     let script = swept.commands.as_bytes();
-    let mut calls = 0;
+    let mut from = 0;
     for lines in lines..=count_lines(script) {
         let commands = first_lines(script, lines);
-        for _ in calls..MOST_CALLS {
-            let given = given(swept, commands, left_by(&made), device, &[], calls);
-            let outcome = seen(rt, &given)?;
-            if outcome.code == 0 {
-                break;
-            }
-            let stages = stages_of(swept, &outcome);
-            if !ended_so(rt.alloc(), swept, &outcome, device, calls + 1)?
-                || !images_open(rt, &outcome, stages)?
-            {
-                return Ok(Some(calls));
-            }
-            calls += 1;
+        match stops(rt, swept, commands, &made, device, from)? {
+            Ok(calls) => from = calls,
+            Err(calls) => return Ok(Some(calls)),
         }
     }
-    Ok(if calls < MOST_CALLS {
-        None
-    } else {
-        Some(calls)
-    })
+    Ok(None)
 }
 
 /// The other devices go on.
