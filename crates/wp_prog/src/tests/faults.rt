@@ -293,7 +293,7 @@ fn image(
 }
 
 /// The lengths at which bytes are torn.
-const WRITTEN: [usize; 4] = [0, 1, 9, 1000];
+const WRITTEN: [usize; 3] = [0, 9, 1000];
 
 /// Whether this image of each device opens to one of the stages and works on.
 fn image_opens<R: Threads + Wait + Sync + AllocGlobal>(
