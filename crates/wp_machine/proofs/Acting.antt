@@ -1,6 +1,6 @@
 -- An actor is taken out of a world, makes its step, and is put back.
 use Rattle.std.specs.Prelude.{slice_get, option_map}
-use Rattle.std.proofs.Common.{◌≡◌, ◌≢◌, unwrap_or, ℕ, zero, suc, ◌<◌, ◌≤◌, List, [], ◌∷◌, length, set, get_or, OnOk, Ok, Err, Result, refl, sym, ap, ◌∙◌, arith, ◌++◌, filter, not, Option, Some, None, IfOk, true, false}
+use Rattle.std.proofs.Common.{◌≡◌, ◌≢◌, unwrap_or, ℕ, zero, suc, ◌<◌, ◌≤◌, List, [], ◌∷◌, length, set, get_or, OnOk, Ok, Err, Result, refl, sym, subst, ap, ◌∙◌, arith, ◌++◌, filter, not, Option, Some, None, IfOk, true, false}
 use mathlib.Core.Option.{some-injective}
 use Rattle.std.proofs.lemmas.List.{set-set}
 use Rattle.wp_core.specs.World.{World, Actor, new_actor}
@@ -27,6 +27,10 @@ use Rattle.std.specs.declared.alloc.AllocError.{AllocError}
 pub at_by : (r : Result (Unit {0}) AllocError) (P : ℕ → Type 0) (by : ℕ) → OnOk r ((by : ℕ) → P by) → OnOk r (P by)
 at_by (Ok x) P by f = f by
 at_by (Err e) P by f = f
+
+-- what is the effect of a step is that of each step that is the same
+pub same_effect : (r : Result (Unit {0}) AllocError) (w next : World) (a b : Actor) (t s : Step) → Some t ≡ Some s → OnOk r ((by : ℕ) → IsEffect by w a t next b) → OnOk r ((by : ℕ) → IsEffect by w a s next b)
+same_effect r w next a b t s e = subst (λ (z : Step). OnOk r ((by : ℕ) → IsEffect by w a z next b)) (ap (λ o. unwrap_or o t) e)
 
 pub at_index : {X : Type 0} (xs : List X) (i : ℕ) (d : X) → i < length xs → get_elem? xs i ≡ some (get_or xs i d)
 at_index [] i d l = absurd (omega arith)
@@ -114,7 +118,7 @@ is_with w other f s e = by (slice_get w.actors other) refl e
 made_actor : (w next : World) (by : ℕ) (k : ActorsStep) (a : Actor) (s : Step) → step_of w a.participant (kind.Actors k) ≡ Some s → next ≡ done w by a s → next ≡ done w by (forgets w.writes.history (length w.cache) s a) s
 made_actor w next by k a s e n = n ∙ ap (λ (z : Actor). done w by z s) (ap (λ xs. record a { notes = xs }) (sym (all_stay a.notes) ∙ left_as w a.participant (kind.Actors k) s e a.notes))
 
-on_ok : (r : Result (Unit {0}) AllocError) (P Q : Type 0) → (P → Q) → OnOk r P → OnOk r Q
+pub on_ok : (r : Result (Unit {0}) AllocError) (P Q : Type 0) → (P → Q) → OnOk r P → OnOk r Q
 on_ok (Ok x) P Q f p = f p
 on_ok (Err e) P Q f p = p
 

@@ -166,20 +166,13 @@ fn make_actor(world: &mut World, by: usize, kind: ActorsStep) -> Result<(), Allo
     }
 }
 
-fn make(world: World, by: usize, kind: Kind) -> Result<World, AllocError>
-    requires { MayMake world by kind }
-    ensures { IfOk result (λ next. Makes world by kind next) }
+fn make(world: &mut World, by: usize, kind: Kind) -> Result<(), AllocError>
+    requires { MayMake world.old by kind }
+    ensures { OnOk result (Makes world.old by kind world.new) }
 {
-    let mut world = world;
     match kind {
-        Kind::Actors(kind) => {
-            make_actor(&mut world, by, kind)?;
-            Ok(world)
-        }
-        other => {
-            act(&mut world, by, other)?;
-            Ok(world)
-        }
+        Kind::Actors(kind) => make_actor(world, by, kind),
+        other => act(world, by, other),
     }
 }
 
@@ -195,5 +188,7 @@ pub fn apply(world: World, step: Step) -> Result<World, AllocError>
 {
     steps_keep_sound();
     let Step { by, kind } = step;
-    make(world, by, kind)
+    let mut world = world;
+    make(&mut world, by, kind)?;
+    Ok(world)
 }

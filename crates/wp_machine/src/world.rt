@@ -1,8 +1,11 @@
-ghost use Rattle.std.specs.Prelude.{◌≡◌, ◌≤◌, true, [], ◌∷◌, None, replicate, IfOk};
+ghost use Rattle.std.specs.Prelude.{◌≡◌, ◌≤◌, true, false, [], ◌∷◌, None, replicate, IfOk};
+ghost use Rattle.std.specs.FinSet as set;
+ghost use Rattle.std.specs.FinMap as finite;
+ghost use Rattle.wp_model.specs.History.{undecided};
 ghost use Rattle.wp_model.specs.Legal.{IsLegal, undone_last};
 ghost use Rattle.wp_core.specs.Runs.{IsOpening};
 ghost use Rattle.wp_core.specs.World.{new_actor};
-ghost use Rattle.wp_core.proofs.Openings.{opened_world, flag_of};
+ghost use Rattle.wp_core.proofs.Openings.{opened_world, flag_of, all_in_memory, names_of, keys_of};
 
 use crate::actor::Actor;
 use crate::cache::Cache;
@@ -88,26 +91,62 @@ impl World {
         ensures legal { IsLegal history.now.entries }
     {
         let entries = history.entries();
-        let mut actors = Vec::with_capacity(alloc, 1)?;
-        actors.push(Actor::new(alloc, true, Some(client), copy_entries(entries, alloc)?))?;
+        let actors = first_seat(alloc, client, entries)?;
+        let (writes, store) = stored(entries, alloc)?;
+        let (prepared, locks) = left_undecided(history, alloc)?;
+        let opened = copy_entries(entries, alloc)?;
+        let cache = Cache::empty(words, alloc)?;
         Ok(World {
             alloc,
-            opened: copy_entries(entries, alloc)?,
+            opened,
             max_evicted: history.published(),
             delayed_flag: flag_of(history.undecided()),
             old_flag: 0,
-            cache: Cache::empty(words, alloc)?,
+            cache,
             holders: Holders::free(),
-            writes: WriteTable::of(entries, alloc)?,
-            prepared: PreparedTables::left_by(history, alloc)?,
+            writes,
+            prepared,
             snapshots: Snapshots::new(alloc),
-            store: StoreTable::of(entries, alloc)?,
-            locks: LockTables::left_by(history, alloc)?,
+            store,
+            locks,
             installed: Installed::new(alloc),
             first_edit: InstalledEdit::new(alloc),
             actors,
         })
     }
+}
+
+/// A seat of the client, which has seen the history.
+fn first_seat(alloc: Global, client: Name, entries: &[Entry]) -> Result<Vec<Actor>, AllocError>
+    ensures { IfOk result (λ actors. actors.items ≡ new_actor true client entries.now ∷ []) }
+{
+    let seen = copy_entries(entries, alloc)?;
+    let mut actors = Vec::with_capacity(alloc, 1)?;
+    actors.push(Actor::new(alloc, true, Some(client), seen))?;
+    Ok(actors)
+}
+
+/// The history as it is logged and published, and its versions, all in memory.
+fn stored(entries: &[Entry], alloc: Global) -> Result<(WriteTable, StoreTable), AllocError>
+    ensures writes { IfOk result (λ t. t.0 ≡ record { history = entries.now; pending = []; logged = false; log = entries.now; closed = false; failed = [] }) }
+    ensures store { IfOk result (λ t. t.1 ≡ all_in_memory entries.now) }
+{
+    let writes = WriteTable::of(entries, alloc)?;
+    let store = StoreTable::of(entries, alloc)?;
+    Ok((writes, store))
+}
+
+/// The undecided prepares: they are delayed, their names had by nobody and their keys held.
+fn left_undecided(
+    history: &History,
+    alloc: Global,
+) -> Result<(PreparedTables, LockTables), AllocError>
+    ensures prepared { IfOk result (λ t. t.0 ≡ record { heap = set.empty; delayed = set.from_list (undecided history.now.entries); delayed_commits = finite.empty }) }
+    ensures locks { IfOk result (λ t. t.1 ≡ record { names = finite.from_entries (names_of history.now.entries); keys = finite.from_entries (keys_of history.now.entries); labels = finite.empty }) }
+{
+    let prepared = PreparedTables::left_by(history, alloc)?;
+    let locks = LockTables::left_by(history, alloc)?;
+    Ok((prepared, locks))
 }
 
 /// The delayed flag is up just where something is undecided.

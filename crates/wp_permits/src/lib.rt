@@ -5,14 +5,12 @@
 //! the lists that the world has; what they say of the history is asked of a `History` made of its entries.
 //!
 //! What a note, a holder that was found, the versions of a flush or a compaction, and an edit need is tested by `wp_needs`. That a
-//! no is right is tested and not proved; to a step that asks the history no is also said in a world whose history is not
-//! legal, which no run reaches.
+//! no is right is not proved, and tested in `wp_interleavings`; to a step that asks the history no is also said in a world whose
+//! history is not legal, which no run reaches.
 //!
 //! Want of memory is an answer by itself. A number past its type's end is answered so too, and no run comes to one.
 #![tactic(auto)]
 
 mod permitted;
-#[cfg(test)]
-mod tests;
 
 pub use permitted::permits;

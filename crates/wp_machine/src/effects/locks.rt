@@ -1,51 +1,84 @@
 //! What the steps with the locks turn make of a world.
-ghost use Rattle.std.specs.Prelude.{◌≡◌, ℕ, OnOk, Some, None, option_map};
+ghost use Rattle.std.specs.Prelude.{◌≡◌, ℕ, IfOk, OnOk, Some, None, option_map};
+ghost use Rattle.std.specs.FinSet as set;
 ghost use Rattle.std.specs.FinMap as finite;
+ghost use Rattle.wp_model.specs.History.{batch_at};
+ghost use Rattle.wp_model.specs.declared.holder.Holder.TheVariants as holder;
 ghost use Rattle.wp_core.specs.Tables as tables;
-ghost use Rattle.wp_core.specs.Changes.{held_with};
+ghost use Rattle.wp_core.specs.Views.{locked};
+ghost use Rattle.wp_core.specs.Changes.{remembers, has_transaction, with_actor, change, with_name, with_key, without_key, keys_of_holder};
 ghost use Rattle.wp_core.specs.Steps as step;
 ghost use Rattle.wp_machine.specs.Parts.{account_of};
 ghost use Rattle.wp_machine.specs.Machine.{locks_step};
 ghost use Rattle.wp_machine.specs.Effect.{IsEffect};
 
 use crate::actor::{Actor, Transaction};
-use crate::content::Content;
+use crate::effects::turn::hold;
+use crate::locks::LockTables;
 use crate::step::LocksStep;
+use crate::turn::Turn;
 use crate::views::{Account, Event, Found};
 use crate::world::World;
-use std::alloc::AllocError;
+use std::alloc::{AllocError, Global};
 use wp_model::{Holder, Key, Name, Seq};
 
-fn hold_locks(world: &World, actor: &mut Actor) -> Result<(), AllocError>
-    ensures { OnOk result (actor.new ≡ record actor.old { held = held_with actor.old.held (tables.locks world.now.locks) }) }
+/// The transaction is the actor's, and what made it so stays in its past.
+fn have(
+    actor: &mut Actor,
+    name: Name,
+    transaction: Transaction,
+    event: Event,
+) -> Result<(), AllocError>
+    ensures { OnOk result (actor.new ≡ remembers (has_transaction actor.old name transaction) event) }
 {
-    actor.hold(Content::locks(world.locks.copy(world.alloc)?));
-    Ok(())
+    actor.remember(event)?;
+    actor.put_transaction(name, transaction)
+}
+
+/// The client of the actor has the name.
+fn own_name(world: &mut World, actor: &mut Actor, name: Name) -> Result<(), AllocError>
+    ensures { OnOk result ((by : ℕ) → with_actor world.new by actor.new
+        ≡ change world.old by actor.old (tables.locks (with_name world.old.locks name (Some actor.old.participant.client)))) }
+{
+    let client = actor.participant.client(world.alloc)?;
+    world.locks.put_name(name, Some(client))?;
+    hold(world, actor, Turn::Locks)
 }
 
 fn claim_name(world: &mut World, actor: &mut Actor, name: Name) -> Result<(), AllocError>
     ensures { OnOk result ((by : ℕ) → IsEffect by world.old actor.old (step.claim_name name) world.new actor.new) }
 {
     let alloc = world.alloc;
-    let client = actor.participant.client(alloc)?;
-    actor.put_transaction(name.copy(alloc)?, Transaction::new(alloc))?;
-    actor.remember(Event::of(Found::Claimed(name.copy(alloc)?)))?;
-    world.locks.put_name(name, Some(client))?;
-    hold_locks(world, actor)
+    let event = Event::of(Found::Claimed(name.copy(alloc)?));
+    have(actor, name.copy(alloc)?, Transaction::new(alloc), event)?;
+    own_name(world, actor, name)
+}
+
+/// The keys that are held for the transaction.
+fn keys_for(tables: &LockTables, name: &Name, alloc: Global) -> Result<Vec<Key>, AllocError>
+    ensures { IfOk result (λ keys. set.from_list keys.items ≡ keys_of_holder tables.now (holder.Txn name.now)) }
+{
+    let holder = Holder::Txn(name.copy(alloc)?);
+    tables.keys_of(&holder, alloc)
+}
+
+/// What the undecided prepare with this name and number leaves to the actor that takes it.
+fn left(world: &World, name: &Name, p: Seq) -> Result<Transaction, AllocError>
+    ensures { IfOk result (λ t. t ≡ record { batch = batch_at world.now.writes.history p; locked = keys_of_holder world.now.locks (holder.Txn name.now) }) }
+{
+    let batch = world.writes.batch_at(p, world.alloc)?;
+    let locked = keys_for(&world.locks, name, world.alloc)?;
+    Ok(Transaction::with(batch, locked))
 }
 
 fn take_name(world: &mut World, actor: &mut Actor, name: Name, p: Seq) -> Result<(), AllocError>
     ensures { OnOk result ((by : ℕ) → IsEffect by world.old actor.old (step.take_name name p) world.new actor.new) }
 {
     let alloc = world.alloc;
-    let client = actor.participant.client(alloc)?;
-    let holder = Holder::Txn(name.copy(alloc)?);
-    let locked = world.locks.keys_of(&holder, alloc)?;
-    let batch = world.writes.batch_at(p, alloc)?;
-    actor.put_transaction(name.copy(alloc)?, Transaction::with(batch, locked))?;
-    actor.remember(Event::of(Found::Took(name.copy(alloc)?)))?;
-    world.locks.put_name(name, Some(client))?;
-    hold_locks(world, actor)
+    let transaction = left(world, &name, p)?;
+    let event = Event::of(Found::Took(name.copy(alloc)?));
+    have(actor, name.copy(alloc)?, transaction, event)?;
+    own_name(world, actor, name)
 }
 
 fn leave_name(world: &mut World, actor: &mut Actor, name: Name) -> Result<(), AllocError>
@@ -53,7 +86,7 @@ fn leave_name(world: &mut World, actor: &mut Actor, name: Name) -> Result<(), Al
 {
     actor.take_transaction(&name);
     world.locks.put_name(name, None)?;
-    hold_locks(world, actor)
+    hold(world, actor, Turn::Locks)
 }
 
 fn free_transaction(world: &mut World, actor: &mut Actor, name: Name) -> Result<(), AllocError>
@@ -62,7 +95,24 @@ fn free_transaction(world: &mut World, actor: &mut Actor, name: Name) -> Result<
     let alloc = world.alloc;
     actor.take_transaction(&name);
     world.locks.free_transaction(name, alloc)?;
-    hold_locks(world, actor)
+    hold(world, actor, Turn::Locks)
+}
+
+fn locked(key: &Key, holder: &Holder, alloc: Global) -> Result<Event, AllocError>
+    ensures { IfOk result (λ event. event ≡ locked key.now holder.now) }
+{
+    let key = key.copy(alloc)?;
+    let holder = holder.copy(alloc)?;
+    Ok(Event::of(Found::Locked(key, holder)))
+}
+
+/// The holder has the key.
+fn put_key(world: &mut World, actor: &mut Actor, key: Key, holder: Holder) -> Result<(), AllocError>
+    ensures { OnOk result ((by : ℕ) → with_actor world.new by actor.new
+        ≡ change world.old by actor.old (tables.locks (with_key world.old.locks key holder))) }
+{
+    world.locks.put_key(key, holder)?;
+    hold(world, actor, Turn::Locks)
 }
 
 fn lock_key(world: &mut World, actor: &mut Actor, name: Name, key: Key) -> Result<(), AllocError>
@@ -74,25 +124,31 @@ fn lock_key(world: &mut World, actor: &mut Actor, name: Name, key: Key) -> Resul
         return Ok(());
     };
     let changed = transaction.with_key(key.copy(alloc)?, alloc)?;
-    actor.put_transaction(name.copy(alloc)?, changed)?;
     let holder = Holder::Txn(name.copy(alloc)?);
-    actor.remember(Event::of(Found::Locked(key.copy(alloc)?, holder)))?;
-    world.locks.put_key(key, Holder::Txn(name))?;
-    hold_locks(world, actor)
+    let event = locked(&key, &holder, alloc)?;
+    have(actor, name, changed, event)?;
+    put_key(world, actor, key, holder)
+}
+
+/// Nobody has the key.
+fn take_key(world: &mut World, actor: &mut Actor, key: &Key) -> Result<(), AllocError>
+    ensures { OnOk result ((by : ℕ) → with_actor world.new by actor.new
+        ≡ change world.old by actor.old (tables.locks (without_key world.old.locks key.now))) }
+{
+    world.locks.take_key(key);
+    hold(world, actor, Turn::Locks)
 }
 
 fn free_key(world: &mut World, actor: &mut Actor, name: Name, key: Key) -> Result<(), AllocError>
     ensures { (s : step.Step) → option_map (λ t. step.free_key name t key) (finite.get actor.old.participant.transactions name) ≡ Some s
         → OnOk result ((by : ℕ) → IsEffect by world.old actor.old s world.new actor.new) }
 {
-    let alloc = world.alloc;
     let Some(transaction) = actor.participant.transaction(&name) else {
         return Ok(());
     };
-    let changed = transaction.without_key(&key, alloc)?;
+    let changed = transaction.without_key(&key, world.alloc)?;
     actor.put_transaction(name, changed)?;
-    world.locks.take_key(&key);
-    hold_locks(world, actor)
+    take_key(world, actor, &key)
 }
 
 fn lock_direct(world: &mut World, actor: &mut Actor, key: Key) -> Result<(), AllocError>
@@ -101,17 +157,15 @@ fn lock_direct(world: &mut World, actor: &mut Actor, key: Key) -> Result<(), All
     let alloc = world.alloc;
     let holder = Holder::Client(actor.participant.client(alloc)?);
     actor.set_direct(Some(key.copy(alloc)?));
-    actor.remember(Event::of(Found::Locked(key.copy(alloc)?, holder.copy(alloc)?)))?;
-    world.locks.put_key(key, holder)?;
-    hold_locks(world, actor)
+    actor.remember(locked(&key, &holder, alloc)?)?;
+    put_key(world, actor, key, holder)
 }
 
 fn free_direct(world: &mut World, actor: &mut Actor, key: Key) -> Result<(), AllocError>
     ensures { OnOk result ((by : ℕ) → IsEffect by world.old actor.old (step.free_direct key) world.new actor.new) }
 {
     actor.set_direct(None);
-    world.locks.take_key(&key);
-    hold_locks(world, actor)
+    take_key(world, actor, &key)
 }
 
 fn find_holder(
@@ -133,7 +187,7 @@ fn tell(world: &mut World, actor: &mut Actor, label: Name) -> Result<(), AllocEr
     let seen = actor.participant.seen.len() as Seq;
     actor.remember(Event::of(Found::Told(label.copy(world.alloc)?, seen)))?;
     world.locks.put_label(label, seen)?;
-    hold_locks(world, actor)
+    hold(world, actor, Turn::Locks)
 }
 
 fn hear(world: &mut World, actor: &mut Actor, label: Name) -> Result<(), AllocError>

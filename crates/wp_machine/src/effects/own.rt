@@ -1,7 +1,6 @@
 //! What the steps that an actor makes without a turn make of a world.
-ghost use Rattle.std.specs.Prelude.{◌≡◌, ℕ, OnOk, Some, None};
+ghost use Rattle.std.specs.Prelude.{◌≡◌, ℕ, OnOk, Some, None, option_map};
 ghost use Rattle.std.specs.FinMap as finite;
-ghost use Rattle.wp_core.specs.World.{Transaction};
 ghost use Rattle.wp_core.specs.Steps as step;
 ghost use Rattle.wp_machine.specs.Machine.{own_step};
 ghost use Rattle.wp_machine.specs.Effect.{IsEffect};
@@ -19,8 +18,8 @@ fn set_batch(
     name: Name,
     batch: Batch,
 ) -> Result<(), AllocError>
-    ensures { (t : Transaction) → finite.get actor.old.participant.transactions name ≡ Some t
-        → OnOk result ((by : ℕ) → IsEffect by world.old actor.old (step.set_batch name t batch) world.new actor.new) }
+    ensures { (s : step.Step) → option_map (λ t. step.set_batch name t batch) (finite.get actor.old.participant.transactions name) ≡ Some s
+        → OnOk result ((by : ℕ) → IsEffect by world.old actor.old s world.new actor.new) }
 {
     let Some(transaction) = actor.participant.transaction(&name) else {
         return Ok(());
@@ -46,9 +45,11 @@ pub(crate) fn own(world: &mut World, actor: &mut Actor, kind: OwnStep) -> Result
         → OnOk result ((by : ℕ) → IsEffect by world.old actor.old s world.new actor.new) }
 {
     match kind {
-        OwnStep::SetBatch(name, batch) => set_batch(world, actor, name, batch)?,
-        OwnStep::Note(fact) => note(world, actor, fact)?,
-        OwnStep::SetClient(client) => set_client(world, actor, client),
+        OwnStep::SetBatch(name, batch) => set_batch(world, actor, name, batch),
+        OwnStep::Note(fact) => note(world, actor, fact),
+        OwnStep::SetClient(client) => {
+            set_client(world, actor, client);
+            Ok(())
+        }
     }
-    Ok(())
 }

@@ -5,8 +5,9 @@ ghost use Rattle.wp_machine.specs.Machine.{prepared_step};
 ghost use Rattle.wp_machine.specs.Effect.{IsEffect};
 
 use crate::actor::Actor;
-use crate::content::Content;
+use crate::effects::turn::hold;
 use crate::step::PreparedStep;
+use crate::turn::Turn;
 use crate::world::World;
 use std::alloc::AllocError;
 
@@ -25,6 +26,5 @@ pub(crate) fn prepared(
         PreparedStep::AddDelayedCommit(p, c) => world.prepared.commit(p, c)?,
         PreparedStep::TakeOut(p) => world.prepared.take_out(p),
     }
-    actor.hold(Content::prepared(world.prepared.copy(world.alloc)?));
-    Ok(())
+    hold(world, actor, Turn::Prepared)
 }

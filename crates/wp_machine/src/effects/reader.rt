@@ -1,6 +1,6 @@
 //! What a reader's steps make of a world.
-ghost use Rattle.std.specs.Prelude.{◌≡◌, ℕ, OnOk, None, Some};
-ghost use Rattle.wp_core.specs.World.{published};
+ghost use Rattle.std.specs.Prelude.{◌≡◌, ℕ, OnOk, None, Some, option_map, slice_get};
+ghost use Rattle.wp_core.specs.World.{World};
 ghost use Rattle.wp_core.specs.Reading.{reads};
 ghost use Rattle.wp_core.specs.Changes.{loaded};
 ghost use Rattle.wp_core.specs.Steps as step;
@@ -8,8 +8,9 @@ ghost use Rattle.wp_machine.specs.Machine.{reader_step};
 ghost use Rattle.wp_machine.specs.Effect.{IsEffect};
 
 use crate::actor::{Actor, Registration};
-use crate::content::Content;
+use crate::effects::turn::hold;
 use crate::step::ReaderStep;
+use crate::turn::Turn;
 use crate::world::World;
 use std::alloc::AllocError;
 use wp_judge::{InPrepared, Load, Observed};
@@ -29,8 +30,7 @@ fn register(world: &mut World, actor: &mut Actor, smallest: Seq) -> Result<(), A
     actor.see(&world.writes.history, alloc)?;
     actor.register(Registration { number, smallest })?;
     world.snapshots.register(number, alloc)?;
-    actor.hold(Content::snapshots(world.snapshots.copy(alloc)?));
-    Ok(())
+    hold(world, actor, Turn::Snapshots)
 }
 
 fn reading(version: Seq, snapshot: Registration) -> Observed
@@ -70,6 +70,23 @@ fn loaded(world: &World, which: Load, seen: Observed) -> Observed
     seen
 }
 
+fn begin_reading(actor: &mut Actor, version: Seq, place: usize)
+    ensures { (s : step.Step) → option_map (step.begin_reading version) (slice_get actor.old.participant.registered place) ≡ Some s
+        → (w : World) (by : ℕ) → IsEffect by w actor.old s w actor.new }
+{
+    if let Some(snapshot) = actor.participant.registered.get(place) {
+        actor.reading = Some(reading(version, *snapshot));
+    }
+}
+
+fn load(world: &World, actor: &mut Actor, which: Load)
+    ensures { (by : ℕ) → IsEffect by world.now actor.old (step.load which) world.now actor.new }
+{
+    if let Some(seen) = actor.reading {
+        actor.reading = Some(loaded(world, which, seen));
+    }
+}
+
 pub(crate) fn reader(
     world: &mut World,
     actor: &mut Actor,
@@ -79,18 +96,10 @@ pub(crate) fn reader(
         → OnOk result ((by : ℕ) → IsEffect by world.old actor.old s world.new actor.new) }
 {
     match kind {
-        ReaderStep::LoadPublished => load_published(world, actor)?,
-        ReaderStep::Register(smallest) => register(world, actor, smallest)?,
-        ReaderStep::BeginReading(version, place) => {
-            if let Some(snapshot) = actor.participant.registered.get(place) {
-                actor.reading = Some(reading(version, *snapshot));
-            }
-        }
-        ReaderStep::Load(which) => {
-            if let Some(seen) = actor.reading {
-                actor.reading = Some(loaded(world, which, seen));
-            }
-        }
+        ReaderStep::LoadPublished => return load_published(world, actor),
+        ReaderStep::Register(smallest) => return register(world, actor, smallest),
+        ReaderStep::BeginReading(version, place) => begin_reading(actor, version, place),
+        ReaderStep::Load(which) => load(world, actor, which),
         ReaderStep::EndReading => actor.reading = None,
     }
     Ok(())

@@ -6,8 +6,9 @@ ghost use Rattle.wp_machine.specs.Machine.{snapshots_step};
 ghost use Rattle.wp_machine.specs.Effect.{IsEffect, released_world};
 
 use crate::actor::{Actor, Registration};
-use crate::content::Content;
+use crate::effects::turn::hold;
 use crate::step::SnapshotsStep;
+use crate::turn::Turn;
 use crate::world::World;
 use std::alloc::AllocError;
 use wp_model::Seq;
@@ -21,8 +22,7 @@ fn register_again(world: &mut World, actor: &mut Actor, number: Seq) -> Result<(
         smallest: 1,
     })?;
     world.snapshots.register(number, alloc)?;
-    actor.hold(Content::snapshots(world.snapshots.copy(alloc)?));
-    Ok(())
+    hold(world, actor, Turn::Snapshots)
 }
 
 fn release(world: &mut World, actor: &mut Actor, place: usize) -> Result<(), AllocError>
@@ -32,8 +32,7 @@ fn release(world: &mut World, actor: &mut Actor, place: usize) -> Result<(), All
     let alloc = world.alloc;
     let number = actor.release(place);
     world.snapshots.release_any(number, alloc)?;
-    actor.hold(Content::snapshots(world.snapshots.copy(alloc)?));
-    Ok(())
+    hold(world, actor, Turn::Snapshots)
 }
 
 fn add_old_commit(world: &mut World, actor: &mut Actor, s: Seq, p: Seq) -> Result<(), AllocError>
@@ -41,8 +40,7 @@ fn add_old_commit(world: &mut World, actor: &mut Actor, s: Seq, p: Seq) -> Resul
 {
     let alloc = world.alloc;
     world.snapshots.keep(s, p, alloc)?;
-    actor.hold(Content::snapshots(world.snapshots.copy(alloc)?));
-    Ok(())
+    hold(world, actor, Turn::Snapshots)
 }
 
 pub(crate) fn snapshots(

@@ -1,25 +1,17 @@
 //! What the steps with the store turn make of a world.
 ghost use Rattle.std.specs.Prelude.{◌≡◌, ℕ, suc, length, OnOk, Some};
-ghost use Rattle.wp_core.specs.Tables as tables;
-ghost use Rattle.wp_core.specs.Changes.{held_with};
 ghost use Rattle.wp_core.specs.Steps as step;
 ghost use Rattle.wp_machine.specs.Machine.{store_step, memory_with, without_number};
 ghost use Rattle.wp_machine.specs.Effect.{IsEffect};
 
 use crate::actor::Actor;
-use crate::content::Content;
+use crate::effects::turn::hold;
 use crate::step::StoreStep;
+use crate::turn::Turn;
 use crate::versions::versions_of_next;
 use crate::world::World;
 use std::alloc::AllocError;
 use wp_model::{Seq, Version};
-
-fn hold_store(world: &World, actor: &mut Actor) -> Result<(), AllocError>
-    ensures { OnOk result (actor.new ≡ record actor.old { held = held_with actor.old.held (tables.store world.now.store) }) }
-{
-    actor.hold(Content::store(world.store.copy(world.alloc)?));
-    Ok(())
-}
 
 fn add_versions(world: &mut World, actor: &mut Actor) -> Result<(), AllocError>
     ensures { OnOk result ((by : ℕ) → IsEffect by world.old actor.old (step.add_versions (memory_with world.old.writes world.old.store)) world.new actor.new) }
@@ -27,7 +19,7 @@ fn add_versions(world: &mut World, actor: &mut Actor) -> Result<(), AllocError>
     let next = world.writes.next_number()?;
     let versions = versions_of_next(next, &world.writes.pending, world.alloc)?;
     world.store.add_next(versions, next)?;
-    hold_store(world, actor)
+    hold(world, actor, Turn::Store)
 }
 
 fn take_versions(world: &mut World, actor: &mut Actor) -> Result<(), AllocError>
@@ -36,7 +28,7 @@ fn take_versions(world: &mut World, actor: &mut Actor) -> Result<(), AllocError>
 {
     let next = world.writes.next_number()?;
     world.store.take_number(next);
-    hold_store(world, actor)
+    hold(world, actor, Turn::Store)
 }
 
 fn move_versions(
@@ -49,7 +41,7 @@ fn move_versions(
 {
     world.store.memory = memory;
     world.store.tables = moved;
-    hold_store(world, actor)
+    hold(world, actor, Turn::Store)
 }
 
 fn replace_versions(
@@ -62,7 +54,7 @@ fn replace_versions(
 {
     world.store.tables = replaced;
     world.store.floor = floor;
-    hold_store(world, actor)
+    hold(world, actor, Turn::Store)
 }
 
 pub(crate) fn store(world: &mut World, actor: &mut Actor, kind: StoreStep) -> Result<(), AllocError>

@@ -5,9 +5,10 @@ ghost use Rattle.wp_machine.specs.Machine.{tables_step};
 ghost use Rattle.wp_machine.specs.Effect.{IsEffect};
 
 use crate::actor::Actor;
-use crate::content::Content;
+use crate::effects::turn::hold;
 use crate::step::TablesStep;
 use crate::store::InstalledEdit;
+use crate::turn::Turn;
 use crate::views::{Event, Found};
 use crate::world::World;
 use std::alloc::AllocError;
@@ -22,8 +23,7 @@ fn install(
 {
     actor.remember(Event::of(Found::Installed(edit.flushed, edit.tables, compacts)))?;
     world.installed.last = edit;
-    actor.hold(Content::installed(world.installed.copy(world.alloc)?));
-    Ok(())
+    hold(world, actor, Turn::Tables)
 }
 
 fn halt(world: &mut World, actor: &mut Actor, edit: Option<InstalledEdit>) -> Result<(), AllocError>
@@ -31,8 +31,7 @@ fn halt(world: &mut World, actor: &mut Actor, edit: Option<InstalledEdit>) -> Re
 {
     actor.remember(Event::of(Found::TablesFailed))?;
     world.installed.halt(edit);
-    actor.hold(Content::installed(world.installed.copy(world.alloc)?));
-    Ok(())
+    hold(world, actor, Turn::Tables)
 }
 
 fn find_flushed(world: &mut World, actor: &mut Actor) -> Result<(), AllocError>

@@ -1,6 +1,7 @@
 //! What it makes of a world to take a turn or to give it.
 ghost use Rattle.std.specs.Prelude.{◌≡◌, IfOk, OnOk, Some};
 ghost use Rattle.wp_core.specs.World.{content_of};
+ghost use Rattle.wp_core.specs.Changes.{held_with};
 ghost use Rattle.wp_core.specs.Steps as step;
 ghost use Rattle.wp_machine.specs.Parts.{turn_of};
 ghost use Rattle.wp_machine.specs.Machine.{turn_step};
@@ -26,6 +27,14 @@ fn content_of(world: &World, turn: Turn) -> Result<Content, AllocError>
         Turn::Locks => Content::locks(world.locks.copy(alloc)?),
         Turn::Tables => Content::installed(world.installed.copy(alloc)?),
     })
+}
+
+/// The actor has the table as the world has it now, if it holds that turn.
+pub(super) fn hold(world: &World, actor: &mut Actor, turn: Turn) -> Result<(), AllocError>
+    ensures { OnOk result (actor.new ≡ record actor.old { held = held_with actor.old.held (content_of world.now (turn_of turn)) }) }
+{
+    actor.hold(content_of(world, turn)?);
+    Ok(())
 }
 
 pub(crate) fn turn(

@@ -1,13 +1,16 @@
 //! What the stores of words make of a world.
-ghost use Rattle.std.specs.Prelude.{◌≡◌, ℕ, OnOk, Some};
+ghost use Rattle.std.specs.Prelude.{◌≡◌, ℕ, OnOk, Some, option_map};
+ghost use Rattle.wp_core.specs.World.{Actor};
+ghost use Rattle.wp_core.specs.Entries.{pending_pair};
 ghost use Rattle.wp_core.specs.Changes.{with_actor};
 ghost use Rattle.wp_core.specs.Steps as step;
 ghost use Rattle.wp_machine.specs.Machine.{word_step};
 ghost use Rattle.wp_machine.specs.Effect.{IsEffect, published_world};
 
 use crate::actor::Actor;
-use crate::content::Content;
+use crate::effects::turn::hold;
 use crate::step::WordStep;
+use crate::turn::Turn;
 use crate::world::World;
 use std::alloc::AllocError;
 use wp_model::Seq;
@@ -18,8 +21,7 @@ fn store_published(world: &mut World, actor: &mut Actor) -> Result<(), AllocErro
     let alloc = world.alloc;
     world.writes.publish()?;
     actor.publish(&world.writes.history, alloc)?;
-    actor.hold(Content::writes(world.writes.copy(alloc)?));
-    Ok(())
+    hold(world, actor, Turn::Write)
 }
 
 fn store_max_evicted(world: &mut World, actor: &mut Actor, m: Seq) -> Result<(), AllocError>
@@ -27,7 +29,16 @@ fn store_max_evicted(world: &mut World, actor: &mut Actor, m: Seq) -> Result<(),
 {
     world.max_evicted = m;
     world.prepared.move_up_to(m)?;
-    actor.hold(Content::prepared(world.prepared.copy(world.alloc)?));
+    hold(world, actor, Turn::Prepared)
+}
+
+fn store_word(world: &mut World) -> Result<(), AllocError>
+    ensures { (s : step.Step) (a : Actor) → option_map step.store_word (pending_pair world.old.writes.history world.old.writes.pending) ≡ Some s
+        → OnOk result ((by : ℕ) → IsEffect by world.old a s world.new a) }
+{
+    if let Some((p, c)) = world.writes.pending_pair()? {
+        world.cache.store(p, c)?;
+    }
     Ok(())
 }
 
@@ -37,12 +48,8 @@ pub(crate) fn word(world: &mut World, actor: &mut Actor, kind: WordStep) -> Resu
 {
     match kind {
         WordStep::StorePublished => return store_published(world, actor),
-        WordStep::StoreMaxEvicted(m) => store_max_evicted(world, actor, m)?,
-        WordStep::StoreWord => {
-            if let Some((p, c)) = world.writes.pending_pair()? {
-                world.cache.store(p, c)?;
-            }
-        }
+        WordStep::StoreMaxEvicted(m) => return store_max_evicted(world, actor, m),
+        WordStep::StoreWord => return store_word(world),
         WordStep::StoreDelayedFlag(value) => world.delayed_flag = value,
         WordStep::StoreOldFlag(value) => world.old_flag = value,
     }

@@ -1,39 +1,31 @@
 //! What the steps with the write turn make of a world.
 ghost use Rattle.std.specs.Prelude.{◌≡◌, ℕ, OnOk, Some};
-ghost use Rattle.wp_core.specs.Tables as tables;
-ghost use Rattle.wp_core.specs.Changes.{held_with};
 ghost use Rattle.wp_core.specs.Steps as step;
 ghost use Rattle.wp_machine.specs.Machine.{write_step};
 ghost use Rattle.wp_machine.specs.Effect.{IsEffect};
 
 use crate::actor::Actor;
-use crate::content::Content;
+use crate::effects::turn::hold;
 use crate::step::WriteStep;
+use crate::turn::Turn;
 use crate::views::{Event, Found};
 use crate::world::World;
 use std::alloc::AllocError;
 use wp_model::{Entry, Seq};
-
-fn hold_writes(world: &World, actor: &mut Actor) -> Result<(), AllocError>
-    ensures { OnOk result (actor.new ≡ record actor.old { held = held_with actor.old.held (tables.writes world.now.writes) }) }
-{
-    actor.hold(Content::writes(world.writes.copy(world.alloc)?));
-    Ok(())
-}
 
 fn make_pending(world: &mut World, actor: &mut Actor, entries: Vec<Entry>) -> Result<(), AllocError>
     ensures { OnOk result ((by : ℕ) → IsEffect by world.old actor.old (step.make_pending entries.items) world.new actor.new) }
 {
     world.writes.pending = entries;
     world.writes.logged = false;
-    hold_writes(world, actor)
+    hold(world, actor, Turn::Write)
 }
 
 fn log_pending(world: &mut World, actor: &mut Actor) -> Result<(), AllocError>
     ensures { OnOk result ((by : ℕ) → IsEffect by world.old actor.old step.log_pending world.new actor.new) }
 {
     world.writes.log_pending(world.alloc)?;
-    hold_writes(world, actor)
+    hold(world, actor, Turn::Write)
 }
 
 fn close_log(world: &mut World, actor: &mut Actor) -> Result<(), AllocError>
@@ -41,7 +33,7 @@ fn close_log(world: &mut World, actor: &mut Actor) -> Result<(), AllocError>
 {
     world.writes.close_log(world.alloc)?;
     actor.remember(Event::of(Found::LogFailed))?;
-    hold_writes(world, actor)
+    hold(world, actor, Turn::Write)
 }
 
 fn find_log_closed(world: &mut World, actor: &mut Actor) -> Result<(), AllocError>
@@ -55,7 +47,7 @@ fn drop_pending(world: &mut World, actor: &mut Actor) -> Result<(), AllocError>
     ensures { OnOk result ((by : ℕ) → IsEffect by world.old actor.old step.drop_pending world.new actor.new) }
 {
     world.writes.pending.clear();
-    hold_writes(world, actor)
+    hold(world, actor, Turn::Write)
 }
 
 pub(crate) fn write(world: &mut World, actor: &mut Actor, kind: WriteStep) -> Result<(), AllocError>

@@ -1,9 +1,9 @@
 //! What decides a reader, beside a writer.
-use crate::tests::acts::{
+use crate::acts::{
     Act, CLEAN_UP, END, FINISH, FREE_DIRECT, PEND_COMMIT, PEND_PREPARE, PEND_WRITE,
     PUBLISH_PREPARE, REGISTER,
 };
-use crate::tests::scripts::{Line, Script, wrong_script};
+use crate::scripts::{Line, Script, wrong_script};
 use std::test::Fail;
 use wp_judge::Load;
 use wp_machine::Turn;

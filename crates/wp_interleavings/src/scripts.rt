@@ -1,11 +1,11 @@
 //! Scripts: what a client does to a world, and what is so then, line by line.
-use crate::permits;
-use crate::tests::acts::{Act, kind_of};
+use crate::acts::{Act, kind_of};
 use std::alloc::Global;
 use std::test::Fail;
 use wp_judge::{Asked, ask};
 use wp_machine::{Step, World, apply};
 use wp_model::Name;
+use wp_permits::permits;
 
 /// The one client, which writes and reads.
 const SEAT: usize = 0;

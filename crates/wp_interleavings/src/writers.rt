@@ -1,9 +1,9 @@
 //! What writers do beside publishing.
-use crate::tests::acts::{
+use crate::acts::{
     ADD_VERSIONS, Act, END, FINISH, FREE_DIRECT, Locking, PEND_COMMIT, PEND_PREPARE, PEND_WRITE,
     PUBLISH_PREPARE, Pending, entry_of,
 };
-use crate::tests::scripts::{Line, Script, wrong_from, wrong_script};
+use crate::scripts::{Line, Script, wrong_from, wrong_script};
 use std::alloc::Global;
 use std::test::Fail;
 use wp_history::History;

@@ -1,9 +1,9 @@
 //! Steps that are not permitted.
-use crate::tests::acts::{
+use crate::acts::{
     ADD_VERSIONS, Act, FINISH, FREE_DIRECT, Locking, PEND_COMMIT, PEND_PREPARE, PEND_WRITE,
     PUBLISH_PREPARE,
 };
-use crate::tests::scripts::{Line, Script, wrong_script};
+use crate::scripts::{Line, Script, wrong_script};
 use std::test::Fail;
 use wp_machine::Turn;
 

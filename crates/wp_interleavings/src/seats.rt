@@ -1,6 +1,6 @@
 //! What a client tells others, and what snapshots it has.
-use crate::tests::acts::{Act, FINISH, PEND_WRITE, REGISTER};
-use crate::tests::scripts::{Line, Script, wrong_script};
+use crate::acts::{Act, FINISH, PEND_WRITE, REGISTER};
+use crate::scripts::{Line, Script, wrong_script};
 use std::test::Fail;
 use wp_machine::Turn;
 

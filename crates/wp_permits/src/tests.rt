@@ -1,6 +1,0 @@
-mod acts;
-mod readers;
-mod refusals;
-mod scripts;
-mod seats;
-mod writers;
