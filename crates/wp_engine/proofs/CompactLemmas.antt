@@ -11,6 +11,7 @@ use Rattle.wp_model.specs.Decision.{decision_of, is_by, is_committed, IsCommitte
 use Rattle.wp_model.specs.Flushed.{later_versions}
 use Rattle.wp_model.specs.Legal.{IsLegal}
 use Rattle.wp_model.specs.Versions.{AreInOrder, version_at}
+use Rattle.wp_history.proofs.Growth.{legal_before}
 use Rattle.wp_keep.specs.declared.pair.Pair.{Pair}
 use Rattle.wp_keep.specs.Keep as keep
 use Rattle.wp_keep.specs.Keep.{retained_of, remains, stays, staying}
@@ -25,15 +26,16 @@ use Rattle.wp_open.proofs.Later.{at_append}
 use Rattle.wp_open.specs.Opens.{installed_of}
 use Rattle.wp_session.specs.Tables.{retained, after_compaction}
 use Rattle.wp_table.specs.Table as table
-use Rattle.wp_tableset.specs.Changes.{compacted_parts, one_part}
+use Rattle.wp_tableset.specs.Changes.{compacted_edit, compacted_parts, one_part, LosesNoTable}
 use Rattle.wp_tableset.specs.Set.{TableSetState}
+use Rattle.wp_wal.specs.Wal.{WalState}
 use Rattle.wp_core.proofs.PendingVersions.{covers_same}
 use Rattle.wp_engine.specs.Memory.{HaveSame}
-use Rattle.wp_engine.specs.Stored.{IsTabled}
+use Rattle.wp_engine.specs.Stored.{IsTabled, IsConsistent}
 use Rattle.wp_engine.proofs.MemoryLemmas.{Found}
 use Rattle.wp_engine.proofs.TableLemmas.{later_low}
 use Rattle.wp_engine.proofs.VersionLemmas.{all_found}
-use Rattle.wp_engine.proofs.SetLemmas.{MayFollow}
+use Rattle.wp_engine.proofs.SetLemmas.{MayFollow, Installing}
 use Rattle.wp_engine.proofs.FlushLemmas.{at_tables, swapped}
 
 -- ---- which numbers are committed
@@ -199,3 +201,18 @@ module _ (id : ℕ) (entries : List Entry) (set : TableSetState) (store : StoreP
     is_after_compaction kept_in_order =
         let list : sorted_of (joined (compacted_parts kept)) ≡ kept = in_order_same _ _ (in_order_sorted (joined (compacted_parts kept))) kept_in_order (λ key p. at_tables (compacted_parts kept) key p ∙ at_one kept key p) in
         rw (next_is, list, count_one kept, ← kept_is) refl
+
+-- what the steps before give where the set is called
+pub compact_installing : {wal : WalState} {entries : List Entry} {set new : TableSetState} {store : StoreParts} {stopped : Bool} {limit : ℕ} {kept : List Version} (snapshots : List ℕ) (whole : IsConsistent wal entries set store stopped limit) → LosesNoTable set new → set.halted ≡ false → set.manifest.log.closed ≡ false
+    → kept ≡ retained entries snapshots (installed_of set.manifest.edit store.tables) → AreInOrder kept → (place : ℕ)
+    → Installing wal entries set new store stopped limit (compacted_edit set kept place) (λ _. compacted_parts kept) (after_compaction entries snapshots (installed_of set.manifest.edit store.tables)) (compacted_parts (retained entries snapshots (installed_of set.manifest.edit store.tables)))
+compact_installing {wal = wal} {entries = entries} {set = set} {store = store} {kept = kept} snapshots whole keeps running open_ kept_is ordered place =
+    let legal = legal_before entries whole.log.failed whole.log.legal in record {
+      whole = whole;
+      keeps = keeps;
+      running = running;
+      open_ = open_;
+      follows = compact_follows wal.id entries set store whole.tables legal snapshots kept kept_is (compacted_edit set kept place) refl;
+      edit_is = is_after_compaction wal.id entries set store whole.tables legal snapshots kept kept_is (compacted_edit set kept place) refl ordered;
+      parts_are = ap (λ (vs : List Version). compacted_parts vs) kept_is;
+    }

@@ -1,5 +1,5 @@
 -- A flush of the versions that stand in memory.
-use Rattle.std.proofs.Common.{◌≡◌, ◌⊎◌, inl, inr, ℕ, ◌<◌, ◌≤◌, ◌^◌, true, false, List, [], ◌∷◌, ◌++◌, length, Option, Some, None, refl, sym, ap, ◌∙◌, arith}
+use Rattle.std.proofs.Common.{◌≡◌, ◌⊎◌, inl, inr, ℕ, ◌<◌, ◌≤◌, ◌^◌, Bool, true, false, List, [], ◌∷◌, ◌++◌, length, Option, Some, None, refl, sym, ap, ◌∙◌, arith}
 use Rattle.std.proofs.lemmas.Bool.{cases_lt}
 use Rattle.std.specs.List.{list_all}
 use Rattle.std.specs.Option.{option_or}
@@ -14,15 +14,17 @@ use Rattle.wp_merge.proofs.Merged.{or_none}
 use Rattle.wp_merge.proofs.Sorted.{in_order_sorted, at_sorted, in_order_same, merged_sorted}
 use Rattle.wp_open.proofs.Later.{at_append}
 use Rattle.wp_open.specs.Opens.{installed_of}
-use Rattle.wp_session.specs.Tables.{after_flush}
+use Rattle.wp_session.specs.Tables.{unflushed, after_flush}
 use Rattle.wp_store.specs.Store.{StoreParts, is_flushed}
 use Rattle.wp_table.specs.Table as table
 use Rattle.wp_engine.specs.Memory.{HaveSame}
+use Rattle.wp_tableset.specs.Changes.{flushed_edit, LosesNoTable}
 use Rattle.wp_tableset.specs.Set.{TableSetState}
+use Rattle.wp_wal.specs.Wal.{WalState}
 use Rattle.wp_core.proofs.PendingVersions.{covers_same}
-use Rattle.wp_engine.specs.Stored.{HasUnflushed, IsTabled}
+use Rattle.wp_engine.specs.Stored.{HasUnflushed, IsTabled, IsConsistent}
 use Rattle.wp_engine.proofs.MemoryLemmas.{Found}
-use Rattle.wp_engine.proofs.SetLemmas.{MayFollow}
+use Rattle.wp_engine.proofs.SetLemmas.{MayFollow, Installing}
 use Rattle.wp_engine.proofs.TableLemmas.{later_low, later_high}
 use Rattle.wp_engine.proofs.VersionLemmas.{Has, empty_list, some_of, all_found, all_empty, one_not_empty, length_sorted, distinct_later}
 
@@ -151,3 +153,17 @@ module _ (id : ℕ) (entries : List Entry) (set : TableSetState) (store : StoreP
           ∙ sym (at_append later (sorted_of (joined store.tables)) key p)
           ∙ sym (at_sorted (later ++ sorted_of (joined store.tables)) key p)) in
           rw (next_is, list) refl
+
+-- what the steps before give where the set is called
+pub flush_installing : {wal : WalState} {entries : List Entry} {set new : TableSetState} {store : StoreParts} {stopped : Bool} {limit : ℕ} {versions : List Version} (whole : IsConsistent wal entries set store stopped limit) → LosesNoTable set new → set.halted ≡ false → set.manifest.log.closed ≡ false
+    → AreMerged (store.memory ∷ store.frozen) versions → (number place : ℕ) → number ≡ length entries
+    → Installing wal entries set new store stopped limit (flushed_edit set versions number place) (λ parts. versions ∷ parts) (after_flush entries (installed_of set.manifest.edit store.tables)) (sorted_of (unflushed entries (installed_of set.manifest.edit store.tables)) ∷ store.tables)
+flush_installing {wal = wal} {entries = entries} {set = set} {store = store} {versions = versions} whole keeps running open_ merged number place is = record {
+  whole = whole;
+  keeps = keeps;
+  running = running;
+  open_ = open_;
+  follows = flush_follows wal.id entries set store whole.tables versions merged (flushed_edit set versions number place) is;
+  edit_is = is_after_flush wal.id entries set store whole.tables versions merged (flushed_edit set versions number place) is;
+  parts_are = ap (λ (vs : List Version). vs ∷ store.tables) (is_sorted wal.id entries set store whole.tables versions merged);
+}

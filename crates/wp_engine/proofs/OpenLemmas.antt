@@ -17,7 +17,7 @@ use Rattle.wp_merge.proofs.Sorted.{merged_sorted}
 use Rattle.wp_open.specs.Opens.{installed_of}
 use Rattle.wp_store.specs.Store.{StoreParts}
 use Rattle.wp_table.specs.File.{HasTables}
-use Rattle.wp_tableset.specs.Set.{TableSetState}
+use Rattle.wp_tableset.specs.Set.{TableSetState, StoresTables}
 use Rattle.wp_wal.specs.Spelling as log_spelling
 use Rattle.wp_wal.specs.Spelling.{IsLogOf}
 use Rattle.wp_wal.specs.Wal.{WalState}
@@ -38,7 +38,7 @@ pub record Spelled (id : ℕ) (entries : List Entry) (IsHistory : List Entry →
   legal : IsLegal (entries ++ more)
   spelled : IsLogOf id (entries ++ more) image
 
-alone : (id : ℕ) (entries : List Entry) (IsHistory : List Entry → Type 0) (image : List ℕ) → IsHistory entries → IsLegal entries → IsLogOf id entries image → Spelled id entries IsHistory image
+pub alone : (id : ℕ) (entries : List Entry) (IsHistory : List Entry → Type 0) (image : List ℕ) → IsHistory entries → IsLegal entries → IsLogOf id entries image → Spelled id entries IsHistory image
 alone id entries IsHistory image is legal spelled = record {
   more = [];
   is = subst IsHistory (sym (append-nil entries)) is;
@@ -70,42 +70,50 @@ pub named_as : (id : ℕ) (entries : List Entry) (edits : List Edit) (edit : Edi
     → Named id entries IsLast manifest tables
 named_as id entries edits edit parts IsLast manifest tables last spelled there covered is = record { edits = edits; installed = spelled; parts = parts; there = rw (← last) there; covered = rw (← last) covered; is = rw (← last) is }
 
-itself : (faults : ℕ) (edit : InstalledEdit) → MayBeLast faults edit edit
-itself zero edit = refl
-itself (suc faults) edit = tt
-
-module _ (id : ℕ) (entries : List Entry) (set : TableSetState) (store : StoreParts) (whole : IsTabled id entries set store) (manifest tables : List ℕ) (at : images set.manifest.log.moments manifest) (tables_at : images set.moments tables) where
-  abbrev MayBe : InstalledEdit → Type 0
-  MayBe = MayBeLast (fault_count set.halted) (installed_of set.manifest.edit store.tables)
-
-  last_named : IsManifestOf id whole.edits manifest → Named id entries MayBe manifest tables
+-- the edits and the tables that the set stores, of which the last one is such
+module _ (id : ℕ) (entries : List Entry) (set : TableSetState) (edits : List Edit) (next : Edit) (parts next_parts : List (List Version)) (stores : StoresTables set edits next parts next_parts) (same_id : set.manifest.log.id ≡ id) (IsLast : InstalledEdit → Type 0) (covered : IsEditCovered entries (installed_of set.manifest.edit parts)) (is : IsLast (installed_of set.manifest.edit parts)) (manifest tables : List ℕ) (at : images set.manifest.log.moments manifest) (tables_at : images set.moments tables) where
+  last_named : IsManifestOf id edits manifest → Named id entries IsLast manifest tables
   last_named spelled =
-      named_as id entries whole.edits set.manifest.edit store.tables MayBe manifest tables whole.stores.manifest.last spelled
-      (rw (← whole.same_id) (known_image _ set.moments tables tables_at whole.stores.left)) whole.covered (itself (fault_count set.halted) (installed_of set.manifest.edit store.tables))
+      named_as id entries edits set.manifest.edit parts IsLast manifest tables stores.manifest.last spelled
+      (rw (← same_id) (known_image _ set.moments tables tables_at stores.left)) covered is
 
-  next_named : set.halted ≡ true → set.manifest.log.closed ≡ true → IsManifestOf id (whole.edits ++ whole.next ∷ []) manifest → Named id entries MayBe manifest tables
-  next_named halted closed spelled =
-      named_as id entries (whole.edits ++ whole.next ∷ []) whole.next whole.next_parts MayBe manifest tables (sym (last-push whole.edits whole.next)) spelled
-      (rw (← whole.same_id) (known_image _ set.moments tables tables_at whole.stores.left_next)) (whole.next_covered halted closed) (rw halted tt)
+  pub open_named : set.manifest.log.closed ≡ false → Named id entries IsLast manifest tables
+  open_named open_ =
+      last_named (
+        stores.manifest.records,
+        rw (← same_id) (rest_spells MAGIC set.manifest.log.id set.manifest.log.end stores.manifest.records set.manifest.log.moments (stores.manifest.rests open_) manifest at),
+        stores.manifest.spelled,
+      )
 
-  halted_where_closed : (halted : Bool) → set.halted ≡ halted → (set.halted ≡ false → set.manifest.log.closed ≡ false) → set.manifest.log.closed ≡ true → set.halted ≡ true
-  halted_where_closed true is running closed = is
-  halted_where_closed false is running closed = let open_ = running is in absurd cc
-
-  named : (set.halted ≡ false → set.manifest.log.closed ≡ false) → Named id entries MayBe manifest tables
-  named running = elim (cases_Bool set.manifest.log.closed) [
-    | inl closed ↦
-        elim (known_image _ set.manifest.log.moments manifest at (whole.stores.manifest.left closed)).0 [
-          | inl before ↦ last_named (rw (← whole.same_id) before)
-          | inr after ↦ next_named (halted_where_closed set.halted refl running closed) closed (rw (← whole.same_id) after)
-        ]
-    | inr open_ ↦
-        last_named (
-          whole.stores.manifest.records,
-          rw (← whole.same_id) (rest_spells MAGIC set.manifest.log.id set.manifest.log.end whole.stores.manifest.records set.manifest.log.moments (whole.stores.manifest.rests open_) manifest at),
-          whole.stores.manifest.spelled,
-        )
+  -- or the next one, which an install has failed to add
+  pub closed_named : set.manifest.log.closed ≡ true → IsEditCovered entries (installed_of next next_parts) → IsLast (installed_of next next_parts) → Named id entries IsLast manifest tables
+  closed_named closed next_covered next_is = elim (known_image _ set.manifest.log.moments manifest at (stores.manifest.left closed)).0 [
+    | inl before ↦ last_named (rw (← same_id) before)
+    | inr after ↦
+        named_as id entries (edits ++ next ∷ []) next next_parts IsLast manifest tables (sym (last-push edits next)) (rw (← same_id) after)
+        (rw (← same_id) (known_image _ set.moments tables tables_at stores.left_next)) next_covered next_is
   ]
+
+itself : (faults : ℕ) (edit failed : InstalledEdit) → MayBeLast faults edit failed edit
+itself zero edit failed = refl
+itself (suc faults) edit failed = inl refl
+
+halted_where_closed : (halted closed : Bool) → (halted ≡ false → closed ≡ false) → closed ≡ true → halted ≡ true
+halted_where_closed true closed running is = refl
+halted_where_closed false closed running is = let open_ = running refl in absurd cc
+
+-- the edit that a device of the tables failed to take
+abbrev pub failed_edit : {id : ℕ} {entries : List Entry} {set : TableSetState} {store : StoreParts} → IsTabled id entries set store → InstalledEdit
+failed_edit whole = installed_of whole.next whole.next_parts
+
+named : (id : ℕ) (entries : List Entry) (set : TableSetState) (store : StoreParts) (whole : IsTabled id entries set store) (manifest tables : List ℕ) → images set.manifest.log.moments manifest → images set.moments tables → (set.halted ≡ false → set.manifest.log.closed ≡ false)
+    → Named id entries (MayBeLast (fault_count set.halted) (installed_of set.manifest.edit store.tables) (failed_edit whole)) manifest tables
+named id entries set store whole manifest tables at tables_at running = elim (cases_Bool set.manifest.log.closed) [
+  | inl closed ↦
+      let halted = halted_where_closed set.halted set.manifest.log.closed running closed in
+      closed_named id entries set whole.edits whole.next store.tables whole.next_parts whole.stores whole.same_id _ whole.covered (itself (fault_count set.halted) _ _) manifest tables at tables_at closed (whole.next_covered halted closed) (rw halted (inr refl))
+  | inr open_ ↦ open_named id entries set whole.edits whole.next store.tables whole.next_parts whole.stores whole.same_id _ whole.covered (itself (fault_count set.halted) _ _) manifest tables at tables_at open_
+]
 
 -- ---- all three
 
@@ -133,5 +141,8 @@ opens_as id entries IsHistory IsLast log manifest tables fits history edit = rec
 
 pub all_open : (wal : WalState) (entries : List Entry) (set : TableSetState) (store : StoreParts) (stopped : Bool) (limit : ℕ) → IsConsistent wal entries set store stopped limit → (set.halted ≡ false → set.manifest.log.closed ≡ false)
     → AllOpen (engine_state wal entries set store stopped limit) wal.moments set.manifest.log.moments set.moments
-all_open wal entries set store stopped limit whole running l m t at_l at_m at_t =
-    opens_as wal.id entries _ _ l m t whole.log.id_fits (log_spelled wal entries stopped limit l whole.log at_l) (named wal.id entries set store whole.tables m t at_m at_t running)
+all_open wal entries set store stopped limit whole running = (
+  failed_edit whole.tables,
+  λ l m t at_l at_m at_t.
+      opens_as wal.id entries _ _ l m t whole.log.id_fits (log_spelled wal entries stopped limit l whole.log at_l) (named wal.id entries set store whole.tables m t at_m at_t running),
+)

@@ -1,5 +1,5 @@
 -- At each moment of a flush or a compaction a crash leaves devices that open.
-use Rattle.std.proofs.Common.{◌≡◌, ◌⊎◌, inl, inr, ℕ, Bool, false, List, [], ◌∷◌, ◌++◌, Result, Ok, Err, refl, sym, ap, subst}
+use Rattle.std.proofs.Common.{◌≡◌, ◌⊎◌, inl, inr, ℕ, Bool, List, [], ◌∷◌, ◌++◌, Result, Ok, Err, refl, sym, ap, subst}
 use Rattle.wp_model.specs.declared.entry.Entry.{Entry}
 use Rattle.wp_model.specs.declared.version.Version.{Version}
 use Rattle.wp_model.specs.Flushed.{InstalledEdit}
@@ -13,16 +13,16 @@ use Rattle.wp_manifest.proofs.EditLemmas.{last-push}
 use Rattle.wp_open.specs.Opens.{installed_of}
 use Rattle.wp_store.specs.Store.{StoreParts}
 use Rattle.wp_table.specs.File.{HasTables}
-use Rattle.wp_tableset.specs.Changes.{Installs, LosesNoTable}
+use Rattle.wp_tableset.specs.Changes.{Installs}
 use Rattle.wp_tableset.specs.Set.{TableSetState, LeavesTables, StoresTables}
 use Rattle.wp_tableset.specs.declared.error.TableSetError.{TableSetError}
 use Rattle.wp_tableset.specs.declared.error.TableSetError.TheVariants.{Memory, Fault, Halted}
 use Rattle.wp_wal.specs.Wal.{WalState}
 use Rattle.wp_engine.specs.Engine.{EngineState, engine_state}
 use Rattle.wp_engine.specs.Maintenance.{OpensThroughout}
-use Rattle.wp_engine.specs.Stored.{fault_count, IsOrOneMore, OpensAs, IsConsistent}
+use Rattle.wp_engine.specs.Stored.{fault_count, IsOrOneMore, OpensAs}
 use Rattle.wp_engine.proofs.OpenLemmas.{known_image, log_spelled, named_as, opens_as}
-use Rattle.wp_engine.proofs.SetLemmas.{MayFollow, stored_running}
+use Rattle.wp_engine.proofs.SetLemmas.{Installing, stored}
 
 each_map : (P Q : Moment → Type 0) → ((m : Moment) → P m → Q m) → (ms : List Moment) → Each P ms → Each Q ms
 each_map P Q f [] each = tt
@@ -35,12 +35,12 @@ passes_map P Q f old new passes = (passes.0, passes.1, each_map P Q f passes.0 p
 pub opens_unchanged : (s : EngineState) (next : InstalledEdit) → OpensThroughout s s next
 opens_unchanged s next = record { tables = ([], refl, tt); manifest = ([], refl, tt) }
 
-module _ (wal : WalState) (entries : List Entry) (set new : TableSetState) (store kept : StoreParts) (stopped : Bool) (limit : ℕ) (next : Edit) (after : List (List Version) → List (List Version)) (edit : InstalledEdit) (whole : IsConsistent wal entries set store stopped limit) (keeps : LosesNoTable set new) (running : set.halted ≡ false) (open_ : set.manifest.log.closed ≡ false) (follows : MayFollow entries next (after store.tables)) (edit_is : installed_of next (after store.tables) ≡ edit) where
+module _ {wal : WalState} {entries : List Entry} {set new : TableSetState} {store : StoreParts} {stopped : Bool} {limit : ℕ} {next : Edit} {after : List (List Version) → List (List Version)} {edit : InstalledEdit} {parts : List (List Version)} (call : Installing wal entries set new store stopped limit next after edit parts) (kept : StoreParts) where
   abbrev id : ℕ
   id = set.manifest.log.id
 
   abbrev edits : List Edit
-  edits = whole.tables.edits
+  edits = call.whole.tables.edits
 
   abbrev last : InstalledEdit
   last = installed_of set.manifest.edit store.tables
@@ -48,32 +48,32 @@ module _ (wal : WalState) (entries : List Entry) (set new : TableSetState) (stor
   abbrev IsHistory : List Entry → Type 0
   IsHistory = IsOrOneMore (fault_count stopped) entries
 
-  stored : StoresTables set edits no_edit store.tables []
-  stored = stored_running wal.id entries set store whole.tables running
+  at_first : StoresTables set edits no_edit store.tables []
+  at_first = stored call kept
 
   module _ (IsLast : InstalledEdit → Type 0) (l m t : List ℕ) (at_l : images wal.moments l) where
     opens_last : IsLast last → IsManifestOf id edits m → HasTables id set.manifest.edit.flushed t set.manifest.edit.tables store.tables → OpensAs wal.id IsHistory IsLast l m t
     opens_last is spelled there =
-        opens_as wal.id entries IsHistory IsLast l m t whole.log.id_fits (log_spelled wal entries stopped limit l whole.log at_l)
-        (named_as wal.id entries edits set.manifest.edit store.tables IsLast m t stored.manifest.last (subst (λ (i : ℕ). IsManifestOf i edits m) whole.tables.same_id spelled)
-        (subst (λ (i : ℕ). HasTables i set.manifest.edit.flushed t set.manifest.edit.tables store.tables) whole.tables.same_id there) whole.tables.covered is)
+        opens_as wal.id entries IsHistory IsLast l m t call.whole.log.id_fits (log_spelled wal entries stopped limit l call.whole.log at_l)
+        (named_as wal.id entries edits set.manifest.edit store.tables IsLast m t at_first.manifest.last (subst (λ (i : ℕ). IsManifestOf i edits m) call.whole.tables.same_id spelled)
+        (subst (λ (i : ℕ). HasTables i set.manifest.edit.flushed t set.manifest.edit.tables store.tables) call.whole.tables.same_id there) call.whole.tables.covered is)
 
     opens_next : IsLast edit → IsManifestOf id (edits ++ next ∷ []) m → HasTables id next.flushed t next.tables (after store.tables) → OpensAs wal.id IsHistory IsLast l m t
     opens_next is spelled there =
-        opens_as wal.id entries IsHistory IsLast l m t whole.log.id_fits (log_spelled wal entries stopped limit l whole.log at_l)
-        (named_as wal.id entries (edits ++ next ∷ []) next (after store.tables) IsLast m t (sym (last-push edits next)) (subst (λ (i : ℕ). IsManifestOf i (edits ++ next ∷ []) m) whole.tables.same_id spelled)
-        (subst (λ (i : ℕ). HasTables i next.flushed t next.tables (after store.tables)) whole.tables.same_id there) follows.covered (rw edit_is is))
+        opens_as wal.id entries IsHistory IsLast l m t call.whole.log.id_fits (log_spelled wal entries stopped limit l call.whole.log at_l)
+        (named_as wal.id entries (edits ++ next ∷ []) next (after store.tables) IsLast m t (sym (last-push edits next)) (subst (λ (i : ℕ). IsManifestOf i (edits ++ next ∷ []) m) call.whole.tables.same_id spelled)
+        (subst (λ (i : ℕ). HasTables i next.flushed t next.tables (after store.tables)) call.whole.tables.same_id there) call.follows.covered (rw call.edit_is is))
 
   -- ---- while the tables' device is called
 
   before : (m : List ℕ) → images set.manifest.log.moments m → IsManifestOf id edits m
-  before m at = (stored.manifest.records, rest_spells MAGIC id set.manifest.log.end stored.manifest.records set.manifest.log.moments (stored.manifest.rests open_) m at, stored.manifest.spelled)
+  before m at = (at_first.manifest.records, rest_spells MAGIC id set.manifest.log.end at_first.manifest.records set.manifest.log.moments (at_first.manifest.rests call.open_) m at, at_first.manifest.spelled)
 
   tables_passed : Passes (Leaves (λ t. (l m : List ℕ) → images wal.moments l → images set.manifest.log.moments m → OpensAs wal.id IsHistory (λ e. e ≡ last) l m t)) set.moments new.moments
   tables_passed =
       passes_map (LeavesTables id set.manifest.edit store.tables) (Leaves (λ t. (l m : List ℕ) → images wal.moments l → images set.manifest.log.moments m → OpensAs wal.id IsHistory (λ e. e ≡ last) l m t))
       (λ moment there t at l m at_l at_m. opens_last (λ e. e ≡ last) l m t at_l refl (before m at_m) (there t at))
-      set.moments new.moments (keeps.tables edits no_edit store.tables [] stored)
+      set.moments new.moments (call.keeps.tables edits no_edit store.tables [] at_first)
 
   -- ---- while the manifest's is
 
@@ -85,7 +85,7 @@ module _ (wal : WalState) (entries : List Entry) (set new : TableSetState) (stor
 
   -- the old edit's tables are there still
   still : (t : List ℕ) → images new.moments t → HasTables id set.manifest.edit.flushed t set.manifest.edit.tables store.tables
-  still = left_now _ set.moments new.moments (λ t at. known_image _ set.moments t at stored.left) (keeps.tables edits no_edit store.tables [] stored)
+  still = left_now _ set.moments new.moments (λ t at. known_image _ set.moments t at at_first.left) (call.keeps.tables edits no_edit store.tables [] at_first)
 
   manifest_passed : IfKnown new.moments (LeavesTables id next (after store.tables)) → Passes (Leaves (IsManifestOrNext id edits next)) set.manifest.log.moments new.manifest.log.moments → Passes OpensEither set.manifest.log.moments new.manifest.log.moments
   manifest_passed left passed =
@@ -104,15 +104,15 @@ module _ (wal : WalState) (entries : List Entry) (set new : TableSetState) (stor
   throughout passed = record { tables = tables_passed; manifest = passed }
 
   passed : {T : Type 0} (result : Result T TableSetError) → Installs set new next after result → Passes (Leaves (IsManifestOrNext id edits next)) set.manifest.log.moments new.manifest.log.moments
-  passed result installs = installs.passed edits stored.manifest open_
+  passed result installs = installs.passed edits at_first.manifest call.open_
 
   pub installed_throughout : {T : Type 0} (x : T) → Installs {T = T} set new next after (Ok x) → OpensThroughout (engine_state wal entries set store stopped limit) (engine_state wal entries new kept stopped limit) edit
-  installed_throughout x installs = throughout (manifest_passed (rw (installs.installed.last, keeps.id) at (installs.installed.stores edits store.tables stored).left) (passed (Ok x) installs))
+  installed_throughout x installs = throughout (manifest_passed (rw (installs.installed.last, call.keeps.id) at (installs.installed.stores edits store.tables at_first).left) (passed (Ok x) installs))
 
   pub refused_throughout : {T : Type 0} (why : TableSetError) → Installs {T = T} set new next after (Err why) → OpensThroughout (engine_state wal entries set store stopped limit) (engine_state wal entries new kept stopped limit) edit
   refused_throughout Memory installs = throughout (manifest_uncalled (ap (λ (s : TableSetState). s.manifest) installs.refused.0))
   refused_throughout Fault installs = elim installs.refused.2 [
     | inl failed ↦ throughout (manifest_uncalled failed.manifest)
-    | inr failed ↦ throughout (manifest_passed (rw keeps.id at (failed.stores edits store.tables stored).left_next) (passed (Err Fault) installs))
+    | inr failed ↦ throughout (manifest_passed (rw call.keeps.id at (failed.stores edits store.tables at_first).left_next) (passed (Err Fault) installs))
   ]
-  refused_throughout Halted installs = let halted = installs.refused.0 in absurd cc
+  refused_throughout Halted installs = let halted = installs.refused.0 in let runs = call.running in absurd cc

@@ -1,6 +1,7 @@
 -- The store on one thread, between two calls.
 use Rattle.std.specs.Prelude.{ℕ, Bool, List}
 use Rattle.wp_model.specs.declared.entry.Entry.{Entry}
+use Rattle.wp_model.specs.declared.version.Version.{Version}
 use Rattle.wp_model.specs.Flushed.{InstalledEdit}
 use Rattle.wp_outside.specs.Disk.{Moment}
 use Rattle.wp_open.specs.Opens.{installed_of}
@@ -14,6 +15,7 @@ pub record EngineState : Type 0 where
   pub limit : ℕ  -- the greatest number of an entry
   pub id : ℕ  -- the store's
   pub installed : InstalledEdit  -- the last edit of the tables
+  pub tables : List (List Version)  -- the versions of each table, the newest first
   pub halted : Bool  -- the manifest's device or the tables' has failed
   pub faults : ℕ  -- how often the log's device has failed
   pub moments : List Moment  -- the log's device's
@@ -29,6 +31,7 @@ engine_state wal entries set store stopped limit = record {
   limit = limit;
   id = wal.id;
   installed = installed_of set.manifest.edit store.tables;
+  tables = store.tables;
   halted = set.halted;
   faults = wal.faults;
   moments = wal.moments;

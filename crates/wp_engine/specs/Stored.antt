@@ -29,10 +29,10 @@ abbrev pub IsOrOneMore : (faults : ℕ) → List Entry → List Entry → Type 0
 IsOrOneMore zero history longer = longer ≡ history
 IsOrOneMore (suc faults) history longer = (longer ≡ history) ⊎ ((next : List Entry) × IsRecord (length history + 1) next × (longer ≡ history ++ next))
 
--- the edit that was installed; or, once a device of the tables has failed, any edit
-abbrev pub MayBeLast : (faults : ℕ) → InstalledEdit → InstalledEdit → Type 0
-MayBeLast zero installed edit = edit ≡ installed
-MayBeLast (suc faults) installed edit = Unit {0}
+-- the edit that was installed; or, once a device of the tables has failed, it or the one that they failed to take
+abbrev pub MayBeLast : (faults : ℕ) → (installed failed edit : InstalledEdit) → Type 0
+MayBeLast zero installed failed edit = edit ≡ installed
+MayBeLast (suc faults) installed failed edit = (edit ≡ installed) ⊎ (edit ≡ failed)
 
 -- the bytes of the three devices open to such a history, and to such an edit as the last one
 pub record OpensAs (id : ℕ) (IsHistory : List Entry → Type 0) (IsLast : InstalledEdit → Type 0) (log manifest tables : List ℕ) : Type 0 where
@@ -43,14 +43,21 @@ pub record OpensAs (id : ℕ) (IsHistory : List Entry → Type 0) (IsLast : Inst
   pub opens : OpensTo id history edit log manifest tables
 
 -- Whichever image each of the devices is left with, they open to the history, or, once the log has failed, to it or it and
--- one record more; and the edit that was installed is the last one, unless a device of the tables has failed.
-abbrev pub CrashOpens : (log_faults tables_faults id : ℕ) → List Entry → InstalledEdit → (log manifest tables : List Moment) → Type 0
-CrashOpens log_faults tables_faults id history installed log manifest tables = (l m t : List ℕ) → images log l → images manifest m → images tables t
-    → OpensAs id (IsOrOneMore log_faults history) (MayBeLast tables_faults installed) l m t
+-- one record more; and the last edit is the one that was installed, or, once a device of the tables has failed, it or the
+-- one that they failed to take.
+abbrev pub CrashOpens : (log_faults tables_faults id : ℕ) → List Entry → (installed failed : InstalledEdit) → (log manifest tables : List Moment) → Type 0
+CrashOpens log_faults tables_faults id history installed failed log manifest tables = (l m t : List ℕ) → images log l → images manifest m → images tables t
+    → OpensAs id (IsOrOneMore log_faults history) (MayBeLast tables_faults installed failed) l m t
 
 -- the devices of the store are left so
 abbrev pub AllOpen : EngineState → List Moment → List Moment → List Moment → Type 0
-AllOpen s = CrashOpens (fault_count s.stopped) (fault_count s.halted) s.id s.entries s.installed
+AllOpen s log manifest tables = (failed : InstalledEdit) × CrashOpens (fault_count s.stopped) (fault_count s.halted) s.id s.entries s.installed failed log manifest tables
+
+-- The devices of the tables failed to take the edit. Beside each log of the history, or of a longer one, what a crash leaves
+-- of them opens to that log's history; and the last edit is the one that was installed, or that one.
+abbrev pub LeavesEdit : EngineState → InstalledEdit → Type 0
+LeavesEdit s failed = (longer : List Entry) (l m t : List ℕ) → ((more : List Entry) × (longer ≡ s.entries ++ more)) → IsLegal longer → IsLogOf s.id longer l
+    → images s.manifest_moments m → images s.tables_moments t → OpensAs s.id (λ history. history ≡ longer) (MayBeLast 1 s.installed failed) l m t
 
 -- ---- the parts of the store
 

@@ -70,6 +70,7 @@ impl<D: Disk> Engine<D> {
           limit = limit;
           id = parts.wal.id;
           installed = installed_of parts.manifest.edit parts.store.tables;
+          tables = parts.store.tables;
           halted = false;
           faults = parts.wal.faults;
           moments = parts.wal.moments;

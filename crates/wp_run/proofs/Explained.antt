@@ -6,7 +6,6 @@ use Rattle.std.proofs.lemmas.List.Concat.{flat_map-cons, flat_map-append}
 use Rattle.std.proofs.lemmas.List.Folds.{list_any-append}
 use Rattle.std.proofs.lemmas.Bool.{cases_eq, eq-eqb, ne_eqb, or_cases}
 use Rattle.std.proofs.lemmas.List.Sums.{sum_by-cons, sum_by-append}
-use Rattle.wp_model.specs.declared.entry.Entry.{Entry}
 use Rattle.wp_model.specs.Legal.{IsLegal}
 use Rattle.wp_text.specs.declared.script.Command.{Command}
 use Rattle.wp_text.specs.declared.script.Part.{Part}
@@ -15,12 +14,14 @@ use Rattle.wp_session.specs.Client.{Client, new_client}
 use Rattle.wp_session.specs.Due.{Store, logged_entries, client_after}
 use Rattle.wp_session.specs.Kind.{acknowledged, is_fault, is_stopped, is_tables_fault, is_halted}
 use Rattle.wp_session.specs.Laws.{DueIsSession}
+use Rattle.wp_session.specs.Replies.{Failed}
 use Rattle.wp_session.specs.Current.{RunsAlone}
 use Rattle.wp_engine.specs.Stored.{fault_count}
+use Rattle.wp_run.specs.Failed.{AsksLog, AsksTables, FaultAsks, OneFaultAsks}
 use Rattle.wp_run.specs.Runs.{Runs, AllRun}
 use Rattle.wp_run.specs.Transcript.{StoredState, stored_in, IsExact, all_replies, Explains, opened_store}
 use Rattle.wp_run.proofs.Stores.{IsLaterStore, step_later, runs_later, all_later}
-use Rattle.wp_run.proofs.Asked.{AllAskOnly}
+use Rattle.wp_run.proofs.Asked.{log_fails_once, tables_fail_once, each_asks}
 use Rattle.wp_run.proofs.Said.{none_said, all_say}
 use Rattle.wp_run.proofs.Sessions.{are_sessions}
 
@@ -120,25 +121,39 @@ alone old new was now (c ∷ commands) [] h = absurd h
 alone old new was now (c ∷ commands) (a ∷ answers) (mid, next, step, rest) =
     (step.replied, subst (λ (s : Store). RunsAlone s (client_after old.history was c a) commands answers new) step.store (subst (λ (x : Client). RunsAlone mid x commands answers new) step.client (alone mid new next now commands answers rest)))
 
-exact_of : (limit : ℕ) (found : StoredState) (new : Store) (parts : List Part) (sessions : List (List Reply)) → AllRun (opened_store limit found) parts sessions new → IsExact limit found (stored_in new) parts sessions
-exact_of limit found new (p ∷ []) (answers ∷ []) (mid, (last, run), rest) = (mid, alone (opened_store limit found) mid new_client last p.commands answers run, ap stored_in rest)
-exact_of limit found new parts sessions h = tt
+-- the fault of one client alone is its own
+its_own : (is_failed : Reply → Bool) (Asks : Store → Client → Command → Type 0) (s : Store) (part : Part) (answers : List Reply) → OneFaultAsks is_failed Asks s (part ∷ []) (answers ∷ []) → FaultAsks is_failed Asks s new_client part.commands answers
+its_own is_failed Asks s part answers (inl own) = own
+its_own is_failed Asks s part answers (inr other) = absurd other
+
+exact_of : (limit : ℕ) (found : StoredState) (failed : Failed) (new : Store) (parts : List Part) (sessions : List (List Reply)) → AllRun (opened_store limit found) parts sessions new → (new.stopped ≡ true → OneFaultAsks is_fault (AsksLog failed.entries) (opened_store limit found) parts sessions)
+    → (new.halted ≡ true → OneFaultAsks is_tables_fault (AsksTables failed.edit) (opened_store limit found) parts sessions) → IsExact limit found (stored_in new) failed parts sessions
+exact_of limit found failed new (p ∷ []) (answers ∷ []) (mid, (last, run), rest) stopped halted = (
+  mid,
+  alone (opened_store limit found) mid new_client last p.commands answers run,
+  ap stored_in rest,
+  λ up. its_own is_fault (AsksLog failed.entries) (opened_store limit found) p answers (stopped (rw rest up)),
+  λ up. its_own is_tables_fault (AsksTables failed.edit) (opened_store limit found) p answers (halted (rw rest up)),
+)
+exact_of limit found failed new parts sessions h stopped halted = tt
 
 -- what the clients are answered one after another, from a store as it was opened
-pub explained : DueIsSession → (limit : ℕ) (found : StoredState) (failed : List Entry) (new : Store) (parts : List Part) (sessions : List (List Reply)) → found.edit.flushed ≤ length found.history → AllRun (opened_store limit found) parts sessions new → AllAskOnly failed (opened_store limit found) parts sessions → IsLegal new.history
+pub explained : DueIsSession → (limit : ℕ) (found : StoredState) (failed : Failed) (new : Store) (parts : List Part) (sessions : List (List Reply)) → found.edit.flushed ≤ length found.history → AllRun (opened_store limit found) parts sessions new → (new.stopped ≡ true → OneFaultAsks is_fault (AsksLog failed.entries) (opened_store limit found) parts sessions)
+    → (new.halted ≡ true → OneFaultAsks is_tables_fault (AsksTables failed.edit) (opened_store limit found) parts sessions) → IsLegal new.history
     → Explains limit (record { log = fault_count new.stopped; tables = fault_count new.halted }) parts found (stored_in new) failed sessions
-explained law limit found failed new parts sessions low h asks legal =
+explained law limit found failed new parts sessions low h stopped halted legal =
     let total = all_totals (opened_store limit found) new parts sessions h in
     let say = all_say (opened_store limit found) new parts sessions h in
     record {
       legal = legal;
       begins = (all_later (opened_store limit found) new parts sessions h).grows;
-      answered = are_sessions law failed new (opened_store limit found) limit found [] parts sessions (omega arith) refl h (none_said (opened_store limit found)) asks;
+      answered = are_sessions law failed new (opened_store limit found) limit found [] parts sessions (omega arith) refl h (none_said (opened_store limit found))
+          (each_asks is_fault (AsksLog failed.entries) _ log_fails_once (opened_store limit found) new parts sessions h stopped) (each_asks is_tables_fault (AsksTables failed.edit) _ tables_fail_once (opened_store limit found) new parts sessions h halted);
       paired = λ n after within. rw total.numbers (count_once n (length found.history + 1) total.count (omega arith) (omega (arith, total.longer)));
       log_failed = omega (arith, total.failed);
       stopped = λ t. rw (total.stopped t) (omega arith);
       tables_failed = omega (arith, total.tables_failed);
       halted = λ t. rw (total.halted t) (omega arith);
       edit = record { said = say.flushed; kept = say.kept low; greatest = say.greatest low; unchanged = say.unchanged };
-      exact = exact_of limit found new parts sessions h;
+      exact = exact_of limit found failed new parts sessions h stopped halted;
     }

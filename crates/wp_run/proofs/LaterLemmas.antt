@@ -1,8 +1,11 @@
 -- The store on one thread later on.
-use Rattle.std.proofs.Common.{◌≡◌, ℕ, ◌≤◌, Bool, true, false, List, refl, sym, ap, ◌∙◌, subst, arith, inl, inr}
-use Rattle.std.specs.Prelude.{Option, Some, None, Result, Ok, Err}
+use Rattle.std.proofs.Common.{◌≡◌, ℕ, ◌≤◌, Bool, true, false, List, [], ◌++◌, refl, sym, ap, ◌∙◌, subst, append_assoc, arith, inl, inr}
+use Rattle.std.specs.Prelude.{Option, Some, None, Result, Ok, Err, IfOk}
+use Rattle.std.specs.declared.alloc.AllocError.{AllocError}
 use Rattle.std.proofs.lemmas.Bool.{cases_Bool}
+use Rattle.std.proofs.lemmas.List.{append-nil}
 use Rattle.wp_model.specs.declared.entry.Entry.{Entry}
+use Rattle.wp_model.specs.declared.version.Version.{Version}
 use Rattle.wp_model.specs.Flushed.{InstalledEdit}
 use Rattle.wp_outside.specs.Faults.{Rose}
 use Rattle.wp_text.specs.declared.reply.Reply.{Reply}
@@ -12,7 +15,7 @@ use Rattle.wp_engine.specs.declared.error.MaintenanceError.TheVariants as mainte
 use Rattle.wp_engine.specs.Engine.{EngineState}
 use Rattle.wp_engine.specs.Logging.{CallsLog}
 use Rattle.wp_engine.specs.Maintenance.{KeepsTables, but_tables, HasInstalled, IsNotInstalled, IsFlushResult, IsCompactResult}
-use Rattle.wp_run.specs.Answering.{IsLogAnswer}
+use Rattle.wp_run.specs.Answering.{IsRefusalOfTables, IsLogAnswer, Compacts}
 use Rattle.wp_run.specs.Later.{Later, TablesRose, store_of}
 use Rattle.wp_run.proofs.Keeping.{keeps_same, keeps_trans, records_same, fronts_same}
 
@@ -24,7 +27,16 @@ false_is_true false e f = absurd cc
 -- ---- two in turn
 
 pub later_same : (s : EngineState) → Later s s
-later_same s = record { keeps = keeps_same s; stopped = λ e. e; ended = λ e. (refl, refl); rose = λ e f. false_is_true s.stopped e f; halted = λ e. e; tables_rose = λ e f. false_is_true s.halted e f }
+later_same s = record {
+  keeps = keeps_same s;
+  grows = ([], sym (append-nil s.entries));
+  stopped = λ e. e;
+  ended = λ e. (refl, refl);
+  rose = λ e f. false_is_true s.stopped e f;
+  halted = λ e. e;
+  settled = λ e. (refl, refl, refl);
+  tables_rose = λ e f. false_is_true s.halted e f;
+}
 
 pub later_equal : (old new : EngineState) → new ≡ old → Later old new
 later_equal old new e = subst (λ (s : EngineState). Later old s) (sym e) (later_same old)
@@ -51,6 +63,7 @@ tables_rose_on old mid new a b fresh now = elim (cases_Bool mid.halted) [
 pub later_trans : (old mid new : EngineState) → Later old mid → Later mid new → Later old new
 later_trans old mid new a b = record {
   keeps = keeps_trans old mid new a.keeps b.keeps;
+  grows = (a.grows.0 ++ b.grows.0, b.grows.1 ∙ ap (λ (xs : List Entry). xs ++ b.grows.0) a.grows.1 ∙ append_assoc old.entries a.grows.0 b.grows.0);
   stopped = λ e. b.stopped (a.stopped e);
   ended = λ e.
       let first = a.ended e in
@@ -58,6 +71,10 @@ later_trans old mid new a b = record {
       (second.0 ∙ first.0, second.1 ∙ first.1);
   rose = rose_on old.faults mid.faults new.faults old.stopped mid.stopped new.stopped a.rose b.rose a.keeps.log_later b.keeps.log_later;
   halted = λ e. b.halted (a.halted e);
+  settled = λ e.
+      let first = a.settled e in
+      let second = b.settled (a.halted e) in
+      (second.0 ∙ first.0, second.1 ∙ first.1, second.2 ∙ first.2);
   tables_rose = tables_rose_on old mid new a b;
 }
 
@@ -68,13 +85,14 @@ record AreTablesSame (old new : EngineState) : Type 0 where
   limit : new.limit ≡ old.limit
   id : new.id ≡ old.id
   halted : new.halted ≡ old.halted
+  installed : new.installed ≡ old.installed
   manifest_moments : new.manifest_moments ≡ old.manifest_moments
   manifest_faults : new.manifest_faults ≡ old.manifest_faults
   tables_moments : new.tables_moments ≡ old.tables_moments
   tables_faults : new.tables_faults ≡ old.tables_faults
 
-later_called : (old new : EngineState) (entries : List Entry) → CallsLog old new entries → AreTablesSame old new → (old.stopped ≡ false → new.stopped ≡ true → Rose old.faults new.faults) → Later old new
-later_called old new entries called same rose = record {
+later_called : (old new : EngineState) (entries : List Entry) → CallsLog old new entries → AreTablesSame old new → ((more : List Entry) × (new.entries ≡ old.entries ++ more)) → (old.stopped ≡ false → new.stopped ≡ true → Rose old.faults new.faults) → Later old new
+later_called old new entries called same grows rose = record {
   keeps = record {
     limited = same.limit;
     named = same.id;
@@ -85,10 +103,12 @@ later_called old new entries called same rose = record {
     manifest_later = rw same.manifest_faults (omega arith);
     tables_later = rw same.tables_faults (omega arith);
   };
+  grows = grows;
   stopped = λ e. false_is_true old.stopped called.running e;
   ended = λ e. false_is_true old.stopped called.running e;
   rose = rose;
   halted = λ e. rw same.halted e;
+  settled = λ e. (same.installed, same.manifest_moments, same.tables_moments);
   tables_rose = λ e f. false_is_true old.halted e (rw same.halted at f);
 }
 
@@ -97,9 +117,10 @@ same_by old new made is same = subst (λ (s : EngineState). AreTablesSame old s)
 
 pub later_logged : (old new : EngineState) (was now : Client) (entries : List Entry) (success answer : Reply) → IsLogAnswer old was entries success answer new now → Later old new
 later_logged old new was now entries success answer answered = elim answered [
-  | inl accepted ↦ later_called old new entries accepted.0.called (same_by old new _ accepted.0.changed (record { limit = refl; id = refl; halted = refl; manifest_moments = refl; manifest_faults = refl; tables_moments = refl; tables_faults = refl }))
+  | inl accepted ↦ later_called old new entries accepted.0.called (same_by old new _ accepted.0.changed (record { limit = refl; id = refl; halted = refl; installed = refl; manifest_moments = refl; manifest_faults = refl; tables_moments = refl; tables_faults = refl })) (entries, ap (λ (s : EngineState). s.entries) accepted.0.changed)
       (λ e f. false_is_true old.stopped e (sym (ap (λ (s : EngineState). s.stopped) accepted.0.changed) ∙ f))
-  | inr (inl failed) ↦ later_called old new entries failed.0.called (same_by old new _ failed.0.changed (record { limit = refl; id = refl; halted = refl; manifest_moments = refl; manifest_faults = refl; tables_moments = refl; tables_faults = refl })) (λ e f. failed.0.rose)
+  | inr (inl failed) ↦ later_called old new entries failed.0.called (same_by old new _ failed.0.changed (record { limit = refl; id = refl; halted = refl; installed = refl; manifest_moments = refl; manifest_faults = refl; tables_moments = refl; tables_faults = refl }))
+      ([], ap (λ (s : EngineState). s.entries) failed.0.changed ∙ sym (append-nil old.entries)) (λ e f. failed.0.rose)
   | inr (inr (inl full)) ↦ later_equal old new full.0.same
   | inr (inr (inr stopped)) ↦ later_equal old new stopped.0.same
 ]
@@ -115,8 +136,8 @@ record IsLogSame (old new : EngineState) : Type 0 where
   moments : new.moments ≡ old.moments
   faults : new.faults ≡ old.faults
 
-later_maintained : (old new : EngineState) → KeepsTables old new → IsLogSame old new → (old.halted ≡ true → new.halted ≡ true) → (old.halted ≡ false → new.halted ≡ true → TablesRose old new) → Later old new
-later_maintained old new keeps same halted rose = record {
+later_maintained : (old new : EngineState) → KeepsTables old new → IsLogSame old new → old.halted ≡ false → (old.halted ≡ false → new.halted ≡ true → TablesRose old new) → Later old new
+later_maintained old new keeps same running rose = record {
   keeps = record {
     limited = same.limit;
     named = same.id;
@@ -127,36 +148,43 @@ later_maintained old new keeps same halted rose = record {
     manifest_later = keeps.manifest_later;
     tables_later = keeps.later;
   };
+  grows = ([], same.entries ∙ sym (append-nil old.entries));
   stopped = λ e. rw same.stopped e;
   ended = λ e. (same.entries, same.moments);
   rose = λ e f. false_is_true old.stopped e (rw same.stopped at f);
-  halted = halted;
+  halted = λ e. false_is_true old.halted running e;
+  settled = λ e. false_is_true old.halted running e;
   tables_rose = rose;
 }
 
 log_by : (old new made : EngineState) → new ≡ made → IsLogSame old made → IsLogSame old new
 log_by old new made is same = subst (λ (s : EngineState). IsLogSame old s) (sym is) same
 
-later_installed : (old new : EngineState) (edit : InstalledEdit) → KeepsTables old new → HasInstalled old new edit → Later old new
-later_installed old new edit keeps made = later_maintained old new keeps (log_by old new _ made.changed (record { entries = refl; limit = refl; id = refl; stopped = refl; moments = refl; faults = refl }))
-    (λ e. false_is_true old.halted made.running e) (λ e f. false_is_true old.halted e (sym (ap (λ (s : EngineState). s.halted) made.changed) ∙ f))
+later_installed : (old new : EngineState) (edit : InstalledEdit) (tables : List (List Version)) → KeepsTables old new → HasInstalled old new edit tables → Later old new
+later_installed old new edit tables keeps made = later_maintained old new keeps (log_by old new _ made.changed (record { entries = refl; limit = refl; id = refl; stopped = refl; moments = refl; faults = refl })) made.running
+    (λ e f. false_is_true old.halted e (sym (ap (λ (s : EngineState). s.halted) made.changed) ∙ f))
 
-later_refused : (old new : EngineState) (something : Type 0) (why : MaintenanceError) → KeepsTables old new → IsNotInstalled old new something why → Later old new
-later_refused old new something maintenance.Memory keeps is = later_maintained old new keeps (log_by old new _ is (record { entries = refl; limit = refl; id = refl; stopped = refl; moments = refl; faults = refl }))
-    (λ e. ap (λ (s : EngineState). s.halted) is ∙ e) (λ e f. false_is_true old.halted e (sym (ap (λ (s : EngineState). s.halted) is) ∙ f))
-later_refused old new something maintenance.TablesFault keeps is = later_maintained old new keeps (log_by old new _ is.3 (record { entries = refl; limit = refl; id = refl; stopped = refl; moments = refl; faults = refl }))
-    (λ e. false_is_true old.halted is.1 e) (λ e f. is.2)
-later_refused old new something (maintenance.Halted flushed) keeps is = later_equal old new is.2
+later_refused : (old new : EngineState) (something : Type 0) (edit : InstalledEdit) (why : MaintenanceError) → KeepsTables old new → IsNotInstalled old new something edit why → Later old new
+later_refused old new something edit maintenance.Memory keeps is = later_maintained old new keeps (log_by old new _ is.1 (record { entries = refl; limit = refl; id = refl; stopped = refl; moments = refl; faults = refl })) is.0
+    (λ e f. false_is_true old.halted e (sym (ap (λ (s : EngineState). s.halted) is.1) ∙ f))
+later_refused old new something edit maintenance.TablesFault keeps is = later_maintained old new keeps (log_by old new _ is.1.changed (record { entries = refl; limit = refl; id = refl; stopped = refl; moments = refl; faults = refl })) is.1.running
+    (λ e f. is.1.rose)
+later_refused old new something edit (maintenance.Halted flushed) keeps is = later_equal old new is.2
 
 pub later_flushed : (old new : EngineState) (result : Result (Option ℕ) MaintenanceError) → KeepsTables old new → IsFlushResult old new result → Later old new
-later_flushed old new (Ok (Some count)) keeps is = later_installed old new _ keeps is.2
+later_flushed old new (Ok (Some count)) keeps is = later_installed old new _ _ keeps is.2
 later_flushed old new (Ok None) keeps is = later_equal old new is.2
-later_flushed old new (Err why) keeps is = later_refused old new _ why keeps is
+later_flushed old new (Err why) keeps is = later_refused old new _ _ why keeps is
 
 pub later_compacted : (old new : EngineState) (snapshots : List ℕ) (result : Result (Option ℕ) MaintenanceError) → KeepsTables old new → IsCompactResult old new snapshots result → Later old new
-later_compacted old new snapshots (Ok (Some count)) keeps is = later_installed old new _ keeps is.2
+later_compacted old new snapshots (Ok (Some count)) keeps is = later_installed old new _ _ keeps is.2
 later_compacted old new snapshots (Ok None) keeps is = later_equal old new is.2
-later_compacted old new snapshots (Err why) keeps is = later_refused old new _ why keeps is.0
+later_compacted old new snapshots (Err why) keeps is = later_refused old new _ _ why keeps is.0
+
+-- what a refused compaction is answered
+pub refused_compacts : (old new : EngineState) (snapshots : List ℕ) (answered : Result Reply AllocError) (why : MaintenanceError) → IsRefusalOfTables why answered → IsCompactResult old new snapshots (Err why) → IfOk answered (λ answer. Compacts old snapshots answer new)
+refused_compacts old new snapshots (Ok answer) why is made = (Err why, made, is)
+refused_compacts old new snapshots (Err e) why is made = tt
 
 -- for want of memory nothing is changed but the tables' device
 pub store_but_tables : (old new : EngineState) → new ≡ but_tables old new → store_of new ≡ store_of old

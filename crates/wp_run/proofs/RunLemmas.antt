@@ -1,10 +1,9 @@
 -- Runs of the store on one thread go on by one command, and by one client.
-use Rattle.std.proofs.Common.{◌≡◌, ℕ, ◌+◌, ◌<◌, true, false, List, [], ◌∷◌, ◌++◌, length, get_or, take, drop, refl, sym, ap, ◌∙◌, subst, arith, inl, inr}
+use Rattle.std.proofs.Common.{◌≡◌, ℕ, ◌+◌, ◌<◌, Bool, true, false, List, [], ◌∷◌, ◌++◌, length, get_or, take, drop, refl, sym, ap, ◌∙◌, subst, arith, inl, inr}
 use Rattle.std.specs.Prelude.{Result, Ok, Err, OnErr}
 use Rattle.std.proofs.lemmas.List.{take_more, append-nil, take-append-drop}
 use Rattle.std.proofs.lemmas.Bool.{and_parts}
 use Rattle.std.proofs.Math.Seq.{take-length}
-use Rattle.wp_model.specs.declared.entry.Entry.{Entry}
 use Rattle.wp_text.specs.declared.script.Command.{Command}
 use Rattle.wp_text.specs.declared.script.Part.{Part}
 use Rattle.wp_text.specs.declared.reply.Reply.{Reply}
@@ -16,7 +15,7 @@ use Rattle.wp_run.specs.Later.{store_of}
 use Rattle.wp_run.specs.Runs.{Answered, IsStep, Runs, AllRun, IsRunSoFar, AllRunSoFar, replies_of, are_whole}
 use Rattle.wp_run.specs.Serving.{AreFirstParts, HasRun}
 use Rattle.wp_run.proofs.Asked.{asks_first, left_so_far, left_whole}
-use Rattle.wp_run.proofs.Failing.{not_failed}
+use Rattle.wp_run.proofs.Failing.{not_stopped, not_halted}
 
 pub Runs-push : (old mid new : Store) (was between now : Client) (commands : List Command) (answers : List Reply) (last : Command) (answer : Reply) → Runs old was commands answers mid between → IsStep mid between last answer new now → Runs old was (commands ++ last ∷ []) (answers ++ answer ∷ []) new now
 Runs-push old mid new was between now [] [] last answer e step = (new, now, subst (λ (c : Client). IsStep old c last answer new now) e.1 (subst (λ (s : Store). IsStep s between last answer new now) e.0 step), (refl, refl))
@@ -60,18 +59,18 @@ ran_whole old new last commands i answers all run = record {
 -- ---- the first commands alone
 
 -- the clients that ran, with their first commands alone
-pub record FirstsRan (old new : Store) (parts : List Part) (sessions : List Answered) : Type 0 where
+pub record FirstsRan (old new : Store) (parts : List Part) (sessions : List Answered) : Type 1 where
   pub firsts : List Part
   pub are : AreFirstParts parts firsts
   pub run : AllRun old firsts (replies_of sessions) new
   pub whole : are_whole sessions ≡ true → firsts ≡ parts
-  pub asks : (e : List Entry) → OneFaultAsks e old parts (replies_of sessions) → OneFaultAsks e old firsts (replies_of sessions)
+  pub asks : (is_failed : Reply → Bool) (Asks : Store → Client → Command → Type 0) → OneFaultAsks is_failed Asks old parts (replies_of sessions) → OneFaultAsks is_failed Asks old firsts (replies_of sessions)
 
 nothing_more : (commands first rest : List Command) → commands ≡ first ++ rest → rest ≡ [] → first ≡ commands
 nothing_more commands first rest is none = sym (is ∙ ap (λ (xs : List Command). first ++ xs) none ∙ append-nil first)
 
 pub firsts_ran : (old new : Store) (parts : List Part) (sessions : List Answered) → AllRunSoFar old parts sessions new → FirstsRan old new parts sessions
-firsts_ran old new [] [] e = record { firsts = []; are = tt; run = e; whole = λ w. refl; asks = λ entries asked. asked }
+firsts_ran old new [] [] e = record { firsts = []; are = tt; run = e; whole = λ w. refl; asks = λ is_failed Asks asked. asked }
 firsts_ran old new [] (a ∷ sessions) h = absurd h
 firsts_ran old new (p ∷ parts) [] h = absurd h
 firsts_ran old new (p ∷ parts) (a ∷ sessions) (mid, ran, rest) =
@@ -83,10 +82,10 @@ firsts_ran old new (p ∷ parts) (a ∷ sessions) (mid, ran, rest) =
       whole = λ w.
           let both = and_parts a.whole (are_whole sessions) w in
           rw (more.whole both.1, nothing_more p.commands ran.first ran.rest ran.parts (ran.whole both.0)) refl;
-      asks = λ e asked. elim asked [
-        | inl here ↦ inl (asks_first e old mid new_client ran.run.0 ran.first ran.rest a.replies ran.run.1 (subst (λ (xs : List Command). FaultAsks e old new_client xs a.replies) ran.parts here))
-        | inr others ↦ inr (subst (λ (s : Store). OneFaultAsks e s more.firsts (replies_of sessions)) (sym (left_whole old mid new_client ran.run.0 ran.first a.replies ran.run.1))
-            (more.asks e (subst (λ (s : Store). OneFaultAsks e s parts (replies_of sessions)) (left_so_far old mid p.commands a ran) others)))
+      asks = λ is_failed Asks asked. elim asked [
+        | inl here ↦ inl (asks_first is_failed Asks old mid new_client ran.run.0 ran.first ran.rest a.replies ran.run.1 (subst (λ (xs : List Command). FaultAsks is_failed Asks old new_client xs a.replies) ran.parts here))
+        | inr others ↦ inr (subst (λ (s : Store). OneFaultAsks is_failed Asks s more.firsts (replies_of sessions)) (sym (left_whole old mid new_client ran.run.0 ran.first a.replies ran.run.1))
+            (more.asks is_failed Asks (subst (λ (s : Store). OneFaultAsks is_failed Asks s parts (replies_of sessions)) (left_so_far old mid p.commands a ran) others)))
       ];
     }
 
@@ -100,7 +99,7 @@ none_of s (p ∷ parts) =
 pub none_run : (s : EngineState) (parts : List Part) → HasRun s s parts
 none_run s parts =
     let none = none_of (store_of s) parts in
-    (none.0, (none.1, not_failed s s _ refl))
+    (none.0, record { ran = none.1; stopped = not_stopped s s _ refl; halted = not_halted s s _ refl })
 
 -- each client has one list of replies
 pub as_many : (old new : Store) (parts : List Part) (sessions : List Answered) → AllRunSoFar old parts sessions new → length parts ≡ length sessions

@@ -16,18 +16,18 @@ use Rattle.wp_text.specs.declared.reply.Reply.TheVariants as reply
 use Rattle.wp_session.specs.declared.plan.Plan.TheVariants.{Say, Log, RollBack, Flush, Compact}
 use Rattle.wp_session.specs.Client.{Client, ClientFits, numbers_of}
 use Rattle.wp_session.specs.Due.{Store, logged, flushed, reply_to, due, logged_entries, edit_of, installed_edit, store_after, client_after}
-use Rattle.wp_session.specs.Kind.{acknowledged, is_logged, is_fault, is_installed, is_tables_fault, is_halted, number_in, fresh_in, is_stopped}
+use Rattle.wp_session.specs.Kind.{Kind, Logged, RolledBack, Flushed, Compacted, kind, acknowledged, numbers_logged, is_logged, says_logged, is_fault, says_failed, is_installed, says_installed, is_tables_fault, says_tables_failed, is_halted, says_halted, number_in, fresh_in, is_stopped, says_stopped}
 use Rattle.wp_session.specs.After.{after_decision}
 use Rattle.wp_session.specs.Plan.{plan, asked_of}
-use Rattle.wp_session.specs.Tables.{unflushed, retained}
+use Rattle.wp_session.specs.Tables.{unflushed, retained, after_flush, after_compaction}
 use Rattle.wp_session.proofs.PlanLemmas.{Logs}
 use Rattle.wp_session.proofs.SaidLemmas.{plan_says, within_more}
 use Rattle.wp_engine.specs.declared.error.MaintenanceError.{MaintenanceError}
 use Rattle.wp_engine.specs.declared.error.MaintenanceError.TheVariants as maintenance
 use Rattle.wp_engine.specs.Engine.{EngineState}
 use Rattle.wp_engine.specs.Logging.{HasLogged, HasFailed}
-use Rattle.wp_engine.specs.Maintenance.{HasInstalled, IsFlushResult, IsCompactResult}
-use Rattle.wp_run.specs.Answering.{IsLogAnswer, IsFlushAnswer, IsCompactionAnswer, Flushes, Compacts}
+use Rattle.wp_engine.specs.Maintenance.{HasInstalled, HasHalted, IsNotInstalled, IsFlushResult, IsCompactResult}
+use Rattle.wp_run.specs.Answering.{IsRefusalOfTables, IsLogAnswer, IsFlushAnswer, IsCompactionAnswer, Flushes, Compacts}
 use Rattle.wp_run.specs.Later.{store_of}
 use Rattle.wp_run.specs.Runs.{no_edit, flushed as is_flush, compacted as is_compaction, TablesStep, IsStep}
 use Rattle.wp_run.proofs.LaterLemmas.{false_is_true}
@@ -105,6 +105,23 @@ pub record LogsNothing (s : Store) (c : Command) (r : Reply) : Type 0 where
   pub halted : is_halted r ≡ true → s.halted ≡ true
   pub current : IfSome (fresh_in c r) (λ n. n ≡ length s.history)
 
+-- it has no such thing to say
+says_nothing : (k : Kind) → says_logged k ≡ false → says_failed k ≡ false → says_tables_failed k ≡ false → numbers_logged k ≡ []
+says_nothing (Logged n) unlogged faultless intact = absurd cc
+says_nothing (RolledBack n) unlogged faultless intact = absurd cc
+says_nothing other unlogged faultless intact = refl
+
+logs_nothing : (s : Store) (c : Command) (r : Reply) → is_logged r ≡ false → is_fault r ≡ false → is_tables_fault r ≡ false → (is_stopped r ≡ true → s.stopped ≡ true) → (is_halted r ≡ true → s.halted ≡ true) → IfSome (number_in r) (λ n. n ≡ length s.history) → LogsNothing s c r
+logs_nothing s c r unlogged faultless intact stopped halted number = record {
+  none = says_nothing (kind r) unlogged faultless intact;
+  unlogged = unlogged;
+  faultless = faultless;
+  intact = intact;
+  stopped = stopped;
+  halted = halted;
+  current = fresh_if_numbered _ c r number;
+}
+
 fresh_same : (o : Option ℕ) (n : ℕ) → IfSome o (λ m. m ≡ n) → IfSome o (λ m. (n ≤ m) × (m ≤ n))
 fresh_same None n is = tt
 fresh_same (Some m) n is = (omega (arith, is), omega (arith, is))
@@ -114,8 +131,9 @@ abbrev pub with_edit : Store → Client → Command → Reply → Store
 with_edit s was c answer = record s { installed = installed_edit s was c answer }
 
 -- nothing but the edit changes
-edit_steps : (s new : Store) (was now : Client) (c : Command) (answer : Reply) → answer ≡ due s was c → now ≡ client_after s.history was c answer → LogsNothing s c answer → new ≡ with_edit s was c answer → TablesStep s was c answer → AreFew s → IsStep s was c answer new now
-edit_steps s new was now c answer is client plain edited tables few =
+edit_steps : (s new : Store) (was now : Client) (c : Command) (answer : Reply) → answer ≡ due s was c → now ≡ client_after s.history was c answer → LogsNothing s c answer → new ≡ with_edit s was c answer → (s.halted ≡ true → new.installed ≡ s.installed) → TablesStep s was c answer → AreFew s
+    → IsStep s was c answer new now
+edit_steps s new was now c answer is client plain edited settled tables few =
     let same : new.history ≡ s.history = ap (λ (t : Store). t.history) edited in
     record {
       replied = inl is;
@@ -130,12 +148,13 @@ edit_steps s new was now c answer is client plain edited tables few =
       few = few;
       tables_running = λ f. false_is_true (is_tables_fault answer) plain.intact f;
       halted_before = plain.halted;
+      settled = settled;
     }
 
 -- a reply that changes nothing of the store
 still_steps : (s : Store) (was now : Client) (c : Command) (answer : Reply) → answer ≡ due s was c → now ≡ client_after s.history was c answer → LogsNothing s c answer → is_installed answer ≡ false → AreFew s → IsStep s was c answer s now
 still_steps s was now c answer is client plain none few =
-    edit_steps s s was now c answer is client plain (same_store s (with_edit s was c answer) refl refl refl (rw none refl) refl) (no_edit none) few
+    edit_steps s s was now c answer is client plain (same_store s (with_edit s was c answer) refl refl refl (rw none refl) refl) (λ e. refl) (no_edit none) few
 
 -- ---- entries for the log
 
@@ -172,6 +191,7 @@ takes_steps old new was now c entries success asks takes is few =
       few = few;
       tables_running = λ f. false_is_true (is_tables_fault success) plain.intact f;
       halted_before = λ t. false_is_true (is_halted success) plain.unhalted t;
+      settled = λ e. ap (λ (j : EngineState). j.installed) takes.changed;
     }
 
 fails_steps : (old new : EngineState) (was : Client) (c : Command) (entries : List Entry) (success : Reply) → Asks (store_of old) was c entries success → HasFailed old new entries → AreFew (store_of old) → IsStep (store_of old) was c reply.FaultLog (store_of new) was
@@ -191,6 +211,7 @@ fails_steps old new was c entries success asks fails few =
       few = few;
       tables_running = λ f. absurd cc;
       halted_before = λ t. absurd cc;
+      settled = λ e. ap (λ (j : EngineState). j.installed) fails.changed;
     }
 
 -- a step to a store that is the same
@@ -205,10 +226,10 @@ logged_steps old new was now c entries success answer asks few answered =
       | inr (inl failed) ↦ subst (λ (r : Reply). IsStep s was c r (store_of new) now) (sym failed.1) (subst (λ (x : Client). IsStep s was c reply.FaultLog (store_of new) x) (sym failed.2) (fails_steps old new was c entries success asks failed.0 few))
       | inr (inr (inl full)) ↦ step_at s (store_of new) was now c answer (reply.Full (length old.entries) old.limit) full.1 (ap store_of full.0.same) full.2
           (still_steps s was was c (reply.Full (length old.entries) old.limit) (sym (asks.replies ∙ logged_full s (length entries) success full.0.running full.0.past)) refl
-          (record { none = refl; unlogged = refl; faultless = refl; intact = refl; stopped = λ t. absurd cc; halted = λ t. absurd cc; current = fresh_if_numbered _ c (reply.Full (length old.entries) old.limit) tt }) refl few)
+          (logs_nothing s c (reply.Full (length old.entries) old.limit) refl refl refl (λ t. absurd cc) (λ t. absurd cc) tt) refl few)
       | inr (inr (inr stopped)) ↦ step_at s (store_of new) was now c answer (reply.Stopped (length old.entries)) stopped.1 (ap store_of stopped.0.same) stopped.2
           (still_steps s was was c (reply.Stopped (length old.entries)) (sym (asks.replies ∙ logged_stopped s (length entries) success stopped.0.stopped)) refl
-          (record { none = refl; unlogged = refl; faultless = refl; intact = refl; stopped = λ t. stopped.0.stopped; halted = λ t. absurd cc; current = fresh_if_numbered _ c (reply.Stopped (length old.entries)) tt }) refl few)
+          (logs_nothing s c (reply.Stopped (length old.entries)) refl refl refl (λ t. stopped.0.stopped) (λ t. absurd cc) tt) refl few)
     ]
 
 pub logged_fits : (old new : EngineState) (was now : Client) (entries : List Entry) (success answer : Reply) → Logs old.entries was entries success → ClientFits old.entries was → IsLogAnswer old was entries success answer new now → ClientFits new.entries now
@@ -239,20 +260,31 @@ said_steps s was now c answer planned is few =
 
 -- ---- an edit for the tables
 
--- the tables took the edit of a flush, or of a compaction
-edit_made : (old new : EngineState) (was : Client) (c : Command) (answer : Reply) → HasInstalled old new (edit_of (store_of old) was (plan old.entries was c)) → answer ≡ due (store_of old) was c → client_after old.entries was c answer ≡ was → is_installed answer ≡ true
-    → LogsNothing (store_of old) c answer → TablesStep (store_of old) was c answer → AreFew (store_of old) → IsStep (store_of old) was c answer (store_of new) was
-edit_made old new was c answer made is client installs plain tables few =
-    edit_steps (store_of old) (store_of new) was was c answer is (sym client) plain (ap store_of made.changed ∙ ap (λ (e : InstalledEdit). record (store_of old) { installed = e }) (rw installs refl)) tables few
+-- What a command that asks the tables for the edit is answered where no device fails: so, if there is something to do.
+pub record AsksEdit (old : EngineState) (was : Client) (c : Command) (said : Reply) (edit : InstalledEdit) (something : Type 0) : Type 0 where
+  pub asked : edit_of (store_of old) was (plan old.entries was c) ≡ edit
+  pub replies : old.halted ≡ false → something → due (store_of old) was c ≡ said
+  pub halted : old.halted ≡ true → due (store_of old) was c ≡ reply.Halted old.installed.flushed
+  pub installs : is_installed said ≡ true
+  pub number : number_in said ≡ Some (length old.entries)
+  pub stays : client_after old.entries was c said ≡ was
+  pub step : TablesStep (store_of old) was c said
+
+-- a reply of an edit tells of nothing else
+installed_alone : (k : Kind) → says_installed k ≡ true → (says_logged k ≡ false) × (says_failed k ≡ false) × (says_tables_failed k ≡ false) × (says_stopped k ≡ false) × (says_halted k ≡ false)
+installed_alone (Flushed n) is = (refl, refl, refl, refl, refl)
+installed_alone (Compacted n versions) is = (refl, refl, refl, refl, refl)
+installed_alone other is = absurd cc
 
 -- a device failed as the tables took the edit
-halted_steps : (old new : EngineState) (was : Client) (c : Command) → old.halted ≡ false → store_of new ≡ record (store_of old) { halted = true } → is_installed (due (store_of old) was c) ≡ true → AreFew (store_of old) → IsStep (store_of old) was c reply.FaultTables (store_of new) was
-halted_steps old new was c running halts installs few =
+halted_steps : (old new : EngineState) (was : Client) (c : Command) (edit : InstalledEdit) → HasHalted old new edit → is_installed (due (store_of old) was c) ≡ true → AreFew (store_of old) → IsStep (store_of old) was c reply.FaultTables (store_of new) was
+halted_steps old new was c edit failed installs few =
     let s = store_of old in
-    let longer : new.entries ≡ old.entries = ap (λ (t : Store). t.history) halts in
+    let longer : new.entries ≡ old.entries = ap (λ (j : EngineState). j.entries) failed.changed in
     record {
       replied = inr (inr (refl, installs));
-      store = same_store (store_of new) (store_after s was c reply.FaultTables) (longer ∙ sym (append-nil old.entries)) (ap (λ (t : Store). t.stopped) halts) (ap (λ (t : Store). t.limit) halts) (ap (λ (t : Store). t.installed) halts) (ap (λ (t : Store). t.halted) halts);
+      store = same_store (store_of new) (store_after s was c reply.FaultTables) (longer ∙ sym (append-nil old.entries)) (ap (λ (j : EngineState). j.stopped) failed.changed) (ap (λ (j : EngineState). j.limit) failed.changed) (ap (λ (j : EngineState). j.installed) failed.changed)
+          (ap (λ (j : EngineState). j.halted) failed.changed);
       client = refl;
       numbers = refl;
       fresh = fresh_if_numbered _ c reply.FaultTables tt;
@@ -261,78 +293,82 @@ halted_steps old new was c running halts installs few =
       stays = λ e. longer;
       tables = no_edit refl;
       few = few;
-      tables_running = λ f. running;
+      tables_running = λ f. failed.running;
       halted_before = λ t. absurd cc;
+      settled = λ e. ap (λ (j : EngineState). j.installed) failed.changed;
     }
+
+module _ (old new : EngineState) (was : Client) (c : Command) (answer said : Reply) (edit : InstalledEdit) (something : Type 0) (asks : AsksEdit old was c said edit something) (few : AreFew (store_of old)) where
+  -- the tables took it
+  edit_taken : (tables : List (List Version)) → something → HasInstalled old new edit tables → answer ≡ said → IsStep (store_of old) was c answer (store_of new) was
+  edit_taken tables some made is =
+      let s = store_of old in
+      let alone = installed_alone (kind said) asks.installs in
+      let plain = logs_nothing s c said alone.0 alone.1 alone.2 (λ t. false_is_true (is_stopped said) alone.3 t) (λ t. false_is_true (is_halted said) alone.4 t) (rw asks.number refl) in
+      let edited : store_of new ≡ with_edit s was c said = ap store_of made.changed ∙ ap (λ (e : InstalledEdit). record (store_of old) { installed = e }) (sym (rw asks.installs asks.asked)) in
+      subst (λ (r : Reply). IsStep s was c r (store_of new) was) (sym is)
+      (edit_steps s (store_of new) was was c said (sym (asks.replies made.running some)) (sym asks.stays) plain edited (λ e. false_is_true old.halted made.running e) asks.step few)
+
+  -- or did not
+  edit_refused : (why : MaintenanceError) → IsNotInstalled old new something edit why → IsRefusalOfTables why (Ok answer) → IsStep (store_of old) was c answer (store_of new) was
+  edit_refused maintenance.Memory refused is = absurd is
+  edit_refused maintenance.TablesFault refused is =
+      subst (λ (r : Reply). IsStep (store_of old) was c r (store_of new) was) (sym is)
+      (halted_steps old new was c edit refused.1 (ap is_installed (asks.replies refused.1.running refused.0) ∙ asks.installs) few)
+  edit_refused (maintenance.Halted n) refused is =
+      step_at (store_of old) (store_of new) was was c answer (reply.Halted old.installed.flushed) (is ∙ ap (λ (m : ℕ). reply.Halted m) refused.1) (ap store_of refused.2) refl
+      (still_steps (store_of old) was was c (reply.Halted old.installed.flushed) (sym (asks.halted refused.0)) refl (logs_nothing (store_of old) c (reply.Halted old.installed.flushed) refl refl refl (λ t. absurd cc) (λ t. refused.0) tt) refl few)
+
+  -- there was nothing to do
+  edit_needless : due (store_of old) was c ≡ reply.Nothing → new ≡ old → answer ≡ reply.Nothing → IsStep (store_of old) was c answer (store_of new) was
+  edit_needless nothing same is =
+      step_at (store_of old) (store_of new) was was c answer reply.Nothing is (ap store_of same) refl
+      (still_steps (store_of old) was was c reply.Nothing (sym nothing) refl (logs_nothing (store_of old) c reply.Nothing refl refl refl (λ t. absurd cc) (λ t. absurd cc) tt) refl few)
 
 flushed_some : (n : ℕ) (versions : List Version) → 1 ≤ length versions → flushed n versions ≡ reply.Flushed n (length versions)
 flushed_some n [] le = absurd (omega arith)
 flushed_some n (v ∷ versions) le = refl
 
-of_nothing : (s : Store) (c : Command) → LogsNothing s c reply.Nothing
-of_nothing s c = record { none = refl; unlogged = refl; faultless = refl; intact = refl; stopped = λ t. absurd cc; halted = λ t. absurd cc; current = fresh_if_numbered _ c reply.Nothing tt }
+pub flush_asks : (old : EngineState) (was : Client) (c : Command) → plan old.entries was c ≡ Flush
+    → AsksEdit old was c (reply.Flushed (length old.entries) (length (unflushed old.entries old.installed))) (after_flush old.entries old.installed) (1 ≤ length (unflushed old.entries old.installed))
+flush_asks old was c planned = record {
+  asked = ap (edit_of (store_of old) was) planned;
+  replies = λ running some. ap (reply_to (store_of old) was) planned ∙ rw running (flushed_some (length old.entries) (unflushed old.entries old.installed) some);
+  halted = λ failed. ap (reply_to (store_of old) was) planned ∙ rw failed refl;
+  installs = refl;
+  number = refl;
+  stays = refl;
+  step = is_flush planned refl;
+}
 
-of_halted : (s : Store) (c : Command) (n : ℕ) → s.halted ≡ true → LogsNothing s c (reply.Halted n)
-of_halted s c n halted = record { none = refl; unlogged = refl; faultless = refl; intact = refl; stopped = λ t. absurd cc; halted = λ t. halted; current = fresh_if_numbered _ c (reply.Halted n) tt }
-
--- the reply that is due to a flush that has something to write
-flush_due : (old : EngineState) (was : Client) (c : Command) → plan old.entries was c ≡ Flush → old.halted ≡ false → 1 ≤ length (unflushed old.entries old.installed) → due (store_of old) was c ≡ reply.Flushed (length old.entries) (length (unflushed old.entries old.installed))
-flush_due old was c planned running some = ap (reply_to (store_of old) was) planned ∙ rw running (flushed_some (length old.entries) (unflushed old.entries old.installed) some)
-
-compaction_due : (old : EngineState) (was : Client) (c : Command) → plan old.entries was c ≡ Compact → old.halted ≡ false → 2 ≤ old.installed.tables
-    → due (store_of old) was c ≡ reply.Compacted (length old.entries) (length (retained old.entries (numbers_of was.snapshots) old.installed))
-compaction_due old was c planned running some = ap (reply_to (store_of old) was) planned ∙ rw (running, le-ltb old.installed.tables 2 some) refl
+pub compaction_asks : (old : EngineState) (was : Client) (c : Command) → plan old.entries was c ≡ Compact
+    → AsksEdit old was c (reply.Compacted (length old.entries) (length (retained old.entries (numbers_of was.snapshots) old.installed))) (after_compaction old.entries (numbers_of was.snapshots) old.installed) (2 ≤ old.installed.tables)
+compaction_asks old was c planned = record {
+  asked = ap (edit_of (store_of old) was) planned;
+  replies = λ running two. ap (reply_to (store_of old) was) planned ∙ rw (running, le-ltb old.installed.tables 2 two) refl;
+  halted = λ failed. ap (reply_to (store_of old) was) planned ∙ rw failed refl;
+  installs = refl;
+  number = refl;
+  stays = refl;
+  step = is_compaction planned refl;
+}
 
 flush_answered : (old new : EngineState) (was : Client) (c : Command) (answer : Reply) (result : Result (Option ℕ) MaintenanceError) → plan old.entries was c ≡ Flush → AreFew (store_of old) → IsFlushResult old new result → IsFlushAnswer (length old.entries) result answer → IsStep (store_of old) was c answer (store_of new) was
 flush_answered old new was c answer (Ok (Some count)) planned few made is =
-    let said : reply.Flushed (length old.entries) count ≡ due (store_of old) was c =
-    ap (λ (n : ℕ). reply.Flushed (length old.entries) n) made.1 ∙ sym (flush_due old was c planned made.2.running (omega (arith, made.0, made.1))) in
-    subst (λ (r : Reply). IsStep (store_of old) was c r (store_of new) was) (sym is)
-    (edit_made old new was c (reply.Flushed (length old.entries) count) (rw planned made.2) said refl refl (record {
-      none = refl;
-      unlogged = refl;
-      faultless = refl;
-      intact = refl;
-      stopped = λ t. absurd cc;
-      halted = λ t. absurd cc;
-      current = fresh_if_numbered _ c (reply.Flushed (length old.entries) count) refl;
-    }) (is_flush planned (ap (λ (n : ℕ). reply.Flushed (length old.entries) n) made.1)) few)
+    edit_taken old new was c answer _ _ _ (flush_asks old was c planned) few _ (omega (arith, made.0, made.1)) made.2 (is ∙ ap (λ (n : ℕ). reply.Flushed (length old.entries) n) made.1)
 flush_answered old new was c answer (Ok None) planned few none is =
-    step_at (store_of old) (store_of new) was was c answer reply.Nothing is (ap store_of none.2) refl
-    (still_steps (store_of old) was was c reply.Nothing (sym (ap (reply_to (store_of old) was) planned ∙ rw (none.0, none.1) refl)) refl (of_nothing (store_of old) c) refl few)
-flush_answered old new was c answer (Err maintenance.Memory) planned few refused is = absurd is
-flush_answered old new was c answer (Err maintenance.TablesFault) planned few refused is =
-    subst (λ (r : Reply). IsStep (store_of old) was c r (store_of new) was) (sym is) (halted_steps old new was c refused.1 (ap store_of refused.3) (ap is_installed (flush_due old was c planned refused.1 refused.0)) few)
-flush_answered old new was c answer (Err (maintenance.Halted n)) planned few refused is =
-    step_at (store_of old) (store_of new) was was c answer (reply.Halted old.installed.flushed) (is ∙ ap (λ (m : ℕ). reply.Halted m) refused.1) (ap store_of refused.2) refl
-    (still_steps (store_of old) was was c (reply.Halted old.installed.flushed) (sym (ap (reply_to (store_of old) was) planned ∙ rw refused.0 refl)) refl (of_halted (store_of old) c old.installed.flushed refused.0) refl few)
+    edit_needless old new was c answer _ _ _ (flush_asks old was c planned) few (ap (reply_to (store_of old) was) planned ∙ rw (none.0, none.1) refl) none.2 is
+flush_answered old new was c answer (Err why) planned few refused is = edit_refused old new was c answer _ _ _ (flush_asks old was c planned) few why refused is
 
 pub flush_steps : (old new : EngineState) (was : Client) (c : Command) (answer : Reply) → plan old.entries was c ≡ Flush → AreFew (store_of old) → Flushes old answer new → IsStep (store_of old) was c answer (store_of new) was
 flush_steps old new was c answer planned few answered = flush_answered old new was c answer answered.0 planned few answered.1 answered.2
 
 compaction_answered : (old new : EngineState) (was : Client) (c : Command) (answer : Reply) (result : Result (Option ℕ) MaintenanceError) → plan old.entries was c ≡ Compact → AreFew (store_of old) → IsCompactResult old new (numbers_of was.snapshots) result → IsCompactionAnswer (length old.entries) result answer → IsStep (store_of old) was c answer (store_of new) was
 compaction_answered old new was c answer (Ok (Some count)) planned few made is =
-    let said : reply.Compacted (length old.entries) count ≡ due (store_of old) was c =
-    ap (λ (n : ℕ). reply.Compacted (length old.entries) n) made.1 ∙ sym (compaction_due old was c planned made.2.running made.0) in
-    subst (λ (r : Reply). IsStep (store_of old) was c r (store_of new) was) (sym is)
-    (edit_made old new was c (reply.Compacted (length old.entries) count) (rw planned made.2) said refl refl (record {
-      none = refl;
-      unlogged = refl;
-      faultless = refl;
-      intact = refl;
-      stopped = λ t. absurd cc;
-      halted = λ t. absurd cc;
-      current = fresh_if_numbered _ c (reply.Compacted (length old.entries) count) refl;
-    }) (is_compaction planned (ap (λ (n : ℕ). reply.Compacted (length old.entries) n) made.1)) few)
+    edit_taken old new was c answer _ _ _ (compaction_asks old was c planned) few _ made.0 made.2 (is ∙ ap (λ (n : ℕ). reply.Compacted (length old.entries) n) made.1)
 compaction_answered old new was c answer (Ok None) planned few none is =
-    step_at (store_of old) (store_of new) was was c answer reply.Nothing is (ap store_of none.2) refl
-    (still_steps (store_of old) was was c reply.Nothing (sym (ap (reply_to (store_of old) was) planned ∙ rw (none.0, lt-ltb old.installed.tables 2 none.1) refl)) refl (of_nothing (store_of old) c) refl few)
-compaction_answered old new was c answer (Err maintenance.Memory) planned few refused is = absurd is
-compaction_answered old new was c answer (Err maintenance.TablesFault) planned few refused is =
-    subst (λ (r : Reply). IsStep (store_of old) was c r (store_of new) was) (sym is) (halted_steps old new was c refused.0.1 (ap store_of refused.0.3) (ap is_installed (compaction_due old was c planned refused.0.1 refused.0.0)) few)
-compaction_answered old new was c answer (Err (maintenance.Halted n)) planned few refused is =
-    step_at (store_of old) (store_of new) was was c answer (reply.Halted old.installed.flushed) (is ∙ ap (λ (m : ℕ). reply.Halted m) refused.0.1) (ap store_of refused.0.2) refl
-    (still_steps (store_of old) was was c (reply.Halted old.installed.flushed) (sym (ap (reply_to (store_of old) was) planned ∙ rw refused.0.0 refl)) refl (of_halted (store_of old) c old.installed.flushed refused.0.0) refl few)
+    edit_needless old new was c answer _ _ _ (compaction_asks old was c planned) few (ap (reply_to (store_of old) was) planned ∙ rw (none.0, lt-ltb old.installed.tables 2 none.1) refl) none.2 is
+compaction_answered old new was c answer (Err why) planned few refused is = edit_refused old new was c answer _ _ _ (compaction_asks old was c planned) few why refused.0 is
 
 pub compaction_steps : (old new : EngineState) (was : Client) (c : Command) (answer : Reply) → plan old.entries was c ≡ Compact → AreFew (store_of old) → Compacts old (numbers_of was.snapshots) answer new → IsStep (store_of old) was c answer (store_of new) was
 compaction_steps old new was c answer planned few answered = compaction_answered old new was c answer answered.0 planned few answered.1 answered.2

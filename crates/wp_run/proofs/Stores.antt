@@ -10,16 +10,18 @@ use Rattle.wp_session.specs.Kind.{is_fault, is_tables_fault}
 use Rattle.wp_session.specs.Due.{Store, logged_entries}
 use Rattle.wp_run.specs.Runs.{IsStep, Runs, AllRun}
 
--- The history has grown, unless the log had failed; what has failed stays so; the limit stays.
+-- The history has grown, unless the log had failed; what has failed stays so, and then the last edit stays too; the limit
+-- stays.
 pub record IsLaterStore (old new : Store) : Type 0 where
   pub grows : (more : List Entry) × (new.history ≡ old.history ++ more)
   pub stays : old.stopped ≡ true → new.history ≡ old.history
   pub stopped : old.stopped ≡ true → new.stopped ≡ true
   pub halted : old.halted ≡ true → new.halted ≡ true
+  pub settled : old.halted ≡ true → new.installed ≡ old.installed
   pub limited : new.limit ≡ old.limit
 
 pub later_same : (s : Store) → IsLaterStore s s
-later_same s = record { grows = ([], sym (append-nil s.history)); stays = λ e. refl; stopped = λ e. e; halted = λ e. e; limited = refl }
+later_same s = record { grows = ([], sym (append-nil s.history)); stays = λ e. refl; stopped = λ e. e; halted = λ e. e; settled = λ e. refl; limited = refl }
 
 pub later_equal : (old new : Store) → new ≡ old → IsLaterStore old new
 later_equal old new e = subst (λ (s : Store). IsLaterStore old s) (sym e) (later_same old)
@@ -30,6 +32,7 @@ later_trans old mid new a b = record {
   stays = λ e. b.stays (a.stopped e) ∙ a.stays e;
   stopped = λ e. b.stopped (a.stopped e);
   halted = λ e. b.halted (a.halted e);
+  settled = λ e. b.settled (a.halted e) ∙ a.settled e;
   limited = b.limited ∙ a.limited;
 }
 
@@ -43,6 +46,7 @@ step_later old new was now c answer step = record {
   stays = step.stays;
   stopped = still_failed (is_fault answer) old.stopped new.stopped (ap (λ (s : Store). s.stopped) step.store);
   halted = still_failed (is_tables_fault answer) old.halted new.halted (ap (λ (s : Store). s.halted) step.store);
+  settled = step.settled;
   limited = ap (λ (s : Store). s.limit) step.store;
 }
 

@@ -3,8 +3,8 @@ use Rattle.std.specs.Prelude.{Result, Ok, Err, IfOk, OnErr}
 use Rattle.std.specs.Global.{Vec}
 use Rattle.std.specs.declared.alloc.AllocError.{AllocError}
 use Rattle.std.proofs.Common.{◌≡◌, ℕ, ◌≤◌, Bool, true, false, List, length, refl, sym, subst, inl, inr, arith}
-use Rattle.std.proofs.lemmas.Bool.{cases_Bool}
 use Rattle.wp_model.specs.declared.entry.Entry.{Entry}
+use Rattle.wp_model.specs.Flushed.{InstalledEdit}
 use Rattle.wp_model.specs.Legal.{IsLegal}
 use Rattle.wp_outside.specs.Disk.{Moment, IfKnown, ReadsItself}
 use Rattle.wp_outside.specs.Faults.{Rose}
@@ -23,14 +23,16 @@ use Rattle.wp_open.specs.Parts.{PartsOpened}
 use Rattle.wp_wal.specs.Spelling.{IsLogOf}
 use Rattle.wp_wal.specs.Wal.{WalState, LosesNothing}
 use Rattle.wp_session.specs.Due.{Store}
+use Rattle.wp_session.specs.Kind.{is_fault, is_tables_fault}
 use Rattle.wp_session.specs.Laws.{DueIsSession}
+use Rattle.wp_session.specs.Replies.{Failed}
 use Rattle.wp_words.specs.declared.choice.Action.{Action}
 use Rattle.wp_words.specs.declared.choice.Action.TheVariants as action
 use Rattle.wp_engine.specs.Stored.{fault_count}
 use Rattle.wp_engine.specs.Engine.{EngineState}
 use Rattle.wp_run.specs.declared.status.Status.{Status}
 use Rattle.wp_run.specs.declared.status.Status.TheVariants as status
-use Rattle.wp_run.specs.Failed.{OneFaultAsks, IfFailed}
+use Rattle.wp_run.specs.Failed.{AsksLog, AsksTables, OneFaultAsks, IfStopped, IfHalted}
 use Rattle.wp_run.specs.Later.{store_of}
 use Rattle.wp_run.specs.Run.{Call, IsChosen, IsUnread, IsReadAs, IsServed, Ends}
 use Rattle.wp_run.specs.Runs.{replies_of, AllRun}
@@ -38,9 +40,8 @@ use Rattle.wp_run.specs.Serving.{Serving, HasStored, AnswersScript, BreaksOff, I
 use Rattle.wp_run.specs.Status.{IsStatusOf}
 use Rattle.wp_run.specs.Transcript.{Faults, stored_in, Explains, opened_store}
 use Rattle.wp_run.specs.Use.{SinkUse, IsDurable, AreUncalled, left_of}
-use Rattle.wp_run.proofs.Asked.{AllAskOnly, all_ask_only, all_none_yet}
 use Rattle.wp_run.proofs.Explained.{explained}
-use Rattle.wp_run.proofs.Failing.{HasFailedTo, has_failed}
+use Rattle.wp_run.proofs.Failing.{HasFailedTo, has_failed, HasFailedEdit, has_failed_edit}
 use Rattle.wp_run.proofs.Keeping.{records_trans, fronts_trans}
 use Rattle.wp_run.proofs.Opened.{fronts_synced}
 use Rattle.wp_run.proofs.RunLemmas.{firsts_ran}
@@ -78,19 +79,29 @@ Finished old s end = Finishes old s.script (left_of s.disks.log) (left_of s.disk
 rose_since : (a b c d : ℕ) → a ≤ b → Rose b c → d ≡ c → Rose a d
 rose_since a b c d le rose is = omega (arith, rose, le, is)
 
--- what the log failed to take in a run
-failed_to : (old : EngineState) (s : Serving) (end : Status) → IsOpened old s → (h : Finished old s end) → (A : List Entry → Type 0) → IfFailed old h.new A → HasFailedTo h.new A
-failed_to old s end opened h A failed = has_failed old h.new A opened.running failed (rw (← h.log_left.0) h.stored)
+-- what the devices failed to take in a run
+pub record HaveFailedTo (new : EngineState) (AskedLog : List Entry → Type 0) (AskedTables : InstalledEdit → Type 0) : Type 0 where
+  pub log : HasFailedTo new AskedLog
+  pub tables : HasFailedEdit new AskedTables
 
-stores : (old : EngineState) (s : Serving) (end : Status) (A : List Entry → Type 0) → IsOpened old s → (h : Finished old s end) → (failed : HasFailedTo h.new A) → HasStored s (faults_in h.new) (stored_in (store_of old)) (stored_in (store_of h.new)) failed.entries
-stores old s end A opened h failed = record {
+abbrev failed_in : {new : EngineState} {A : List Entry → Type 0} {B : InstalledEdit → Type 0} → HaveFailedTo new A B → Failed
+failed_in failed = record { entries = failed.log.entries; edit = failed.tables.edit }
+
+failed_to : (old : EngineState) (s : Serving) (end : Status) → IsOpened old s → (h : Finished old s end) → (A : List Entry → Type 0) (B : InstalledEdit → Type 0) → IfStopped old h.new A → IfHalted old h.new B → HaveFailedTo h.new A B
+failed_to old s end opened h A B stopped halted = record {
+  log = has_failed old h.new A opened.running stopped (rw (← h.log_left.0) h.stored);
+  tables = has_failed_edit old h.new B opened.unhalted halted (rw (← h.log_left.0, ← h.manifest_left.0, ← h.tables_left.0) h.opens);
+}
+
+stores : (old : EngineState) (s : Serving) (end : Status) (A : List Entry → Type 0) (B : InstalledEdit → Type 0) → IsOpened old s → (h : Finished old s end) → (failed : HaveFailedTo h.new A B) → HasStored s (faults_in h.new) (stored_in (store_of old)) (stored_in (store_of h.new)) (failed_in failed)
+stores old s end A B opened h failed = record {
   id = old.id;
   made = opened.made;
   spelled = opened.spelled;
   opened = opened.opened;
-  stored = rw (← h.later.keeps.named, h.log_left.0) failed.left;
-  opens = rw (← h.later.keeps.named) h.opens;
-  unfailed = failed.none;
+  stored = rw (← h.later.keeps.named, h.log_left.0) failed.log.left;
+  opens = rw (← h.later.keeps.named, h.log_left.0, h.manifest_left.0, h.tables_left.0) failed.tables.opens;
+  unfailed = failed.log.none;
   once = fault_count_few h.new.stopped;
   cause = λ up. rose_since s.disks.log.faults_before old.faults h.new.faults s.disks.log.faults_after opened.log_counted (h.later.rose opened.running (fault_count_is h.new.stopped up)) h.log_left.1;
   tables_once = fault_count_few h.new.halted;
@@ -104,58 +115,54 @@ stores old s end A opened h failed = record {
 begins_with : (state : EngineState) (s : Serving) → IsOpened state s → store_of state ≡ opened_store s.limit (stored_in (store_of state))
 begins_with state s opened = rw (opened.running, opened.limit, opened.unhalted) refl
 
--- each fault's command asked for what the log failed to take
-ask_only : (old new : EngineState) (parts : List Part) (replies : List (List Reply)) (failed : List Entry) → AllRun (store_of old) parts replies (store_of new) → (new.stopped ≡ true → OneFaultAsks failed (store_of old) parts replies) → AllAskOnly failed (store_of old) parts replies
-ask_only old new parts replies failed run asked = elim (cases_Bool new.stopped) [
-  | inl up ↦ all_ask_only failed (store_of old) (store_of new) parts replies run (asked up)
-  | inr down ↦ all_none_yet failed (store_of old) (store_of new) parts replies run down
-]
-
-explains : DueIsSession → (old : EngineState) (s : Serving) (new : EngineState) (parts : List Part) (replies : List (List Reply)) (failed : List Entry) → IsOpened old s → IsLegal new.entries → AllRun (store_of old) parts replies (store_of new)
-    → (new.stopped ≡ true → OneFaultAsks failed (store_of old) parts replies) → Explains s.limit (faults_in new) parts (stored_in (store_of old)) (stored_in (store_of new)) failed replies
-explains law old s new parts replies failed opened legal run asked =
-    explained law s.limit (stored_in (store_of old)) failed (store_of new) parts replies opened.within (subst (λ (t : Store). AllRun t parts replies (store_of new)) (begins_with old s opened) run)
-    (subst (λ (t : Store). AllAskOnly failed t parts replies) (begins_with old s opened) (ask_only old new parts replies failed run asked)) legal
+explains : DueIsSession → (old : EngineState) (s : Serving) (new : EngineState) (parts : List Part) (replies : List (List Reply)) (failed : Failed) → IsOpened old s → IsLegal new.entries → AllRun (store_of old) parts replies (store_of new)
+    → (new.stopped ≡ true → OneFaultAsks is_fault (AsksLog failed.entries) (store_of old) parts replies) → (new.halted ≡ true → OneFaultAsks is_tables_fault (AsksTables failed.edit) (store_of old) parts replies)
+    → Explains s.limit (faults_in new) parts (stored_in (store_of old)) (stored_in (store_of new)) failed replies
+explains law old s new parts replies failed opened legal run stopped halted =
+    let first = begins_with old s opened in
+    explained law s.limit (stored_in (store_of old)) failed (store_of new) parts replies opened.within (subst (λ (t : Store). AllRun t parts replies (store_of new)) first run)
+    (λ up. subst (λ (t : Store). OneFaultAsks is_fault (AsksLog failed.entries) t parts replies) first (stopped up))
+    (λ up. subst (λ (t : Store). OneFaultAsks is_tables_fault (AsksTables failed.edit) t parts replies) first (halted up)) legal
 
 breaks_off : DueIsSession → (old : EngineState) (s : Serving) (end : Status) → IsOpened old s → (h : Finished old s end) → HasRun old h.new s.script → BreaksOff s
 breaks_off law old s end opened h (sessions, ran) =
-    let alone = firsts_ran (store_of old) (store_of h.new) s.script sessions ran.0 in
-    let failed = failed_to old s end opened h _ ran.1 in
+    let alone = firsts_ran (store_of old) (store_of h.new) s.script sessions ran.ran in
+    let failed = failed_to old s end opened h _ _ ran.stopped ran.halted in
     record {
       faults = faults_in h.new;
       found = stored_in (store_of old);
       left = stored_in (store_of h.new);
-      failed = failed.entries;
-      store = stores old s end _ opened h failed;
+      failed = failed_in failed;
+      store = stores old s end _ _ opened h failed;
       run = alone.firsts;
       first = alone.are;
       replies = replies_of sessions;
-      explained = explains law old s h.new alone.firsts (replies_of sessions) failed.entries opened h.legal alone.run (λ up. alone.asks failed.entries (failed.asked up));
+      explained = explains law old s h.new alone.firsts (replies_of sessions) (failed_in failed) opened h.legal alone.run (λ up. alone.asks is_fault _ (failed.log.asked up)) (λ up. alone.asks is_tables_fault _ (failed.tables.asked up));
     }
 
 answers : DueIsSession → (old : EngineState) (s : Serving) (end : Status) (text : List ℕ) → IsOpened old s → (h : Finished old s end) → IsTextOf old h.new s.script text → AnswersScript s (faults_in h.new) text
 answers law old s end text opened h (sessions, ran, whole, is) =
-    let alone = firsts_ran (store_of old) (store_of h.new) s.script sessions ran.0 in
-    let failed = failed_to old s end opened h _ ran.1 in
+    let alone = firsts_ran (store_of old) (store_of h.new) s.script sessions ran.ran in
+    let failed = failed_to old s end opened h _ _ ran.stopped ran.halted in
     let run = subst (λ (parts : List Part). AllRun (store_of old) parts (replies_of sessions) (store_of h.new)) (alone.whole whole) alone.run in
     record {
       found = stored_in (store_of old);
       left = stored_in (store_of h.new);
-      failed = failed.entries;
-      store = stores old s end _ opened h failed;
-      transcript = (replies_of sessions, explains law old s h.new s.script (replies_of sessions) failed.entries opened h.legal run failed.asked, is);
+      failed = failed_in failed;
+      store = stores old s end _ _ opened h failed;
+      transcript = (replies_of sessions, explains law old s h.new s.script (replies_of sessions) (failed_in failed) opened h.legal run failed.log.asked failed.tables.asked, is);
     }
 
 -- ---- how a script was served
 
-failed_in : (s : Serving) (state : EngineState) (text : List ℕ) (stopped halted : Bool) → state.stopped ≡ stopped → state.halted ≡ halted → AnswersScript s (faults_in state) text → AnswersScript s (record { log = fault_count stopped; tables = fault_count halted }) text
-failed_in s state text stopped halted a b answered = subst (λ (x : Bool). AnswersScript s (record { log = fault_count x; tables = fault_count halted }) text) a (subst (λ (x : Bool). AnswersScript s (record { log = fault_count state.stopped; tables = fault_count x }) text) b answered)
+answered_as : (s : Serving) (state : EngineState) (text : List ℕ) (stopped halted : Bool) → state.stopped ≡ stopped → state.halted ≡ halted → AnswersScript s (faults_in state) text → AnswersScript s (record { log = fault_count stopped; tables = fault_count halted }) text
+answered_as s state text stopped halted a b answered = subst (λ (x : Bool). AnswersScript s (record { log = fault_count x; tables = fault_count halted }) text) a (subst (λ (x : Bool). AnswersScript s (record { log = fault_count state.stopped; tables = fault_count x }) text) b answered)
 
 pub serves : DueIsSession → (old : EngineState) (s : Serving) (end : Status) → IsOpened old s → Finished old s end → Serves s end
 serves law old s status.Memory opened h = inr (breaks_off law old s status.Memory opened h h.ended)
-serves law old s status.Ok opened h = (h.ended.0, failed_in s h.new h.ended.0 false false h.ended.2.0 h.ended.2.1 (answers law old s status.Ok h.ended.0 opened h h.ended.1), h.ended.2.2)
-serves law old s status.LogFault opened h = (fault_count h.new.halted, h.ended.0, failed_in s h.new h.ended.0 true h.new.halted h.ended.2.0 refl (answers law old s status.LogFault h.ended.0 opened h h.ended.1), h.ended.2.1)
-serves law old s status.TableFault opened h = (h.ended.0, failed_in s h.new h.ended.0 false true h.ended.2.0 h.ended.2.1 (answers law old s status.TableFault h.ended.0 opened h h.ended.1), h.ended.2.2)
+serves law old s status.Ok opened h = (h.ended.0, answered_as s h.new h.ended.0 false false h.ended.2.0 h.ended.2.1 (answers law old s status.Ok h.ended.0 opened h h.ended.1), h.ended.2.2)
+serves law old s status.LogFault opened h = (fault_count h.new.halted, h.ended.0, answered_as s h.new h.ended.0 true h.new.halted h.ended.2.0 refl (answers law old s status.LogFault h.ended.0 opened h h.ended.1), h.ended.2.1)
+serves law old s status.TableFault opened h = (h.ended.0, answered_as s h.new h.ended.0 false true h.ended.2.0 h.ended.2.1 (answers law old s status.TableFault h.ended.0 opened h h.ended.1), h.ended.2.2)
 serves law old s status.SinkFault opened h = (h.ended.2.0, faults_in h.new, h.ended.0, answers law old s status.SinkFault h.ended.0 opened h h.ended.1, h.ended.2.1)
 serves law old s status.Words opened h = absurd h.ended.2
 serves law old s status.SourceFault opened h = absurd h.ended.2
@@ -171,6 +178,7 @@ engine_of wal entries edits moments faults store limit = record {
   limit = limit;
   id = wal.id;
   installed = installed_of edits.edit store.tables;
+  tables = store.tables;
   halted = false;
   faults = wal.faults;
   moments = wal.moments;

@@ -1,5 +1,6 @@
 -- The store on one thread later on, with its devices.
-use Rattle.std.specs.Prelude.{◌≡◌, ◌⊎◌, ◌≤◌, true, false}
+use Rattle.std.specs.Prelude.{◌≡◌, ◌⊎◌, ◌≤◌, true, false, List, ◌++◌}
+use Rattle.wp_model.specs.declared.entry.Entry.{Entry}
 use Rattle.wp_outside.specs.Faults.{Rose}
 use Rattle.wp_gatelog.specs.Durability.{LosesNoRecord}
 use Rattle.wp_manifest.specs.Spelling as manifest
@@ -28,12 +29,14 @@ pub record KeepsDevices (old new : EngineState) : Type 0 where
 abbrev pub TablesRose : EngineState → EngineState → Type 0
 TablesRose old new = Rose old.manifest_faults new.manifest_faults ⊎ Rose old.tables_faults new.tables_faults
 
--- What was for good on the devices is so still. What has failed stays so, and its device's count has risen since; a log
--- that has failed is not called any more.
+-- What was for good on the devices is so still, and the history has grown. What has failed stays so, and its device's count
+-- has risen since; it is not called any more.
 pub record Later (old new : EngineState) : Type 0 where
   pub keeps : KeepsDevices old new
+  pub grows : (more : List Entry) × (new.entries ≡ old.entries ++ more)
   pub stopped : old.stopped ≡ true → new.stopped ≡ true
   pub ended : old.stopped ≡ true → (new.entries ≡ old.entries) × (new.moments ≡ old.moments)
   pub rose : old.stopped ≡ false → new.stopped ≡ true → Rose old.faults new.faults
   pub halted : old.halted ≡ true → new.halted ≡ true
+  pub settled : old.halted ≡ true → (new.installed ≡ old.installed) × (new.manifest_moments ≡ old.manifest_moments) × (new.tables_moments ≡ old.tables_moments)
   pub tables_rose : old.halted ≡ false → new.halted ≡ true → TablesRose old new

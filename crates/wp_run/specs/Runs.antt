@@ -31,11 +31,12 @@ pub record IsStep (old : Store) (was : Client) (command : Command) (answer : Rep
   pub running : is_fault answer ≡ true → old.stopped ≡ false
   pub stopped_before : is_stopped answer ≡ true → old.stopped ≡ true
   pub stays : old.stopped ≡ true → new.history ≡ old.history
-  -- the tables have some of the history's versions, and their devices fail once
+  -- the tables have some of the history's versions, and their devices fail once, and take nothing afterwards
   pub tables : TablesStep old was command answer
   pub few : length old.installed.versions ≤ length (later_versions old.history 0)
   pub tables_running : is_tables_fault answer ≡ true → old.halted ≡ false
   pub halted_before : is_halted answer ≡ true → old.halted ≡ true
+  pub settled : old.halted ≡ true → new.installed ≡ old.installed
 
 -- a client's commands run one after another, from one store to the last
 abbrev pub Runs : Store → Client → List Command → List Reply → Store → Client → Type 0

@@ -11,6 +11,8 @@ use Rattle.wp_gatelog.specs.Opening.{SurvivesThrough}
 use Rattle.wp_text.specs.declared.script.Command.{Command}
 use Rattle.wp_text.specs.declared.script.Part.{Part}
 use Rattle.wp_text.specs.declared.reply.Reply.{Reply}
+use Rattle.wp_session.specs.Kind.{is_fault, is_tables_fault}
+use Rattle.wp_session.specs.Replies.{Failed}
 use Rattle.wp_wal.specs.Spelling.{MAGIC, IsLogOf}
 use Rattle.wp_wal.specs.Wal.{LeavesHistoryOrNext}
 use Rattle.wp_open.specs.declared.opening.OpenError.{OpenError}
@@ -21,7 +23,7 @@ use Rattle.wp_engine.specs.Engine.{EngineState}
 use Rattle.wp_engine.specs.Stored.{fault_count, CrashLeaves, CrashOpens, AllOpen}
 use Rattle.wp_run.specs.declared.status.Status.{Status}
 use Rattle.wp_run.specs.declared.status.Status.TheVariants as status
-use Rattle.wp_run.specs.Failed.{IfFailed, OneFaultAsks}
+use Rattle.wp_run.specs.Failed.{AsksLog, AsksTables, OneFaultAsks, IfStopped, IfHalted}
 use Rattle.wp_run.specs.Later.{Later, store_of}
 use Rattle.wp_run.specs.Runs.{Answered, AllRunSoFar, are_whole, replies_of}
 use Rattle.wp_run.specs.Transcript.{Faults, StoredState, Explains, IsTranscript, text_of}
@@ -38,15 +40,16 @@ pub record Serving : Type 1 where
   pub sink : SinkUse
 
 -- The store was opened to what was found. A crash leaves its history in the log, or it and the entries that the log failed
--- to take, whole; and devices that open to its history and to its last edit. So often the devices failed in between.
-pub record HasStored (s : Serving) (faults : Faults) (found left : StoredState) (failed : List Entry) : Type 0 where
+-- to take, whole; and devices that open to its history and to its last edit, or to the one that they failed to take. So often
+-- the devices failed in between.
+pub record HasStored (s : Serving) (faults : Faults) (found left : StoredState) (failed : Failed) : Type 0 where
   pub id : ℕ
   pub made : IfKnown s.disks.log.before (λ m. IsUnmade m.reads → id ≡ s.id)
   pub spelled : IfKnown s.disks.log.before (λ m. IsLogOf id found.history m.reads)
   pub opened : AllKnown s.disks.log.before s.disks.manifest.before s.disks.tables.before (OpensTo id found.history found.edit)
-  pub stored : IfKnown s.disks.log.after (LeavesHistoryOrNext id left.history failed)
-  pub opens : CrashOpens faults.log faults.tables id left.history left.edit s.disks.log.after s.disks.manifest.after s.disks.tables.after
-  pub unfailed : faults.log ≡ 0 → failed ≡ []
+  pub stored : IfKnown s.disks.log.after (LeavesHistoryOrNext id left.history failed.entries)
+  pub opens : CrashOpens faults.log faults.tables id left.history left.edit failed.edit s.disks.log.after s.disks.manifest.after s.disks.tables.after
+  pub unfailed : faults.log ≡ 0 → failed.entries ≡ []
   pub once : faults.log ≤ 1
   pub cause : 1 ≤ faults.log → Rose s.disks.log.faults_before s.disks.log.faults_after
   pub tables_once : faults.tables ≤ 1
@@ -57,7 +60,7 @@ pub record HasStored (s : Serving) (faults : Faults) (found left : StoredState) 
 pub record AnswersScript (s : Serving) (faults : Faults) (text : List ℕ) : Type 0 where
   pub found : StoredState
   pub left : StoredState
-  pub failed : List Entry
+  pub failed : Failed
   pub store : HasStored s faults found left failed
   pub transcript : IsTranscript s.limit faults s.script found left failed text
 
@@ -78,7 +81,7 @@ pub record BreaksOff (s : Serving) : Type 0 where
   pub faults : Faults
   pub found : StoredState
   pub left : StoredState
-  pub failed : List Entry
+  pub failed : Failed
   pub store : HasStored s faults found left failed
   pub run : List Part
   pub first : AreFirstParts s.script run
@@ -111,10 +114,12 @@ Serves s other = ⊥
 
 -- ---- a store that is open
 
--- The clients were answered so, as far as memory allowed, from the one state to the other. If the log failed, it did so at
+-- The clients were answered so, as far as memory allowed, from the one state to the other. If a device failed, it did so at
 -- what one of them had asked for.
-abbrev pub HaveRun : EngineState → EngineState → List Part → List Answered → Type 0
-HaveRun old new script sessions = AllRunSoFar (store_of old) script sessions (store_of new) × IfFailed old new (λ entries. OneFaultAsks entries (store_of old) script (replies_of sessions))
+pub record HaveRun (old new : EngineState) (script : List Part) (sessions : List Answered) : Type 0 where
+  pub ran : AllRunSoFar (store_of old) script sessions (store_of new)
+  pub stopped : IfStopped old new (λ entries. OneFaultAsks is_fault (AsksLog entries) (store_of old) script (replies_of sessions))
+  pub halted : IfHalted old new (λ edit. OneFaultAsks is_tables_fault (AsksTables edit) (store_of old) script (replies_of sessions))
 
 -- the text of the replies that all clients were given, from the one state to the other
 abbrev pub IsTextOf : EngineState → EngineState → List Part → List ℕ → Type 0

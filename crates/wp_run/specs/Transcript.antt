@@ -11,10 +11,11 @@ use Rattle.wp_text.specs.Lines.{client_line, reply_line, entry_lines, end_line, 
 use Rattle.wp_session.specs.Client.{new_client}
 use Rattle.wp_session.specs.Kind.{acknowledged, is_fault, is_stopped, is_flushed, is_installed, is_tables_fault, is_halted}
 use Rattle.wp_session.specs.Session.{IsSession}
-use Rattle.wp_session.specs.Replies.{Evidence}
+use Rattle.wp_session.specs.Replies.{Failed, Evidence}
 use Rattle.wp_session.specs.Known.{evidence_of}
 use Rattle.wp_session.specs.Due.{Store}
 use Rattle.wp_session.specs.Current.{RunsAlone}
+use Rattle.wp_run.specs.Failed.{AsksLog, AsksTables, FaultAsks}
 
 -- what a store has on its devices: a history, and the last edit of the tables
 pub record StoredState : Type 0 where
@@ -34,26 +35,30 @@ abbrev pub all_replies : List (List Reply) → List Reply
 all_replies sessions = flat_map (λ answers. answers) sessions
 
 -- what a client's replies are judged by, with those to the clients before it and after it
-abbrev pub judged_by : List Entry → ℕ → List Entry → StoredState → List (List Reply) → List Reply → List (List Reply) → Evidence
-judged_by history limit failed found before answers others = evidence_of history limit failed found.edit.flushed (all_replies (before ++ answers ∷ others)) (all_replies (before ++ others))
+abbrev pub judged_by : (left : StoredState) → ℕ → Failed → (found : StoredState) → List (List Reply) → List Reply → List (List Reply) → Evidence
+judged_by left limit failed found before answers others = evidence_of left.history left.edit limit failed found.edit.flushed (all_replies (before ++ answers ∷ others)) (all_replies (before ++ others))
 
 -- Each part has one session, which begins with what was found. These sessions come before them.
-abbrev pub AreSessions : List Entry → ℕ → List Entry → StoredState → List (List Reply) → List Part → List (List Reply) → Type 0
-AreSessions history limit failed found before [] [] = Unit {0}
-AreSessions history limit failed found before [] (answers ∷ others) = ⊥
-AreSessions history limit failed found before (part ∷ parts) [] = ⊥
-AreSessions history limit failed found before (part ∷ parts) (answers ∷ others) =
-    IsSession (judged_by history limit failed found before answers others) (length found.history) found.edit.tables new_client part.commands answers
-    × AreSessions history limit failed found (before ++ answers ∷ []) parts others
+abbrev pub AreSessions : (left : StoredState) → ℕ → Failed → (found : StoredState) → List (List Reply) → List Part → List (List Reply) → Type 0
+AreSessions left limit failed found before [] [] = Unit {0}
+AreSessions left limit failed found before [] (answers ∷ others) = ⊥
+AreSessions left limit failed found before (part ∷ parts) [] = ⊥
+AreSessions left limit failed found before (part ∷ parts) (answers ∷ others) =
+    IsSession (judged_by left limit failed found before answers others) (length found.history) found.edit.tables new_client part.commands answers
+    × AreSessions left limit failed found (before ++ answers ∷ []) parts others
 
 -- the store as it was opened
 abbrev pub opened_store : ℕ → StoredState → Store
 opened_store limit found = record { history = found.history; stopped = false; limit = limit; installed = found.edit; halted = false }
 
--- With one client, nobody else changes the store: what is left is what its replies leave.
-abbrev pub IsExact : ℕ → (found left : StoredState) → List Part → List (List Reply) → Type 0
-IsExact limit found left (part ∷ []) (answers ∷ []) = (last : Store) × RunsAlone (opened_store limit found) new_client part.commands answers last × (left ≡ stored_in last)
-IsExact limit found left script sessions = Unit {0}
+-- With one client, nobody else changes the store: what is left is what its replies leave, and what a device failed to take
+-- is what the very command asked for that was answered so.
+abbrev pub IsExact : ℕ → (found left : StoredState) → Failed → List Part → List (List Reply) → Type 0
+IsExact limit found left failed (part ∷ []) (answers ∷ []) =
+    (last : Store) × RunsAlone (opened_store limit found) new_client part.commands answers last × (left ≡ stored_in last)
+    × (last.stopped ≡ true → FaultAsks is_fault (AsksLog failed.entries) (opened_store limit found) new_client part.commands answers)
+    × (last.halted ≡ true → FaultAsks is_tables_fault (AsksTables failed.edit) (opened_store limit found) new_client part.commands answers)
+IsExact limit found left failed script sessions = Unit {0}
 
 -- What the replies say of the last edit. Its flushed number is the one that was found or that of a `flushed` reply, and is
 -- less than none of these; where no reply says that an edit was installed, it is the edit that was found.
@@ -64,11 +69,11 @@ pub record IsLastEdit (found left : InstalledEdit) (answers : List Reply) : Type
   pub unchanged : list_any is_installed answers ≡ false → left ≡ found
 
 -- The replies are explained by the history that is left, which begins with the one that was found, by the last edit, and by
--- the entries that the log failed to take, which the command of that reply asked for. So often the devices failed.
-pub record Explains (limit : ℕ) (faults : Faults) (script : List Part) (found left : StoredState) (failed : List Entry) (sessions : List (List Reply)) : Type 0 where
+-- what the devices failed to take, which the commands of these replies asked for. So often the devices failed.
+pub record Explains (limit : ℕ) (faults : Faults) (script : List Part) (found left : StoredState) (failed : Failed) (sessions : List (List Reply)) : Type 0 where
   pub legal : IsLegal left.history
   pub begins : (added : List Entry) × (left.history ≡ found.history ++ added)
-  pub answered : AreSessions left.history limit failed found [] script sessions
+  pub answered : AreSessions left limit failed found [] script sessions
   -- each entry after the opening history is that of exactly one reply, an Undo together with its Close
   pub paired : (n : ℕ) → length found.history < n → n ≤ length left.history → count_by (λ m. m == n) (flat_map acknowledged (all_replies sessions)) ≡ 1
   pub log_failed : count_by is_fault (all_replies sessions) ≡ faults.log
@@ -76,7 +81,7 @@ pub record Explains (limit : ℕ) (faults : Faults) (script : List Part) (found 
   pub tables_failed : count_by is_tables_fault (all_replies sessions) ≡ faults.tables
   pub halted : list_any is_halted (all_replies sessions) ≡ true → 1 ≤ faults.tables
   pub edit : IsLastEdit found.edit left.edit (all_replies sessions)
-  pub exact : IsExact limit found left script sessions
+  pub exact : IsExact limit found left failed script sessions
 
 -- one client's replies, below its name
 abbrev pub client_text : Part → List Reply → List ℕ
@@ -92,5 +97,5 @@ abbrev pub text_of : List Part → List (List Reply) → List Entry → List ℕ
 text_of script sessions history = client_lines script sessions ++ codes "history" ++ line_end ++ entry_lines 1 history ++ end_line (length history) (length (undecided history))
 
 -- The text answers the script from what was found on, and shows the history that is left.
-abbrev pub IsTranscript : ℕ → Faults → List Part → (found left : StoredState) → List Entry → List ℕ → Type 0
+abbrev pub IsTranscript : ℕ → Faults → List Part → (found left : StoredState) → Failed → List ℕ → Type 0
 IsTranscript limit faults script found left failed text = (sessions : List (List Reply)) × Explains limit faults script found left failed sessions × (text ≡ text_of script sessions left.history)

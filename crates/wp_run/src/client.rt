@@ -2,7 +2,8 @@ ghost use Rattle.std.specs.Prelude.{◌≡◌, true, IfOk, OnOk, OnErr};
 ghost use Rattle.wp_model.specs.Batch.{is_batch};
 ghost use Rattle.wp_model.specs.Legal.{changes_in};
 ghost use Rattle.wp_session.specs.Client.{ClientFits, new_client, numbers_of};
-ghost use Rattle.wp_run.specs.Failed.{IfFailed, IsFaultOf, FaultAsks};
+ghost use Rattle.wp_session.specs.Kind.{is_fault, is_tables_fault};
+ghost use Rattle.wp_run.specs.Failed.{AsksLog, AsksTables, FaultAsks, IfStopped, IfHalted};
 ghost use Rattle.wp_run.specs.Later.{Later, store_of};
 ghost use Rattle.wp_run.specs.Runs.{IsStep, IsRunSoFar};
 ghost use Rattle.wp_session.specs.Next.{AreNext};
@@ -149,7 +150,8 @@ fn answer<D: Disk>(
 ) -> Result<Reply, AllocError>
     requires fits { ClientFits engine.old.entries client.old }
     ensures steps { IfOk result (λ reply. IsStep (store_of engine.old) client.old command.now reply (store_of engine.new) client.new) }
-    ensures failed { IfOk result (λ reply. IfFailed engine.old engine.new (λ entries. IsFaultOf entries (store_of engine.old) client.old command.now reply)) }
+    ensures stopped { IfOk result (λ reply. IfStopped engine.old engine.new (λ entries. (is_fault reply ≡ true) × AsksLog entries (store_of engine.old) client.old command.now)) }
+    ensures halted { IfOk result (λ reply. IfHalted engine.old engine.new (λ edit. (is_tables_fault reply ≡ true) × AsksTables edit (store_of engine.old) client.old command.now)) }
     ensures fits { OnOk result (ClientFits engine.new.entries client.new) }
     ensures later { Later engine.old engine.new }
     ensures err { OnErr result (store_of engine.new ≡ store_of engine.old) }
@@ -185,7 +187,8 @@ pub(crate) fn run_session<D: Disk>(
     commands: &[Command],
 ) -> Answers
     ensures run { IsRunSoFar (store_of engine.old) commands.now result (store_of engine.new) }
-    ensures failed { IfFailed engine.old engine.new (λ entries. FaultAsks entries (store_of engine.old) new_client commands.now result.replies) }
+    ensures stopped { IfStopped engine.old engine.new (λ entries. FaultAsks is_fault (AsksLog entries) (store_of engine.old) new_client commands.now result.replies) }
+    ensures halted { IfHalted engine.old engine.new (λ edit. FaultAsks is_tables_fault (AsksTables edit) (store_of engine.old) new_client commands.now result.replies) }
     ensures later { Later engine.old engine.new }
 {
     let mut client = Client::new(alloc);

@@ -16,8 +16,9 @@ use Rattle.wp_session.specs.declared.client.Txn.TheVariants.{Idle, Open, Prepare
 use Rattle.wp_session.specs.Client.{Client}
 use Rattle.wp_session.specs.After.{labels_after, after_reply}
 use Rattle.wp_session.specs.Kind.{last_after, tables_after}
-use Rattle.wp_session.specs.Replies.{Claim, Evidence, IsKnown, HasName, HasKey, LogFailed, WasFlushed, TablesFailed, OtherCompacted, refusal_of, IsFresh, IsLoggedAt, WasUndecided, IsBusy, IsNameTaken, OwnSays, PreparesAt, CommitsAt, RollsBackAt, IsFlushCount, HasNothingToFlush, HasNothingToMerge, IsHaltedAt, Row, UnlessRefused}
+use Rattle.wp_session.specs.Replies.{Claim, Evidence, IsKnown, HasName, HasKey, LogFailed, WasFlushed, TablesFailed, OtherCompacted, refusal_of, IsFresh, IsLoggedAt, WasUndecided, IsBusy, IsNameTaken, OwnSays, PreparesAt, CommitsAt, RollsBackAt, IsFlushCount, HasNothingToFlush, HasNothingToMerge, FailsFlush, FailsCompaction, IsHaltedAt, Row, UnlessRefused}
 use Rattle.wp_session.specs.Session.{IsSession}
+use Rattle.wp_session.specs.Tables.{unflushed, after_flush, after_compaction}
 
 -- ---- entries
 
@@ -105,6 +106,24 @@ nothing_to_merge_more e more later f tables (inr claim) = inr (f OtherCompacted 
 halted_more : (e : Evidence) (more : List Entry) (later : Claim → Bool) → KnowsMore e later → (flushed : ℕ) → IsHaltedAt e flushed → IsHaltedAt (grown e more later) flushed
 halted_more e more later f flushed (was, failed) = (f (WasFlushed flushed) was, f TablesFailed failed)
 
+flush_fails_more : (e : Evidence) (more : List Entry) (later : Claim → Bool) (last : ℕ) → FailsFlush e last → FailsFlush (grown e more later) last
+flush_fails_more e more later last f = record {
+  at = f.at;
+  fresh = fresh_more e.history more last f.at f.fresh;
+  some = front_more (λ h. 1 ≤ length (unflushed h e.installed)) e.history more f.at f.fresh.1 f.some;
+  edit = front_more (λ h. e.failed.edit ≡ after_flush h e.installed) e.history more f.at f.fresh.1 f.edit;
+}
+
+compaction_fails_more : (e : Evidence) (more : List Entry) (later : Claim → Bool) (last : ℕ) (client : Client) → FailsCompaction e last client → FailsCompaction (grown e more later) last client
+compaction_fails_more e more later last client f = record {
+  at = f.at;
+  fresh = fresh_more e.history more last f.at f.fresh;
+  two = f.two;
+  snapshots = f.snapshots;
+  own = f.own;
+  edit = front_more (λ h. e.failed.edit ≡ after_compaction h f.snapshots e.installed) e.history more f.at f.fresh.1 f.edit;
+}
+
 -- ---- the client
 
 -- the snapshots change as the labels do
@@ -150,11 +169,11 @@ row_more e more later f last tables client p (command.Take name) (reply.Unknown 
 row_more e more later f last tables client p command.Flush (reply.Flushed n versions) k = (fresh_more e.history more last n k.0, k.1, flush_count_more e more later f n versions k.0.1 k.2)
 row_more e more later f last tables client p command.Flush reply.Nothing k = nothing_to_flush_more e more later f last k
 row_more e more later f last tables client p command.Flush (reply.Halted flushed) k = halted_more e more later f flushed k
-row_more e more later f last tables client p command.Flush reply.FaultTables k = k
+row_more e more later f last tables client p command.Flush reply.FaultTables k = flush_fails_more e more later last k
 row_more e more later f last tables client p command.Compact (reply.Compacted n versions) k = (fresh_more e.history more last n k.0, front_more (λ h. versions ≤ length (later_versions h 0)) e.history more n k.0.1 k.1)
 row_more e more later f last tables client p command.Compact reply.Nothing k = nothing_to_merge_more e more later f tables k
 row_more e more later f last tables client p command.Compact (reply.Halted flushed) k = halted_more e more later f flushed k
-row_more e more later f last tables client p command.Compact reply.FaultTables k = k
+row_more e more later f last tables client p command.Compact reply.FaultTables k = compaction_fails_more e more later last client k
 row_more e more later f last tables client p c r k = absurd k
 
 unless_refused_more : (refusal : Option Reply) (r : Reply) (A B : Type 0) → (A → B) → UnlessRefused refusal r A → UnlessRefused refusal r B

@@ -2,9 +2,10 @@
 use Rattle.std.specs.Prelude.{ℕ, ◌==◌, ◌||◌, Bool, false, List, length}
 use Rattle.std.specs.List.{list_any}
 use Rattle.wp_model.specs.declared.entry.Entry.{Entry}
+use Rattle.wp_model.specs.Flushed.{InstalledEdit}
 use Rattle.wp_text.specs.declared.reply.Reply.{Reply}
 use Rattle.wp_session.specs.Kind.{is_flushed, is_compacted, is_tables_fault}
-use Rattle.wp_session.specs.Replies.{Claim, LogFailed, WasFlushed, TablesFailed, OtherCompacted, Evidence}
+use Rattle.wp_session.specs.Replies.{Claim, LogFailed, WasFlushed, TablesFailed, OtherCompacted, Failed, Evidence}
 
 -- the claim is said by the history, by the flushed number at opening, by the replies to all clients, or by those to the
 -- other clients
@@ -16,5 +17,5 @@ is_said history flushed all others OtherCompacted = list_any is_compacted others
 is_said history flushed all others claim = false
 
 -- what a client's replies are judged by
-abbrev pub evidence_of : List Entry → ℕ → List Entry → ℕ → List Reply → List Reply → Evidence
-evidence_of history limit failed flushed all others = record { history = history; limit = limit; failed = failed; known = is_said history flushed all others }
+abbrev pub evidence_of : List Entry → InstalledEdit → ℕ → Failed → ℕ → List Reply → List Reply → Evidence
+evidence_of history installed limit failed flushed all others = record { history = history; installed = installed; limit = limit; failed = failed; known = is_said history flushed all others }

@@ -4,8 +4,8 @@ use Rattle.wp_model.specs.Flushed.{InstalledEdit, later_versions}
 use Rattle.wp_text.specs.declared.script.Command.{Command}
 use Rattle.wp_text.specs.declared.reply.Reply.{Reply}
 use Rattle.wp_session.specs.Client.{Client}
-use Rattle.wp_session.specs.Due.{Store, IsReply, logged_entries, client_after}
-use Rattle.wp_session.specs.Kind.{is_fault, fresh_in, tables_after}
+use Rattle.wp_session.specs.Due.{Store, IsReply, logged_entries, edit_of, client_after}
+use Rattle.wp_session.specs.Kind.{is_fault, is_tables_fault, fresh_in, tables_after}
 use Rattle.wp_session.specs.Plan.{plan, asked_of}
 use Rattle.wp_session.specs.Replies.{LogFailed, WasFlushed, TablesFailed, OtherCompacted, Evidence, IsKnown}
 
@@ -44,7 +44,9 @@ pub record IsDueFrom (evidence : Evidence) (from tables : ℕ) (client : Client)
   pub logged : take after evidence.history ≡ take before evidence.history ++ logged_entries (store_at evidence devices before) client command answer
   pub fresh : IfSome (fresh_in command answer) (λ n. (before ≤ n) × (n ≤ after))
   -- what the log failed to take is what the command asked for
-  pub asked : is_fault answer ≡ true → evidence.failed ≡ asked_of (plan (take before evidence.history) client command)
+  pub asked : is_fault answer ≡ true → evidence.failed.entries ≡ asked_of (plan (take before evidence.history) client command)
+  -- likewise the tables, which have the last edit then
+  pub asked_edit : is_tables_fault answer ≡ true → (evidence.failed.edit ≡ edit_of (store_at evidence devices before) client (plan (take before evidence.history) client command)) × (devices.installed ≡ evidence.installed)
 
 abbrev pub AreDueFrom : Evidence → ℕ → ℕ → Client → List Command → List Reply → Type 0
 AreDueFrom evidence from tables client [] [] = Unit {0}

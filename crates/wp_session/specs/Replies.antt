@@ -1,12 +1,13 @@
 -- The table of replies: each reply is given only where its row says so, over a history, with what is known of the other
 -- clients. Each row stays true as the history grows, and as more is known of the others.
-use Rattle.std.specs.Prelude.{◌≡◌, ◌⊎◌, ℕ, ◌+◌, ◌-◌, ◌<◌, ◌≤◌, Bool, true, nat_le, List, [], ◌∷◌, length, take, Option, Some, None, is_some, if◌then◌else◌}
+use Rattle.std.specs.Prelude.{◌≡◌, ◌⊎◌, ℕ, ◌+◌, ◌-◌, ◌<◌, ◌≤◌, ◌==◌, Bool, true, nat_le, List, [], ◌∷◌, length, take, Option, Some, None, is_some, if◌then◌else◌}
+use Rattle.std.specs.List.{list_any}
 use Rattle.wp_model.specs.declared.change.Change.{Change}
 use Rattle.wp_model.specs.declared.change.Change.TheVariants as change
 use Rattle.wp_model.specs.declared.entry.Entry.{Entry}
 use Rattle.wp_model.specs.declared.entry.Entry.TheVariants as entry
 use Rattle.wp_model.specs.Batch.{change_to}
-use Rattle.wp_model.specs.Flushed.{later_versions}
+use Rattle.wp_model.specs.Flushed.{InstalledEdit, later_versions}
 use Rattle.wp_model.specs.History.{entry_at, name_at, batch_at, is_undecided, is_changed, named, value_at}
 use Rattle.wp_text.specs.declared.script.Command.{Command}
 use Rattle.wp_text.specs.declared.script.Command.TheVariants as command
@@ -16,7 +17,8 @@ use Rattle.wp_session.specs.declared.client.TheConstants.{MOST_SNAPSHOTS}
 use Rattle.wp_session.specs.declared.client.LabelledSnapshot.{LabelledSnapshot}
 use Rattle.wp_session.specs.declared.client.Txn.{Txn}
 use Rattle.wp_session.specs.declared.client.Txn.TheVariants.{Idle, Open, Prepared}
-use Rattle.wp_session.specs.Client.{Client, number_of, own_batch, has_no_room}
+use Rattle.wp_session.specs.Client.{Client, number_of, numbers_of, own_batch, has_no_room}
+use Rattle.wp_session.specs.Tables.{unflushed, after_flush, after_compaction}
 
 -- ---- what is known of the others
 
@@ -29,11 +31,17 @@ pub data Claim : Type 0 where
   TablesFailed : Claim  -- a client was answered `fault tables`
   OtherCompacted : Claim  -- another client was answered `compacted`
 
+-- what the devices failed to take
+pub record Failed : Type 0 where
+  pub entries : List Entry  -- of one record, for the log
+  pub edit : InstalledEdit  -- for the manifest's device and the tables'
+
 -- what a reply is judged by
 pub record Evidence : Type 0 where
   pub history : List Entry
+  pub installed : InstalledEdit  -- the last edit of the tables
   pub limit : ℕ  -- the greatest number that an entry may have
-  pub failed : List Entry  -- the entries of the record that the log failed to take
+  pub failed : Failed
   pub known : Claim → Bool  -- what is known of the other clients, of the log and of the tables
 
 abbrev pub IsKnown : Evidence → Claim → Type 0
@@ -188,6 +196,23 @@ HasNothingToFlush evidence last = (last ≤ length evidence.history) × ((flushe
 abbrev pub HasNothingToMerge : Evidence → ℕ → Type 0
 HasNothingToMerge evidence tables = (tables < 2) ⊎ IsKnown evidence OtherCompacted
 
+-- The edit that the devices failed to take is a flush's: of the versions that stood in memory when so many entries were
+-- published, and the client had seen nothing later.
+pub record FailsFlush (evidence : Evidence) (last : ℕ) : Type 0 where
+  pub at : ℕ
+  pub fresh : IsFresh evidence.history last at
+  pub some : 1 ≤ length (unflushed (take at evidence.history) evidence.installed)
+  pub edit : evidence.failed.edit ≡ after_flush (take at evidence.history) evidence.installed
+
+-- It is a compaction's: of what readers needed then, with the client's snapshots or more of them.
+pub record FailsCompaction (evidence : Evidence) (last : ℕ) (client : Client) : Type 0 where
+  pub at : ℕ
+  pub fresh : IsFresh evidence.history last at
+  pub two : 2 ≤ evidence.installed.tables
+  pub snapshots : List ℕ
+  pub own : (n : ℕ) → list_any (λ m. m == n) (numbers_of client.snapshots) ≡ true → list_any (λ m. m == n) snapshots ≡ true
+  pub edit : evidence.failed.edit ≡ after_compaction (take at evidence.history) snapshots evidence.installed
+
 -- the manifest's device or the tables' failed, and the number was the flushed one
 abbrev pub IsHaltedAt : Evidence → ℕ → Type 0
 IsHaltedAt evidence flushed = IsKnown evidence (WasFlushed flushed) × IsKnown evidence TablesFailed
@@ -199,7 +224,7 @@ IsHaltedAt evidence flushed = IsKnown evidence (WasFlushed flushed) × IsKnown e
 -- alone decides.
 abbrev pub Row : Evidence → ℕ → ℕ → Client → ℕ → Command → Reply → Type 0
 Row evidence last tables client p command (reply.Full published most) = (1 ≤ needed client.txn command) × IsFresh evidence.history last published × (most ≡ evidence.limit) × (evidence.limit < published + needed client.txn command)
-Row evidence last tables client p command reply.FaultLog = AsksFor client.txn command evidence.failed
+Row evidence last tables client p command reply.FaultLog = AsksFor client.txn command evidence.failed.entries
 Row evidence last tables client p command (reply.Stopped n) = (1 ≤ needed client.txn command) × IsFresh evidence.history last n × IsKnown evidence (LogFailed n)
 Row evidence last tables client p (command.Put key value) (reply.Put n) = (client.txn ≡ Idle) × IsLoggedAt evidence.history last n (entry.Write (change.Put key value ∷ []))
 Row evidence last tables client p (command.Put key value) reply.Held = TxnIsOpen client.txn
@@ -227,11 +252,11 @@ Row evidence last tables client p (command.Take name) (reply.Unknown other n) = 
 Row evidence last tables client p command.Flush (reply.Flushed n versions) = IsFresh evidence.history last n × (1 ≤ versions) × IsFlushCount evidence n versions
 Row evidence last tables client p command.Flush reply.Nothing = HasNothingToFlush evidence last
 Row evidence last tables client p command.Flush (reply.Halted flushed) = IsHaltedAt evidence flushed
-Row evidence last tables client p command.Flush reply.FaultTables = Unit {0}
+Row evidence last tables client p command.Flush reply.FaultTables = FailsFlush evidence last
 Row evidence last tables client p command.Compact (reply.Compacted n versions) = IsFresh evidence.history last n × IsCompactionCount evidence.history n versions
 Row evidence last tables client p command.Compact reply.Nothing = HasNothingToMerge evidence tables
 Row evidence last tables client p command.Compact (reply.Halted flushed) = IsHaltedAt evidence flushed
-Row evidence last tables client p command.Compact reply.FaultTables = Unit {0}
+Row evidence last tables client p command.Compact reply.FaultTables = FailsCompaction evidence last client
 Row evidence last tables client p command answer = ⊥
 
 -- the reply is the refusal, where there is one

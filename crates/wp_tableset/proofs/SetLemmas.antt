@@ -1,7 +1,7 @@
 -- What the two devices store while a table is written and an edit is installed.
 use Rattle.std.proofs.Common.{◌≡◌, ◌⊎◌, inl, inr, ℕ, ◌≤◌, ◌<◌, ◌^◌, Bool, true, false, List, [], ◌∷◌, ◌++◌, length, Result, Ok, Err, refl, sym, ap, subst, arith}
 use Rattle.wp_model.specs.declared.version.Version.{Version}
-use Rattle.wp_outside.specs.Disk.{Moment, IsImage, IfKnown, Each, Passes, synced}
+use Rattle.wp_outside.specs.Disk.{Moment, IsImage, IfKnown, Each, Passes, synced, added, after_write, after_sync}
 use Rattle.wp_outside.specs.Faults.{Rose}
 use Rattle.wp_outside.proofs.Moments.{image_of_synced}
 use Rattle.wp_gatelog.specs.Durability.{LosesNoRecord}
@@ -14,7 +14,7 @@ use Rattle.wp_manifest.specs.Spelling.{MAGIC, IsManifestOrNext, last_edit}
 use Rattle.wp_manifest.specs.declared.error.InstallError.TheVariants as install
 use Rattle.wp_table.specs.File.{HasTables}
 use Rattle.wp_table.specs.Table.{IsTable, table_bytes}
-use Rattle.wp_tableset.specs.Changes.{placed, NewestIsBehind, NextRefused, Installs, LosesNoTable}
+use Rattle.wp_tableset.specs.Changes.{placed, NewestIsWritten, NextRefused, Installs, LosesNoTable}
 use Rattle.wp_tableset.specs.Device.{BeginsWith, IsEnd, KeepsFronts, GrowsFrom}
 use Rattle.wp_tableset.specs.Install.{IsReady, InstallsEdit, LeavesNext, Remain}
 use Rattle.wp_tableset.specs.Set.{TableSetState, LeavesTables, RestsWith, StoresTables}
@@ -145,7 +145,7 @@ module _ (old new : ManifestState) (moments : List Moment) (faults : ℕ) (halte
 -- there for good.
 pub record Ready (old : TableSetState) (mid : List Moment) (next : Edit) (after : List (List Version) → List (List Version)) : Type 0 where
   pub was_running : old.halted ≡ false
-  pub behind : NewestIsBehind old.moments next.tables
+  pub written : NewestIsWritten old.moments mid next.tables
   pub last_rests : (parts : List (List Version)) → IfKnown old.moments (RestsWith old.manifest.log.id old.manifest.edit parts) → IfKnown mid (RestsWith old.manifest.log.id old.manifest.edit parts)
   pub next_rests : (parts : List (List Version)) → IfKnown old.moments (RestsWith old.manifest.log.id old.manifest.edit parts) → IfKnown mid (RestsWith old.manifest.log.id next (after parts))
 
@@ -165,7 +165,7 @@ module _ (old new : TableSetState) (mid : List Moment) (faults : ℕ) (next : Ed
       was_running = ready.was_running;
       running = installs.installed.0;
       last = installs.installed.1;
-      behind = ready.behind;
+      written = rw installs.moments ready.written;
       stores = λ edits parts stores.
           let rests : IfKnown mid (RestsWith id next (after parts)) = ready.next_rests parts (stores.rests ready.was_running) in record {
             manifest = installs.installed.2 edits stores.manifest;
@@ -190,7 +190,7 @@ module _ (old new : TableSetState) (mid : List Moment) (faults : ℕ) (next : Ed
     inr (record {
       rose = installs.refused.1;
       last = installs.refused.2;
-      behind = ready.behind;
+      written = rw installs.moments ready.written;
       stores = λ edits parts stores. record {
         manifest = installs.refused.3 edits stores.manifest;
         rests = λ running. absurd cc;
@@ -206,11 +206,11 @@ module _ (old new : TableSetState) (mid : List Moment) (faults : ℕ) (next : Ed
 
 -- ---- the exits of the calls
 
-pub table_ready : (old : TableSetState) (mid : List Moment) (versions : List Version) (flushed place : ℕ) (others : List (ℕ × ℕ)) → old.halted ≡ false → Grows old.moments mid → IsEnd old.moments place → SyncsBehind old.moments mid (table_bytes old.manifest.log.id versions) → IsTable old.manifest.log.id flushed versions
-    → (after : List (List Version) → List (List Version)) → Remain old.manifest.edit flushed others after → Ready old mid (record { flushed = flushed; tables = placed old.manifest.log.id versions place ∷ others }) (λ parts. versions ∷ after parts)
-table_ready old mid versions flushed place others running grows end syncs is after remain = record {
+pub table_ready : (old : TableSetState) (mid : List Moment) (versions : List Version) (flushed place : ℕ) (others : List (ℕ × ℕ)) → old.halted ≡ false → Grows old.moments mid → IsEnd old.moments place → SyncsBehind old.moments mid (table_bytes old.manifest.log.id versions) → mid ≡ added after_sync (added (after_write place (table_bytes old.manifest.log.id versions)) old.moments)
+    → IsTable old.manifest.log.id flushed versions → (after : List (List Version) → List (List Version)) → Remain old.manifest.edit flushed others after → Ready old mid (record { flushed = flushed; tables = placed old.manifest.log.id versions place ∷ others }) (λ parts. versions ∷ after parts)
+table_ready old mid versions flushed place others running grows end syncs written is after remain = record {
   was_running = running;
-  behind = end;
+  written = (end, (table_bytes old.manifest.log.id versions, refl, written));
   last_rests = λ parts rests. rests_grown old.manifest.log.id old.manifest.edit parts (table_bytes old.manifest.log.id versions) old.moments mid grows syncs rests;
   next_rests = λ parts rests. table_rests old.manifest.log.id old.manifest.edit parts versions flushed place others after old.moments mid grows end syncs is remain rests;
 }
@@ -228,7 +228,7 @@ none_next set flushed = λ parts left. ([], known_map (LeavesTables set.manifest
 pub none_ready : (old : TableSetState) (flushed : ℕ) → old.halted ≡ false → Ready old old.moments (record { flushed = flushed; tables = [] }) (λ _. [])
 none_ready old flushed running = record {
   was_running = running;
-  behind = tt;
+  written = refl;
   last_rests = λ parts rests. rests;
   next_rests = λ parts rests. known_map (RestsWith old.manifest.log.id old.manifest.edit parts) (RestsWith old.manifest.log.id (record { flushed = flushed; tables = [] }) []) (λ m r. record { bytes = r.bytes; on_disk = r.on_disk; tables = tt }) old.moments rests;
 }

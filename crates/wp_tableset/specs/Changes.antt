@@ -1,7 +1,7 @@
 -- What a call makes of the tables of a store.
 use Rattle.std.specs.Prelude.{◌≡◌, ◌⊎◌, ◌≤◌, ℕ, true, false, List, [], ◌∷◌, ◌++◌, length, Option, Some, None, Result, OnOk, IfErr}
 use Rattle.wp_model.specs.declared.version.Version.{Version}
-use Rattle.wp_outside.specs.Disk.{Moment, IfKnown, Passes}
+use Rattle.wp_outside.specs.Disk.{Moment, IfKnown, Passes, added, after_write, after_sync}
 use Rattle.wp_outside.specs.Faults.{Rose}
 use Rattle.wp_gatelog.specs.Durability.{LosesNoRecord}
 use Rattle.wp_gatelog.specs.Moments.{Leaves}
@@ -46,17 +46,19 @@ compacted_parts (v ∷ versions) = (v ∷ versions) ∷ []
 
 -- ---- an install
 
--- the newest of these tables, if there is one, begins where the device's bytes ended
-abbrev pub NewestIsBehind : List Moment → List (ℕ × ℕ) → Type 0
-NewestIsBehind moments [] = Unit {0}
-NewestIsBehind moments (table ∷ tables) = IsEnd moments table.0
+-- The newest of these tables, if there is one, begins where the device's bytes ended. It was written there at once, and
+-- synced, and the device was called for nothing else that changes it.
+abbrev pub NewestIsWritten : (old new : List Moment) → List (ℕ × ℕ) → Type 0
+NewestIsWritten old new [] = new ≡ old
+NewestIsWritten old new (table ∷ tables) =
+    IsEnd old table.0 × ((bytes : List ℕ) × (length bytes ≡ table.1) × (new ≡ added after_sync (added (after_write table.0 bytes) old)))
 
 -- the next edit is the last one, and the set stores its tables, which `after` makes of the old ones
 pub record NextInstalled (old new : TableSetState) (next : Edit) (after : List (List Version) → List (List Version)) : Type 0 where
   pub was_running : old.halted ≡ false
   pub running : new.halted ≡ false
   pub last : new.manifest.edit ≡ next
-  pub behind : NewestIsBehind old.moments next.tables
+  pub written : NewestIsWritten old.moments new.moments next.tables
   pub stores : (edits : List Edit) (parts : List (List Version)) → StoresTables old edits no_edit parts []
       → StoresTables new (edits ++ next ∷ []) no_edit (after parts) []
 
@@ -71,7 +73,7 @@ pub record TablesFailed (old new : TableSetState) : Type 0 where
 pub record InstallFailed (old new : TableSetState) (next : Edit) (after : List (List Version) → List (List Version)) : Type 0 where
   pub rose : Rose old.manifest.log.faults new.manifest.log.faults
   pub last : new.manifest.edit ≡ old.manifest.edit
-  pub behind : NewestIsBehind old.moments next.tables
+  pub written : NewestIsWritten old.moments new.moments next.tables
   pub stores : (edits : List Edit) (parts : List (List Version)) → StoresTables old edits no_edit parts []
       → StoresTables new edits next parts (after parts)
 

@@ -1,5 +1,5 @@
 use Rattle.std.proofs.Common.{rules, ◌≡◌, refl}
-use Rattle.wp_run.proofs.Failing.{not_failed, log_fails}
+use Rattle.wp_run.proofs.Failing.{not_stopped, not_halted, log_stops, log_halts_none}
 use Rattle.wp_session.specs.declared.plan.Plan.TheVariants.{Say, Log, RollBack}
 use Rattle.wp_session.specs.Plan.{plan}
 use Rattle.wp_run.specs.Answering.{IsLogAnswer}
@@ -52,20 +52,31 @@ returns-in_ok-entries-in-RollBack-clause-fits g c =
     let logs = plan_rolls_back c.undo_is_followed_by_its_close.ensures _ _ _ _ _ _ c.history.ensures.closed c.requires.fits c.changes.ensures.batch planned in
     on_answered _ (λ r. IsLogAnswer c.args.engine.now c.args.client.now c.in_ok-entries-in-RollBack.entries.items c.in-RollBack.reply r c.log_for-in-RollBack.new.engine c.log_for-in-RollBack.new.client) _ c.log_for-in-RollBack.ensures.answered (λ answer logged. logged_fits _ _ _ _ _ _ answer logs c.requires.fits (rw c.in_ok-entries-in-RollBack.ensures.items at logged))
 
-pub returns-in_ok-entries-in-Log-clause-failed : goal.returns-in_ok-entries-in-Log-clause-failed
-returns-in_ok-entries-in-Log-clause-failed g c =
+pub returns-in_ok-entries-in-Log-clause-stopped : goal.returns-in_ok-entries-in-Log-clause-stopped
+returns-in_ok-entries-in-Log-clause-stopped g c =
     let planned : plan c.args.engine.now.entries c.args.client.now c.args.command.now ≡ Log c.in-Log.entry c.in-Log.reply = search rules in
     if_answered _ (λ r. IsLogAnswer c.args.engine.now c.args.client.now c.in_ok-entries-in-Log.entries.items c.in-Log.reply r c.log_for.new.engine c.log_for.new.client) _ c.log_for.ensures.answered
-    (λ answer logged. log_fails _ _ _ _ c.args.command.now _ _ answer (rw (planned, c.in_ok-entries-in-Log.ensures.items) refl) logged)
+    (λ answer logged. log_stops _ _ _ _ c.args.command.now _ _ answer (rw (planned, c.in_ok-entries-in-Log.ensures.items) refl) logged)
 
-pub returns-in_ok-entries-in-RollBack-clause-failed : goal.returns-in_ok-entries-in-RollBack-clause-failed
-returns-in_ok-entries-in-RollBack-clause-failed g c =
+pub returns-in_ok-entries-in-RollBack-clause-stopped : goal.returns-in_ok-entries-in-RollBack-clause-stopped
+returns-in_ok-entries-in-RollBack-clause-stopped g c =
     let planned : plan c.args.engine.now.entries c.args.client.now c.args.command.now ≡ RollBack c.in-RollBack.p c.in-RollBack.batch c.in-RollBack.reply = search rules in
     if_answered _ (λ r. IsLogAnswer c.args.engine.now c.args.client.now c.in_ok-entries-in-RollBack.entries.items c.in-RollBack.reply r c.log_for-in-RollBack.new.engine c.log_for-in-RollBack.new.client) _ c.log_for-in-RollBack.ensures.answered
-    (λ answer logged. log_fails _ _ _ _ c.args.command.now _ _ answer (rw (planned, c.in_ok-entries-in-RollBack.ensures.items) refl) logged)
+    (λ answer logged. log_stops _ _ _ _ c.args.command.now _ _ answer (rw (planned, c.in_ok-entries-in-RollBack.ensures.items) refl) logged)
 
-pub returns-in_ok-take-in-Say-clause-failed : goal.returns-in_ok-take-in-Say-clause-failed
-returns-in_ok-take-in-Say-clause-failed g c = not_failed c.args.engine.now c.args.engine.now _ refl
+pub returns-in_ok-take-in-Say-clause-stopped : goal.returns-in_ok-take-in-Say-clause-stopped
+returns-in_ok-take-in-Say-clause-stopped g c = not_stopped c.args.engine.now c.args.engine.now _ refl
+
+pub returns-in_ok-take-in-Say-clause-halted : goal.returns-in_ok-take-in-Say-clause-halted
+returns-in_ok-take-in-Say-clause-halted g c = not_halted c.args.engine.now c.args.engine.now _ refl
+
+pub returns-in_ok-entries-in-Log-clause-halted : goal.returns-in_ok-entries-in-Log-clause-halted
+returns-in_ok-entries-in-Log-clause-halted g c =
+    if_answered _ (λ r. IsLogAnswer c.args.engine.now c.args.client.now c.in_ok-entries-in-Log.entries.items c.in-Log.reply r c.log_for.new.engine c.log_for.new.client) _ c.log_for.ensures.answered (λ answer logged. log_halts_none _ _ _ _ _ _ answer _ logged)
+
+pub returns-in_ok-entries-in-RollBack-clause-halted : goal.returns-in_ok-entries-in-RollBack-clause-halted
+returns-in_ok-entries-in-RollBack-clause-halted g c =
+    if_answered _ (λ r. IsLogAnswer c.args.engine.now c.args.client.now c.in_ok-entries-in-RollBack.entries.items c.in-RollBack.reply r c.log_for-in-RollBack.new.engine c.log_for-in-RollBack.new.client) _ c.log_for-in-RollBack.ensures.answered (λ answer logged. log_halts_none _ _ _ _ _ _ answer _ logged)
 
 pub returns-in_ok-take-in-Say-clause-steps : goal.returns-in_ok-take-in-Say-clause-steps
 returns-in_ok-take-in-Say-clause-steps g c =

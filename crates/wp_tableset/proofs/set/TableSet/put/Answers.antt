@@ -32,7 +32,7 @@ returns-in_err-install-clause-puts g c =
     rw (p.1, p.2, ← c.self.view_is) (
       c.in-Ok.place,
       λ after remain. ready_refused _ _ _ _ _ _ (table_ready _ _ c.args.versions.now c.args.flushed c.in-Ok.place c.args.places.items (ap (λ (s : TableSetState). s.halted) c.self.view_is ∙ c.requires.running) c.write_behind.ensures.grows c.in-Ok.ensures.place
-          (rw (← c.id.ensures, ← c.in_ok-table.ensures.bytes, ← c.deref.ensures.value) c.in-Ok.ensures.synced) (rw (← c.id.ensures) c.in_ok-table.ensures.is) after remain) c.in_err-install.field-0.0 (rw e at c.in_err-install.ensures),
+          (rw (← c.id.ensures, ← c.in_ok-table.ensures.bytes, ← c.deref.ensures.value) c.in-Ok.ensures.synced) (rw (← c.id.ensures, ← c.in_ok-table.ensures.bytes, ← c.deref.ensures.value) c.in-Ok.ensures.calls) (rw (← c.id.ensures) c.in_ok-table.ensures.is) after remain) c.in_err-install.field-0.0 (rw e at c.in_err-install.ensures),
     )
 
 pub returns-in_err-install-clause-keeps : goal.returns-in_err-install-clause-keeps
@@ -46,7 +46,7 @@ returns-clause-puts g c =
     rw (← c.self.view_is) (
       c.in-Ok.place,
       λ after remain. ready_installed _ _ _ _ _ _ (table_ready _ _ c.args.versions.now c.args.flushed c.in-Ok.place c.args.places.items (ap (λ (s : TableSetState). s.halted) c.self.view_is ∙ c.requires.running) c.write_behind.ensures.grows c.in-Ok.ensures.place
-          (rw (← c.id.ensures, ← c.in_ok-table.ensures.bytes, ← c.deref.ensures.value) c.in-Ok.ensures.synced) (rw (← c.id.ensures) c.in_ok-table.ensures.is) after remain) c.in_ok-table.table (rw e at c.in_ok-install.ensures),
+          (rw (← c.id.ensures, ← c.in_ok-table.ensures.bytes, ← c.deref.ensures.value) c.in-Ok.ensures.synced) (rw (← c.id.ensures, ← c.in_ok-table.ensures.bytes, ← c.deref.ensures.value) c.in-Ok.ensures.calls) (rw (← c.id.ensures) c.in_ok-table.ensures.is) after remain) c.in_ok-table.table (rw e at c.in_ok-install.ensures),
     )
 
 pub returns-clause-keeps : goal.returns-clause-keeps
