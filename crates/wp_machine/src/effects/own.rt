@@ -1,11 +1,11 @@
 //! What the steps that an actor makes without a turn make of a world.
-ghost use Rattle.std.specs.Prelude.{◌≡◌, ℕ, OnOk, Some, None, option_map};
+ghost use Rattle.std.specs.Prelude.{◌≡◌, ℕ, OnOk, Some, option_map};
 ghost use Rattle.std.specs.FinMap as finite;
 ghost use Rattle.wp_core.specs.Steps as step;
 ghost use Rattle.wp_machine.specs.Machine.{own_step};
 ghost use Rattle.wp_machine.specs.Effect.{IsEffect};
 
-use crate::actor::{Actor, Transaction};
+use crate::actor::Actor;
 use crate::step::OwnStep;
 use crate::views::Fact;
 use crate::world::World;
