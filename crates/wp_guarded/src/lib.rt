@@ -1,6 +1,10 @@
 //! What lies behind the six turns of the shared store, each value a part of the machine's world.
 #![tactic(auto)]
 
+mod edits;
 mod log;
+mod stock;
 
+pub use edits::Edits;
 pub use log::Log;
+pub use stock::Stock;
