@@ -17,7 +17,7 @@ use Rattle.wp_guarded.proofs.LogLemmas.{known_image}
 
 -- ---- as it is opened
 
-none_asked : (closed : Bool) (parts : List (List Version)) → failed_edit closed None parts ≡ None
+pub none_asked : (closed : Bool) (parts : List (List Version)) → failed_edit closed None parts ≡ None
 none_asked true parts = refl
 none_asked false parts = refl
 

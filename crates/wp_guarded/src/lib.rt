@@ -3,8 +3,12 @@
 
 mod edits;
 mod log;
+mod opening;
+mod part;
 mod stock;
 
 pub use edits::Edits;
 pub use log::Log;
+pub use opening::{delayed_flag, guard};
+pub use part::Part;
 pub use stock::Stock;
