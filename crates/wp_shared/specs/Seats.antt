@@ -1,0 +1,40 @@
+-- A shared store and a seat at it, as clauses see them.
+use Rattle.std.specs.Prelude.{◌≡◌, ℕ, List, [], ◌∷◌}
+use Rattle.atomic_table.specs.Seated.{TableId}
+use Rattle.wp_model.specs.declared.entry.Entry.{Entry}
+use Rattle.wp_core.specs.World.{Actor, World}
+use Rattle.wp_rule.specs.Words.{Place, IsAt}
+use Rattle.wp_shared.specs.declared.part.Part.{Part}
+use Rattle.wp_shared.specs.declared.part.Part.TheVariants as part
+
+-- The store: which table it is, the history that was opened, how many words its cache has, and the greatest number that
+-- an entry may get.
+pub record SharedState : Type 0 where
+  pub table : TableId
+  pub opened : List Entry
+  pub cells : ℕ
+  pub limit : ℕ
+
+-- a seat: at which table, its number there, what it knows, and which turns it holds, the one taken last first
+pub record SeatState : Type 0 where
+  pub table : TableId
+  pub by : ℕ
+  pub knows : Actor
+  pub turns : List ℕ
+
+-- between calls each slot of a turn that is held has what stands in for its value
+abbrev pub AllAway : {D : Type 0} → List (ℕ × Part D) → Type 0
+AllAway [] = Unit {0}
+AllAway (c ∷ cs) = (c.1 ≡ part.Away) × AllAway cs
+
+abbrev pub turns_of : {D : Type 0} → List (ℕ × Part D) → List ℕ
+turns_of [] = []
+turns_of (c ∷ cs) = c.0 ∷ turns_of cs
+
+-- the seat's place
+abbrev pub place_at : SharedState → ℕ → Place
+place_at z by = record { opened = z.opened; cells = z.cells; by = by }
+
+-- a reached world of the store in which the seat's actor is what it knows
+abbrev pub Stands : SharedState → SeatState → World → Type 0
+Stands z s w = IsAt (place_at z s.by) s.knows w

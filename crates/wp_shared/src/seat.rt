@@ -1,0 +1,22 @@
+//! A client's place at the shared store.
+use crate::part::Part;
+use std::marker::Model;
+use wp_outside::Disk;
+use wp_rule::WordSeat;
+
+/// A client's seat at a store. Clauses see the table that it is at, its number there, what its actor of the machine knows, and
+/// which turns it holds, the one taken last first.
+#[derive(Drop)]
+pub struct Seat<D: Disk + Drop> {
+    pub(crate) seat: WordSeat<Part<D>>,
+}
+
+impl<D: Disk + Drop> Model for Seat<D> {
+    ghost use Rattle.wp_shared.specs.Seats.{SeatState, AllAway, turns_of};
+
+    ghost Value = { SeatState };
+
+    ghost view = { λ s. record { table = s.seat.table_id; by = s.seat.id; knows = s.seat.me.0; turns = turns_of s.seat.me.1 } };
+
+    ghost invariant = { λ s. AllAway s.seat.me.1 };
+}
