@@ -38,3 +38,16 @@ place_at z by = record { opened = z.opened; cells = z.cells; by = by }
 -- a reached world of the store in which the seat's actor is what it knows
 abbrev pub Stands : SharedState → SeatState → World → Type 0
 Stands z s w = IsAt (place_at z s.by) s.knows w
+
+-- a note: what its giver had seen
+pub record NoteState : Type 0 where
+  pub table : TableId
+  pub seen : List Entry
+
+abbrev pub seen_in : List Actor → List Entry
+seen_in [] = []
+seen_in (a ∷ others) = a.participant.seen
+
+abbrev pub client_in : List Actor → List ℕ
+client_in [] = []
+client_in (a ∷ others) = a.participant.client
