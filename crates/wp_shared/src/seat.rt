@@ -12,9 +12,16 @@ pub struct Seat<D: Disk + Drop> {
 }
 
 impl<D: Disk + Drop> Model for Seat<D> {
+    ghost use Rattle.std.specs.Coded.{codes};
+    ghost use Rattle.wp_model.specs.PreparedTables.{prepared_tables_code};
+    ghost use Rattle.wp_model.specs.Snapshots.{snapshots_code};
+    ghost use Rattle.wp_model.specs.LockTables.{lock_tables_code};
+    ghost use Rattle.wp_machine.specs.Codes.{transactions_code};
     ghost use Rattle.wp_shared.specs.Seats.{SeatState, AllAway, turns_of};
 
     ghost Value = { SeatState };
+
+    ghost coded = { Prim.hlevel (codes, prepared_tables_code, snapshots_code, lock_tables_code, transactions_code) };
 
     ghost view = { λ s. record { table = s.seat.table_id; by = s.seat.id; knows = s.seat.me.0; turns = turns_of s.seat.me.1 } };
 
