@@ -5,7 +5,6 @@ use mathlib.Core.Logic.{dite}
 use native.Mathlib.Decide.{ℕ_discrete}
 use lib.ListN.{get_elem?}
 use Rattle.atomic_table.specs.Table.{Final, Seen}
-use Rattle.wp_model.specs.declared.entry.Entry.{Entry}
 use Rattle.wp_core.specs.Lists.{EachAt, IsIn, one_if}
 use Rattle.wp_core.specs.Turns.{Turn, write_turn, prepared_turn, snapshots_turn, store_turn, locks_turn, tables_turn, turn_holder}
 use Rattle.wp_core.specs.Tables.{Content}
@@ -20,7 +19,7 @@ use Rattle.wp_core.proofs.Persons.{total_map}
 use Rattle.wp_core.proofs.Registered.{total_at}
 use Rattle.wp_rule.specs.declared.part.Parts.{Parts}
 use Rattle.wp_rule.specs.Ends.{part_of}
-use Rattle.wp_rule.specs.Words.{Place}
+use Rattle.wp_rule.specs.Words.{SharedWords, place_of}
 use Rattle.wp_rule.specs.Shows.{IsPart, Shows, DidNothing, Leaves}
 use Rattle.wp_rule.proofs.Knows.{at_sound}
 use Rattle.wp_rule.proofs.OnlyFirst.{only_first}
@@ -103,19 +102,19 @@ first_alone w s a at all free =
     let is : role_of a ≡ k.first = some-injective (role_of a) k.first (sym (at_map role_of w.actors 0 a at) ∙ k.there) in
     only_first w a o.0 o.1 (λ j b there. nothing_done w s a at all (suc j) b (ap (λ (actors : List Actor). get_elem? actors (suc j)) o.1 ∙ there) (λ e. omega (arith, e))) s free (ap (λ (r : Role). r.live) is ∙ k.live) all
 
-module _ {S : Type 0} (content : S → Option Content) (tells : S → Type 0) (opened : List Entry) (cells : ℕ) where
-  pub leaves : (p : Place) (id : ℕ) (a : Actor) (words : List ℕ) (slots : List S) (parts : Turn → S) → p ≡ record { opened = opened; cells = cells; by = 0 } → id ≡ 0 → a.held ≡ [] → a.made ≡ length a.joined
-      → Final (Seen (Shows content tells opened cells) id a) words slots → ((turn : Turn) → get_elem? slots (turn_index turn) ≡ some (parts turn)) → Leaves content tells p a parts
-  leaves p id a words slots parts is first idle all f there =
+module _ {S : Type 0} (content : S → Option Content) (tells : List S → S → Type 0) where
+  pub leaves : (z z' : SharedWords S) (id : ℕ) (a : Actor) (words : List ℕ) (slots : List S) (parts : Turn → S) → z ≡ z' → id ≡ 0 → a.held ≡ [] → a.made ≡ length a.joined
+      → Final (Seen (Shows content (tells z.first) z.opened z.cells) id a) words slots → ((turn : Turn) → get_elem? slots (turn_index turn) ≡ some (parts turn)) → Leaves content (tells z'.first) (place_of z' 0) a parts
+  leaves z z' id a words slots parts is first idle all f there =
       let s = f.0 in let r = f.1.0 in let w = r.world in
-      let k = at_world content tells opened cells s r 0 a (subst (λ (n : ℕ). get_elem? s.views n ≡ some a) first f.1.1) in let sound = at_sound (record { opened = opened; cells = cells; by = 0 }) a w k in
+      let k = at_world content (tells z.first) z.opened z.cells s r 0 a (subst (λ (n : ℕ). get_elem? s.views n ≡ some a) first f.1.1) in let sound = at_sound (place_of z 0) a w k in
       let free : (turn : Turn) → turn_holder w.holders turn ≡ None = λ turn. nobody_holds w sound a k.there all idle turn (turn_holder w.holders turn) refl in
-      subst (λ (q : Place). Leaves content tells q a parts) (sym is) (record {
+      subst (λ (y : SharedWords S). Leaves content (tells y.first) (place_of y 0) a parts) is (record {
         world = w;
         before = k;
         free = free;
         others = nothing_done w sound a k.there all;
         alone = first_alone w sound a k.there all free;
-        are_parts = λ turn. let h = is_home content tells opened cells (turn_holder w.holders turn) (content_of w turn) (get_elem? s.homes (turn_index turn)) (free turn) (r.rests turn) in
-            let same : h.0 ≡ parts turn = some-injective h.0 (parts turn) (sym (f.4 (turn_index turn) h.0 h.1) ∙ there turn) in subst (λ (x : S). IsPart content tells x (content_of w turn)) same h.2;
+        are_parts = λ turn. let h = is_home content (tells z.first) z.opened z.cells (turn_holder w.holders turn) (content_of w turn) (get_elem? s.homes (turn_index turn)) (free turn) (r.rests turn) in
+            let same : h.0 ≡ parts turn = some-injective h.0 (parts turn) (sym (f.4 (turn_index turn) h.0 h.1) ∙ there turn) in subst (λ (x : S). IsPart content (tells z.first) x (content_of w turn)) same h.2;
       })

@@ -9,10 +9,10 @@ use Rattle.atomic_table.proofs.Lists.{at_map}
 use Rattle.wp_model.specs.declared.entry.Entry.{Entry}
 use Rattle.wp_core.specs.Turns.{Turn, write_turn, prepared_turn, snapshots_turn, store_turn, locks_turn, tables_turn, Holders, turn_holder, all_free}
 use Rattle.wp_core.specs.Tables.{Content}
-use Rattle.wp_core.specs.World.{new_actor, content_of}
+use Rattle.wp_core.specs.World.{Actor, new_actor, content_of}
 use Rattle.wp_core.specs.Changes.{turn_index}
 use Rattle.wp_core.specs.Runs.{stays}
-use Rattle.wp_rule.specs.Words.{turn_words, words_of}
+use Rattle.wp_rule.specs.Words.{turn_words, words_of, SawAll}
 use Rattle.wp_rule.specs.Shows.{Rests, Shows, Founds}
 
 none_held : (turn : Turn) → turn_holder all_free turn ≡ None
@@ -47,4 +47,14 @@ module _ {S : Type 0} (content : S → Option Content) (tells : S → Type 0) wh
         rests = λ turn. let p = f.parts turn in
             subst (λ (h : Option ℕ). Rests content tells h (content_of w turn) (get_elem? (map some slots) (turn_index turn))) (sym (ap (λ (h : Holders). turn_holder h turn) o.holders ∙ none_held turn)) (p.0, at_map some slots (turn_index turn) p.0 p.1, p.2);
         views = sym f.actors_are;
+      }
+
+  -- its first seat has seen the history that is opened
+  pub opening_seen : (client : List ℕ) (opened : List Entry) (cells flag : ℕ) (slots : List S) → Founds content tells client opened cells flag slots → SawAll (record { opened = opened; cells = cells; by = 0 }) (new_actor true client opened) (length opened)
+  opening_seen client opened cells flag slots f =
+      let w = f.world in let o = f.opening in let history : w.writes.history ≡ opened = o.history ∙ f.opened_is in record {
+        world = w;
+        there = record { reached = (w, o, stays); opened = f.opened_is; cells = f.cells_are; there = ap (λ (actors : List Actor). get_elem? actors 0) f.actors_are };
+        number = ap (λ (h : List Entry). length h) (sym history);
+        seen = history;
       }

@@ -216,12 +216,6 @@ module _ {S : Type 0} (content : S → Option Content) (tells : S → Type 0) (o
     ),
   )
 
-  pub claims : (slots id word : ℕ) (m : Me S Actor) (p : Place) (turn : Turn) → p ≡ place id → word ≡ turn_place turn → m.0.live ≡ true
-      → Allows Rule slots id m word (λ n. either (eqb n 0) 1 n) (plays.claims content tells p turn (step slots word 0 1 none) m)
-  claims slots id word m p turn is which live =
-      subst (λ (q : Place × ℕ). Allows Rule slots id m q.1 (λ n. either (eqb n 0) 1 n) (plays.claims content tells q.0 turn (step slots q.1 0 1 none) m)) (λ i. (sym is i, sym which i))
-      (λ s r deep at low. exchanged (get_or s.words (turn_place turn) 0) 0 1 (Claim id turn m s (get_or s.words (turn_place turn) 0)) (claimed id turn m s r live at) (missed id turn m s r at))
-
   -- ---- giving
 
   given : (id : ℕ) (turn : Turn) (m : Me S Actor) → MayUnclaim content tells (place id) turn m
@@ -249,3 +243,12 @@ module _ {S : Type 0} (content : S → Option Content) (tells : S → Type 0) (o
       → Allows Rule slots id m word (λ _. 0) (λ _. plays.unclaims p turn (step slots word 0 0 none) m 0)
   unclaims slots id word m p turn is which may =
       subst (λ (q : Place × ℕ). MayUnclaim content tells q.0 turn m → Allows Rule slots id m q.1 (λ _. 0) (λ _. plays.unclaims q.0 turn (step slots q.1 0 0 none) m 0)) (λ i. (sym is i, sym which i)) (λ may' s r deep at low. given id turn m may' s r r.deep at low) may
+
+-- ---- taking
+
+module _ {S : Type 0} (content : S → Option Content) (tells : List S → S → Type 0) (first : List S) (opened : List Entry) (cells : ℕ) where
+  pub claims : (slots id word : ℕ) (m : Me S Actor) (p : Place) (turn : Turn) (told : List S) → p ≡ place content (tells first) opened cells id → word ≡ turn_place turn → told ≡ first → m.0.live ≡ true
+      → Allows (Shows content (tells first) opened cells) slots id m word (λ n. either (eqb n 0) 1 n) (plays.claims content (tells told) p turn (step slots word 0 1 none) m)
+  claims slots id word m p turn told is which same live =
+      subst (λ (q : (Place × ℕ) × List S). Allows (Shows content (tells first) opened cells) slots id m q.0.1 (λ n. either (eqb n 0) 1 n) (plays.claims content (tells q.1) q.0.0 turn (step slots q.0.1 0 1 none) m)) (λ i. ((sym is i, sym which i), sym same i))
+      (λ s r deep at low. exchanged (get_or s.words (turn_place turn) 0) 0 1 (Claim content (tells first) opened cells id turn m s (get_or s.words (turn_place turn) 0)) (claimed content (tells first) opened cells id turn m s r live at) (missed content (tells first) opened cells id turn m s r at))

@@ -10,7 +10,7 @@ use Rattle.wp_model.specs.declared.holder.Holder.TheVariants.{Txn, Client}
 use Rattle.wp_core.specs.Lists.{IsIn, one_if, total}
 use Rattle.wp_core.specs.Turns.{Turn, turn_holder}
 use Rattle.wp_core.specs.Views.{Account, Event, own, another, prepare_at}
-use Rattle.wp_core.specs.World.{Actor, Participant, World, new_participant, content_of}
+use Rattle.wp_core.specs.World.{Actor, Participant, World, new_participant}
 use Rattle.wp_core.specs.World as world
 use Rattle.wp_core.specs.Sound.Actors.{seen_of, own_of, learned_of, held_of, role_of, participants_of, IsParticipantAt, total_participants, times}
 use Rattle.wp_core.specs.Sound.Locks.{Owner, owner_of, IsNameOf, IsDirectOf, AreLocked}

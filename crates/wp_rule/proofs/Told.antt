@@ -1,5 +1,5 @@
 -- What a seat is told of what it did.
-use Rattle.std.proofs.Common.{◌≡◌, ℕ, List, [], ◌∷◌, length, subst, ap, ◌∙◌, Some, Option}
+use Rattle.std.proofs.Common.{◌≡◌, ℕ, List, [], ◌∷◌, length, sym, subst, ap, ◌∙◌, Some, Option}
 use Rattle.wp_model.specs.declared.entry.Entry.{Entry}
 use Rattle.wp_model.specs.Legal.{IsLegal}
 use Rattle.wp_judge.specs.Words.{CommitPair, pair_of}
@@ -9,7 +9,7 @@ use Rattle.wp_core.specs.World.{Actor, World}
 use Rattle.wp_core.specs.Changes.{sees}
 use Rattle.wp_core.specs.Steps.{Step, load_published, store_published}
 use Rattle.wp_core.specs.Sound.Actors.{StartsWith}
-use Rattle.wp_rule.specs.Words.{Place, IsAt}
+use Rattle.wp_rule.specs.Words.{Place, IsAt, SawAll}
 use Rattle.wp_rule.specs.Moves.{AreMet, world_after, actor_after, Moved, publishing, storing, storing_word}
 use Rattle.wp_rule.proofs.Forgets.{forgets_nothing, load_ends}
 use Rattle.wp_rule.proofs.Knows.{at_sound, seen_is, learned_is}
@@ -47,3 +47,6 @@ sees_it p a b found m =
       learned_is p a w m.before,
       (at_sound p a w m.before).history.legal,
     )
+
+pub saw_it : (p : Place) (a b : Actor) (found : ℕ) → Moved p (λ w. load_published ∷ []) (λ w. found ≡ length w.writes.history) a b → SawAll p b found
+saw_it p a b found m = record { world = world_after (load_published ∷ []) m.world p.by a; there = m.after; number = m.so_is; seen = sym (ap (λ (c : Actor). c.participant.seen) m.actor) }

@@ -27,12 +27,13 @@ words_of w = length w.writes.history ∷ w.max_evicted ∷ w.delayed_flag ∷ w.
 abbrev pub turn_place : Turn → ℕ
 turn_place turn = turn_index turn + 4
 
--- The shared words, as clauses see them: in which table they lie, the history that was opened, and how many of them are the
--- cache's.
-pub record SharedWords : Type 0 where
+-- The shared words, as clauses see them: in which table they lie, the history that was opened, how many of them are the
+-- cache's, and the values behind the turns as they were handed in.
+pub record SharedWords (S : Type 0) : Type 0 where
   pub table : TableId
   pub opened : List Entry
   pub cells : ℕ
+  pub first : List S
 
 -- a seat of them, by its number
 pub record Place : Type 0 where
@@ -41,11 +42,11 @@ pub record Place : Type 0 where
   pub by : ℕ
 
 -- the place of a seat with this number
-abbrev pub place_of : SharedWords → ℕ → Place
+abbrev pub place_of : {S : Type 0} → SharedWords S → ℕ → Place
 place_of words by = record { opened = words.opened; cells = words.cells; by = by }
 
 -- the same, by what the rule is told
-abbrev pub place_under : Opening → ℕ → Place
+abbrev pub place_under : {S : Type 0} → Opening S → ℕ → Place
 place_under key by = record { opened = key.entries.value.items; cells = key.cells; by = by }
 
 -- a reached world of these words, in which the seat's actor is this one
@@ -54,3 +55,10 @@ pub record IsAt (p : Place) (a : Actor) (w : World) : Type 0 where
   pub opened : w.opened ≡ p.opened
   pub cells : length w.cache ≡ p.cells
   pub there : get_elem? w.actors p.by ≡ some a
+
+-- the seat's actor is this one in a world in which so many entries are published, and it has seen them all
+pub record SawAll (p : Place) (a : Actor) (published : ℕ) : Type 0 where
+  pub world : World
+  pub there : IsAt p a world
+  pub number : published ≡ length world.writes.history
+  pub seen : world.writes.history ≡ a.participant.seen

@@ -2,10 +2,12 @@
 use std::snapshot::Snapshot;
 use wp_model::{Entry, Name};
 
-/// How many words the cache has, and for the proof alone the client of the first seat and the history that is opened.
+/// How many words the cache has, and for the proof alone the client of the first seat, the history that is opened and the values
+/// behind the turns as they were handed in.
 #[derive(Drop)]
-pub struct Opening {
+pub struct Opening<S> {
     pub cells: usize,
     pub client: Snapshot<Name>,
     pub entries: Snapshot<Vec<Entry>>,
+    pub first: Snapshot<Vec<S>>,
 }

@@ -1,5 +1,5 @@
 //! What lies in a slot.
-ghost use Rattle.std.specs.Prelude.{Option};
+ghost use Rattle.std.specs.Prelude.{List, Option};
 ghost use Rattle.wp_core.specs.Tables.{Content};
 
 /// A value behind a turn, or one that stands in its slot while it is out.
@@ -7,8 +7,8 @@ pub trait HoldsPart {
     /// The table that it is; none where it only stands in for one.
     ghost content: { Self → Option Content };
 
-    /// What its devices tell, while its turn is free.
-    ghost tells: { Self → Type 0 };
+    /// What its devices tell, while its turn is free. The list has the values behind the turns as the table was made.
+    ghost tells: { List Self → Self → Type 0 };
 }
 
 /// The values behind the turns of a table that was closed.

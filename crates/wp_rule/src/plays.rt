@@ -1,6 +1,5 @@
 //! What each atomic step tells its seat.
-ghost use Rattle.std.specs.Prelude.{ℕ, List, [], ◌∷◌, ◌+◌, false};
-ghost use Rattle.atomic_table.specs.Table.{rest};
+ghost use Rattle.std.specs.Prelude.{List, [], false};
 ghost use Rattle.wp_core.specs.Turns.{Turn, write_turn};
 ghost use Rattle.wp_core.specs.World.{World, new_actor};
 ghost use Rattle.wp_core.specs.Steps.{Step};
@@ -27,17 +26,21 @@ impl Moves for Brand {
     ghost steps = { λ w. [] };
 }
 
-/// For the proof alone: a seat, and the turn that it takes or gives.
-pub(crate) trait OfTurn {
+/// For the proof alone: a seat, the turn that it takes or gives, and the values behind the turns as the table was made.
+pub(crate) trait OfTurn<S> {
     ghost place: { Place };
 
     ghost turn: { Turn };
+
+    ghost first: { List S };
 }
 
-impl OfTurn for Brand {
+impl<S> OfTurn<S> for Brand {
     ghost place = { record { opened = []; cells = 0; by = 0 } };
 
     ghost turn = { write_turn };
+
+    ghost first = { [] };
 }
 
 pub(crate) struct LoadPlay<J> {
@@ -60,7 +63,7 @@ pub(crate) struct UnclaimPlay<J> {
     of: PhantomData<J>,
 }
 
-impl<S, J: OfTurn> Play<S, Actor> for UnclaimPlay<J> {
+impl<S, J: OfTurn<S>> Play<S, Actor> for UnclaimPlay<J> {
     ghost then = { unclaims J.place J.turn };
 }
 
@@ -68,8 +71,8 @@ pub(crate) struct ClaimPlay<S, J> {
     of: PhantomData<(S, J)>,
 }
 
-impl<S: HoldsPart, J: OfTurn> Play<S, Actor> for ClaimPlay<S, J> {
-    ghost then = { claims S.content S.tells J.place J.turn };
+impl<S: HoldsPart, J: OfTurn<S>> Play<S, Actor> for ClaimPlay<S, J> {
+    ghost then = { claims S.content (S.tells J.first) J.place J.turn };
 }
 
 pub(crate) struct NoteSplit;

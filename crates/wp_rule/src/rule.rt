@@ -13,8 +13,8 @@ pub struct Rule<S> {
     of: PhantomData<S>,
 }
 
-impl<S: HoldsPart> TableRule<S, Actor, Opening> for Rule<S> {
-    ghost holds = { λ key. Shows S.content S.tells key.entries.value.items key.cells };
+impl<S: HoldsPart> TableRule<S, Actor, Opening<S>> for Rule<S> {
+    ghost holds = { λ key. Shows S.content (S.tells key.first.value.items) key.entries.value.items key.cells };
 
     ghost first = { λ key. new_actor true key.client.value key.entries.value.items };
 }

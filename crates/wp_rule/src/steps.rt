@@ -1,5 +1,5 @@
 //! The atomic steps of the table, each for all the calls of its kind.
-ghost use Rattle.std.specs.Prelude.{◌≡◌, ℕ, ◌+◌, ◌<◌, [], ◌∷◌, true, slice_index, MatchBool};
+ghost use Rattle.std.specs.Prelude.{◌≡◌, ◌+◌, ◌<◌, [], ◌∷◌, true, slice_index, MatchBool};
 ghost use Rattle.atomic_table.specs.Table.{rest};
 ghost use Rattle.wp_core.specs.Steps.{give_turn};
 ghost use Rattle.wp_machine.specs.Parts.{turn_of};
@@ -17,7 +17,7 @@ use wp_machine::{Actor, Turn};
 const FIRST_TURN: usize = 4;
 
 /// The table in which the words and the slots lie.
-pub(crate) type WordTable<S> = Shared<S, Actor, Opening, Rule<S>>;
+pub(crate) type WordTable<S> = Shared<S, Actor, Opening<S>, Rule<S>>;
 
 pub(crate) fn load<S: HoldsPart, J: Moves>(
     table: &WordTable<S>,
@@ -56,29 +56,30 @@ pub(crate) fn turn_place(turn: Turn) -> usize
 }
 
 /// One try to take a turn.
-pub(crate) fn claim<S: HoldsPart, J: OfTurn>(
+pub(crate) fn claim<S: HoldsPart, J: OfTurn<S>>(
     table: &WordTable<S>,
     seat: &mut Seat<S, Actor>,
     turn: Turn,
 ) -> bool
     requires seat { (seat.old.table_id ≡ table.now.table_id) × (J.place ≡ place_under table.now.key seat.old.id) }
     requires turn { (J.turn ≡ turn_of turn) × (9 < table.now.table_id.words) }
+    requires first { J.first ≡ table.now.key.first.value.items }
     requires live { seat.old.me.0.live ≡ true }
     ensures same { (seat.new.table_id ≡ seat.old.table_id) × (seat.new.id ≡ seat.old.id) }
-    ensures claimed { MatchBool result (Claimed S.content S.tells J.place J.turn seat.old.me seat.new.me) (WasHeld S.content S.tells J.place J.turn seat.old.me seat.new.me) }
+    ensures claimed { MatchBool result (Claimed S.content (S.tells J.first) J.place J.turn seat.old.me seat.new.me) (WasHeld S.content (S.tells J.first) J.place J.turn seat.old.me seat.new.me) }
 {
     table.compare_exchange::<ClaimPlay<S, J>>(seat, turn_place(turn), 0, 1) == 0
 }
 
 /// Gives a turn.
-pub(crate) fn unclaim<S: HoldsPart, J: OfTurn>(
+pub(crate) fn unclaim<S: HoldsPart, J: OfTurn<S>>(
     table: &WordTable<S>,
     seat: &mut Seat<S, Actor>,
     turn: Turn,
 )
     requires seat { (seat.old.table_id ≡ table.now.table_id) × (J.place ≡ place_under table.now.key seat.old.id) }
     requires turn { (J.turn ≡ turn_of turn) × (9 < table.now.table_id.words) }
-    requires held { MayUnclaim S.content S.tells J.place J.turn seat.old.me }
+    requires held { MayUnclaim S.content (S.tells table.now.key.first.value.items) J.place J.turn seat.old.me }
     ensures same { (seat.new.table_id ≡ seat.old.table_id) × (seat.new.id ≡ seat.old.id) × (seat.new.me.1 ≡ rest seat.old.me.1) }
     ensures moved { Moved J.place (λ w. give_turn J.turn ∷ []) (λ w. Unit {0}) seat.old.me.0 seat.new.me.0 }
 {

@@ -1,5 +1,5 @@
 //! Words over a made-up store. What lies in a slot is the name of its turn.
-ghost use Rattle.std.specs.Prelude.{◌≡◌, [], ◌∷◌, List, IfOk, true};
+ghost use Rattle.std.specs.Prelude.{◌≡◌, [], ◌∷◌, IfOk, true};
 ghost use Rattle.wp_core.specs.World.{new_actor};
 ghost use Rattle.wp_machine.specs.declared.turn.Turn.TheVariants as turn;
 ghost use Rattle.wp_rule.specs.MadeUp.{made_up_table, one_write, client};
@@ -7,6 +7,7 @@ ghost use Rattle.wp_rule.specs.MadeUp.{made_up_table, one_write, client};
 use crate::{HoldsPart, Parts, Turn, WordSeat, Words};
 use std::alloc::{AllocError, Global};
 use std::marker::Brand;
+use std::snapshot::Snapshot;
 use std::test::*;
 use wp_model::{Batch, Change, Entry, Key, Name, Value};
 
@@ -19,7 +20,7 @@ struct Stub {
 impl HoldsPart for Stub {
     ghost content = { λ stub. made_up_table stub.turn };
 
-    ghost tells = { λ stub. Unit {0} };
+    ghost tells = { λ first stub. Unit {0} };
 }
 
 fn behind(turn: Turn) -> Stub
@@ -56,7 +57,8 @@ fn opened(alloc: Global) -> Result<(Words<Stub>, WordSeat<Stub>), Fail>
     ensures seat { IfOk result (λ r. (r.1.table_id ≡ r.0.table) × (r.1.id ≡ 0) × (r.1.me ≡ (new_actor true client one_write, []))) }
 {
     let name = Name::read(alloc, b"a")?;
-    match Words::new(alloc, &name, &entries(alloc)?, 1, 0, stubs(alloc)?) {
+    let entries = Snapshot::of(&entries(alloc)?);
+    match Words::new(alloc, &name, entries, 1, 1, 0, stubs(alloc)?) {
         Ok(made) => Ok(made),
         Err(_) => Err(Fail::from("no memory for the words")),
     }

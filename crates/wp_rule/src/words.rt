@@ -1,17 +1,16 @@
 //! The table of the shared words, and the calls on it.
-ghost use Rattle.std.specs.Prelude.{◌≡◌, ℕ, ◌+◌, ◌<◌, ◌≤◌, ◌≢◌, [], ◌∷◌, List, true, false, length, replicate, slice_index, slice_get, Some, None, IfOk, IfErr, MatchBool};
-ghost use mathlib.Core.Option.{some};
+ghost use Rattle.std.specs.Prelude.{◌≡◌, ◌+◌, ◌<◌, ◌≤◌, [], ◌∷◌, List, true, false, length, replicate, slice_index, Some, IfOk, IfErr, MatchBool};
 ghost use Rattle.atomic_table.specs.Table.{rest};
 ghost use Rattle.wp_model.specs.declared.entry.Entry.{Entry};
 ghost use Rattle.wp_model.specs.Legal.{IsLegal};
-ghost use Rattle.wp_core.specs.World.{Actor, World, new_actor};
+ghost use Rattle.wp_core.specs.World.{new_actor};
 ghost use Rattle.wp_core.specs.Steps as step;
 ghost use Rattle.wp_core.specs.Steps.{store_max_evicted, give_turn, note};
-ghost use Rattle.wp_core.specs.Changes.{sees, made_one, informed, joins, turn_index};
+ghost use Rattle.wp_core.specs.Changes.{sees, made_one, joins, turn_index};
 ghost use Rattle.wp_core.specs.Sound.Actors.{StartsWith};
 ghost use Rattle.wp_core.specs.Views.{delayed_flag_stays, old_flag_stays};
 ghost use Rattle.wp_machine.specs.Parts.{turn_of};
-ghost use Rattle.wp_rule.specs.Words.{Place, place_of, words_of, turn_place};
+ghost use Rattle.wp_rule.specs.Words.{place_of, SawAll};
 ghost use Rattle.wp_rule.specs.Moves.{MayMake, MayStep, MayPublishAs, Moved, storing_max, storing_word};
 ghost use Rattle.wp_rule.specs.Shows.{Founds, Leaves};
 ghost use Rattle.wp_rule.specs.Ends.{part_of};
@@ -50,16 +49,16 @@ pub type WordSeat<S> = Seat<S, Actor>;
 /// The shared words with the slots behind their turns, under the rule.
 #[derive(Drop)]
 pub struct Words<S: HoldsPart + Drop> {
-    table: Table<S, Actor, Opening, Rule<S>, Global>,
+    table: Table<S, Actor, Opening<S>, Rule<S>, Global>,
 }
 
 impl<S: HoldsPart + Drop> Model for Words<S> {
     ghost use Rattle.std.specs.Prelude.{◌≡◌, ◌+◌, ◌≤◌};
     ghost use Rattle.wp_rule.specs.Words.{SharedWords};
 
-    ghost Value = { SharedWords };
+    ghost Value = { SharedWords S };
 
-    ghost view = { λ w. record { table = w.table.shared.table_id; opened = w.table.shared.key.entries.value.items; cells = w.table.shared.key.cells } };
+    ghost view = { λ w. record { table = w.table.shared.table_id; opened = w.table.shared.key.entries.value.items; cells = w.table.shared.key.cells; first = w.table.shared.key.first.value.items } };
 
     ghost invariant = { λ w. (w.table.shared.table_id.words ≡ w.table.shared.key.cells + 10) × (w.table.shared.table_id.slots ≡ 6) × (w.table.shared.key.cells ≤ 65536) };
 }
@@ -82,29 +81,33 @@ fn first_words(
 }
 
 impl<S: HoldsPart + Drop> Words<S> {
-    /// Makes the table, with its first seat, the client's. The slots are the values behind the turns, in their order. They come
-    /// back where memory is wanting.
+    /// Makes the table, with its first seat, the client's. The entries are the history that is opened, and all of them are
+    /// published. The slots are the values behind the turns, in their order. They come back where memory is wanting.
     pub fn new(
         alloc: Global,
         client: &Name,
-        entries: &Vec<Entry>,
+        entries: Snapshot<Vec<Entry>>,
+        published: Seq,
         cells: usize,
         delayed_flag: u64,
         slots: Vec<S>,
     ) -> Result<(Words<S>, WordSeat<S>), Vec<S>>
-        requires parts { Founds S.content S.tells client.now entries.now.items cells delayed_flag slots.items }
+        requires parts { Founds S.content (S.tells slots.items) client.now entries.value.items cells delayed_flag slots.items }
+        requires published { published ≡ length entries.value.items }
         requires cells { cells ≤ 65536 }
-        ensures words { IfOk result (λ r. (r.0.opened ≡ entries.now.items) × (r.0.cells ≡ cells)) }
-        ensures seat { IfOk result (λ r. (r.1.table_id ≡ r.0.table) × (r.1.id ≡ 0) × (r.1.me ≡ (new_actor true client.now entries.now.items, []))) }
+        ensures words { IfOk result (λ r. (r.0.opened ≡ entries.value.items) × (r.0.cells ≡ cells) × (r.0.first ≡ slots.items)) }
+        ensures seat { IfOk result (λ r. (r.1.table_id ≡ r.0.table) × (r.1.id ≡ 0) × (r.1.me ≡ (new_actor true client.now entries.value.items, []))) }
+        ensures stands { IfOk result (λ r. SawAll (place_of r.0 0) r.1.me.0 published) }
         ensures refused { IfErr result (λ all. all.items ≡ slots.items) }
     {
-        let Ok(words) = first_words(alloc, entries.len() as u64, delayed_flag, cells) else {
+        let Ok(words) = first_words(alloc, published, delayed_flag, cells) else {
             return Err(slots);
         };
         let opening = Opening {
             cells,
             client: Snapshot::of(client),
-            entries: Snapshot::of(entries),
+            entries,
+            first: Snapshot::of(&slots),
         };
         match Table::new(alloc, words.as_slice(), slots, &opening) {
             Ok((table, seat)) => Ok((Words { table }, seat)),
@@ -118,6 +121,7 @@ impl<S: HoldsPart + Drop> Words<S> {
         ensures same { (seat.new.table_id ≡ seat.old.table_id) × (seat.new.id ≡ seat.old.id) }
         ensures seen { (h : List Entry) × (seat.new.me ≡ (sees h seat.old.me.0, seat.old.me.1)) × (result ≡ length h)
             × StartsWith h seat.old.me.0.participant.seen × StartsWith h seat.old.me.0.learned × IsLegal h }
+        ensures stands { SawAll (place_of self.now seat.new.id) seat.new.me.0 result }
     {
         steps::load::<S, Brand>(&self.table.shared, seat, PUBLISHED)
     }
@@ -236,8 +240,8 @@ impl<S: HoldsPart + Drop> Words<S> {
         requires live { seat.old.me.0.live ≡ true }
         ensures same { (seat.new.table_id ≡ seat.old.table_id) × (seat.new.id ≡ seat.old.id) }
         ensures turn { MatchBool result
-            (Claimed S.content S.tells (place_of self.now seat.old.id) (turn_of turn) seat.old.me seat.new.me)
-            (WasHeld S.content S.tells (place_of self.now seat.old.id) (turn_of turn) seat.old.me seat.new.me) }
+            (Claimed S.content (S.tells self.now.first) (place_of self.now seat.old.id) (turn_of turn) seat.old.me seat.new.me)
+            (WasHeld S.content (S.tells self.now.first) (place_of self.now seat.old.id) (turn_of turn) seat.old.me seat.new.me) }
     {
         steps::claim::<S, Brand>(&self.table.shared, seat, turn)
     }
@@ -245,7 +249,7 @@ impl<S: HoldsPart + Drop> Words<S> {
     /// Gives the turn that was taken last, with the value that lies in its slot.
     pub fn unclaim(&self, seat: &mut WordSeat<S>, turn: Turn)
         requires seat { seat.old.table_id ≡ self.now.table }
-        requires turn { MayUnclaim S.content S.tells (place_of self.now seat.old.id) (turn_of turn) seat.old.me }
+        requires turn { MayUnclaim S.content (S.tells self.now.first) (place_of self.now seat.old.id) (turn_of turn) seat.old.me }
         ensures same { (seat.new.table_id ≡ seat.old.table_id) × (seat.new.id ≡ seat.old.id) × (seat.new.me.1 ≡ rest seat.old.me.1) }
         ensures moved { Moved (place_of self.now seat.old.id) (λ w. give_turn (turn_of turn) ∷ []) (λ w. Unit {0}) seat.old.me.0 seat.new.me.0 }
     {
@@ -257,7 +261,7 @@ impl<S: HoldsPart + Drop> Words<S> {
     pub fn exchange(&self, seat: &mut WordSeat<S>, turn: Turn, value: S) -> S
         requires seat { seat.old.table_id ≡ self.now.table }
         requires turn { (x : S) × (seat.old.me.1 ≡ (turn_index (turn_of turn), x) ∷ rest seat.old.me.1) }
-        requires value { MayLie S.content S.tells (turn_of turn) seat.old.me.0 value }
+        requires value { MayLie S.content (S.tells self.now.first) (turn_of turn) seat.old.me.0 value }
         ensures same { (seat.new.table_id ≡ seat.old.table_id) × (seat.new.id ≡ seat.old.id) }
         ensures out { seat.old.me.1 ≡ (turn_index (turn_of turn), result) ∷ rest seat.old.me.1 }
         ensures home { seat.new.me ≡ (seat.old.me.0, (turn_index (turn_of turn), value) ∷ rest seat.old.me.1) }
@@ -292,6 +296,7 @@ impl<S: HoldsPart + Drop> Words<S> {
         ensures same { (seat.new.table_id ≡ seat.old.table_id) × (seat.new.id ≡ seat.old.id) }
         ensures seen { (h : List Entry) × (seat.new.me ≡ (sees h seat.old.me.0, seat.old.me.1)) × (result ≡ length h)
             × StartsWith h note.me.0.participant.seen × StartsWith h seat.old.me.0.participant.seen × IsLegal h }
+        ensures stands { SawAll (place_of self.now seat.new.id) seat.new.me.0 result }
     {
         self.table.shared.join_seat::<LearnJoin>(seat, note);
         self.load_published(seat)
@@ -311,7 +316,7 @@ impl<S: HoldsPart + Drop> Words<S> {
     pub fn close(self, first: WordSeat<S>) -> Parts<S>
         requires first { (first.table_id ≡ self.table) × (first.id ≡ 0) × (first.me.1 ≡ []) }
         requires all { (first.me.0.held ≡ []) × (first.me.0.made ≡ length first.me.0.joined) }
-        ensures { Leaves S.content S.tells (place_of self 0) first.me.0 (part_of result) }
+        ensures { Leaves S.content (S.tells self.first) (place_of self 0) first.me.0 (part_of result) }
     {
         let Words { table } = self;
         let mut closed = table.close_with(first);

@@ -1,6 +1,6 @@
 use Rattle.std.proofs.Common.{[], Option}
 use Rattle.wp_core.specs.Tables.{Content}
-use Rattle.wp_core.specs.Turns.{locks_turn, store_turn, snapshots_turn, prepared_turn, write_turn, tables_turn}
+use Rattle.wp_core.specs.Turns.{store_turn, snapshots_turn, prepared_turn, write_turn, tables_turn}
 use Rattle.wp_rule.specs.declared.tests.Stub.{Stub}
 use Rattle.wp_rule.specs.MadeUp.{made_up_table}
 use Rattle.wp_rule.proofs.TurnsTaken.{one, two, three, four, all_taken, may_give_last, five_left, four_left, three_left, two_left, one_left, none_left}
