@@ -1,1 +1,5 @@
 pub mod Seats
+pub mod Parts
+pub mod Turns
+pub mod Clients
+pub mod Ending

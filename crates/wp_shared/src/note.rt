@@ -1,7 +1,10 @@
 //! Notes: what one seat has seen, for another to learn.
 ghost use Rattle.std.specs.Prelude.{◌≡◌, length};
+ghost use Rattle.wp_model.specs.Legal.{IsLegal};
 ghost use Rattle.wp_core.specs.Sound.Actors.{StartsWith};
 ghost use Rattle.wp_core.specs.Changes.{sees};
+ghost use Rattle.wp_rule.specs.Words.{SawAll};
+ghost use Rattle.wp_shared.specs.Seats.{place_at};
 
 use crate::part::Part;
 use crate::seat::Seat;
@@ -60,7 +63,8 @@ impl<D: Disk + Drop> Shared<D> {
         requires { (seat.old.table ≡ self.now.table) × (note.table ≡ self.now.table) }
         ensures same { (seat.new.table ≡ seat.old.table) × (seat.new.by ≡ seat.old.by) × (seat.new.turns ≡ seat.old.turns) }
         ensures seen { (result ≡ length seat.new.knows.participant.seen) × StartsWith seat.new.knows.participant.seen note.seen
-            × StartsWith seat.new.knows.participant.seen seat.old.knows.participant.seen }
+            × StartsWith seat.new.knows.participant.seen seat.old.knows.participant.seen × IsLegal seat.new.knows.participant.seen }
+        ensures stands { SawAll (place_at self.now seat.new.by) seat.new.knows result }
         ensures rest { seat.new.knows ≡ sees seat.new.knows.participant.seen seat.old.knows }
     {
         let Note { badge } = note;

@@ -10,6 +10,8 @@ ghost use Rattle.wp_core.specs.Steps as step;
 ghost use Rattle.wp_core.specs.Steps.{store_max_evicted, note};
 ghost use Rattle.wp_core.specs.Views.{delayed_flag_stays, old_flag_stays};
 ghost use Rattle.wp_rule.specs.Moves.{MayMake, MayStep, MayPublishAs, Moved, storing_max, storing_word};
+ghost use Rattle.wp_core.specs.World.{World};
+ghost use Rattle.wp_shared.specs.Clients.{KeepClient};
 ghost use Rattle.wp_shared.specs.Seats.{place_at};
 
 use crate::seat::Seat;
@@ -23,6 +25,7 @@ impl<D: Disk + Drop> Shared<D> {
     pub fn make<J: Moves>(&self, seat: &mut Seat<D>) -> Seq
         requires seat { (seat.old.table ≡ self.now.table) × (J.place ≡ place_at self.now seat.old.by) }
         requires may { MayMake J.place seat.old.knows J.steps }
+        requires client { (w : World) → KeepClient (J.steps w) }
         ensures same { (seat.new.table ≡ seat.old.table) × (seat.new.by ≡ seat.old.by) × (seat.new.turns ≡ seat.old.turns) }
         ensures moved { Moved J.place J.steps (λ w. result ≡ length w.writes.history) seat.old.knows seat.new.knows }
     {
@@ -33,6 +36,7 @@ impl<D: Disk + Drop> Shared<D> {
     pub fn load_max<J: Moves>(&self, seat: &mut Seat<D>) -> Seq
         requires seat { (seat.old.table ≡ self.now.table) × (J.place ≡ place_at self.now seat.old.by) }
         requires may { MayMake J.place seat.old.knows J.steps }
+        requires client { (w : World) → KeepClient (J.steps w) }
         ensures same { (seat.new.table ≡ seat.old.table) × (seat.new.by ≡ seat.old.by) × (seat.new.turns ≡ seat.old.turns) }
         ensures moved { Moved J.place J.steps (λ w. result ≡ w.max_evicted) seat.old.knows seat.new.knows }
     {
@@ -44,6 +48,7 @@ impl<D: Disk + Drop> Shared<D> {
         requires seat { (seat.old.table ≡ self.now.table) × (J.place ≡ place_at self.now seat.old.by) }
         requires word { i < self.now.cells }
         requires may { MayMake J.place seat.old.knows J.steps }
+        requires client { (w : World) → KeepClient (J.steps w) }
         ensures same { (seat.new.table ≡ seat.old.table) × (seat.new.by ≡ seat.old.by) × (seat.new.turns ≡ seat.old.turns) }
         ensures moved { Moved J.place J.steps (λ w. result ≡ slice_index w.cache i) seat.old.knows seat.new.knows }
     {
@@ -54,6 +59,7 @@ impl<D: Disk + Drop> Shared<D> {
     pub fn load_delayed_flag<J: Moves>(&self, seat: &mut Seat<D>) -> u64
         requires seat { (seat.old.table ≡ self.now.table) × (J.place ≡ place_at self.now seat.old.by) }
         requires may { MayMake J.place seat.old.knows J.steps }
+        requires client { (w : World) → KeepClient (J.steps w) }
         ensures same { (seat.new.table ≡ seat.old.table) × (seat.new.by ≡ seat.old.by) × (seat.new.turns ≡ seat.old.turns) }
         ensures moved { Moved J.place J.steps (λ w. result ≡ w.delayed_flag) seat.old.knows seat.new.knows }
     {
@@ -64,6 +70,7 @@ impl<D: Disk + Drop> Shared<D> {
     pub fn load_old_flag<J: Moves>(&self, seat: &mut Seat<D>) -> u64
         requires seat { (seat.old.table ≡ self.now.table) × (J.place ≡ place_at self.now seat.old.by) }
         requires may { MayMake J.place seat.old.knows J.steps }
+        requires client { (w : World) → KeepClient (J.steps w) }
         ensures same { (seat.new.table ≡ seat.old.table) × (seat.new.by ≡ seat.old.by) × (seat.new.turns ≡ seat.old.turns) }
         ensures moved { Moved J.place J.steps (λ w. result ≡ w.old_flag) seat.old.knows seat.new.knows }
     {

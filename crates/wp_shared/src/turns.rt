@@ -1,5 +1,5 @@
 //! Turns: a seat takes a turn with the value behind it, and gives both.
-ghost use Rattle.std.specs.Prelude.{◌≡◌, ◌∷◌, ◌++◌, true};
+ghost use Rattle.std.specs.Prelude.{◌≡◌, ◌∷◌, true};
 ghost use Rattle.wp_core.specs.Changes.{turn_index};
 ghost use Rattle.wp_machine.specs.Parts.{turn_of};
 ghost use Rattle.wp_shared.specs.Turns.{Taken, MayBeGiven, Given};
@@ -63,6 +63,7 @@ impl<D: Disk + Drop> Shared<D> {
         ensures given { Given self.now seat.old seat.new held.part }
     {
         let Held { part } = held;
+        part.stands();
         let turn = part.turn();
         self.words.exchange(&mut seat.seat, turn, part);
         self.words.unclaim(&mut seat.seat, turn);
