@@ -47,7 +47,7 @@ place_of words by = record { opened = words.opened; cells = words.cells; by = by
 
 -- the same, by what the rule is told
 abbrev pub place_under : {S : Type 0} → Opening S → ℕ → Place
-place_under key by = record { opened = key.entries.value.items; cells = key.cells; by = by }
+place_under key by = record { opened = key.entries.value.entries; cells = key.cells; by = by }
 
 -- a reached world of these words, in which the seat's actor is this one
 pub record IsAt (p : Place) (a : Actor) (w : World) : Type 0 where

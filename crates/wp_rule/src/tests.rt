@@ -9,6 +9,7 @@ use std::alloc::{AllocError, Global};
 use std::marker::Brand;
 use std::snapshot::Snapshot;
 use std::test::*;
+use wp_history::History;
 use wp_model::{Batch, Change, Entry, Key, Name, Value};
 
 /// It stands for its turn's table in the world that is opened on one write.
@@ -42,13 +43,18 @@ fn stubs(alloc: Global) -> Result<Vec<Stub>, AllocError>
     Ok(slots)
 }
 
-fn entries(alloc: Global) -> Result<Vec<Entry>, Fail>
-    ensures { IfOk result (λ v. v.items ≡ one_write) }
+fn history(alloc: Global) -> Result<History, Fail>
+    ensures { IfOk result (λ h. h.entries ≡ one_write) }
 {
     let change = Change::Put(Key::read(alloc, b"k")?, Value::read(alloc, b"v")?);
-    let mut entries = Vec::with_capacity(alloc, 1)?;
-    entries.push(Entry::Write(Batch::of(alloc, change)?))?;
-    Ok(entries)
+    let write = Entry::Write(Batch::of(alloc, change)?);
+    let mut history = History::new(alloc);
+    history.reserve(1)?;
+    if !history.is_legal_next(&write) {
+        return Err(Fail::from("a first write is legal"));
+    }
+    history.push(write);
+    Ok(history)
 }
 
 /// The words with their first seat.
@@ -57,7 +63,7 @@ fn opened(alloc: Global) -> Result<(Words<Stub>, WordSeat<Stub>), Fail>
     ensures seat { IfOk result (λ r. (r.1.table_id ≡ r.0.table) × (r.1.id ≡ 0) × (r.1.me ≡ (new_actor true client one_write, []))) }
 {
     let name = Name::read(alloc, b"a")?;
-    let entries = Snapshot::of(&entries(alloc)?);
+    let entries = Snapshot::of(&history(alloc)?);
     match Words::new(alloc, &name, entries, 1, 1, 0, stubs(alloc)?) {
         Ok(made) => Ok(made),
         Err(_) => Err(Fail::from("no memory for the words")),

@@ -30,8 +30,9 @@ use std::alloc::{AllocError, Global};
 use std::marker::{Brand, Model};
 use std::snapshot::Snapshot;
 use std::sync::Wait;
+use wp_history::History;
 use wp_machine::{Actor, Turn};
-use wp_model::{Entry, Name, Seq};
+use wp_model::{Name, Seq};
 
 const PUBLISHED: usize = 0;
 
@@ -58,7 +59,7 @@ impl<S: HoldsPart + Drop> Model for Words<S> {
 
     ghost Value = { SharedWords S };
 
-    ghost view = { λ w. record { table = w.table.shared.table_id; opened = w.table.shared.key.entries.value.items; cells = w.table.shared.key.cells; first = w.table.shared.key.first.value.items } };
+    ghost view = { λ w. record { table = w.table.shared.table_id; opened = w.table.shared.key.entries.value.entries; cells = w.table.shared.key.cells; first = w.table.shared.key.first.value.items } };
 
     ghost invariant = { λ w. (w.table.shared.table_id.words ≡ w.table.shared.key.cells + 10) × (w.table.shared.table_id.slots ≡ 6) × (w.table.shared.key.cells ≤ 65536) };
 }
@@ -86,17 +87,17 @@ impl<S: HoldsPart + Drop> Words<S> {
     pub fn new(
         alloc: Global,
         client: &Name,
-        entries: Snapshot<Vec<Entry>>,
+        entries: Snapshot<History>,
         published: Seq,
         cells: usize,
         delayed_flag: u64,
         slots: Vec<S>,
     ) -> Result<(Words<S>, WordSeat<S>), Vec<S>>
-        requires parts { Founds S.content (S.tells slots.items) client.now entries.value.items cells delayed_flag slots.items }
-        requires published { published ≡ length entries.value.items }
+        requires parts { Founds S.content (S.tells slots.items) client.now entries.value.entries cells delayed_flag slots.items }
+        requires published { published ≡ length entries.value.entries }
         requires cells { cells ≤ 65536 }
-        ensures words { IfOk result (λ r. (r.0.opened ≡ entries.value.items) × (r.0.cells ≡ cells) × (r.0.first ≡ slots.items)) }
-        ensures seat { IfOk result (λ r. (r.1.table_id ≡ r.0.table) × (r.1.id ≡ 0) × (r.1.me ≡ (new_actor true client.now entries.value.items, []))) }
+        ensures words { IfOk result (λ r. (r.0.opened ≡ entries.value.entries) × (r.0.cells ≡ cells) × (r.0.first ≡ slots.items)) }
+        ensures seat { IfOk result (λ r. (r.1.table_id ≡ r.0.table) × (r.1.id ≡ 0) × (r.1.me ≡ (new_actor true client.now entries.value.entries, []))) }
         ensures stands { IfOk result (λ r. SawAll (place_of r.0 0) r.1.me.0 published) }
         ensures refused { IfErr result (λ all. all.items ≡ slots.items) }
     {
