@@ -1,18 +1,11 @@
 -- One number moves from the heap to the delayed set.
-use Rattle.std.proofs.Common.{◌≡◌, ℕ, ◌+◌, ◌-◌, ◌≤◌, Bool, true, false, cond, not, inl, inr, ◌&&◌, ◌||◌, nat_lt, nat_le, refl, sym, ap, ◌∙◌, arith}
-use Rattle.std.specs.Cmp.{nat_cmp_total, unsigned_tied}
+use Rattle.std.proofs.Common.{◌≡◌, ℕ, ◌+◌, ◌-◌, ◌≤◌, Bool, true, false, cond, inl, inr, ◌&&◌, ◌||◌, nat_lt, nat_le, Result, Ok, Err, OnOk, OnErr, refl, sym, ap, ◌∙◌, arith}
+use Rattle.std.specs.Cmp.{nat_cmp_total}
 use Rattle.std.specs.Ordering.{nat_cmp}
-use Rattle.std.specs.FinSet.{FinSet, contains, insert, remove, len, contains-empty, contains-insert, contains-remove, len-remove, empty_of_len}
-use Rattle.std.proofs.lemmas.Bool.{cases_eq, eq-eqb, ne_eqb, le-ltb, le-leb, both_ways, cond_both}
-
-contains-insert_here : (s : FinSet nat_cmp) (k q : ℕ) → q ≡ k → contains (insert s k) q ≡ true
-contains-insert_here s k q same = contains-insert nat_cmp_total s k q ∙ ap (λ b. b || contains s q) (unsigned_tied q k ∙ eq-eqb q k same)
-
-contains-insert_apart : (s : FinSet nat_cmp) (k q : ℕ) → (q ≡ k → ⊥) → contains (insert s k) q ≡ contains s q
-contains-insert_apart s k q apart = contains-insert nat_cmp_total s k q ∙ ap (λ b. b || contains s q) (unsigned_tied q k ∙ ne_eqb q k apart)
-
-contains-remove_apart : (s : FinSet nat_cmp) (k q : ℕ) → (q ≡ k → ⊥) → contains (remove s k) q ≡ contains s q
-contains-remove_apart s k q apart = contains-remove nat_cmp_total s k q ∙ ap (λ b. not b && contains s q) (unsigned_tied q k ∙ ne_eqb q k apart)
+use Rattle.std.specs.declared.alloc.AllocError.{AllocError}
+use Rattle.std.specs.FinSet.{FinSet, contains, insert, remove, len, contains-empty, len-insert, len-remove, empty_of_len}
+use Rattle.std.proofs.lemmas.Bool.{cases_eq, le-ltb, le-leb, both_ways, cond_both}
+use Rattle.wp_prepared.proofs.Members.{contains-insert_here, contains-insert_apart, contains-remove_apart}
 
 and-false : (b : Bool) → (b && false) ≡ false
 and-false true = refl
@@ -47,3 +40,10 @@ len-without s p there =
 
 pub len-remove_le : (s : FinSet nat_cmp) (p : ℕ) → len (remove s p) ≤ len s
 len-remove_le s p = rw (len-remove nat_cmp_total s p) (cond_both (contains s p) (len s - 1) (len s) (λ n. n ≤ len s) (λ _. omega arith) (λ _. omega arith))
+
+-- memory for one number more serves the heap with p, and also without it
+pub added_fits : (old new : FinSet nat_cmp) (p most room : ℕ) (r : Result (Unit {0}) AllocError) → len old ≤ most → most + 1 ≤ room → OnOk r (new ≡ insert old p) → OnErr r (new ≡ old) → len new ≤ room
+added_fits old new p most room (Ok done) le fits ok err =
+    let more = ap len ok ∙ len-insert nat_cmp_total old p in
+    rw more (cond_both (contains old p) (len old) (len old + 1) (λ n. n ≤ room) (λ _. omega (arith, le, fits)) (λ _. omega (arith, le, fits)))
+added_fits old new p most room (Err why) le fits ok err = omega (arith, ap len err, le, fits)

@@ -17,9 +17,9 @@ use Rattle.wp_rule.specs.Shows.{IsPart}
 use Rattle.wp_rule.specs.Plays.{taking, with_turn, Claimed, MayLie, MayUnclaim, IsLeft}
 use Rattle.wp_rule.specs.Knows.{Noted}
 use Rattle.wp_rule.proofs.Outlasting.{outlasts}
-use Rattle.wp_shared.specs.declared.part.Part.{Part}
-use Rattle.wp_shared.specs.declared.part.Part.TheVariants as part
-use Rattle.wp_shared.specs.Parts.{content, tells}
+use Rattle.wp_guarded.specs.declared.part.Part.{Part}
+use Rattle.wp_guarded.specs.declared.part.Part.TheVariants as part
+use Rattle.wp_guarded.specs.Parts.{content, tells}
 use Rattle.wp_shared.specs.Seats.{SharedState, SeatState, AllAway, turns_of, place_at}
 use Rattle.wp_shared.specs.Turns.{Taken, MayBeGiven, Given}
 

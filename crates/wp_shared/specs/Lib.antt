@@ -1,5 +1,4 @@
 pub mod Seats
-pub mod Parts
 pub mod Turns
 pub mod Clients
 pub mod Ending

@@ -4,8 +4,8 @@ use Rattle.atomic_table.specs.Seated.{TableId}
 use Rattle.wp_model.specs.declared.entry.Entry.{Entry}
 use Rattle.wp_core.specs.World.{Actor, World}
 use Rattle.wp_rule.specs.Words.{Place, IsAt}
-use Rattle.wp_shared.specs.declared.part.Part.{Part}
-use Rattle.wp_shared.specs.declared.part.Part.TheVariants as part
+use Rattle.wp_guarded.specs.declared.part.Part.{Part}
+use Rattle.wp_guarded.specs.declared.part.Part.TheVariants as part
 
 -- The store: which table it is, the history that was opened, how many words its cache has, the values behind the turns as
 -- they were handed in, and the greatest number that an entry may get.

@@ -4,9 +4,9 @@ ghost use Rattle.wp_core.specs.Changes.{joins};
 ghost use Rattle.wp_rule.specs.Ends.{part_of};
 ghost use Rattle.wp_shared.specs.Ending.{IsFree, AllFree, AreAll, Remains};
 
-use crate::part::Part;
 use crate::seat::Seat;
 use crate::shared::Shared;
+use wp_guarded::Part;
 use wp_outside::Disk;
 use wp_rule::Parts;
 

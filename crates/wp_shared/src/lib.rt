@@ -14,15 +14,15 @@
 #![tactic(auto)]
 
 mod ending;
+mod held;
 mod note;
-mod part;
 mod seat;
 mod shared;
 mod steps;
 mod turns;
 
+pub use held::Held;
 pub use note::Note;
-pub use part::Part;
 pub use seat::Seat;
 pub use shared::Shared;
-pub use turns::Held;
+pub use wp_guarded::Part;

@@ -6,12 +6,12 @@ ghost use Rattle.wp_core.specs.Changes.{sees};
 ghost use Rattle.wp_rule.specs.Words.{SawAll};
 ghost use Rattle.wp_shared.specs.Seats.{place_at};
 
-use crate::part::Part;
 use crate::seat::Seat;
 use crate::shared::Shared;
 use atomic_table::Badge;
 use std::marker::Model;
 use std::mem;
+use wp_guarded::Part;
 use wp_model::Seq;
 use wp_outside::Disk;
 use wp_rule::{Actor, WordSeat};

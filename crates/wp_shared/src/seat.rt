@@ -1,8 +1,8 @@
 //! A client's place at the shared store.
 ghost use Rattle.std.specs.Prelude.{◌≡◌};
 
-use crate::part::Part;
 use std::marker::Model;
+use wp_guarded::Part;
 use wp_model::Name;
 use wp_outside::Disk;
 use wp_rule::WordSeat;

@@ -8,9 +8,9 @@ ghost use Rattle.wp_core.specs.World.{World, new_actor};
 ghost use Rattle.wp_rule.specs.Words.{place_of, SawAll};
 ghost use Rattle.wp_shared.specs.Seats.{Stands, place_at};
 
-use crate::part::Part;
 use crate::seat::Seat;
 use std::marker::{Brand, Model};
+use wp_guarded::Part;
 use wp_model::{Name, Seq};
 use wp_outside::Disk;
 use wp_rule::{Moves, WordSeat, Words};

@@ -4,22 +4,18 @@ ghost use Rattle.wp_core.specs.Changes.{turn_index};
 ghost use Rattle.wp_machine.specs.Parts.{turn_of};
 ghost use Rattle.wp_shared.specs.Turns.{Taken, MayBeGiven, Given};
 
-use crate::part::Part;
+use crate::held::Held;
 use crate::seat::Seat;
 use crate::shared::Shared;
 use std::sync::Wait;
 use std::thread;
+use wp_guarded::Part;
 use wp_outside::Disk;
 use wp_rule::Turn;
 
 /// How often a seat tries to take a turn that is held before it sleeps on it, where the turn's holder may be in a call of a
 /// device.
 const TRIES: u32 = 40;
-
-/// The value behind a turn, while a seat holds the turn. It has to be given.
-pub struct Held<D: Disk> {
-    pub part: Part<D>,
-}
 
 /// Whether the holder of the turn may be in a call of a device.
 fn is_long(turn: Turn) -> bool {

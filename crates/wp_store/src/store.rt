@@ -48,6 +48,15 @@ fn are_empty(frozen: &VecDeque<Memtable>) -> bool
     frozen.iter().all(|part| part.count() == 0)
 }
 
+/// Takes each version of the number out of the parts.
+fn remove_from_all(parts: &mut VecDeque<Memtable>, n: Seq)
+    ensures { parts.new.items ≡ map (without_number n) parts.old.items }
+{
+    for i in 0..parts.len() {
+        parts[i].remove_number(n);
+    }
+}
+
 impl Store {
     /// The store that an opening makes, of the versions that no table has and of the tables, the newest first.
     pub fn new(alloc: Global, memory: Memtable, tables: Vec<Arc<Table>>) -> Store
@@ -78,6 +87,14 @@ impl Store {
         ensures { self.new ≡ record self.old { memory = without_number n self.old.memory } }
     {
         self.memory.remove_number(n);
+    }
+
+    /// Takes each version of the number out of memory and of the frozen parts.
+    pub fn remove_unflushed(&mut self, n: Seq)
+        ensures { self.new ≡ record self.old { memory = without_number n self.old.memory; frozen = map (without_number n) self.old.frozen } }
+    {
+        self.memory.remove_number(n);
+        remove_from_all(&mut self.frozen, n);
     }
 
     /// The newest `n` versions of the key, of all parts merged. It goes to each part for this key alone, and copies at
@@ -165,6 +182,17 @@ impl Store {
             return false;
         }
         are_empty(&self.frozen)
+    }
+
+    /// The tables, the newest first.
+    pub fn copy_tables(&self) -> Result<Vec<Arc<Table>>, AllocError>
+        ensures { IfOk result (λ tables. map arc_value tables.items ≡ self.now.tables) }
+    {
+        let mut tables = Vec::with_capacity(self.alloc, self.tables.len())?;
+        for table in &self.tables {
+            tables.push(Arc::clone(table)?)?;
+        }
+        Ok(tables)
     }
 
     /// How many tables there are.

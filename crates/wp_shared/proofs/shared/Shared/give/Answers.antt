@@ -6,10 +6,16 @@ use Rattle.wp_core.specs.Tables as table
 use Rattle.wp_core.specs.World.{Actor}
 use Rattle.wp_core.specs.Changes.{turn_index}
 use Rattle.wp_machine.specs.Parts.{turn_of}
-use Rattle.wp_shared.specs.declared.part.Part.{Part}
+use Rattle.wp_guarded.specs.declared.part.Part.{Part}
+use Rattle.wp_guarded.specs.declared.part.Part.TheVariants as part
 use Rattle.wp_shared.specs.Seats.{SeatState}
-use Rattle.wp_shared.proofs.HeldTurns.{turns_left, may_lie, may_unclaim, given}
+use Rattle.wp_shared.proofs.HeldTurns.{carried, turns_left, may_lie, may_unclaim, given}
 use Rattle.wp_shared.proofs.shared.Shared.give.Goals as goal
+
+pub exchange-requires-clause-turn : goal.exchange-requires-clause-turn
+exchange-requires-clause-turn g c = let h = c.requires.held in
+    let is : turn_of c.turn-turn.result ≡ table.turn_of h.table = subst (λ (x : Option Content). IfSome x (λ t. turn_of c.turn-turn.result ≡ table.turn_of t)) h.is c.turn-turn.ensures in
+    (part.Away, carried c.args.self.now c.args.seat.now c.args.held.part (turn_of c.turn-turn.result) h is c.seat.inside.seat.me.1 c.seat.invariant.0 (ap (λ (s : SeatState). s.turns) c.seat.view_is))
 
 pub exchange-requires-clause-value : goal.exchange-requires-clause-value
 exchange-requires-clause-value g c = let h = c.requires.held in

@@ -3,7 +3,7 @@ use Rattle.atomic_table.specs.Table.{Me}
 use Rattle.wp_core.specs.World.{Actor}
 use Rattle.wp_machine.specs.Parts.{turn_of}
 use Rattle.wp_rule.specs.Words.{place_of}
-use Rattle.wp_shared.specs.declared.part.Part.{Part}
+use Rattle.wp_guarded.specs.declared.part.Part.{Part}
 use Rattle.wp_shared.specs.Seats.{SeatState, AllAway}
 use Rattle.wp_shared.proofs.HeldTurns.{still_sits, taken}
 use Rattle.wp_shared.proofs.shared.Shared.take.Goals as goal

@@ -1,0 +1,5 @@
+pub mod LogLemmas
+pub mod StockLemmas
+pub mod EditsLemmas
+pub mod LaterVersions
+pub mod OpeningLemmas

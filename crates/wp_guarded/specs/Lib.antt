@@ -1,0 +1,5 @@
+pub mod Log
+pub mod Stock
+pub mod Edits
+pub mod Parts
+pub mod Opening

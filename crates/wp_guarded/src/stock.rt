@@ -1,0 +1,79 @@
+//! What the store turn guards: the versions in memory and in tables.
+ghost use Rattle.std.specs.Prelude.{◌≡◌, Some, None, map, IfOk, OnOk, OnErr};
+ghost use Rattle.wp_model.specs.declared.entry.Entry.{Entry};
+ghost use Rattle.wp_model.specs.Legal.{changes_in};
+ghost use Rattle.wp_memtable.specs.Memtable.{HasChanges, without_number};
+ghost use Rattle.wp_merge.specs.Merge.{sorted_of};
+ghost use Rattle.wp_store.specs.Store.{newest_of};
+ghost use Rattle.wp_core.specs.Entries.{HasVersionsAt};
+ghost use Rattle.wp_core.specs.Tables.{all_in};
+ghost use Rattle.wp_guarded.specs.Stock.{store_table, HasNoneAt};
+
+use std::alloc::AllocError;
+use std::marker::Model;
+use wp_core::HoldsVersions;
+use wp_model::{Batch, Key, Seq, Versions};
+use wp_store::Store;
+
+/// The versions in memory and in tables, and the floor. Clauses see the parts of the store and the floor; in the machine, what
+/// is frozen is in memory still.
+#[derive(Drop)]
+pub struct Stock {
+    store: Store,
+    floor: Seq,
+}
+
+impl Model for Stock {
+    ghost use Rattle.wp_guarded.specs.Stock.{StockState};
+
+    ghost Value = { StockState };
+
+    ghost view = { λ s. record { parts = s.store; floor = s.floor } };
+}
+
+impl HoldsVersions for Stock {
+    ghost store = { store_table };
+}
+
+impl Stock {
+    /// The store, where a reader at each number from the floor on finds all that it needs.
+    pub fn new(store: Store, floor: Seq) -> Stock
+        ensures { result ≡ record { parts = store; floor = floor } }
+    {
+        Stock { store, floor }
+    }
+
+    /// The number from which on a reader finds all that it needs.
+    pub fn floor(&self) -> Seq
+        ensures { result ≡ self.now.floor }
+    {
+        self.floor
+    }
+
+    /// Puts a version under `n` into memory for each change of the batch. Where no version has that number, they are those of
+    /// an entry with these changes. A refused call may keep memory that it took, and nothing else.
+    pub fn insert(&mut self, n: Seq, batch: &Batch) -> Result<(), AllocError>
+        ensures changes { OnOk result (HasChanges n batch.now self.old.parts.memory self.new.parts.memory) }
+        ensures entry { OnOk result ((entry : Entry) → changes_in entry ≡ batch.now → HasNoneAt n (store_table self.old).memory
+            → HasVersionsAt (Some entry) n (store_table self.old).memory (store_table self.new).memory) }
+        ensures err { OnErr result (self.new ≡ self.old) }
+        ensures others { self.new ≡ record self.old { parts = record self.old.parts { memory = self.new.parts.memory } } }
+    {
+        self.store.insert(n, batch)
+    }
+
+    /// Takes each version of the number out of memory.
+    pub fn remove_number(&mut self, n: Seq)
+        ensures parts { self.new ≡ record self.old { parts = record self.old.parts { memory = without_number n self.old.parts.memory; frozen = map (without_number n) self.old.parts.frozen } } }
+        ensures none { HasVersionsAt None n (store_table self.old).memory (store_table self.new).memory }
+    {
+        self.store.remove_unflushed(n);
+    }
+
+    /// The newest `n` versions of the key, in memory and in tables.
+    pub fn collect(&self, key: &Key, n: usize) -> Result<Versions, AllocError>
+        ensures { IfOk result (λ found. found ≡ newest_of n key.now (sorted_of (all_in (store_table self.now)))) }
+    {
+        self.store.collect(key, n)
+    }
+}
