@@ -1,0 +1,4 @@
+pub mod Places
+pub mod HeldTurns
+pub mod Clients
+pub mod Endings

@@ -1,1 +1,4 @@
 pub mod Seats
+pub mod Turns
+pub mod Clients
+pub mod Ending

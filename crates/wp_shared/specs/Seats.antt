@@ -4,15 +4,16 @@ use Rattle.atomic_table.specs.Seated.{TableId}
 use Rattle.wp_model.specs.declared.entry.Entry.{Entry}
 use Rattle.wp_core.specs.World.{Actor, World}
 use Rattle.wp_rule.specs.Words.{Place, IsAt}
-use Rattle.wp_shared.specs.declared.part.Part.{Part}
-use Rattle.wp_shared.specs.declared.part.Part.TheVariants as part
+use Rattle.wp_guarded.specs.declared.part.Part.{Part}
+use Rattle.wp_guarded.specs.declared.part.Part.TheVariants as part
 
--- The store: which table it is, the history that was opened, how many words its cache has, and the greatest number that
--- an entry may get.
-pub record SharedState : Type 0 where
+-- The store: which table it is, the history that was opened, how many words its cache has, the values behind the turns as
+-- they were handed in, and the greatest number that an entry may get.
+pub record SharedState (D : Type 0) : Type 0 where
   pub table : TableId
   pub opened : List Entry
   pub cells : ℕ
+  pub first : List (Part D)
   pub limit : ℕ
 
 -- a seat: at which table, its number there, what it knows, and which turns it holds, the one taken last first
@@ -32,9 +33,22 @@ turns_of [] = []
 turns_of (c ∷ cs) = c.0 ∷ turns_of cs
 
 -- the seat's place
-abbrev pub place_at : SharedState → ℕ → Place
+abbrev pub place_at : {D : Type 0} → SharedState D → ℕ → Place
 place_at z by = record { opened = z.opened; cells = z.cells; by = by }
 
 -- a reached world of the store in which the seat's actor is what it knows
-abbrev pub Stands : SharedState → SeatState → World → Type 0
+abbrev pub Stands : {D : Type 0} → SharedState D → SeatState → World → Type 0
 Stands z s w = IsAt (place_at z s.by) s.knows w
+
+-- a note: what its giver had seen
+pub record NoteState : Type 0 where
+  pub table : TableId
+  pub seen : List Entry
+
+abbrev pub seen_in : List Actor → List Entry
+seen_in [] = []
+seen_in (a ∷ others) = a.participant.seen
+
+abbrev pub client_in : List Actor → List ℕ
+client_in [] = []
+client_in (a ∷ others) = a.participant.client

@@ -1,10 +1,28 @@
-//! The shared engine: what all clients share, and the moves on it.
+//! The shared store: the words under the rule of `wp_rule`, a value behind each of six turns, and the seats by which the threads
+//! of clients use them.
+//!
+//! Each call borrows the store shared, and the thread's own seat for itself. No clause says what the store is, since other
+//! threads go on meanwhile; it says what the seat knows: the actor of the machine of `wp_core` that makes the seat's steps, as
+//! an equation, and that a sound world stands behind it.
+//!
+//! - `Shared::take` and `give`: a turn with the value behind it. A value goes home as its holder left the turn's table.
+//! - `Shared::published`, `max`, `word`, and in `steps` every load and store for the crates above, whose calls are made of them.
+//! - `Shared::note` and `learn`: what one seat has seen, for another one to have seen too.
+//! - `Shared::seat` and `close`: the first seat makes the others, and at the end all are handed in.
+//!
+//! `take` alone waits, and no call takes memory.
 #![tactic(auto)]
 
-mod part;
+mod ending;
+mod held;
+mod note;
 mod seat;
 mod shared;
+mod steps;
+mod turns;
 
-pub use part::Part;
+pub use held::Held;
+pub use note::Note;
 pub use seat::Seat;
 pub use shared::Shared;
+pub use wp_guarded::Part;

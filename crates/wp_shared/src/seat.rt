@@ -1,6 +1,9 @@
 //! A client's place at the shared store.
-use crate::part::Part;
+ghost use Rattle.std.specs.Prelude.{◌≡◌};
+
 use std::marker::Model;
+use wp_guarded::Part;
+use wp_model::Name;
 use wp_outside::Disk;
 use wp_rule::WordSeat;
 
@@ -9,14 +12,32 @@ use wp_rule::WordSeat;
 #[derive(Drop)]
 pub struct Seat<D: Disk + Drop> {
     pub(crate) seat: WordSeat<Part<D>>,
+    pub(crate) client: Name,
 }
 
 impl<D: Disk + Drop> Model for Seat<D> {
+    ghost use Rattle.std.specs.Prelude.{◌≡◌};
+    ghost use Rattle.std.specs.Coded.{codes};
+    ghost use Rattle.wp_model.specs.PreparedTables.{prepared_tables_code};
+    ghost use Rattle.wp_model.specs.Snapshots.{snapshots_code};
+    ghost use Rattle.wp_model.specs.LockTables.{lock_tables_code};
+    ghost use Rattle.wp_machine.specs.Codes.{transactions_code};
     ghost use Rattle.wp_shared.specs.Seats.{SeatState, AllAway, turns_of};
 
     ghost Value = { SeatState };
 
+    ghost coded = { Prim.hlevel (codes, prepared_tables_code, snapshots_code, lock_tables_code, transactions_code) };
+
     ghost view = { λ s. record { table = s.seat.table_id; by = s.seat.id; knows = s.seat.me.0; turns = turns_of s.seat.me.1 } };
 
-    ghost invariant = { λ s. AllAway s.seat.me.1 };
+    ghost invariant = { λ s. AllAway s.seat.me.1 × (s.client ≡ s.seat.me.0.participant.client) };
+}
+
+impl<D: Disk + Drop> Seat<D> {
+    /// Whose it is: the holder of its direct writes, and of the names that it claims or takes.
+    pub fn client(&self) -> &Name
+        ensures { result.now ≡ self.now.knows.participant.client }
+    {
+        &self.client
+    }
 }

@@ -1,14 +1,19 @@
 //! The shared store.
-ghost use Rattle.std.specs.Prelude.{◌≡◌, length};
+ghost use Rattle.std.specs.Prelude.{◌≡◌, ◌<◌, ◌∷◌, [], List, true, length, slice_index};
+ghost use Rattle.wp_model.specs.Legal.{IsLegal};
 ghost use Rattle.wp_core.specs.Sound.Actors.{StartsWith};
-ghost use Rattle.wp_core.specs.Changes.{sees};
+ghost use Rattle.wp_core.specs.Changes.{sees, made_one};
+ghost use Rattle.wp_core.specs.Steps.{Step, set_client};
+ghost use Rattle.wp_core.specs.World.{World, new_actor};
+ghost use Rattle.wp_rule.specs.Words.{place_of, SawAll};
+ghost use Rattle.wp_shared.specs.Seats.{Stands, place_at};
 
-use crate::part::Part;
 use crate::seat::Seat;
-use std::marker::Model;
-use wp_model::Seq;
+use std::marker::{Brand, Model};
+use wp_guarded::Part;
+use wp_model::{Name, Seq};
 use wp_outside::Disk;
-use wp_rule::Words;
+use wp_rule::{Moves, WordSeat, Words};
 
 /// The store that clients share: words, and the values behind the turns.
 #[derive(Drop)]
@@ -18,21 +23,73 @@ pub struct Shared<D: Disk + Drop> {
 }
 
 impl<D: Disk + Drop> Model for Shared<D> {
+    ghost use Rattle.std.specs.Coded.{codes};
+    ghost use Rattle.wp_model.specs.PreparedTables.{prepared_tables_code};
+    ghost use Rattle.wp_model.specs.Snapshots.{snapshots_code};
+    ghost use Rattle.wp_model.specs.LockTables.{lock_tables_code};
     ghost use Rattle.wp_shared.specs.Seats.{SharedState};
 
-    ghost Value = { SharedState };
+    ghost Value = { SharedState D };
 
-    ghost view = { λ s. record { table = s.words.table; opened = s.words.opened; cells = s.words.cells; limit = s.limit } };
+    ghost coded = { Prim.hlevel (codes, prepared_tables_code, snapshots_code, lock_tables_code) };
+
+    ghost view = { λ s. record { table = s.words.table; opened = s.words.opened; cells = s.words.cells; first = s.words.first; limit = s.limit } };
+}
+
+/// Says whose the seat is, which did nothing yet.
+fn name_seat<D: Disk + Drop, J: Moves>(
+    words: &Words<Part<D>>,
+    seat: &mut WordSeat<Part<D>>,
+    client: &Name,
+)
+    requires seat { (seat.old.table_id ≡ words.now.table) × (J.place ≡ place_of words.now seat.old.id) }
+    requires steps { J.steps ≡ (λ w. set_client client.now ∷ []) }
+    requires new { seat.old.me.0 ≡ new_actor true seat.old.me.0.participant.client seat.old.me.0.participant.seen }
+    ensures same { (seat.new.table_id ≡ seat.old.table_id) × (seat.new.me.1 ≡ seat.old.me.1) }
+    ensures named { seat.new.me.0 ≡ new_actor true client.now seat.old.me.0.participant.seen }
+{
+    words.make::<J>(seat);
 }
 
 impl<D: Disk + Drop> Shared<D> {
+    /// Another seat, this client's, which the first one makes. It has seen what that one has.
+    pub fn seat(&self, seat: &mut Seat<D>, client: Name) -> Seat<D>
+        requires { (seat.old.table ≡ self.now.table) × (seat.old.by ≡ 0) }
+        ensures same { seat.new ≡ record seat.old { knows = made_one seat.old.knows } }
+        ensures seat { (result.table ≡ self.now.table) × (result.turns ≡ []) × (result.knows ≡ new_actor true client seat.old.knows.participant.seen) }
+    {
+        let mut made = self.words.seat(&mut seat.seat);
+        name_seat::<D, Brand>(&self.words, &mut made, &client);
+        Seat { seat: made, client }
+    }
+
     /// The published number. The seat has then seen the history up to it.
     pub fn published(&self, seat: &mut Seat<D>) -> Seq
         requires { seat.old.table ≡ self.now.table }
         ensures same { (seat.new.table ≡ seat.old.table) × (seat.new.by ≡ seat.old.by) × (seat.new.turns ≡ seat.old.turns) }
-        ensures seen { StartsWith seat.new.knows.participant.seen seat.old.knows.participant.seen × (result ≡ length seat.new.knows.participant.seen) }
+        ensures seen { StartsWith seat.new.knows.participant.seen seat.old.knows.participant.seen × (result ≡ length seat.new.knows.participant.seen) × IsLegal seat.new.knows.participant.seen }
+        ensures stands { SawAll (place_at self.now seat.new.by) seat.new.knows result }
         ensures rest { seat.new.knows ≡ sees seat.new.knows.participant.seen seat.old.knows }
     {
         self.words.load_published(&mut seat.seat)
+    }
+
+    /// The evicted bound, as its one load found it.
+    pub fn max(&self, seat: &mut Seat<D>) -> Seq
+        requires { seat.old.table ≡ self.now.table }
+        ensures same { seat.new ≡ seat.old }
+        ensures found { (w : World) × Stands self.now seat.new w × (result ≡ w.max_evicted) }
+    {
+        self.load_max::<Brand>(seat)
+    }
+
+    /// The word of the commit cache with this index, as its one load found it.
+    pub fn word(&self, seat: &mut Seat<D>, i: usize) -> u64
+        requires seat { seat.old.table ≡ self.now.table }
+        requires word { i < self.now.cells }
+        ensures same { seat.new ≡ seat.old }
+        ensures found { (w : World) × Stands self.now seat.new w × (result ≡ slice_index w.cache i) }
+    {
+        self.load_word::<Brand>(seat, i)
     }
 }

@@ -1,0 +1,77 @@
+-- Steps that leave a seat to its client, and the one that gives it to another.
+use Rattle.std.proofs.Common.{◌≡◌, ℕ, true, List, [], ◌∷◌, refl, sym, ap, subst, ◌∙◌}
+use Rattle.wp_model.specs.declared.entry.Entry.{Entry}
+use Rattle.wp_core.specs.World.{Actor, World, new_actor}
+use Rattle.wp_core.specs.Steps.{Step, load_published, register, begin_reading, load, end_reading, store_published, store_max_evicted, store_word, store_delayed_flag, store_old_flag, take_turn, give_turn, make_pending, log_pending, close_log, find_log_closed, drop_pending, add_prepared, take_pending_prepared, add_delayed_commit, take_out, register_again, release, add_old_commit, add_versions, take_versions, move_versions, replace_versions, install, halt, find_flushed, claim_name, take_name, leave_name, free_transaction, lock_key, free_key, lock_direct, free_direct, find_holder, tell, hear, set_batch, note, make_note, make_seat, set_client, learn, join_seat}
+use Rattle.wp_rule.specs.Words.{Place}
+use Rattle.wp_rule.specs.Moves.{MayMake, Moved, actor_after_step, world_after_step, actor_after}
+use Rattle.wp_rule.proofs.MayBeMade.{known_made}
+use Rattle.wp_shared.specs.Clients.{KeepsClient, KeepClient}
+
+step_keeps : (w : World) (a : Actor) (step : Step) → KeepsClient step → (actor_after_step w a step).participant.client ≡ a.participant.client
+step_keeps w a (set_client client) keeps = absurd keeps
+step_keeps w a (learn other b) keeps = absurd keeps
+step_keeps w a (join_seat other b) keeps = absurd keeps
+step_keeps w a load_published keeps = refl
+step_keeps w a (register smallest) keeps = refl
+step_keeps w a (begin_reading p snapshot) keeps = refl
+step_keeps w a (load which) keeps = refl
+step_keeps w a end_reading keeps = refl
+step_keeps w a (store_published entry others) keeps = refl
+step_keeps w a (store_max_evicted m) keeps = refl
+step_keeps w a (store_word pair) keeps = refl
+step_keeps w a (store_delayed_flag value) keeps = refl
+step_keeps w a (store_old_flag value) keeps = refl
+step_keeps w a (take_turn turn) keeps = refl
+step_keeps w a (give_turn turn) keeps = refl
+step_keeps w a (make_pending entries) keeps = refl
+step_keeps w a log_pending keeps = refl
+step_keeps w a close_log keeps = refl
+step_keeps w a find_log_closed keeps = refl
+step_keeps w a drop_pending keeps = refl
+step_keeps w a add_prepared keeps = refl
+step_keeps w a take_pending_prepared keeps = refl
+step_keeps w a (add_delayed_commit pair) keeps = refl
+step_keeps w a (take_out p) keeps = refl
+step_keeps w a (register_again s) keeps = refl
+step_keeps w a (release front r back) keeps = refl
+step_keeps w a (add_old_commit s p) keeps = refl
+step_keeps w a (add_versions memory) keeps = refl
+step_keeps w a (take_versions memory) keeps = refl
+step_keeps w a (move_versions memory tables) keeps = refl
+step_keeps w a (replace_versions tables floor) keeps = refl
+step_keeps w a (install edit compacts) keeps = refl
+step_keeps w a (halt edit) keeps = refl
+step_keeps w a find_flushed keeps = refl
+step_keeps w a (claim_name name) keeps = refl
+step_keeps w a (take_name name p) keeps = refl
+step_keeps w a (leave_name name) keeps = refl
+step_keeps w a (free_transaction name) keeps = refl
+step_keeps w a (lock_key name t key) keeps = refl
+step_keeps w a (free_key name t key) keeps = refl
+step_keeps w a (lock_direct key) keeps = refl
+step_keeps w a (free_direct key) keeps = refl
+step_keeps w a (find_holder key holder account) keeps = refl
+step_keeps w a (tell label) keeps = refl
+step_keeps w a (hear label n) keeps = refl
+step_keeps w a (set_batch name t batch) keeps = refl
+step_keeps w a (note fact) keeps = refl
+step_keeps w a make_note keeps = refl
+step_keeps w a make_seat keeps = refl
+
+steps_keep : (steps : List Step) (w : World) (by : ℕ) (a : Actor) → KeepClient steps → (actor_after steps w by a).participant.client ≡ a.participant.client
+steps_keep [] w by a keep = refl
+steps_keep (step ∷ steps) w by a keep = steps_keep steps (world_after_step w by a step) by (actor_after_step w a step) keep.1 ∙ step_keeps w a step keep.0
+
+pub moved_keeps : (p : Place) (steps : World → List Step) (so : World → Type 0) (a b : Actor) → ((w : World) → KeepClient (steps w)) → Moved p steps so a b → b.participant.client ≡ a.participant.client
+moved_keeps p steps so a b keep m = ap (λ (x : Actor). x.participant.client) m.actor ∙ steps_keep (steps m.world) m.world p.by a (keep m.world)
+
+-- ---- a seat that did nothing yet
+
+module _ (p : Place) (steps : World → List Step) (a : Actor) (client old : List ℕ) (seen : List Entry) (is : steps ≡ (λ w. set_client client ∷ [])) (new : a ≡ new_actor true old seen) where
+  pub may_be_named : MayMake p a steps
+  may_be_named =
+      subst (λ (x : Actor × (World → List Step)). MayMake p x.0 x.1) (λ i. (sym new i, sym is i)) (known_made p (new_actor true old seen) (set_client client) tt (refl, refl, refl))
+
+  pub is_named : (so : World → Type 0) (b : Actor) → Moved p steps so a b → b ≡ new_actor true client seen
+  is_named so b m = m.actor ∙ (λ i. actor_after (is i m.world) m.world p.by (new i))

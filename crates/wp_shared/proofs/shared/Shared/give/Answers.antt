@@ -1,0 +1,41 @@
+use Rattle.std.proofs.Common.{◌≡◌, Option, sym, ap, subst, ◌∙◌}
+use Rattle.std.specs.Prelude.{IfSome}
+use Rattle.atomic_table.specs.Table.{Me}
+use Rattle.wp_core.specs.Tables.{Content}
+use Rattle.wp_core.specs.Tables as table
+use Rattle.wp_core.specs.World.{Actor}
+use Rattle.wp_core.specs.Changes.{turn_index}
+use Rattle.wp_machine.specs.Parts.{turn_of}
+use Rattle.wp_guarded.specs.declared.part.Part.{Part}
+use Rattle.wp_guarded.specs.declared.part.Part.TheVariants as part
+use Rattle.wp_shared.specs.Seats.{SeatState}
+use Rattle.wp_shared.proofs.HeldTurns.{carried, turns_left, may_lie, may_unclaim, given}
+use Rattle.wp_shared.proofs.shared.Shared.give.Goals as goal
+
+pub exchange-requires-clause-turn : goal.exchange-requires-clause-turn
+exchange-requires-clause-turn g c = let h = c.requires.held in
+    let is : turn_of c.turn-turn.result ≡ table.turn_of h.table = subst (λ (x : Option Content). IfSome x (λ t. turn_of c.turn-turn.result ≡ table.turn_of t)) h.is c.turn-turn.ensures in
+    (part.Away, carried c.args.self.now c.args.seat.now c.args.held.part (turn_of c.turn-turn.result) h is c.seat.inside.seat.me.1 c.seat.invariant.0 (ap (λ (s : SeatState). s.turns) c.seat.view_is))
+
+pub exchange-requires-clause-value : goal.exchange-requires-clause-value
+exchange-requires-clause-value g c = let h = c.requires.held in
+    let is : turn_of c.turn-turn.result ≡ table.turn_of h.table = subst (λ (x : Option Content). IfSome x (λ t. turn_of c.turn-turn.result ≡ table.turn_of t)) h.is c.turn-turn.ensures in
+    may_lie c.args.self.now c.args.seat.now c.args.held.part (turn_of c.turn-turn.result) h is _ _ (c.stands.ensures c.args.self.now.first h.of_store) c.self.view_is (ap (λ (s : SeatState). s.knows) c.seat.view_is)
+
+pub unclaim-requires-clause-turn : goal.unclaim-requires-clause-turn
+unclaim-requires-clause-turn g c = let h = c.requires.held in
+    let is : turn_of c.turn-turn.result ≡ table.turn_of h.table = subst (λ (x : Option Content). IfSome x (λ t. turn_of c.turn-turn.result ≡ table.turn_of t)) h.is c.turn-turn.ensures in
+    may_unclaim c.args.self.now c.args.seat.now c.args.held.part (turn_of c.turn-turn.result) h is _ _ _ _ _ (c.stands.ensures c.args.self.now.first h.of_store) c.self.view_is
+    (c.exchange.ensures.same.1 ∙ ap (λ (s : SeatState). s.by) c.seat.view_is) (ap (λ (s : SeatState). s.knows) c.seat.view_is) c.exchange.ensures.home
+
+pub returns : goal.returns
+returns g c = let h = c.requires.held in let home = c.exchange.ensures.home in let same = c.unclaim.ensures.same in
+    let is : turn_of c.turn-turn.result ≡ table.turn_of h.table = subst (λ (x : Option Content). IfSome x (λ t. turn_of c.turn-turn.result ≡ table.turn_of t)) h.is c.turn-turn.ensures in
+    let by = c.exchange.ensures.same.1 ∙ ap (λ (s : SeatState). s.by) c.seat.view_is in record {
+      given = given c.args.self.now c.args.seat.now c.args.held.part (turn_of c.turn-turn.result) h is _ _ _ _ c.self.view_is by
+          (ap (λ (m : Me (Part g.row.D.Denot) Actor). m.0) home ∙ ap (λ (s : SeatState). s.knows) c.seat.view_is)
+          (same.0 ∙ (c.exchange.ensures.same.0 ∙ ap (λ (s : SeatState). s.table) c.seat.view_is))
+          (same.1 ∙ by)
+          (sym (ap (λ (s : SeatState). s.turns) c.seat.view_is) ∙ turns_left c.seat.inside.seat.me.1 _ c.exchange.new.seat.me.1 (turn_index (turn_of c.turn-turn.result)) _ _ c.exchange.ensures.out (ap (λ (m : Me (Part g.row.D.Denot) Actor). m.1) home) same.2)
+          c.unclaim.ensures.moved;
+    }

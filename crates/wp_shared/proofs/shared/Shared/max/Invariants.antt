@@ -1,0 +1,6 @@
+use Rattle.std.specs.Prelude.{[]}
+use Rattle.wp_shared.specs.Seats.{place_at}
+use Rattle.wp_shared.proofs.shared.Shared.max.Given as goal
+
+abbrev pub ghosts-load_max : goal.ghosts-load_max
+ghosts-load_max g a = record { place = place_at a.self.now a.seat.now.by; steps = λ w. [] }

@@ -1,0 +1,38 @@
+-- How a store ends: all its seats are handed in, and what lay behind the turns is left.
+use Rattle.std.specs.Prelude.{◌≡◌, true, List, [], ◌∷◌, ◌++◌, length, map}
+use Rattle.atomic_table.specs.Seated.{TableId}
+use Rattle.wp_core.specs.Turns.{Turn}
+use Rattle.wp_core.specs.World.{Actor, Participant}
+use Rattle.wp_rule.specs.Shows.{Leaves}
+use Rattle.wp_guarded.specs.declared.part.Part.{Part}
+use Rattle.wp_guarded.specs.Parts.{content, tells}
+use Rattle.wp_shared.specs.Seats.{SharedState, SeatState, place_at}
+
+-- a live seat at the table, which holds no turn
+pub record IsFree (table : TableId) (s : SeatState) : Type 0 where
+  pub same_table : s.table ≡ table
+  pub live : s.knows.live ≡ true
+  pub turns : s.turns ≡ []
+  pub held : s.knows.held ≡ []
+
+abbrev pub AllFree : TableId → List SeatState → Type 0
+AllFree table [] = Unit {0}
+AllFree table (s ∷ seats) = IsFree table s × AllFree table seats
+
+-- the first of them is the store's first seat, which took in nobody yet, and the others are all that it made
+abbrev pub AreAll : List SeatState → Type 0
+AreAll [] = ⊥
+AreAll (first ∷ others) = (first.by ≡ 0) × (first.knows.joined ≡ []) × (first.knows.made ≡ length others)
+
+abbrev pub participant_of : SeatState → Participant
+participant_of s = s.knows.participant
+
+-- the actor, once it took in these
+abbrev pub all_joined : Actor → List SeatState → Actor
+all_joined a seats = record a { joined = map participant_of seats ++ a.joined }
+
+-- What is left of the store: its world, in which no turn is held and whose only participants are those of the seats, and behind
+-- each turn its table. The world is sound with these participants alone.
+abbrev pub Remains : {D : Type 0} → SharedState D → List SeatState → (Turn → Part D) → Type 0
+Remains z [] parts = ⊥
+Remains z (first ∷ others) parts = Leaves content (tells z.first) (place_at z 0) (all_joined first.knows others) parts
