@@ -1,11 +1,10 @@
 -- The finite set or map that a list stands for.
-use Rattle.std.proofs.Common.{◌≡◌, ℕ, ◌+◌, Bool, true, false, cond, not, ◌||◌, ◌&&◌, List, [], ◌∷◌, length, inl, inr, refl, sym, ap, ◌∙◌, add-one}
+use Rattle.std.proofs.Common.{◌≡◌, ℕ, Bool, true, false, cond, not, ◌||◌, ◌&&◌, List, [], ◌∷◌, length, inl, inr, refl, sym, ap, ◌∙◌, arith}
 use Rattle.std.specs.Cmp.{nat_cmp_total, eq_by_cmp_equiv, unsigned_tied}
 use Rattle.std.specs.Ordering.{nat_cmp, eq_by_cmp}
-use Rattle.std.proofs.lemmas.Bool.{cases_eq, eq-eqb, ne_eqb}
-use Rattle.std.proofs.lemmas.Map.Keys.{IsDistinct-head, IsDistinct-tail}
-use Rattle.std.specs.List.{list_any, AllByRecursion, IsDistinct}
-use Rattle.std.specs.FinSet.{FinSet, from_list, contains, insert, remove, len, contains-from_list, contains-insert, contains-remove, len-insert, len-empty, same_set, nat_cmp-IsAntisymmetric}
+use Rattle.std.proofs.lemmas.Bool.{cases_eq, eq-eqb, ne_eqb, both_ways}
+use Rattle.std.specs.List.{list_any, AllByRecursion}
+use Rattle.std.specs.FinSet.{FinSet, from_list, contains, insert, remove, contains-from_list, contains-insert, contains-remove, same_set, nat_cmp-IsAntisymmetric}
 
 -- whether a list has the number q
 abbrev pub has : List ℕ → ℕ → Bool
@@ -68,12 +67,11 @@ has_settled xs p settled q =
       | inr apart ↦ rw (unsigned_tied p q, ne_eqb p q apart) refl
     ]
 
--- a set of numbers that differ has as many as the list
-pub len-set_of_numbers : (ks : List ℕ) → IsDistinct (eq_by_cmp nat_cmp) ks → len (set_of_numbers ks) ≡ length ks
-len-set_of_numbers [] distinct = len-empty nat_cmp
-len-set_of_numbers (k ∷ ks) distinct =
-    let absent = contains-from_list nat_cmp_total ks k ∙ has_none k ks (IsDistinct-head (eq_by_cmp nat_cmp) k ks distinct) in
-    len-insert nat_cmp_total (set_of_numbers ks) k
-    ∙ ap (λ b. cond b (len (set_of_numbers ks)) (len (set_of_numbers ks) + 1)) absent
-    ∙ ap (λ n. n + 1) (len-set_of_numbers ks (IsDistinct-tail (eq_by_cmp nat_cmp) k ks distinct))
-    ∙ add-one (length ks)
+-- a set has nothing just where its list is empty
+pub none_of_list : (ks : List ℕ) → length ks ≡ 0 → (p : ℕ) → contains (set_of_numbers ks) p ≡ false
+none_of_list [] empty p = contains-from_list nat_cmp_total [] p
+none_of_list (k ∷ ks) empty p = absurd (omega arith)
+
+pub empty_of_none : (ks : List ℕ) → ((p : ℕ) → contains (set_of_numbers ks) p ≡ false) → length ks ≡ 0
+empty_of_none [] none = refl
+empty_of_none (k ∷ ks) none = absurd (both_ways _ (none k) (contains-from_list nat_cmp_total (k ∷ ks) k ∙ ap (λ b. b || has ks k) (unsigned_tied k k ∙ eq-eqb k k refl)))

@@ -1,3 +1,3 @@
 pub mod DelayedSet
 pub mod Least
-pub mod Prepared
+pub mod Queue

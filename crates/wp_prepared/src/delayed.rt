@@ -1,4 +1,5 @@
-ghost use Rattle.std.specs.Prelude.{◌≡◌, ◌+◌, ◌<◌, ◌≤◌, OnOk};
+ghost use Rattle.std.specs.Prelude.{◌≡◌, ℕ, ◌+◌, ◌<◌, ◌≤◌, false, IfOk, OnOk, IsTrue, ◌↔◌};
+ghost use Rattle.std.specs.List.Sorted.{IsStrictlyIncreasing};
 ghost use Rattle.std.specs.FinSet as set;
 ghost use Rattle.wp_prepared.specs.Least.{IsLeastOrNone};
 
@@ -36,6 +37,22 @@ impl DelayedSet {
         DelayedSet {
             numbers: Vec::new(alloc),
         }
+    }
+
+    /// The set of these numbers.
+    pub fn of(alloc: Global, numbers: &[Seq]) -> Result<DelayedSet, AllocError>
+        requires { IsStrictlyIncreasing numbers.now }
+        ensures { IfOk result (λ d. d.numbers ≡ set.from_list numbers.now) }
+    {
+        let mut copied = Vec::new(alloc);
+        copied.extend_from_slice(numbers)?;
+        Ok(DelayedSet { numbers: copied })
+    }
+
+    pub fn is_empty(&self) -> bool
+        ensures { IsTrue result ↔ ((p : ℕ) → set.contains self.now.numbers p ≡ false) }
+    {
+        self.numbers.is_empty()
     }
 
     pub fn contains(&self, p: Seq) -> bool

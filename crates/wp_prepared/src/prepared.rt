@@ -1,19 +1,24 @@
-ghost use Rattle.std.specs.Prelude.{◌≡◌, ℕ, ◌≤◌, ◌&&◌, ◌||◌, nat_lt, nat_le, false, IsOk, OnOk, OnErr, MatchOption};
+ghost use Rattle.std.specs.Prelude.{◌≡◌, ℕ, ◌≤◌, ◌&&◌, ◌||◌, nat_lt, nat_le, false, IsOk, IfOk, OnOk, OnErr, MatchOption, IsTrue, ◌↔◌};
 ghost use Rattle.std.specs.FinSet as set;
 ghost use Rattle.std.specs.FinMap as map;
-ghost use Rattle.wp_model.specs.PreparedTables.{is_prepared, commits_with, NonePrepared, IsSmallest};
-ghost use Rattle.wp_prepared.specs.Prepared.{empty_tables, MovesFit};
+ghost use Rattle.std.specs.List.Sorted.{IsStrictlyIncreasing};
+ghost use Rattle.wp_model.specs.PreparedTables.{nothing_prepared, is_prepared, commits_with, NonePrepared, IsSmallest};
+ghost use Rattle.wp_core.specs.Tables.{NoneDelayed};
+ghost use Rattle.wp_prepared.specs.Least.{AreBelow};
 
 use crate::delayed::DelayedSet;
 use crate::heap::PreparedHeap;
 use std::alloc::{AllocError, Global};
 use std::collections::BTreeMap;
 use std::marker::Model;
+use wp_core::HoldsPrepared;
 use wp_model::Seq;
 
 /// The prepared heap, the delayed set and the delayed commits, which the holder of the prepared turn changes.
 ///
-/// A delayed commit (p, c) tells a reader who finds p's word gone that p is committed as c.
+/// A delayed commit (p, c) tells a reader who finds p's word gone that p is committed as c. The delayed set has
+/// memory for each number of the heap at all times: the bound may have to pass numbers whose entries are logged, and
+/// there want of memory can't be answered any more.
 #[derive(Drop)]
 pub struct Prepared {
     heap: PreparedHeap,
@@ -22,19 +27,27 @@ pub struct Prepared {
 }
 
 impl Model for Prepared {
+    ghost use Rattle.std.specs.Prelude.{◌≤◌};
+    ghost use Rattle.std.specs.FinSet as set;
     ghost use Rattle.std.specs.FinMap as map;
-    ghost use Rattle.wp_prepared.specs.Prepared.{RoomyTables, roomy_tables_code};
+    ghost use Rattle.wp_model.specs.PreparedTables.{PreparedTables, prepared_tables_code};
 
-    ghost Value = { RoomyTables };
+    ghost Value = { PreparedTables };
 
-    ghost coded = { roomy_tables_code };
+    ghost coded = { prepared_tables_code };
 
-    ghost view = { λ t. record { tables = record { heap = t.heap; delayed = t.delayed.numbers; delayed_commits = map.from_entries t.delayed_commits.entries }; room = t.delayed.room } };
+    ghost view = { λ t. record { heap = t.heap; delayed = t.delayed.numbers; delayed_commits = map.from_entries t.delayed_commits.entries } };
+
+    ghost invariant = { λ t. set.len t.heap ≤ t.delayed.room };
+}
+
+impl HoldsPrepared for Prepared {
+    ghost prepared = { λ t. t };
 }
 
 impl Prepared {
     pub fn new(alloc: Global) -> Prepared
-        ensures { result ≡ empty_tables }
+        ensures { result ≡ nothing_prepared }
     {
         Prepared {
             heap: PreparedHeap::new(alloc),
@@ -43,31 +56,38 @@ impl Prepared {
         }
     }
 
-    /// Puts the number of a Prepare entry into the heap, before the entry is published.
-    pub fn add(&mut self, p: Seq) -> Result<(), AllocError>
-        ensures ok { OnOk result (self.new ≡ record self.old { tables = record self.old.tables { heap = set.insert self.old.tables.heap p } }) }
-        ensures err { OnErr result (self.new ≡ self.old) }
+    /// The tables at the opening of a store: these numbers, of the undecided prepares, are delayed.
+    pub fn delaying(alloc: Global, numbers: &[Seq]) -> Result<Prepared, AllocError>
+        requires { IsStrictlyIncreasing numbers.now }
+        ensures heap { IfOk result (λ t. t.heap ≡ set.empty) }
+        ensures delayed { IfOk result (λ t. t.delayed ≡ set.from_list numbers.now) }
+        ensures delayed_commits { IfOk result (λ t. t.delayed_commits ≡ map.empty) }
     {
-        self.heap.insert(p)
+        let delayed = DelayedSet::of(alloc, numbers)?;
+        Ok(Prepared {
+            heap: PreparedHeap::new(alloc),
+            delayed,
+            delayed_commits: BTreeMap::new(alloc),
+        })
     }
 
-    /// Takes the memory that `advance` needs, whatever bound it is given.
-    pub fn reserve_moves(&mut self) -> Result<(), AllocError>
-        ensures moves { OnOk result (MovesFit self.new) }
-        ensures tables { self.new.tables ≡ self.old.tables }
-        ensures room { self.old.room ≤ self.new.room }
+    /// Puts the number of a Prepare entry into the heap, before the entry is published. It takes the memory that
+    /// `advance` and `remove` need.
+    pub fn add(&mut self, p: Seq) -> Result<(), AllocError>
+        requires { AreBelow self.old.heap p }
+        ensures ok { OnOk result (self.new ≡ record self.old { heap = set.insert self.old.heap p }) }
+        ensures err { OnErr result (self.new ≡ self.old) }
     {
-        self.delayed.reserve(self.heap.len())
+        self.delayed.reserve(self.heap.queued() + 1)?;
+        self.heap.add(p)
     }
 
     /// Moves each number of the heap that is at most `m` to the delayed set, before the evicted bound is stored
     /// as `m`.
     pub fn advance(&mut self, m: Seq)
-        requires { MovesFit self.old }
-        ensures heap { (p : ℕ) → set.contains self.new.tables.heap p ≡ (set.contains self.old.tables.heap p && nat_lt m p) }
-        ensures delayed { (p : ℕ) → set.contains self.new.tables.delayed p ≡ (set.contains self.old.tables.delayed p || (set.contains self.old.tables.heap p && nat_le p m)) }
-        ensures delayed_commits { self.new.tables.delayed_commits ≡ self.old.tables.delayed_commits }
-        ensures moves { MovesFit self.new }
+        ensures heap { (p : ℕ) → set.contains self.new.heap p ≡ (set.contains self.old.heap p && nat_lt m p) }
+        ensures delayed { (p : ℕ) → set.contains self.new.delayed p ≡ (set.contains self.old.delayed p || (set.contains self.old.heap p && nat_le p m)) }
+        ensures delayed_commits { self.new.delayed_commits ≡ self.old.delayed_commits }
     {
         while let Some(p) = self.heap.pop_up_to(m) {
             self.delayed.insert(p);
@@ -77,9 +97,9 @@ impl Prepared {
     /// Keeps the pair (`p`, `c`), which is about to leave its word of the commit cache, where `p` is still
     /// here. Only then does it take memory.
     pub fn note_evicted(&mut self, p: Seq, c: Seq) -> Result<(), AllocError>
-        ensures ok { OnOk result (self.new ≡ record self.old { tables = record self.old.tables { delayed_commits = commits_with self.old.tables p c } }) }
+        ensures ok { OnOk result (self.new ≡ record self.old { delayed_commits = commits_with self.old p c }) }
         ensures err { OnErr result (self.new ≡ self.old) }
-        ensures elsewhere { is_prepared self.old.tables p ≡ false → IsOk result }
+        ensures elsewhere { is_prepared self.old p ≡ false → IsOk result }
     {
         if self.is_prepared(p) {
             self.delayed_commits.insert(p, c)?;
@@ -89,40 +109,45 @@ impl Prepared {
 
     /// Takes out the number of a transaction that is decided, with its delayed commit.
     pub fn remove(&mut self, p: Seq)
-        ensures heap { self.new.tables.heap ≡ set.remove self.old.tables.heap p }
-        ensures delayed { self.new.tables.delayed ≡ set.remove self.old.tables.delayed p }
-        ensures delayed_commits { self.new.tables.delayed_commits ≡ map.remove self.old.tables.delayed_commits p }
-        ensures moves { MovesFit self.old → MovesFit self.new }
-        ensures room { self.old.room ≤ self.new.room }
+        ensures heap { self.new.heap ≡ set.remove self.old.heap p }
+        ensures delayed { self.new.delayed ≡ set.remove self.old.delayed p }
+        ensures delayed_commits { self.new.delayed_commits ≡ map.remove self.old.delayed_commits p }
     {
         self.heap.remove(p);
         self.delayed.remove(p);
         self.delayed_commits.remove(&p);
     }
 
+    /// Whether the delayed set and the delayed commits are both empty, in constant time.
+    pub fn none_delayed(&self) -> bool
+        ensures { IsTrue result ↔ NoneDelayed self.now }
+    {
+        self.delayed.is_empty() && self.delayed_commits.is_empty()
+    }
+
     /// Whether the number is in the delayed set.
     pub fn delayed(&self, p: Seq) -> bool
-        ensures { result ≡ set.contains self.now.tables.delayed p }
+        ensures { result ≡ set.contains self.now.delayed p }
     {
         self.delayed.contains(p)
     }
 
     /// The commit number of the pair of `p` that was evicted while `p` was here.
     pub fn commit_of(&self, p: Seq) -> Option<Seq>
-        ensures { result ≡ map.get self.now.tables.delayed_commits p }
+        ensures { result ≡ map.get self.now.delayed_commits p }
     {
         self.delayed_commits.get(&p).copied()
     }
 
     fn is_prepared(&self, p: Seq) -> bool
-        ensures { result ≡ is_prepared self.now.tables p }
+        ensures { result ≡ is_prepared self.now p }
     {
         self.heap.contains(p) || self.delayed.contains(p)
     }
 
     /// The least number that is in the heap or in the delayed set.
     pub fn smallest(&self) -> Option<Seq>
-        ensures { MatchOption result (NonePrepared self.now.tables) (IsSmallest self.now.tables) }
+        ensures { MatchOption result (NonePrepared self.now) (IsSmallest self.now) }
     {
         match (self.heap.first(), self.delayed.first()) {
             (Some(first), Some(delayed)) => Some(first.min(delayed)),

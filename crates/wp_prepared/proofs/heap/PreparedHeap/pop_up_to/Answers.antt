@@ -1,28 +1,25 @@
-use Rattle.std.proofs.Common.{◌∙◌, arith}
-use Rattle.std.specs.Cmp.{nat_cmp_total}
-use Rattle.std.specs.FinSet.{contains-from_list}
-use Rattle.std.proofs.lemmas.Bool.{both_ways}
-use Rattle.std.proofs.lemmas.Option.{IfSome_then}
-use Rattle.wp_prepared.proofs.Sets.{from_list_removed}
-use Rattle.wp_prepared.proofs.Firsts.{least_of_first}
+use Rattle.std.proofs.Common.{sym, ap, subst, ◌∙◌}
+use Rattle.std.specs.FinSet.{remove}
+use Rattle.wp_prepared.specs.Least.{IsLeast}
+use Rattle.wp_prepared.specs.Queue.{standing, AreRising, LastStands}
+use Rattle.wp_prepared.proofs.Queues.{standing-pop, rising-pop, last-pop, standing-behind, rising-behind, last-behind}
 use Rattle.wp_prepared.proofs.heap.PreparedHeap.pop_up_to.Goals as goal
 
-pub returns-in-Some-clause-popped : goal.returns-in-Some-clause-popped
-returns-in-Some-clause-popped c =
-    rw (← c.self.view_is) (IfSome_then c.pop_first.result c.pop_first.ensures.updates (λ p updates. from_list_removed _ _ p updates.0))
+pub invariant_of-self : goal.invariant_of-self
+invariant_of-self c =
+    let trimmed = c.trim_front.ensures in
+    let is = sym c.pop_front.ensures.rest ∙ trimmed.is in
+    record {
+      rising = rising-behind trimmed.gone c.trim_front.new.queue.items (subst AreRising is (rising-pop c.self.inside.queue.items c.self.invariant.rising));
+      first = trimmed.first;
+      last = last-behind trimmed.gone c.trim_front.new.queue.items (subst LastStands is (last-pop c.self.inside.queue.items c.self.invariant.last));
+    }
 
-pub returns-in-Some-clause-was_there : goal.returns-in-Some-clause-was_there
-returns-in-Some-clause-was_there c =
-    rw (← c.self.view_is) (IfSome_then c.pop_first.result c.pop_first.ensures.member (λ p member. contains-from_list nat_cmp_total _ p ∙ member))
-
-pub returns-in_default-clause-above : goal.returns-in_default-clause-above
-returns-in_default-clause-above c =
-    let e = c.first.ensures in
-    let least = rw c.self.view_is at (rw c.in-Some.is at (least_of_first _ _ e.variant e.member e.least)) in
-    λ p there. omega (arith, least.least p there)
-
-pub returns-in_default-2-clause-above : goal.returns-in_default-2-clause-above
-returns-in_default-2-clause-above c =
-    let e = c.first.ensures in
-    let none = rw c.self.view_is at (rw c.in_default.is at (least_of_first _ _ e.variant e.member e.least)) in
-    λ p there. absurd (both_ways _ (none p) there)
+pub returns-clause-popped : goal.returns-clause-popped
+returns-clause-popped c =
+    let trimmed = c.trim_front.ensures in
+    let least = subst (λ s. IsLeast s c.in_ok-least.least) (sym c.self.view_is) c.in_ok-least.ensures in
+    sym (standing-behind trimmed.gone c.trim_front.new.queue.items trimmed.erased)
+    ∙ ap standing (sym trimmed.is ∙ c.pop_front.ensures.rest)
+    ∙ standing-pop c.self.inside.queue.items c.in_ok-least.least c.self.invariant.rising c.self.invariant.first least
+    ∙ ap (λ s. remove s c.in_ok-least.least) c.self.view_is

@@ -6,9 +6,9 @@ use Rattle.wp_prepared.proofs.prepared.Prepared.advance.Given as goal
 -- what the tables are to become stays the same at each step, and the moves that are left fit
 abbrev pub invariant-loop-p : goal.invariant-loop-p
 invariant-loop-p l = record {
-  heap : (q : ℕ) → (set.contains l.self-inside.heap q && nat_lt l.m q) ≡ (set.contains l.fn.self.tables.heap q && nat_lt l.m q);
-  delayed : (q : ℕ) → (set.contains l.self-inside.delayed.numbers q || (set.contains l.self-inside.heap q && nat_le q l.m)) ≡ (set.contains l.fn.self.tables.delayed q || (set.contains l.fn.self.tables.heap q && nat_le q l.m));
-  delayed_commits : map.from_entries l.self-inside.delayed_commits.entries ≡ l.fn.self.tables.delayed_commits;
+  heap : (q : ℕ) → (set.contains l.self-inside.heap q && nat_lt l.m q) ≡ (set.contains l.fn.self.heap q && nat_lt l.m q);
+  delayed : (q : ℕ) → (set.contains l.self-inside.delayed.numbers q || (set.contains l.self-inside.heap q && nat_le q l.m)) ≡ (set.contains l.fn.self.delayed q || (set.contains l.fn.self.heap q && nat_le q l.m));
+  delayed_commits : map.from_entries l.self-inside.delayed_commits.entries ≡ l.fn.self.delayed_commits;
   room : set.len l.self-inside.heap ≤ l.self-inside.delayed.room;
 }
 

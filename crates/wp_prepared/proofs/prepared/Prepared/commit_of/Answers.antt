@@ -8,4 +8,4 @@ returns c =
     c.copied.ensures
     ∙ c.get.ensures.value
     ∙ sym (get-map_of _ c.args.p)
-    ∙ ap (λ t. get t.tables.delayed_commits c.args.p) c.self.view_is
+    ∙ ap (λ t. get t.delayed_commits c.args.p) c.self.view_is

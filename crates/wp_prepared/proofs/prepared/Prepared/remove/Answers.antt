@@ -8,10 +8,7 @@ use Rattle.wp_prepared.proofs.prepared.Prepared.remove.Goals as goal
 pub returns-clause-delayed_commits : goal.returns-clause-delayed_commits
 returns-clause-delayed_commits c =
     from_entries_removed _ _ c.args.p c.remove-3.ensures.updates.0
-    ∙ ap (λ t. remove t.tables.delayed_commits c.args.p) c.self.view_is
+    ∙ ap (λ t. remove t.delayed_commits c.args.p) c.self.view_is
 
-pub returns-clause-moves : goal.returns-clause-moves
-returns-clause-moves c =
-    λ fit.
-    let before = rw (← c.self.view_is) at fit in
-    omega (arith, len-remove_le c.self.inside.heap c.args.p, ap len c.remove.ensures, c.remove-2.ensures.room)
+pub invariant_of-self : goal.invariant_of-self
+invariant_of-self c = omega (arith, c.self.invariant, len-remove_le c.self.inside.heap c.args.p, ap len c.remove.ensures, c.remove-2.ensures.room)
