@@ -44,6 +44,10 @@ module _ {X : Type 0} where
   pub map_of_removed : (es ns : List (List ℕ × X)) (k : List ℕ) → UpdatedAt es ns k None → map_of ns ≡ remove (map_of es) k
   map_of_removed es ns k is = map_of_same ns _ (λ q. is q ∙ at_old es k q None ∙ sym (get-remove nat_list_cmp_total (map_of es) k q))
 
+  -- one entry more before those that the old entries stand for
+  pub joined_one : (es ns more : List (List ℕ × X)) (k : List ℕ) (v : X) → UpdatedAt es ns k (Some v) → map_of es ≡ map_of more → map_of ns ≡ map_of ((k, v) ∷ more)
+  joined_one es ns more k v updated same = map_of_inserted es ns k v updated ∙ ap (λ m. insert m k v) same
+
   pub none_from_false : (o : Option X) → is_some o ≡ false → o ≡ None
   none_from_false None h = refl
   none_from_false (Some x) h = absurd cc

@@ -1,6 +1,8 @@
 -- The live names, the held keys and the board.
-use Rattle.std.specs.Prelude.{◌≡◌, ℕ, Bool, true, false, List, Option, Some, None, is_some, Result, Ok, Err, if◌then◌else◌}
+use Rattle.std.specs.Prelude.{◌≡◌, ℕ, Bool, true, false, List, ◌++◌, Option, Some, None, is_some, Result, Ok, Err, if◌then◌else◌}
 use Rattle.std.specs.FinMap as map
+use Rattle.std.specs.BTreeMap as tree
+use Rattle.wp_model.specs.Batch.{key_cmp}
 use Rattle.wp_model.specs.declared.holder.Holder.{Holder}
 use Rattle.wp_locks.specs.declared.error.LockError.{LockError}
 use Rattle.wp_locks.specs.declared.error.LockError.TheVariants.{Memory, Taken, Unknown, InUse, Busy}
@@ -54,3 +56,7 @@ but holder (Some other) = if is_same other holder then None else Some other
 -- just the keys that the holder held are free
 abbrev pub FreesAllOf : Holder → Keys → Keys → Type 0
 FreesAllOf holder old new = (key : List ℕ) → map.get new key ≡ but holder (map.get old key)
+
+-- the entries come before those of the tree: what is under a key is what they have first, and then its own
+abbrev pub Joins : {X : Type 0} → List (List ℕ × X) → tree.BTreeMap (List ℕ) X → tree.BTreeMap (List ℕ) X → Type 0
+Joins {X} added old new = (es : List (List ℕ × X)) → map.from_entries {R = key_cmp} old.entries ≡ map.from_entries es → map.from_entries {R = key_cmp} new.entries ≡ map.from_entries (added ++ es)

@@ -10,6 +10,7 @@ pub use error::{LockError, TakeRefused};
 pub use locks::Locks;
 
 mod error;
+mod left;
 mod locks;
 #[cfg(test)]
 mod tests;

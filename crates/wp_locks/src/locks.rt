@@ -1,12 +1,16 @@
-ghost use Rattle.std.specs.Prelude.{◌≡◌, OnOk, OnErr};
+ghost use Rattle.std.specs.Prelude.{◌≡◌, IfOk, OnOk, OnErr};
 ghost use Rattle.std.specs.FinMap as map;
 ghost use Rattle.wp_locks.specs.Locks.{Claims, TakesName, Locking, names_left, FreesAllOf};
 ghost use Rattle.wp_model.specs.LockTables.{nothing_locked};
+ghost use Rattle.wp_core.specs.Runs.{AreOpened};
 
 use crate::error::{LockError, TakeRefused};
+use crate::left::{keys_of, names_of};
 use std::alloc::{AllocError, Global};
 use std::collections::BTreeMap;
 use std::marker::Model;
+use wp_core::HoldsLocks;
+use wp_history::History;
 use wp_model::{Holder, Key, Name, Seq};
 
 /// The live names, the held keys and the board, which the holder of the locks turn changes.
@@ -30,6 +34,10 @@ impl Model for Locks {
     ghost view = { λ l. record { names = map.from_entries l.names.entries; keys = map.from_entries l.keys.entries; labels = map.from_entries l.labels.entries } };
 }
 
+impl HoldsLocks for Locks {
+    ghost locks = { λ l. l };
+}
+
 impl Locks {
     pub fn new(alloc: Global) -> Locks
         ensures { result ≡ nothing_locked }
@@ -40,6 +48,19 @@ impl Locks {
             keys: BTreeMap::new(alloc),
             labels: BTreeMap::new(alloc),
         }
+    }
+
+    /// The tables at the opening of a store: the names of the prepares that the history leaves undecided are live
+    /// and had by nobody, each of their keys is held by its transaction, and nothing is told.
+    pub fn left_by(history: &History, alloc: Global) -> Result<Locks, AllocError>
+        ensures { IfOk result (AreOpened history.now.entries) }
+    {
+        Ok(Locks {
+            alloc,
+            names: names_of(history, alloc)?,
+            keys: keys_of(history, alloc)?,
+            labels: BTreeMap::new(alloc),
+        })
     }
 
     /// Makes a name live, for the client.

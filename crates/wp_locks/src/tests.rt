@@ -1,7 +1,8 @@
 use crate::{LockError, Locks, TakeRefused};
 use std::alloc::Global;
 use std::test::Fail;
-use wp_model::{Holder, Key, Name};
+use wp_history::History;
+use wp_model::{Batch, Change, Entry, Holder, Key, Name};
 
 fn name(alloc: Global, bytes: &[u8]) -> Result<Name, Fail> {
     Ok(Name::read(alloc, bytes)?)
@@ -119,5 +120,51 @@ fn a_label_has_what_was_told_last(rt: HostRuntime) -> Result<(), Fail> {
     locks.tell(label.copy(alloc)?, 1)?;
     locks.tell(label.copy(alloc)?, 2)?;
     assert_eq!(rt; locks.told(&label), Some(2));
+    Ok(())
+}
+
+/// An entry that prepares one change of the key, under the name t.
+fn prepare(alloc: Global, key: &Key) -> Result<Entry, Fail> {
+    let batch = Batch::of(alloc, Change::Del(key.copy(alloc)?))?;
+    Ok(Entry::Prepare(name(alloc, b"t")?, batch))
+}
+
+fn grow(history: &mut History, entry: Entry) -> Result<(), Fail> {
+    if history.published() + 1 >= 1 << 32 || !history.is_legal_next(&entry) {
+        return Err("the entry may stand there")?;
+    }
+    history.reserve(1)?;
+    history.push(entry);
+    Ok(())
+}
+
+#[test]
+fn an_opening_has_what_is_undecided(rt: HostRuntime) -> Result<(), Fail> {
+    let alloc = rt.alloc();
+    let key = Key::read(alloc, b"k")?;
+    let mut history = History::new(alloc);
+    grow(&mut history, prepare(alloc, &key)?)?;
+    let mut locks = Locks::left_by(&history, alloc)?;
+    assert!(rt; locks.lock(&key, txn(alloc, b"u")?).is_err());
+    assert!(rt; locks.lock(&key, txn(alloc, b"t")?).is_ok());
+    assert!(rt;
+        locks
+            .claim_name(name(alloc, b"t")?, name(alloc, b"a")?)
+            .is_err()
+    );
+    assert!(rt;
+        locks
+            .take_name(name(alloc, b"t")?, name(alloc, b"a")?)
+            .is_ok()
+    );
+
+    grow(&mut history, Entry::Commit(1))?;
+    let mut locks = Locks::left_by(&history, alloc)?;
+    assert!(rt; locks.lock(&key, txn(alloc, b"u")?).is_ok());
+    assert!(rt;
+        locks
+            .claim_name(name(alloc, b"t")?, name(alloc, b"a")?)
+            .is_ok()
+    );
     Ok(())
 }
