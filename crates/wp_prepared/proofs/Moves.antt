@@ -5,7 +5,7 @@ use Rattle.std.specs.Ordering.{nat_cmp}
 use Rattle.std.specs.declared.alloc.AllocError.{AllocError}
 use Rattle.std.specs.FinSet.{FinSet, contains, insert, remove, len, contains-empty, len-insert, len-remove, empty_of_len}
 use Rattle.std.proofs.lemmas.Bool.{cases_eq, le-ltb, le-leb, both_ways, cond_both}
-use Rattle.wp_prepared.proofs.Members.{contains-insert_here, contains-insert_apart, contains-remove_apart}
+use Rattle.wp_core.proofs.Numbers.{in_inserted, in_inserted_else, in_removed_else}
 
 and-false : (b : Bool) → (b && false) ≡ false
 and-false true = refl
@@ -20,15 +20,15 @@ pub above_stays : (heap : FinSet nat_cmp) (p m : ℕ) → p ≤ m → (q : ℕ) 
 above_stays heap p m low q =
     elim (cases_eq q p) [
       | inl same ↦ rw (le-ltb m q (omega arith)) (and-false _ ∙ sym (and-false _))
-      | inr apart ↦ ap (λ b. b && nat_lt m q) (contains-remove_apart heap p q apart)
+      | inr apart ↦ ap (λ b. b && nat_lt m q) (in_removed_else heap p q apart)
     ]
 
 -- what is up to m in the heap, or is delayed, is delayed in the end
 pub delayed_grows : (heap delayed : FinSet nat_cmp) (p m : ℕ) → contains heap p ≡ true → p ≤ m → (q : ℕ) → (contains (insert delayed p) q || (contains (remove heap p) q && nat_le q m)) ≡ (contains delayed q || (contains heap q && nat_le q m))
 delayed_grows heap delayed p m there low q =
     elim (cases_eq q p) [
-      | inl same ↦ rw (contains-insert_here delayed p q same, le-leb q m (omega arith), ap (contains heap) same ∙ there) (sym (or-true (contains delayed q)))
-      | inr apart ↦ rw (contains-insert_apart delayed p q apart, contains-remove_apart heap p q apart) refl
+      | inl same ↦ rw (ap (contains (insert delayed p)) same ∙ in_inserted delayed p, le-leb q m (omega arith), ap (contains heap) same ∙ there) (sym (or-true (contains delayed q)))
+      | inr apart ↦ rw (in_inserted_else delayed p q apart, in_removed_else heap p q apart) refl
     ]
 
 -- a set that has p has one more number than without it

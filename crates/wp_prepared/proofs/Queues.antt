@@ -12,7 +12,8 @@ use Rattle.std.proofs.lemmas.List.Sorted.{IsNonDecreasingBy-from_default}
 use Rattle.wp_prepared.specs.declared.heap.Queued.{Queued}
 use Rattle.wp_prepared.specs.Least.{IsLeast, AreBelow}
 use Rattle.wp_prepared.specs.Queue.{standing, AreAbove, AreRising, AreErased, FirstStands, LastStands, IsAt, AreApart}
-use Rattle.wp_prepared.proofs.Members.{contains-insert_here, contains-insert_apart, inserted, removed}
+use Rattle.wp_prepared.proofs.Members.{inserted, removed}
+use Rattle.wp_core.proofs.Numbers.{in_inserted, in_inserted_else}
 
 -- ---- one number before others
 
@@ -22,24 +23,24 @@ before erased n s = cond erased s (insert s n)
 
 before_other : (erased : Bool) (n q : ℕ) (s : FinSet nat_cmp) → (q ≡ n → ⊥) → contains (before erased n s) q ≡ contains s q
 before_other true n q s apart = refl
-before_other false n q s apart = contains-insert_apart s n q apart
+before_other false n q s apart = in_inserted_else s n q apart
 
 before_here : (erased : Bool) (n q : ℕ) (s : FinSet nat_cmp) → q ≡ n → contains s q ≡ false → contains (before erased n s) q ≡ not erased
 before_here true n q s same none = none
-before_here false n q s same none = contains-insert_here s n q same
+before_here false n q s same none = ap (contains (insert s n)) same ∙ in_inserted s n
 
 -- before two sets that say the same of q, the same is said of q
 before_same : (erased : Bool) (n q : ℕ) (s t : FinSet nat_cmp) → contains s q ≡ contains t q → contains (before erased n s) q ≡ contains (before erased n t) q
 before_same true n q s t same = same
 before_same false n q s t same = elim (cases_eq q n) [
-  | inl here ↦ contains-insert_here s n q here ∙ sym (contains-insert_here t n q here)
-  | inr apart ↦ contains-insert_apart s n q apart ∙ same ∙ sym (contains-insert_apart t n q apart)
+  | inl here ↦ ap (contains (insert s n)) here ∙ in_inserted s n ∙ sym (ap (contains (insert t n)) here ∙ in_inserted t n)
+  | inr apart ↦ in_inserted_else s n q apart ∙ same ∙ sym (in_inserted_else t n q apart)
 ]
 
 -- a number is there before others where it is among them
 before_more : (erased : Bool) (n q : ℕ) (s : FinSet nat_cmp) → contains s q ≡ true → contains (before erased n s) q ≡ true
 before_more true n q s there = there
-before_more false n q s there = elim (cases_eq q n) [ inl same ↦ contains-insert_here s n q same | inr apart ↦ contains-insert_apart s n q apart ∙ there ]
+before_more false n q s there = elim (cases_eq q n) [ inl same ↦ ap (contains (insert s n)) same ∙ in_inserted s n | inr apart ↦ in_inserted_else s n q apart ∙ there ]
 
 -- ---- numbers that are not there
 
@@ -160,7 +161,7 @@ module _ (w : Queued) (stands : w.erased ≡ false) where
   added_other (x ∷ xs) q apart = before_same x.erased x.number q _ _ (added_other xs q apart)
 
   added_here : (xs : List Queued) → contains (standing (xs ++ w ∷ [])) w.number ≡ true
-  added_here [] = ap (λ b. contains (before b w.number empty) w.number) stands ∙ contains-insert_here empty w.number w.number refl
+  added_here [] = ap (λ b. contains (before b w.number empty) w.number) stands ∙ in_inserted empty w.number
   added_here (x ∷ xs) = before_more x.erased x.number w.number _ (added_here xs)
 
   pub standing-push : (xs : List Queued) → standing (xs ++ w ∷ []) ≡ insert (standing xs) w.number
@@ -178,7 +179,7 @@ module _ (w : Queued) (stands : w.erased ≡ false) where
   pub rising-push : (xs : List Queued) → AreRising xs → LastStands xs → AreBelow (standing xs) w.number → AreRising (xs ++ w ∷ [])
   rising-push [] rising last below = (tt, tt)
   rising-push (x ∷ []) rising last below =
-      let there = ap (λ b. contains (before b x.number empty) x.number) last ∙ contains-insert_here empty x.number x.number refl in
+      let there = ap (λ b. contains (before b x.number empty) x.number) last ∙ in_inserted empty x.number in
       ((below x.number there, tt), (tt, tt))
   rising-push (x ∷ y ∷ ys) rising last below =
       let rest = rising-push (y ∷ ys) rising.1 last (λ q there. below q (before_more x.erased x.number q _ there)) in
@@ -198,7 +199,7 @@ module _ (w : Queued) (stands : w.erased ≡ false) where
 
 pub least_of_queue : (x : Queued) (xs : List Queued) → AreRising (x ∷ xs) → x.erased ≡ false → IsLeast (standing (x ∷ xs)) x.number
 least_of_queue x xs rising stands = record {
-  member = ap (λ b. contains (before b x.number (standing xs)) x.number) stands ∙ contains-insert_here (standing xs) x.number x.number refl;
+  member = ap (λ b. contains (before b x.number (standing xs)) x.number) stands ∙ in_inserted (standing xs) x.number;
   least = λ q there. elim (cases_lt q x.number) [
     | inl low ↦ absurd (both_ways _ (before_other x.erased x.number q (standing xs) (λ e. omega (arith, e, low)) ∙ none_below x.number xs q rising.0 (omega (arith, low))) there)
     | inr high ↦ high

@@ -1,4 +1,5 @@
 pub mod Changes
+pub mod KeptNumbers
 pub mod Rooms
 pub mod Sets
 pub mod Shown

@@ -1,1 +1,2 @@
+pub mod KeptNumbers
 pub mod Room

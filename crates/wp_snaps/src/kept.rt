@@ -1,6 +1,8 @@
 //! How a prepare number comes under each live number of a range: first the memory, then the number.
-ghost use Rattle.std.specs.Prelude.{◌≡◌, ◌<◌, OnOk, MatchOption};
+ghost use Rattle.std.specs.Prelude.{◌≡◌, ◌+◌, ◌<◌, OnOk, MatchOption};
 ghost use Rattle.wp_model.specs.Snapshots.{ChangesWhere, overlaps, after_keep};
+ghost use Rattle.std.specs.FinSet as set;
+ghost use Rattle.wp_snaps.specs.KeptNumbers.{kept_numbers};
 ghost use Rattle.wp_snaps.specs.Room.{snapshots_of, HasRoom, NoneLive, IsNextLive};
 
 use crate::snapshot::Snapshot;
@@ -33,14 +35,18 @@ pub fn reserve_each(
     Ok(())
 }
 
-/// Puts `p` under each live number from `p` on and below `c`, in memory that was taken before.
-pub fn keep_each(live: &mut BTreeMap<Seq, Snapshot>, p: Seq, c: Seq)
+/// Puts `p` under each live number from `p` on and below `c`, in memory that was taken before. Returns how many of
+/// them had nothing under them.
+pub fn keep_each(live: &mut BTreeMap<Seq, Snapshot>, p: Seq, c: Seq) -> usize
     requires { HasRoom live.old p c }
-    ensures { ChangesWhere (overlaps p c) (after_keep p) (snapshots_of live.old) (snapshots_of live.new) }
+    ensures kept { ChangesWhere (overlaps p c) (after_keep p) (snapshots_of live.old) (snapshots_of live.new) }
+    ensures more { set.len (kept_numbers (snapshots_of live.new)) ≡ set.len (kept_numbers (snapshots_of live.old)) + result }
 {
+    let mut more = 0;
     let mut from = p;
     while let Some(s) = next_live(live, from, c) {
         from = s + 1;
-        live.get_mut(&s).unwrap().keep(p);
+        more += usize::from(live.get_mut(&s).unwrap().keep(p));
     }
+    more
 }

@@ -1,8 +1,9 @@
-ghost use Rattle.std.specs.Prelude.{◌≡◌, ℕ, ◌==◌, not, OnOk, OnErr, ◌↔◌};
+ghost use Rattle.std.specs.Prelude.{◌≡◌, ℕ, ◌==◌, not, OnOk, OnErr, IsTrue, ◌↔◌};
 ghost use Rattle.std.specs.List.{Contains};
 ghost use Rattle.std.specs.List.Sorted.{IsStrictlyIncreasing};
 ghost use Rattle.std.specs.FinMap as map;
 ghost use Rattle.wp_model.specs.Snapshots.{ChangesWhere, IsLive, is_old_commit, overlaps, after_register, after_release, after_keep};
+ghost use Rattle.wp_core.specs.Tables.{NoOldCommits};
 
 use crate::kept::{keep_each, reserve_each};
 use crate::live::Live;
@@ -10,6 +11,7 @@ use crate::snapshot::Snapshot;
 use std::alloc::{AllocError, Global};
 use std::collections::BTreeMap;
 use std::marker::Model;
+use wp_core::HoldsSnaps;
 use wp_model::Seq;
 
 /// The live snapshots with the old commit map, which the holder of the snapshots turn changes.
@@ -17,10 +19,15 @@ use wp_model::Seq;
 pub struct Snaps {
     alloc: Global,
     live: BTreeMap<Seq, Snapshot>,
+    /// How many live numbers have something under them.
+    kept: usize,
 }
 
 impl Model for Snaps {
     ghost use Rattle.wp_model.specs.Snapshots.{Snapshots, snapshots_code};
+    ghost use Rattle.std.specs.Prelude.{◌≡◌};
+    ghost use Rattle.std.specs.FinSet as set;
+    ghost use Rattle.wp_snaps.specs.KeptNumbers.{kept_numbers};
     ghost use Rattle.wp_snaps.specs.Room.{snapshots_of};
 
     ghost Value = { Snapshots };
@@ -28,6 +35,12 @@ impl Model for Snaps {
     ghost coded = { snapshots_code };
 
     ghost view = { λ s. snapshots_of s.live };
+
+    ghost invariant = { λ s. s.kept ≡ set.len (kept_numbers (snapshots_of s.live)) };
+}
+
+impl HoldsSnaps for Snaps {
+    ghost snapshots = { λ s. s };
 }
 
 impl Snaps {
@@ -37,6 +50,7 @@ impl Snaps {
         Snaps {
             alloc,
             live: BTreeMap::new(alloc),
+            kept: 0,
         }
     }
 
@@ -60,6 +74,7 @@ impl Snaps {
     {
         let snapshot = self.live.get_mut(&s).unwrap();
         if snapshot.is_registered_once() {
+            self.kept -= usize::from(snapshot.keeps_any());
             self.live.remove(&s);
         } else {
             snapshot.release();
@@ -73,8 +88,18 @@ impl Snaps {
         ensures err { OnErr result (self.new ≡ self.old) }
     {
         reserve_each(&mut self.live, p, c)?;
-        keep_each(&mut self.live, p, c);
+        let more = keep_each(&mut self.live, p, c);
+        // Each of them is live, so their number is one that a length can be.
+        let _live = self.live.len();
+        self.kept += more;
         Ok(())
+    }
+
+    /// Whether the old commit map is empty, in constant time.
+    pub fn none_kept(&self) -> bool
+        ensures { IsTrue result ↔ NoOldCommits self.now }
+    {
+        self.kept == 0
     }
 
     /// Whether a `p` whose pair left the commit cache is visible at `s`.

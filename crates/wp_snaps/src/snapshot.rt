@@ -1,4 +1,4 @@
-ghost use Rattle.std.specs.Prelude.{◌≡◌, ◌+◌, ◌-◌, ◌<◌, ◌≤◌, OnOk, OnErr, IsTrue, ◌↔◌};
+ghost use Rattle.std.specs.Prelude.{◌≡◌, ◌+◌, ◌-◌, ◌<◌, ◌≤◌, ◌==◌, not, OnOk, OnErr, IsTrue, ◌↔◌};
 ghost use Rattle.std.specs.FinSet as set;
 
 use std::alloc::{AllocError, Global};
@@ -66,6 +66,13 @@ impl Snapshot {
         self.old_commits.contains(&p)
     }
 
+    /// Whether there is a number under it.
+    pub fn keeps_any(&self) -> bool
+        ensures { result ≡ not (set.len self.now.snapshot.old_commits == 0) }
+    {
+        !self.old_commits.is_empty()
+    }
+
     /// Takes the memory for one number more.
     pub fn reserve(&mut self) -> Result<(), AllocError>
         ensures ok { OnOk result (0 < self.new.room) }
@@ -74,10 +81,14 @@ impl Snapshot {
         self.old_commits.reserve(1)
     }
 
-    pub fn keep(&mut self, p: Seq)
+    /// Puts the number under it, and says whether it is the only one there.
+    pub fn keep(&mut self, p: Seq) -> bool
         requires { 0 < self.old.room }
-        ensures { self.new.snapshot ≡ record self.old.snapshot { old_commits = set.insert self.old.snapshot.old_commits p } }
+        ensures kept { self.new.snapshot ≡ record self.old.snapshot { old_commits = set.insert self.old.snapshot.old_commits p } }
+        ensures first { result ≡ (set.len self.old.snapshot.old_commits == 0) }
     {
+        let first = self.old_commits.is_empty();
         self.old_commits.insert(p).unwrap();
+        first
     }
 }

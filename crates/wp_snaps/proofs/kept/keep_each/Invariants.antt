@@ -1,5 +1,7 @@
-use Rattle.std.proofs.Common.{◌-◌, ◌<◌, ◌≤◌}
+use Rattle.std.proofs.Common.{◌≡◌, ◌+◌, ◌-◌, ◌<◌, ◌≤◌}
 use Rattle.wp_model.specs.Snapshots.{ChangesWhere, overlaps, after_keep}
+use Rattle.std.specs.FinSet.{len}
+use Rattle.wp_snaps.specs.KeptNumbers.{kept_numbers}
 use Rattle.wp_snaps.specs.Room.{snapshots_of, HasRoom}
 use Rattle.wp_snaps.proofs.kept.keep_each.Given as goal
 
@@ -10,6 +12,8 @@ invariant-loop-s l = record {
   within : l.p < l.from → l.from ≤ l.c;
   old_commits : ChangesWhere (overlaps l.p l.from) (after_keep l.p) (snapshots_of l.fn.live) (snapshots_of l.live);
   room : HasRoom l.live l.from l.c;
+  more : len (kept_numbers (snapshots_of l.live)) ≡ len (kept_numbers (snapshots_of l.fn.live)) + l.more;
+  few : l.p + l.more ≤ l.from;
 }
 
 abbrev pub decreases-loop-s : goal.decreases-loop-s
