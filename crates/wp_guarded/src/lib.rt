@@ -1,4 +1,15 @@
 //! What lies behind the six turns of the shared store, each value a part of the machine's world.
+//!
+//! A turn guards a value: the history with its log, the prepared transactions, the snapshots, the versions, names and keys,
+//! or the tables on their devices. A `Part` is any of them. It lies in the slot of its turn while that is free, and
+//! `Part::Away` stands in for it while a seat has it out. Each value stands for one table of the machine, and a call on
+//! it makes of that table what a step of the machine does: so a seat that tells the rule the step may put the value home.
+//!
+//! A `Log` and `Edits` also keep what their devices have: whatever a crash leaves of them is as the table says, and since they
+//! were opened no fault was forgotten and nothing acknowledged was lost. A record is made pending with all the memory that its
+//! log and its history will need, since neither may be refused once an append has begun.
+//!
+//! `guard` puts the parts of an opened store behind the turns, which are then an opening world of the machine.
 #![tactic(auto)]
 
 mod edits;
@@ -6,6 +17,8 @@ mod log;
 mod opening;
 mod part;
 mod stock;
+#[cfg(test)]
+mod tests;
 
 pub use edits::Edits;
 pub use log::Log;

@@ -1,6 +1,8 @@
 //! An opened store, behind the turns.
 ghost use Rattle.std.specs.Prelude.{◌≡◌, ◌≤◌, ℕ, List, [], Some, length, map, ◌+◌, vec_len, vec_capacity, IfOk, IfErr};
 ghost use Rattle.std.specs.Arc.{arc_value};
+ghost use Rattle.wp_model.specs.LockTables.{LockTables};
+ghost use Rattle.wp_model.specs.PreparedTables.{PreparedTables};
 ghost use Rattle.wp_outside.specs.Disk.{Moment};
 ghost use Rattle.wp_open.specs.Parts.{PartsOpened};
 ghost use Rattle.wp_core.specs.Runs.{AreOpened};
@@ -96,6 +98,8 @@ pub fn guard<D: Disk>(alloc: Global, parts: Parts<D>) -> Result<Vec<Part<D>>, Pa
         × PartsOpened asked log manifest tables parts.wal parts.history.entries parts.manifest (D.moments parts.tables) parts.store }
     ensures founds { IfOk result (λ slots. (client : List ℕ) (cells flag : ℕ) → 1 ≤ cells → IsFlagOf parts.history.entries flag
         → Founds content (tells slots.items) client parts.history.entries cells flag slots.items) }
+    ensures slots { IfOk result (λ slots. (tables : PreparedTables) × (names : LockTables)
+        × (slots.items ≡ slots_of parts.wal parts.history.entries parts.store (running_set parts.manifest (D.moments parts.tables) (D.faults parts.tables)) tables names)) }
     ensures log { IfOk result (λ slots. log_first slots.items ≡ Some parts.wal) }
     ensures set { IfOk result (λ slots. set_first slots.items ≡ Some (running_set parts.manifest (D.moments parts.tables) (D.faults parts.tables))) }
     ensures refused { IfErr result (λ back. back ≡ parts) }
