@@ -1,4 +1,5 @@
 pub mod Places
 pub mod HeldTurns
 pub mod Clients
+pub mod OneStep
 pub mod Endings

@@ -1,19 +1,12 @@
 -- How a store ends: all its seats are handed in, and what lay behind the turns is left.
-use Rattle.std.specs.Prelude.{◌≡◌, true, List, [], ◌∷◌, ◌++◌, length, map}
+use Rattle.std.specs.Prelude.{◌≡◌, List, [], ◌∷◌, ◌++◌, length, map}
 use Rattle.atomic_table.specs.Seated.{TableId}
 use Rattle.wp_core.specs.Turns.{Turn}
 use Rattle.wp_core.specs.World.{Actor, Participant}
 use Rattle.wp_rule.specs.Shows.{Leaves}
 use Rattle.wp_guarded.specs.declared.part.Part.{Part}
 use Rattle.wp_guarded.specs.Parts.{content, tells}
-use Rattle.wp_shared.specs.Seats.{SharedState, SeatState, place_at}
-
--- a live seat at the table, which holds no turn
-pub record IsFree (table : TableId) (s : SeatState) : Type 0 where
-  pub same_table : s.table ≡ table
-  pub live : s.knows.live ≡ true
-  pub turns : s.turns ≡ []
-  pub held : s.knows.held ≡ []
+use Rattle.wp_shared.specs.Seats.{SharedState, SeatState, IsFree, place_at}
 
 abbrev pub AllFree : TableId → List SeatState → Type 0
 AllFree table [] = Unit {0}

@@ -1,4 +1,5 @@
 pub mod Seats
 pub mod Turns
 pub mod Clients
+pub mod Calls
 pub mod Ending

@@ -1,5 +1,5 @@
 -- A shared store and a seat at it, as clauses see them.
-use Rattle.std.specs.Prelude.{◌≡◌, ℕ, List, [], ◌∷◌}
+use Rattle.std.specs.Prelude.{◌≡◌, ℕ, true, List, [], ◌∷◌}
 use Rattle.atomic_table.specs.Seated.{TableId}
 use Rattle.wp_model.specs.declared.entry.Entry.{Entry}
 use Rattle.wp_core.specs.World.{Actor, World}
@@ -31,6 +31,13 @@ AllAway (c ∷ cs) = (c.1 ≡ part.Away) × AllAway cs
 abbrev pub turns_of : {D : Type 0} → List (ℕ × Part D) → List ℕ
 turns_of [] = []
 turns_of (c ∷ cs) = c.0 ∷ turns_of cs
+
+-- a live seat at the table, which holds no turn
+pub record IsFree (table : TableId) (s : SeatState) : Type 0 where
+  pub same_table : s.table ≡ table
+  pub live : s.knows.live ≡ true
+  pub turns : s.turns ≡ []
+  pub held : s.knows.held ≡ []
 
 -- the seat's place
 abbrev pub place_at : {D : Type 0} → SharedState D → ℕ → Place

@@ -2,7 +2,8 @@
 ghost use Rattle.std.specs.Prelude.{◌≡◌};
 ghost use Rattle.wp_core.specs.Changes.{joins};
 ghost use Rattle.wp_rule.specs.Ends.{part_of};
-ghost use Rattle.wp_shared.specs.Ending.{IsFree, AllFree, AreAll, Remains};
+ghost use Rattle.wp_shared.specs.Seats.{IsFree};
+ghost use Rattle.wp_shared.specs.Ending.{AllFree, AreAll, Remains};
 
 use crate::seat::Seat;
 use crate::shared::Shared;
