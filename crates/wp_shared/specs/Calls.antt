@@ -1,15 +1,19 @@
 -- What the calls of the crates above leave of a seat.
-use Rattle.std.specs.Prelude.{◌≡◌}
+use Rattle.std.specs.Prelude.{◌≡◌, None}
+use Rattle.wp_core.specs.Lists.{IsIn}
+use Rattle.wp_core.specs.Views.{Fact}
 use Rattle.wp_core.specs.World.{Participant}
 use Rattle.wp_core.specs.Sound.Actors.{StartsWith}
+use Rattle.wp_core.specs.Sound.Views.{guarded_by}
 use Rattle.wp_shared.specs.Seats.{SharedState, SeatState, IsFree}
 
--- The seat is free again, in its place. It has seen no less than before, and is this participant but for that; it made and
--- took in no other.
+-- The seat is free again, in its place. It has seen no less than before, and is this participant but for that; what it noted
+-- without a turn is noted still. It made and took in no other.
 pub record Continues {D : Type 0} (z : SharedState D) (old new : SeatState) (after : Participant) : Type 0 where
   pub free : IsFree z.table new
   pub same_by : new.by ≡ old.by
   pub seen : StartsWith new.knows.participant.seen old.knows.participant.seen
   pub participant : new.knows.participant ≡ record after { seen = new.knows.participant.seen }
+  pub notes : (fact : Fact) → guarded_by fact ≡ None → IsIn fact old.knows.notes → IsIn fact new.knows.notes
   pub made : new.knows.made ≡ old.knows.made
   pub joined : new.knows.joined ≡ old.knows.joined
