@@ -7,13 +7,17 @@ use Rattle.wp_core.specs.Sound.Actors.{StartsWith}
 use Rattle.wp_core.specs.Sound.Views.{guarded_by}
 use Rattle.wp_shared.specs.Seats.{SharedState, SeatState, IsFree}
 
--- The seat is free again, in its place. It has seen no less than before, and is this participant but for that; what it noted
--- without a turn is noted still. It made and took in no other.
-pub record Continues {D : Type 0} (z : SharedState D) (old new : SeatState) (after : Participant) : Type 0 where
+-- The seat is free again, in its place. It has seen no less than before, and is this participant but for that; of what it
+-- noted it has these facts still. It made and took in no other.
+pub record ContinuesWith {D : Type 0} (Stays : Fact → Type 0) (z : SharedState D) (old new : SeatState) (after : Participant) : Type 0 where
   pub free : IsFree z.table new
   pub same_by : new.by ≡ old.by
   pub seen : StartsWith new.knows.participant.seen old.knows.participant.seen
   pub participant : new.knows.participant ≡ record after { seen = new.knows.participant.seen }
-  pub notes : (fact : Fact) → guarded_by fact ≡ None → IsIn fact old.knows.notes → IsIn fact new.knows.notes
+  pub notes : (fact : Fact) → Stays fact → IsIn fact old.knows.notes → IsIn fact new.knows.notes
   pub made : new.knows.made ≡ old.knows.made
   pub joined : new.knows.joined ≡ old.knows.joined
+
+-- ... with all that it noted without a turn
+abbrev pub Continues : {D : Type 0} → SharedState D → SeatState → SeatState → Participant → Type 0
+Continues z old new after = ContinuesWith (λ fact. guarded_by fact ≡ None) z old new after
