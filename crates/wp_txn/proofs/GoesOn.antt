@@ -1,0 +1,238 @@
+-- A seat that took the locks turn, made its steps, and gave the turn goes on.
+use Rattle.std.proofs.Common.{◌≡◌, inl, inr, ℕ, ◌≤◌, Bool, true, false, true≢false, List, [], ◌∷◌, ◌++◌, length, refl, sym, subst, ap, ◌∙◌, append-nil, Option, Some, None, is_some}
+use Rattle.std.specs.Prelude.{unwrap_or, Result, Ok, Err}
+use Rattle.std.specs.FinSet as set
+use Rattle.std.specs.FinMap as finite
+use Rattle.wp_model.specs.Batch.{key_cmp}
+use Rattle.wp_model.specs.LockTables.{LockTables}
+use Rattle.wp_model.specs.declared.entry.Entry.{Entry}
+use Rattle.wp_model.specs.declared.holder.Holder.{Holder}
+use Rattle.wp_model.specs.declared.holder.Holder.TheVariants.{Txn}
+use Rattle.wp_locks.specs.Locks.{FreesAllOf}
+use Rattle.wp_core.specs.Lists.{IsIn}
+use Rattle.wp_core.specs.Tables.{Content, locks}
+use Rattle.wp_core.specs.Turns.{locks_turn}
+use Rattle.wp_core.specs.Views.{Account, Fact, claimed, told, heard, unprepared}
+use Rattle.wp_core.specs.World.{Transaction, Participant, Actor, World}
+use Rattle.wp_core.specs.Changes.{held_with, held_without, sees, without_transaction, with_name, with_label}
+use Rattle.wp_core.specs.Sound.Actors.{StartsWith}
+use Rattle.wp_core.specs.Sound.Pasts.{past_of, IsPast}
+use Rattle.wp_core.specs.Sound.Views.{guarded_by}
+use Rattle.wp_core.proofs.AllParticipants.{mine}
+use Rattle.wp_core.proofs.Keyed.{at_inserted}
+use Rattle.wp_rule.specs.Accounts.{IsHolderIn}
+use Rattle.wp_rule.proofs.Knows.{at_sound}
+use Rattle.wp_guarded.specs.declared.part.Part.{Part}
+use Rattle.wp_guarded.specs.declared.part.Part.TheVariants as part
+use Rattle.wp_guarded.specs.Parts.{content}
+use Rattle.wp_shared.specs.Seats.{SharedState, SeatState, IsFree, Stands, place_at}
+use Rattle.wp_shared.specs.Calls.{ContinuesWith, Continues}
+use Rattle.wp_txn.specs.declared.error.TxnError.{TxnError}
+use Rattle.wp_txn.specs.declared.error.TxnError.TheVariants.{Memory, Taken, Busy, TooMany, Silent, Unknown, InUse, NumbersFull, LogFault, Stopped}
+use Rattle.wp_txn.specs.Actors.{no_changes, with_claimed, with_found, with_told, with_heard, without}
+use Rattle.wp_txn.specs.Calls.{StoodAs, remembering, with_transaction, Keeps, Finds, Parts, Begins, Tells, IsSilent, Hears}
+use Rattle.wp_txn.specs.Turns.{seat_of, with_locks, HoldsLocks, GaveLocks, IsApartFrom, IsWithout}
+use Rattle.wp_txn.specs.Txn.{HasOpen}
+use Rattle.wp_txn.specs.Under.{Claims, TellsUnder, HearsUnder}
+use Rattle.wp_txn.proofs.Freed.{freed_tables}
+
+same_locks : (l r : LockTables) → Some (locks l) ≡ Some (locks r) → l ≡ r
+same_locks l r e = cc
+
+pub tables_found : {D : Type 0} (x : Part D) (l r : LockTables) → content x ≡ Some (locks l) → x ≡ part.Locks r → l ≡ r
+tables_found x l r is e = same_locks l r (sym is ∙ ap content e)
+
+pub same_rest : (n : ℕ) (xs ys : List ℕ) → n ∷ xs ≡ n ∷ ys → xs ≡ ys
+same_rest n xs ys e = cc
+
+-- notes that need no turn
+abbrev pub Turnless : Fact → Type 0
+Turnless fact = guarded_by fact ≡ None
+
+participant_back : (s new : SeatState) → GaveLocks s new → new.knows.participant ≡ s.knows.participant
+participant_back s new gave = ap (λ (x : Actor). x.participant) gave.knows
+
+module _ {D : Type 0} (z : SharedState D) (old : SeatState) (free : IsFree z.table old) where
+  pub stays : Keeps z old old
+  stays = record { free = free; same_by = refl; seen = ([], sym (append-nil old.knows.participant.seen)); participant = refl; notes = λ fact turnless there. there; made = refl; joined = refl }
+
+  -- of what it held under the turn nothing is left
+  pub held_back : (t u : LockTables) → held_without (held_with (locks t ∷ old.knows.held) (locks u)) locks_turn ≡ []
+  held_back t u = ap (λ (held : List Content). held_without (held_with (locks t ∷ held) (locks u)) locks_turn) free.held
+
+  held_same : (t : LockTables) → held_without (locks t ∷ old.knows.held) locks_turn ≡ []
+  held_same t = ap (λ (held : List Content). held_without (locks t ∷ held) locks_turn) free.held
+
+  -- the actor is this one, and holds nothing
+  pub came_back : (Stays : Fact → Type 0) (b : Actor) (new : SeatState) (held : List Content) → new.knows ≡ record b { held = held; notes = new.knows.notes } → held ≡ [] → new.table ≡ old.table → new.by ≡ old.by → new.turns ≡ old.turns
+      → b.live ≡ true → b.made ≡ old.knows.made → b.joined ≡ old.knows.joined → StartsWith b.participant.seen old.knows.participant.seen → ((fact : Fact) → Stays fact → IsIn fact old.knows.notes → IsIn fact new.knows.notes)
+      → ContinuesWith Stays z old new b.participant
+  came_back Stays b new held e none table by turns live made joined seen notes =
+      let p : new.knows.participant ≡ b.participant = ap (λ (x : Actor). x.participant) e in
+      record {
+        free = record {
+          same_table = table ∙ free.same_table;
+          live = ap (λ (x : Actor). x.live) e ∙ live;
+          turns = turns ∙ free.turns;
+          held = ap (λ (x : Actor). x.held) e ∙ none;
+        };
+        same_by = by;
+        seen = (seen.0, ap (λ (x : Participant). x.seen) p ∙ seen.1);
+        participant = p ∙ ap (λ (entries : List Entry). record b.participant { seen = entries }) (sym (ap (λ (x : Participant). x.seen) p));
+        notes = notes;
+        made = ap (λ (x : Actor). x.made) e ∙ made;
+        joined = ap (λ (x : Actor). x.joined) e ∙ joined;
+      }
+
+  -- the actor became this one under the turn
+  pub back : (Stays : Fact → Type 0) (t : LockTables) (b : Actor) (s new : SeatState) → s ≡ seat_of (with_locks t old) b → GaveLocks s new → held_without b.held locks_turn ≡ [] → b.live ≡ true
+      → b.made ≡ old.knows.made → b.joined ≡ old.knows.joined → StartsWith b.participant.seen old.knows.participant.seen → ((fact : Fact) → Stays fact → IsIn fact old.knows.notes → IsIn fact b.notes)
+      → ContinuesWith Stays z old new b.participant
+  back Stays t b s new is gave none live made joined seen notes =
+      let was : s.knows ≡ b = ap (λ (x : SeatState). x.knows) is in
+      came_back Stays b new (held_without b.held locks_turn) (gave.knows ∙ ap (λ (x : Actor). record x { held = held_without x.held locks_turn; notes = new.knows.notes }) was) none
+      (gave.same_table ∙ ap (λ (x : SeatState). x.table) is) (gave.same_by ∙ ap (λ (x : SeatState). x.by) is)
+      (sym (same_rest 4 old.turns new.turns (sym (ap (λ (x : SeatState). x.turns) is) ∙ gave.turns))) live made joined seen
+      (λ fact kept there. gave.notes fact (subst (λ (x : Actor). IsIn fact x.notes) (sym was) (notes fact kept there)))
+
+  -- a fact that it noted under the turn it has noted still
+  pub noted_back : (t : LockTables) (b : Actor) (s new : SeatState) (fact : Fact) → s ≡ seat_of (with_locks t old) b → GaveLocks s new → IsIn fact b.notes → IsIn fact new.knows.notes
+  noted_back t b s new fact is gave there = gave.notes fact (subst (λ (x : SeatState). IsIn fact x.knows.notes) (sym is) there)
+
+  -- ---- under the turn
+
+  module _ (t : LockTables) (s : SeatState) (took : s ≡ with_locks t old) where
+    -- what is so of the seat with the turn
+    pub under : (f : Actor → Actor) (r : SeatState) → r ≡ seat_of s (f s.knows) → r ≡ seat_of (with_locks t old) (f (with_locks t old).knows)
+    under f r e = e ∙ ap (λ (x : SeatState). seat_of x (f x.knows)) took
+
+    pub still_holds : (f : Actor → Actor) (r : SeatState) (u : LockTables) → r ≡ seat_of s (f s.knows) → (f (with_locks t old).knows).live ≡ true → IsIn (locks u) (f (with_locks t old).knows).held → HoldsLocks z r u
+    still_holds f r u e live there =
+        let is = under f r e in record {
+          same_table = ap (λ (x : SeatState). x.table) is ∙ free.same_table;
+          live = ap (λ (x : SeatState). x.knows.live) is ∙ live;
+          held = subst (λ (x : SeatState). IsIn (locks u) x.knows.held) (sym is) there;
+          others = old.turns;
+          turns = ap (λ (x : SeatState). x.turns) is;
+        }
+
+    -- it holds the tables without its transaction
+    pub freed_holds : (name : List ℕ) (l m : LockTables) (r : SeatState) → IsWithout s r (without_transaction t name) name → l ≡ record t { names = finite.remove t.names name } → FreesAllOf (Txn name) l.keys m.keys → m ≡ record l { keys = m.keys }
+        → HoldsLocks z r m
+    freed_holds name l m r without_it named freed same =
+        still_holds (λ a. record (without (without_transaction t name) name a) { notes = r.knows.notes }) r m without_it.seat free.live (inl (ap locks (sym (freed_tables t l m name named freed same))))
+
+    module _ (new : SeatState) where
+      -- nothing was done
+      pub nothing_done : (r : SeatState) → r ≡ s → GaveLocks r new → Keeps z old new
+      nothing_done r e gave = back Turnless t (with_locks t old).knows r new (e ∙ took) gave (held_same t) free.live refl refl ([], sym (append-nil old.knows.participant.seen)) (λ fact kept there. there)
+
+      -- it saw more of the history
+      pub saw : (r : SeatState) (history : List Entry) → r ≡ seat_of s (sees history s.knows) → StartsWith history s.knows.participant.seen → GaveLocks r new → Keeps z old new
+      saw r history e starts gave =
+          let goes = back Turnless t (sees history (with_locks t old).knows) r new (under (sees history) r e) gave (held_same t) free.live refl refl (subst (λ (x : SeatState). StartsWith history x.knows.participant.seen) took starts) (λ fact kept there. there) in
+          record { free = goes.free; same_by = goes.same_by; seen = goes.seen; participant = goes.participant; notes = goes.notes; made = goes.made; joined = goes.joined }
+
+      -- it found a holder
+      pub finds : (w : World) (key : Option (List ℕ)) (holder : Holder) (r : SeatState) (account : Account) → Stands z old w → w.locks ≡ t → IsHolderIn t key holder → r ≡ seat_of s (with_found key holder account s.knows) → GaveLocks r new
+          → Finds z old new key holder
+      finds w key holder r account stands are is e gave = record {
+        world = w;
+        stood = record { actor = old.knows; participant_is = refl; there = stands };
+        holds = subst (λ (l : LockTables). IsHolderIn l key holder) (sym are) is;
+        account = account;
+        goes_on = back Turnless t (with_found key holder account (with_locks t old).knows) r new (under (with_found key holder account) r e) gave (held_same t) free.live refl refl ([], sym (append-nil old.knows.participant.seen)) (λ fact kept there. there);
+      }
+
+      -- ---- a name
+
+      pub begun : (name : List ℕ) (r : SeatState) → r ≡ seat_of s (with_claimed t name s.knows) → GaveLocks r new
+          → HasOpen new name [] × Continues z old new (remembering (claimed name ∷ []) (with_transaction name no_changes old.knows.participant))
+      begun name r e gave =
+          let b = with_claimed t name (with_locks t old).knows in let is = under (with_claimed t name) r e in
+          let goes = back Turnless t b r new is gave (held_back t (with_name t name (Some old.knows.participant.client))) free.live refl refl ([], sym (append-nil old.knows.participant.seen)) (λ fact kept there. inr there) in (
+            record {
+              transaction = no_changes;
+              has = ap (λ (x : Participant). finite.get x.transactions name) goes.participant ∙ at_inserted old.knows.participant.transactions name no_changes name refl;
+              batch_is = refl;
+              keys = λ key. set.contains-empty key_cmp key;
+              noted = noted_back t b r new (unprepared name) is gave (inl refl);
+            },
+            goes,
+          )
+
+      pub not_begun : (w : World) (name : List ℕ) (why : TxnError) (u : LockTables) (r : SeatState) → Stands z old w → w.locks ≡ t → Claims t s name (Err why) u r → GaveLocks r new → Begins z old name (Err why) new
+      not_begun w name (Taken other) u r stands are c gave = (c.0, finds w None (Txn name) r c.1.2.0 stands are (name, refl, c.1.0) c.1.2.1 gave)
+      not_begun w name Memory u r stands are c gave = nothing_done r c.1 gave
+      not_begun w name (Busy holder) u r stands are c gave = c
+      not_begun w name TooMany u r stands are c gave = c
+      not_begun w name Silent u r stands are c gave = c
+      not_begun w name (Unknown other at) u r stands are c gave = c
+      not_begun w name (InUse other) u r stands are c gave = c
+      not_begun w name (NumbersFull published limit) u r stands are c gave = c
+      not_begun w name LogFault u r stands are c gave = c
+      not_begun w name (Stopped n) u r stands are c gave = c
+
+      pub parted : (name : List ℕ) (u : LockTables) (r : SeatState) → IsWithout s r u name → GaveLocks r new → Parts z old new name
+      parted name u r without_it gave =
+          let f : Actor → Actor = λ a. record (without u name a) { notes = r.knows.notes } in
+          let goes = back (IsApartFrom name) t (f (with_locks t old).knows) r new (under f r without_it.seat) gave (held_back t u) free.live refl refl ([], sym (append-nil old.knows.participant.seen))
+          (λ fact apart there. without_it.notes fact apart (subst (λ (x : SeatState). IsIn fact x.knows.notes) (sym took) there)) in
+          goes
+
+      -- ---- the board
+
+      pub told_back : (label : List ℕ) (answer : Result ℕ TxnError) (u : LockTables) (r : SeatState) → TellsUnder t s label answer u r → GaveLocks r new → Tells z old label answer new
+      told_back label (Ok n) u r c gave =
+          let h : List Entry = c.1.0 in let f : Actor → Actor = λ a. with_told t label (sees h a) in
+          let goes : Continues z old new (remembering (told label (length h) ∷ []) (record old.knows.participant { seen = h })) =
+          back Turnless t (f (with_locks t old).knows) r new (under f r c.1.3) gave (held_back t (with_label t label (length h))) free.live refl refl (subst (λ (x : SeatState). StartsWith h x.knows.participant.seen) took c.1.1) (λ fact kept there. there) in
+          let seen : new.knows.participant.seen ≡ h = ap (λ (x : Participant). x.seen) (participant_back r new gave) ∙ ap (λ (x : SeatState). x.knows.participant.seen) (under f r c.1.3) in (
+            c.1.2 ∙ ap (λ (entries : List Entry). length entries) (sym seen),
+            record {
+              free = goes.free; same_by = goes.same_by; seen = goes.seen;
+              participant = goes.participant ∙ ap (λ (m : ℕ). record (remembering (told label m ∷ []) old.knows.participant) { seen = new.knows.participant.seen }) (sym c.1.2);
+              notes = goes.notes; made = goes.made; joined = goes.joined;
+            },
+          )
+      told_back label (Err Memory) u r c gave = saw r c.1.0 c.1.2 c.1.1 gave
+      told_back label (Err (Taken other)) u r c gave = c
+      told_back label (Err (Busy holder)) u r c gave = c
+      told_back label (Err TooMany) u r c gave = c
+      told_back label (Err Silent) u r c gave = c
+      told_back label (Err (Unknown other at)) u r c gave = c
+      told_back label (Err (InUse other)) u r c gave = c
+      told_back label (Err (NumbersFull published limit)) u r c gave = c
+      told_back label (Err LogFault) u r c gave = c
+      told_back label (Err (Stopped n)) u r c gave = c
+
+      pub heard_back : (w : World) (label : List ℕ) (answer : Result ℕ TxnError) (r : SeatState) → Stands z old w → w.locks ≡ t → HearsUnder t s label answer r → GaveLocks r new → Hears z old label answer new
+      heard_back w label (Ok n) r stands are c gave =
+          let h : List Entry = c.1 in let f : Actor → Actor = with_heard h label c.0 in
+          let goes = back Turnless t (f (with_locks t old).knows) r new (under f r c.5) gave (held_same t) free.live refl refl (subst (λ (x : SeatState). StartsWith h x.knows.participant.seen) took c.3) (λ fact kept there. there) in
+          let seen : new.knows.participant.seen ≡ h = ap (λ (x : Participant). x.seen) (participant_back r new gave) ∙ ap (λ (x : SeatState). x.knows.participant.seen) (under f r c.5) in (
+            c.4 ∙ ap (λ (entries : List Entry). length entries) (sym seen),
+            (c.0, subst (λ (k : ℕ). c.0 ≤ k) (sym c.4) c.2, record { free = goes.free; same_by = goes.same_by; seen = goes.seen; participant = goes.participant; notes = goes.notes; made = goes.made; joined = goes.joined }),
+          )
+      heard_back w label (Err Silent) r stands are c gave =
+          let none : finite.get w.locks.labels label ≡ None = ap (λ (l : LockTables). finite.get l.labels label) are ∙ c.0 in
+          let past = mine past_of w.actors old.by old.knows old.knows stands.there refl in
+          let board = (at_sound (place_at z old.by) old.knows w stands).board in (
+            record {
+              world = w;
+              stood = record { actor = old.knows; participant_is = refl; there = stands };
+              none = none;
+              not_told = λ n there. true≢false (sym (board.labels label n (inl (old.by, 0, (old.knows.participant.past, past, there)))) ∙ ap is_some none);
+              not_heard = λ n there. true≢false (sym (board.labels label n (inr (old.by, 0, (old.knows.participant.past, past, there)))) ∙ ap is_some none);
+            },
+            nothing_done r c.1 gave,
+          )
+      heard_back w label (Err Memory) r stands are c gave = c
+      heard_back w label (Err (Taken other)) r stands are c gave = c
+      heard_back w label (Err (Busy holder)) r stands are c gave = c
+      heard_back w label (Err TooMany) r stands are c gave = c
+      heard_back w label (Err (Unknown other at)) r stands are c gave = c
+      heard_back w label (Err (InUse other)) r stands are c gave = c
+      heard_back w label (Err (NumbersFull published limit)) r stands are c gave = c
+      heard_back w label (Err LogFault) r stands are c gave = c
+      heard_back w label (Err (Stopped n)) r stands are c gave = c

@@ -1,0 +1,5 @@
+mod Made
+mod Freed
+mod GoesOn
+mod Adding
+mod Taking

@@ -1,0 +1,227 @@
+-- A seat that took the write turn and then the locks turn, took a prepare or found that it may not, and gave both turns.
+use Rattle.std.proofs.Common.{◌≡◌, inl, inr, ℕ, ◌≤◌, true, true≢false, List, [], ◌∷◌, length, refl, sym, subst, ap, ◌∙◌, append-nil, Option, Some, None, is_some}
+use Rattle.std.specs.Prelude.{unwrap_or, Result, Ok, Err}
+use Rattle.std.specs.FinSet as set
+use Rattle.std.specs.FinMap as finite
+use Rattle.std.proofs.lemmas.Slice.Eq.{bytes_eq-Decides}
+use Rattle.wp_model.specs.History.{named, name_at, batch_at, is_changed}
+use Rattle.wp_model.specs.LockTables.{LockTables}
+use Rattle.wp_model.specs.declared.change.Change.{Change}
+use Rattle.wp_model.specs.declared.entry.Entry.{Entry}
+use Rattle.wp_model.specs.declared.holder.Holder.TheVariants.{Txn}
+use Rattle.wp_model.proofs.Entries.{undecided_within}
+use Rattle.wp_model.proofs.Found.{found_named}
+use Rattle.wp_locks.specs.Locks.{RefusesTake}
+use Rattle.wp_locks.specs.declared.error.LockError.TheVariants as why
+use Rattle.wp_core.specs.Lists.{IsIn}
+use Rattle.wp_core.specs.Tables.{Content, writes, locks}
+use Rattle.wp_core.specs.Turns.{write_turn, locks_turn}
+use Rattle.wp_core.specs.Views.{Account, Fact, took, undecided_at}
+use Rattle.wp_core.specs.World.{Transaction, Participant, Actor, World}
+use Rattle.wp_core.specs.Changes.{held_with, held_without, sees, keys_of_holder, with_name}
+use Rattle.wp_core.specs.Steps.{give_turn}
+use Rattle.wp_core.specs.Sound.Actors.{StartsWith}
+use Rattle.wp_core.proofs.HistoryGrows.{none_is}
+use Rattle.wp_core.proofs.Keyed.{at_inserted}
+use Rattle.wp_rule.specs.Words.{Place, IsAt}
+use Rattle.wp_rule.specs.Moves.{MayStep}
+use Rattle.wp_rule.proofs.Knows.{at_sound}
+use Rattle.wp_rule.proofs.Needed.{needed}
+use Rattle.wp_guarded.specs.Log.{LogState}
+use Rattle.wp_guarded.specs.Parts.{log_first}
+use Rattle.wp_shared.specs.Seats.{SharedState, SeatState, IsFree, Stands, place_at}
+use Rattle.wp_shared.specs.Calls.{Continues}
+use Rattle.wp_txn.specs.declared.error.TxnError.{TxnError}
+use Rattle.wp_txn.specs.declared.error.TxnError.TheVariants.{Memory, Taken, Busy, TooMany, Silent, Unknown, InUse, NumbersFull, LogFault, Stopped}
+use Rattle.wp_txn.specs.Actors.{with_found, with_taken}
+use Rattle.wp_txn.specs.Calls.{remembering, with_transaction, Keeps, Finds, Takes, TakesPrepared}
+use Rattle.wp_txn.specs.Turns.{seat_of, with_locks, GaveLocks, TookLog, HoldsLog, GaveLog, TakesPrepare}
+use Rattle.wp_txn.specs.Txn.{PreparedState, HasPrepared}
+use Rattle.wp_txn.specs.Under.{IsPrepareOf, TakesUnder}
+use Rattle.wp_txn.proofs.GoesOn.{Turnless, same_rest, came_back}
+use Rattle.wp_txn.proofs.Made.{locks_are}
+
+-- ---- names
+
+-- a name that is not live names no undecided prepare
+pub not_named : (p : Place) (a : Actor) (w : World) (t : LockTables) (name : List ℕ) → IsAt p a w → IsIn (locks t) a.held → finite.get t.names name ≡ None → named w.writes.history name ≡ None
+not_named p a w t name k held free = none_is (named w.writes.history name) (λ q e.
+    let f = found_named w.writes.history name q e in
+    let same : name_at w.writes.history q ≡ name = (bytes_eq-Decides (name_at w.writes.history q) name).0 f.1 in
+    let live : is_some (finite.get w.locks.names name) ≡ true = ap (λ (n : List ℕ). is_some (finite.get w.locks.names n)) (sym same) ∙ (at_sound p a w k).locks.prepared_names q f.0 in
+    true≢false (sym live ∙ ap (λ (l : LockTables). is_some (finite.get l.names name)) (locks_are p a w t k held) ∙ ap is_some free))
+
+pub refused_unknown : (o : Option (Option (List ℕ))) (name asked : List ℕ) → RefusesTake o name (why.Unknown asked) → (o ≡ None) × (asked ≡ name)
+refused_unknown None name asked r = (refl, r)
+refused_unknown (Some None) name asked r = absurd r
+refused_unknown (Some (Some client)) name asked r = absurd r
+
+pub refused_used : (o : Option (Option (List ℕ))) (name asked : List ℕ) → RefusesTake o name (why.InUse asked) → (is_some o ≡ true) × (asked ≡ name)
+refused_used None name asked r = absurd r
+refused_used (Some None) name asked r = absurd r
+refused_used (Some (Some client)) name asked r = (refl, r)
+
+-- ---- turns
+
+pub may_give_log : (p : Place) (a : Actor) (log : LogState) → IsIn (writes log.table) a.held → log.table.pending ≡ [] → MayStep p a (give_turn write_turn)
+may_give_log p a log held none w k = needed p a w k (give_turn write_turn) (record { table = log.table; held = held; so_is = none })
+
+there_is : (o : Option ℕ) (n : ℕ) → o ≡ Some n → unwrap_or o 0 ≡ n
+there_is o n e = ap (λ (x : Option ℕ). unwrap_or x 0) e
+
+module _ {D : Type 0} (z : SharedState D) (old : SeatState) (free : IsFree z.table old) (log : LogState) (s : SeatState) (took_log : TookLog z old s log) where
+  -- the log was taken alone
+  pub with_log : HoldsLog z s log
+  with_log = record {
+    same_table = took_log.same_table ∙ free.same_table;
+    held = subst (λ (x : Actor). IsIn (writes log.table) x.held) (sym took_log.knows) (inl refl);
+    others = old.turns;
+    turns = took_log.turns;
+    pending = took_log.pending;
+    of_store = took_log.of_store;
+  }
+
+  pub gave_at_once : (new : SeatState) → GaveLog s new → Keeps z old new
+  gave_at_once new gave =
+      came_back z old free Turnless old.knows new (held_without (writes log.table ∷ old.knows.held) write_turn)
+      (gave.knows ∙ ap (λ (x : Actor). record x { held = held_without x.held write_turn; notes = new.knows.notes }) took_log.knows)
+      (ap (λ (held : List Content). held_without (writes log.table ∷ held) write_turn) free.held)
+      (gave.same_table ∙ took_log.same_table) (gave.same_by ∙ took_log.same_by) (sym (same_rest 0 old.turns new.turns (sym took_log.turns ∙ gave.turns)))
+      free.live refl refl ([], sym (append-nil old.knows.participant.seen)) (λ fact kept there. gave.notes fact kept (took_log.notes fact there))
+
+  module _ (t : LockTables) (s2 : SeatState) (took_it : s2 ≡ with_locks t s) where
+    -- the actor with both turns
+    abbrev both : Actor
+    both = record old.knows { held = locks t ∷ writes log.table ∷ old.knows.held; notes = s.knows.notes }
+
+    under_both : (f : Actor → Actor) (r : SeatState) → r ≡ seat_of s2 (f s2.knows) → r ≡ seat_of (with_locks t s) (f both)
+    under_both f r e =
+        e ∙ ap (λ (x : SeatState). seat_of x (f x.knows)) took_it
+        ∙ ap (λ (a : Actor). seat_of (with_locks t s) (f a)) (ap (λ (a : Actor). record a { held = locks t ∷ a.held }) took_log.knows)
+
+    module _ (r s4 : SeatState) (gave : GaveLocks r s4) where
+      log_kept : (b : Actor) → r ≡ seat_of (with_locks t s) b → IsIn (writes log.table) (held_without b.held locks_turn) → HoldsLog z s4 log
+      log_kept b is there = record {
+        same_table = gave.same_table ∙ ap (λ (x : SeatState). x.table) is ∙ took_log.same_table ∙ free.same_table;
+        held = subst (λ (x : Actor). IsIn (writes log.table) x.held) (sym gave.knows) (subst (λ (x : SeatState). IsIn (writes log.table) (held_without x.knows.held locks_turn)) (sym is) there);
+        others = old.turns;
+        turns = sym (same_rest 4 s.turns s4.turns (sym (ap (λ (x : SeatState). x.turns) is) ∙ gave.turns)) ∙ took_log.turns;
+        pending = took_log.pending;
+        of_store = took_log.of_store;
+      }
+
+      pub log_after : (name : List ℕ) (answer : Result (Unit {0}) TxnError) (u : LockTables) → TakesUnder t s2 name answer u r → HoldsLog z s4 log
+      log_after name (Ok done) u c = log_kept (with_taken t c.2.history name both) (under_both (with_taken t c.2.history name) r c.2.seat) (inl refl)
+      log_after name (Err (Unknown other at)) u c = log_kept (sees c.3.0 both) (under_both (sees c.3.0) r c.3.4) (inl refl)
+      log_after name (Err (InUse other)) u c = log_kept (with_found None (Txn name) c.1.2.0 both) (under_both (with_found None (Txn name) c.1.2.0) r c.1.2.1) (inl refl)
+      log_after name (Err Memory) u c = log_kept both (under_both (λ a. a) r c.1) (inl refl)
+      log_after name (Err (Taken other)) u c = absurd c
+      log_after name (Err (Busy holder)) u c = absurd c
+      log_after name (Err TooMany) u c = absurd c
+      log_after name (Err Silent) u c = absurd c
+      log_after name (Err (NumbersFull published limit)) u c = absurd c
+      log_after name (Err LogFault) u c = absurd c
+      log_after name (Err (Stopped n)) u c = absurd c
+
+      module _ (new : SeatState) (gave_log : GaveLog s4 new) where
+        both_back : (b : Actor) → r ≡ seat_of (with_locks t s) b → held_without (held_without b.held locks_turn) write_turn ≡ [] → b.live ≡ true → b.made ≡ old.knows.made → b.joined ≡ old.knows.joined
+            → StartsWith b.participant.seen old.knows.participant.seen → ((fact : Fact) → IsIn fact s.knows.notes → IsIn fact b.notes) → Continues z old new b.participant
+        both_back b is none live made joined seen notes =
+            let was : r.knows ≡ b = ap (λ (x : SeatState). x.knows) is in
+            let turns : s4.turns ≡ 0 ∷ old.turns = sym (same_rest 4 s.turns s4.turns (sym (ap (λ (x : SeatState). x.turns) is) ∙ gave.turns)) ∙ took_log.turns in
+            came_back z old free Turnless b new (held_without (held_without b.held locks_turn) write_turn)
+            (gave_log.knows ∙ ap (λ (x : Actor). record x { held = held_without x.held write_turn; notes = new.knows.notes }) gave.knows
+            ∙ ap (λ (x : Actor). record x { held = held_without (held_without x.held locks_turn) write_turn; notes = new.knows.notes }) was)
+            none
+            (gave_log.same_table ∙ gave.same_table ∙ ap (λ (x : SeatState). x.table) is ∙ took_log.same_table)
+            (gave_log.same_by ∙ gave.same_by ∙ ap (λ (x : SeatState). x.by) is ∙ took_log.same_by)
+            (sym (same_rest 0 old.turns new.turns (sym turns ∙ gave_log.turns)))
+            live made joined seen
+            (λ fact kept there. gave_log.notes fact kept (gave.notes fact (subst (λ (a : Actor). IsIn fact a.notes) (sym was) (notes fact (took_log.notes fact there)))))
+
+        none_held : (u : LockTables) → held_without (held_without (held_with (locks t ∷ writes log.table ∷ old.knows.held) (locks u)) locks_turn) write_turn ≡ []
+        none_held u = ap (λ (held : List Content). held_without (held_without (held_with (locks t ∷ writes log.table ∷ held) (locks u)) locks_turn) write_turn) free.held
+
+        same_held : held_without (held_without (locks t ∷ writes log.table ∷ old.knows.held) locks_turn) write_turn ≡ []
+        same_held = ap (λ (held : List Content). held_without (held_without (locks t ∷ writes log.table ∷ held) locks_turn) write_turn) free.held
+
+        was_seen : s2.knows.participant.seen ≡ old.knows.participant.seen
+        was_seen = ap (λ (x : SeatState). x.knows.participant.seen) took_it ∙ ap (λ (a : Actor). a.participant.seen) took_log.knows
+
+        seen_more : (history : List Entry) → StartsWith history s2.knows.participant.seen → StartsWith history old.knows.participant.seen
+        seen_more history starts = subst (λ (seen : List Entry). StartsWith history seen) was_seen starts
+
+        participant_after : new.knows.participant ≡ r.knows.participant
+        participant_after = ap (λ (a : Actor). a.participant) gave_log.knows ∙ ap (λ (a : Actor). a.participant) gave.knows
+
+        -- ---- a refusal
+
+        pub not_taken : (w : World) (name : List ℕ) (reason : TxnError) (u : LockTables) → Stands z s w → w.locks ≡ t → TakesUnder t s2 name (Err reason) u r → TakesPrepared z old name (Err reason) new
+        not_taken w name (Unknown other at) u stands are c =
+            let h : List Entry = c.3.0 in let is = under_both (sees h) r c.3.4 in
+            let goes = both_back (sees h both) is same_held free.live refl refl (seen_more h c.3.1) (λ fact there. there) in
+            let seen : new.knows.participant.seen ≡ h = ap (λ (p : Participant). p.seen) participant_after ∙ ap (λ (x : SeatState). x.knows.participant.seen) is in (
+              c.0,
+              c.3.3 ∙ ap (λ (entries : List Entry). length entries) (sym seen),
+              ap (λ (entries : List Entry). named entries name) seen ∙ c.3.2,
+              record { free = goes.free; same_by = goes.same_by; seen = goes.seen; participant = goes.participant; notes = goes.notes; made = goes.made; joined = goes.joined },
+            )
+        not_taken w name (InUse other) u stands are c = (
+          c.0,
+          record {
+            world = w;
+            stood = record {
+              actor = s.knows;
+              participant_is = ap (λ (a : Actor). a.participant) took_log.knows;
+              there = subst (λ (by : ℕ). IsAt (place_at z by) s.knows w) took_log.same_by stands;
+            };
+            holds = (name, refl, ap (λ (l : LockTables). is_some (finite.get l.names name)) are ∙ c.1.0);
+            account = c.1.2.0;
+            goes_on = both_back (with_found None (Txn name) c.1.2.0 both) (under_both (with_found None (Txn name) c.1.2.0) r c.1.2.1) same_held free.live refl refl ([], sym (append-nil old.knows.participant.seen)) (λ fact there. there);
+          },
+        )
+        not_taken w name Memory u stands are c = both_back both (under_both (λ a. a) r c.1) same_held free.live refl refl ([], sym (append-nil old.knows.participant.seen)) (λ fact there. there)
+        not_taken w name (Taken other) u stands are c = absurd c
+        not_taken w name (Busy holder) u stands are c = absurd c
+        not_taken w name TooMany u stands are c = absurd c
+        not_taken w name Silent u stands are c = absurd c
+        not_taken w name (NumbersFull published limit) u stands are c = absurd c
+        not_taken w name LogFault u stands are c = absurd c
+        not_taken w name (Stopped n) u stands are c = absurd c
+
+        -- ---- the prepare
+
+        module _ (name : List ℕ) (c : TakesPrepare s2 t name r) where
+          -- the history that it saw is the log's
+          of_log : c.history ≡ log.table.history
+          of_log = c.same log.table (subst (λ (x : SeatState). IsIn (writes log.table) x.knows.held) (sym took_it) (inr (subst (λ (a : Actor). IsIn (writes log.table) a.held) (sym took_log.knows) (inl refl))))
+
+          pub not_none : IsPrepareOf log.table.history name None → ⊥
+          not_none none = true≢false (sym c.named_there ∙ ap (λ (h : List Entry). is_some (named h name)) of_log ∙ ap is_some none)
+
+          pub taken : (number : ℕ) (batch : List Change) → IsPrepareOf log.table.history name (Some (number, batch)) → Takes z old name (record { name = name; number = number; batch = batch }) new
+          taken number batch p =
+              let h : List Entry = c.history in let q : ℕ = unwrap_or (named h name) 0 in let b = with_taken t h name both in
+              let is = under_both (with_taken t h name) r c.seat in
+              let named_is : named h name ≡ Some number = ap (λ (entries : List Entry). named entries name) of_log ∙ p.0 in
+              let number_is : q ≡ number = there_is (named h name) number named_is in
+              let batch_is : batch_at h q ≡ batch = ap (batch_at h) number_is ∙ ap (λ (entries : List Entry). batch_at entries number) of_log ∙ p.1 in
+              let x : Transaction = record { batch = batch_at h q; locked = keys_of_holder t (Txn name) } in
+              let goes = both_back b is (none_held (with_name t name (Some old.knows.participant.client))) free.live refl refl (seen_more h c.seen) (λ fact there. inr there) in
+              let seen : new.knows.participant.seen ≡ h = ap (λ (y : Participant). y.seen) participant_after ∙ ap (λ (y : SeatState). y.knows.participant.seen) is in
+              let f = found_named h name number named_is in
+              record {
+                name_is = refl;
+                number_is = ap (λ (entries : List Entry). named entries name) seen ∙ named_is;
+                batch_is = ap (λ (entries : List Entry). batch_at entries number) (seen ∙ of_log) ∙ p.1;
+                has = record {
+                  transaction = x;
+                  has = ap (λ (y : Participant). finite.get y.transactions name) goes.participant ∙ at_inserted old.knows.participant.transactions name x name refl;
+                  batch_is = batch_is;
+                  keys = λ key changed. c.keys key (ap (λ (changes : List Change). is_changed changes key) batch_is ∙ changed);
+                  noted = gave_log.notes (undecided_at name number) refl (gave.notes (undecided_at name number)
+                      (subst (λ (y : SeatState). IsIn (undecided_at name number) y.knows.notes) (sym is) (inl (ap (undecided_at name) number_is))));
+                  seen = subst (λ (entries : List Entry). number ≤ length entries) (sym seen) (undecided_within h number f.0).1;
+                };
+                goes_on = record { free = goes.free; same_by = goes.same_by; seen = goes.seen; participant = goes.participant; notes = goes.notes; made = goes.made; joined = goes.joined };
+              }

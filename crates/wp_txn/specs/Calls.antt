@@ -1,0 +1,123 @@
+-- What the calls answer, and what they leave of the seat.
+use Rattle.std.specs.Prelude.{◌≡◌, ℕ, ◌≤◌, Bool, true, false, List, [], ◌∷◌, ◌++◌, length, Option, Some, None, Result, Ok, Err}
+use Rattle.std.specs.FinMap as finite
+use Rattle.wp_model.specs.declared.batch.TheConstants.{MOST_KEYS}
+use Rattle.wp_model.specs.declared.change.Change.{Change}
+use Rattle.wp_model.specs.declared.holder.Holder.{Holder}
+use Rattle.wp_model.specs.declared.holder.Holder.TheVariants.{Txn}
+use Rattle.wp_model.specs.Batch.{key_of, change_to, with_change}
+use Rattle.wp_model.specs.History.{named, batch_at, is_changed}
+use Rattle.wp_core.specs.Views.{Account, Event, claimed, took, locked, told, heard, found}
+use Rattle.wp_core.specs.Lists.{IsIn}
+use Rattle.wp_core.specs.World.{Transaction, Participant, Actor, World}
+use Rattle.wp_rule.specs.Words.{IsAt}
+use Rattle.wp_rule.specs.Accounts.{IsHolderIn}
+use Rattle.wp_shared.specs.Seats.{SharedState, SeatState, place_at}
+use Rattle.wp_shared.specs.Calls.{ContinuesWith, Continues}
+use Rattle.wp_txn.specs.declared.error.TxnError.{TxnError}
+use Rattle.wp_txn.specs.declared.error.TxnError.TheVariants.{Memory, Taken, Busy, TooMany, Silent, Unknown, InUse}
+use Rattle.wp_txn.specs.Txn.{OpenState, PreparedState, HasOpen, HasPrepared}
+use Rattle.wp_txn.specs.Actors.{no_changes, transaction_in, with_key_locked}
+use Rattle.wp_txn.specs.Turns.{IsApartFrom}
+
+-- a reached world of the store in which the seat was this participant
+pub record StoodAs {D : Type 0} (z : SharedState D) (by : ℕ) (p : Participant) (w : World) : Type 0 where
+  pub actor : Actor
+  pub participant_is : actor.participant ≡ p
+  pub there : IsAt (place_at z by) actor w
+
+-- it remembers these events too
+abbrev pub remembering : List Event → Participant → Participant
+remembering events p = record p { past = p.past ++ events }
+
+-- it has this transaction, in place of one of the same name
+abbrev pub with_transaction : List ℕ → Transaction → Participant → Participant
+with_transaction name x p = record p { transactions = finite.insert p.transactions name x }
+
+abbrev pub without_transaction : List ℕ → Participant → Participant
+without_transaction name p = record p { transactions = finite.remove p.transactions name }
+
+-- the seat goes on as it was
+abbrev pub Keeps : {D : Type 0} → SharedState D → SeatState → SeatState → Type 0
+Keeps z old new = Continues z old new old.knows.participant
+
+-- The tables, as the call found them, had this holder of the key, or else of a live name. The seat remembers that it found it.
+pub record Finds {D : Type 0} (z : SharedState D) (old new : SeatState) (key : Option (List ℕ)) (holder : Holder) : Type 0 where
+  pub world : World
+  pub stood : StoodAs z old.by old.knows.participant world
+  pub holds : IsHolderIn world.locks key holder
+  pub account : Account
+  pub goes_on : Continues z old new (remembering (found key holder (length old.knows.participant.seen) account ∷ []) old.knows.participant)
+
+-- a transaction of this name is gone from the seat, which knows no more about it
+abbrev pub Parts : {D : Type 0} → SharedState D → SeatState → SeatState → List ℕ → Type 0
+Parts z old new name = ContinuesWith (IsApartFrom name) z old new (without_transaction name old.knows.participant)
+
+abbrev pub Begins : {D : Type 0} → SharedState D → SeatState → List ℕ → Result OpenState TxnError → SeatState → Type 0
+Begins z old name (Ok txn) new = (txn ≡ record { name = name; batch = [] }) × HasOpen new name [] × Continues z old new (remembering (claimed name ∷ []) (with_transaction name no_changes old.knows.participant))
+Begins z old name (Err (Taken other)) new = (other ≡ name) × Finds z old new None (Txn name)
+Begins z old name (Err Memory) new = Keeps z old new
+Begins z old name (Err other) new = ⊥
+
+-- ---- changes
+
+-- 64 keys have a change, and this one has none
+abbrev pub IsFull : List Change → List ℕ → Type 0
+IsFull batch key = (length batch ≡ MOST_KEYS) × (change_to batch key ≡ None)
+
+-- the participant once it locked the key for its transaction, unless the key has a change already
+abbrev pub locking : Bool → List ℕ → List ℕ → Participant → Participant
+locking true name key p = p
+locking false name key p = remembering (locked key (Txn name) ∷ []) (with_transaction name (with_key_locked key (transaction_in p name)) p)
+
+-- ... and once its transaction has the batch with the change
+abbrev pub changing : List ℕ → List Change → Change → Participant → Participant
+changing name batch change p = let q = locking (is_changed batch (key_of change)) name (key_of change) p in with_transaction name (record (transaction_in q name) { batch = with_change batch change }) q
+
+-- what `put` and `del` answer, and what they leave
+abbrev pub Changes : {D : Type 0} → SharedState D → SeatState → OpenState → Change → Result (Unit {0}) TxnError → SeatState → OpenState → Type 0
+Changes z old txn change (Ok done) new left =
+    (IsFull txn.batch (key_of change) → ⊥) × (left ≡ record txn { batch = with_change txn.batch change }) × HasOpen new txn.name (with_change txn.batch change)
+    × Continues z old new (changing txn.name txn.batch change old.knows.participant)
+Changes z old txn change (Err TooMany) new left = IsFull txn.batch (key_of change) × (left ≡ txn) × HasOpen new txn.name txn.batch × Keeps z old new
+Changes z old txn change (Err (Busy holder)) new left =
+    (IsFull txn.batch (key_of change) → ⊥) × (left ≡ txn) × HasOpen new txn.name txn.batch × (holder ≡ Txn txn.name → ⊥) × Finds z old new (Some (key_of change)) holder
+Changes z old txn change (Err Memory) new left = (left ≡ txn) × HasOpen new txn.name txn.batch × Keeps z old new
+Changes z old txn change (Err other) new left = ⊥
+
+-- ---- prepared transactions
+
+-- A prepare of the seen is taken, which is undecided there.
+pub record Takes {D : Type 0} (z : SharedState D) (old : SeatState) (name : List ℕ) (txn : PreparedState) (new : SeatState) : Type 0 where
+  pub name_is : txn.name ≡ name
+  pub number_is : named new.knows.participant.seen name ≡ Some txn.number
+  pub batch_is : batch_at new.knows.participant.seen txn.number ≡ txn.batch
+  pub has : HasPrepared new name txn.number txn.batch
+  pub goes_on : Continues z old new (remembering (took name ∷ []) (with_transaction name has.transaction old.knows.participant))
+
+abbrev pub TakesPrepared : {D : Type 0} → SharedState D → SeatState → List ℕ → Result PreparedState TxnError → SeatState → Type 0
+TakesPrepared z old name (Ok txn) new = Takes z old name txn new
+TakesPrepared z old name (Err (Unknown other at)) new = (other ≡ name) × (at ≡ length new.knows.participant.seen) × (named new.knows.participant.seen name ≡ None) × Keeps z old new
+TakesPrepared z old name (Err (InUse other)) new = (other ≡ name) × Finds z old new None (Txn name)
+TakesPrepared z old name (Err Memory) new = Keeps z old new
+TakesPrepared z old name (Err other) new = ⊥
+
+-- ---- the board
+
+abbrev pub Tells : {D : Type 0} → SharedState D → SeatState → List ℕ → Result ℕ TxnError → SeatState → Type 0
+Tells z old label (Ok n) new = (n ≡ length new.knows.participant.seen) × Continues z old new (remembering (told label n ∷ []) old.knows.participant)
+Tells z old label (Err Memory) new = Keeps z old new
+Tells z old label (Err other) new = ⊥
+
+-- The board, as the call found it, had no such label. The seat never told it nor heard it.
+pub record IsSilent {D : Type 0} (z : SharedState D) (old : SeatState) (label : List ℕ) : Type 0 where
+  pub world : World
+  pub stood : StoodAs z old.by old.knows.participant world
+  pub none : finite.get world.locks.labels label ≡ None
+  pub not_told : (n : ℕ) → IsIn (told label n) old.knows.participant.past → ⊥
+  pub not_heard : (n : ℕ) → IsIn (heard label n) old.knows.participant.past → ⊥
+
+abbrev pub Hears : {D : Type 0} → SharedState D → SeatState → List ℕ → Result ℕ TxnError → SeatState → Type 0
+Hears z old label (Ok n) new = (n ≡ length new.knows.participant.seen) × ((m : ℕ) × (m ≤ n) × Continues z old new (remembering (heard label m ∷ []) old.knows.participant))
+Hears z old label (Err Silent) new = IsSilent z old label × Keeps z old new
+Hears z old label (Err other) new = ⊥

@@ -1,0 +1,92 @@
+//! Open transactions begin with a name, and end with it.
+ghost use Rattle.std.specs.Prelude.{◌≡◌};
+ghost use Rattle.wp_shared.specs.Seats.{IsFree};
+ghost use Rattle.wp_txn.specs.Calls.{Begins, Parts};
+ghost use Rattle.wp_txn.specs.Txn.{HasOpen};
+ghost use Rattle.wp_txn.specs.Under.{Claims};
+ghost use Rattle.wp_txn.specs.Turns.{HoldsLocks};
+
+use crate::error::TxnError;
+use crate::steps::{claim_name, find_name, free_transaction};
+use crate::turns::{give_locks, take_locks};
+use crate::txn::OpenTxn;
+use std::alloc::Global;
+use std::sync::Wait;
+use wp_locks::{LockError, Locks};
+use wp_model::{Batch, Holder, Name};
+use wp_outside::Disk;
+use wp_shared::{Seat, Shared};
+
+/// Claims the name for the seat's client, or finds it live.
+fn claim<D: Disk + Drop>(
+    store: &Shared<D>,
+    seat: &mut Seat<D>,
+    tables: &mut Locks,
+    name: &Name,
+    claimed: Name,
+    client: Name,
+) -> Result<(), TxnError>
+    requires seat { HoldsLocks store.now seat.old tables.old }
+    requires names { (claimed ≡ name.now) × (client ≡ seat.old.knows.participant.client) }
+    ensures { Claims tables.old seat.old name.now result tables.new seat.new }
+{
+    match tables.claim_name(claimed, client) {
+        Ok(()) => {
+            claim_name(store, seat, name);
+            Ok(())
+        }
+        Err(LockError::Taken(taken)) => {
+            find_name(store, seat, tables, name);
+            Err(TxnError::Taken(taken))
+        }
+        Err(LockError::Memory) => Err(TxnError::Memory),
+        Err(LockError::Unknown(_) | LockError::InUse(_) | LockError::Busy(_)) => unreachable!(),
+    }
+}
+
+/// Begins a transaction of this name, with no changes, where the name is not live.
+pub fn begin<D: Disk + Drop, R: Wait>(
+    store: &Shared<D>,
+    rt: &R,
+    alloc: Global,
+    seat: &mut Seat<D>,
+    name: Name,
+) -> Result<OpenTxn, TxnError>
+    requires { IsFree store.now.table seat.old }
+    ensures { Begins store.now seat.old name result seat.new }
+{
+    let claimed = name.copy(alloc)?;
+    let client = seat.client().copy(alloc)?;
+    let mut tables = take_locks(store, rt, seat);
+    let outcome = claim(store, seat, &mut tables, &name, claimed, client);
+    give_locks(store, seat, tables);
+    match outcome {
+        Ok(()) => Ok(OpenTxn {
+            name,
+            batch: Batch::new(alloc),
+        }),
+        Err(why) => Err(why),
+    }
+}
+
+/// Drops an open transaction: its name and its keys are free again. It takes no memory.
+pub fn abandon<D: Disk + Drop, R: Wait>(
+    store: &Shared<D>,
+    rt: &R,
+    seat: &mut Seat<D>,
+    txn: OpenTxn,
+)
+    requires free { IsFree store.now.table seat.old }
+    requires open { HasOpen seat.old txn.name txn.batch }
+    ensures { Parts store.now seat.old seat.new txn.name }
+{
+    let OpenTxn {
+        name,
+        batch: _batch,
+    } = txn;
+    let mut tables = take_locks(store, rt, seat);
+    free_transaction(store, seat, &tables, &name);
+    tables.free_name(&name);
+    tables.unlock_all(&Holder::Txn(name));
+    give_locks(store, seat, tables);
+}

@@ -1,0 +1,122 @@
+//! Prepared transactions that change hands.
+ghost use Rattle.std.specs.Prelude.{◌≡◌, IfOk};
+ghost use Rattle.wp_shared.specs.Seats.{IsFree};
+ghost use Rattle.wp_txn.specs.Calls.{Parts, TakesPrepared};
+ghost use Rattle.wp_txn.specs.Turns.{HoldsLocks};
+ghost use Rattle.wp_txn.specs.Txn.{HasPrepared};
+ghost use Rattle.wp_txn.specs.Under.{IsPrepareOf, TakesUnder};
+
+use crate::error::TxnError;
+use crate::steps::{find_name, leave_name, take_name};
+use crate::turns::{give_locks, give_log, take_locks, take_log};
+use crate::txn::PreparedTxn;
+use std::alloc::{AllocError, Global};
+use std::sync::Wait;
+use wp_history::History;
+use wp_locks::{LockError, Locks, TakeRefused};
+use wp_model::{Batch, Name, Seq};
+use wp_outside::Disk;
+use wp_shared::{Seat, Shared};
+
+/// Leaves a prepared transaction to whoever takes it: its name stays live, and its keys stay held. It takes no memory.
+pub fn leave<D: Disk + Drop, R: Wait>(
+    store: &Shared<D>,
+    rt: &R,
+    seat: &mut Seat<D>,
+    txn: PreparedTxn,
+)
+    requires free { IsFree store.now.table seat.old }
+    requires prepared { HasPrepared seat.old txn.name txn.number txn.batch }
+    ensures { Parts store.now seat.old seat.new txn.name }
+{
+    let PreparedTxn {
+        name,
+        number,
+        batch: _batch,
+    } = txn;
+    let mut tables = take_locks(store, rt, seat);
+    leave_name(store, seat, &tables, &name, number);
+    tables.leave_name(&name);
+    give_locks(store, seat, tables);
+}
+
+/// The number and the batch of the undecided prepare of that name, if there is one.
+fn prepare_of(
+    history: &History,
+    alloc: Global,
+    name: &Name,
+) -> Result<Option<(Seq, Batch)>, AllocError>
+    ensures { IfOk result (IsPrepareOf history.now.entries name.now) }
+{
+    let Some(number) = history.named(name) else {
+        return Ok(None);
+    };
+    Ok(Some((number, history.batch_at(number).copy(alloc)?)))
+}
+
+/// Takes the name for the seat's client, or finds that it is not live, or a client's.
+fn take_under<D: Disk + Drop>(
+    store: &Shared<D>,
+    seat: &mut Seat<D>,
+    tables: &mut Locks,
+    name: &Name,
+    asked: Name,
+    client: Name,
+) -> Result<(), TxnError>
+    requires seat { HoldsLocks store.now seat.old tables.old }
+    requires names { (asked ≡ name.now) × (client ≡ seat.old.knows.participant.client) }
+    ensures { TakesUnder tables.old seat.old name.now result tables.new seat.new }
+{
+    let Err(TakeRefused { why, client: _client }) = tables.take_name(asked, client) else {
+        take_name(store, seat, name);
+        return Ok(());
+    };
+    match why {
+        LockError::Unknown(asked) => {
+            let at = store.published(seat);
+            Err(TxnError::Unknown { name: asked, at })
+        }
+        LockError::InUse(asked) => {
+            find_name(store, seat, tables, name);
+            Err(TxnError::InUse(asked))
+        }
+        LockError::Memory | LockError::Taken(_) | LockError::Busy(_) => unreachable!(),
+    }
+}
+
+/// Takes the undecided prepare of this name, which no client has. Its number and its batch are as the log has them, so the write
+/// turn is taken too.
+pub fn take_prepared<D: Disk + Drop, R: Wait>(
+    store: &Shared<D>,
+    rt: &R,
+    alloc: Global,
+    seat: &mut Seat<D>,
+    name: &Name,
+) -> Result<PreparedTxn, TxnError>
+    requires { IsFree store.now.table seat.old }
+    ensures { TakesPrepared store.now seat.old name.now result seat.new }
+{
+    let taken = name.copy(alloc)?;
+    let asked = name.copy(alloc)?;
+    let client = seat.client().copy(alloc)?;
+    let log = take_log(store, rt, seat);
+    let Ok(prepare) = prepare_of(log.history(), alloc, name) else {
+        give_log(store, seat, log);
+        return Err(TxnError::Memory);
+    };
+    let mut tables = take_locks(store, rt, seat);
+    let outcome = take_under(store, seat, &mut tables, name, asked, client);
+    give_locks(store, seat, tables);
+    give_log(store, seat, log);
+    if let Err(why) = outcome {
+        return Err(why);
+    }
+    let Some((number, batch)) = prepare else {
+        unreachable!();
+    };
+    Ok(PreparedTxn {
+        name: taken,
+        number,
+        batch,
+    })
+}

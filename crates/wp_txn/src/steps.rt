@@ -1,0 +1,177 @@
+//! The steps of the machine that these calls make: each as an equation of the seat, made where the published number is loaded.
+ghost use Rattle.std.specs.Prelude.{◌≡◌, ◌≤◌, true, false, List, length, Some, None, is_some};
+ghost use Rattle.std.specs.FinSet as set;
+ghost use Rattle.std.specs.FinMap as finite;
+ghost use Rattle.wp_model.specs.Batch.{is_batch};
+ghost use Rattle.wp_model.specs.declared.entry.Entry.{Entry};
+ghost use Rattle.wp_model.specs.declared.holder.Holder.TheVariants.{Txn};
+ghost use Rattle.wp_model.specs.LockTables.{LockTables};
+ghost use Rattle.wp_locks.specs.Locks.{is_free_for};
+ghost use Rattle.wp_core.specs.Changes.{with_name, without_transaction};
+ghost use Rattle.wp_core.specs.Lists.{IsIn};
+ghost use Rattle.wp_core.specs.Sound.Actors.{StartsWith};
+ghost use Rattle.wp_core.specs.Tables.{locks};
+ghost use Rattle.wp_core.specs.Views.{Account, unprepared, undecided_at};
+ghost use Rattle.wp_core.specs.World.{World};
+ghost use Rattle.wp_rule.specs.Moves.{MayMake, Moved};
+ghost use Rattle.wp_shared.specs.Clients.{KeepClient};
+ghost use Rattle.wp_shared.specs.Seats.{place_at};
+ghost use Rattle.wp_txn.specs.Actors.{transaction_in, with_claimed, with_found, with_locked, with_batch, with_told, with_heard};
+ghost use Rattle.wp_txn.specs.Turns.{seat_of, HoldsLocks, IsWithout, TakesPrepare};
+
+use std::marker::Brand;
+use wp_locks::Locks;
+use wp_model::{Batch, Holder, Key, Name, Seq};
+use wp_outside::Disk;
+use wp_rule::Moves;
+use wp_shared::{Seat, Shared};
+
+/// Makes steps which are about these: for the proof alone, that picks the steps.
+fn make_about<D: Disk + Drop, J: Moves, A>(
+    store: &Shared<D>,
+    seat: &mut Seat<D>,
+    about: &A,
+) -> Seq
+    requires seat { (seat.old.table ≡ store.now.table) × (J.place ≡ place_at store.now seat.old.by) }
+    requires may { MayMake J.place seat.old.knows J.steps }
+    requires client { (w : World) → KeepClient (J.steps w) }
+    ensures same { (seat.new.table ≡ seat.old.table) × (seat.new.by ≡ seat.old.by) × (seat.new.turns ≡ seat.old.turns) }
+    ensures moved { Moved J.place J.steps (λ w. result ≡ length w.writes.history) seat.old.knows seat.new.knows }
+{
+    store.make::<J>(seat)
+}
+
+/// The seat claimed the name in the tables, where it was not live. It takes them as they were then.
+pub(crate) fn claim_name<D: Disk + Drop>(store: &Shared<D>, seat: &mut Seat<D>, name: &Name)
+    requires seat { seat.old.table ≡ store.now.table }
+    requires free { (t : LockTables) × IsIn (locks t) seat.old.knows.held × (finite.get t.names name.now ≡ None) }
+    ensures { (t : LockTables) → IsIn (locks t) seat.old.knows.held → seat.new ≡ seat_of seat.old (with_claimed t name.now seat.old.knows) }
+{
+    make_about::<D, Brand, Name>(store, seat, name);
+}
+
+/// The seat found that the name is live.
+pub(crate) fn find_name<D: Disk + Drop>(
+    store: &Shared<D>,
+    seat: &mut Seat<D>,
+    tables: &Locks,
+    name: &Name,
+)
+    requires seat { HoldsLocks store.now seat.old tables.now }
+    requires live { is_some (finite.get tables.now.names name.now) ≡ true }
+    ensures { (account : Account) × (seat.new ≡ seat_of seat.old (with_found None (Txn name.now) account seat.old.knows)) }
+{
+    make_about::<D, Brand, Name>(store, seat, name);
+}
+
+/// The seat found the holder of the key.
+pub(crate) fn find_holder<D: Disk + Drop>(
+    store: &Shared<D>,
+    seat: &mut Seat<D>,
+    tables: &Locks,
+    key: &Key,
+    holder: &Holder,
+)
+    requires seat { HoldsLocks store.now seat.old tables.now }
+    requires holds { finite.get tables.now.keys key.now ≡ Some holder.now }
+    ensures { (account : Account) × (seat.new ≡ seat_of seat.old (with_found (Some key.now) holder.now account seat.old.knows)) }
+{
+    make_about::<D, Brand, (&Key, &Holder)>(store, seat, &(key, holder));
+}
+
+/// The seat locked the key for its transaction of this name, where nobody held it. It takes the tables as they were then.
+pub(crate) fn lock_key<D: Disk + Drop>(
+    store: &Shared<D>,
+    seat: &mut Seat<D>,
+    name: &Name,
+    key: &Key,
+)
+    requires seat { seat.old.table ≡ store.now.table }
+    requires has { is_some (finite.get seat.old.knows.participant.transactions name.now) ≡ true }
+    requires unlocked { set.contains (transaction_in seat.old.knows.participant name.now).locked key.now ≡ false }
+    requires free { (t : LockTables) × IsIn (locks t) seat.old.knows.held × (is_free_for (finite.get t.keys key.now) (Txn name.now) ≡ true) }
+    ensures { (t : LockTables) → IsIn (locks t) seat.old.knows.held → seat.new ≡ seat_of seat.old (with_locked t name.now key.now seat.old.knows) }
+{
+    make_about::<D, Brand, (&Name, &Key)>(store, seat, &(name, key));
+}
+
+/// The seat's transaction of this name has this batch.
+pub(crate) fn set_batch<D: Disk + Drop>(
+    store: &Shared<D>,
+    seat: &mut Seat<D>,
+    name: &Name,
+    batch: &Batch,
+)
+    requires seat { seat.old.table ≡ store.now.table }
+    requires has { is_some (finite.get seat.old.knows.participant.transactions name.now) ≡ true }
+    requires batch { is_batch batch.now ≡ true }
+    ensures { seat.new ≡ seat_of seat.old (with_batch name.now batch.now seat.old.knows) }
+{
+    make_about::<D, Brand, (&Name, &Batch)>(store, seat, &(name, batch));
+}
+
+/// The seat freed its transaction, which no undecided prepare is, with its name and its keys.
+pub(crate) fn free_transaction<D: Disk + Drop>(
+    store: &Shared<D>,
+    seat: &mut Seat<D>,
+    tables: &Locks,
+    name: &Name,
+)
+    requires seat { HoldsLocks store.now seat.old tables.now }
+    requires has { is_some (finite.get seat.old.knows.participant.transactions name.now) ≡ true }
+    requires noted { IsIn (unprepared name.now) seat.old.knows.notes }
+    ensures { IsWithout seat.old seat.new (without_transaction tables.now name.now) name.now }
+{
+    make_about::<D, Brand, Name>(store, seat, name);
+}
+
+/// The seat left its transaction, which is an undecided prepare, to whoever takes it.
+pub(crate) fn leave_name<D: Disk + Drop>(
+    store: &Shared<D>,
+    seat: &mut Seat<D>,
+    tables: &Locks,
+    name: &Name,
+    number: Seq,
+)
+    requires seat { HoldsLocks store.now seat.old tables.now }
+    requires has { is_some (finite.get seat.old.knows.participant.transactions name.now) ≡ true }
+    requires noted { IsIn (undecided_at name.now number) seat.old.knows.notes }
+    ensures seat { IsWithout seat.old seat.new (with_name tables.now name.now None) name.now }
+    ensures live { is_some (finite.get tables.now.names name.now) ≡ true }
+{
+    make_about::<D, Brand, Name>(store, seat, name);
+}
+
+/// The seat took the undecided prepare of this name, which nobody had. It takes the tables as they were then.
+pub(crate) fn take_name<D: Disk + Drop>(store: &Shared<D>, seat: &mut Seat<D>, name: &Name)
+    requires seat { seat.old.table ≡ store.now.table }
+    requires left { (t : LockTables) × IsIn (locks t) seat.old.knows.held × (finite.get t.names name.now ≡ Some None) }
+    ensures { (t : LockTables) → IsIn (locks t) seat.old.knows.held → TakesPrepare seat.old t name.now seat.new }
+{
+    make_about::<D, Brand, Name>(store, seat, name);
+}
+
+/// The seat told under the label how much it has seen. It takes the tables as they were then.
+pub(crate) fn tell_label<D: Disk + Drop>(store: &Shared<D>, seat: &mut Seat<D>, label: &Name)
+    requires seat { seat.old.table ≡ store.now.table }
+    requires held { (t : LockTables) × IsIn (locks t) seat.old.knows.held }
+    ensures { (t : LockTables) → IsIn (locks t) seat.old.knows.held → seat.new ≡ seat_of seat.old (with_told t label.now seat.old.knows) }
+{
+    make_about::<D, Brand, Name>(store, seat, label);
+}
+
+/// The seat heard this number under the label, and saw no less of the history. The answer is how much that is.
+pub(crate) fn hear_label<D: Disk + Drop>(
+    store: &Shared<D>,
+    seat: &mut Seat<D>,
+    tables: &Locks,
+    label: &Name,
+    number: Seq,
+) -> Seq
+    requires seat { HoldsLocks store.now seat.old tables.now }
+    requires there { finite.get tables.now.labels label.now ≡ Some number }
+    ensures { (history : List Entry) × StartsWith history seat.old.knows.participant.seen × (number ≤ length history) × (result ≡ length history)
+        × (seat.new ≡ seat_of seat.old (with_heard history label.now number seat.old.knows)) }
+{
+    make_about::<D, Brand, (&Name, Seq)>(store, seat, &(label, number))
+}
