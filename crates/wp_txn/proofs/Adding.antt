@@ -63,17 +63,17 @@ same_key a b = either_turned a b ∙ sym (is_eq-slice_cmp b a)
 
 changed_with : (batch : List Change) (change : Change) (k : List ℕ) → is_changed (with_change batch change) k ≡ (bytes_eq (key_of change) k || is_changed batch k)
 changed_with [] change k = changed_one change [] k
-changed_with (first ∷ others) change k = by (key_cmp (key_of change) (key_of first)) refl
+changed_with (first ∷ others) change k = by (changed_with others change k) (key_cmp (key_of change) (key_of first)) refl
   where
-    by : (o : Ordering) → key_cmp (key_of change) (key_of first) ≡ o
+    by : is_changed (with_change others change) k ≡ (bytes_eq (key_of change) k || is_changed others k) → (o : Ordering) → key_cmp (key_of change) (key_of first) ≡ o
         → is_changed (by_order o (change ∷ first ∷ others) (change ∷ others) (first ∷ with_change others change)) k ≡ (bytes_eq (key_of change) k || is_changed (first ∷ others) k)
-    by Less e = changed_one change (first ∷ others) k
-    by Equal e =
+    by rest Less e = changed_one change (first ∷ others) k
+    by rest Equal e =
         let same : key_of change ≡ key_of first = same_word (key_of change) (key_of first) (ap is_eq e) in
         changed_one change others k ∙ sym (twice (bytes_eq (key_of change) k) (is_changed others k))
         ∙ ap (λ (t : Bool). bytes_eq (key_of change) k || t) (ap (λ (key : List ℕ). bytes_eq key k || is_changed others k) same ∙ sym (changed_one first others k))
-    by Greater e =
-        changed_one first (with_change others change) k ∙ ap (λ (t : Bool). bytes_eq (key_of first) k || t) (changed_with others change k)
+    by rest Greater e =
+        changed_one first (with_change others change) k ∙ ap (λ (t : Bool). bytes_eq (key_of first) k || t) rest
         ∙ either_way (bytes_eq (key_of first) k) (bytes_eq (key_of change) k) (is_changed others k)
         ∙ ap (λ (t : Bool). bytes_eq (key_of change) k || t) (sym (changed_one first others k))
 

@@ -35,7 +35,7 @@ use Rattle.wp_txn.specs.declared.error.TxnError.{TxnError}
 use Rattle.wp_txn.specs.declared.error.TxnError.TheVariants.{Memory, Taken, Busy, TooMany, Silent, Unknown, InUse, NumbersFull, LogFault, Stopped}
 use Rattle.wp_txn.specs.Actors.{with_found, with_taken}
 use Rattle.wp_txn.specs.Calls.{remembering, with_transaction, Keeps, Finds, Takes, TakesPrepared}
-use Rattle.wp_txn.specs.Turns.{seat_of, with_locks, GaveLocks, TookLog, HoldsLog, GaveLog, TakesPrepare}
+use Rattle.wp_txn.specs.Turns.{seat_of, with_locks, HoldsLocks, GaveLocks, TookLog, HoldsLog, GaveLog, TakesPrepare}
 use Rattle.wp_txn.specs.Txn.{PreparedState, HasPrepared}
 use Rattle.wp_txn.specs.Under.{IsPrepareOf, TakesUnder}
 use Rattle.wp_txn.proofs.GoesOn.{Turnless, same_rest, came_back}
@@ -98,6 +98,42 @@ module _ {D : Type 0} (z : SharedState D) (old : SeatState) (free : IsFree z.tab
     under_both f r e =
         e ∙ ap (λ (x : SeatState). seat_of x (f x.knows)) took_it
         ∙ ap (λ (a : Actor). seat_of (with_locks t s) (f a)) (ap (λ (a : Actor). record a { held = locks t ∷ a.held }) took_log.knows)
+
+    pub both_held : HoldsLocks z s2 t
+    both_held = record {
+      same_table = ap (λ (x : SeatState). x.table) took_it ∙ took_log.same_table ∙ free.same_table;
+      live = ap (λ (x : SeatState). x.knows.live) took_it ∙ ap (λ (a : Actor). a.live) took_log.knows ∙ free.live;
+      held = subst (λ (x : SeatState). IsIn (locks t) x.knows.held) (sym took_it) (inl refl);
+      others = s.turns;
+      turns = ap (λ (x : SeatState). x.turns) took_it;
+    }
+
+    locks_kept : (b : Actor) (r : SeatState) (u : LockTables) → r ≡ seat_of (with_locks t s) b → b.live ≡ true → IsIn (locks u) b.held → HoldsLocks z r u
+    locks_kept b r u is live there = record {
+      same_table = ap (λ (x : SeatState). x.table) is ∙ took_log.same_table ∙ free.same_table;
+      live = ap (λ (x : SeatState). x.knows.live) is ∙ live;
+      held = subst (λ (x : SeatState). IsIn (locks u) x.knows.held) (sym is) there;
+      others = s.turns;
+      turns = ap (λ (x : SeatState). x.turns) is;
+    }
+
+    same_client : s2.knows.participant.client ≡ old.knows.participant.client
+    same_client = ap (λ (x : SeatState). x.knows.participant.client) took_it ∙ ap (λ (a : Actor). a.participant.client) took_log.knows
+
+    -- it holds the tables as the call leaves them
+    pub locks_after : (name : List ℕ) (answer : Result (Unit {0}) TxnError) (u : LockTables) (r : SeatState) → TakesUnder t s2 name answer u r → HoldsLocks z r u
+    locks_after name (Ok done) u r c =
+        locks_kept (with_taken t c.2.history name both) r u (under_both (with_taken t c.2.history name) r c.2.seat) free.live (inl (ap locks (sym (c.0 ∙ ap (λ (client : List ℕ). with_name t name (Some client)) same_client))))
+    locks_after name (Err (Unknown other at)) u r c = locks_kept (sees c.3.0 both) r u (under_both (sees c.3.0) r c.3.4) free.live (inl (ap locks (sym c.2)))
+    locks_after name (Err (InUse other)) u r c = locks_kept (with_found None (Txn name) c.1.2.0 both) r u (under_both (with_found None (Txn name) c.1.2.0) r c.1.2.1) free.live (inl (ap locks (sym c.1.1)))
+    locks_after name (Err Memory) u r c = locks_kept both r u (under_both (λ a. a) r c.1) free.live (inl (ap locks (sym c.0)))
+    locks_after name (Err (Taken other)) u r c = absurd c
+    locks_after name (Err (Busy holder)) u r c = absurd c
+    locks_after name (Err TooMany) u r c = absurd c
+    locks_after name (Err Silent) u r c = absurd c
+    locks_after name (Err (NumbersFull published limit)) u r c = absurd c
+    locks_after name (Err LogFault) u r c = absurd c
+    locks_after name (Err (Stopped n)) u r c = absurd c
 
     module _ (r s4 : SeatState) (gave : GaveLocks r s4) where
       log_kept : (b : Actor) → r ≡ seat_of (with_locks t s) b → IsIn (writes log.table) (held_without b.held locks_turn) → HoldsLog z s4 log

@@ -8,25 +8,34 @@ use Rattle.wp_model.specs.declared.change.Change.{Change}
 use Rattle.wp_core.specs.World.{Participant}
 use Rattle.wp_shared.specs.Calls.{Continues}
 use Rattle.wp_txn.specs.declared.error.TxnError.{TxnError}
-use Rattle.wp_txn.specs.Calls.{locking, Changes}
+use Rattle.wp_txn.specs.Actors.{with_batch}
+use Rattle.wp_txn.specs.Calls.{IsFull, locking, Changes}
 use Rattle.wp_txn.specs.Keys.{HoldsKey}
+use Rattle.wp_txn.specs.Turns.{seat_of}
 use Rattle.wp_txn.specs.Txn.{OpenState}
 use Rattle.wp_txn.proofs.Adding.{not_changed, locking_has, changed_it}
 use Rattle.wp_txn.proofs.changes.add.Goals as goal
 
 pub returns-in_err-hold_key : goal.returns-in_err-hold_key
 returns-in_err-hold_key g c = let p = err_from_is_err_and c.from_residual-in_err-hold_key.result c.from_residual-in_err-hold_key.ensures.1 in
-    subst (λ (r : Result (Unit {0}) TxnError). Changes c.args.store.now c.args.seat.now c.args.txn.now c.args.change r c.hold_key.new.seat c.args.txn.now) (sym p.1)
-    (not_changed c.args.store.now c.args.seat.now c.requires.free c.args.txn.now c.args.key.now c.args.change c.hold_key.new.seat p.0 ? c.requires.key c.requires.open
-    (subst (λ (why : TxnError). HoldsKey c.args.store.now c.args.seat.now c.args.txn.now c.args.key.now (Err why) c.hold_key.new.seat) ? ?))
+    let room = subst (λ (txn : OpenState). IsFull txn.batch (key_of c.args.change) → ⊥) c.txn.view_is (c.in_ok-batch.ensures {u = tt}).0 in
+    subst (λ (r : Result (Unit {0}) TxnError). Changes c.args.store.now c.args.seat.now c.args.txn.now c.args.change r c.hold_key.new.seat c.args.txn.now) (sym (p.1 ∙ ap Err p.2))
+    (not_changed c.args.store.now c.args.seat.now c.requires.free c.args.txn.now c.args.key.now c.args.change c.hold_key.new.seat c.in_err-hold_key.field-0.0 room c.requires.key c.requires.open (c.in_err-hold_key.ensures {u = tt}))
 
 pub set_batch-requires-clause-has : goal.set_batch-requires-clause-has
-set_batch-requires-clause-has g c = let goes = c.in_ok-hold_key.ensures {u = tt} in
-    ap (λ (p : Participant). is_some (finite.get p.transactions c.txn.inside.name)) goes.participant ∙ ?
+set_batch-requires-clause-has g c = let goes = c.in_ok-hold_key.ensures {u = tt} in let txn = c.args.txn.now in
+    ap (λ (p : Participant). is_some (finite.get p.transactions c.txn.inside.name)) goes.participant
+    ∙ ap (λ (x : OpenState). is_some (finite.get (locking (is_changed txn.batch c.args.key.now) txn.name c.args.key.now c.args.seat.now.knows.participant).transactions x.name)) c.txn.view_is
+    ∙ locking_has c.args.store.now c.args.seat.now txn.name txn.batch c.requires.open c.args.key.now (is_changed txn.batch c.args.key.now)
 
 pub returns : goal.returns
 returns g c =
-    let room = (c.in_ok-batch.ensures {u = tt}).0 in
-    let goes : Continues c.args.store.now c.args.seat.now c.hold_key.new.seat (locking (is_changed c.args.txn.now.batch (key_of c.args.change)) c.args.txn.now.name (key_of c.args.change) c.args.seat.now.knows.participant) = ? in
-    let done = changed_it c.args.store.now c.args.seat.now c.args.txn.now.name c.args.txn.now.batch c.requires.open c.args.change c.hold_key.new.seat c.set_batch.new.seat c.in_ok-batch.batch goes (c.in_ok-batch.ensures {u = tt}).1 ? in
-    (?, ?, done.0, done.1)
+    let txn = c.args.txn.now in let p = c.args.seat.now.knows.participant in let change = c.args.change in let s = c.hold_key.new.seat in
+    let room = subst (λ (x : OpenState). IsFull x.batch (key_of change) → ⊥) c.txn.view_is (c.in_ok-batch.ensures {u = tt}).0 in
+    let changed : c.in_ok-batch.batch ≡ with_change txn.batch change = (c.in_ok-batch.ensures {u = tt}).1 ∙ ap (λ (x : OpenState). with_change x.batch change) c.txn.view_is in
+    let goes : Continues c.args.store.now c.args.seat.now s (locking (is_changed txn.batch (key_of change)) txn.name (key_of change) p) =
+    subst (λ (key : List ℕ). Continues c.args.store.now c.args.seat.now s (locking (is_changed txn.batch key) txn.name key p)) (sym c.requires.key) (c.in_ok-hold_key.ensures {u = tt}) in
+    let done = changed_it c.args.store.now c.args.seat.now txn.name txn.batch c.requires.open change s c.set_batch.new.seat c.in_ok-batch.batch goes changed
+    (c.set_batch.ensures ∙ ap (λ (x : OpenState). seat_of s (with_batch x.name c.in_ok-batch.batch s.knows)) c.txn.view_is) in
+    let with_it : OpenState → List Change → OpenState = λ x batch. record { name = x.name; batch = batch } in
+    (room, (λ i. with_it (c.txn.view_is i) (changed i)), done.0, done.1)

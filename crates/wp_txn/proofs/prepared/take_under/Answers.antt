@@ -1,0 +1,34 @@
+use Rattle.std.proofs.Common.{◌≡◌, ℕ, List, None, sym, ap, subst, ◌∙◌}
+use Rattle.std.specs.FinMap as finite
+use Rattle.wp_model.specs.History.{named}
+use Rattle.wp_model.specs.declared.entry.Entry.{Entry}
+use Rattle.wp_locks.specs.Locks.{RefusesTake}
+use Rattle.wp_locks.specs.declared.error.LockError.{LockError}
+use Rattle.wp_core.specs.Lists.{IsIn}
+use Rattle.wp_core.specs.Tables.{locks}
+use Rattle.wp_core.specs.World.{Actor}
+use Rattle.wp_shared.proofs.OneStep.{becomes}
+use Rattle.wp_txn.proofs.Taking.{not_named, refused_unknown}
+use Rattle.wp_txn.proofs.prepared.take_under.Goals as goal
+
+pub take_name-requires-in_default-clause-left : goal.take_name-requires-in_default-clause-left
+take_name-requires-in_default-clause-left g c = (c.args.tables.now, c.requires.seat.held, ap (λ (name : List ℕ). finite.get c.args.tables.now.names name) (sym c.requires.names.0) ∙ (c.in_default.ensures {u = tt}).0)
+
+pub returns-in-Unknown : goal.returns-in-Unknown
+returns-in-Unknown g c =
+    let t = c.args.tables.now in let seen = c.published-at.ensures in let new = c.published-at.new.seat in
+    let r = c.in-Err.ensures {u = tt} in
+    let f = refused_unknown (finite.get t.names c.args.asked) c.args.asked c.in-Unknown.asked (subst (λ (why : LockError). RefusesTake (finite.get t.names c.args.asked) c.args.asked why) c.in-Unknown.is r.0) in
+    let none : finite.get t.names c.args.name.now ≡ None = ap (λ (name : List ℕ). finite.get t.names name) (sym c.requires.names.0) ∙ f.0 in
+    let held : IsIn (locks t) new.knows.held = subst (λ (a : Actor). IsIn (locks t) a.held) (sym seen.rest) c.requires.seat.held in (
+      f.1 ∙ c.requires.names.0,
+      none,
+      r.2,
+      (
+        new.knows.participant.seen,
+        seen.seen.0,
+        ap (λ (h : List Entry). named h c.args.name.now) (sym seen.stands.seen) ∙ not_named _ new.knows seen.stands.world t c.args.name.now seen.stands.there held none,
+        seen.seen.1,
+        becomes c.args.seat.now new _ seen.same seen.rest,
+      ),
+    )
