@@ -168,7 +168,7 @@ module _ {D : Type 0} (z : SharedState D) (old : SeatState) (free : IsFree z.tab
       (back z old free Turnless t (with_locked t txn.name key (with_locks t old).knows) r new (under z old free t s took (with_locked t txn.name key) r c.1) gave
       (held_back z old free t (with_key t key (Txn txn.name))) free.live refl refl ([], sym (append-nil old.knows.participant.seen)) (λ fact kept there. there))
   key_held t u s r new w (Err (Busy holder)) took stands are none c gave =
-      (not_own holder txn.name c.1, finds z old free t s took new w (Some key) holder r c.3.0 stands are c.0 c.3.1 gave)
+      (none, not_own holder txn.name c.1, finds z old free t s took new w (Some key) holder r c.3.0 stands are c.0 c.3.1 gave)
   key_held t u s r new w (Err Memory) took stands are none c gave = nothing_done z old free t s took new r c.1 gave
   key_held t u s r new w (Err (Taken other)) took stands are none c gave = c
   key_held t u s r new w (Err TooMany) took stands are none c gave = c
@@ -183,7 +183,7 @@ module _ {D : Type 0} (z : SharedState D) (old : SeatState) (free : IsFree z.tab
   pub not_changed : (change : Change) (new : SeatState) (why : TxnError) → (IsFull txn.batch (key_of change) → ⊥) → key_of change ≡ key → HasOpen old txn.name txn.batch → HoldsKey z old txn key (Err why) new → Changes z old txn change (Err why) new txn
   not_changed change new Memory room same has c = (refl, open_still z old txn.name txn.batch has new old.knows.participant refl c, c)
   not_changed change new (Busy holder) room same has c =
-      (room, refl, open_still z old txn.name txn.batch has new _ refl c.1.goes_on, c.0, subst (λ (k : List ℕ). Finds z old new (Some k) holder) (sym same) c.1)
+      (room, refl, open_still z old txn.name txn.batch has new _ refl c.2.goes_on, subst (λ (k : List ℕ). is_changed txn.batch k ≡ false) (sym same) c.0, c.1, subst (λ (k : List ℕ). Finds z old new (Some k) holder) (sym same) c.2)
   not_changed change new (Taken other) room same has c = absurd c
   not_changed change new TooMany room same has c = absurd c
   not_changed change new Silent room same has c = absurd c

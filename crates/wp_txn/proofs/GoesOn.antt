@@ -30,7 +30,7 @@ use Rattle.wp_shared.specs.Calls.{ContinuesWith, Continues}
 use Rattle.wp_txn.specs.declared.error.TxnError.{TxnError}
 use Rattle.wp_txn.specs.declared.error.TxnError.TheVariants.{Memory, Taken, Busy, TooMany, Silent, Unknown, InUse, NumbersFull, LogFault, Stopped}
 use Rattle.wp_txn.specs.Actors.{no_changes, with_claimed, with_found, with_told, with_heard, without}
-use Rattle.wp_txn.specs.Calls.{StoodAs, remembering, with_transaction, Keeps, Finds, Parts, Begins, Tells, IsSilent, Hears}
+use Rattle.wp_txn.specs.Calls.{remembering, with_transaction, Keeps, Finds, Parts, Begins, Tells, IsSilent, Hears}
 use Rattle.wp_txn.specs.Turns.{seat_of, with_locks, HoldsLocks, GaveLocks, IsApartFrom, IsWithout}
 use Rattle.wp_txn.specs.Txn.{HasOpen}
 use Rattle.wp_txn.specs.Under.{Claims, TellsUnder, HearsUnder}
@@ -138,7 +138,7 @@ module _ {D : Type 0} (z : SharedState D) (old : SeatState) (free : IsFree z.tab
           → Finds z old new key holder
       finds w key holder r account stands are is e gave = record {
         world = w;
-        stood = record { actor = old.knows; participant_is = refl; there = stands };
+        stood = stands;
         holds = subst (λ (l : LockTables). IsHolderIn l key holder) (sym are) is;
         account = account;
         goes_on = back Turnless t (with_found key holder account (with_locks t old).knows) r new (under (with_found key holder account) r e) gave (held_same t) free.live refl refl ([], sym (append-nil old.knows.participant.seen)) (λ fact kept there. there);
@@ -220,7 +220,7 @@ module _ {D : Type 0} (z : SharedState D) (old : SeatState) (free : IsFree z.tab
           let board = (at_sound (place_at z old.by) old.knows w stands).board in (
             record {
               world = w;
-              stood = record { actor = old.knows; participant_is = refl; there = stands };
+              stood = stands;
               none = none;
               not_told = λ n there. true≢false (sym (board.labels label n (inl (old.by, 0, (old.knows.participant.past, past, there)))) ∙ ap is_some none);
               not_heard = λ n there. true≢false (sym (board.labels label n (inr (old.by, 0, (old.knows.participant.past, past, there)))) ∙ ap is_some none);

@@ -208,8 +208,10 @@ module _ {D : Type 0} (z : SharedState D) (old : SeatState) (free : IsFree z.tab
             world = w;
             stood = record {
               actor = s.knows;
-              participant_is = ap (λ (a : Actor). a.participant) took_log.knows;
               there = subst (λ (by : ℕ). IsAt (place_at z by) s.knows w) took_log.same_by stands;
+              table = log.table;
+              held = ap (λ (a : Actor). a.held) took_log.knows;
+              same = took_log.knows ∙ ap (λ (held : List Content). record old.knows { held = held; notes = s.knows.notes }) (sym (ap (λ (a : Actor). a.held) took_log.knows));
             };
             holds = (name, refl, ap (λ (l : LockTables). is_some (finite.get l.names name)) are ∙ c.1.0);
             account = c.1.2.0;

@@ -7,24 +7,19 @@ use Rattle.wp_model.specs.declared.holder.Holder.{Holder}
 use Rattle.wp_model.specs.declared.holder.Holder.TheVariants.{Txn}
 use Rattle.wp_model.specs.Batch.{key_of, change_to, with_change}
 use Rattle.wp_model.specs.History.{named, batch_at, is_changed}
+use Rattle.wp_core.specs.Tables.{WriteTable, writes}
 use Rattle.wp_core.specs.Views.{Account, Event, claimed, took, locked, told, heard, found}
 use Rattle.wp_core.specs.Lists.{IsIn}
 use Rattle.wp_core.specs.World.{Transaction, Participant, Actor, World}
 use Rattle.wp_rule.specs.Words.{IsAt}
 use Rattle.wp_rule.specs.Accounts.{IsHolderIn}
-use Rattle.wp_shared.specs.Seats.{SharedState, SeatState, place_at}
+use Rattle.wp_shared.specs.Seats.{SharedState, SeatState, Stands, place_at}
 use Rattle.wp_shared.specs.Calls.{ContinuesWith, Continues}
 use Rattle.wp_txn.specs.declared.error.TxnError.{TxnError}
 use Rattle.wp_txn.specs.declared.error.TxnError.TheVariants.{Memory, Taken, Busy, TooMany, Silent, Unknown, InUse}
 use Rattle.wp_txn.specs.Txn.{OpenState, PreparedState, HasOpen, HasPrepared}
 use Rattle.wp_txn.specs.Actors.{no_changes, transaction_in, with_key_locked}
 use Rattle.wp_txn.specs.Turns.{IsApartFrom}
-
--- a reached world of the store in which the seat was this participant
-pub record StoodAs {D : Type 0} (z : SharedState D) (by : ℕ) (p : Participant) (w : World) : Type 0 where
-  pub actor : Actor
-  pub participant_is : actor.participant ≡ p
-  pub there : IsAt (place_at z by) actor w
 
 -- it remembers these events too
 abbrev pub remembering : List Event → Participant → Participant
@@ -41,13 +36,17 @@ without_transaction name p = record p { transactions = finite.remove p.transacti
 abbrev pub Keeps : {D : Type 0} → SharedState D → SeatState → SeatState → Type 0
 Keeps z old new = Continues z old new old.knows.participant
 
--- The tables, as the call found them, had this holder of the key, or else of a live name. The seat remembers that it found it.
-pub record Finds {D : Type 0} (z : SharedState D) (old new : SeatState) (key : Option (List ℕ)) (holder : Holder) : Type 0 where
+-- The tables, in such a world, had this holder of the key, or else of a live name. The seat remembers that it found it.
+pub record FindsWhere {D : Type 0} (Stood : World → Type 0) (z : SharedState D) (old new : SeatState) (key : Option (List ℕ)) (holder : Holder) : Type 0 where
   pub world : World
-  pub stood : StoodAs z old.by old.knows.participant world
+  pub stood : Stood world
   pub holds : IsHolderIn world.locks key holder
   pub account : Account
   pub goes_on : Continues z old new (remembering (found key holder (length old.knows.participant.seen) account ∷ []) old.knows.participant)
+
+-- the tables as the call found them
+abbrev pub Finds : {D : Type 0} → SharedState D → SeatState → SeatState → Option (List ℕ) → Holder → Type 0
+Finds z old new key holder = FindsWhere (Stands z old) z old new key holder
 
 -- a transaction of this name is gone from the seat, which knows no more about it
 abbrev pub Parts : {D : Type 0} → SharedState D → SeatState → SeatState → List ℕ → Type 0
@@ -81,11 +80,20 @@ Changes z old txn change (Ok done) new left =
     × Continues z old new (changing txn.name txn.batch change old.knows.participant)
 Changes z old txn change (Err TooMany) new left = IsFull txn.batch (key_of change) × (left ≡ txn) × HasOpen new txn.name txn.batch × Keeps z old new
 Changes z old txn change (Err (Busy holder)) new left =
-    (IsFull txn.batch (key_of change) → ⊥) × (left ≡ txn) × HasOpen new txn.name txn.batch × (holder ≡ Txn txn.name → ⊥) × Finds z old new (Some (key_of change)) holder
+    (IsFull txn.batch (key_of change) → ⊥) × (left ≡ txn) × HasOpen new txn.name txn.batch
+    × (is_changed txn.batch (key_of change) ≡ false) × (holder ≡ Txn txn.name → ⊥) × Finds z old new (Some (key_of change)) holder
 Changes z old txn change (Err Memory) new left = (left ≡ txn) × HasOpen new txn.name txn.batch × Keeps z old new
 Changes z old txn change (Err other) new left = ⊥
 
 -- ---- prepared transactions
+
+-- a reached world in which the seat had done what it had before the call, and held the write turn by now
+pub record StoodWithLog {D : Type 0} (z : SharedState D) (old : SeatState) (w : World) : Type 0 where
+  pub actor : Actor
+  pub there : IsAt (place_at z old.by) actor w
+  pub table : WriteTable
+  pub held : actor.held ≡ writes table ∷ old.knows.held
+  pub same : actor ≡ record old.knows { held = actor.held; notes = actor.notes }
 
 -- A prepare of the seen is taken, which is undecided there.
 pub record Takes {D : Type 0} (z : SharedState D) (old : SeatState) (name : List ℕ) (txn : PreparedState) (new : SeatState) : Type 0 where
@@ -98,7 +106,7 @@ pub record Takes {D : Type 0} (z : SharedState D) (old : SeatState) (name : List
 abbrev pub TakesPrepared : {D : Type 0} → SharedState D → SeatState → List ℕ → Result PreparedState TxnError → SeatState → Type 0
 TakesPrepared z old name (Ok txn) new = Takes z old name txn new
 TakesPrepared z old name (Err (Unknown other at)) new = (other ≡ name) × (at ≡ length new.knows.participant.seen) × (named new.knows.participant.seen name ≡ None) × Keeps z old new
-TakesPrepared z old name (Err (InUse other)) new = (other ≡ name) × Finds z old new None (Txn name)
+TakesPrepared z old name (Err (InUse other)) new = (other ≡ name) × FindsWhere (StoodWithLog z old) z old new None (Txn name)
 TakesPrepared z old name (Err Memory) new = Keeps z old new
 TakesPrepared z old name (Err other) new = ⊥
 
@@ -112,7 +120,7 @@ Tells z old label (Err other) new = ⊥
 -- The board, as the call found it, had no such label. The seat never told it nor heard it.
 pub record IsSilent {D : Type 0} (z : SharedState D) (old : SeatState) (label : List ℕ) : Type 0 where
   pub world : World
-  pub stood : StoodAs z old.by old.knows.participant world
+  pub stood : Stands z old world
   pub none : finite.get world.locks.labels label ≡ None
   pub not_told : (n : ℕ) → IsIn (told label n) old.knows.participant.past → ⊥
   pub not_heard : (n : ℕ) → IsIn (heard label n) old.knows.participant.past → ⊥

@@ -1,5 +1,5 @@
 -- How a change comes to an open transaction: the batch with it, and the key that is locked for it.
-use Rattle.std.specs.Prelude.{◌≡◌, ℕ, true, List, Some, Result, Ok, Err}
+use Rattle.std.specs.Prelude.{◌≡◌, ℕ, true, false, List, Some, Result, Ok, Err}
 use Rattle.wp_model.specs.declared.change.Change.{Change}
 use Rattle.wp_model.specs.declared.holder.Holder.TheVariants.{Txn}
 use Rattle.wp_model.specs.Batch.{key_of, with_change, is_batch}
@@ -19,6 +19,6 @@ ChangesBatch batch change (Err other) = ⊥
 
 abbrev pub HoldsKey : {D : Type 0} → SharedState D → SeatState → OpenState → List ℕ → Result (Unit {0}) TxnError → SeatState → Type 0
 HoldsKey z old txn key (Ok done) new = Continues z old new (locking (is_changed txn.batch key) txn.name key old.knows.participant)
-HoldsKey z old txn key (Err (Busy holder)) new = (holder ≡ Txn txn.name → ⊥) × Finds z old new (Some key) holder
+HoldsKey z old txn key (Err (Busy holder)) new = (is_changed txn.batch key ≡ false) × (holder ≡ Txn txn.name → ⊥) × Finds z old new (Some key) holder
 HoldsKey z old txn key (Err Memory) new = Keeps z old new
 HoldsKey z old txn key (Err other) new = ⊥

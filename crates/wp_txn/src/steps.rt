@@ -26,7 +26,7 @@ use wp_outside::Disk;
 use wp_rule::Moves;
 use wp_shared::{Seat, Shared};
 
-/// Makes steps which are about these: for the proof alone, that picks the steps.
+/// Makes steps about these, which a caller picks by `Brand`: it is told them for that alone.
 fn make_about<D: Disk + Drop, J: Moves, A>(
     store: &Shared<D>,
     seat: &mut Seat<D>,
@@ -41,7 +41,7 @@ fn make_about<D: Disk + Drop, J: Moves, A>(
     store.make::<J>(seat)
 }
 
-/// The seat claimed the name in the tables, where it was not live. It takes them as they were then.
+/// The seat claimed the name, which was not live. It still holds the tables as they were before.
 pub(crate) fn claim_name<D: Disk + Drop>(store: &Shared<D>, seat: &mut Seat<D>, name: &Name)
     requires seat { seat.old.table ≡ store.now.table }
     requires free { (t : LockTables) × IsIn (locks t) seat.old.knows.held × (finite.get t.names name.now ≡ None) }
@@ -79,7 +79,7 @@ pub(crate) fn find_holder<D: Disk + Drop>(
     make_about::<D, Brand, (&Key, &Holder)>(store, seat, &(key, holder));
 }
 
-/// The seat locked the key for its transaction of this name, where nobody held it. It takes the tables as they were then.
+/// The seat locked the key, which nobody held, for its transaction of this name. It still holds the tables as they were before.
 pub(crate) fn lock_key<D: Disk + Drop>(
     store: &Shared<D>,
     seat: &mut Seat<D>,
@@ -110,7 +110,7 @@ pub(crate) fn set_batch<D: Disk + Drop>(
     make_about::<D, Brand, (&Name, &Batch)>(store, seat, &(name, batch));
 }
 
-/// The seat freed its transaction, which no undecided prepare is, with its name and its keys.
+/// The seat freed its transaction, which was never prepared, with its name and its keys.
 pub(crate) fn free_transaction<D: Disk + Drop>(
     store: &Shared<D>,
     seat: &mut Seat<D>,
@@ -142,7 +142,7 @@ pub(crate) fn leave_name<D: Disk + Drop>(
     make_about::<D, Brand, Name>(store, seat, name);
 }
 
-/// The seat took the undecided prepare of this name, which nobody had. It takes the tables as they were then.
+/// The seat took the undecided prepare of this name, which nobody had. It still holds the tables as they were before.
 pub(crate) fn take_name<D: Disk + Drop>(store: &Shared<D>, seat: &mut Seat<D>, name: &Name)
     requires seat { seat.old.table ≡ store.now.table }
     requires left { (t : LockTables) × IsIn (locks t) seat.old.knows.held × (finite.get t.names name.now ≡ Some None) }
@@ -151,7 +151,7 @@ pub(crate) fn take_name<D: Disk + Drop>(store: &Shared<D>, seat: &mut Seat<D>, n
     make_about::<D, Brand, Name>(store, seat, name);
 }
 
-/// The seat told under the label how much it has seen. It takes the tables as they were then.
+/// The seat told under the label how much it has seen. It still holds the tables as they were before.
 pub(crate) fn tell_label<D: Disk + Drop>(store: &Shared<D>, seat: &mut Seat<D>, label: &Name)
     requires seat { seat.old.table ≡ store.now.table }
     requires held { (t : LockTables) × IsIn (locks t) seat.old.knows.held }

@@ -18,12 +18,14 @@ impl Model for OpenTxn {
 }
 
 impl OpenTxn {
+    /// Its name, which is live.
     pub fn name(&self) -> &Name
         ensures { result.now ≡ self.now.name }
     {
         &self.name
     }
 
+    /// Its changes so far. Their keys are locked for it.
     pub fn batch(&self) -> &Batch
         ensures { result.now ≡ self.now.batch }
     {
@@ -47,18 +49,21 @@ impl Model for PreparedTxn {
 }
 
 impl PreparedTxn {
+    /// Its name, which is live.
     pub fn name(&self) -> &Name
         ensures { result.now ≡ self.now.name }
     {
         &self.name
     }
 
+    /// The number of its prepare.
     pub fn number(&self) -> Seq
         ensures { result ≡ self.now.number }
     {
         self.number
     }
 
+    /// Its changes. Their keys are locked for it.
     pub fn batch(&self) -> &Batch
         ensures { result.now ≡ self.now.batch }
     {
