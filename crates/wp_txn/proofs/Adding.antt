@@ -1,5 +1,5 @@
 -- A change that comes to an open transaction.
-use Rattle.std.proofs.Common.{◌≡◌, inl, inr, ℕ, Bool, true, false, true≢false, cond, ◌||◌, List, [], ◌∷◌, refl, sym, subst, ap, ◌∙◌, Option, Some, None, is_some}
+use Rattle.std.proofs.Common.{◌≡◌, ℕ, Bool, true, false, true≢false, cond, ◌||◌, List, [], ◌∷◌, refl, sym, subst, ap, ◌∙◌, Option, Some, is_some}
 use Rattle.std.specs.Prelude.{unwrap_or, Result, Ok, Err}
 use Rattle.std.specs.FinSet as set
 use Rattle.std.specs.FinMap as finite
@@ -20,8 +20,8 @@ use Rattle.wp_model.specs.declared.holder.Holder.{Holder}
 use Rattle.wp_model.specs.declared.holder.Holder.TheVariants.{Txn}
 use Rattle.wp_model.proofs.Words.{same_word}
 use Rattle.wp_core.specs.Lists.{IsIn}
-use Rattle.wp_core.specs.Views.{locked, unprepared}
-use Rattle.wp_core.specs.World.{Transaction, Participant, Actor, World}
+use Rattle.wp_core.specs.Views.{unprepared}
+use Rattle.wp_core.specs.World.{Transaction, Participant, World}
 use Rattle.wp_core.specs.Changes.{with_key}
 use Rattle.wp_core.proofs.Keyed.{at_inserted}
 use Rattle.wp_shared.specs.Seats.{SharedState, SeatState, IsFree, Stands}
@@ -30,7 +30,7 @@ use Rattle.std.proofs.Common.{append-nil}
 use Rattle.wp_txn.specs.declared.error.TxnError.{TxnError}
 use Rattle.wp_txn.specs.declared.error.TxnError.TheVariants.{Memory, Taken, Busy, TooMany, Silent, Unknown, InUse, NumbersFull, LogFault, Stopped}
 use Rattle.wp_txn.specs.Actors.{no_changes, transaction_in, with_key_locked, with_locked, with_batch}
-use Rattle.wp_txn.specs.Calls.{remembering, with_transaction, Keeps, Finds, IsFull, locking, changing, Changes}
+use Rattle.wp_txn.specs.Calls.{with_transaction, Finds, IsFull, locking, changing, Changes}
 use Rattle.wp_txn.specs.Keys.{HoldsKey}
 use Rattle.wp_txn.specs.Turns.{seat_of, with_locks, GaveLocks}
 use Rattle.wp_txn.specs.Txn.{OpenState, HasOpen}

@@ -1,5 +1,5 @@
 -- The tables once a transaction's name is free, with each of its keys.
-use Rattle.std.proofs.Common.{◌≡◌, ℕ, Bool, true, false, true≢false, cond, not, List, refl, sym, ap, ◌∙◌, Option, Some, None}
+use Rattle.std.proofs.Common.{◌≡◌, ℕ, Bool, true, false, cond, not, List, refl, sym, ap, ◌∙◌, Option, Some, None}
 use Rattle.std.specs.FinMap as finite
 use Rattle.std.specs.FinMap.{nat_cmp-IsAntisymmetric, slice_cmp-IsAntisymmetric}
 use Rattle.std.specs.Option.{option_map_or}
@@ -36,6 +36,6 @@ pub freed_tables : (t l m : LockTables) (name : List ℕ) → l ≡ record t { n
 freed_tables t l m name named freed same =
     let held : List ℕ → Bool = λ key. not (is_held_by t (Txn name) key) in
     let keys : m.keys ≡ finite.retain_keys t.keys held = finite.same_map nat_list_cmp_total (slice_cmp-IsAntisymmetric nat_cmp-IsAntisymmetric) m.keys (finite.retain_keys t.keys held) (λ q.
-        freed q ∙ ap (λ (ks : Keys). but (Txn name) (finite.get ks q)) (ap (λ (x : LockTables). x.keys) named) ∙ but_is name (finite.get t.keys q)
-        ∙ sym (finite.get-retain_keys t.keys held q (λ x e. ap held (sym (exact_bytes q x e))))) in
+    freed q ∙ ap (λ (ks : Keys). but (Txn name) (finite.get ks q)) (ap (λ (x : LockTables). x.keys) named) ∙ but_is name (finite.get t.keys q)
+    ∙ sym (finite.get-retain_keys t.keys held q (λ x e. ap held (sym (exact_bytes q x e))))) in
     same ∙ ap (λ (x : LockTables). record x { keys = m.keys }) named ∙ ap (λ (ks : Keys). record t { names = finite.remove t.names name; keys = ks }) keys

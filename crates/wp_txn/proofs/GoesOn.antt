@@ -1,6 +1,6 @@
 -- A seat that took the locks turn, made its steps, and gave the turn goes on.
-use Rattle.std.proofs.Common.{◌≡◌, inl, inr, ℕ, ◌≤◌, Bool, true, false, true≢false, List, [], ◌∷◌, ◌++◌, length, refl, sym, subst, ap, ◌∙◌, append-nil, Option, Some, None, is_some}
-use Rattle.std.specs.Prelude.{unwrap_or, Result, Ok, Err}
+use Rattle.std.proofs.Common.{◌≡◌, inl, inr, ℕ, ◌≤◌, true, true≢false, List, [], ◌∷◌, length, refl, sym, subst, ap, ◌∙◌, append-nil, Option, Some, None, is_some}
+use Rattle.std.specs.Prelude.{Result, Ok, Err}
 use Rattle.std.specs.FinSet as set
 use Rattle.std.specs.FinMap as finite
 use Rattle.wp_model.specs.Batch.{key_cmp}
@@ -12,11 +12,11 @@ use Rattle.wp_locks.specs.Locks.{FreesAllOf}
 use Rattle.wp_core.specs.Lists.{IsIn}
 use Rattle.wp_core.specs.Tables.{Content, locks}
 use Rattle.wp_core.specs.Turns.{locks_turn}
-use Rattle.wp_core.specs.Views.{Account, Fact, claimed, told, heard, unprepared}
-use Rattle.wp_core.specs.World.{Transaction, Participant, Actor, World}
+use Rattle.wp_core.specs.Views.{Account, Fact, claimed, told, unprepared}
+use Rattle.wp_core.specs.World.{Participant, Actor, World}
 use Rattle.wp_core.specs.Changes.{held_with, held_without, sees, without_transaction, with_name, with_label}
 use Rattle.wp_core.specs.Sound.Actors.{StartsWith}
-use Rattle.wp_core.specs.Sound.Pasts.{past_of, IsPast}
+use Rattle.wp_core.specs.Sound.Pasts.{past_of}
 use Rattle.wp_core.specs.Sound.Views.{guarded_by}
 use Rattle.wp_core.proofs.AllParticipants.{mine}
 use Rattle.wp_core.proofs.Keyed.{at_inserted}
@@ -30,7 +30,7 @@ use Rattle.wp_shared.specs.Calls.{ContinuesWith, Continues}
 use Rattle.wp_txn.specs.declared.error.TxnError.{TxnError}
 use Rattle.wp_txn.specs.declared.error.TxnError.TheVariants.{Memory, Taken, Busy, TooMany, Silent, Unknown, InUse, NumbersFull, LogFault, Stopped}
 use Rattle.wp_txn.specs.Actors.{no_changes, with_claimed, with_found, with_told, with_heard, without}
-use Rattle.wp_txn.specs.Calls.{remembering, with_transaction, Keeps, Finds, Parts, Begins, Tells, IsSilent, Hears}
+use Rattle.wp_txn.specs.Calls.{remembering, with_transaction, Keeps, Finds, Parts, Begins, Tells, Hears}
 use Rattle.wp_txn.specs.Turns.{seat_of, with_locks, HoldsLocks, GaveLocks, IsApartFrom, IsWithout}
 use Rattle.wp_txn.specs.Txn.{HasOpen}
 use Rattle.wp_txn.specs.Under.{Claims, TellsUnder, HearsUnder}
@@ -190,9 +190,13 @@ module _ {D : Type 0} (z : SharedState D) (old : SeatState) (free : IsFree z.tab
           let seen : new.knows.participant.seen ≡ h = ap (λ (x : Participant). x.seen) (participant_back r new gave) ∙ ap (λ (x : SeatState). x.knows.participant.seen) (under f r c.1.3) in (
             c.1.2 ∙ ap (λ (entries : List Entry). length entries) (sym seen),
             record {
-              free = goes.free; same_by = goes.same_by; seen = goes.seen;
+              free = goes.free;
+              same_by = goes.same_by;
+              seen = goes.seen;
               participant = goes.participant ∙ ap (λ (m : ℕ). record (remembering (told label m ∷ []) old.knows.participant) { seen = new.knows.participant.seen }) (sym c.1.2);
-              notes = goes.notes; made = goes.made; joined = goes.joined;
+              notes = goes.notes;
+              made = goes.made;
+              joined = goes.joined;
             },
           )
       told_back label (Err Memory) u r c gave = saw r c.1.0 c.1.2 c.1.1 gave

@@ -1,12 +1,12 @@
 -- The actor that steps beside a load leave.
-use Rattle.std.proofs.Common.{◌≡◌, ℕ, ◌≤◌, Bool, true, false, true≢false, List, [], ◌∷◌, length, refl, sym, subst, ap, ◌∙◌, Option, Some, None, is_some}
+use Rattle.std.proofs.Common.{◌≡◌, ℕ, ◌≤◌, true, false, true≢false, List, [], ◌∷◌, length, refl, sym, subst, ap, ◌∙◌, Option, Some, None, is_some}
 use Rattle.std.specs.Prelude.{unwrap_or}
 use Rattle.std.specs.FinSet as set
 use Rattle.std.specs.FinMap as finite
 use Rattle.std.proofs.lemmas.Slice.Eq.{bytes_eq-Decides}
 use Rattle.wp_model.specs.LockTables.{LockTables}
 use Rattle.wp_model.specs.Batch.{is_batch}
-use Rattle.wp_model.specs.History.{named, batch_at, is_changed}
+use Rattle.wp_model.specs.History.{named, batch_at}
 use Rattle.wp_model.specs.declared.change.Change.{Change}
 use Rattle.wp_model.specs.declared.entry.Entry.{Entry}
 use Rattle.wp_model.specs.declared.holder.Holder.{Holder}
@@ -14,7 +14,7 @@ use Rattle.wp_model.specs.declared.holder.Holder.TheVariants.{Txn, Client}
 use Rattle.wp_locks.specs.Locks.{is_free_for}
 use Rattle.wp_model.specs.Holder.{is_same_txn}
 use Rattle.wp_core.specs.Lists.{IsIn}
-use Rattle.wp_core.specs.Tables.{WriteTable, writes, locks}
+use Rattle.wp_core.specs.Tables.{locks}
 use Rattle.wp_core.specs.Views.{Account, Fact, passed, in_old_commits, apart, words_stay, versions_in_memory, versions_nowhere, number_in_heap, number_not_in_heap, undecided_at, prior_values, unprepared, direct_free, tables_stay, live_listed, nothing_flushed, frozen_stay, delayed_flag_stays, old_flag_stays}
 use Rattle.wp_core.specs.World.{Transaction, Actor, World}
 use Rattle.wp_core.specs.Steps.{Step, load_published, claim_name, find_holder, lock_key, set_batch, free_transaction, leave_name, take_name, tell, hear, note, give_turn}
@@ -132,9 +132,18 @@ pub may_lock : (p : Place) (a : Actor) (t : LockTables) (name key : List ℕ) �
     → IsIn (locks t) a.held → is_free_for (finite.get t.keys key) (Txn name) ≡ true → MayMake p a (λ w. lock_key name (transaction_in a.participant name) key ∷ [])
 may_lock p a t name key there unlocked held free w k =
     let h = has_locks p a w k (λ l. is_free_for (finite.get l.keys key) (Txn name) ≡ true) (record { table = t; held = held; so_is = free }) in
-    let has = has_its a name there in
-    ((tt, tt), ((h.0, has, not_free (finite.get w.locks.keys key) name h.1 (λ own.
-        true≢false (sym ((at_sound p a w k).locks.keys_known key name own p.by 0 (owner_of a.participant) (mine owner_of w.actors p.by a a k.there refl) (transaction_in a.participant name) has) ∙ unlocked))), tt))
+    let has = has_its a name there in (
+      (tt, tt),
+      (
+        (
+          h.0,
+          has,
+          not_free (finite.get w.locks.keys key) name h.1 (λ own.
+              true≢false (sym ((at_sound p a w k).locks.keys_known key name own p.by 0 (owner_of a.participant) (mine owner_of w.actors p.by a a k.there refl) (transaction_in a.participant name) has) ∙ unlocked)),
+        ),
+        tt,
+      ),
+    )
 
 pub key_locked : (p : Place) (so : World → Type 0) (a b : Actor) (t : LockTables) (name key : List ℕ) → Moved p (λ w. lock_key name (transaction_in a.participant name) key ∷ []) so a b → IsIn (locks t) a.held
     → b ≡ with_locked t name key a

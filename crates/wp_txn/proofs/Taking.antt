@@ -1,7 +1,6 @@
 -- A seat that took the write turn and then the locks turn, took a prepare or found that it may not, and gave both turns.
 use Rattle.std.proofs.Common.{◌≡◌, inl, inr, ℕ, ◌≤◌, true, true≢false, List, [], ◌∷◌, length, refl, sym, subst, ap, ◌∙◌, append-nil, Option, Some, None, is_some}
 use Rattle.std.specs.Prelude.{unwrap_or, Result, Ok, Err}
-use Rattle.std.specs.FinSet as set
 use Rattle.std.specs.FinMap as finite
 use Rattle.std.proofs.lemmas.Slice.Eq.{bytes_eq-Decides}
 use Rattle.wp_model.specs.History.{named, name_at, batch_at, is_changed}
@@ -16,7 +15,7 @@ use Rattle.wp_locks.specs.declared.error.LockError.TheVariants as why
 use Rattle.wp_core.specs.Lists.{IsIn}
 use Rattle.wp_core.specs.Tables.{Content, writes, locks}
 use Rattle.wp_core.specs.Turns.{write_turn, locks_turn}
-use Rattle.wp_core.specs.Views.{Account, Fact, took, undecided_at}
+use Rattle.wp_core.specs.Views.{Fact, undecided_at}
 use Rattle.wp_core.specs.World.{Transaction, Participant, Actor, World}
 use Rattle.wp_core.specs.Changes.{held_with, held_without, sees, keys_of_holder, with_name}
 use Rattle.wp_core.specs.Steps.{give_turn}
@@ -28,15 +27,13 @@ use Rattle.wp_rule.specs.Moves.{MayStep}
 use Rattle.wp_rule.proofs.Knows.{at_sound}
 use Rattle.wp_rule.proofs.Needed.{needed}
 use Rattle.wp_guarded.specs.Log.{LogState}
-use Rattle.wp_guarded.specs.Parts.{log_first}
 use Rattle.wp_shared.specs.Seats.{SharedState, SeatState, IsFree, Stands, place_at}
 use Rattle.wp_shared.specs.Calls.{Continues}
 use Rattle.wp_txn.specs.declared.error.TxnError.{TxnError}
 use Rattle.wp_txn.specs.declared.error.TxnError.TheVariants.{Memory, Taken, Busy, TooMany, Silent, Unknown, InUse, NumbersFull, LogFault, Stopped}
 use Rattle.wp_txn.specs.Actors.{with_found, with_taken}
-use Rattle.wp_txn.specs.Calls.{remembering, with_transaction, Keeps, Finds, Takes, TakesPrepared}
+use Rattle.wp_txn.specs.Calls.{Keeps, Takes, TakesPrepared}
 use Rattle.wp_txn.specs.Turns.{seat_of, with_locks, HoldsLocks, GaveLocks, TookLog, HoldsLog, GaveLog, TakesPrepare}
-use Rattle.wp_txn.specs.Txn.{PreparedState, HasPrepared}
 use Rattle.wp_txn.specs.Under.{IsPrepareOf, TakesUnder}
 use Rattle.wp_txn.proofs.GoesOn.{Turnless, same_rest, came_back}
 use Rattle.wp_txn.proofs.Made.{locks_are}

@@ -1,5 +1,5 @@
 -- What the steps of these calls make of the seat's actor, which holds the locks turn with these tables.
-use Rattle.std.specs.Prelude.{ℕ, List, [], ◌∷◌, length, Option, Some, None, unwrap_or}
+use Rattle.std.specs.Prelude.{ℕ, List, [], ◌∷◌, length, Option, Some, unwrap_or}
 use Rattle.std.specs.FinSet as set
 use Rattle.std.specs.FinMap as finite
 use Rattle.wp_model.specs.LockTables.{LockTables}
@@ -11,7 +11,7 @@ use Rattle.wp_model.specs.History.{batch_at, named}
 use Rattle.wp_core.specs.Tables.{locks}
 use Rattle.wp_core.specs.Views.{Account, claimed, took, locked, told, heard, found, unprepared, undecided_at}
 use Rattle.wp_core.specs.World.{Transaction, Participant, Actor}
-use Rattle.wp_core.specs.Changes.{held_with, keys_of_holder, sees, remembers, has_transaction, has_no_transaction, with_name, with_key, with_label, without_transaction}
+use Rattle.wp_core.specs.Changes.{held_with, keys_of_holder, sees, remembers, has_transaction, has_no_transaction, with_name, with_key, with_label}
 
 -- it holds these tables in place of those that it held
 abbrev pub holding : LockTables → Actor → Actor

@@ -70,12 +70,7 @@ pub fn begin<D: Disk + Drop, R: Wait>(
 }
 
 /// Drops an open transaction: its name and its keys are free again. It takes no memory.
-pub fn abandon<D: Disk + Drop, R: Wait>(
-    store: &Shared<D>,
-    rt: &R,
-    seat: &mut Seat<D>,
-    txn: OpenTxn,
-)
+pub fn abandon<D: Disk + Drop, R: Wait>(store: &Shared<D>, rt: &R, seat: &mut Seat<D>, txn: OpenTxn)
     requires free { IsFree store.now.table seat.old }
     requires open { HasOpen seat.old txn.name txn.batch }
     ensures { Parts store.now seat.old seat.new txn.name }

@@ -67,7 +67,13 @@ fn take_under<D: Disk + Drop>(
     requires names { (asked ≡ name.now) × (client ≡ seat.old.knows.participant.client) }
     ensures { TakesUnder tables.old seat.old name.now result tables.new seat.new }
 {
-    let Err(TakeRefused { why, client: _client }) = tables.take_name(asked, client) else {
+    let Err(
+        TakeRefused {
+            why,
+            client: _client,
+        },
+    ) = tables.take_name(asked, client)
+    else {
         take_name(store, seat, name);
         return Ok(());
     };

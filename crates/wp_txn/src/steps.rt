@@ -27,11 +27,7 @@ use wp_rule::Moves;
 use wp_shared::{Seat, Shared};
 
 /// Makes steps about these, which a caller picks by `Brand`: it is told them for that alone.
-fn make_about<D: Disk + Drop, J: Moves, A>(
-    store: &Shared<D>,
-    seat: &mut Seat<D>,
-    about: &A,
-) -> Seq
+fn make_about<D: Disk + Drop, J: Moves, A>(store: &Shared<D>, seat: &mut Seat<D>, about: &A) -> Seq
     requires seat { (seat.old.table ≡ store.now.table) × (J.place ≡ place_at store.now seat.old.by) }
     requires may { MayMake J.place seat.old.knows J.steps }
     requires client { (w : World) → KeepClient (J.steps w) }

@@ -1,4 +1,4 @@
-use Rattle.std.proofs.Common.{◌≡◌, true, List, sym, ap, subst, ◌∙◌, Err, is_some}
+use Rattle.std.proofs.Common.{◌≡◌, List, sym, ap, subst, ◌∙◌, Err, is_some}
 use Rattle.std.specs.Prelude.{Result, ℕ}
 use Rattle.std.specs.FinMap as finite
 use Rattle.std.proofs.lemmas.Result.{err_from_is_err_and}
@@ -10,7 +10,6 @@ use Rattle.wp_shared.specs.Calls.{Continues}
 use Rattle.wp_txn.specs.declared.error.TxnError.{TxnError}
 use Rattle.wp_txn.specs.Actors.{with_batch}
 use Rattle.wp_txn.specs.Calls.{IsFull, locking, Changes}
-use Rattle.wp_txn.specs.Keys.{HoldsKey}
 use Rattle.wp_txn.specs.Turns.{seat_of}
 use Rattle.wp_txn.specs.Txn.{OpenState}
 use Rattle.wp_txn.proofs.Adding.{not_changed, locking_has, changed_it}
