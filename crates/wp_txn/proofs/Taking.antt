@@ -123,7 +123,7 @@ module _ {D : Type 0} (z : SharedState D) (old : SeatState) (free : IsFree z.tab
         locks_kept (with_taken t c.2.history name both) r u (under_both (with_taken t c.2.history name) r c.2.seat) free.live (inl (ap locks (sym (c.0 ∙ ap (λ (client : List ℕ). with_name t name (Some client)) same_client))))
     locks_after name (Err (Unknown other at)) u r c = locks_kept (sees c.3.0 both) r u (under_both (sees c.3.0) r c.3.4) free.live (inl (ap locks (sym c.2)))
     locks_after name (Err (InUse other)) u r c = locks_kept (with_found None (Txn name) c.1.2.0 both) r u (under_both (with_found None (Txn name) c.1.2.0) r c.1.2.1) free.live (inl (ap locks (sym c.1.1)))
-    locks_after name (Err Memory) u r c = locks_kept both r u (under_both (λ a. a) r c.1) free.live (inl (ap locks (sym c.0)))
+    locks_after name (Err Memory) u r c = absurd c
     locks_after name (Err (Taken other)) u r c = absurd c
     locks_after name (Err (Busy holder)) u r c = absurd c
     locks_after name (Err TooMany) u r c = absurd c
@@ -147,7 +147,7 @@ module _ {D : Type 0} (z : SharedState D) (old : SeatState) (free : IsFree z.tab
       log_after name (Ok done) u c = log_kept (with_taken t c.2.history name both) (under_both (with_taken t c.2.history name) r c.2.seat) (inl refl)
       log_after name (Err (Unknown other at)) u c = log_kept (sees c.3.0 both) (under_both (sees c.3.0) r c.3.4) (inl refl)
       log_after name (Err (InUse other)) u c = log_kept (with_found None (Txn name) c.1.2.0 both) (under_both (with_found None (Txn name) c.1.2.0) r c.1.2.1) (inl refl)
-      log_after name (Err Memory) u c = log_kept both (under_both (λ a. a) r c.1) (inl refl)
+      log_after name (Err Memory) u c = absurd c
       log_after name (Err (Taken other)) u c = absurd c
       log_after name (Err (Busy holder)) u c = absurd c
       log_after name (Err TooMany) u c = absurd c
@@ -215,7 +215,7 @@ module _ {D : Type 0} (z : SharedState D) (old : SeatState) (free : IsFree z.tab
             goes_on = both_back (with_found None (Txn name) c.1.2.0 both) (under_both (with_found None (Txn name) c.1.2.0) r c.1.2.1) same_held free.live refl refl ([], sym (append-nil old.knows.participant.seen)) (λ fact there. there);
           },
         )
-        not_taken w name Memory u stands are c = both_back both (under_both (λ a. a) r c.1) same_held free.live refl refl ([], sym (append-nil old.knows.participant.seen)) (λ fact there. there)
+        not_taken w name Memory u stands are c = absurd c
         not_taken w name (Taken other) u stands are c = absurd c
         not_taken w name (Busy holder) u stands are c = absurd c
         not_taken w name TooMany u stands are c = absurd c

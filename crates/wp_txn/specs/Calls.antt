@@ -36,7 +36,8 @@ without_transaction name p = record p { transactions = finite.remove p.transacti
 abbrev pub Keeps : {D : Type 0} → SharedState D → SeatState → SeatState → Type 0
 Keeps z old new = Continues z old new old.knows.participant
 
--- The tables, in such a world, had this holder of the key, or else of a live name. The seat remembers that it found it.
+-- In a world in which the seat stood so, the tables had this holder of the key, or else of a live name. The seat remembers that
+-- it found it.
 pub record FindsWhere {D : Type 0} (Stood : World → Type 0) (z : SharedState D) (old new : SeatState) (key : Option (List ℕ)) (holder : Holder) : Type 0 where
   pub world : World
   pub stood : Stood world

@@ -38,7 +38,6 @@ TakesUnder old s name (Ok done) new t = (new ≡ with_name old name (Some s.know
 TakesUnder old s name (Err (Unknown other at)) new t =
     (other ≡ name) × (finite.get old.names name ≡ None) × (new ≡ old) × ((history : List Entry) × StartsWith history s.knows.participant.seen × (named history name ≡ None) × (at ≡ length history) × (t ≡ seat_of s (sees history s.knows)))
 TakesUnder old s name (Err (InUse other)) new t = (other ≡ name) × FindsName old s name new t
-TakesUnder old s name (Err Memory) new t = (new ≡ old) × (t ≡ s)
 TakesUnder old s name (Err other) new t = ⊥
 
 abbrev pub TellsUnder : LockTables → SeatState → List ℕ → Result ℕ TxnError → LockTables → SeatState → Type 0

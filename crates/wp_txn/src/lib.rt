@@ -12,7 +12,7 @@
 //!
 //! A transaction is a value that has to be spent: it is handed to the call that ends it. The calls wait for turns and for
 //! nothing else. `abandon`, `leave` and `hear` take no memory; all others may be refused for want of it, and then leave the
-//! transaction and the seat as they were.
+//! transaction as it was, and the seat but for what it has seen.
 #![tactic(auto)]
 
 mod board;

@@ -60,13 +60,11 @@ pub fn begin<D: Disk + Drop, R: Wait>(
     let mut tables = take_locks(store, rt, seat);
     let outcome = claim(store, seat, &mut tables, &name, claimed, client);
     give_locks(store, seat, tables);
-    match outcome {
-        Ok(()) => Ok(OpenTxn {
-            name,
-            batch: Batch::new(alloc),
-        }),
-        Err(why) => Err(why),
-    }
+    outcome?;
+    Ok(OpenTxn {
+        name,
+        batch: Batch::new(alloc),
+    })
 }
 
 /// Drops an open transaction: its name and its keys are free again. It takes no memory.

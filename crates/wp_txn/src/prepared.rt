@@ -67,16 +67,11 @@ fn take_under<D: Disk + Drop>(
     requires names { (asked ≡ name.now) × (client ≡ seat.old.knows.participant.client) }
     ensures { TakesUnder tables.old seat.old name.now result tables.new seat.new }
 {
-    let Err(
-        TakeRefused {
-            why,
-            client: _client,
-        },
-    ) = tables.take_name(asked, client)
-    else {
+    let Err(refused) = tables.take_name(asked, client) else {
         take_name(store, seat, name);
         return Ok(());
     };
+    let TakeRefused { why, .. } = refused;
     match why {
         LockError::Unknown(asked) => {
             let at = store.published(seat);
@@ -114,9 +109,7 @@ pub fn take_prepared<D: Disk + Drop, R: Wait>(
     let outcome = take_under(store, seat, &mut tables, name, asked, client);
     give_locks(store, seat, tables);
     give_log(store, seat, log);
-    if let Err(why) = outcome {
-        return Err(why);
-    }
+    outcome?;
     let Some((number, batch)) = prepare else {
         unreachable!();
     };
