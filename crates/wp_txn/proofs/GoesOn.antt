@@ -29,8 +29,8 @@ use Rattle.wp_shared.specs.Seats.{SharedState, SeatState, IsFree, Stands, place_
 use Rattle.wp_shared.specs.Calls.{ContinuesWith, Continues}
 use Rattle.wp_txn.specs.declared.error.TxnError.{TxnError}
 use Rattle.wp_txn.specs.declared.error.TxnError.TheVariants.{Memory, Taken, Busy, TooMany, Silent, Unknown, InUse, NumbersFull, LogFault, Stopped}
-use Rattle.wp_txn.specs.Actors.{no_changes, with_claimed, with_found, with_told, with_heard, without}
-use Rattle.wp_txn.specs.Calls.{remembering, with_transaction, Keeps, Finds, Parts, Begins, Tells, Hears}
+use Rattle.wp_txn.specs.Actors.{no_changes, with_claimed, with_found, with_told, with_heard, giving_up}
+use Rattle.wp_txn.specs.Calls.{remembering, with_transaction, Keeps, Finds, GivesUp, Begins, Tells, Hears}
 use Rattle.wp_txn.specs.Turns.{seat_of, with_locks, HoldsLocks, GaveLocks, IsApartFrom, IsWithout}
 use Rattle.wp_txn.specs.Txn.{HasOpen}
 use Rattle.wp_txn.specs.Under.{Claims, TellsUnder, HearsUnder}
@@ -120,7 +120,7 @@ module _ {D : Type 0} (z : SharedState D) (old : SeatState) (free : IsFree z.tab
     pub freed_holds : (name : List ℕ) (l m : LockTables) (r : SeatState) → IsWithout s r (without_transaction t name) name → l ≡ record t { names = finite.remove t.names name } → FreesAllOf (Txn name) l.keys m.keys → m ≡ record l { keys = m.keys }
         → HoldsLocks z r m
     freed_holds name l m r without_it named freed same =
-        still_holds (λ a. record (without (without_transaction t name) name a) { notes = r.knows.notes }) r m without_it.seat free.live (inl (ap locks (sym (freed_tables t l m name named freed same))))
+        still_holds (λ a. record (giving_up (without_transaction t name) name a) { notes = r.knows.notes }) r m without_it.seat free.live (inl (ap locks (sym (freed_tables t l m name named freed same))))
 
     module _ (new : SeatState) where
       -- nothing was done
@@ -173,9 +173,9 @@ module _ {D : Type 0} (z : SharedState D) (old : SeatState) (free : IsFree z.tab
       not_begun w name LogFault u r stands are c gave = c
       not_begun w name (Stopped n) u r stands are c gave = c
 
-      pub parted : (name : List ℕ) (u : LockTables) (r : SeatState) → IsWithout s r u name → GaveLocks r new → Parts z old new name
-      parted name u r without_it gave =
-          let f : Actor → Actor = λ a. record (without u name a) { notes = r.knows.notes } in
+      pub given_up : (name : List ℕ) (u : LockTables) (r : SeatState) → IsWithout s r u name → GaveLocks r new → GivesUp z old new name
+      given_up name u r without_it gave =
+          let f : Actor → Actor = λ a. record (giving_up u name a) { notes = r.knows.notes } in
           let goes = back (IsApartFrom name) t (f (with_locks t old).knows) r new (under f r without_it.seat) gave (held_back t u) free.live refl refl ([], sym (append-nil old.knows.participant.seen))
           (λ fact apart there. without_it.notes fact apart (subst (λ (x : SeatState). IsIn fact x.knows.notes) (sym took) there)) in
           goes

@@ -38,7 +38,7 @@ use Rattle.wp_rule.proofs.Needed.{has_locks, has_writes, needed, undecided_of}
 use Rattle.wp_rule.proofs.Outlasting.{outlasts}
 use Rattle.wp_shared.specs.Seats.{SeatState}
 use Rattle.wp_shared.proofs.OneStep.{stepped, becomes}
-use Rattle.wp_txn.specs.Actors.{no_changes, transaction_in, with_claimed, with_found, with_locked, with_batch, without, with_taken, with_told, with_heard}
+use Rattle.wp_txn.specs.Actors.{no_changes, transaction_in, with_claimed, with_found, with_locked, with_batch, giving_up, with_taken, with_told, with_heard}
 use Rattle.wp_txn.specs.Turns.{seat_of, IsApartFrom, IsWithout, TakesPrepare}
 
 -- ---- steps that end no note
@@ -220,10 +220,10 @@ module _ (p : Place) (so : World → Type 0) (s new : SeatState) (same : (new.ta
   pub freed_it : Moved p (λ w. free_transaction name ∷ []) so s.knows new.knows → IsWithout s new (without_transaction t name) name
   freed_it m =
       let after = actor_after (free_transaction name ∷ []) m.world p.by s.knows in
-      let e : new.knows ≡ record (without (without_transaction t name) name s.knows) { notes = after.notes } =
-      m.actor ∙ ap (λ (l : LockTables). record (without (without_transaction l name) name s.knows) { notes = after.notes }) (locks_are p s.knows m.world t m.before held) in
+      let e : new.knows ≡ record (giving_up (without_transaction t name) name s.knows) { notes = after.notes } =
+      m.actor ∙ ap (λ (l : LockTables). record (giving_up (without_transaction l name) name s.knows) { notes = after.notes }) (locks_are p s.knows m.world t m.before held) in
       record {
-        seat = becomes s new (record (without (without_transaction t name) name s.knows) { notes = new.knows.notes }) same (but_notes (without (without_transaction t name) name s.knows) new.knows after e);
+        seat = becomes s new (record (giving_up (without_transaction t name) name s.knows) { notes = new.knows.notes }) same (but_notes (giving_up (without_transaction t name) name s.knows) new.knows after e);
         notes = λ fact stays there.
             subst (λ (x : Actor). Noted x fact) (sym m.actor) (outlasts fact (free_transaction name ∷ []) m.world p.by s.knows there ((λ x. x), free_ends m.world.writes.history (length m.world.cache) name fact stays, tt));
       }
@@ -231,10 +231,10 @@ module _ (p : Place) (so : World → Type 0) (s new : SeatState) (same : (new.ta
   pub left_it : Moved p (λ w. leave_name name ∷ []) so s.knows new.knows → IsWithout s new (with_name t name None) name
   left_it m =
       let after = actor_after (leave_name name ∷ []) m.world p.by s.knows in
-      let e : new.knows ≡ record (without (with_name t name None) name s.knows) { notes = after.notes } =
-      m.actor ∙ ap (λ (l : LockTables). record (without (with_name l name None) name s.knows) { notes = after.notes }) (locks_are p s.knows m.world t m.before held) in
+      let e : new.knows ≡ record (giving_up (with_name t name None) name s.knows) { notes = after.notes } =
+      m.actor ∙ ap (λ (l : LockTables). record (giving_up (with_name l name None) name s.knows) { notes = after.notes }) (locks_are p s.knows m.world t m.before held) in
       record {
-        seat = becomes s new (record (without (with_name t name None) name s.knows) { notes = new.knows.notes }) same (but_notes (without (with_name t name None) name s.knows) new.knows after e);
+        seat = becomes s new (record (giving_up (with_name t name None) name s.knows) { notes = new.knows.notes }) same (but_notes (giving_up (with_name t name None) name s.knows) new.knows after e);
         notes = λ fact stays there.
             subst (λ (x : Actor). Noted x fact) (sym m.actor) (outlasts fact (leave_name name ∷ []) m.world p.by s.knows there ((λ x. x), leave_ends m.world.writes.history (length m.world.cache) name fact ∙ free_ends m.world.writes.history (length m.world.cache) name fact stays, tt));
       }

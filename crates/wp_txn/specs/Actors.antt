@@ -46,8 +46,8 @@ abbrev pub with_batch : List ℕ → List Change → Actor → Actor
 with_batch name batch a = has_transaction a name (record (transaction_in a.participant name) { batch = batch })
 
 -- its transaction is gone, and the tables are these
-abbrev pub without : LockTables → List ℕ → Actor → Actor
-without t name a = holding t (has_no_transaction a name)
+abbrev pub giving_up : LockTables → List ℕ → Actor → Actor
+giving_up t name a = holding t (has_no_transaction a name)
 
 -- it saw this history, and took the undecided prepare of the name, which it noted
 abbrev pub with_taken : LockTables → List Entry → List ℕ → Actor → Actor

@@ -50,8 +50,8 @@ abbrev pub Finds : {D : Type 0} → SharedState D → SeatState → SeatState �
 Finds z old new key holder = FindsWhere (Stands z old) z old new key holder
 
 -- a transaction of this name is gone from the seat, which knows no more about it
-abbrev pub Parts : {D : Type 0} → SharedState D → SeatState → SeatState → List ℕ → Type 0
-Parts z old new name = ContinuesWith (IsApartFrom name) z old new (without_transaction name old.knows.participant)
+abbrev pub GivesUp : {D : Type 0} → SharedState D → SeatState → SeatState → List ℕ → Type 0
+GivesUp z old new name = ContinuesWith (IsApartFrom name) z old new (without_transaction name old.knows.participant)
 
 abbrev pub Begins : {D : Type 0} → SharedState D → SeatState → List ℕ → Result OpenState TxnError → SeatState → Type 0
 Begins z old name (Ok txn) new = (txn ≡ record { name = name; batch = [] }) × HasOpen new name [] × Continues z old new (remembering (claimed name ∷ []) (with_transaction name no_changes old.knows.participant))

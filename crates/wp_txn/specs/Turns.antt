@@ -16,7 +16,7 @@ use Rattle.wp_core.specs.Sound.Views.{guarded_by}
 use Rattle.wp_guarded.specs.Log.{LogState}
 use Rattle.wp_guarded.specs.Parts.{log_first}
 use Rattle.wp_shared.specs.Seats.{SharedState, SeatState}
-use Rattle.wp_txn.specs.Actors.{without, with_taken}
+use Rattle.wp_txn.specs.Actors.{giving_up, with_taken}
 
 -- the seat with this actor
 abbrev pub seat_of : SeatState → Actor → SeatState
@@ -86,7 +86,7 @@ IsApartFrom name fact = (guarded_by fact ≡ None) × (is_about name fact ≡ fa
 
 -- its transaction of this name is gone, and the tables are these now; it knows no more about the transaction
 pub record IsWithout (old new : SeatState) (t : LockTables) (name : List ℕ) : Type 0 where
-  pub seat : new ≡ seat_of old (record (without t name old.knows) { notes = new.knows.notes })
+  pub seat : new ≡ seat_of old (record (giving_up t name old.knows) { notes = new.knows.notes })
   pub notes : (fact : Fact) → IsApartFrom name fact → IsIn fact old.knows.notes → IsIn fact new.knows.notes
 
 -- The seat saw the history, and took the undecided prepare of the name; the tables held the keys of its batch for it. A history that

@@ -1,12 +1,12 @@
 //! Transactions on a shared store: their names, the keys that they lock, and the board.
 //!
 //! Each call is a free function over the store and the caller's seat, and begins and ends with a seat that holds no turn. What
-//! it does it does while it holds the turn that guards the tables concerned, as one step of the machine of `wp_core`; its
+//! it does it does while it holds the turn that guards the tables concerned, by steps of the machine of `wp_core`; its
 //! clause says what the seat's actor then has and remembers, and of a refusal also what the tables held as it found them.
 //!
 //! - `begin` claims a name for an open transaction. `put` and `del` add a change to its batch, and lock the change's key first
 //!   where the batch has none of it. `abandon` drops it, with its name and its keys.
-//! - `leave` parts from a prepared transaction, whose name stays live and whose keys stay held, and `take_prepared` takes one that
+//! - `leave` gives up a prepared transaction, whose name stays live and whose keys stay held, and `take_prepared` takes one that
 //!   nobody has.
 //! - `tell` and `hear`: labels on a board, by which one client lets another see what it has seen.
 //!

@@ -1,7 +1,7 @@
 //! Prepared transactions that change hands.
 ghost use Rattle.std.specs.Prelude.{◌≡◌, IfOk};
 ghost use Rattle.wp_shared.specs.Seats.{IsFree};
-ghost use Rattle.wp_txn.specs.Calls.{Parts, TakesPrepared};
+ghost use Rattle.wp_txn.specs.Calls.{GivesUp, TakesPrepared};
 ghost use Rattle.wp_txn.specs.Turns.{HoldsLocks};
 ghost use Rattle.wp_txn.specs.Txn.{HasPrepared};
 ghost use Rattle.wp_txn.specs.Under.{IsPrepareOf, TakesUnder};
@@ -27,7 +27,7 @@ pub fn leave<D: Disk + Drop, R: Wait>(
 )
     requires free { IsFree store.now.table seat.old }
     requires prepared { HasPrepared seat.old txn.name txn.number txn.batch }
-    ensures { Parts store.now seat.old seat.new txn.name }
+    ensures { GivesUp store.now seat.old seat.new txn.name }
 {
     let PreparedTxn {
         name,

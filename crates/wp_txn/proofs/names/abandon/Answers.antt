@@ -1,7 +1,7 @@
 use Rattle.std.proofs.Common.{subst}
-use Rattle.wp_txn.specs.Calls.{Parts}
+use Rattle.wp_txn.specs.Calls.{GivesUp}
 use Rattle.wp_txn.specs.Txn.{OpenState}
-use Rattle.wp_txn.proofs.GoesOn.{freed_holds, parted}
+use Rattle.wp_txn.proofs.GoesOn.{freed_holds, given_up}
 use Rattle.wp_txn.proofs.names.abandon.Goals as goal
 
 pub give_locks-requires : goal.give_locks-requires
@@ -11,5 +11,5 @@ give_locks-requires g c =
 
 pub returns : goal.returns
 returns g c =
-    subst (λ (txn : OpenState). Parts c.args.store.now c.args.seat.now c.give_locks.new.seat txn.name) c.txn.view_is
-    (parted c.args.store.now c.args.seat.now c.requires.free c.take_locks-tables.result _ c.take_locks-tables.ensures.seat _ c.txn.inside.name _ _ c.free_transaction.ensures c.give_locks.ensures)
+    subst (λ (txn : OpenState). GivesUp c.args.store.now c.args.seat.now c.give_locks.new.seat txn.name) c.txn.view_is
+    (given_up c.args.store.now c.args.seat.now c.requires.free c.take_locks-tables.result _ c.take_locks-tables.ensures.seat _ c.txn.inside.name _ _ c.free_transaction.ensures c.give_locks.ensures)
