@@ -13,7 +13,7 @@ use Rattle.wp_core.specs.World.{Actor, new_actor, content_of}
 use Rattle.wp_core.specs.Changes.{turn_index}
 use Rattle.wp_core.specs.Runs.{stays}
 use Rattle.wp_rule.specs.Words.{turn_words, words_of, SawAll}
-use Rattle.wp_rule.specs.Shows.{Rests, Shows, Founds}
+use Rattle.wp_rule.specs.Shows.{WasLast, Rests, Shows, Founds}
 
 none_held : (turn : Turn) → turn_holder all_free turn ≡ None
 none_held write_turn = refl
@@ -28,9 +28,9 @@ zeros [] all = refl
 zeros (x ∷ xs) all = λ i. all 0 0 (omega arith) i ∷ zeros xs (λ k d low. all (suc k) d (omega arith)) i
 
 module _ {S : Type 0} (content : S → Option Content) (tells : S → Type 0) where
-  pub founds : (client : List ℕ) (opened : List Entry) (cells flag : ℕ) (slots : List S) (words : List ℕ) → Founds content tells client opened cells flag slots
-      → words ≡ length opened ∷ length opened ∷ flag ∷ replicate (cells + 7) 0 → Shows content tells opened cells (opening words slots (new_actor true client opened))
-  founds client opened cells flag slots words f is =
+  pub founds : (client : List ℕ) (opened : List Entry) (cells flag : ℕ) (slots first : List S) (words : List ℕ) → Founds content tells client opened cells flag slots → first ≡ slots
+      → words ≡ length opened ∷ length opened ∷ flag ∷ replicate (cells + 7) 0 → Shows content tells first opened cells (opening words slots (new_actor true client opened))
+  founds client opened cells flag slots first words f same is =
       let w = f.world in let o = f.opening in
       let cache : w.cache ≡ replicate cells 0 = zeros w.cache o.cache ∙ ap (λ n. replicate n 0) f.cells_are in
       let front : length w.writes.history ∷ w.max_evicted ∷ w.delayed_flag ∷ w.old_flag ∷ [] ≡ length opened ∷ length opened ∷ flag ∷ 0 ∷ [] =
@@ -42,6 +42,7 @@ module _ {S : Type 0} (content : S → Option Content) (tells : S → Type 0) wh
         reached = (w, o, stays);
         opened_is = f.opened_is;
         cells_are = f.cells_are;
+        first_edit = let p = f.parts tables_turn in subst (λ (xs : List S). WasLast content xs w.first_edit) (sym same) (p.0, w.installed, p.1, p.2.0, o.first_edit);
         words = is ∙ (ap (λ n. length opened ∷ length opened ∷ flag ∷ replicate n 0) seven ∙ sym all);
         deep = length-map slots some ∙ f.deep;
         rests = λ turn. let p = f.parts turn in

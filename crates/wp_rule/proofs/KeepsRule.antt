@@ -21,7 +21,7 @@ use Rattle.wp_core.proofs.Frames.{here}
 use Rattle.wp_core.proofs.Gives.{now_holder, other_holder, same_turn}
 use Rattle.wp_rule.specs.Words.{turn_word, words_of, turn_place, Place, IsAt}
 use Rattle.wp_rule.specs.Moves.{world_after_step, actor_after_step, world_after, actor_after, MayMake, MayStore, Leave}
-use Rattle.wp_rule.specs.Shows.{IsPart, Rests, Shows}
+use Rattle.wp_rule.specs.Shows.{WasLast, IsPart, Rests, Shows}
 use Rattle.wp_rule.specs.Plays as plays
 use Rattle.wp_rule.specs.Plays.{MayUnclaim, taking, with_turn}
 use Rattle.wp_rule.proofs.Knows.{at_sound, held_is}
@@ -67,12 +67,12 @@ held_word (Some by) ne e = absurd (cc)
 pub chosen : (n : ℕ) (A B : Type 0) → (n ≡ 0 → A) → (n ≢ 0 → B) → MatchBool (eqb n 0) A B
 chosen n A B h k = dite (ℕ_discrete n 0) (λ e. subst (λ b. MatchBool b A B) (sym (eq-eqb n 0 e)) (h e)) (λ ne. subst (λ b. MatchBool b A B) (sym (ne_eqb n 0 ne)) (k ne))
 
-module _ {S : Type 0} (content : S → Option Content) (tells : S → Type 0) (opened : List Entry) (cells : ℕ) where
+module _ {S : Type 0} (content : S → Option Content) (tells : S → Type 0) (first : List S) (opened : List Entry) (cells : ℕ) where
   abbrev St : Type 0
   St = State S Actor
 
   abbrev Rule : St → Type 0
-  Rule = Shows content tells opened cells
+  Rule = Shows content tells first opened cells
 
   abbrev place : ℕ → Place
   place id = record { opened = opened; cells = cells; by = id }
@@ -97,6 +97,7 @@ module _ {S : Type 0} (content : S → Option Content) (tells : S → Type 0) (o
     reached = reached;
     opened_is = l.opened ∙ r.opened_is;
     cells_are = l.cells ∙ r.cells_are;
+    first_edit = subst (WasLast content first) (sym l.first_edit) r.first_edit;
     words = same ∙ sym l.words_are;
     deep = r.deep;
     rests = λ turn. rests_still (turn_holder r.world.holders turn) (turn_holder last.holders turn) (content_of r.world turn) (content_of last turn) (get_elem? s.homes (turn_index turn)) (ap (λ h. turn_holder h turn) l.holders) (l.contents turn) (r.rests turn);
@@ -141,6 +142,7 @@ module _ {S : Type 0} (content : S → Option Content) (tells : S → Type 0) (o
         reached = subst Reaches is reached;
         opened_is = r.opened_is;
         cells_are = r.cells_are;
+        first_edit = r.first_edit;
         words = ap (λ (words : List ℕ). set words (turn_place turn) (turn_word x)) r.words ∙ turn_set w turn x;
         deep = deep;
         rests = λ u. dite (ℕ_discrete (turn_index u) (turn_index turn))
@@ -247,8 +249,8 @@ module _ {S : Type 0} (content : S → Option Content) (tells : S → Type 0) (o
 -- ---- taking
 
 module _ {S : Type 0} (content : S → Option Content) (tells : List S → S → Type 0) (first : List S) (opened : List Entry) (cells : ℕ) where
-  pub claims : (slots id word : ℕ) (m : Me S Actor) (p : Place) (turn : Turn) (told : List S) → p ≡ place content (tells first) opened cells id → word ≡ turn_place turn → told ≡ first → m.0.live ≡ true
-      → Allows (Shows content (tells first) opened cells) slots id m word (λ n. either (eqb n 0) 1 n) (plays.claims content (tells told) p turn (step slots word 0 1 none) m)
+  pub claims : (slots id word : ℕ) (m : Me S Actor) (p : Place) (turn : Turn) (told : List S) → p ≡ place content (tells first) first opened cells id → word ≡ turn_place turn → told ≡ first → m.0.live ≡ true
+      → Allows (Shows content (tells first) first opened cells) slots id m word (λ n. either (eqb n 0) 1 n) (plays.claims content (tells told) p turn (step slots word 0 1 none) m)
   claims slots id word m p turn told is which same live =
-      subst (λ (q : (Place × ℕ) × List S). Allows (Shows content (tells first) opened cells) slots id m q.0.1 (λ n. either (eqb n 0) 1 n) (plays.claims content (tells q.1) q.0.0 turn (step slots q.0.1 0 1 none) m)) (λ i. ((sym is i, sym which i), sym same i))
-      (λ s r deep at low. exchanged (get_or s.words (turn_place turn) 0) 0 1 (Claim content (tells first) opened cells id turn m s (get_or s.words (turn_place turn) 0)) (claimed content (tells first) opened cells id turn m s r live at) (missed content (tells first) opened cells id turn m s r at))
+      subst (λ (q : (Place × ℕ) × List S). Allows (Shows content (tells first) first opened cells) slots id m q.0.1 (λ n. either (eqb n 0) 1 n) (plays.claims content (tells q.1) q.0.0 turn (step slots q.0.1 0 1 none) m)) (λ i. ((sym is i, sym which i), sym same i))
+      (λ s r deep at low. exchanged (get_or s.words (turn_place turn) 0) 0 1 (Claim content (tells first) first opened cells id turn m s (get_or s.words (turn_place turn) 0)) (claimed content (tells first) first opened cells id turn m s r live at) (missed content (tells first) first opened cells id turn m s r at))

@@ -39,15 +39,15 @@ others_stay w by b c turn holds free = same_contents (with_content w c) (with_ac
 -- ---- one step
 
 alone : (w : World) (by : ℕ) (b : Actor) → Leave by w (words_of w) (with_actor w by b) b
-alone w by b = record { words_are = refl; opened = refl; cells = refl; holders = refl; contents = λ turn free. same_contents w (with_actor w by b) refl refl refl refl refl refl turn; actors = refl }
+alone w by b = record { words_are = refl; opened = refl; first_edit = refl; cells = refl; holders = refl; contents = λ turn free. same_contents w (with_actor w by b) refl refl refl refl refl refl turn; actors = refl }
 
 changed : (w : World) (by : ℕ) (b : Actor) (c : Content) → Holds w.holders (turn_of c) by → words_of (with_content w c) ≡ words_of w → Leave by w (words_of w) (with_actor (with_content w c) by b) b
-changed w by b (writes t) holds same = record { words_are = same; opened = refl; cells = refl; holders = refl; contents = λ turn free. others_stay w by b (writes t) turn holds free; actors = refl }
-changed w by b (prepared t) holds same = record { words_are = refl; opened = refl; cells = refl; holders = refl; contents = λ turn free. others_stay w by b (prepared t) turn holds free; actors = refl }
-changed w by b (snapshots t) holds same = record { words_are = refl; opened = refl; cells = refl; holders = refl; contents = λ turn free. others_stay w by b (snapshots t) turn holds free; actors = refl }
-changed w by b (store t) holds same = record { words_are = refl; opened = refl; cells = refl; holders = refl; contents = λ turn free. others_stay w by b (store t) turn holds free; actors = refl }
-changed w by b (locks t) holds same = record { words_are = refl; opened = refl; cells = refl; holders = refl; contents = λ turn free. others_stay w by b (locks t) turn holds free; actors = refl }
-changed w by b (installed t) holds same = record { words_are = refl; opened = refl; cells = refl; holders = refl; contents = λ turn free. others_stay w by b (installed t) turn holds free; actors = refl }
+changed w by b (writes t) holds same = record { words_are = same; opened = refl; first_edit = refl; cells = refl; holders = refl; contents = λ turn free. others_stay w by b (writes t) turn holds free; actors = refl }
+changed w by b (prepared t) holds same = record { words_are = refl; opened = refl; first_edit = refl; cells = refl; holders = refl; contents = λ turn free. others_stay w by b (prepared t) turn holds free; actors = refl }
+changed w by b (snapshots t) holds same = record { words_are = refl; opened = refl; first_edit = refl; cells = refl; holders = refl; contents = λ turn free. others_stay w by b (snapshots t) turn holds free; actors = refl }
+changed w by b (store t) holds same = record { words_are = refl; opened = refl; first_edit = refl; cells = refl; holders = refl; contents = λ turn free. others_stay w by b (store t) turn holds free; actors = refl }
+changed w by b (locks t) holds same = record { words_are = refl; opened = refl; first_edit = refl; cells = refl; holders = refl; contents = λ turn free. others_stay w by b (locks t) turn holds free; actors = refl }
+changed w by b (installed t) holds same = record { words_are = refl; opened = refl; first_edit = refl; cells = refl; holders = refl; contents = λ turn free. others_stay w by b (installed t) turn holds free; actors = refl }
 
 -- what a reader loads depends on no actor
 loads_same : (w : World) (actors : List Actor) (which : Load) → loaded w which ≡ loaded (record w { actors = actors }) which
@@ -123,13 +123,14 @@ set_twice (z ∷ zs) zero x y = refl
 set_twice (z ∷ zs) (suc i) x y = ap (λ l. z ∷ l) (set_twice zs i x y)
 
 stays : (w : World) (by : ℕ) (a : Actor) → get_elem? w.actors by ≡ some a → Leave by w (words_of w) w a
-stays w by a at = record { words_are = refl; opened = refl; cells = refl; holders = refl; contents = λ turn free. refl; actors = sym (set_again w.actors by a at) }
+stays w by a at = record { words_are = refl; opened = refl; first_edit = refl; cells = refl; holders = refl; contents = λ turn free. refl; actors = sym (set_again w.actors by a at) }
 
 -- steps that leave the words, after others
 pub both : (w next last : World) (by : ℕ) (b c : Actor) (words : List ℕ) → Leave by w words next b → Leave by next (words_of next) last c → Leave by w words last c
 both w next last by b c words l k = record {
   words_are = k.words_are ∙ l.words_are;
   opened = k.opened ∙ l.opened;
+  first_edit = k.first_edit ∙ l.first_edit;
   cells = k.cells ∙ l.cells;
   holders = k.holders ∙ l.holders;
   contents = λ turn free. k.contents turn (ap (λ h. turn_holder h turn) l.holders ∙ free) ∙ l.contents turn free;

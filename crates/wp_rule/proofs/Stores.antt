@@ -59,21 +59,21 @@ may_max p a m may w k =
     let n = may w k in let v : World = record w { max_evicted = m } in let t : Content = prepared (with_moved w.prepared m) in
     let b : Actor = actor_after_step w a (store_max_evicted m) in
     then_noted p a w (store_max_evicted m) (words_stay m w.cache) (set (words_of w) 1 m) k n
-    (record { words_are = refl; opened = refl; cells = refl; holders = refl; contents = λ turn free. others_stay v p.by b t turn n.1 free ∙ same_contents w v refl refl refl refl refl refl turn; actors = refl })
+    (record { words_are = refl; opened = refl; first_edit = refl; cells = refl; holders = refl; contents = λ turn free. others_stay v p.by b t turn n.1 free ∙ same_contents w v refl refl refl refl refl refl turn; actors = refl })
     (holder_is_live p a w write_turn k n.0, guarded p a w k write_turn n.0, (refl, refl))
 
 pub may_delayed : (p : Place) (a : Actor) (value : ℕ) → MayStep p a (store_delayed_flag value) → MayStore p a (λ w. store_delayed_flag value ∷ note (delayed_flag_stays value) ∷ []) 2 value
 may_delayed p a value may w k =
     let n = may w k in let next : World = world_after_step w p.by a (store_delayed_flag value) in
     then_noted p a w (store_delayed_flag value) (delayed_flag_stays value) (set (words_of w) 2 value) k n
-    (record { words_are = refl; opened = refl; cells = refl; holders = refl; contents = λ turn free. same_contents w next refl refl refl refl refl refl turn; actors = refl })
+    (record { words_are = refl; opened = refl; first_edit = refl; cells = refl; holders = refl; contents = λ turn free. same_contents w next refl refl refl refl refl refl turn; actors = refl })
     (holder_is_live p a w prepared_turn k n.0, guarded p a w k prepared_turn n.0, refl)
 
 pub may_old : (p : Place) (a : Actor) (value : ℕ) → MayStep p a (store_old_flag value) → MayStore p a (λ w. store_old_flag value ∷ note (old_flag_stays value) ∷ []) 3 value
 may_old p a value may w k =
     let n = may w k in let next : World = world_after_step w p.by a (store_old_flag value) in
     then_noted p a w (store_old_flag value) (old_flag_stays value) (set (words_of w) 3 value) k n
-    (record { words_are = refl; opened = refl; cells = refl; holders = refl; contents = λ turn free. same_contents w next refl refl refl refl refl refl turn; actors = refl })
+    (record { words_are = refl; opened = refl; first_edit = refl; cells = refl; holders = refl; contents = λ turn free. same_contents w next refl refl refl refl refl refl turn; actors = refl })
     (holder_is_live p a w snapshots_turn k n.0, guarded p a w k snapshots_turn n.0, refl)
 
 pub may_word : (p : Place) (a : Actor) (i word : ℕ) (pair : CommitPair) → word ≡ word_of pair → pair_of word ≡ Some pair → i ≡ cache_place p.cells pair.number → MayStep p a (store_word pair)
@@ -87,6 +87,7 @@ may_word p a i word pair is back place may w k =
     (record {
       words_are = sym (cell_stored w i word ∙ ap (λ (cache : List ℕ). front_of w ++ cache) same);
       opened = refl;
+      first_edit = refl;
       cells = length-set w.cache (cache_place (length w.cache) pair.number) (word_of pair);
       holders = refl;
       contents = λ turn free. same_contents w next refl refl refl refl refl refl turn;
@@ -115,6 +116,7 @@ may_publish p a number m w k =
       record {
         words_are = ap (λ (x : ℕ). x ∷ w.max_evicted ∷ w.delayed_flag ∷ w.old_flag ∷ (turn_words w.holders ++ w.cache)) counts;
         opened = refl;
+        first_edit = refl;
         cells = refl;
         holders = refl;
         contents = λ turn free. others_stay w p.by b t turn n.turn free;

@@ -92,6 +92,7 @@ MayMake p a steps = (w : World) → IsAt p a w → AreQuiet (steps w) × AreMet 
 pub record Leave (by : ℕ) (w : World) (words : List ℕ) (last : World) (b : Actor) : Type 0 where
   pub words_are : words_of last ≡ words
   pub opened : last.opened ≡ w.opened
+  pub first_edit : last.first_edit ≡ w.first_edit
   pub cells : length last.cache ≡ length w.cache
   pub holders : last.holders ≡ w.holders
   pub contents : (turn : Turn) → turn_holder w.holders turn ≡ None → content_of last turn ≡ content_of w turn

@@ -8,7 +8,8 @@ use Rattle.wp_model.specs.declared.entry.Entry.{Entry}
 use Rattle.wp_core.specs.Lists.{EachAt}
 use Rattle.wp_core.specs.Turns.{Turn, turn_holder}
 use Rattle.wp_core.specs.Changes.{turn_index}
-use Rattle.wp_core.specs.Tables.{Content}
+use Rattle.wp_core.specs.Tables.{Content, Installed, installed}
+use Rattle.wp_model.specs.Flushed.{InstalledEdit}
 use Rattle.wp_core.specs.World.{Actor, World, new_actor, content_of}
 use Rattle.wp_core.specs.Runs.{IsOpening, Reaches}
 use Rattle.wp_core.specs.Sound.Actors.{IsIdle}
@@ -18,6 +19,10 @@ use Rattle.wp_rule.specs.Words.{words_of, Place, IsAt}
 -- the actor is not live, did nothing and has nothing, and took in nobody
 abbrev pub DidNothing : Actor → Type 0
 DidNothing a = (a.live ≡ false) × IsIdle a × (a.joined ≡ [])
+
+-- as the table was made, of these values, the last edit of the tables' value was this one
+abbrev pub WasLast : {S : Type 0} → (S → Option Content) → List S → InstalledEdit → Type 0
+WasLast {S} content first edit = (x : S) × (t : Installed) × (get_elem? first 5 ≡ some x) × (content x ≡ Some (installed t)) × (t.last ≡ edit)
 
 module _ {S : Type 0} (content : S → Option Content) (tells : S → Type 0) where
   -- the value stands for the table, and its devices tell what they should
@@ -30,11 +35,12 @@ module _ {S : Type 0} (content : S → Option Content) (tells : S → Type 0) wh
   Rests (Some by) c home = home ≡ some none
 
   -- the run that led to the world is part of it, so that each change of the table has to be steps of the machine
-  pub record Shows (opened : List Entry) (cells : ℕ) (s : State S Actor) : Type 0 where
+  pub record Shows (first : List S) (opened : List Entry) (cells : ℕ) (s : State S Actor) : Type 0 where
     pub world : World
     pub reached : Reaches world
     pub opened_is : world.opened ≡ opened
     pub cells_are : length world.cache ≡ cells
+    pub first_edit : WasLast content first world.first_edit
     pub words : s.words ≡ words_of world
     pub deep : length s.homes ≡ 6
     pub rests : (turn : Turn) → Rests (turn_holder world.holders turn) (content_of world turn) (get_elem? s.homes (turn_index turn))
@@ -53,9 +59,10 @@ module _ {S : Type 0} (content : S → Option Content) (tells : S → Type 0) wh
 
   -- What the closed table leaves: the world that it showed at the end, in which no turn is held, and behind each turn its
   -- table. Nobody did anything but the participants of the first seat: the world is sound with that seat as its only actor.
-  pub record Leaves (p : Place) (a : Actor) (parts : Turn → S) : Type 0 where
+  pub record Leaves (first : List S) (p : Place) (a : Actor) (parts : Turn → S) : Type 0 where
     pub world : World
     pub before : IsAt p a world
+    pub first_edit : WasLast content first world.first_edit
     pub free : (turn : Turn) → turn_holder world.holders turn ≡ None
     pub are_parts : (turn : Turn) → IsPart (parts turn) (content_of world turn)
     pub others : EachAt (λ j b. j ≢ 0 → DidNothing b) world.actors

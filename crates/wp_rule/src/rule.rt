@@ -14,7 +14,7 @@ pub struct Rule<S> {
 }
 
 impl<S: HoldsPart> TableRule<S, Actor, Opening<S>> for Rule<S> {
-    ghost holds = { λ key. Shows S.content (S.tells key.first.value.items) key.entries.value.entries key.cells };
+    ghost holds = { λ key. Shows S.content (S.tells key.first.value.items) key.first.value.items key.entries.value.entries key.cells };
 
     ghost first = { λ key. new_actor true key.client.value key.entries.value.entries };
 }

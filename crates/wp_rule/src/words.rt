@@ -317,7 +317,7 @@ impl<S: HoldsPart + Drop> Words<S> {
     pub fn close(self, first: WordSeat<S>) -> Parts<S>
         requires first { (first.table_id ≡ self.table) × (first.id ≡ 0) × (first.me.1 ≡ []) }
         requires all { (first.me.0.held ≡ []) × (first.me.0.made ≡ length first.me.0.joined) }
-        ensures { Leaves S.content (S.tells self.first) (place_of self 0) first.me.0 (part_of result) }
+        ensures { Leaves S.content (S.tells self.first) self.first (place_of self 0) first.me.0 (part_of result) }
     {
         let Words { table } = self;
         let mut closed = table.close_with(first);

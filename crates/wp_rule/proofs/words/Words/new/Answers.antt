@@ -9,8 +9,9 @@ use Rattle.wp_rule.proofs.words.Words.new.Goals as goal
 pub new-requires : goal.new-requires
 new-requires g c =
     let client : c.of.result.value ≡ c.args.client.now = c.of.ensures in let first : c.of-2.result.value.items ≡ c.args.slots.items = ap (λ v. v.items) c.of-2.ensures in
-    founds g.S.HoldsPart.content (g.S.HoldsPart.tells c.of-2.result.value.items) c.of.result.value c.args.entries.value.entries c.args.cells c.args.delayed_flag c.args.slots.items _
+    founds g.S.HoldsPart.content (g.S.HoldsPart.tells c.of-2.result.value.items) c.of.result.value c.args.entries.value.entries c.args.cells c.args.delayed_flag c.args.slots.items c.of-2.result.value.items _
     (subst (λ (z : List ℕ × List _). Founds g.S.HoldsPart.content (g.S.HoldsPart.tells z.1) z.0 c.args.entries.value.entries c.args.cells c.args.delayed_flag c.args.slots.items) (λ i. (sym client i, sym first i)) c.requires.parts)
+    first
     (search rules)
 
 pub returns-in-Ok-new-clause-stands : goal.returns-in-Ok-new-clause-stands
