@@ -12,6 +12,7 @@ pub trait HoldsPart {
 }
 
 /// The values behind the turns of a table that was closed.
+#[derive(Drop)]
 pub struct Parts<S> {
     pub write: S,
     pub prepared: S,

@@ -54,6 +54,6 @@ all_made a first others gone is same none made =
     ap (λ (x : Actor). x.made) is ∙ (made ∙ (ap length same ∙ (sym (count_joined gone) ∙ sym (ap length joined))))
 
 pub remains : {D : Type 0} (y z : SharedState D) (seats others : List SeatState) (first : SeatState) (a : Actor) (parts : Turn → Part D) → y ≡ z → seats ≡ first ∷ others → a ≡ all_joined first.knows others
-    → Leaves content (tells y.first) (place_at y 0) a parts → Remains z seats parts
+    → Leaves content (tells y.first) y.first (place_at y 0) a parts → Remains z seats parts
 remains {D} y z seats others first a parts store all same l =
-    subst (λ (x : SharedState D × List SeatState). Remains x.0 x.1 parts) (λ i. (store i, sym all i)) (subst (λ (b : Actor). Leaves content (tells y.first) (place_at y 0) b parts) same l)
+    subst (λ (x : SharedState D × List SeatState). Remains x.0 x.1 parts) (λ i. (store i, sym all i)) (subst (λ (b : Actor). Leaves content (tells y.first) y.first (place_at y 0) b parts) same l)

@@ -2,4 +2,6 @@ pub mod Places
 pub mod HeldTurns
 pub mod Clients
 pub mod OneStep
+pub mod Opened
 pub mod Endings
+pub mod Ended

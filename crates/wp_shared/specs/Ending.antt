@@ -28,4 +28,4 @@ all_joined a seats = record a { joined = map participant_of seats ++ a.joined }
 -- each turn its table. The world is sound with these participants alone.
 abbrev pub Remains : {D : Type 0} → SharedState D → List SeatState → (Turn → Part D) → Type 0
 Remains z [] parts = ⊥
-Remains z (first ∷ others) parts = Leaves content (tells z.first) (place_at z 0) (all_joined first.knows others) parts
+Remains z (first ∷ others) parts = Leaves content (tells z.first) z.first (place_at z 0) (all_joined first.knows others) parts

@@ -3,13 +3,45 @@ ghost use Rattle.std.specs.Prelude.{◌≡◌};
 ghost use Rattle.wp_core.specs.Changes.{joins};
 ghost use Rattle.wp_rule.specs.Ends.{part_of};
 ghost use Rattle.wp_shared.specs.Seats.{IsFree};
+ghost use Rattle.wp_guarded.specs.Log.{IsLog};
+ghost use Rattle.wp_guarded.specs.Edits.{IsEdits};
+ghost use Rattle.wp_shared.specs.Devices.{devices_of, devices_behind};
 ghost use Rattle.wp_shared.specs.Ending.{AllFree, AreAll, Remains};
+ghost use Rattle.wp_shared.specs.Ended.{IsEnded};
 
+use crate::held::Held;
 use crate::seat::Seat;
 use crate::shared::Shared;
-use wp_guarded::Part;
-use wp_outside::Disk;
+use wp_guarded::{Edits, Log, Part};
+use wp_history::History;
+use wp_outside::{Disk, Disks};
 use wp_rule::Parts;
+
+/// What an ended store leaves.
+#[derive(Drop)]
+pub struct Finished<D> {
+    pub history: History,
+    pub disks: Disks<D>,
+}
+
+/// The history and the devices of what lay behind the write turn and the tables turn.
+pub(crate) fn take_apart<D: Disk + Drop>(log: Log<D>, edits: Edits<D>) -> Finished<D>
+    ensures history { result.history.entries ≡ log.table.history }
+    ensures disks { devices_of D.moments D.faults result.disks ≡ devices_behind log.wal edits.set }
+    ensures log { IsLog log }
+    ensures edits { IsEdits edits }
+{
+    let (wal, history) = log.into_parts();
+    let devices = edits.into_disks();
+    Finished {
+        history,
+        disks: Disks {
+            log: wal.into_disk(),
+            manifest: devices.manifest,
+            tables: devices.tables,
+        },
+    }
+}
 
 impl<D: Disk + Drop> Shared<D> {
     /// The first seat takes in one that it made: it keeps what that one knew and did.
@@ -35,5 +67,18 @@ impl<D: Disk + Drop> Shared<D> {
         }
         let Shared { words, .. } = self;
         words.close(first.seat)
+    }
+    /// Ends the store, and gives its history and its devices. The seats are the first one and then all that it made, none of which
+    /// holds a turn.
+    pub fn finish(self, seats: Vec<Seat<D>>) -> Finished<D>
+        requires free { AllFree self.table seats.items }
+        requires all { AreAll seats.items }
+        ensures { IsEnded self seats.items result.history.entries (devices_of D.moments D.faults result.disks) }
+    {
+        self.is_one();
+        let Parts { write, tables, .. } = self.close(seats);
+        let write = Held { part: write };
+        let tables = Held { part: tables };
+        take_apart(write.into_log(), tables.into_edits())
     }
 }

@@ -16,11 +16,13 @@
 mod ending;
 mod held;
 mod note;
+mod opening;
 mod seat;
 mod shared;
 mod steps;
 mod turns;
 
+pub use ending::Finished;
 pub use held::Held;
 pub use note::Note;
 pub use seat::Seat;

@@ -6,6 +6,7 @@ ghost use Rattle.wp_core.specs.Changes.{sees, made_one};
 ghost use Rattle.wp_core.specs.Steps.{Step, set_client};
 ghost use Rattle.wp_core.specs.World.{World, new_actor};
 ghost use Rattle.wp_rule.specs.Words.{place_of, SawAll};
+ghost use Rattle.wp_shared.specs.Opening.{IsOneStore};
 ghost use Rattle.wp_shared.specs.Seats.{Stands, place_at};
 
 use crate::seat::Seat;
@@ -19,7 +20,7 @@ use wp_rule::{Moves, WordSeat, Words};
 #[derive(Drop)]
 pub struct Shared<D: Disk + Drop> {
     pub(crate) words: Words<Part<D>>,
-    limit: Seq,
+    pub(crate) limit: Seq,
 }
 
 impl<D: Disk + Drop> Model for Shared<D> {
@@ -27,6 +28,7 @@ impl<D: Disk + Drop> Model for Shared<D> {
     ghost use Rattle.wp_model.specs.PreparedTables.{prepared_tables_code};
     ghost use Rattle.wp_model.specs.Snapshots.{snapshots_code};
     ghost use Rattle.wp_model.specs.LockTables.{lock_tables_code};
+    ghost use Rattle.wp_shared.specs.Opening.{IsOneStore};
     ghost use Rattle.wp_shared.specs.Seats.{SharedState};
 
     ghost Value = { SharedState D };
@@ -34,6 +36,8 @@ impl<D: Disk + Drop> Model for Shared<D> {
     ghost coded = { Prim.hlevel (codes, prepared_tables_code, snapshots_code, lock_tables_code) };
 
     ghost view = { λ s. record { table = s.words.table; opened = s.words.opened; cells = s.words.cells; first = s.words.first; limit = s.limit } };
+
+    ghost invariant = { λ s. IsOneStore s.words.first };
 }
 
 /// Says whose the seat is, which did nothing yet.
@@ -52,6 +56,13 @@ fn name_seat<D: Disk + Drop, J: Moves>(
 }
 
 impl<D: Disk + Drop> Shared<D> {
+    /// For the proof alone: its devices are one store's.
+    pub(crate) fn is_one(&self)
+        ensures { IsOneStore self.now.first }
+    {
+        let _ = &self.words;
+    }
+
     /// Another seat, this client's, which the first one makes. It has seen what that one has.
     pub fn seat(&self, seat: &mut Seat<D>, client: Name) -> Seat<D>
         requires { (seat.old.table ≡ self.now.table) × (seat.old.by ≡ 0) }

@@ -1,0 +1,173 @@
+-- What is left of a store once all its seats were handed in.
+use Rattle.std.proofs.Common.{◌≡◌, ℕ, ◌+◌, true, false, List, [], ◌∷◌, ◌++◌, length, map, Option, Some, None, unwrap_or, refl, sym, ap, subst, ◌∙◌, append-nil}
+use Rattle.wp_model.specs.declared.entry.Entry.{Entry}
+use Rattle.wp_model.specs.Flushed.{IsEditCovered}
+use Rattle.wp_outside.specs.Disk.{images}
+use Rattle.wp_entry.specs.Record.{IsRecord}
+use Rattle.wp_wal.specs.Spelling.{IsLogOf}
+use Rattle.wp_wal.specs.Wal.{WalState}
+use Rattle.wp_manifest.specs.Spelling.{IsManifestOf, last_edit}
+use Rattle.wp_merge.specs.Merge.{joined, sorted_of}
+use Rattle.wp_merge.proofs.Sorted.{merged_sorted}
+use Rattle.wp_table.specs.File.{HasTables}
+use Rattle.wp_tableset.specs.Set.{TableSetState}
+use Rattle.wp_core.specs.Images.{MaySpell, MayName}
+use Rattle.wp_core.specs.IsSound.{participants}
+use Rattle.wp_core.specs.Tables.{WriteTable, Installed, Content, writes, installed}
+use Rattle.wp_core.specs.Turns.{Turn, write_turn, tables_turn}
+use Rattle.wp_core.specs.Views.{Event}
+use Rattle.wp_core.specs.World.{Participant, World}
+use Rattle.wp_core.specs.Sound.Actors.{StartsWith, AreSeen, AreOwned, seen_of, own_of}
+use Rattle.wp_core.specs.Sound.History.{logged_part}
+use Rattle.wp_core.specs.Sound.Pasts.{AreHolders, IsBoard, AreFaults, AreEdits, past_of}
+use Rattle.wp_core.proofs.CrashImages.{left_by_crash, edit_by_crash}
+use Rattle.wp_core.proofs.PendingSteps.{none_logged}
+use Rattle.wp_rule.specs.Shows.{IsPart, Leaves}
+use Rattle.wp_guarded.specs.Log.{LogState, IsLog}
+use Rattle.wp_guarded.specs.Edits.{EditsState, IsEdits}
+use Rattle.wp_guarded.specs.Parts.{content, tells}
+use Rattle.wp_guarded.specs.declared.part.Part.{Part}
+use Rattle.wp_guarded.specs.declared.part.Part.TheVariants as part
+use Rattle.wp_shared.specs.Devices.{DevicesLeft, devices_behind}
+use Rattle.wp_shared.specs.Opening.{IsOneStore}
+use Rattle.wp_shared.specs.Seats.{SharedState, SeatState, place_at}
+use Rattle.wp_shared.specs.Ending.{AreAll, participant_of, all_joined, Remains}
+use Rattle.wp_shared.specs.Ended.{of_seats, OpensAsLeft, IsSince, IsEnded}
+
+abbrev writes_in : Option Content → WriteTable → WriteTable
+writes_in (Some (writes t)) d = t
+writes_in other d = d
+
+abbrev installed_in : Option Content → Installed → Installed
+installed_in (Some (installed t)) d = t
+installed_in other d = d
+
+module _ {D : Type 0} (z : SharedState D) (first : SeatState) (others : List SeatState) (parts : Turn → Part D) (log : LogState) (edits : EditsState) (o : IsOneStore z.first) (none_joined : first.knows.joined ≡ []) (l : Leaves content (tells z.first) z.first (place_at z 0) (all_joined first.knows others) parts) (is_log : parts write_turn ≡ part.Write log) (is_edits : parts tables_turn ≡ part.Tables edits) (k : IsLog log) (e : IsEdits edits) where
+  -- the world with the first seat alone
+  abbrev w : World
+  w = record l.world { actors = all_joined first.knows others ∷ [] }
+
+  of_all : {X : Type 0} (f : Participant → X) → participants f w ≡ of_seats f (first ∷ others)
+  of_all f = ap (λ (ps : List Participant). (f (participant_of first) ∷ map f ps) ∷ []) (ap (λ (ps : List Participant). map participant_of others ++ ps) none_joined ∙ append-nil (map participant_of others))
+
+  -- ---- the two values with devices
+
+  log_part : IsPart content (tells z.first) (part.Write log) (writes w.writes)
+  log_part = subst (λ (x : Part D). IsPart content (tells z.first) x (writes w.writes)) is_log (l.are_parts write_turn)
+
+  edits_part : IsPart content (tells z.first) (part.Tables edits) (installed w.installed)
+  edits_part = subst (λ (x : Part D). IsPart content (tells z.first) x (installed w.installed)) is_edits (l.are_parts tables_turn)
+
+  same_writes : log.table ≡ w.writes
+  same_writes = ap (λ (c : Option Content). writes_in c log.table) log_part.0
+
+  same_installed : edits.table ≡ w.installed
+  same_installed = ap (λ (c : Option Content). installed_in c edits.table) edits_part.0
+
+  wal_is : log.first ≡ o.wal
+  wal_is = ap (λ (x : Option WalState). unwrap_or x o.wal) (sym log_part.1.1 ∙ o.log)
+
+  set_is : edits.first ≡ o.set
+  set_is = ap (λ (x : Option TableSetState). unwrap_or x o.set) (sym edits_part.1.1 ∙ o.tables)
+
+  log_id : log.wal.id ≡ o.wal.id
+  log_id = k.id ∙ ap (λ (s : WalState). s.id) wal_is
+
+  edits_id : edits.set.manifest.log.id ≡ o.wal.id
+  edits_id = e.id ∙ (ap (λ (s : TableSetState). s.manifest.log.id) set_is ∙ o.id)
+
+  -- ---- what the log spells
+
+  log_is : w.writes.log ≡ w.writes.history
+  log_is = l.alone.history.log ∙ (ap (λ (xs : List Entry). w.writes.history ++ xs) (ap (logged_part w.writes.logged) (l.alone.pending (l.free write_turn)) ∙ none_logged w.writes.logged) ∙ append-nil w.writes.history)
+
+  whole_failed : w.writes.closed ≡ true → IsRecord (length w.writes.history + 1) w.writes.failed
+  whole_failed closed =
+      subst (λ (xs : List Entry). IsRecord (length xs + 1) w.writes.failed) log_is (subst (λ (t : WriteTable). t.closed ≡ true → IsRecord (length t.log + 1) t.failed) same_writes k.whole closed)
+
+  none_asked : w.installed.halted ≡ false → w.installed.failed ≡ None
+  none_asked = subst (λ (t : Installed). t.halted ≡ false → t.failed ≡ None) same_installed (λ running. e.none_failed (e.running running))
+
+  -- ---- what a crash leaves
+
+  opens_left : (log_image manifest_image tables_image : List ℕ) → images log.wal.moments log_image → images edits.set.manifest.log.moments manifest_image → images edits.set.moments tables_image
+      → OpensAsLeft o.wal.id w.writes w.installed log_image manifest_image tables_image
+  opens_left log_image manifest_image tables_image at_log at_manifest at_tables =
+      let told = log_part.1.0 log_image at_log in let named = edits_part.1.0.0 manifest_image at_manifest in let it = named.1 in
+      let spelled : MaySpell w.writes told.0 = subst (λ (t : WriteTable). MaySpell t told.0) same_writes told.2 in
+      let last : MayName w.installed named.0 = subst (λ (t : Installed). MayName t named.0) same_installed named.2 in record {
+        history = told.0;
+        edit = named.0;
+        spelled = spelled;
+        named = last;
+        opens = (
+          record {
+            id_fits = o.id_fits;
+            spelled = subst (λ (n : ℕ). IsLogOf n told.0 log_image) log_id told.1;
+            legal = (left_by_crash w l.alone told.0 spelled).1;
+            edits = it.edits;
+            installed = subst (λ (n : ℕ). IsManifestOf n it.edits manifest_image) edits_id it.spelled;
+            parts = it.parts;
+            there = subst (λ (n : ℕ). HasTables n (last_edit it.edits).flushed tables_image (last_edit it.edits).tables it.parts) edits_id (it.there tables_image at_tables);
+            covering = record { all = sorted_of (joined it.parts); merged = merged_sorted it.parts; covered = subst (IsEditCovered told.0) it.is (edit_by_crash w l.alone told.0 named.0 spelled last) };
+          },
+          it.is,
+        );
+      }
+
+  since_opened : IsSince o.wal o.set w.writes w.installed (devices_behind log.wal edits.set)
+  since_opened = subst (λ (x : WalState × TableSetState). IsSince x.0 x.1 w.writes w.installed (devices_behind log.wal edits.set)) (λ i. (wal_is i, set_is i)) (record {
+    log_later = k.later;
+    manifest_later = e.manifest_later;
+    tables_later = e.later;
+    log_cause = λ closed. k.cause (ap (λ (t : WriteTable). t.closed) same_writes ∙ closed);
+    tables_cause = λ halted. e.cause (ap (λ (t : Installed). t.halted) same_installed ∙ halted);
+    log_durable = k.durable;
+    manifest_durable = e.durable;
+    tables_durable = e.fronts;
+  })
+
+  -- ---- all of it
+
+  ended_first : IsEnded z (first ∷ others) w.writes.history (devices_behind log.wal edits.set)
+  ended_first = record {
+    writes = w.writes;
+    locks = w.locks;
+    edits = w.installed;
+    first_edit = w.first_edit;
+    first_is = l.first_edit;
+    history_is = refl;
+    legal = l.alone.history.legal;
+    grown = subst (StartsWith w.writes.history) l.before.opened l.alone.history.grown;
+    seen = subst (AreSeen w.writes.history) (of_all seen_of) l.alone.seen;
+    owned = subst (λ (x : List Entry × List (List (List ℕ))). AreOwned x.0 w.writes.history x.1) (λ i. (l.before.opened i, of_all own_of i)) l.alone.owned;
+    holders = subst (λ (x : List Entry × List (List (List Event))). AreHolders x.0 w.writes.history w.locks x.1) (λ i. (l.before.opened i, of_all past_of i)) l.alone.holders;
+    board = subst (IsBoard (length w.writes.history) w.locks) (of_all past_of) l.alone.board;
+    faults = subst (AreFaults w.writes w.installed.halted) (of_all past_of) l.alone.faults;
+    installed = subst (AreEdits w.first_edit w.installed) (of_all past_of) l.alone.edits;
+    log = log_is;
+    none_failed = l.alone.history.none_failed;
+    whole = whole_failed;
+    none_asked = none_asked;
+    opened = o;
+    opens = opens_left;
+    since = since_opened;
+  }
+
+  ended_as : (history : List Entry) (left : DevicesLeft) → history ≡ log.table.history → left ≡ devices_behind log.wal edits.set → IsEnded z (first ∷ others) history left
+  ended_as history left same devices =
+      subst (λ (x : List Entry × DevicesLeft). IsEnded z (first ∷ others) x.0 x.1) (λ i. (sym (same ∙ ap (λ (t : WriteTable). t.history) same_writes) i, sym devices i)) ended_first
+
+-- the values behind the write turn and the tables turn are theirs
+pub writes_left : {D : Type 0} (z : SharedState D) (seats : List SeatState) (parts : Turn → Part D) → AreAll seats → Remains z seats parts → (t : WriteTable) × (content (parts write_turn) ≡ Some (writes t))
+writes_left z [] parts all l = absurd all
+writes_left z (first ∷ others) parts all l = (l.world.writes, (l.are_parts write_turn).0)
+
+pub edits_left : {D : Type 0} (z : SharedState D) (seats : List SeatState) (parts : Turn → Part D) → AreAll seats → Remains z seats parts → (t : Installed) × (content (parts tables_turn) ≡ Some (installed t))
+edits_left z [] parts all l = absurd all
+edits_left z (first ∷ others) parts all l = (l.world.installed, (l.are_parts tables_turn).0)
+
+pub ended : {D : Type 0} (z : SharedState D) (seats : List SeatState) (parts : Turn → Part D) (log : LogState) (edits : EditsState) (history : List Entry) (left : DevicesLeft) → IsOneStore z.first → AreAll seats → Remains z seats parts
+    → parts write_turn ≡ part.Write log → parts tables_turn ≡ part.Tables edits → IsLog log → IsEdits edits → history ≡ log.table.history → left ≡ devices_behind log.wal edits.set → IsEnded z seats history left
+ended z [] parts log edits history left o all l is_log is_edits k e same devices = absurd all
+ended z (first ∷ others) parts log edits history left o all l is_log is_edits k e same devices = ended_as z first others parts log edits o all.1 l is_log is_edits k e history left same devices

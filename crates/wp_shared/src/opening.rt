@@ -1,0 +1,92 @@
+//! A store that was opened, for clients to share.
+ghost use Rattle.std.specs.Prelude.{◌≡◌, ◌<◌, ◌≤◌, ◌^◌, [], ℕ, List, Some, true, length, IfOk, IfErr};
+ghost use Rattle.wp_outside.specs.Disk.{Moment};
+ghost use Rattle.wp_open.specs.Parts.{PartsOpened};
+ghost use Rattle.wp_core.specs.World.{new_actor};
+ghost use Rattle.wp_rule.specs.Words.{SawAll};
+ghost use Rattle.wp_guarded.specs.Opening.{running_set};
+ghost use Rattle.wp_guarded.specs.Parts.{log_first, set_first};
+ghost use Rattle.wp_shared.specs.Devices.{devices_of, devices_behind};
+ghost use Rattle.wp_shared.specs.Seats.{place_at};
+
+use crate::ending::take_apart;
+use crate::held::Held;
+use crate::seat::Seat;
+use crate::shared::Shared;
+use std::alloc::Global;
+use std::snapshot::Snapshot;
+use wp_guarded::{delayed_flag, guard};
+use wp_model::{Name, Seq};
+use wp_open::Parts;
+use wp_outside::{Disk, Disks};
+use wp_rule::Words;
+
+/// How many words so many bits number.
+fn count_words(bits: u32) -> usize
+    requires { bits ≤ 16 }
+    ensures count { result ≡ 2 ^ bits }
+    ensures range { (1 ≤ result) × (result ≤ 65536) }
+{
+    1 << bits
+}
+
+/// The devices of an opened store.
+fn disks_of<D: Disk + Drop>(parts: Parts<D>) -> Disks<D>
+    ensures { devices_of D.moments D.faults result ≡ devices_behind parts.wal (running_set parts.manifest (D.moments parts.tables) (D.faults parts.tables)) }
+{
+    let Parts {
+        wal,
+        manifest,
+        tables,
+        ..
+    } = parts;
+    Disks {
+        log: wal.into_disk(),
+        manifest: manifest.into_disk(),
+        tables,
+    }
+}
+
+impl<D: Disk + Drop> Shared<D> {
+    /// Shares an opened store, with a commit cache of as many words as the bits number. No entry gets a number above the limit. The
+    /// first seat is this client's, and has seen the history that was opened. Where memory is wanting the devices come back.
+    pub fn new(
+        alloc: Global,
+        client: Name,
+        parts: Parts<D>,
+        bits: u32,
+        limit: Seq,
+    ) -> Result<(Shared<D>, Seat<D>), Disks<D>>
+        requires opened { (asked : ℕ) × (log : List Moment) × (manifest : List Moment) × (tables : List Moment)
+            × PartsOpened asked log manifest tables parts.wal parts.history.entries parts.manifest (D.moments parts.tables) parts.store }
+        requires bits { bits ≤ 16 }
+        requires limit { (1 ≤ limit) × (limit < 2 ^ 32) }
+        ensures store { IfOk result (λ r. (r.0.opened ≡ parts.history.entries) × (r.0.cells ≡ 2 ^ bits) × (r.0.limit ≡ limit)) }
+        ensures log { IfOk result (λ r. log_first r.0.first ≡ Some parts.wal) }
+        ensures set { IfOk result (λ r. set_first r.0.first ≡ Some (running_set parts.manifest (D.moments parts.tables) (D.faults parts.tables))) }
+        ensures seat { IfOk result (λ r. r.1 ≡ record { table = r.0.table; by = 0; knows = new_actor true client parts.history.entries; turns = [] }) }
+        ensures stands { IfOk result (λ r. SawAll (place_at r.0 0) r.1.knows (length parts.history.entries)) }
+        ensures refused { IfErr result (λ disks. devices_of D.moments D.faults disks ≡ devices_behind parts.wal (running_set parts.manifest (D.moments parts.tables) (D.faults parts.tables))) }
+    {
+        let entries = Snapshot::of(&parts.history);
+        let published = parts.history.published();
+        let flag = delayed_flag(&parts.history);
+        let slots = match guard(alloc, parts) {
+            Ok(slots) => slots,
+            Err(parts) => return Err(disks_of(parts)),
+        };
+        let cells = count_words(bits);
+        match Words::new(alloc, &client, entries, published, cells, flag, slots) {
+            Ok((words, seat)) => Ok((Shared { words, limit }, Seat { seat, client })),
+            Err(mut slots) => {
+                let tables = Held {
+                    part: slots.remove(5),
+                };
+                let write = Held {
+                    part: slots.remove(0),
+                };
+                Err(take_apart(write.into_log(), tables.into_edits()).disks)
+            }
+        }
+    }
+}
