@@ -3,3 +3,4 @@ pub mod StockLemmas
 pub mod EditsLemmas
 pub mod LaterVersions
 pub mod OpeningLemmas
+pub mod Sent

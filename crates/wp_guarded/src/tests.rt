@@ -168,6 +168,8 @@ fn a_value_goes_home_to_its_turn(rt: HostRuntime) -> Result<(), Fail> {
     let mut slots = guarded(rt.alloc())?;
     let part = Part::Tables(last_tables(&mut slots)?);
     part.stands();
+    goes_to_a_thread(&part);
+    goes_to_a_thread(&slots);
     assert_eq!(rt; part.turn(), Turn::Tables);
     Ok(())
 }
