@@ -1,10 +1,10 @@
 -- A turn that is taken or given, as clauses see the store and the seat.
-use Rattle.std.proofs.Common.{◌≡◌, inr, ℕ, false, List, [], ◌∷◌, length, refl, sym, ap, subst, ◌∙◌}
+use Rattle.std.proofs.Common.{◌≡◌, inl, inr, ℕ, not, cond, false, List, [], ◌∷◌, length, drop, Option, unwrap_or, eq-eqb, refl, sym, ap, subst, ◌∙◌}
 use Rattle.atomic_table.specs.Table.{Me, rest}
 use Rattle.wp_model.specs.declared.entry.Entry.{Entry}
 use Rattle.wp_core.specs.Lists.{IsIn}
 use Rattle.wp_core.specs.Turns.{Turn}
-use Rattle.wp_core.specs.Tables.{turn_of}
+use Rattle.wp_core.specs.Tables.{Content, turn_of}
 use Rattle.wp_core.specs.Views.{Fact, passed, in_old_commits, apart, words_stay, versions_in_memory, versions_nowhere, number_in_heap, number_not_in_heap, undecided_at, prior_values, unprepared, direct_free, tables_stay, live_listed, nothing_flushed, frozen_stay, delayed_flag_stays, old_flag_stays}
 use Rattle.wp_core.specs.World.{Actor, content_of}
 use Rattle.wp_core.specs.Changes.{turn_index, held_without}
@@ -17,10 +17,11 @@ use Rattle.wp_rule.specs.Shows.{IsPart}
 use Rattle.wp_rule.specs.Plays.{taking, with_turn, Claimed, MayLie, MayUnclaim, IsLeft}
 use Rattle.wp_rule.specs.Knows.{Noted}
 use Rattle.wp_rule.proofs.Outlasting.{outlasts}
+use Rattle.wp_rule.proofs.Takes.{table_of}
 use Rattle.wp_guarded.specs.declared.part.Part.{Part}
 use Rattle.wp_guarded.specs.declared.part.Part.TheVariants as part
 use Rattle.wp_guarded.specs.Parts.{content, tells}
-use Rattle.wp_shared.specs.Seats.{SharedState, SeatState, AllAway, turns_of, place_at}
+use Rattle.wp_shared.specs.Seats.{SharedState, SeatState, AllAway, IsFree, turns_of, place_at}
 use Rattle.wp_shared.specs.Turns.{Taken, MayBeGiven, Given}
 
 -- ---- the slots of the turns that are held
@@ -76,6 +77,10 @@ module _ {D : Type 0} (turn : Turn) (m m' : Me (Part D) Actor) where
       taken_at z old new value (subst (λ (x : SharedState D × ℕ). Claimed content (tells x.0.first) (place_at x.0 x.1) turn m m') (λ i. (store i, same i)) c) was is (sym by) lies
 
 -- ---- a turn is given
+
+-- without its only table a seat has none
+none_but : (c : Content) (turn : Turn) → turn_of c ≡ turn → held_without (c ∷ []) turn ≡ []
+none_but c turn is = ap (λ b. cond (not b) (c ∷ []) []) (eq-eqb (turn_index (turn_of c)) (turn_index turn) (ap turn_index is))
 
 -- giving a turn ends what the turn guards alone
 give_ends : (history : List Entry) (words : ℕ) (turn : Turn) (fact : Fact) → gives_guard (guarded_by fact) (give_turn turn) ≡ false → ends history words (give_turn turn) fact ≡ false
@@ -143,4 +148,33 @@ module _ {D : Type 0} (z : SharedState D) (s : SeatState) (value : Part D) (turn
           world_after (give_turn (turn_of h.table) ∷ []) n.world s.by s.knows,
           subst (λ (k : ℕ). IsAt (place_at z k) new.knows (world_after (give_turn (turn_of h.table) ∷ []) n.world s.by s.knows)) (sym by_same) n.after,
         );
+      }
+
+-- ---- a turn that is given as it was taken
+
+module _ {D : Type 0} (z : SharedState D) (turn : Turn) (old mid new : SeatState) (value : Part D) (t : Taken z turn old mid value) where
+  -- a turn that was just taken may be given
+  pub given_back : (others : List ℕ) → mid.turns ≡ turn_index turn ∷ others → MayBeGiven z mid value
+  given_back others turns =
+      let w = t.world in let same = table_of w turn in record {
+        table = content_of w turn;
+        is = t.is;
+        of_store = t.of_store;
+        held = subst (λ (a : Actor). IsIn (content_of w turn) a.held) (sym t.knows) (inl refl);
+        others = others;
+        last_taken = turns ∙ ap (λ (u : Turn). turn_index u ∷ others) (sym same);
+        may = subst (λ (u : Turn). MayStep (place_at z mid.by) mid.knows (give_turn u)) (sym same) t.may;
+      }
+
+  -- the seat is free then if it was before
+  pub free_again : IsFree z.table old → mid.table ≡ old.table → mid.turns ≡ turn_index turn ∷ old.turns → Given z mid new value → IsFree z.table new
+  free_again free table turns g =
+      let w = t.world in
+      let is : g.table ≡ content_of w turn = ap (λ (c : Option Content). unwrap_or c g.table) (sym g.is ∙ t.is) in let here : turn_of g.table ≡ turn = ap turn_of is ∙ table_of w turn in
+      let held : mid.knows.held ≡ content_of w turn ∷ [] = ap (λ (a : Actor). a.held) t.knows ∙ ap (λ (cs : List Content). content_of w turn ∷ cs) free.held in
+      record {
+        same_table = g.same_table ∙ (table ∙ free.same_table);
+        live = ap (λ (a : Actor). a.live) g.knows ∙ (ap (λ (a : Actor). a.live) t.knows ∙ free.live);
+        turns = ap (drop 1) (sym g.turns ∙ turns) ∙ free.turns;
+        held = ap (λ (a : Actor). a.held) g.knows ∙ ((λ i. held_without (held i) (here i)) ∙ none_but (content_of w turn) turn (table_of w turn));
       }

@@ -5,3 +5,4 @@ pub mod OneStep
 pub mod Opened
 pub mod Endings
 pub mod Ended
+pub mod Sent
