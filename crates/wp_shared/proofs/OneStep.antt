@@ -3,7 +3,6 @@ use Rattle.std.proofs.Common.{◌≡◌, [], ◌∷◌, length, ap, ◌∙◌}
 use Rattle.wp_core.specs.World.{Actor, World}
 use Rattle.wp_core.specs.Steps.{Step}
 use Rattle.wp_core.specs.Effects.{done}
-use Rattle.wp_core.specs.Notes.{forgets}
 use Rattle.wp_rule.specs.Words.{Place, IsAt}
 use Rattle.wp_rule.specs.Moves.{Moved, first_of, world_after_step}
 use Rattle.wp_rule.proofs.Forgets.{EndsNothing, forgets_nothing}

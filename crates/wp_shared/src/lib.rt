@@ -5,12 +5,14 @@
 //! threads go on meanwhile; it says what the seat knows: the actor of the machine of `wp_core` that makes the seat's steps, as
 //! an equation, and that a sound world stands behind it.
 //!
+//! - `Shared::new`: the parts of an opened store go behind the turns, and the first seat is made.
 //! - `Shared::take` and `give`: a turn with the value behind it. A value goes home as its holder left the turn's table.
 //! - `Shared::published`, `max`, `word`, and in `steps` every load and store for the crates above, whose calls are made of them.
 //! - `Shared::note` and `learn`: what one seat has seen, for another one to have seen too.
-//! - `Shared::seat` and `close`: the first seat makes the others, and at the end all are handed in.
+//! - `Shared::seat` and `finish`: the first seat makes the others, and at the end all are handed in for the history and the devices.
+//!   What each seat did and found is accounted for then, and whatever a crash leaves of the devices opens.
 //!
-//! `take` alone waits, and no call takes memory.
+//! `take` alone waits, and no call but `new` takes memory.
 #![tactic(auto)]
 
 mod ending;
