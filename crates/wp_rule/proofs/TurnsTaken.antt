@@ -24,7 +24,7 @@ in_more x (y ∷ xs) ys there = inr (in_more x xs ys there)
 
 -- ---- one turn more, or one less
 
-more_to_give : (a : Actor) (w : World) (turn u : Turn) → KnowsGive a u → KnowsGive (with_turn turn w a) u
+pub more_to_give : (a : Actor) (w : World) (turn u : Turn) → KnowsGive a u → KnowsGive (with_turn turn w a) u
 more_to_give a w turn write_turn k = record { table = k.table; held = inr k.held; so_is = k.so_is }
 more_to_give a w turn prepared_turn k = record { table = k.table; held = inr k.held; so_is = λ none. in_more _ _ a.notes (k.so_is none) }
 more_to_give a w turn snapshots_turn k = record { table = k.table; held = inr k.held; so_is = λ none. in_more _ _ a.notes (k.so_is none) }

@@ -1,5 +1,6 @@
 pub mod Places
 pub mod HeldTurns
+pub mod Nested
 pub mod Clients
 pub mod OneStep
 pub mod Opened
