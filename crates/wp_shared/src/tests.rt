@@ -70,18 +70,18 @@ fn a_store_as_it_is_opened(rt: HostRuntime) -> Result<(), Fail> {
 }
 
 /// The published number, as the seat has it once it learned the note.
-fn learned(store: &Shared<MemDisk>, mut seat: Seat<MemDisk>, note: Note) -> u64
+fn learned<D: Disk + Drop>(store: &Shared<D>, mut seat: Seat<D>, note: Note) -> u64
     requires { (seat.table ≡ store.now.table) × (note.table ≡ store.now.table) }
 {
     store.learn(&mut seat, note)
 }
 
 /// What two seats learn of each other, each on its own thread.
-fn both_learn<R: Threads>(
+fn both_learn<R: Threads, D: Disk + Drop + Send>(
     rt: &R,
-    store: &Shared<MemDisk>,
-    mut first: Seat<MemDisk>,
-    mut second: Seat<MemDisk>,
+    store: &Shared<D>,
+    mut first: Seat<D>,
+    mut second: Seat<D>,
 ) -> (u64, u64)
     requires { (first.table ≡ store.now.table) × (second.table ≡ store.now.table) }
 {
