@@ -24,6 +24,7 @@ pub struct Shared<D: Disk + Drop> {
 }
 
 impl<D: Disk + Drop> Model for Shared<D> {
+    ghost use Rattle.std.specs.Prelude.{◌<◌, ◌≤◌, ◌^◌};
     ghost use Rattle.std.specs.Coded.{codes};
     ghost use Rattle.wp_model.specs.PreparedTables.{prepared_tables_code};
     ghost use Rattle.wp_model.specs.Snapshots.{snapshots_code};
@@ -37,7 +38,7 @@ impl<D: Disk + Drop> Model for Shared<D> {
 
     ghost view = { λ s. record { table = s.words.table; opened = s.words.opened; cells = s.words.cells; first = s.words.first; limit = s.limit } };
 
-    ghost invariant = { λ s. IsOneStore s.words.first };
+    ghost invariant = { λ s. IsOneStore s.words.first × (1 ≤ s.limit) × (s.limit < 2 ^ 32) };
 }
 
 /// Says whose the seat is, which did nothing yet.
