@@ -116,6 +116,13 @@ impl<S: HoldsPart + Drop> Words<S> {
         }
     }
 
+    /// How many of the words are the cache's.
+    pub fn cells(&self) -> usize
+        ensures { result ≡ self.now.cells }
+    {
+        self.table.word_count() - FIRST_CELL
+    }
+
     /// Loads the published number: the seat then has seen the history that is published.
     pub fn load_published(&self, seat: &mut WordSeat<S>) -> Seq
         requires { seat.old.table_id ≡ self.now.table }

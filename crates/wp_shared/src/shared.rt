@@ -75,6 +75,13 @@ impl<D: Disk + Drop> Shared<D> {
         Seat { seat: made, client }
     }
 
+    /// How many words the commit cache has.
+    pub fn cells(&self) -> usize
+        ensures { result ≡ self.now.cells }
+    {
+        self.words.cells()
+    }
+
     /// The published number. The seat has then seen the history up to it.
     pub fn published(&self, seat: &mut Seat<D>) -> Seq
         requires { seat.old.table ≡ self.now.table }
