@@ -1,0 +1,55 @@
+-- What the steps of a reading leave of a seat.
+use Rattle.std.specs.Prelude.{◌≡◌, ◌≢◌, ℕ, ◌≤◌, Bool, List, Some, None}
+use Rattle.wp_judge.specs.declared.observed.Observed.{Observed}
+use Rattle.wp_judge.specs.declared.observed.Load.{Load}
+use Rattle.wp_judge.specs.declared.observed.Load.TheVariants.{InPrepared, IsOldCommit}
+use Rattle.wp_judge.specs.declared.observed.Asked.TheVariants as asked
+use Rattle.wp_judge.specs.Order.{ask, judgement}
+use Rattle.wp_core.specs.Changes.{loaded}
+use Rattle.wp_core.specs.Lists.{IsIn}
+use Rattle.wp_core.specs.Reading.{Registration, snapshot_of}
+use Rattle.wp_core.specs.Sound.Reader.{IsRight}
+use Rattle.wp_core.specs.Sound.Views.{guarded_by}
+use Rattle.wp_core.specs.Views.{Fact}
+use Rattle.wp_core.specs.World.{Actor, World}
+use Rattle.wp_rule.specs.Words.{IsAt}
+use Rattle.wp_shared.specs.Seats.{SharedState, SeatState, place_at}
+
+-- the seat, where this is what it has loaded of the version that it reads
+abbrev pub reading : SeatState → Observed → SeatState
+reading s r = record s { knows = record s.knows { reading = Some r } }
+
+-- the seat, where these are its notes
+abbrev pub noting : SeatState → List Fact → SeatState
+noting s notes = record s { knows = record s.knows { notes = notes } }
+
+-- what was noted without a turn is noted still
+abbrev pub KeepsNotes : List Fact → List Fact → Type 0
+KeepsNotes before after = (fact : Fact) → guarded_by fact ≡ None → IsIn fact before → IsIn fact after
+
+-- The seat reads this, and is as it was but for that. Where it has the answer, that is right of the history that the seat has
+-- seen. The cache has a word.
+pub record Reads {D : Type 0} (z : SharedState D) (old new : SeatState) (r : Observed) : Type 0 where
+  pub seat : new ≡ reading old r
+  pub right : (visible : Bool) → judgement r ≡ Some visible → IsRight old.knows.participant.seen r.version r.snapshot visible
+  pub words : 1 ≤ z.cells
+
+-- the seat made this load, in a world of the store
+pub record Loads {D : Type 0} (z : SharedState D) (which : Load) (old new : SeatState) (before after : Observed) : Type 0 where
+  pub reads : Reads z old new after
+  pub world : World
+  pub actor : Actor
+  pub there : IsAt (place_at z old.by) actor world
+  pub is_loaded : after ≡ loaded world which before
+
+-- this load is the next one of the seat's reading
+abbrev pub IsNext : SeatState → Observed → Load → Type 0
+IsNext s r which = (s.knows.reading ≡ Some r) × (ask r ≡ asked.Load which)
+
+-- the load is of a word, and not a look into a table
+abbrev pub IsOfWord : Load → Type 0
+IsOfWord which = (which ≢ InPrepared) × (which ≢ IsOldCommit)
+
+-- it is what a reader of this version at this snapshot has loaded
+abbrev pub IsOf : ℕ → Registration → Observed → Type 0
+IsOf p snapshot r = (r.version ≡ p) × (snapshot_of r ≡ snapshot)

@@ -1,0 +1,174 @@
+//! Whether a version is visible at a snapshot.
+ghost use Rattle.std.specs.Prelude.{◌≡◌, ◌≤◌, true};
+ghost use Rattle.wp_core.specs.Lists.{IsIn};
+ghost use Rattle.wp_core.specs.Sound.Reader.{IsRight};
+ghost use Rattle.wp_core.specs.Sound.Snapshots.{has_versions_at};
+ghost use Rattle.wp_judge.specs.declared.observed.Load as load;
+ghost use Rattle.wp_shared.specs.Calls.{Continues};
+ghost use Rattle.wp_shared.specs.Seats.{IsFree};
+ghost use Rattle.wp_read.specs.Decides.{Looks, DecidesFree};
+ghost use Rattle.wp_read.specs.Reads.{Loads, IsNext, KeepsNotes, noting};
+
+use crate::answers::{Free, Look};
+use crate::snapshot::Snapshot;
+use crate::steps::{begin_reading, load, look_in_old_commits, look_in_prepared};
+use crate::turns::{give_snaps, give_tables, take_snaps, take_tables};
+use std::sync::Wait;
+use wp_judge::{Asked, Load, Observed, ask};
+use wp_model::Seq;
+use wp_outside::Disk;
+use wp_shared::{Seat, Shared};
+
+/// Decides the version `p`, as far as its snapshot, its word and one load of the bound tell. It takes no turn and no memory.
+/// A look is of a version: where the history reaches up to it, an entry with versions has that number.
+pub fn look<D: Disk + Drop>(
+    store: &Shared<D>,
+    seat: &mut Seat<D>,
+    p: Seq,
+    snapshot: &Snapshot,
+) -> Look
+    requires free { IsFree store.now.table seat.old }
+    requires registered { IsIn snapshot.now seat.old.knows.participant.registered }
+    requires version { p ≤ snapshot.now.number → has_versions_at seat.old.knows.participant.seen p ≡ true }
+    ensures { Looks store.now seat.old seat.new p snapshot.now result }
+{
+    let mut seen = begin_reading(store, seat, p, snapshot);
+    match ask(&seen) {
+        Asked::Answer(visible) => return Look::Decided(visible),
+        Asked::Load(word) => load(store, seat, &mut seen, word),
+    }
+    match ask(&seen) {
+        Asked::Answer(visible) => return Look::Decided(visible),
+        Asked::Load(max) => load(store, seat, &mut seen, max),
+    }
+    match ask(&seen) {
+        Asked::Answer(visible) => Look::Decided(visible),
+        Asked::Load(_) => Look::Ask {
+            word: seen.first_word.unwrap(),
+            max: seen.first_max.unwrap(),
+        },
+    }
+}
+
+/// Decides the version `p`, as far as loads tell that need no turn. It takes no memory.
+pub fn decide_free<D: Disk + Drop>(
+    store: &Shared<D>,
+    seat: &mut Seat<D>,
+    p: Seq,
+    snapshot: &Snapshot,
+) -> Free
+    requires free { IsFree store.now.table seat.old }
+    requires registered { IsIn snapshot.now seat.old.knows.participant.registered }
+    requires version { p ≤ snapshot.now.number → has_versions_at seat.old.knows.participant.seen p ≡ true }
+    ensures { DecidesFree store.now seat.old seat.new p snapshot.now result }
+{
+    let mut seen = begin_reading(store, seat, p, snapshot);
+    'loads: loop {
+        match ask(&seen) {
+            Asked::Answer(visible) => return Free::Decided(visible),
+            Asked::Load(which) => match which {
+                Load::InPrepared => return Free::Prepared(seen),
+                Load::IsOldCommit => return Free::Snapshots(seen),
+                _ => load(store, seat, &mut seen, which),
+            },
+        }
+    }
+}
+
+/// Takes the prepared turn for one look into its tables.
+fn load_prepared<D: Disk + Drop, R: Wait>(
+    store: &Shared<D>,
+    rt: &R,
+    seat: &mut Seat<D>,
+    seen: &mut Observed,
+)
+    requires free { IsFree store.now.table seat.old }
+    requires next { IsNext seat.old seen.old Load.InPrepared }
+    ensures loads { Loads store.now Load.InPrepared (noting seat.old seat.new.knows.notes) seat.new seen.old seen.new }
+    ensures notes { KeepsNotes seat.old.knows.notes seat.new.knows.notes }
+{
+    let tables = take_tables(store, rt, seat);
+    look_in_prepared(store, seat, seen, &tables);
+    give_tables(store, seat, tables);
+}
+
+/// Takes the snapshots turn for one look into the old commit map.
+fn load_old_commits<D: Disk + Drop, R: Wait>(
+    store: &Shared<D>,
+    rt: &R,
+    seat: &mut Seat<D>,
+    seen: &mut Observed,
+)
+    requires free { IsFree store.now.table seat.old }
+    requires next { IsNext seat.old seen.old Load.IsOldCommit }
+    ensures loads { Loads store.now Load.IsOldCommit (noting seat.old seat.new.knows.notes) seat.new seen.old seen.new }
+    ensures notes { KeepsNotes seat.old.knows.notes seat.new.knows.notes }
+{
+    let snaps = take_snaps(store, rt, seat);
+    look_in_old_commits(store, seat, seen, &snaps);
+    give_snaps(store, seat, snaps);
+}
+
+/// Makes the next load of the seat's reading, under a turn where it needs one.
+fn load_any<D: Disk + Drop, R: Wait>(
+    store: &Shared<D>,
+    rt: &R,
+    seat: &mut Seat<D>,
+    seen: &mut Observed,
+    which: Load,
+)
+    requires free { IsFree store.now.table seat.old }
+    requires next { IsNext seat.old seen.old which }
+    requires words { 1 ≤ store.now.cells }
+    ensures loads { Loads store.now which (noting seat.old seat.new.knows.notes) seat.new seen.old seen.new }
+    ensures notes { KeepsNotes seat.old.knows.notes seat.new.knows.notes }
+{
+    match which {
+        Load::InPrepared => load_prepared(store, rt, seat, seen),
+        Load::IsOldCommit => load_old_commits(store, rt, seat, seen),
+        _ => load(store, seat, seen, which),
+    }
+}
+
+/// Goes on with the seat's reading until it has the answer.
+fn decide<D: Disk + Drop, R: Wait>(
+    store: &Shared<D>,
+    rt: &R,
+    seat: &mut Seat<D>,
+    start: Observed,
+) -> bool
+    requires free { IsFree store.now.table seat.old }
+    requires next { (which : load.Load) × IsNext seat.old start which }
+    requires words { 1 ≤ store.now.cells }
+    ensures continues { Continues store.now seat.old seat.new seat.old.knows.participant }
+    ensures right { IsRight seat.old.knows.participant.seen start.version start.snapshot result }
+{
+    let mut seen = start;
+    'loads: loop {
+        match ask(&seen) {
+            Asked::Answer(visible) => return visible,
+            Asked::Load(which) => load_any(store, rt, seat, &mut seen, which),
+        }
+    }
+}
+
+/// Decides the version `p`. It takes no memory, and a turn only for a look into a table that loads can't rule out.
+pub fn visible<D: Disk + Drop, R: Wait>(
+    store: &Shared<D>,
+    rt: &R,
+    seat: &mut Seat<D>,
+    p: Seq,
+    snapshot: &Snapshot,
+) -> bool
+    requires free { IsFree store.now.table seat.old }
+    requires registered { IsIn snapshot.now seat.old.knows.participant.registered }
+    requires version { p ≤ snapshot.now.number → has_versions_at seat.old.knows.participant.seen p ≡ true }
+    ensures continues { Continues store.now seat.old seat.new seat.old.knows.participant }
+    ensures right { IsRight seat.old.knows.participant.seen p snapshot.now.number result }
+{
+    match decide_free(store, seat, p, snapshot) {
+        Free::Decided(visible) => visible,
+        Free::Prepared(seen) => decide(store, rt, seat, seen),
+        Free::Snapshots(seen) => decide(store, rt, seat, seen),
+    }
+}

@@ -1,0 +1,12 @@
+//! The reads of the shared store: snapshots, whether a version is visible at one, and the value of a key.
+#![tactic(auto)]
+
+mod answers;
+mod deciding;
+mod snapshot;
+mod steps;
+mod turns;
+
+pub use answers::{Free, Look};
+pub use deciding::{decide_free, look, visible};
+pub use snapshot::Snapshot;

@@ -1,0 +1,35 @@
+//! Snapshots: numbers at which a client reads.
+ghost use Rattle.std.specs.Prelude.{◌≡◌};
+
+use std::marker::Model;
+use wp_model::Seq;
+
+/// A snapshot that is registered, at which its seat reads. It has to be released.
+pub struct Snapshot {
+    number: Seq,
+    smallest: Seq,
+}
+
+impl Model for Snapshot {
+    ghost use Rattle.wp_core.specs.Reading.{Registration};
+
+    ghost Value = { Registration };
+
+    ghost view = { λ s. record { number = s.number; smallest = s.smallest } };
+}
+
+impl Snapshot {
+    /// The number of the last entry that a reader at it sees.
+    pub fn number(&self) -> Seq
+        ensures { result ≡ self.now.number }
+    {
+        self.number
+    }
+
+    /// Each version below it is decided, and visible at the snapshot.
+    pub(crate) fn smallest(&self) -> Seq
+        ensures { result ≡ self.now.smallest }
+    {
+        self.smallest
+    }
+}

@@ -1,0 +1,204 @@
+//! One call for each step of the machine that a reader makes. Each says what it leaves of the seat.
+ghost use Rattle.std.specs.FinMap as finite;
+ghost use Rattle.std.specs.FinSet as set;
+ghost use Rattle.std.specs.Prelude.{◌≡◌, ◌≤◌, ◌<◌, true, List, [], ◌∷◌};
+ghost use Rattle.wp_core.specs.Cache.{cache_place};
+ghost use Rattle.wp_core.specs.Changes.{found_in};
+ghost use Rattle.wp_core.specs.Lists.{IsIn};
+ghost use Rattle.wp_core.specs.Reading.{reads};
+ghost use Rattle.wp_core.specs.Sound.Snapshots.{has_versions_at};
+ghost use Rattle.wp_core.specs.Steps as step;
+ghost use Rattle.wp_core.specs.Tables as table;
+ghost use Rattle.wp_core.specs.World.{World};
+ghost use Rattle.wp_shared.specs.Seats.{place_at};
+ghost use Rattle.wp_read.specs.Reads.{Reads, Loads, IsNext, IsOfWord};
+
+use crate::snapshot::Snapshot;
+use std::marker::Brand;
+use wp_judge::{InPrepared, Load, Observed};
+use wp_model::Seq;
+use wp_outside::Disk;
+use wp_prepared::Prepared;
+use wp_rule::Moves;
+use wp_shared::{Seat, Shared};
+use wp_snaps::Snaps;
+
+fn begin<D: Disk + Drop, J: Moves>(
+    store: &Shared<D>,
+    seat: &mut Seat<D>,
+    p: Seq,
+    snapshot: &Snapshot,
+)
+    requires seat { (seat.old.table ≡ store.now.table) × (J.place ≡ place_at store.now seat.old.by) }
+    requires steps { J.steps ≡ (λ w. step.begin_reading p snapshot.now ∷ []) }
+    requires registered { IsIn snapshot.now seat.old.knows.participant.registered }
+    requires version { p ≤ snapshot.now.number → has_versions_at seat.old.knows.participant.seen p ≡ true }
+    ensures { Reads store.now seat.old seat.new (reads p snapshot.now) }
+{
+    store.make::<J>(seat);
+}
+
+/// Begins to read the version `p` at the snapshot.
+pub fn begin_reading<D: Disk + Drop>(
+    store: &Shared<D>,
+    seat: &mut Seat<D>,
+    p: Seq,
+    snapshot: &Snapshot,
+) -> Observed
+    requires seat { seat.old.table ≡ store.now.table }
+    requires registered { IsIn snapshot.now seat.old.knows.participant.registered }
+    requires version { p ≤ snapshot.now.number → has_versions_at seat.old.knows.participant.seen p ≡ true }
+    ensures reads { Reads store.now seat.old seat.new result }
+    ensures nothing_loaded { result ≡ reads p snapshot.now }
+{
+    begin::<D, Brand>(store, seat, p, snapshot);
+    Observed {
+        version: p,
+        snapshot: snapshot.number(),
+        smallest: snapshot.smallest(),
+        first_word: None,
+        first_max: None,
+        delayed_flag: None,
+        in_prepared: None,
+        second_word: None,
+        second_max: None,
+        old_flag: None,
+        is_old_commit: None,
+    }
+}
+
+/// The index of the version's word in the commit cache.
+fn word_index<D: Disk + Drop>(store: &Shared<D>, version: Seq) -> usize
+    requires { 1 ≤ store.now.cells }
+    ensures place { result ≡ cache_place store.now.cells version }
+    ensures within { result < store.now.cells }
+{
+    let cells = store.cells() as u64;
+    (version % cells) as usize
+}
+
+fn first_word<D: Disk + Drop>(store: &Shared<D>, seat: &mut Seat<D>, seen: &mut Observed)
+    requires seat { seat.old.table ≡ store.now.table }
+    requires next { IsNext seat.old seen.old Load.FirstWord }
+    requires words { 1 ≤ store.now.cells }
+    ensures { Loads store.now Load.FirstWord seat.old seat.new seen.old seen.new }
+{
+    let index = word_index(store, seen.version);
+    let word = store.load_word::<Brand>(seat, index);
+    seen.first_word = Some(word);
+}
+
+fn first_max<D: Disk + Drop>(store: &Shared<D>, seat: &mut Seat<D>, seen: &mut Observed)
+    requires seat { seat.old.table ≡ store.now.table }
+    requires next { IsNext seat.old seen.old Load.FirstMax }
+    ensures { Loads store.now Load.FirstMax seat.old seat.new seen.old seen.new }
+{
+    let max = store.load_max::<Brand>(seat);
+    seen.first_max = Some(max);
+}
+
+fn delayed_flag<D: Disk + Drop>(store: &Shared<D>, seat: &mut Seat<D>, seen: &mut Observed)
+    requires seat { seat.old.table ≡ store.now.table }
+    requires next { IsNext seat.old seen.old Load.DelayedFlag }
+    ensures { Loads store.now Load.DelayedFlag seat.old seat.new seen.old seen.new }
+{
+    let flag = store.load_delayed_flag::<Brand>(seat);
+    seen.delayed_flag = Some(flag);
+}
+
+fn second_word<D: Disk + Drop>(store: &Shared<D>, seat: &mut Seat<D>, seen: &mut Observed)
+    requires seat { seat.old.table ≡ store.now.table }
+    requires next { IsNext seat.old seen.old Load.SecondWord }
+    requires words { 1 ≤ store.now.cells }
+    ensures { Loads store.now Load.SecondWord seat.old seat.new seen.old seen.new }
+{
+    let index = word_index(store, seen.version);
+    let word = store.load_word::<Brand>(seat, index);
+    seen.second_word = Some(word);
+}
+
+fn second_max<D: Disk + Drop>(store: &Shared<D>, seat: &mut Seat<D>, seen: &mut Observed)
+    requires seat { seat.old.table ≡ store.now.table }
+    requires next { IsNext seat.old seen.old Load.SecondMax }
+    ensures { Loads store.now Load.SecondMax seat.old seat.new seen.old seen.new }
+{
+    let max = store.load_max::<Brand>(seat);
+    seen.second_max = Some(max);
+}
+
+fn old_flag<D: Disk + Drop>(store: &Shared<D>, seat: &mut Seat<D>, seen: &mut Observed)
+    requires seat { seat.old.table ≡ store.now.table }
+    requires next { IsNext seat.old seen.old Load.OldFlag }
+    ensures { Loads store.now Load.OldFlag seat.old seat.new seen.old seen.new }
+{
+    let flag = store.load_old_flag::<Brand>(seat);
+    seen.old_flag = Some(flag);
+}
+
+/// Makes the next load of the seat's reading, which is of a word.
+pub fn load<D: Disk + Drop>(
+    store: &Shared<D>,
+    seat: &mut Seat<D>,
+    seen: &mut Observed,
+    which: Load,
+)
+    requires seat { seat.old.table ≡ store.now.table }
+    requires next { IsNext seat.old seen.old which }
+    requires word { IsOfWord which }
+    requires words { 1 ≤ store.now.cells }
+    ensures { Loads store.now which seat.old seat.new seen.old seen.new }
+{
+    match which {
+        Load::FirstWord => first_word(store, seat, seen),
+        Load::FirstMax => first_max(store, seat, seen),
+        Load::DelayedFlag => delayed_flag(store, seat, seen),
+        Load::SecondWord => second_word(store, seat, seen),
+        Load::SecondMax => second_max(store, seat, seen),
+        Load::OldFlag => old_flag(store, seat, seen),
+        Load::InPrepared | Load::IsOldCommit => unreachable!(),
+    }
+}
+
+/// What the prepared tables say of the version.
+fn found(tables: &Prepared, version: Seq) -> InPrepared
+    ensures { result ≡ found_in (set.contains tables.now.delayed version) (finite.get tables.now.delayed_commits version) }
+{
+    match tables.commit_of(version) {
+        Some(c) => InPrepared::Decided(c),
+        None if tables.delayed(version) => InPrepared::Delayed,
+        None => InPrepared::Absent,
+    }
+}
+
+/// Looks into the prepared tables, which the seat holds.
+pub fn look_in_prepared<D: Disk + Drop>(
+    store: &Shared<D>,
+    seat: &mut Seat<D>,
+    seen: &mut Observed,
+    tables: &Prepared,
+)
+    requires seat { seat.old.table ≡ store.now.table }
+    requires next { IsNext seat.old seen.old Load.InPrepared }
+    requires held { IsIn (table.prepared tables.now) seat.old.knows.held }
+    ensures { Loads store.now Load.InPrepared seat.old seat.new seen.old seen.new }
+{
+    store.make::<Brand>(seat);
+    seen.in_prepared = Some(found(tables, seen.version));
+}
+
+/// Looks into the old commit map, which the seat holds.
+pub fn look_in_old_commits<D: Disk + Drop>(
+    store: &Shared<D>,
+    seat: &mut Seat<D>,
+    seen: &mut Observed,
+    snaps: &Snaps,
+)
+    requires seat { seat.old.table ≡ store.now.table }
+    requires next { IsNext seat.old seen.old Load.IsOldCommit }
+    requires held { IsIn (table.snapshots snaps.now) seat.old.knows.held }
+    ensures { Loads store.now Load.IsOldCommit seat.old seat.new seen.old seen.new }
+{
+    store.make::<Brand>(seat);
+    let shows = snaps.shows(seen.snapshot, seen.version);
+    seen.is_old_commit = Some(!shows);
+}
