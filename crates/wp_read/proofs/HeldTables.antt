@@ -87,7 +87,7 @@ module _ {D : Type 0} (z : SharedState D) (s t : SeatState) (x : Part D) (g : Gi
 -- ---- a load under a turn
 
 module _ {D : Type 0} (z : SharedState D) (turn : Turn) (which : Load) (s0 s1 s2 s3 : SeatState) (x y : Part D) (r r' : Observed) (free : IsFree z.table s0) (same : (s1.table ≡ s0.table) × (s1.by ≡ s0.by) × (s1.turns ≡ turn_index turn ∷ s0.turns))
-  (k : Taken z turn s0 s1 x) (l : Loads z which s1 s2 r r') (g : Given z s2 s3 y) (is : turn_of g.table ≡ turn) where
+    (k : Taken z turn s0 s1 x) (l : Loads z which s1 s2 r r') (g : Given z s2 s3 y) (is : turn_of g.table ≡ turn) where
   after_load : s2.knows ≡ record (with_turn turn k.world s0.knows) { reading = Some r' }
   after_load = ap (λ (s : SeatState). s.knows) l.reads.seat ∙ ap (λ (a : Actor). record a { reading = Some r' }) k.knows
 

@@ -10,7 +10,7 @@ ghost use Rattle.wp_read.specs.Decides.{Looks, DecidesFree};
 ghost use Rattle.wp_read.specs.Reads.{Loads, IsNext, KeepsNotes, noting};
 
 use crate::answers::{Free, Look};
-use crate::snapshot::Snapshot;
+use crate::registration::Snapshot;
 use crate::steps::{begin_reading, load, look_in_old_commits, look_in_prepared};
 use crate::turns::{give_snaps, give_tables, take_snaps, take_tables};
 use std::sync::Wait;

@@ -3,10 +3,12 @@
 
 mod answers;
 mod deciding;
-mod snapshot;
+mod registering;
+mod registration;
 mod steps;
 mod turns;
 
 pub use answers::{Free, Look};
 pub use deciding::{decide_free, look, visible};
-pub use snapshot::Snapshot;
+pub use registering::{release, snapshot};
+pub use registration::Snapshot;

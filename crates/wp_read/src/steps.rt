@@ -1,19 +1,24 @@
 //! One call for each step of the machine that a reader makes. Each says what it leaves of the seat.
 ghost use Rattle.std.specs.FinMap as finite;
 ghost use Rattle.std.specs.FinSet as set;
-ghost use Rattle.std.specs.Prelude.{◌≡◌, ◌≤◌, ◌<◌, true, List, [], ◌∷◌};
+ghost use Rattle.std.specs.Prelude.{◌≡◌, ◌≤◌, ◌<◌, suc, true, List, [], ◌∷◌, ◌++◌, length, unwrap_or, MatchOption};
 ghost use Rattle.wp_core.specs.Cache.{cache_place};
 ghost use Rattle.wp_core.specs.Changes.{found_in};
 ghost use Rattle.wp_core.specs.Lists.{IsIn};
-ghost use Rattle.wp_core.specs.Reading.{reads};
+ghost use Rattle.wp_core.specs.Reading.{Registration, reads};
 ghost use Rattle.wp_core.specs.Sound.Snapshots.{has_versions_at};
 ghost use Rattle.wp_core.specs.Steps as step;
 ghost use Rattle.wp_core.specs.Tables as table;
 ghost use Rattle.wp_core.specs.World.{World};
 ghost use Rattle.wp_shared.specs.Seats.{place_at};
-ghost use Rattle.wp_read.specs.Reads.{Reads, Loads, IsNext, IsOfWord};
+ghost use Rattle.wp_model.specs.PreparedTables.{PreparedTables, IsSmallest, NonePrepared};
+ghost use Rattle.wp_model.specs.Snapshots.{Snapshots};
+ghost use Rattle.wp_core.specs.Tables.{NoOldCommits};
+ghost use Rattle.wp_core.specs.Views.{old_flag_stays};
+ghost use Rattle.wp_read.specs.Reads.{Reads, Loads, IsNext, IsOfWord, KeepsNotes, noting};
+ghost use Rattle.wp_read.specs.Registers.{Registers, Unregisters, before_first, behind_first};
 
-use crate::snapshot::Snapshot;
+use crate::registration::Snapshot;
 use std::marker::Brand;
 use wp_judge::{InPrepared, Load, Observed};
 use wp_model::Seq;
@@ -136,12 +141,7 @@ fn old_flag<D: Disk + Drop>(store: &Shared<D>, seat: &mut Seat<D>, seen: &mut Ob
 }
 
 /// Makes the next load of the seat's reading, which is of a word.
-pub fn load<D: Disk + Drop>(
-    store: &Shared<D>,
-    seat: &mut Seat<D>,
-    seen: &mut Observed,
-    which: Load,
-)
+pub fn load<D: Disk + Drop>(store: &Shared<D>, seat: &mut Seat<D>, seen: &mut Observed, which: Load)
     requires seat { seat.old.table ≡ store.now.table }
     requires next { IsNext seat.old seen.old which }
     requires word { IsOfWord which }
@@ -201,4 +201,89 @@ pub fn look_in_old_commits<D: Disk + Drop>(
     store.make::<Brand>(seat);
     let shows = snaps.shows(seen.snapshot, seen.version);
     seen.is_old_commit = Some(!shows);
+}
+
+fn register_with<D: Disk + Drop, J: Moves>(
+    store: &Shared<D>,
+    seat: &mut Seat<D>,
+    smallest: Option<Seq>,
+) -> Seq
+    requires seat { (seat.old.table ≡ store.now.table) × (J.place ≡ place_at store.now seat.old.by) }
+    requires steps { J.steps ≡ (λ w. step.register (unwrap_or smallest (suc (length w.writes.history))) ∷ []) }
+    requires snapshots { (m : Snapshots) × IsIn (table.snapshots m) seat.old.knows.held }
+    requires prepared { (t : PreparedTables) × IsIn (table.prepared t) seat.old.knows.held × MatchOption smallest (NonePrepared t) (IsSmallest t) }
+    ensures { (m : Snapshots) → IsIn (table.snapshots m) seat.old.knows.held → Registers store.now seat.old seat.new result smallest m }
+{
+    store.make::<J>(seat)
+}
+
+/// Loads the published number, and registers it with this smallest, or with the next number where no number is prepared. The
+/// seat holds the prepared turn and the snapshots turn.
+pub fn register<D: Disk + Drop>(store: &Shared<D>, seat: &mut Seat<D>, smallest: Option<Seq>) -> Seq
+    requires seat { seat.old.table ≡ store.now.table }
+    requires snapshots { (m : Snapshots) × IsIn (table.snapshots m) seat.old.knows.held }
+    requires prepared { (t : PreparedTables) × IsIn (table.prepared t) seat.old.knows.held × MatchOption smallest (NonePrepared t) (IsSmallest t) }
+    ensures { (m : Snapshots) → IsIn (table.snapshots m) seat.old.knows.held → Registers store.now seat.old seat.new result smallest m }
+{
+    register_with::<D, Brand>(store, seat, smallest)
+}
+
+fn unregister_at<D: Disk + Drop, J: Moves>(store: &Shared<D>, seat: &mut Seat<D>)
+    requires seat { (seat.old.table ≡ store.now.table) × (J.place ≡ place_at store.now seat.old.by) }
+    requires steps { (front : List Registration) × (back : List Registration) × (r : Registration) × (J.steps ≡ (λ w. step.release front r back ∷ []))
+        × (seat.old.knows.participant.registered ≡ front ++ r ∷ back) }
+    requires snapshots { (m : Snapshots) × IsIn (table.snapshots m) seat.old.knows.held }
+    ensures { (front back : List Registration) (r : Registration) (m : Snapshots) → J.steps ≡ (λ w. step.release front r back ∷ [])
+        → seat.old.knows.participant.registered ≡ front ++ r ∷ back → IsIn (table.snapshots m) seat.old.knows.held
+        → Unregisters seat.old seat.new front back r m }
+{
+    store.make::<J>(seat);
+}
+
+/// Takes back the registration that the seat made last.
+pub fn unregister_last<D: Disk + Drop>(store: &Shared<D>, seat: &mut Seat<D>)
+    requires seat { seat.old.table ≡ store.now.table }
+    requires last { (front : List Registration) × (r : Registration) × (seat.old.knows.participant.registered ≡ front ++ r ∷ []) }
+    requires snapshots { (m : Snapshots) × IsIn (table.snapshots m) seat.old.knows.held }
+    ensures { (front : List Registration) (r : Registration) (m : Snapshots) → seat.old.knows.participant.registered ≡ front ++ r ∷ []
+        → IsIn (table.snapshots m) seat.old.knows.held → Unregisters seat.old seat.new front [] r m }
+{
+    unregister_at::<D, Brand>(store, seat);
+}
+
+fn unregister_first<D: Disk + Drop, J: Moves>(
+    store: &Shared<D>,
+    seat: &mut Seat<D>,
+    snapshot: &Snapshot,
+)
+    requires seat { (seat.old.table ≡ store.now.table) × (J.place ≡ place_at store.now seat.old.by) }
+    requires steps { J.steps ≡ (λ w. step.release (before_first snapshot.now seat.old.knows.participant.registered) snapshot.now (behind_first snapshot.now seat.old.knows.participant.registered) ∷ []) }
+    requires registered { IsIn snapshot.now seat.old.knows.participant.registered }
+    requires snapshots { (m : Snapshots) × IsIn (table.snapshots m) seat.old.knows.held }
+    ensures { (m : Snapshots) → IsIn (table.snapshots m) seat.old.knows.held
+        → Unregisters seat.old seat.new (before_first snapshot.now seat.old.knows.participant.registered) (behind_first snapshot.now seat.old.knows.participant.registered) snapshot.now m }
+{
+    unregister_at::<D, J>(store, seat);
+}
+
+/// Takes back one registration of the snapshot.
+pub fn unregister<D: Disk + Drop>(store: &Shared<D>, seat: &mut Seat<D>, snapshot: &Snapshot)
+    requires seat { seat.old.table ≡ store.now.table }
+    requires registered { IsIn snapshot.now seat.old.knows.participant.registered }
+    requires snapshots { (m : Snapshots) × IsIn (table.snapshots m) seat.old.knows.held }
+    ensures { (m : Snapshots) → IsIn (table.snapshots m) seat.old.knows.held
+        → Unregisters seat.old seat.new (before_first snapshot.now seat.old.knows.participant.registered) (behind_first snapshot.now seat.old.knows.participant.registered) snapshot.now m }
+{
+    unregister_first::<D, Brand>(store, seat, snapshot);
+}
+
+/// Stores the old-map flag as 0, where the old commit map is empty.
+pub fn lower_old_flag<D: Disk + Drop>(store: &Shared<D>, seat: &mut Seat<D>)
+    requires seat { seat.old.table ≡ store.now.table }
+    requires none_kept { (m : Snapshots) × IsIn (table.snapshots m) seat.old.knows.held × NoOldCommits m }
+    ensures seat { seat.new ≡ noting seat.old seat.new.knows.notes }
+    ensures notes { KeepsNotes seat.old.knows.notes seat.new.knows.notes }
+    ensures flag { IsIn (old_flag_stays 0) seat.new.knows.notes }
+{
+    store.store_old_flag(seat, 0);
 }

@@ -19,7 +19,11 @@ use wp_shared::{Held, Part, Seat, Shared};
 use wp_snaps::Snaps;
 
 /// Takes the prepared turn with its tables.
-pub fn take_tables<D: Disk + Drop, R: Wait>(store: &Shared<D>, rt: &R, seat: &mut Seat<D>) -> Prepared
+pub fn take_tables<D: Disk + Drop, R: Wait>(
+    store: &Shared<D>,
+    rt: &R,
+    seat: &mut Seat<D>,
+) -> Prepared
     requires seat { seat.old.table ≡ store.now.table }
     requires live { seat.old.knows.live ≡ true }
     ensures same { (seat.new.table ≡ seat.old.table) × (seat.new.by ≡ seat.old.by) × (seat.new.turns ≡ turn_index prepared_turn ∷ seat.old.turns) }

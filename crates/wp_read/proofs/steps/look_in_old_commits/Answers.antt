@@ -18,6 +18,6 @@ pub returns : goal.returns
 returns g c =
     load_made c.args.store.now (λ (w : World). c.make.result ≡ length w.writes.history) c.args.seat.now c.make.new.seat IsOldCommit c.args.seen.now _ c.requires.next
     (λ w k so.
-      ap (λ (b : Bool). record c.args.seen.now { is_old_commit = Some b }) (ap not c.shows-shows.ensures ∙ (not_not (is_old_commit c.args.snaps.now c.args.seen.now.snapshot c.args.seen.now.version) ∙
-      ap (λ (m : Snapshots). is_old_commit m c.args.seen.now.snapshot c.args.seen.now.version) (sym (held_snapshots (place_at c.args.store.now c.args.seat.now.by) c.args.seat.now.knows w c.args.snaps.now k c.requires.held)))))
+    ap (λ (b : Bool). record c.args.seen.now { is_old_commit = Some b }) (ap not c.shows-shows.ensures ∙ (not_not (is_old_commit c.args.snaps.now c.args.seen.now.snapshot c.args.seen.now.version) ∙
+    ap (λ (m : Snapshots). is_old_commit m c.args.seen.now.snapshot c.args.seen.now.version) (sym (held_snapshots (place_at c.args.store.now c.args.seat.now.by) c.args.seat.now.knows w c.args.snaps.now k c.requires.held)))))
     c.make.ensures.same c.make.ensures.moved

@@ -17,6 +17,6 @@ pub returns : goal.returns
 returns g c =
     load_made c.args.store.now (λ (w : World). c.make.result ≡ length w.writes.history) c.args.seat.now c.make.new.seat variant.InPrepared c.args.seen.now _ c.requires.next
     (λ w k so.
-      ap (λ (x : InPrepared). record c.args.seen.now { in_prepared = Some x }) (c.found.ensures ∙
-      ap (λ (t : PreparedTables). found_in (set.contains t.delayed c.args.seen.now.version) (finite.get t.delayed_commits c.args.seen.now.version)) (sym (held_prepared (place_at c.args.store.now c.args.seat.now.by) c.args.seat.now.knows w c.args.tables.now k c.requires.held))))
+    ap (λ (x : InPrepared). record c.args.seen.now { in_prepared = Some x }) (c.found.ensures ∙
+    ap (λ (t : PreparedTables). found_in (set.contains t.delayed c.args.seen.now.version) (finite.get t.delayed_commits c.args.seen.now.version)) (sym (held_prepared (place_at c.args.store.now c.args.seat.now.by) c.args.seat.now.knows w c.args.tables.now k c.requires.held))))
     c.make.ensures.same c.make.ensures.moved

@@ -1,4 +1,4 @@
-//! Snapshots: numbers at which a client reads.
+//! A snapshot that is registered.
 ghost use Rattle.std.specs.Prelude.{◌≡◌};
 
 use std::marker::Model;
@@ -6,8 +6,8 @@ use wp_model::Seq;
 
 /// A snapshot that is registered, at which its seat reads. It has to be released.
 pub struct Snapshot {
-    number: Seq,
-    smallest: Seq,
+    pub(crate) number: Seq,
+    pub(crate) smallest: Seq,
 }
 
 impl Model for Snapshot {

@@ -1,0 +1,147 @@
+//! Snapshots are registered and released.
+ghost use Rattle.std.specs.Prelude.{◌≡◌, ◌==◌, suc, true, ℕ, List, [], ◌∷◌, ◌++◌, length, unwrap_or, IfOk, OnErr, IsTrue};
+ghost use Rattle.wp_model.specs.Snapshots.{Snapshots, ChangesWhere, after_register};
+ghost use Rattle.wp_core.specs.Lists.{IsIn};
+ghost use Rattle.wp_core.specs.Reading.{Registration};
+ghost use Rattle.wp_core.specs.Tables as table;
+ghost use Rattle.wp_core.specs.Tables.{NoOldCommits};
+ghost use Rattle.wp_core.specs.Views.{old_flag_stays};
+ghost use Rattle.wp_shared.specs.Calls.{Continues};
+ghost use Rattle.wp_shared.specs.Seats.{IsFree};
+ghost use Rattle.wp_read.specs.Reads.{KeepsNotes, noting};
+ghost use Rattle.wp_read.specs.Registers.{ChangesSnapshots, IsTaken, registration_of};
+
+use crate::registration::Snapshot;
+use crate::steps::{lower_old_flag, register, unregister, unregister_last};
+use crate::turns::{give_snaps, give_tables, take_snaps, take_tables};
+use std::alloc::AllocError;
+use std::sync::Wait;
+use wp_model::Seq;
+use wp_outside::Disk;
+use wp_prepared::Prepared;
+use wp_shared::{Seat, Shared};
+use wp_snaps::Snaps;
+
+/// Registers the number in the live snapshots. Its smallest is the next number where none is given; that there is no next
+/// number is answered as want of memory, since no memory holds so many entries.
+fn enter(snaps: &mut Snaps, number: Seq, smallest: Option<Seq>) -> Result<Snapshot, AllocError>
+    ensures snapshot { IfOk result (λ s. s ≡ registration_of number smallest) }
+    ensures registered { IfOk result (λ s. ChangesWhere (λ q. q == number) after_register snaps.old snaps.new) }
+    ensures err { OnErr result (snaps.new ≡ snaps.old) }
+{
+    let next = number.checked_add(1).ok_or(AllocError)?;
+    snaps.register(number)?;
+    Ok(Snapshot {
+        number,
+        smallest: smallest.unwrap_or(next),
+    })
+}
+
+/// Registers the published number, under the prepared turn and the snapshots turn. A refusal leaves no registration.
+fn register_in<D: Disk + Drop>(
+    store: &Shared<D>,
+    seat: &mut Seat<D>,
+    tables: &Prepared,
+    snaps: &mut Snaps,
+) -> Result<Snapshot, AllocError>
+    requires seat { seat.old.table ≡ store.now.table }
+    requires held { seat.old.knows.held ≡ table.snapshots snaps.old ∷ table.prepared tables.now ∷ [] }
+    ensures changes { ChangesSnapshots seat.old seat.new (record seat.old.knows.participant { registered = seat.new.knows.participant.registered }) snaps.new (table.prepared tables.now ∷ []) }
+    ensures registered { IfOk result (λ s. seat.new.knows.participant.registered ≡ seat.old.knows.participant.registered ++ s ∷ []) }
+    ensures number { IfOk result (λ s. s.number ≡ length seat.new.knows.participant.seen) }
+    ensures taken { IfOk result (λ s. IsTaken store.now seat.old.by s) }
+    ensures refused { OnErr result (seat.new.knows.participant.registered ≡ seat.old.knows.participant.registered) }
+    ensures kept { NoOldCommits snaps.new → NoOldCommits snaps.old }
+{
+    let smallest = tables.smallest();
+    let number = register(store, seat, smallest);
+    match enter(snaps, number, smallest) {
+        Ok(snapshot) => Ok(snapshot),
+        Err(error) => {
+            unregister_last(store, seat);
+            Err(error)
+        }
+    }
+}
+
+/// Takes a snapshot: registers the published number. Want of memory leaves no registration.
+pub fn snapshot<D: Disk + Drop, R: Wait>(
+    store: &Shared<D>,
+    rt: &R,
+    seat: &mut Seat<D>,
+) -> Result<Snapshot, AllocError>
+    requires { IsFree store.now.table seat.old }
+    ensures registered { IfOk result (λ s. Continues store.now seat.old seat.new (record seat.old.knows.participant { registered = seat.old.knows.participant.registered ++ s ∷ [] })) }
+    ensures number { IfOk result (λ s. s.number ≡ length seat.new.knows.participant.seen) }
+    ensures taken { IfOk result (λ s. IsTaken store.now seat.old.by s) }
+    ensures refused { OnErr result (Continues store.now seat.old seat.new seat.old.knows.participant) }
+{
+    let tables = take_tables(store, rt, seat);
+    let mut snaps = take_snaps(store, rt, seat);
+    let taken = register_in(store, seat, &tables, &mut snaps);
+    give_snaps(store, seat, snaps);
+    give_tables(store, seat, tables);
+    taken
+}
+
+/// Takes one registration of the snapshot back, under the snapshots turn.
+fn release_in<D: Disk + Drop>(
+    store: &Shared<D>,
+    seat: &mut Seat<D>,
+    snaps: &mut Snaps,
+    snapshot: Snapshot,
+)
+    requires seat { seat.old.table ≡ store.now.table }
+    requires registered { IsIn snapshot seat.old.knows.participant.registered }
+    requires held { seat.old.knows.held ≡ table.snapshots snaps.old ∷ [] }
+    ensures { (front : List Registration) × (back : List Registration) × (seat.old.knows.participant.registered ≡ front ++ snapshot ∷ back)
+        × ChangesSnapshots seat.old seat.new (record seat.old.knows.participant { registered = front ++ back }) snaps.new [] }
+{
+    unregister(store, seat, &snapshot);
+    let Snapshot {
+        number,
+        smallest: _smallest,
+    } = snapshot;
+    snaps.release(number);
+}
+
+/// Stores the old-map flag as 0 where the old commit map became empty, which it was not while the flag was up.
+fn settle_old_flag<D: Disk + Drop>(
+    store: &Shared<D>,
+    seat: &mut Seat<D>,
+    snaps: &Snaps,
+    was_empty: bool,
+)
+    requires seat { seat.old.table ≡ store.now.table }
+    requires held { IsIn (table.snapshots snaps.now) seat.old.knows.held }
+    requires down { was_empty ≡ true → IsIn (old_flag_stays 0) seat.old.knows.notes }
+    ensures seat { seat.new ≡ noting seat.old seat.new.knows.notes }
+    ensures notes { KeepsNotes seat.old.knows.notes seat.new.knows.notes }
+    ensures flag { NoOldCommits snaps.now → IsIn (old_flag_stays 0) seat.new.knows.notes }
+{
+    if was_empty {
+        return;
+    }
+    if snaps.none_kept() {
+        lower_old_flag(store, seat);
+    }
+}
+
+/// Releases a snapshot of the seat's own. It takes no memory.
+pub fn release<D: Disk + Drop, R: Wait>(
+    store: &Shared<D>,
+    rt: &R,
+    seat: &mut Seat<D>,
+    snapshot: Snapshot,
+)
+    requires free { IsFree store.now.table seat.old }
+    requires registered { IsIn snapshot seat.old.knows.participant.registered }
+    ensures { (front : List Registration) × (back : List Registration) × (seat.old.knows.participant.registered ≡ front ++ snapshot ∷ back)
+        × Continues store.now seat.old seat.new (record seat.old.knows.participant { registered = front ++ back }) }
+{
+    let mut snaps = take_snaps(store, rt, seat);
+    let was_empty = snaps.none_kept();
+    release_in(store, seat, &mut snaps, snapshot);
+    settle_old_flag(store, seat, &snaps, was_empty);
+    give_snaps(store, seat, snaps);
+}
