@@ -5,3 +5,6 @@ pub mod Registers
 pub mod OldFlag
 pub mod Seated
 pub mod Taking
+pub mod Versions
+pub mod Shows
+pub mod Rounds

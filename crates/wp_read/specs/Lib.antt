@@ -1,4 +1,5 @@
 pub mod Reads
 pub mod Decides
 pub mod Registers
+
 pub mod Values

@@ -141,6 +141,7 @@ fn decide<D: Disk + Drop, R: Wait>(
     requires next { (which : load.Load) × IsNext seat.old start which }
     requires words { 1 ≤ store.now.cells }
     ensures continues { Continues store.now seat.old seat.new seat.old.knows.participant }
+    ensures same { seat.new.knows.participant ≡ seat.old.knows.participant }
     ensures right { IsRight seat.old.knows.participant.seen start.version start.snapshot result }
 {
     let mut seen = start;
@@ -164,6 +165,7 @@ pub fn visible<D: Disk + Drop, R: Wait>(
     requires registered { IsIn snapshot.now seat.old.knows.participant.registered }
     requires version { p ≤ snapshot.now.number → has_versions_at seat.old.knows.participant.seen p ≡ true }
     ensures continues { Continues store.now seat.old seat.new seat.old.knows.participant }
+    ensures same { seat.new.knows.participant ≡ seat.old.knows.participant }
     ensures right { IsRight seat.old.knows.participant.seen p snapshot.now.number result }
 {
     match decide_free(store, seat, p, snapshot) {

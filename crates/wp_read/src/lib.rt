@@ -7,8 +7,10 @@ mod registering;
 mod registration;
 mod steps;
 mod turns;
+mod values;
 
 pub use answers::{Free, Look};
 pub use deciding::{decide_free, look, visible};
 pub use registering::{release, snapshot};
 pub use registration::Snapshot;
+pub use values::get;

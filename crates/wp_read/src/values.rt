@@ -1,0 +1,181 @@
+//! The value of a key at a snapshot.
+ghost use Rattle.std.specs.Prelude.{◌≡◌, ◌≤◌, ◌<◌, ◌==◌, ◌∷◌, ◌++◌, ℕ, true, List, length, IfOk, MatchOption};
+ghost use Rattle.std.specs.List.{list_any};
+ghost use Rattle.wp_model.specs.Decision.{IsCommittedAt};
+ghost use Rattle.wp_model.specs.History.{value_at};
+ghost use Rattle.wp_core.specs.Lists.{IsIn};
+ghost use Rattle.wp_core.specs.Reading.{Registration};
+ghost use Rattle.wp_core.specs.Sound.Reader.{IsRight};
+ghost use Rattle.wp_core.specs.Sound.Snapshots.{has_versions_at};
+ghost use Rattle.wp_shared.specs.Calls.{Continues};
+ghost use Rattle.wp_shared.specs.Seats.{IsFree};
+ghost use Rattle.wp_read.specs.Values.{AreVersions, IsFirstCommitted, NoneCommitted, NoneLater, Says, ShowsValue};
+
+use crate::deciding::visible;
+use crate::registration::Snapshot;
+use crate::turns::{give_stock, take_stock};
+use std::alloc::AllocError;
+use std::sync::Wait;
+use wp_model::{Key, Seq, Value, Version, Versions};
+use wp_outside::Disk;
+use wp_shared::{Seat, Shared};
+
+/// How many versions of a key are copied at first: mostly one of the newest is the one.
+const FIRST_COPIES: usize = 4;
+
+/// How many times as many are copied next.
+const GROWTH: usize = 4;
+
+/// Copies the newest `most` versions of the key, under the store turn.
+fn copy_newest<D: Disk + Drop, R: Wait>(
+    store: &Shared<D>,
+    rt: &R,
+    seat: &mut Seat<D>,
+    key: &Key,
+    most: usize,
+) -> Result<Versions, AllocError>
+    requires { IsFree store.now.table seat.old }
+    ensures continues { Continues store.now seat.old seat.new seat.old.knows.participant }
+    ensures same { seat.new.knows.participant ≡ seat.old.knows.participant }
+    ensures found { IfOk result (λ found. (r : Registration) → IsIn r seat.old.knows.participant.registered → ShowsValue seat.old.knows.participant.seen key.now r.number most found) }
+{
+    let stock = take_stock(store, rt, seat);
+    let found = stock.collect(key, most);
+    give_stock(store, seat, stock);
+    found
+}
+
+fn has_number(versions: &[Version], p: Seq) -> bool
+    ensures { result ≡ list_any (λ v. v.number == p) versions.now }
+{
+    versions.iter().any(|version| version.number == p)
+}
+
+/// Decides the version `p`, without a load where it is above the snapshot or was found invisible before.
+fn is_visible<D: Disk + Drop, R: Wait>(
+    store: &Shared<D>,
+    rt: &R,
+    seat: &mut Seat<D>,
+    p: Seq,
+    earlier: &[Version],
+    snapshot: &Snapshot,
+) -> bool
+    requires free { IsFree store.now.table seat.old }
+    requires registered { IsIn snapshot.now seat.old.knows.participant.registered }
+    requires version { p ≤ snapshot.now.number → has_versions_at seat.old.knows.participant.seen p ≡ true }
+    requires none_later { NoneLater seat.old.knows.participant.seen snapshot.now.number }
+    requires earlier { NoneCommitted seat.old.knows.participant.seen snapshot.now.number earlier.now }
+    ensures continues { Continues store.now seat.old seat.new seat.old.knows.participant }
+    ensures same { seat.new.knows.participant ≡ seat.old.knows.participant }
+    ensures right { IsRight seat.old.knows.participant.seen p snapshot.now.number result }
+{
+    if snapshot.number() < p {
+        return false;
+    }
+    if has_number(earlier, p) {
+        return false;
+    }
+    visible(store, rt, seat, p, snapshot)
+}
+
+/// The place of the first of the versions that is visible. The earlier ones are not.
+fn first_visible<D: Disk + Drop, R: Wait>(
+    store: &Shared<D>,
+    rt: &R,
+    seat: &mut Seat<D>,
+    found: &[Version],
+    earlier: &[Version],
+    snapshot: &Snapshot,
+) -> Option<usize>
+    requires free { IsFree store.now.table seat.old }
+    requires registered { IsIn snapshot.now seat.old.knows.participant.registered }
+    requires versions { AreVersions seat.old.knows.participant.seen snapshot.now.number found.now }
+    requires none_later { NoneLater seat.old.knows.participant.seen snapshot.now.number }
+    requires earlier { NoneCommitted seat.old.knows.participant.seen snapshot.now.number earlier.now }
+    ensures continues { Continues store.now seat.old seat.new seat.old.knows.participant }
+    ensures same { seat.new.knows.participant ≡ seat.old.knows.participant }
+    ensures first { MatchOption result (NoneCommitted seat.old.knows.participant.seen snapshot.now.number found.now)
+        (IsFirstCommitted seat.old.knows.participant.seen snapshot.now.number found.now) }
+{
+    for i in 0..found.len() {
+        if is_visible(store, rt, seat, found[i].number, earlier, snapshot) {
+            return Some(i);
+        }
+    }
+    None
+}
+
+/// The value of the version with this place.
+fn take_value(found: Versions, i: usize) -> Option<Value>
+    requires { i < length found }
+    ensures { (front back : List Version) (v : Version) → found ≡ front ++ v ∷ back → length front ≡ i → result ≡ v.value }
+{
+    let Version { value, .. } = found.into_vec().remove(i);
+    value
+}
+
+/// What a round of copies gives.
+enum Round {
+    /// The value.
+    Done(Option<Value>),
+    /// None of these versions is visible, and there may be more.
+    More(Versions),
+}
+
+/// Copies the newest `most` versions of the key, and decides them, the newest first. The earlier ones are not visible.
+fn look_through<D: Disk + Drop, R: Wait>(
+    store: &Shared<D>,
+    rt: &R,
+    seat: &mut Seat<D>,
+    key: &Key,
+    snapshot: &Snapshot,
+    most: usize,
+    earlier: &[Version],
+) -> Result<Round, AllocError>
+    requires free { IsFree store.now.table seat.old }
+    requires registered { IsIn snapshot.now seat.old.knows.participant.registered }
+    requires earlier { NoneCommitted seat.old.knows.participant.seen snapshot.now.number earlier.now }
+    ensures continues { Continues store.now seat.old seat.new seat.old.knows.participant }
+    ensures same { seat.new.knows.participant ≡ seat.old.knows.participant }
+    ensures says { IfOk result (λ round. Says seat.old.knows.participant.seen key.now snapshot.now.number round) }
+{
+    let found = copy_newest(store, rt, seat, key, most)?;
+    match first_visible(store, rt, seat, found.as_slice(), earlier, snapshot) {
+        Some(i) => Ok(Round::Done(take_value(found, i))),
+        None => {
+            if found.as_slice().len() < most {
+                return Ok(Round::Done(None));
+            }
+            Ok(Round::More(found))
+        }
+    }
+}
+
+/// The value of the key at the snapshot: of its newest version that is visible there. It copies few versions at first, and four
+/// times as many each time that none of them is visible. No turn is held while a version is decided but for a look into a
+/// table. That it would copy more than a length can be is answered as want of memory, since no memory holds so many.
+pub fn get<D: Disk + Drop, R: Wait>(
+    store: &Shared<D>,
+    rt: &R,
+    seat: &mut Seat<D>,
+    key: &Key,
+    snapshot: &Snapshot,
+) -> Result<Option<Value>, AllocError>
+    requires free { IsFree store.now.table seat.old }
+    requires registered { IsIn snapshot.now seat.old.knows.participant.registered }
+    ensures continues { Continues store.now seat.old seat.new seat.old.knows.participant }
+    ensures value { IfOk result (λ value. value ≡ value_at seat.new.knows.participant.seen key.now snapshot.now.number) }
+{
+    let mut most = FIRST_COPIES;
+    let mut earlier = match look_through(store, rt, seat, key, snapshot, most, &[])? {
+        Round::Done(value) => return Ok(value),
+        Round::More(found) => found,
+    };
+    'rounds: loop {
+        most = most.checked_mul(GROWTH).ok_or(AllocError)?;
+        match look_through(store, rt, seat, key, snapshot, most, earlier.as_slice())? {
+            Round::Done(value) => return Ok(value),
+            Round::More(found) => earlier = found,
+        }
+    }
+}
