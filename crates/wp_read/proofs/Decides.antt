@@ -1,5 +1,5 @@
 -- A version is decided, one load after another.
-use Rattle.std.proofs.Common.{◌≡◌, ℕ, ◌+◌, ◌<◌, ◌≤◌, Bool, true, false, List, [], refl, sym, subst, ap, ◌∙◌, Option, Some, None, append-nil, arith}
+use Rattle.std.proofs.Common.{◌≡◌, ℕ, ◌+◌, ◌<◌, ◌≤◌, Bool, List, [], refl, sym, subst, ap, ◌∙◌, Option, Some, None, append-nil, arith}
 use Rattle.wp_model.specs.declared.entry.Entry.{Entry}
 use Rattle.wp_judge.specs.declared.observed.Observed.{Observed}
 use Rattle.wp_judge.specs.declared.observed.Load as loads
@@ -10,13 +10,13 @@ use Rattle.wp_core.specs.Changes.{loaded}
 use Rattle.wp_core.specs.Lists.{IsIn}
 use Rattle.wp_core.specs.Reading.{Registration, snapshot_of, reads}
 use Rattle.wp_core.specs.Sound.Reader.{IsRight}
-use Rattle.wp_core.specs.World.{Actor, World}
+use Rattle.wp_core.specs.World.{World}
 use Rattle.wp_core.proofs.ReaderOrder.{At, asked}
-use Rattle.wp_core.proofs.Tests.{same_some, some_none, none_some}
+use Rattle.wp_core.proofs.Tests.{none_some}
 use Rattle.wp_shared.specs.Calls.{Continues}
 use Rattle.wp_shared.specs.Seats.{SharedState, SeatState, IsFree}
-use Rattle.wp_read.specs.Reads.{reading, noting, KeepsNotes, Reads, Loads, IsNext, IsOfWord, IsOf}
-use Rattle.wp_read.specs.Decides.{IsFirstLook, Looks, reads_first}
+use Rattle.wp_read.specs.Reads.{reading, noting, KeepsNotes, Reads, Loads, IsNext, IsOf}
+use Rattle.wp_read.specs.Decides.{IsFirstLook, Looks}
 use Rattle.wp_read.specs.declared.answers.Look.TheVariants as look
 
 -- ---- which load is next

@@ -24,7 +24,7 @@ use Rattle.wp_guarded.specs.declared.part.Part.TheVariants as part
 use Rattle.wp_guarded.specs.Parts.{content, IsAnchored}
 use Rattle.wp_shared.specs.Seats.{SharedState, SeatState, IsFree, place_at}
 use Rattle.wp_shared.specs.Turns.{Taken, MayBeGiven, Given}
-use Rattle.wp_read.specs.Reads.{reading, noting, KeepsNotes, Reads, Loads}
+use Rattle.wp_read.specs.Reads.{reading, noting, KeepsNotes, Loads}
 use Rattle.wp_read.proofs.Readings.{prepared_in, snapshots_in}
 
 pub may_give : {D : Type 0} (z : SharedState D) (s : SeatState) (x : Part D) (table : Content) (others : List ℕ) → content x ≡ Some table → IsAnchored z.first x → IsIn table s.knows.held → s.turns ≡ turn_index (turn_of table) ∷ others → KnowsGive s.knows (turn_of table) → MayBeGiven z s x

@@ -1,5 +1,5 @@
 -- The old-map flag is lowered.
-use Rattle.std.proofs.Common.{◌≡◌, inl, ℕ, false, List, [], ◌∷◌, length, refl, sym, subst, ap, ◌∙◌, Some, None}
+use Rattle.std.proofs.Common.{◌≡◌, inl, ℕ, false, List, [], ◌∷◌, length, refl, sym, subst, ap, ◌∙◌, None}
 use Rattle.wp_model.specs.declared.entry.Entry.{Entry}
 use Rattle.wp_model.specs.Snapshots.{Snapshots}
 use Rattle.wp_core.specs.Lists.{IsIn}

@@ -1,27 +1,24 @@
 -- A reading, one step after another.
-use Rattle.std.proofs.Common.{◌≡◌, ℕ, ◌<◌, ◌≤◌, ◌%◌, Bool, true, false, not, List, [], ◌∷◌, ◌++◌, length, slice_index, refl, sym, subst, ap, ◌∙◌, Option, Some, None, option_map, IsSome, arith}
-use Rattle.std.specs.FinSet as set
-use Rattle.std.specs.FinMap as finite
+use Rattle.std.proofs.Common.{◌≡◌, ℕ, ◌≤◌, Bool, true, false, not, List, [], ◌∷◌, ◌++◌, length, slice_index, refl, sym, subst, ap, ◌∙◌, Option, Some, option_map, arith}
 use Rattle.wp_model.specs.declared.entry.Entry.{Entry}
-use Rattle.wp_model.specs.Decision.{decision_of, IsCommittedAt}
+use Rattle.wp_model.specs.Decision.{IsCommittedAt}
 use Rattle.wp_model.specs.Legal.{IsLegal}
 use Rattle.wp_model.specs.PreparedTables.{PreparedTables}
-use Rattle.wp_model.specs.Snapshots.{Snapshots, IsLive, is_old_commit}
+use Rattle.wp_model.specs.Snapshots.{Snapshots, IsLive}
 use Rattle.wp_judge.specs.declared.observed.Observed.{Observed}
 use Rattle.wp_judge.specs.declared.observed.Load.{Load}
 use Rattle.wp_judge.specs.declared.observed.Load.TheVariants.{FirstWord, FirstMax, DelayedFlag, SecondWord, SecondMax, OldFlag, IsOldCommit}
 use Rattle.wp_judge.specs.declared.observed.Load.TheVariants as variant
 use Rattle.wp_judge.specs.Order.{judgement}
 use Rattle.wp_core.specs.Cache.{cache_place, cached_word}
-use Rattle.wp_core.specs.Changes.{found_in, loaded}
+use Rattle.wp_core.specs.Changes.{loaded}
 use Rattle.wp_core.specs.Lists.{IsIn}
 use Rattle.wp_core.specs.Reading.{Registration, snapshot_of, reads}
 use Rattle.wp_core.specs.Sound.Reader.{IsRight, reader_of}
 use Rattle.wp_core.specs.Sound.Snapshots.{has_versions_at, view_of}
 use Rattle.wp_core.specs.Steps.{Step, begin_reading, load}
 use Rattle.wp_core.specs.Tables.{Content, prepared, snapshots}
-use Rattle.wp_core.specs.Turns.{prepared_turn, snapshots_turn}
-use Rattle.wp_core.specs.World.{Actor, World, content_of}
+use Rattle.wp_core.specs.World.{Actor, World}
 use Rattle.wp_core.proofs.AllParticipants.{mine}
 use Rattle.wp_core.proofs.Frames.{at_map}
 use Rattle.wp_core.proofs.HistoryLaws.{decided_late, decision_stays, decision_was}

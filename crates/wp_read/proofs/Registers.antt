@@ -1,5 +1,5 @@
 -- Snapshots are registered and released, one step after another.
-use Rattle.std.proofs.Common.{◌≡◌, ◌≢◌, ◌⊎◌, inl, inr, ⊎_elim, ℕ, suc, ◌+◌, ◌-◌, ◌<◌, ◌≤◌, nat_le, ◌==◌, eq-eqb, Bool, true, false, not, cond, true≢false, List, [], ◌∷◌, ◌++◌, length, refl, sym, subst, ap, ◌∙◌, Option, Some, None, IsSome, append-nil, arith}
+use Rattle.std.proofs.Common.{◌≡◌, ◌≢◌, ◌⊎◌, inl, inr, ⊎_elim, ℕ, suc, ◌+◌, ◌-◌, ◌≤◌, nat_le, ◌==◌, eq-eqb, Bool, true, false, cond, true≢false, List, [], ◌∷◌, ◌++◌, length, refl, sym, subst, ap, ◌∙◌, Option, Some, None, arith}
 use Rattle.std.specs.Prelude.{MatchOption, unwrap_or}
 use Rattle.std.proofs.lemmas.Bool.Decides.{nat_tests}
 use Rattle.std.specs.Cmp.{nat_cmp_total}
@@ -7,7 +7,6 @@ use Rattle.std.specs.Option.{option_map_or}
 use Rattle.std.specs.Ordering.{nat_cmp}
 use Rattle.std.specs.FinSet as set
 use Rattle.std.specs.FinMap as finite
-use Rattle.wp_model.specs.declared.entry.Entry.{Entry}
 use Rattle.wp_model.specs.PreparedTables.{PreparedTables, IsSmallest, NonePrepared}
 use Rattle.wp_model.specs.Snapshots as snaps
 use Rattle.wp_model.specs.Snapshots.{Snapshots, IsLive, is_old_commit, ChangesWhere, after_register, after_release}
@@ -15,24 +14,21 @@ use Rattle.wp_core.specs.Changes.{sees, registers, releases, held_with, is_same_
 use Rattle.wp_core.specs.Effects.{done}
 use Rattle.wp_core.specs.Lists.{IsIn}
 use Rattle.wp_core.specs.Reading.{Registration}
-use Rattle.wp_core.specs.Sound.Actors.{StartsWith}
 use Rattle.wp_core.specs.Steps.{Step, register, release}
-use Rattle.wp_core.specs.Tables.{Content, prepared, snapshots, turn_of, NoneDelayed, NoOldCommits}
-use Rattle.wp_core.specs.Views.{Fact}
-use Rattle.wp_core.specs.World.{Participant, Actor, World, published}
+use Rattle.wp_core.specs.Tables.{prepared, snapshots, NoOldCommits}
+use Rattle.wp_core.specs.World.{Actor, World}
 use Rattle.wp_core.proofs.HistoryLaws.{is_equal}
 use Rattle.wp_core.proofs.Numbers.{get_inserted, get_inserted_else, get_removed, get_removed_else}
 use Rattle.wp_core.proofs.Tests.{both}
-use Rattle.wp_rule.specs.Words.{Place, IsAt}
+use Rattle.wp_rule.specs.Words.{Place}
 use Rattle.wp_rule.specs.Moves.{MayMake, Moved, first_of}
 use Rattle.wp_rule.proofs.Forgets.{EndsNothing, forgets_nothing}
-use Rattle.wp_rule.proofs.Knows.{at_sound, seen_is}
 use Rattle.wp_rule.proofs.MayBeMade.{known_made, registers_at}
 use Rattle.wp_shared.specs.Clients.{KeepClient}
 use Rattle.wp_shared.specs.Seats.{SharedState, SeatState, place_at}
 use Rattle.wp_shared.proofs.OneStep.{made, becomes}
-use Rattle.wp_read.specs.Registers.{all_but_last_of, all_but_last, last_of, before_first, behind_first, registration_of, Registers, Unregisters, IsSeated, ChangesSnapshots, IsTaken}
-use Rattle.wp_read.proofs.Readings.{held_prepared, held_snapshots, held_live}
+use Rattle.wp_read.specs.Registers.{all_but_last_of, all_but_last, last_of, before_first, behind_first, registration_of, Registers, Unregisters}
+use Rattle.wp_read.proofs.Readings.{held_snapshots, held_live}
 
 -- ---- places in lists of registrations
 

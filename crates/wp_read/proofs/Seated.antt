@@ -1,6 +1,6 @@
 -- What a seat is again, once it gave what it took.
 use Rattle.std.proofs.Common.{◌≡◌, ◌⊎◌, ◌==◌, inl, inr, ℕ, suc, ◌≤◌, List, [], ◌∷◌, ◌++◌, length, refl, sym, subst, ap, ◌∙◌, Option, Some, None, append-nil}
-use Rattle.std.specs.Prelude.{MatchOption, unwrap_or, IfOk, OnErr, Result, Ok, Err}
+use Rattle.std.specs.Prelude.{MatchOption}
 use Rattle.std.specs.FinMap as finite
 use Rattle.wp_model.specs.declared.entry.Entry.{Entry}
 use Rattle.wp_model.specs.PreparedTables.{PreparedTables, IsSmallest, NonePrepared}
@@ -12,12 +12,12 @@ use Rattle.wp_core.specs.Notes.{gives_guard}
 use Rattle.wp_core.specs.Reading.{Registration}
 use Rattle.wp_core.specs.Sound.Actors.{StartsWith}
 use Rattle.wp_core.specs.Steps.{give_turn}
-use Rattle.wp_core.specs.Tables.{Content, prepared, snapshots, turn_of, NoneDelayed, NoOldCommits}
+use Rattle.wp_core.specs.Tables.{prepared, snapshots, turn_of, NoneDelayed, NoOldCommits}
 use Rattle.wp_core.specs.Turns.{Turn, prepared_turn, snapshots_turn}
-use Rattle.wp_core.specs.Views.{Fact, delayed_flag_stays, old_flag_stays}
-use Rattle.wp_core.specs.World.{Participant, Actor, World}
+use Rattle.wp_core.specs.Views.{delayed_flag_stays, old_flag_stays}
+use Rattle.wp_core.specs.World.{Participant, Actor}
 use Rattle.wp_core.proofs.Tests.{same_some}
-use Rattle.wp_rule.specs.Plays.{facts_at, with_turn}
+use Rattle.wp_rule.specs.Plays.{facts_at}
 use Rattle.wp_rule.proofs.Knows.{at_sound, seen_is}
 use Rattle.wp_guarded.specs.declared.part.Part.{Part}
 use Rattle.wp_guarded.specs.declared.part.Part.TheVariants as part
@@ -26,7 +26,7 @@ use Rattle.wp_shared.specs.Seats.{SharedState, SeatState, IsFree, place_at}
 use Rattle.wp_shared.specs.Turns.{Taken, Given}
 use Rattle.wp_read.specs.Reads.{KeepsNotes, noting}
 use Rattle.wp_read.specs.Registers.{registration_of, Registers, Unregisters, IsSeated, ChangesSnapshots, IsTaken}
-use Rattle.wp_read.proofs.HeldTables.{rest_of, in_back, taken_keeps, given_keeps, taken_prepared, taken_snapshots, delayed_flag_noted, old_flag_noted}
+use Rattle.wp_read.proofs.HeldTables.{rest_of, in_back, taken_keeps, given_keeps, delayed_flag_noted, old_flag_noted}
 use Rattle.wp_read.proofs.Readings.{held_prepared, held_snapshots}
 use Rattle.wp_read.proofs.Registers.{changes_placed, registered_and_released, kept_by_register}
 

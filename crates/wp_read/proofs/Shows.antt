@@ -1,5 +1,5 @@
 -- The newest versions of a key that lie behind the store turn show its value at a snapshot of the seat's.
-use Rattle.std.proofs.Common.{◌≡◌, inl, inr, ⊎_elim, ℕ, ◌+◌, ◌<◌, ◌≤◌, Bool, true, List, [], ◌∷◌, ◌++◌, length, take, drop, min, refl, sym, subst, ap, ◌∙◌, Option, Some, None, append_assoc, append-nil, length-append, arith}
+use Rattle.std.proofs.Common.{◌≡◌, ℕ, ◌+◌, ◌<◌, ◌≤◌, true, List, ◌∷◌, ◌++◌, length, take, drop, min, refl, sym, subst, ap, ◌∙◌, Option, Some, None, append_assoc, length-append, arith}
 use Rattle.std.specs.Prelude.{Result, Ok, Err, IfOk}
 use Rattle.std.proofs.lemmas.List.{take-append-drop, take-append-le, take_all, length-take}
 use Rattle.wp_model.specs.declared.entry.Entry.{Entry}
@@ -16,7 +16,7 @@ use Rattle.wp_core.specs.Reading.{Registration}
 use Rattle.wp_core.specs.Sound.Snapshots.{has_versions, has_versions_at}
 use Rattle.wp_core.specs.Tables.{Content, StoreTable, store, live_numbers, up_to, all_in}
 use Rattle.wp_core.specs.Turns.{store_turn}
-use Rattle.wp_core.specs.World.{Participant, World}
+use Rattle.wp_core.specs.World.{World}
 use Rattle.wp_core.proofs.HistoryLaws.{decided_late, decision_stays}
 use Rattle.wp_core.proofs.Registered.{registered_live}
 use Rattle.wp_core.proofs.SnapshotsStep.{among_live}
@@ -30,7 +30,7 @@ use Rattle.wp_guarded.specs.Stock.{StockState, store_table}
 use Rattle.wp_guarded.specs.declared.part.Part.TheVariants as part
 use Rattle.wp_shared.specs.Seats.{SharedState, SeatState, place_at}
 use Rattle.wp_shared.specs.Turns.{Taken}
-use Rattle.wp_read.specs.Values.{NoneCommitted, NoneLater, AreVersions, ShowsValue}
+use Rattle.wp_read.specs.Values.{ShowsValue}
 use Rattle.wp_read.proofs.Readings.{right_before, registered_low}
 use Rattle.wp_read.proofs.Versions.{Descends, in_front, descends, at_of_key, in_store, first_shows, none_shows}
 

@@ -1,5 +1,5 @@
 -- The newest versions of a key, and which of them shows the store's value.
-use Rattle.std.proofs.Common.{◌≡◌, ◌⊎◌, inl, inr, ⊎_elim, ℕ, ◌<◌, ◌≤◌, Bool, true, false, ◌==◌, ◌&&◌, ◌||◌, cond, Less, Equal, List, [], ◌∷◌, ◌++◌, filter, length, take, drop, refl, sym, subst, ap, ◌∙◌, Option, Some, None, append_assoc, arith}
+use Rattle.std.proofs.Common.{◌≡◌, ◌⊎◌, inl, inr, ⊎_elim, ℕ, ◌<◌, ◌≤◌, Bool, true, false, ◌==◌, ◌&&◌, ◌||◌, cond, Less, Equal, List, [], ◌∷◌, ◌++◌, length, refl, sym, subst, ap, ◌∙◌, Option, Some, None, arith}
 use Rattle.std.specs.List.{list_any}
 use Rattle.std.specs.Ordering.{nat_cmp, ordering_then}
 use Rattle.std.specs.Str.{bytes_eq}
@@ -18,9 +18,9 @@ use Rattle.wp_core.specs.Lists.{IsIn}
 use Rattle.wp_core.specs.Tables.{up_to}
 use Rattle.wp_core.proofs.Frames.{in_filter}
 use Rattle.wp_core.proofs.PublishesVersions.{up_to_within, up_to_past}
-use Rattle.wp_core.proofs.Tests.{same_some, some_none, none_some}
+use Rattle.wp_core.proofs.Tests.{same_some, none_some}
 use Rattle.wp_store.specs.Store.{of_key}
-use Rattle.wp_read.specs.Values.{NoneCommitted, NoneLater}
+use Rattle.wp_read.specs.Values.{NoneCommitted}
 
 same_key : (a b : List ℕ) → bytes_eq a b ≡ true → a ≡ b
 same_key a b h = (bytes_eq-Decides a b).0 h
@@ -85,12 +85,12 @@ pub at_its_number : (key : List ℕ) (vs : List Version) (v : Version) → Desce
 at_its_number key [] v d there = absurd there
 at_its_number key (w ∷ ws) v d there = ⊎_elim
     (λ (e : w ≡ v).
-      let test : (bytes_eq w.key key && (w.number == v.number)) ≡ true = and_from (bytes_eq w.key key) (w.number == v.number) ((bytes_eq-Decides w.key key).1 d.0) (eq-eqb w.number v.number (ap (λ (x : Version). x.number) e)) in
-      ap (λ t. cond t (Some w.value) (version_at ws key v.number)) test ∙ ap (λ (x : Version). Some x.value) e)
+    let test : (bytes_eq w.key key && (w.number == v.number)) ≡ true = and_from (bytes_eq w.key key) (w.number == v.number) ((bytes_eq-Decides w.key key).1 d.0) (eq-eqb w.number v.number (ap (λ (x : Version). x.number) e)) in
+    ap (λ t. cond t (Some w.value) (version_at ws key v.number)) test ∙ ap (λ (x : Version). Some x.value) e)
     (λ (k : IsIn v ws).
-      let less = d.1 v k in
-      let test : (bytes_eq w.key key && (w.number == v.number)) ≡ false = and_false (bytes_eq w.key key) (w.number == v.number) (ne_eqb w.number v.number (λ (e : w.number ≡ v.number). absurd (omega arith))) in
-      ap (λ t. cond t (Some w.value) (version_at ws key v.number)) test ∙ at_its_number key ws v d.2 k)
+    let less = d.1 v k in
+    let test : (bytes_eq w.key key && (w.number == v.number)) ≡ false = and_false (bytes_eq w.key key) (w.number == v.number) (ne_eqb w.number v.number (λ (e : w.number ≡ v.number). absurd (omega arith))) in
+    ap (λ t. cond t (Some w.value) (version_at ws key v.number)) test ∙ at_its_number key ws v d.2 k)
     there
 
 -- what is under a number is in the list
@@ -137,11 +137,11 @@ module _ (history : List Entry) (key : List ℕ) (n : ℕ) (all ys : List Versio
           let u = is_there g.number g.value g.there in
           ⊎_elim (λ (k : IsIn u.version front). absurd (none u.version k (subst (λ (p : ℕ). IsCommittedAt history p n) (sym u.number_is) g.committed)))
           (λ (k : (v ≡ u.version) ⊎ IsIn u.version back).
-            ⊎_elim (λ (e : v ≡ u.version). ap (λ (x : Version). x.value) e ∙ (u.value_is ∙ sym g.stored))
-            (λ (j : IsIn u.version back).
-              let less = behind_is_less key front back v u.version (subst (Descends key) are d) j in
-              let same = u.number_is in
-              absurd (none_some (version_at (up_to (length history) all) key v.number) v.value (g.newest v.number (omega arith) committed) mine)) k)
+          ⊎_elim (λ (e : v ≡ u.version). ap (λ (x : Version). x.value) e ∙ (u.value_is ∙ sym g.stored))
+          (λ (j : IsIn u.version back).
+          let less = behind_is_less key front back v u.version (subst (Descends key) are d) j in
+          let same = u.number_is in
+          absurd (none_some (version_at (up_to (length history) all) key v.number) v.value (g.newest v.number (omega arith) committed) mine)) k)
           (in_either u.version front (v ∷ back) (subst (IsIn u.version) are u.there))
 
       by_none : GivesNone (up_to (length history) all) history key n → v.value ≡ value_at history key n

@@ -1,5 +1,4 @@
 pub mod Reads
 pub mod Decides
 pub mod Registers
-
 pub mod Values

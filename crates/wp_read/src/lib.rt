@@ -1,4 +1,17 @@
-//! The reads of the shared store: snapshots, whether a version is visible at one, and the value of a key.
+//! The reads of the shared store: snapshots, whether a version is visible at one, and the value of a key there.
+//!
+//! A snapshot is a number that its seat registers as it loads it, with the prepared turn and the snapshots turn held: so nothing is
+//! evicted unseen between the two. It keeps the least prepared number of that moment, below which each version is committed.
+//!
+//! A version is decided by loads in the order of `wp_judge`. Mostly its word or the bound decides, and no turn is taken: that is
+//! what `look` and `decide_free` do. Where something is delayed, or the old commit map has something, `visible` takes the turn of
+//! that table for one look, and gives it again. Others go on between any two loads, and the answer is right all the same: it is
+//! whether the history that the seat has seen has the version committed at the snapshot.
+//!
+//! `get` copies the newest few versions of a key under the store turn, and decides them without it, the newest first. Which of
+//! them the store still has may change between two rounds of copies; what was decided of a version does not.
+//!
+//! Each call begins and ends with a seat that holds no turn. Turns are taken in the order prepared, snapshots, store.
 #![tactic(auto)]
 
 mod answers;

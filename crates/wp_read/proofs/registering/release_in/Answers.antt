@@ -1,4 +1,4 @@
-use Rattle.std.proofs.Common.{◌≡◌, ◌==◌, inl, refl, sym, subst}
+use Rattle.std.proofs.Common.{◌==◌, inl, refl, sym, subst}
 use Rattle.wp_model.specs.Snapshots.{ChangesWhere, after_release}
 use Rattle.wp_core.specs.Lists.{IsIn}
 use Rattle.wp_core.specs.Reading.{Registration}

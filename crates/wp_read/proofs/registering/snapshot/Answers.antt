@@ -1,6 +1,3 @@
-use Rattle.std.proofs.Common.{◌≡◌, ◌++◌, [], ◌∷◌, List, sym, ap, subst, ◌∙◌}
-use Rattle.wp_core.specs.Reading.{Registration}
-use Rattle.wp_core.specs.World.{Participant}
 use Rattle.wp_read.proofs.Seated.{flag_noted, last_left, delayed_noted, continues_both}
 use Rattle.wp_read.proofs.Taking.{taken_ok, refused_err}
 use Rattle.wp_read.proofs.registering.snapshot.Goals as goal

@@ -1,7 +1,7 @@
-use Rattle.std.proofs.Common.{◌≡◌, [], ◌∷◌, ◌++◌, List, refl, sym, subst, ap, ◌∙◌}
+use Rattle.std.proofs.Common.{[], ◌∷◌, ◌++◌, refl, sym, ap, ◌∙◌}
 use Rattle.wp_core.specs.Reading.{Registration}
 use Rattle.wp_core.specs.Steps.{release}
-use Rattle.wp_read.specs.Registers.{all_but_last, last_of, Unregisters}
+use Rattle.wp_read.specs.Registers.{all_but_last, last_of}
 use Rattle.wp_read.proofs.Registers.{last_is}
 use Rattle.wp_read.proofs.steps.unregister_last.Goals as goal
 

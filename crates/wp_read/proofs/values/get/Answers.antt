@@ -1,4 +1,4 @@
-use Rattle.std.proofs.Common.{◌≡◌, ◌≤◌, List, sym, subst, ◌∙◌, arith, rules}
+use Rattle.std.proofs.Common.{List, sym, subst, ◌∙◌, rules}
 use Rattle.wp_model.specs.declared.version.Version.{Version}
 use Rattle.wp_core.specs.World.{Participant}
 use Rattle.wp_read.specs.Values.{NoneCommitted, Says}
