@@ -24,7 +24,7 @@ use Rattle.wp_guarded.specs.declared.part.Part.TheVariants as part
 use Rattle.wp_shared.specs.Calls.{Continues}
 use Rattle.wp_shared.specs.Seats.{SharedState, SeatState, IsFree, place_at}
 use Rattle.wp_shared.specs.Turns.{Taken, Given}
-use Rattle.wp_read.specs.Reads.{KeepsNotes, noting}
+use Rattle.wp_read.specs.Reads.{KeepsNotes}
 use Rattle.wp_read.specs.Registers.{registration_of, Registers, Unregisters, IsSeated, ChangesSnapshots, IsTaken}
 use Rattle.wp_read.proofs.HeldTables.{rest_of, in_back, taken_keeps, given_keeps, delayed_flag_noted, old_flag_noted}
 use Rattle.wp_read.proofs.Readings.{held_prepared, held_snapshots}
@@ -202,31 +202,6 @@ module _ {D : Type 0} (z : SharedState D) (s0 s1 s2 s3 s4 : SeatState) (m m' : S
           (λ fact loose there.
           given_keeps z s4 s5 (part.Prepared tables) gave2 fact loose
           (given_keeps z s3 s4 (part.Snapshots m') gave1 fact loose (subst (IsIn fact) (sym changes.notes) (taken_keeps z snapshots_turn s1 s2 (part.Snapshots m) took2 fact loose (taken_keeps z prepared_turn s0 s1 (part.Prepared tables) took1 fact loose there)))))
-
--- ---- the snapshots turn is given
-
-module _ {D : Type 0} (z : SharedState D) (s0 s1 s2 s3 s4 : SeatState) (m m' : Snapshots) (after : Participant) (free : IsFree z.table s0) (same : (s1.table ≡ s0.table) × (s1.by ≡ s0.by) × (s1.turns ≡ 2 ∷ s0.turns)) (took : Taken z snapshots_turn s0 s1 (part.Snapshots m))
-    (changes : ChangesSnapshots s1 s2 after m' []) (noted : s3 ≡ noting s2 s3.knows.notes) (keeps : KeepsNotes s2.knows.notes s3.knows.notes) (gave : Given z s3 s4 (part.Snapshots m')) where
-  gave_them : turn_of gave.table ≡ snapshots_turn
-  gave_them = ap turn_of (sym (same_some (snapshots m') gave.table gave.is))
-
-  participant_is : s4.knows.participant ≡ s2.knows.participant
-  participant_is = given_participant z s3 s4 (part.Snapshots m') gave ∙ ap (λ (x : SeatState). x.knows.participant) noted
-
-  noted_seated : IsSeated s2 s3
-  noted_seated =
-      record { table = ap (λ (x : SeatState). x.table) noted; by = ap (λ (x : SeatState). x.by) noted; live = ap (λ (x : SeatState). x.knows.live) noted; made = ap (λ (x : SeatState). x.knows.made) noted; joined = ap (λ (x : SeatState). x.knows.joined) noted }
-
-  pub continues_one : Continues z s0 s4 after
-  continues_one =
-      continues z s0 s4 after free
-      (seated_on s0 s3 s4 (seated_on s0 s2 s3 (seated_on s0 s1 s2 (taken_seated z snapshots_turn s0 s1 (part.Snapshots m) took same) changes.seated) noted_seated) (given_seated z s3 s4 (part.Snapshots m') gave))
-      (ap rest_of (sym gave.turns ∙ (ap (λ (x : SeatState). x.turns) noted ∙ (changes.turns ∙ same.2))) ∙ free.turns)
-      (given_held z s3 s4 (part.Snapshots m') snapshots_turn gave gave_them ∙ (ap (λ (x : SeatState). held_without x.knows.held snapshots_turn) noted ∙ ap (λ h. held_without h snapshots_turn) changes.held))
-      (subst (λ (x : List Entry × List Entry). StartsWith x.0 x.1) (λ i. ((sym (ap (λ (x : Participant). x.seen) participant_is)) i, ((taken_participant z snapshots_turn s0 s1 (part.Snapshots m) took) i).seen)) changes.seen)
-      (participant_is ∙ (changes.participant ∙ ap (λ (h : List Entry). record after { seen = h }) (sym (ap (λ (x : Participant). x.seen) participant_is))))
-      (λ fact loose there.
-      given_keeps z s3 s4 (part.Snapshots m') gave fact loose (keeps fact loose (subst (IsIn fact) (sym changes.notes) (taken_keeps z snapshots_turn s0 s1 (part.Snapshots m) took fact loose there))))
 
 -- ---- the registration is taken back
 
