@@ -1,4 +1,7 @@
 //! One call for each step of the machine that a reader makes. Each says what it leaves of the seat.
+//!
+//! The steps at a load are picked where the call is made, and a pick can name only what is passed to that call. So a step with
+//! an argument has a helper that is passed the argument and makes the load.
 ghost use Rattle.std.specs.FinMap as finite;
 ghost use Rattle.std.specs.FinSet as set;
 ghost use Rattle.std.specs.Prelude.{◌≡◌, ◌≤◌, ◌<◌, suc, true, List, [], ◌∷◌, ◌++◌, length, unwrap_or, MatchOption};
