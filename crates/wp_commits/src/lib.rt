@@ -1,0 +1,5 @@
+//! Clearing and entering words of the commit cache.
+#![tactic(auto)]
+
+mod bound;
+pub mod laws;
