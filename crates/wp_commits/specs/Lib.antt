@@ -1,1 +1,4 @@
 pub mod Bound
+pub mod Notes
+pub mod Making
+pub mod Cleared

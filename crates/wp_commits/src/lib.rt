@@ -3,3 +3,4 @@
 
 mod bound;
 pub mod laws;
+mod steps;

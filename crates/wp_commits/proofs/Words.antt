@@ -1,0 +1,82 @@
+-- What loads of the bound and of words tell a seat that holds the write turn.
+use Rattle.std.proofs.Common.{◌≡◌, ◌≢◌, inl, inr, ℕ, suc, ◌<◌, ◌≤◌, List, [], ◌∷◌, ◌++◌, length, slice_index, refl, sym, subst, ap, ◌∙◌, Option, Some, None, length-append, arith}
+use Rattle.std.specs.Prelude.{IfSome}
+use Rattle.std.specs.Option.{option_map}
+use Rattle.std.proofs.lemmas.Bool.{cases_lt}
+use Rattle.wp_model.specs.declared.entry.Entry.{Entry}
+use Rattle.wp_model.specs.Decision.{decision_of}
+use Rattle.wp_judge.specs.Words.{CommitPair, pair_of, numbers_of}
+use Rattle.wp_core.specs.Cache.{cache_place, pair_at}
+use Rattle.wp_core.specs.Entries.{extended, pending_pair}
+use Rattle.wp_core.specs.Lists.{IsIn}
+use Rattle.wp_core.specs.Tables.{WriteTable, Content, writes}
+use Rattle.wp_core.specs.Views.{words_stay}
+use Rattle.wp_core.specs.World.{World}
+use Rattle.wp_core.specs.Sound.Prepared.{IsPairAt}
+use Rattle.wp_core.proofs.HistoryLaws.{decision_was, decision_within, decided_by_last}
+use Rattle.wp_core.proofs.ReaderFacts.{pair_ordered}
+use Rattle.wp_rule.specs.Knows.{Noted}
+use Rattle.wp_rule.specs.Words.{IsAt}
+use Rattle.wp_rule.proofs.Knows.{at_sound, held_is, noted_is}
+use Rattle.wp_shared.specs.Seats.{SharedState, SeatState, Stands, place_at}
+use Rattle.wp_commits.specs.Cleared.{IsUnentered}
+
+abbrev table_in : WriteTable → Content → WriteTable
+table_in t (writes d) = d
+table_in t other = t
+
+pub bound_is : {D : Type 0} (z : SharedState D) (s t : SeatState) (found : ℕ) → t ≡ s → (w : World) × Stands z t w × (found ≡ w.max_evicted) → (bound : ℕ) (words : List ℕ) → Noted s.knows (words_stay bound words) → found ≡ bound
+bound_is z s t found same at bound words there =
+    let k : IsAt (place_at z s.by) s.knows at.0 = subst (λ (x : SeatState). IsAt (place_at z x.by) x.knows at.0) same at.1 in at.2 ∙ (noted_is (place_at z s.by) s.knows at.0 (words_stay bound words) k there).is_so.0
+
+-- what is decided with the pending entry, and is not its pair, is decided and published without it
+decided_without : (history pending : List Entry) (pair : CommitPair) → (pending_pair history pending ≡ Some pair → ⊥) → pair.number ≤ pair.decision → decision_of (extended history pending) pair.number ≡ Some pair.decision
+    → (decision_of history pair.number ≡ Some pair.decision) × (pair.decision ≤ length history)
+decided_without history [] pair other low e = (e, decision_within history pair.number pair.decision e)
+decided_without history (entry ∷ others) pair other low e =
+    let most = decision_within (history ++ entry ∷ []) pair.number pair.decision e in
+    elim (cases_lt (length history) pair.decision) [
+      | inl past ↦
+          let is : pair.decision ≡ suc (length history) = omega (arith, length-append history (entry ∷ [])) in
+          absurd (other (decided_by_last history entry pair.number (e ∙ ap Some is) ∙ ap (λ (c : ℕ). Some (record { number = pair.number; decision = c })) (sym is)))
+      | inr within ↦ (decision_was history (entry ∷ []) pair.number pair.decision (omega arith) within e, within)
+    ]
+
+module _ {D : Type 0} (z : SharedState D) (s t : SeatState) (d : WriteTable) (place word : ℕ) (same : t ≡ s) (at : (w : World) × Stands z t w × (word ≡ slice_index w.cache place)) where
+  stands : IsAt (place_at z s.by) s.knows at.0
+  stands = subst (λ (x : SeatState). IsAt (place_at z x.by) x.knows at.0) same at.1
+
+  module _ (bound : ℕ) (words : List ℕ) (there : Noted s.knows (words_stay bound words)) where
+    cache_is : at.0.cache ≡ words
+    cache_is = (noted_is (place_at z s.by) s.knows at.0 (words_stay bound words) stands there).is_so.1
+
+    pub pair_is : (o : Option (ℕ × ℕ)) → o ≡ option_map numbers_of (pair_of word) → o ≡ option_map numbers_of (pair_at words place)
+    pair_is o is = is ∙ ap (λ (x : ℕ). option_map numbers_of (pair_of x)) (at.2 ∙ ap (λ (x : List ℕ). slice_index x place) cache_is)
+
+    pub words_are : length words ≡ z.cells
+    words_are = sym (ap length cache_is) ∙ stands.cells
+
+  module _ (held : IsIn (writes d) s.knows.held) (within : place < z.cells) (noted : (bound : ℕ) × (words : List ℕ) × Noted s.knows (words_stay bound words)) (unentered : IsUnentered s.knows z.cells d) where
+    table_is : at.0.writes ≡ d
+    table_is = ap (table_in d) (held_is (place_at z s.by) s.knows at.0 (writes d) stands held).1
+
+    abbrev IsFound : ℕ × ℕ → Type 0
+    IsFound r = IsPairAt d.history z.cells place (record { number = r.0; decision = r.1 }) × (r.1 ≤ length d.history)
+
+    at_pair : (pair : CommitPair) → pair_of word ≡ Some pair → IsFound (numbers_of pair)
+    at_pair pair is =
+        let w = at.0 in
+        let there : pair_at w.cache place ≡ Some pair = ap pair_of (sym at.2) ∙ is in
+        let known = (at_sound (place_at z s.by) s.knows w stands).cache.pairs place pair (subst (λ (n : ℕ). place < n) (sym stands.cells) within) there in
+        let placed : cache_place z.cells pair.number ≡ place = ap (λ (n : ℕ). cache_place n pair.number) (sym stands.cells) ∙ known.placed in
+        let decided : decision_of (extended d.history d.pending) pair.number ≡ Some pair.decision = subst (λ (x : WriteTable). decision_of (extended x.history x.pending) pair.number ≡ Some pair.decision) table_is known.decided in
+        let in_words : pair_at noted.1 place ≡ Some pair = sym (ap (λ (x : List ℕ). pair_at x place) (cache_is noted.0 noted.1 noted.2)) ∙ there in
+        let other : pending_pair d.history d.pending ≡ Some pair → ⊥ = λ e. unentered pair e noted.0 noted.1 noted.2 (ap (pair_at noted.1) placed ∙ in_words) in
+        let old = decided_without d.history d.pending pair other (pair_ordered word pair is).1 decided in (record { placed = placed; decided = old.0 }, old.1)
+
+    by_pair : (o : Option CommitPair) → pair_of word ≡ o → IfSome (option_map numbers_of o) IsFound
+    by_pair None is = tt
+    by_pair (Some pair) is = at_pair pair is
+
+    pub found : (o : Option (ℕ × ℕ)) → o ≡ option_map numbers_of (pair_of word) → IfSome o IsFound
+    found o is = subst (λ (x : Option (ℕ × ℕ)). IfSome x IsFound) (sym is) (by_pair (pair_of word) refl)

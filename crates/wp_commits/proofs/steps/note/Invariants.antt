@@ -1,0 +1,7 @@
+use Rattle.std.specs.Prelude.{[], ◌∷◌}
+use Rattle.wp_core.specs.Steps.{note}
+use Rattle.wp_shared.specs.Seats.{place_at}
+use Rattle.wp_commits.proofs.steps.note.Given as goal
+
+abbrev pub ghosts-note_by : goal.ghosts-note_by
+ghosts-note_by g a = record { place = place_at a.store.now a.seat.now.by; steps = λ w. note a.fact.now ∷ [] }

@@ -1,0 +1,33 @@
+-- Words of the commit cache that are ready to be replaced.
+use Rattle.std.specs.Prelude.{◌≡◌, ◌≢◌, ◌⊎◌, ℕ, ◌≤◌, List, length, Option, Some, None}
+use Rattle.wp_judge.specs.Words.{CommitPair}
+use Rattle.wp_core.specs.Cache.{cache_place, pair_at}
+use Rattle.wp_core.specs.Entries.{pending_pair}
+use Rattle.wp_core.specs.Tables.{WriteTable}
+use Rattle.wp_core.specs.Views.{passed, in_old_commits, apart, words_stay}
+use Rattle.wp_core.specs.World.{Actor}
+use Rattle.wp_rule.specs.Knows.{Noted}
+
+-- the word at this place has no pair
+abbrev pub IsEmptyAt : Actor → ℕ → Type 0
+IsEmptyAt a place = (bound : ℕ) × (words : List ℕ) × Noted a (words_stay bound words) × (pair_at words place ≡ None)
+
+-- this pair of the word at this place may go
+abbrev pub MayGoFrom : Actor → ℕ → CommitPair → Type 0
+MayGoFrom a place gone = Noted a (passed place gone) × Noted a (in_old_commits place gone) × Noted a (apart place gone)
+
+-- the word at this place may be replaced
+abbrev pub IsCleared : Actor → ℕ → Type 0
+IsCleared a place = IsEmptyAt a place ⊎ ((gone : CommitPair) × MayGoFrom a place gone)
+
+-- The word at this place has the pair of a version that decided itself, and is published: a snapshot sees it or is below it,
+-- and it is no prepared transaction. So nothing but the bound has to be ready for it to go.
+abbrev pub DecidesItself : Actor → ℕ → ℕ → Type 0
+DecidesItself a published place =
+    (bound : ℕ) × (words : List ℕ) × (n : ℕ) × Noted a (words_stay bound words) × (n ≤ published) × (pair_at words place ≡ Some (record { number = n; decision = n }))
+
+-- the pair of the pending entry is not in its word yet
+abbrev pub IsUnentered : Actor → ℕ → WriteTable → Type 0
+IsUnentered a cells t =
+    (pair : CommitPair) → pending_pair t.history t.pending ≡ Some pair
+    → (bound : ℕ) (words : List ℕ) → Noted a (words_stay bound words) → pair_at words (cache_place cells pair.number) ≢ Some pair

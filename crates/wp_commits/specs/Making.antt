@@ -1,0 +1,21 @@
+-- Which steps of the machine follow a table that has changed.
+use Rattle.std.specs.Prelude.{ℕ, zero, suc, ◌-◌, Bool, true, false, List, [], ◌∷◌, if◌then◌else◌, is_some}
+use Rattle.std.specs.FinMap as finite
+use Rattle.wp_model.specs.PreparedTables.{is_prepared}
+use Rattle.wp_model.specs.Snapshots.{Snapshots}
+use Rattle.wp_judge.specs.Words.{CommitPair}
+use Rattle.wp_core.specs.Steps.{Step, add_delayed_commit, add_old_commit}
+use Rattle.wp_core.specs.World.{World}
+
+-- the pair becomes a delayed commit where its number is prepared
+abbrev pub delaying : CommitPair → World → List Step
+delaying pair w = if is_prepared w.prepared pair.number then add_delayed_commit pair ∷ [] else []
+
+-- p is kept under each live number among the next so many from s on
+abbrev pub keeping_from : Snapshots → ℕ → ℕ → ℕ → List Step
+keeping_from m p zero s = []
+keeping_from m p (suc more) s = if is_some (finite.get m s) then add_old_commit s p ∷ keeping_from m p more (suc s) else keeping_from m p more (suc s)
+
+-- p is kept under each live number from p on and below c
+abbrev pub keeping : ℕ → ℕ → World → List Step
+keeping p c w = keeping_from w.snapshots p (c - p) p

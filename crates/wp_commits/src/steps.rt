@@ -1,0 +1,334 @@
+//! The steps of the machine that the calls make, each as what it leaves of the seat.
+ghost use Rattle.std.specs.Prelude.{◌≡◌, ◌≤◌, ◌<◌, ℕ, true, List, [], ◌∷◌, length, Some, IfSome, OnOk};
+ghost use Rattle.std.specs.Option.{option_map};
+ghost use Rattle.wp_judge.specs.Words.{numbers_of};
+ghost use Rattle.wp_model.specs.Decision.{decision_of};
+ghost use Rattle.wp_model.specs.PreparedTables.{PreparedTables, commits_with};
+ghost use Rattle.wp_model.specs.Snapshots.{Snapshots, ChangesWhere, overlaps, after_keep};
+ghost use Rattle.wp_core.specs.Cache.{pair_at};
+ghost use Rattle.wp_core.specs.Changes.{held_without};
+ghost use Rattle.wp_core.specs.Lists.{IsIn};
+ghost use Rattle.wp_core.specs.Tables.{writes, prepared, snapshots, with_moved, NoneDelayed, NoOldCommits};
+ghost use Rattle.wp_core.specs.Turns.{prepared_turn, snapshots_turn};
+ghost use Rattle.wp_core.specs.Sound.Prepared.{IsPairAt, IsInOldCommits};
+ghost use Rattle.wp_core.specs.Sound.Views.{IsApart};
+ghost use Rattle.wp_core.specs.Steps as step;
+ghost use Rattle.wp_core.specs.Views.{words_stay, delayed_flag_stays, old_flag_stays};
+ghost use Rattle.wp_rule.specs.Knows.{Holding, Noted, KnowsFact};
+ghost use Rattle.wp_shared.specs.Seats.{place_at};
+ghost use Rattle.wp_commits.specs.Cleared.{IsUnentered};
+ghost use Rattle.wp_commits.specs.Making.{delaying, keeping};
+ghost use Rattle.wp_commits.specs.Notes.{noting, is_flag, is_of_words, GoesOn, FlagTells, DelayedFlagTells, OldFlagTells};
+
+use std::alloc::AllocError;
+use std::marker::Brand;
+use std::sync::Wait;
+use wp_guarded::{Log, Part};
+use wp_judge::unpack;
+use wp_machine::{Fact, Turn};
+use wp_model::Seq;
+use wp_outside::Disk;
+use wp_prepared::Prepared;
+use wp_rule::Moves;
+use wp_shared::{Held, Seat, Shared};
+use wp_snaps::Snaps;
+
+// ---- what the words are
+
+/// The evicted bound, which nobody else changes while the seat holds the write turn.
+pub fn bound<D: Disk + Drop>(store: &Shared<D>, seat: &mut Seat<D>) -> Seq
+    requires { seat.old.table ≡ store.now.table }
+    ensures same { seat.new ≡ seat.old }
+    ensures bound { (bound : ℕ) (words : List ℕ) → Noted seat.old.knows (words_stay bound words) → result ≡ bound }
+{
+    store.max(seat)
+}
+
+/// The pair of the word at this place, if it has one. It is published.
+pub fn pair<D: Disk + Drop>(
+    store: &Shared<D>,
+    seat: &mut Seat<D>,
+    log: &Log<D>,
+    place: usize,
+) -> Option<(Seq, Seq)>
+    requires seat { seat.old.table ≡ store.now.table }
+    requires held { IsIn (writes log.now.table) seat.old.knows.held }
+    requires within { place < store.now.cells }
+    requires words { (bound : ℕ) × (words : List ℕ) × Noted seat.old.knows (words_stay bound words) }
+    requires unentered { IsUnentered seat.old.knows store.now.cells log.now.table }
+    ensures same { seat.new ≡ seat.old }
+    ensures pair { (bound : ℕ) (words : List ℕ) → Noted seat.old.knows (words_stay bound words) → result ≡ option_map numbers_of (pair_at words place) }
+    ensures decided { IfSome result (λ r. IsPairAt log.now.table.history store.now.cells place (record { number = r.0; decision = r.1 }) × (r.1 ≤ length log.now.table.history)) }
+    ensures cells { (bound : ℕ) (words : List ℕ) → Noted seat.old.knows (words_stay bound words) → length words ≡ store.now.cells }
+{
+    unpack(store.word(seat, place))
+}
+
+// ---- notes
+
+/// Notes the fact, which the seat knows, as the steps that are picked say.
+fn note_by<D: Disk + Drop, J: Moves>(store: &Shared<D>, seat: &mut Seat<D>, fact: &Fact)
+    requires seat { (seat.old.table ≡ store.now.table) × (seat.old.knows.live ≡ true) }
+    requires place { J.place ≡ place_at store.now seat.old.by }
+    requires steps { J.steps ≡ (λ w. step.note fact.now ∷ []) }
+    requires known { KnowsFact seat.old.knows fact.now }
+    ensures { seat.new ≡ noting fact.now seat.old }
+{
+    store.make::<J>(seat);
+}
+
+/// Notes the fact, which the seat knows.
+pub fn note<D: Disk + Drop>(store: &Shared<D>, seat: &mut Seat<D>, fact: &Fact)
+    requires seat { (seat.old.table ≡ store.now.table) × (seat.old.knows.live ≡ true) }
+    requires known { KnowsFact seat.old.knows fact.now }
+    ensures { seat.new ≡ noting fact.now seat.old }
+{
+    note_by::<D, Brand>(store, seat, fact);
+}
+
+// ---- the prepared turn
+
+/// Waits for the prepared turn, and takes it with its tables.
+pub fn take_prepared<D: Disk + Drop, R: Wait>(store: &Shared<D>, rt: &R, seat: &mut Seat<D>) -> Prepared
+    requires { (seat.old.table ≡ store.now.table) × (seat.old.knows.live ≡ true) }
+    ensures seat { GoesOn is_flag (prepared result ∷ seat.old.knows.held) (1 ∷ seat.old.turns) seat.old seat.new }
+    ensures flag { DelayedFlagTells seat.new.knows result }
+{
+    store.take(rt, seat, Turn::Prepared).into_prepared()
+}
+
+/// Gives the prepared turn, which was taken last, with its tables.
+pub fn give_prepared<D: Disk + Drop>(store: &Shared<D>, seat: &mut Seat<D>, tables: Prepared)
+    requires seat { seat.old.table ≡ store.now.table }
+    requires held { IsIn (prepared tables) seat.old.knows.held }
+    requires turns { (others : List ℕ) × (seat.old.turns ≡ 1 ∷ others) }
+    requires flag { DelayedFlagTells seat.old.knows tables }
+    ensures { (others : List ℕ) → seat.old.turns ≡ 1 ∷ others → GoesOn is_flag (held_without seat.old.knows.held prepared_turn) others seat.old seat.new }
+{
+    store.give(
+        seat,
+        Held {
+            part: Part::Prepared(tables),
+        },
+    );
+}
+
+/// Says by the delayed flag whether nothing is delayed.
+fn put_delayed_flag<D: Disk + Drop>(store: &Shared<D>, seat: &mut Seat<D>, none: bool)
+    requires seat { seat.old.table ≡ store.now.table }
+    requires none { Holding seat.old.knows prepared (λ t. none ≡ true → NoneDelayed t) }
+    ensures seat { GoesOn is_flag seat.old.knows.held seat.old.turns seat.old seat.new }
+    ensures flag { FlagTells seat.new.knows delayed_flag_stays (none ≡ true) }
+{
+    store.store_delayed_flag(seat, u64::from(!none));
+}
+
+/// Puts the delayed flag up where something is delayed, and down where nothing is.
+fn fit_delayed_flag<D: Disk + Drop>(
+    store: &Shared<D>,
+    seat: &mut Seat<D>,
+    tables: &Prepared,
+    was_none: bool,
+)
+    requires seat { seat.old.table ≡ store.now.table }
+    requires held { Holding seat.old.knows prepared (λ t. NoneDelayed tables.now → NoneDelayed t) }
+    requires flag { FlagTells seat.old.knows delayed_flag_stays (was_none ≡ true) }
+    ensures seat { GoesOn is_flag seat.old.knows.held seat.old.turns seat.old seat.new }
+    ensures flag { DelayedFlagTells seat.new.knows tables.now }
+{
+    let none = tables.none_delayed();
+    if none == was_none {
+        return;
+    }
+    put_delayed_flag(store, seat, none);
+}
+
+/// Raises the evicted bound, in step with the tables: the numbers of the heap up to it are delayed ones there.
+fn raise_bound<D: Disk + Drop>(
+    store: &Shared<D>,
+    seat: &mut Seat<D>,
+    log: &Log<D>,
+    tables: &Prepared,
+    m: Seq,
+)
+    requires seat { seat.old.table ≡ store.now.table }
+    requires held { (t : PreparedTables) × (seat.old.knows.held ≡ prepared t ∷ writes log.now.table ∷ []) × (tables.now ≡ with_moved t m) }
+    requires rises { (bound : ℕ) × (words : List ℕ) × Noted seat.old.knows (words_stay bound words) × (bound ≤ m) }
+    requires published { m ≤ length log.now.table.history }
+    requires flag { DelayedFlagTells seat.old.knows tables.now }
+    ensures seat { GoesOn is_of_words (prepared tables.now ∷ writes log.now.table ∷ []) seat.old.turns seat.old seat.new }
+    ensures flag { DelayedFlagTells seat.new.knows tables.now }
+    ensures bound { (bound : ℕ) (words : List ℕ) → Noted seat.old.knows (words_stay bound words) → Noted seat.new.knows (words_stay m words) }
+{
+    store.store_max(seat, m);
+}
+
+/// Makes the pair a delayed commit, in step with the tables, where its number is prepared.
+fn add_delayed_commit<D: Disk + Drop, J: Moves>(
+    store: &Shared<D>,
+    seat: &mut Seat<D>,
+    log: &Log<D>,
+    tables: &Prepared,
+    p: Seq,
+    c: Seq,
+)
+    requires seat { seat.old.table ≡ store.now.table }
+    requires place { J.place ≡ place_at store.now seat.old.by }
+    requires steps { J.steps ≡ delaying (record { number = p; decision = c }) }
+    requires held { (t : PreparedTables) × (seat.old.knows.held ≡ prepared t ∷ writes log.now.table ∷ []) × (tables.now ≡ record t { delayed_commits = commits_with t p c }) }
+    requires decided { decision_of log.now.table.history p ≡ Some c }
+    requires flag { DelayedFlagTells seat.old.knows tables.now }
+    ensures { seat.new ≡ record seat.old { knows = record seat.old.knows { held = prepared tables.now ∷ writes log.now.table ∷ [] } } }
+{
+    store.make::<J>(seat);
+}
+
+/// Raises the evicted bound to this number. Those of the heap that it reaches become delayed ones, with the flag up.
+pub fn raise<D: Disk + Drop>(
+    store: &Shared<D>,
+    seat: &mut Seat<D>,
+    log: &Log<D>,
+    tables: &mut Prepared,
+    m: Seq,
+)
+    requires seat { seat.old.table ≡ store.now.table }
+    requires held { seat.old.knows.held ≡ prepared tables.old ∷ writes log.now.table ∷ [] }
+    requires rises { (bound : ℕ) × (words : List ℕ) × Noted seat.old.knows (words_stay bound words) × (bound ≤ m) }
+    requires published { m ≤ length log.now.table.history }
+    requires flag { DelayedFlagTells seat.old.knows tables.old }
+    ensures seat { GoesOn is_of_words (prepared tables.new ∷ writes log.now.table ∷ []) seat.old.turns seat.old seat.new }
+    ensures flag { DelayedFlagTells seat.new.knows tables.new }
+    ensures bound { (bound : ℕ) (words : List ℕ) → Noted seat.old.knows (words_stay bound words) → Noted seat.new.knows (words_stay m words) }
+{
+    let none = tables.none_delayed();
+    tables.advance(m);
+    fit_delayed_flag(store, seat, tables, none);
+    raise_bound(store, seat, log, tables, m);
+}
+
+/// Makes the pair a delayed commit where its number is prepared, with the flag up.
+pub fn delay<D: Disk + Drop>(
+    store: &Shared<D>,
+    seat: &mut Seat<D>,
+    log: &Log<D>,
+    tables: &mut Prepared,
+    p: Seq,
+    c: Seq,
+) -> Result<(), AllocError>
+    requires seat { seat.old.table ≡ store.now.table }
+    requires held { seat.old.knows.held ≡ prepared tables.old ∷ writes log.now.table ∷ [] }
+    requires decided { decision_of log.now.table.history p ≡ Some c }
+    requires flag { DelayedFlagTells seat.old.knows tables.old }
+    ensures seat { GoesOn is_flag (prepared tables.new ∷ writes log.now.table ∷ []) seat.old.turns seat.old seat.new }
+    ensures flag { DelayedFlagTells seat.new.knows tables.new }
+    ensures apart { OnOk result (IsApart tables.new (record { number = p; decision = c })) }
+{
+    let none = tables.none_delayed();
+    tables.note_evicted(p, c)?;
+    fit_delayed_flag(store, seat, tables, none);
+    add_delayed_commit::<D, Brand>(store, seat, log, tables, p, c);
+    Ok(())
+}
+
+// ---- the snapshots turn
+
+/// Waits for the snapshots turn, and takes it with its table.
+pub fn take_snaps<D: Disk + Drop, R: Wait>(store: &Shared<D>, rt: &R, seat: &mut Seat<D>) -> Snaps
+    requires { (seat.old.table ≡ store.now.table) × (seat.old.knows.live ≡ true) }
+    ensures seat { GoesOn is_flag (snapshots result ∷ seat.old.knows.held) (2 ∷ seat.old.turns) seat.old seat.new }
+    ensures flag { OldFlagTells seat.new.knows result }
+{
+    store.take(rt, seat, Turn::Snapshots).into_snaps()
+}
+
+/// Gives the snapshots turn, which was taken last, with its table.
+pub fn give_snaps<D: Disk + Drop>(store: &Shared<D>, seat: &mut Seat<D>, snaps: Snaps)
+    requires seat { seat.old.table ≡ store.now.table }
+    requires held { IsIn (snapshots snaps) seat.old.knows.held }
+    requires turns { (others : List ℕ) × (seat.old.turns ≡ 2 ∷ others) }
+    requires flag { OldFlagTells seat.old.knows snaps }
+    ensures { (others : List ℕ) → seat.old.turns ≡ 2 ∷ others → GoesOn is_flag (held_without seat.old.knows.held snapshots_turn) others seat.old seat.new }
+{
+    store.give(
+        seat,
+        Held {
+            part: Part::Snapshots(snaps),
+        },
+    );
+}
+
+/// Says by the old-map flag whether the old commit map is empty.
+fn put_old_flag<D: Disk + Drop>(store: &Shared<D>, seat: &mut Seat<D>, none: bool)
+    requires seat { seat.old.table ≡ store.now.table }
+    requires none { Holding seat.old.knows snapshots (λ m. none ≡ true → NoOldCommits m) }
+    ensures seat { GoesOn is_flag seat.old.knows.held seat.old.turns seat.old seat.new }
+    ensures flag { FlagTells seat.new.knows old_flag_stays (none ≡ true) }
+{
+    store.store_old_flag(seat, u64::from(!none));
+}
+
+/// Puts the old-map flag up where the old commit map has something.
+fn fit_old_flag<D: Disk + Drop>(
+    store: &Shared<D>,
+    seat: &mut Seat<D>,
+    snaps: &Snaps,
+    was_none: bool,
+)
+    requires seat { seat.old.table ≡ store.now.table }
+    requires held { Holding seat.old.knows snapshots (λ m. NoOldCommits snaps.now → NoOldCommits m) }
+    requires flag { FlagTells seat.old.knows old_flag_stays (was_none ≡ true) }
+    ensures seat { GoesOn is_flag seat.old.knows.held seat.old.turns seat.old seat.new }
+    ensures flag { OldFlagTells seat.new.knows snaps.now }
+{
+    let none = snaps.none_kept();
+    if none == was_none {
+        return;
+    }
+    put_old_flag(store, seat, none);
+}
+
+/// Keeps the pair under each live number that overlaps it, in step with the table.
+fn keep_old_commit<D: Disk + Drop, J: Moves>(
+    store: &Shared<D>,
+    seat: &mut Seat<D>,
+    log: &Log<D>,
+    snaps: &Snaps,
+    p: Seq,
+    c: Seq,
+)
+    requires seat { seat.old.table ≡ store.now.table }
+    requires place { J.place ≡ place_at store.now seat.old.by }
+    requires steps { J.steps ≡ keeping p c }
+    requires held { (m : Snapshots) × (seat.old.knows.held ≡ snapshots m ∷ writes log.now.table ∷ []) × ChangesWhere (overlaps p c) (after_keep p) m snaps.now }
+    requires ordered { p ≤ c }
+    requires decided { decision_of log.now.table.history p ≡ Some c }
+    requires flag { OldFlagTells seat.old.knows snaps.now }
+    ensures { seat.new ≡ record seat.old { knows = record seat.old.knows { held = snapshots snaps.now ∷ writes log.now.table ∷ [] } } }
+{
+    store.make::<J>(seat);
+}
+
+/// Keeps the pair under each live number that overlaps it, with the flag up where there is one.
+pub fn keep<D: Disk + Drop>(
+    store: &Shared<D>,
+    seat: &mut Seat<D>,
+    log: &Log<D>,
+    snaps: &mut Snaps,
+    p: Seq,
+    c: Seq,
+) -> Result<(), AllocError>
+    requires seat { seat.old.table ≡ store.now.table }
+    requires held { seat.old.knows.held ≡ snapshots snaps.old ∷ writes log.now.table ∷ [] }
+    requires ordered { p ≤ c }
+    requires decided { decision_of log.now.table.history p ≡ Some c }
+    requires flag { OldFlagTells seat.old.knows snaps.old }
+    ensures seat { GoesOn is_flag (snapshots snaps.new ∷ writes log.now.table ∷ []) seat.old.turns seat.old seat.new }
+    ensures flag { OldFlagTells seat.new.knows snaps.new }
+    ensures kept { OnOk result (IsInOldCommits snaps.new p c) }
+{
+    let none = snaps.none_kept();
+    snaps.keep_evicted(p, c)?;
+    fit_old_flag(store, seat, snaps, none);
+    keep_old_commit::<D, Brand>(store, seat, log, snaps, p, c);
+    Ok(())
+}
