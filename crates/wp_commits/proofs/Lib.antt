@@ -4,3 +4,6 @@ pub mod Goes
 pub mod Turns
 pub mod Delayed
 pub mod Kept
+pub mod Going
+pub mod Entering
+pub mod Clears

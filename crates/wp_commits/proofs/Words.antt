@@ -12,14 +12,13 @@ use Rattle.wp_core.specs.Lists.{IsIn}
 use Rattle.wp_core.specs.Tables.{WriteTable, Content, writes}
 use Rattle.wp_core.specs.Views.{words_stay}
 use Rattle.wp_core.specs.World.{World}
-use Rattle.wp_core.specs.Sound.Prepared.{IsPairAt}
 use Rattle.wp_core.proofs.HistoryLaws.{decision_was, decision_within, decided_by_last}
 use Rattle.wp_core.proofs.ReaderFacts.{pair_ordered}
 use Rattle.wp_rule.specs.Knows.{Noted}
 use Rattle.wp_rule.specs.Words.{IsAt}
 use Rattle.wp_rule.proofs.Knows.{at_sound, held_is, noted_is}
 use Rattle.wp_shared.specs.Seats.{SharedState, SeatState, Stands, place_at}
-use Rattle.wp_commits.specs.Cleared.{IsUnentered}
+use Rattle.wp_commits.specs.Cleared.{IsThere, IsUnentered}
 
 abbrev table_in : WriteTable → Content → WriteTable
 table_in t (writes d) = d
@@ -53,7 +52,7 @@ module _ {D : Type 0} (z : SharedState D) (s t : SeatState) (d : WriteTable) (pl
     pub pair_is : (o : Option (ℕ × ℕ)) → o ≡ option_map numbers_of (pair_of word) → o ≡ option_map numbers_of (pair_at words place)
     pair_is o is = is ∙ ap (λ (x : ℕ). option_map numbers_of (pair_of x)) (at.2 ∙ ap (λ (x : List ℕ). slice_index x place) cache_is)
 
-    pub words_are : length words ≡ z.cells
+    words_are : length words ≡ z.cells
     words_are = sym (ap length cache_is) ∙ stands.cells
 
   module _ (held : IsIn (writes d) s.knows.held) (within : place < z.cells) (noted : (bound : ℕ) × (words : List ℕ) × Noted s.knows (words_stay bound words)) (unentered : IsUnentered s.knows z.cells d) where
@@ -61,7 +60,7 @@ module _ {D : Type 0} (z : SharedState D) (s t : SeatState) (d : WriteTable) (pl
     table_is = ap (table_in d) (held_is (place_at z s.by) s.knows at.0 (writes d) stands held).1
 
     abbrev IsFound : ℕ × ℕ → Type 0
-    IsFound r = IsPairAt d.history z.cells place (record { number = r.0; decision = r.1 }) × (r.1 ≤ length d.history)
+    IsFound r = IsThere s.knows d.history place r.0 r.1
 
     at_pair : (pair : CommitPair) → pair_of word ≡ Some pair → IsFound (numbers_of pair)
     at_pair pair is =
@@ -72,7 +71,18 @@ module _ {D : Type 0} (z : SharedState D) (s t : SeatState) (d : WriteTable) (pl
         let decided : decision_of (extended d.history d.pending) pair.number ≡ Some pair.decision = subst (λ (x : WriteTable). decision_of (extended x.history x.pending) pair.number ≡ Some pair.decision) table_is known.decided in
         let in_words : pair_at noted.1 place ≡ Some pair = sym (ap (λ (x : List ℕ). pair_at x place) (cache_is noted.0 noted.1 noted.2)) ∙ there in
         let other : pending_pair d.history d.pending ≡ Some pair → ⊥ = λ e. unentered pair e noted.0 noted.1 noted.2 (ap (pair_at noted.1) placed ∙ in_words) in
-        let old = decided_without d.history d.pending pair other (pair_ordered word pair is).1 decided in (record { placed = placed; decided = old.0 }, old.1)
+        let ordered = pair_ordered word pair is in
+        let old = decided_without d.history d.pending pair other ordered.1 decided in
+        record {
+          bound = noted.0;
+          words = noted.1;
+          noted = noted.2;
+          within = subst (λ (n : ℕ). place < n) (sym (words_are noted.0 noted.1 noted.2)) within;
+          there = in_words;
+          published = old.1;
+          decided = old.0;
+          ordered = ordered.1;
+        }
 
     by_pair : (o : Option CommitPair) → pair_of word ≡ o → IfSome (option_map numbers_of o) IsFound
     by_pair None is = tt
@@ -80,3 +90,7 @@ module _ {D : Type 0} (z : SharedState D) (s t : SeatState) (d : WriteTable) (pl
 
     pub found : (o : Option (ℕ × ℕ)) → o ≡ option_map numbers_of (pair_of word) → IfSome o IsFound
     found o is = subst (λ (x : Option (ℕ × ℕ)). IfSome x IsFound) (sym is) (by_pair (pair_of word) refl)
+
+-- a cache has words
+pub some_words : {D : Type 0} (z : SharedState D) (t : SeatState) (found : ℕ) → (w : World) × Stands z t w × (found ≡ w.max_evicted) → 1 ≤ z.cells
+some_words z t found at = subst (λ (n : ℕ). 1 ≤ n) at.1.cells (at_sound (place_at z t.by) t.knows at.0 at.1).cache.some

@@ -10,7 +10,11 @@ step_of cells = max (cells / 100) 1
 abbrev pub bound_past : ℕ → ℕ → ℕ → ℕ
 bound_past cells published decision = if nat_lt decision published then min (decision + step_of cells) (published - 1) else decision
 
--- the bound once the pair of a word, if there is one, may go: it is no less than before, and no less than the decision
+-- the bound once a pair with this decision may go: it is no less than before, and no less than the decision
+abbrev pub raised : ℕ → ℕ → ℕ → ℕ → ℕ
+raised cells published bound decision = if nat_le decision bound then bound else bound_past cells published decision
+
+-- the bound once the pair of a word, if there is one, may go
 abbrev pub bound_after : ℕ → ℕ → ℕ → Option CommitPair → ℕ
 bound_after cells published bound None = bound
-bound_after cells published bound (Some pair) = if nat_le pair.decision bound then bound else bound_past cells published pair.decision
+bound_after cells published bound (Some pair) = raised cells published bound pair.decision

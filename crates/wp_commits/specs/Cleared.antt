@@ -1,5 +1,7 @@
 -- Words of the commit cache that are ready to be replaced.
-use Rattle.std.specs.Prelude.{◌≡◌, ◌≢◌, ◌⊎◌, ℕ, ◌≤◌, List, length, Option, Some, None}
+use Rattle.std.specs.Prelude.{◌≡◌, ◌≢◌, ◌⊎◌, ℕ, ◌<◌, ◌≤◌, List, [], ◌∷◌, length, Option, Some, None}
+use Rattle.wp_model.specs.declared.entry.Entry.{Entry}
+use Rattle.wp_model.specs.Decision.{decision_of}
 use Rattle.wp_judge.specs.Words.{CommitPair}
 use Rattle.wp_core.specs.Cache.{cache_place, pair_at}
 use Rattle.wp_core.specs.Entries.{pending_pair}
@@ -7,6 +9,17 @@ use Rattle.wp_core.specs.Tables.{WriteTable}
 use Rattle.wp_core.specs.Views.{passed, in_old_commits, apart, words_stay}
 use Rattle.wp_core.specs.World.{Actor}
 use Rattle.wp_rule.specs.Knows.{Noted}
+
+-- The word at this place has the pair (p, c), which is published.
+pub record IsThere (a : Actor) (history : List Entry) (place p c : ℕ) : Type 0 where
+  pub bound : ℕ
+  pub words : List ℕ
+  pub noted : Noted a (words_stay bound words)
+  pub within : place < length words
+  pub there : pair_at words place ≡ Some (record { number = p; decision = c })
+  pub published : c ≤ length history
+  pub decided : decision_of history p ≡ Some c
+  pub ordered : p ≤ c
 
 -- the word at this place has no pair
 abbrev pub IsEmptyAt : Actor → ℕ → Type 0
@@ -31,3 +44,12 @@ abbrev pub IsUnentered : Actor → ℕ → WriteTable → Type 0
 IsUnentered a cells t =
     (pair : CommitPair) → pending_pair t.history t.pending ≡ Some pair
     → (bound : ℕ) (words : List ℕ) → Noted a (words_stay bound words) → pair_at words (cache_place cells pair.number) ≢ Some pair
+
+-- the numbers whose pairs are to be entered, in order
+abbrev pub others_in : Option ℕ → List ℕ
+others_in None = []
+others_in (Some p) = p ∷ []
+
+abbrev pub numbers_in : Option ℕ → Option ℕ → List ℕ
+numbers_in None second = []
+numbers_in (Some p) second = p ∷ others_in second

@@ -1,11 +1,22 @@
--- Which steps of the machine follow a table that has changed.
+-- Which steps of the machine a call makes at one load.
 use Rattle.std.specs.Prelude.{ℕ, zero, suc, ◌-◌, Bool, true, false, List, [], ◌∷◌, if◌then◌else◌, is_some}
 use Rattle.std.specs.FinMap as finite
 use Rattle.wp_model.specs.PreparedTables.{is_prepared}
 use Rattle.wp_model.specs.Snapshots.{Snapshots}
 use Rattle.wp_judge.specs.Words.{CommitPair}
-use Rattle.wp_core.specs.Steps.{Step, add_delayed_commit, add_old_commit}
+use Rattle.wp_core.specs.Steps.{Step, add_delayed_commit, add_old_commit, note}
+use Rattle.wp_core.specs.Views.{passed, in_old_commits, apart}
 use Rattle.wp_core.specs.World.{World}
+use Rattle.wp_shared.specs.Seats.{SeatState}
+use Rattle.wp_commits.specs.Notes.{noting}
+
+-- that the pair of the word at this place may go is noted
+abbrev pub noting_all : ℕ → CommitPair → List Step
+noting_all place pair = note (passed place pair) ∷ note (in_old_commits place pair) ∷ note (apart place pair) ∷ []
+
+-- the seat with these notes
+abbrev pub noted_all : ℕ → CommitPair → SeatState → SeatState
+noted_all place pair s = noting (apart place pair) (noting (in_old_commits place pair) (noting (passed place pair) s))
 
 -- the pair becomes a delayed commit where its number is prepared
 abbrev pub delaying : CommitPair → World → List Step

@@ -22,9 +22,9 @@ is_of_words other = is_flag other
 
 -- one of those, or that the pair of the word at this place may go
 abbrev pub is_of_place : ℕ → Fact → Bool
-is_of_place place (passed i pair) = i == place
-is_of_place place (in_old_commits i pair) = i == place
-is_of_place place (apart i pair) = i == place
+is_of_place place (passed i pair) = place == i
+is_of_place place (in_old_commits i pair) = place == i
+is_of_place place (apart i pair) = place == i
 is_of_place place other = is_of_words other
 
 -- ---- a seat that goes on

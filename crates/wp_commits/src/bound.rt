@@ -7,8 +7,7 @@ use wp_model::Seq;
 /// The bound once a pair with this decision goes that the bound has not reached, in a cache of so many words. It rises by a
 /// hundredth of the cache at once, so that not each pair that goes raises it anew.
 pub fn bound_past(cells: u64, published: Seq, decision: Seq) -> Seq
-    requires cells { cells < 2 ^ 32 }
-    requires decision { decision < 2 ^ 32 }
+    requires { decision < 2 ^ 32 }
     ensures { result ≡ bound_past cells published decision }
 {
     if decision < published {

@@ -2,5 +2,7 @@
 #![tactic(auto)]
 
 mod bound;
+mod clear;
+mod cleared;
 pub mod laws;
 mod steps;

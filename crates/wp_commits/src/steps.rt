@@ -5,26 +5,27 @@ ghost use Rattle.wp_judge.specs.Words.{numbers_of};
 ghost use Rattle.wp_model.specs.Decision.{decision_of};
 ghost use Rattle.wp_model.specs.PreparedTables.{PreparedTables, commits_with};
 ghost use Rattle.wp_model.specs.Snapshots.{Snapshots, ChangesWhere, overlaps, after_keep};
-ghost use Rattle.wp_core.specs.Cache.{pair_at};
+ghost use Rattle.wp_core.specs.Cache.{cache_place, pair_at, with_pair};
+ghost use Rattle.wp_core.specs.Entries.{pending_pair};
 ghost use Rattle.wp_core.specs.Changes.{held_without};
 ghost use Rattle.wp_core.specs.Lists.{IsIn};
 ghost use Rattle.wp_core.specs.Tables.{writes, prepared, snapshots, with_moved, NoneDelayed, NoOldCommits};
 ghost use Rattle.wp_core.specs.Turns.{prepared_turn, snapshots_turn};
-ghost use Rattle.wp_core.specs.Sound.Prepared.{IsPairAt, IsInOldCommits};
+ghost use Rattle.wp_core.specs.Sound.Prepared.{IsInOldCommits};
 ghost use Rattle.wp_core.specs.Sound.Views.{IsApart};
 ghost use Rattle.wp_core.specs.Steps as step;
-ghost use Rattle.wp_core.specs.Views.{words_stay, delayed_flag_stays, old_flag_stays};
+ghost use Rattle.wp_core.specs.Views.{passed, in_old_commits, apart, words_stay, delayed_flag_stays, old_flag_stays};
 ghost use Rattle.wp_rule.specs.Knows.{Holding, Noted, KnowsFact};
 ghost use Rattle.wp_shared.specs.Seats.{place_at};
-ghost use Rattle.wp_commits.specs.Cleared.{IsUnentered};
-ghost use Rattle.wp_commits.specs.Making.{delaying, keeping};
-ghost use Rattle.wp_commits.specs.Notes.{noting, is_flag, is_of_words, GoesOn, FlagTells, DelayedFlagTells, OldFlagTells};
+ghost use Rattle.wp_commits.specs.Cleared.{IsThere, IsCleared, IsUnentered};
+ghost use Rattle.wp_commits.specs.Making.{noting_all, noted_all, delaying, keeping};
+ghost use Rattle.wp_commits.specs.Notes.{noting, is_flag, is_of_words, is_of_place, GoesOn, FlagTells, DelayedFlagTells, OldFlagTells};
 
 use std::alloc::AllocError;
 use std::marker::Brand;
 use std::sync::Wait;
 use wp_guarded::{Log, Part};
-use wp_judge::unpack;
+use wp_judge::{pack, unpack};
 use wp_machine::{Fact, Turn};
 use wp_model::Seq;
 use wp_outside::Disk;
@@ -58,10 +59,20 @@ pub fn pair<D: Disk + Drop>(
     requires unentered { IsUnentered seat.old.knows store.now.cells log.now.table }
     ensures same { seat.new ≡ seat.old }
     ensures pair { (bound : ℕ) (words : List ℕ) → Noted seat.old.knows (words_stay bound words) → result ≡ option_map numbers_of (pair_at words place) }
-    ensures decided { IfSome result (λ r. IsPairAt log.now.table.history store.now.cells place (record { number = r.0; decision = r.1 }) × (r.1 ≤ length log.now.table.history)) }
-    ensures cells { (bound : ℕ) (words : List ℕ) → Noted seat.old.knows (words_stay bound words) → length words ≡ store.now.cells }
+    ensures there { IfSome result (λ r. IsThere seat.old.knows log.now.table.history place r.0 r.1) }
 {
     unpack(store.word(seat, place))
+}
+
+/// The place of the number's word. That there are words, each world of the store shows.
+pub fn place_of<D: Disk + Drop>(store: &Shared<D>, seat: &mut Seat<D>, p: Seq) -> usize
+    requires { seat.old.table ≡ store.now.table }
+    ensures same { seat.new ≡ seat.old }
+    ensures place { result ≡ cache_place store.now.cells p }
+    ensures within { result < store.now.cells }
+{
+    store.max(seat);
+    (p % store.cells() as u64) as usize
 }
 
 // ---- notes
@@ -84,6 +95,118 @@ pub fn note<D: Disk + Drop>(store: &Shared<D>, seat: &mut Seat<D>, fact: &Fact)
     ensures { seat.new ≡ noting fact.now seat.old }
 {
     note_by::<D, Brand>(store, seat, fact);
+}
+
+/// Notes that the bound has come to the decision of the pair of the word at this place.
+pub fn note_passed<D: Disk + Drop>(
+    store: &Shared<D>,
+    seat: &mut Seat<D>,
+    log: &Log<D>,
+    place: usize,
+    p: Seq,
+    c: Seq,
+)
+    requires seat { (seat.old.table ≡ store.now.table) × (seat.old.knows.live ≡ true) }
+    requires held { IsIn (writes log.now.table) seat.old.knows.held }
+    requires passed { (k : IsThere seat.old.knows log.now.table.history place p c) × (c ≤ k.bound) }
+    ensures { seat.new ≡ noting (passed place (record { number = p; decision = c })) seat.old }
+{
+    note(store, seat, &Fact::of(wp_machine::Noted::Passed(place, p, c)));
+}
+
+/// Notes that no prepared table needs the pair of the word at this place any more.
+pub fn note_apart<D: Disk + Drop>(
+    store: &Shared<D>,
+    seat: &mut Seat<D>,
+    log: &Log<D>,
+    tables: &Prepared,
+    place: usize,
+    p: Seq,
+    c: Seq,
+)
+    requires seat { (seat.old.table ≡ store.now.table) × (seat.old.knows.live ≡ true) }
+    requires held { seat.old.knows.held ≡ prepared tables.now ∷ writes log.now.table ∷ [] }
+    requires there { IsThere seat.old.knows log.now.table.history place p c }
+    requires apart { IsApart tables.now (record { number = p; decision = c }) }
+    ensures { seat.new ≡ noting (apart place (record { number = p; decision = c })) seat.old }
+{
+    note(store, seat, &Fact::of(wp_machine::Noted::Apart(place, p, c)));
+}
+
+/// Notes that the old commit map has the pair of the word at this place under each live number that overlaps it.
+pub fn note_in_old_commits<D: Disk + Drop>(
+    store: &Shared<D>,
+    seat: &mut Seat<D>,
+    log: &Log<D>,
+    snaps: &Snaps,
+    place: usize,
+    p: Seq,
+    c: Seq,
+)
+    requires seat { (seat.old.table ≡ store.now.table) × (seat.old.knows.live ≡ true) }
+    requires held { seat.old.knows.held ≡ snapshots snaps.now ∷ writes log.now.table ∷ [] }
+    requires there { IsThere seat.old.knows log.now.table.history place p c }
+    requires kept { IsInOldCommits snaps.now p c }
+    ensures { seat.new ≡ noting (in_old_commits place (record { number = p; decision = c })) seat.old }
+{
+    note(store, seat, &Fact::of(wp_machine::Noted::InOldCommits(place, p, c)));
+}
+
+fn note_own_by<D: Disk + Drop, J: Moves>(
+    store: &Shared<D>,
+    seat: &mut Seat<D>,
+    log: &Log<D>,
+    place: usize,
+    n: Seq,
+)
+    requires seat { (seat.old.table ≡ store.now.table) × (seat.old.knows.live ≡ true) }
+    requires place { J.place ≡ place_at store.now seat.old.by }
+    requires steps { J.steps ≡ (λ w. noting_all place (record { number = n; decision = n })) }
+    requires held { IsIn (writes log.now.table) seat.old.knows.held }
+    requires passed { (k : IsThere seat.old.knows log.now.table.history place n n) × (n ≤ k.bound) }
+    ensures { seat.new ≡ noted_all place (record { number = n; decision = n }) seat.old }
+{
+    store.make::<J>(seat);
+}
+
+/// Notes that the pair of the word at this place may go, which is that of a version that decided itself: it overlaps no
+/// snapshot, and its number is no prepared one.
+pub fn note_own<D: Disk + Drop>(
+    store: &Shared<D>,
+    seat: &mut Seat<D>,
+    log: &Log<D>,
+    place: usize,
+    n: Seq,
+)
+    requires seat { (seat.old.table ≡ store.now.table) × (seat.old.knows.live ≡ true) }
+    requires held { IsIn (writes log.now.table) seat.old.knows.held }
+    requires passed { (k : IsThere seat.old.knows log.now.table.history place n n) × (n ≤ k.bound) }
+    ensures { seat.new ≡ noted_all place (record { number = n; decision = n }) seat.old }
+{
+    note_own_by::<D, Brand>(store, seat, log, place, n);
+}
+
+// ---- a word
+
+/// Stores the word of the pending entry's pair at its place, which is cleared.
+pub fn put_word<D: Disk + Drop>(
+    store: &Shared<D>,
+    seat: &mut Seat<D>,
+    log: &Log<D>,
+    place: usize,
+    p: Seq,
+    c: Seq,
+)
+    requires seat { seat.old.table ≡ store.now.table }
+    requires held { IsIn (writes log.now.table) seat.old.knows.held }
+    requires place { (place ≡ cache_place store.now.cells p) × (place < store.now.cells) }
+    requires pending { pending_pair log.now.table.history log.now.table.pending ≡ Some (record { number = p; decision = c }) }
+    requires cleared { IsCleared seat.old.knows place }
+    ensures seat { GoesOn (is_of_place place) seat.old.knows.held seat.old.turns seat.old seat.new }
+    ensures words { (bound : ℕ) (words : List ℕ) → Noted seat.old.knows (words_stay bound words) → Noted seat.new.knows (words_stay bound (with_pair words (record { number = p; decision = c }))) }
+{
+    log.told();
+    store.store_word(seat, place, pack(p, c));
 }
 
 // ---- the prepared turn

@@ -1,12 +1,10 @@
-use Rattle.wp_commits.proofs.Words.{pair_is, words_are, found}
+use Rattle.wp_commits.proofs.Words.{pair_is, found}
 use Rattle.wp_commits.proofs.steps.pair.Goals as goal
 
 pub returns-clause-pair : goal.returns-clause-pair
-returns-clause-pair g c bound words there = pair_is c.args.store.now c.args.seat.now c.word.new.seat c.args.log.now.table c.args.place c.word.result c.word.ensures.same c.word.ensures.found bound words there c.unpack.result c.unpack.ensures.pair
+returns-clause-pair g c bound words there =
+    pair_is c.args.store.now c.args.seat.now c.word.new.seat c.args.log.now.table c.args.place c.word.result c.word.ensures.same c.word.ensures.found bound words there c.unpack.result c.unpack.ensures.pair
 
-pub returns-clause-decided : goal.returns-clause-decided
-returns-clause-decided g c =
+pub returns-clause-there : goal.returns-clause-there
+returns-clause-there g c =
     found c.args.store.now c.args.seat.now c.word.new.seat c.args.log.now.table c.args.place c.word.result c.word.ensures.same c.word.ensures.found c.requires.held c.requires.within c.requires.words c.requires.unentered c.unpack.result c.unpack.ensures.pair
-
-pub returns-clause-cells : goal.returns-clause-cells
-returns-clause-cells g c bound words there = words_are c.args.store.now c.args.seat.now c.word.new.seat c.args.log.now.table c.args.place c.word.result c.word.ensures.same c.word.ensures.found bound words there

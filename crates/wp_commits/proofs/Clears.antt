@@ -1,0 +1,86 @@
+-- How the steps of clearing a word follow each other.
+use Rattle.std.proofs.Common.{◌≡◌, inl, inr, ⊎_elim, ℕ, ◌+◌, ◌-◌, ◌/◌, ◌<◌, ◌≤◌, min, max, nat_le, nat_lt, Bool, true, false, cond, List, [], ◌∷◌, length, refl, sym, subst, ap, ◌∙◌, Option, Some, None, arith}
+use Rattle.std.specs.Prelude.{Result, Ok, Err, OnOk}
+use Rattle.std.specs.Option.{option_map}
+use Rattle.std.proofs.lemmas.Bool.Decides.{nat_tests}
+use Rattle.wp_model.specs.declared.entry.Entry.{Entry}
+use Rattle.wp_judge.specs.Words.{CommitPair, numbers_of}
+use Rattle.wp_core.specs.Tables.{Content}
+use Rattle.wp_core.specs.Views.{Fact, passed, in_old_commits, apart, words_stay}
+use Rattle.wp_core.specs.World.{Actor}
+use Rattle.wp_core.proofs.Tests.{same_some}
+use Rattle.wp_rule.specs.Knows.{Noted}
+use Rattle.wp_shared.specs.Seats.{SeatState}
+use Rattle.wp_commits.specs.Bound.{step_of, bound_past, raised}
+use Rattle.wp_commits.specs.Cleared.{IsThere}
+use Rattle.wp_commits.specs.Notes.{is_flag, is_of_words, noting, GoesOn}
+use Rattle.wp_commits.proofs.Goes.{holds_now, notes, then, wider, flags_too}
+
+-- ---- the bound
+
+pub raised_low : (cells published bound decision : ℕ) → decision ≤ bound → raised cells published bound decision ≡ bound
+raised_low cells published bound decision low = let e : nat_le decision bound ≡ true = grind (arith, nat_tests) in ap (λ (b : Bool). cond b bound (bound_past cells published decision)) e
+
+pub raised_high : (cells published bound decision : ℕ) → bound < decision → raised cells published bound decision ≡ bound_past cells published decision
+raised_high cells published bound decision high = let e : nat_le decision bound ≡ false = grind (arith, nat_tests) in ap (λ (b : Bool). cond b bound (bound_past cells published decision)) e
+
+pub past_reaches : (cells published decision : ℕ) → decision ≤ bound_past cells published decision
+past_reaches cells published decision = by_test (nat_lt decision published) refl
+  where
+    by_test : (b : Bool) → nat_lt decision published ≡ b → decision ≤ cond b (min (decision + max (cells / 100) 1) (published - 1)) decision
+    by_test true e = let lt : decision < published = grind (arith, nat_tests) in omega (arith, lt)
+    by_test false e = omega arith
+
+pub past_published : (cells published decision : ℕ) → decision ≤ published → bound_past cells published decision ≤ published
+past_published cells published decision low = by_test (nat_lt decision published)
+  where
+    by_test : (b : Bool) → cond b (min (decision + max (cells / 100) 1) (published - 1)) decision ≤ published
+    by_test true = omega arith
+    by_test false = low
+
+pub raised_reaches : (cells published bound decision : ℕ) → decision ≤ raised cells published bound decision
+raised_reaches cells published bound decision = by_test (nat_le decision bound) refl
+  where
+    by_test : (b : Bool) → nat_le decision bound ≡ b → decision ≤ cond b bound (bound_past cells published decision)
+    by_test true e = grind (arith, nat_tests)
+    by_test false e = past_reaches cells published decision
+
+-- ---- the pair that is there
+
+pub still_there : (a b : Actor) (history : List Entry) (place p c : ℕ) (k : IsThere a history place p c) (bound : ℕ) → Noted b (words_stay bound k.words) → IsThere b history place p c
+still_there a b history place p c k bound there =
+    record { bound = bound; words = k.words; noted = there; within = k.within; there = k.there; published = k.published; decided = k.decided; ordered = k.ordered }
+
+pub no_pair : (o : Option CommitPair) → None ≡ option_map numbers_of o → o ≡ None
+no_pair None e = refl
+no_pair (Some pair) e = let no : None ≡ Some (numbers_of pair) = e in absurd (cc)
+
+pub that_pair : (o : Option CommitPair) (p c : ℕ) → Some (p, c) ≡ option_map numbers_of o → o ≡ Some (record { number = p; decision = c })
+that_pair None p c e = let no : Some (p, c) ≡ None = e in absurd (cc)
+that_pair (Some pair) p c e =
+    let same : (p, c) ≡ numbers_of pair = same_some (p, c) (numbers_of pair) e in
+    ap (λ (x : ℕ × ℕ). Some (record { number = x.0; decision = x.1 })) (sym same)
+
+pub on_ok : {T E : Type 0} (r : Result T E) (P Q : Type 0) → (P → Q) → OnOk r P → OnOk r Q
+on_ok (Ok x) P Q f h = f h
+on_ok (Err e) P Q f h = tt
+
+-- ---- one after another
+
+module _ (s t u v : SeatState) where
+  -- a note is made, and then what is no note of words is kept
+  pub then_noted : (test : Fact → Bool) (fact : Fact) (h : List Content) (m : List ℕ) → GoesOn test h m s t → u ≡ noting fact t → GoesOn test h m s u
+  then_noted test fact h m first is =
+      then test s t u h h m m first
+      (subst (λ (x : List Content × List ℕ). GoesOn test x.0 x.1 t u) (λ i. (holds_now test s t h m first i, ap (λ (y : SeatState). y.turns) first.same i)) (notes test t u u fact is))
+
+  pub then_flags : (h k : List Content) (m : List ℕ) → GoesOn is_of_words h m s t → GoesOn is_flag k t.turns t u → GoesOn is_of_words k m s u
+  then_flags h k m first second =
+      then is_of_words s t u h k m m first
+      (subst (λ (n : List ℕ). GoesOn is_of_words k n t u) (ap (λ (y : SeatState). y.turns) first.same) (wider is_flag t u u is_of_words k t.turns flags_too second))
+
+pub still_noted : (s t : SeatState) (new fact : Fact) → t ≡ noting new s → Noted s.knows fact → Noted t.knows fact
+still_noted s t new fact is there = subst (λ (x : SeatState). Noted x.knows fact) (sym is) (inr there)
+
+pub just_noted : (s t : SeatState) (new : Fact) → t ≡ noting new s → Noted t.knows new
+just_noted s t new is = subst (λ (x : SeatState). Noted x.knows new) (sym is) (inl refl)

@@ -1,0 +1,73 @@
+-- Storing the word of the pending entry's pair.
+use Rattle.std.proofs.Common.{◌≡◌, inl, inr, ⊎_elim, ℕ, suc, ◌==◌, ◌<◌, ◌≤◌, ◌^◌, Bool, true, false, true≢false, List, [], ◌∷◌, ◌++◌, length, length-append, refl, sym, subst, ap, ◌∙◌, Some, None, arith}
+use Rattle.wp_model.specs.declared.entry.Entry.{Entry}
+use Rattle.wp_model.specs.Legal.{IsLegal}
+use Rattle.wp_judge.specs.Words.{CommitPair}
+use Rattle.wp_core.specs.Cache.{cache_place, with_pair}
+use Rattle.wp_core.specs.Entries.{pending_pair}
+use Rattle.wp_core.specs.Lists.{IsIn}
+use Rattle.wp_core.specs.Notes.{ends}
+use Rattle.wp_core.specs.Steps.{store_word, note}
+use Rattle.wp_core.specs.Tables.{WriteTable, writes}
+use Rattle.wp_core.specs.Views.{Fact, passed, in_old_commits, apart, words_stay, delayed_flag_stays, old_flag_stays}
+use Rattle.wp_core.specs.World.{Actor, World}
+use Rattle.wp_core.proofs.HistoryLaws.{first_legal, next_decides}
+use Rattle.wp_rule.specs.Knows.{Noted, KnowsCleared}
+use Rattle.wp_rule.specs.Moves.{MayStep, Moved, storing_word}
+use Rattle.wp_rule.specs.Words.{Place}
+use Rattle.wp_rule.proofs.Knows.{noted_is}
+use Rattle.wp_rule.proofs.Needed.{needed}
+use Rattle.wp_rule.proofs.Outlasting.{outlasts}
+use Rattle.wp_shared.specs.Seats.{SeatState}
+use Rattle.wp_commits.specs.Cleared.{IsEmptyAt, MayGoFrom, IsCleared}
+use Rattle.wp_commits.specs.Notes.{is_of_place, GoesOn}
+use Rattle.wp_commits.proofs.Goes.{goes_with}
+use Rattle.wp_commits.proofs.Turns.{note_ends_none}
+
+-- the pair of an entry that may come next has a word
+pub record HasWord (pair : CommitPair) : Type 0 where
+  pub positive : 1 ≤ pair.number
+  pub ordered : pair.number ≤ pair.decision
+  pub few : pair.decision < 2 ^ 32
+
+pub next_has_word : (history pending : List Entry) (pair : CommitPair) → IsLegal (history ++ pending) → pending_pair history pending ≡ Some pair → HasWord pair
+next_has_word history [] pair legal e = let no : None ≡ Some pair = e in absurd (cc)
+next_has_word history (entry ∷ others) pair legal e =
+    let one = first_legal history entry others legal in
+    let k = next_decides history entry pair one e in
+    let few = one.few in
+    let last = k.last in
+    record { positive = k.positive; ordered = k.ordered; few = omega (arith, few, last, length-append history (entry ∷ [])) }
+
+cleared_known : (a : Actor) (cells place : ℕ) (pair : CommitPair) → place ≡ cache_place cells pair.number → IsCleared a place → KnowsCleared a cells pair
+cleared_known a cells place pair is cleared = at (subst (IsCleared a) is cleared)
+  where
+    at : IsCleared a (cache_place cells pair.number) → KnowsCleared a cells pair
+    at (inl none) = inl none
+    at (inr gone) = inr (gone.0, gone.1.0, gone.1.1, gone.1.2)
+
+pub may_put : (p : Place) (a : Actor) (d : WriteTable) (place : ℕ) (pair : CommitPair) → IsIn (writes d) a.held → place ≡ cache_place p.cells pair.number → pending_pair d.history d.pending ≡ Some pair → IsCleared a place → MayStep p a (store_word pair)
+may_put p a d place pair held is pending cleared w k = needed p a w k (store_word pair) (record { table = d; held = held; so_is = (pending, cleared_known a p.cells place pair is cleared) })
+
+word_ends : (history : List Entry) (words place : ℕ) (pair : CommitPair) (fact : Fact) → place ≡ cache_place words pair.number → is_of_place place fact ≡ false → ends history words (store_word pair) fact ≡ false
+word_ends history words place pair (passed i gone) is e = ap (λ (x : ℕ). x == i) (sym is) ∙ e
+word_ends history words place pair (in_old_commits i gone) is e = ap (λ (x : ℕ). x == i) (sym is) ∙ e
+word_ends history words place pair (apart i gone) is e = ap (λ (x : ℕ). x == i) (sym is) ∙ e
+word_ends history words place pair (words_stay bound cache) is e = absurd (true≢false e)
+word_ends history words place pair (delayed_flag_stays value) is e = absurd (true≢false e)
+word_ends history words place pair (old_flag_stays value) is e = absurd (true≢false e)
+word_ends history words place pair other is e = refl
+
+module _ (p : Place) (so : World → Type 0) (s t : SeatState) (place : ℕ) (pair : CommitPair) (is : place ≡ cache_place p.cells pair.number) (same : (t.table ≡ s.table) × (t.by ≡ s.by) × (t.turns ≡ s.turns)) (moved : Moved p (storing_word pair) so s.knows t.knows) where
+  pub put : GoesOn (is_of_place place) s.knows.held s.turns s t
+  put = let w = moved.world in record {
+    same = goes_with s t s.knows.held s.turns _ same.0 same.1 same.2 moved.actor;
+    noted = λ fact other there. subst (λ (x : Actor). Noted x fact) (sym moved.actor)
+        (outlasts fact (storing_word pair w) w p.by s.knows there ((λ x. x), word_ends w.writes.history (length w.cache) place pair fact (is ∙ ap (λ (n : ℕ). cache_place n pair.number) (sym moved.before.cells)) other, ((λ x. x), note_ends_none w.writes.history (length w.cache) (words_stay w.max_evicted (with_pair w.cache pair)) fact, tt)));
+  }
+
+  pub words_put : (bound : ℕ) (words : List ℕ) → Noted s.knows (words_stay bound words) → Noted t.knows (words_stay bound (with_pair words pair))
+  words_put bound words there =
+      let w = moved.world in
+      let k = (noted_is p s.knows w (words_stay bound words) moved.before there).is_so in
+      subst (λ (x : Actor). Noted x (words_stay bound (with_pair words pair))) (sym moved.actor) (inl (λ i. words_stay (k.0 i) (with_pair (k.1 i) pair)))
