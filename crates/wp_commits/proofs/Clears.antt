@@ -8,11 +8,11 @@ use Rattle.wp_judge.specs.Words.{CommitPair, numbers_of}
 use Rattle.wp_core.specs.Tables.{Content}
 use Rattle.wp_core.specs.Views.{Fact, passed, in_old_commits, apart, words_stay}
 use Rattle.wp_core.specs.World.{Actor}
-use Rattle.wp_core.proofs.Tests.{same_some}
+use Rattle.wp_core.proofs.Tests.{same_some, some_none}
 use Rattle.wp_rule.specs.Knows.{Noted}
 use Rattle.wp_shared.specs.Seats.{SeatState}
-use Rattle.wp_commits.specs.Bound.{step_of, bound_past, raised}
-use Rattle.wp_commits.specs.Cleared.{IsThere}
+use Rattle.wp_commits.specs.Bound.{bound_past, raised, bound_after}
+use Rattle.wp_commits.specs.Cleared.{IsThere, IsCleared}
 use Rattle.wp_commits.specs.Notes.{is_flag, is_of_words, noting, GoesOn}
 use Rattle.wp_commits.proofs.Goes.{holds_now, notes, then, wider, flags_too}
 
@@ -51,12 +51,19 @@ pub still_there : (a b : Actor) (history : List Entry) (place p c : ℕ) (k : Is
 still_there a b history place p c k bound there =
     record { bound = bound; words = k.words; noted = there; within = k.within; there = k.there; published = k.published; decided = k.decided; ordered = k.ordered }
 
+-- and the bound has come to its decision there
+pub passed_there : (a b : Actor) (history : List Entry) (place p c cells published : ℕ) (k : IsThere a history place p c) → Noted b (words_stay (raised cells published k.bound c) k.words) → (l : IsThere b history place p c) × (c ≤ l.bound)
+passed_there a b history place p c cells published k there = (
+  record { bound = raised cells published k.bound c; words = k.words; noted = there; within = k.within; there = k.there; published = k.published; decided = k.decided; ordered = k.ordered },
+  raised_reaches cells published k.bound c,
+)
+
 pub no_pair : (o : Option CommitPair) → None ≡ option_map numbers_of o → o ≡ None
 no_pair None e = refl
 no_pair (Some pair) e = let no : None ≡ Some (numbers_of pair) = e in absurd (cc)
 
 pub that_pair : (o : Option CommitPair) (p c : ℕ) → Some (p, c) ≡ option_map numbers_of o → o ≡ Some (record { number = p; decision = c })
-that_pair None p c e = let no : Some (p, c) ≡ None = e in absurd (cc)
+that_pair None p c e = absurd (some_none (p, c) e)
 that_pair (Some pair) p c e =
     let same : (p, c) ≡ numbers_of pair = same_some (p, c) (numbers_of pair) e in
     ap (λ (x : ℕ × ℕ). Some (record { number = x.0; decision = x.1 })) (sym same)
@@ -84,3 +91,23 @@ still_noted s t new fact is there = subst (λ (x : SeatState). Noted x.knows fac
 
 pub just_noted : (s t : SeatState) (new : Fact) → t ≡ noting new s → Noted t.knows new
 just_noted s t new is = subst (λ (x : SeatState). Noted x.knows new) (sym is) (inl refl)
+
+-- what is cleared stays so where the words stay
+pub still_cleared : (test : Fact → Bool) (s t : SeatState) (h : List Content) (m : List ℕ) (place : ℕ) → ((fact : Fact) → is_of_words fact ≡ false → test fact ≡ false) → GoesOn test h m s t
+    → ((bound : ℕ) (words : List ℕ) → Noted s.knows (words_stay bound words) → (b : ℕ) × Noted t.knows (words_stay b words)) → IsCleared s.knows place → IsCleared t.knows place
+still_cleared test s t h m place less k words (inl empty) = let w = words empty.0 empty.1 empty.2 in inl (w.0, empty.1, w.1, empty.3)
+still_cleared test s t h m place less k words (inr gone) =
+    inr (gone.0, (k.noted (passed place gone.0) (less (passed place gone.0) refl) gone.1.0, k.noted (in_old_commits place gone.0) (less (in_old_commits place gone.0) refl) gone.1.1, k.noted (apart place gone.0) (less (apart place gone.0) refl) gone.1.2))
+
+-- a pair goes at once where the bound has come to its decision
+pub after_again : (cells published bound : ℕ) (o : Option CommitPair) → bound_after cells published (bound_after cells published bound o) o ≡ bound_after cells published bound o
+after_again cells published bound None = refl
+after_again cells published bound (Some pair) = raised_low cells published (raised cells published bound pair.decision) pair.decision (raised_reaches cells published bound pair.decision)
+
+pub after_rises : (cells published bound : ℕ) (o : Option CommitPair) → bound ≤ bound_after cells published bound o
+after_rises cells published bound None = omega arith
+after_rises cells published bound (Some pair) = by_test (nat_le pair.decision bound) refl
+  where
+    by_test : (b : Bool) → nat_le pair.decision bound ≡ b → bound ≤ cond b bound (bound_past cells published pair.decision)
+    by_test true e = omega arith
+    by_test false e = let high : bound < pair.decision = grind (arith, nat_tests) in let reach = past_reaches cells published pair.decision in omega (arith, high, reach)

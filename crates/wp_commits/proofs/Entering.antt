@@ -1,9 +1,11 @@
 -- Storing the word of the pending entry's pair.
-use Rattle.std.proofs.Common.{◌≡◌, inl, inr, ⊎_elim, ℕ, suc, ◌==◌, ◌<◌, ◌≤◌, ◌^◌, Bool, true, false, true≢false, List, [], ◌∷◌, ◌++◌, length, length-append, refl, sym, subst, ap, ◌∙◌, Some, None, arith}
+use Rattle.std.proofs.Common.{◌≡◌, ◌≢◌, inl, inr, slice_index, ℕ, suc, ◌==◌, ◌<◌, ◌≤◌, ◌^◌, Bool, true, false, true≢false, List, [], ◌∷◌, ◌++◌, length, length-append, refl, sym, subst, ap, ◌∙◌, Some, None, arith}
 use Rattle.wp_model.specs.declared.entry.Entry.{Entry}
 use Rattle.wp_model.specs.Legal.{IsLegal}
-use Rattle.wp_judge.specs.Words.{CommitPair}
-use Rattle.wp_core.specs.Cache.{cache_place, with_pair}
+use Rattle.std.proofs.lemmas.Bool.{ne_eqb}
+use Rattle.std.proofs.lemmas.List.{get_or-set_same, get_or-set_other}
+use Rattle.wp_judge.specs.Words.{CommitPair, word_of, pair_of}
+use Rattle.wp_core.specs.Cache.{cache_place, pair_at, with_pair}
 use Rattle.wp_core.specs.Entries.{pending_pair}
 use Rattle.wp_core.specs.Lists.{IsIn}
 use Rattle.wp_core.specs.Notes.{ends}
@@ -71,3 +73,25 @@ module _ (p : Place) (so : World → Type 0) (s t : SeatState) (place : ℕ) (pa
       let w = moved.world in
       let k = (noted_is p s.knows w (words_stay bound words) moved.before there).is_so in
       subst (λ (x : Actor). Noted x (words_stay bound (with_pair words pair))) (sym moved.actor) (inl (λ i. words_stay (k.0 i) (with_pair (k.1 i) pair)))
+
+  -- the pair is there
+  pub put_there : place < p.cells → pair_of (word_of pair) ≡ Some pair → (bound : ℕ) (words : List ℕ) → Noted t.knows (words_stay bound words) → pair_at words place ≡ Some pair
+  put_there within back bound words there =
+      let w = moved.world in
+      let cache : with_pair w.cache pair ≡ words = (noted_is p t.knows _ (words_stay bound words) moved.after there).is_so.1 in
+      let here : cache_place (length w.cache) pair.number ≡ place = ap (λ (n : ℕ). cache_place n pair.number) moved.before.cells ∙ sym is in
+      let low : cache_place (length w.cache) pair.number < length w.cache = let e : length w.cache ≡ p.cells = moved.before.cells in omega (arith, e, here, within) in
+      let stored : slice_index (with_pair w.cache pair) (cache_place (length w.cache) pair.number) ≡ word_of pair = get_or-set_same w.cache (cache_place (length w.cache) pair.number) (word_of pair) _ low in
+      ap (λ (x : List ℕ). pair_at x place) (sym cache) ∙ (ap (pair_at (with_pair w.cache pair)) (sym here) ∙ (ap pair_of stored ∙ back))
+
+  -- what is cleared elsewhere stays so
+  pub put_elsewhere : (i : ℕ) → i ≢ place → IsCleared s.knows i → IsCleared t.knows i
+  put_elsewhere i ne (inl empty) =
+      let w = moved.world in
+      let cache : w.cache ≡ empty.1 = (noted_is p s.knows w (words_stay empty.0 empty.1) moved.before empty.2).is_so.1 in
+      let here : cache_place (length empty.1) pair.number ≡ place = ap (λ (n : ℕ). cache_place n pair.number) (sym (ap length cache) ∙ moved.before.cells) ∙ sym is in
+      let other : slice_index (with_pair empty.1 pair) i ≡ slice_index empty.1 i = get_or-set_other empty.1 (cache_place (length empty.1) pair.number) i (word_of pair) _ (λ e. ne (e ∙ here)) in
+      inl (empty.0, with_pair empty.1 pair, words_put empty.0 empty.1 empty.2, ap pair_of other ∙ empty.3)
+  put_elsewhere i ne (inr gone) =
+      let other : (place == i) ≡ false = ne_eqb place i (λ e. ne (sym e)) in
+      inr (gone.0, (put.noted (passed i gone.0) other gone.1.0, put.noted (in_old_commits i gone.0) other gone.1.1, put.noted (apart i gone.0) other gone.1.2))

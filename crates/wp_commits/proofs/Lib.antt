@@ -7,3 +7,4 @@ pub mod Kept
 pub mod Going
 pub mod Entering
 pub mod Clears
+pub mod TakenOut

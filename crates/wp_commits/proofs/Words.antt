@@ -1,5 +1,5 @@
 -- What loads of the bound and of words tell a seat that holds the write turn.
-use Rattle.std.proofs.Common.{◌≡◌, ◌≢◌, inl, inr, ℕ, suc, ◌<◌, ◌≤◌, List, [], ◌∷◌, ◌++◌, length, slice_index, refl, sym, subst, ap, ◌∙◌, Option, Some, None, length-append, arith}
+use Rattle.std.proofs.Common.{◌≡◌, ◌≢◌, ◌⊎◌, inl, inr, ⊎_elim, ℕ, suc, ◌<◌, ◌≤◌, List, [], ◌∷◌, ◌++◌, length, slice_index, refl, sym, subst, ap, ◌∙◌, Option, Some, None, length-append, arith}
 use Rattle.std.specs.Prelude.{IfSome}
 use Rattle.std.specs.Option.{option_map}
 use Rattle.std.proofs.lemmas.Bool.{cases_lt}
@@ -10,15 +10,17 @@ use Rattle.wp_core.specs.Cache.{cache_place, pair_at}
 use Rattle.wp_core.specs.Entries.{extended, pending_pair}
 use Rattle.wp_core.specs.Lists.{IsIn}
 use Rattle.wp_core.specs.Tables.{WriteTable, Content, writes}
-use Rattle.wp_core.specs.Views.{words_stay}
+use Rattle.wp_core.specs.Views.{passed, words_stay}
 use Rattle.wp_core.specs.World.{World}
+use Rattle.wp_core.specs.Sound.Prepared.{IsPairAt}
 use Rattle.wp_core.proofs.HistoryLaws.{decision_was, decision_within, decided_by_last}
-use Rattle.wp_core.proofs.ReaderFacts.{pair_ordered}
+use Rattle.wp_core.proofs.Tests.{same_some, none_some}
+use Rattle.wp_core.proofs.ReaderFacts.{pair_ordered, extended_was}
 use Rattle.wp_rule.specs.Knows.{Noted}
 use Rattle.wp_rule.specs.Words.{IsAt}
 use Rattle.wp_rule.proofs.Knows.{at_sound, held_is, noted_is}
 use Rattle.wp_shared.specs.Seats.{SharedState, SeatState, Stands, place_at}
-use Rattle.wp_commits.specs.Cleared.{IsThere, IsUnentered}
+use Rattle.wp_commits.specs.Cleared.{IsThere, IsCleared, DecidesItself, IsReadyAt, IsUnentered}
 
 abbrev table_in : WriteTable → Content → WriteTable
 table_in t (writes d) = d
@@ -55,34 +57,62 @@ module _ {D : Type 0} (z : SharedState D) (s t : SeatState) (d : WriteTable) (pl
     words_are : length words ≡ z.cells
     words_are = sym (ap length cache_is) ∙ stands.cells
 
-  module _ (held : IsIn (writes d) s.knows.held) (within : place < z.cells) (noted : (bound : ℕ) × (words : List ℕ) × Noted s.knows (words_stay bound words)) (unentered : IsUnentered s.knows z.cells d) where
+  module _ (held : IsIn (writes d) s.knows.held) (within : place < z.cells) (noted : (bound : ℕ) × (words : List ℕ) × Noted s.knows (words_stay bound words)) (ready : IsUnentered s.knows z.cells d ⊎ IsReadyAt s.knows (length d.history) place) where
     table_is : at.0.writes ≡ d
     table_is = ap (table_in d) (held_is (place_at z s.by) s.knows at.0 (writes d) stands held).1
 
     abbrev IsFound : ℕ × ℕ → Type 0
     IsFound r = IsThere s.knows d.history place r.0 r.1
 
-    at_pair : (pair : CommitPair) → pair_of word ≡ Some pair → IsFound (numbers_of pair)
-    at_pair pair is =
-        let w = at.0 in
-        let there : pair_at w.cache place ≡ Some pair = ap pair_of (sym at.2) ∙ is in
-        let known = (at_sound (place_at z s.by) s.knows w stands).cache.pairs place pair (subst (λ (n : ℕ). place < n) (sym stands.cells) within) there in
-        let placed : cache_place z.cells pair.number ≡ place = ap (λ (n : ℕ). cache_place n pair.number) (sym stands.cells) ∙ known.placed in
-        let decided : decision_of (extended d.history d.pending) pair.number ≡ Some pair.decision = subst (λ (x : WriteTable). decision_of (extended x.history x.pending) pair.number ≡ Some pair.decision) table_is known.decided in
-        let in_words : pair_at noted.1 place ≡ Some pair = sym (ap (λ (x : List ℕ). pair_at x place) (cache_is noted.0 noted.1 noted.2)) ∙ there in
-        let other : pending_pair d.history d.pending ≡ Some pair → ⊥ = λ e. unentered pair e noted.0 noted.1 noted.2 (ap (pair_at noted.1) placed ∙ in_words) in
-        let ordered = pair_ordered word pair is in
-        let old = decided_without d.history d.pending pair other ordered.1 decided in
-        record {
-          bound = noted.0;
-          words = noted.1;
-          noted = noted.2;
-          within = subst (λ (n : ℕ). place < n) (sym (words_are noted.0 noted.1 noted.2)) within;
-          there = in_words;
-          published = old.1;
-          decided = old.0;
-          ordered = ordered.1;
-        }
+    module _ (pair : CommitPair) (is : pair_of word ≡ Some pair) where
+      there : pair_at at.0.cache place ≡ Some pair
+      there = ap pair_of (sym at.2) ∙ is
+
+      known : IsPairAt (extended at.0.writes.history at.0.writes.pending) (length at.0.cache) place pair
+      known = (at_sound (place_at z s.by) s.knows at.0 stands).cache.pairs place pair (subst (λ (n : ℕ). place < n) (sym stands.cells) within) there
+
+      decided : decision_of (extended d.history d.pending) pair.number ≡ Some pair.decision
+      decided = subst (λ (x : WriteTable). decision_of (extended x.history x.pending) pair.number ≡ Some pair.decision) table_is known.decided
+
+      ordered : (1 ≤ pair.number) × (pair.number ≤ pair.decision)
+      ordered = pair_ordered word pair is
+
+      in_words : (bound : ℕ) (words : List ℕ) → Noted s.knows (words_stay bound words) → pair_at words place ≡ Some pair
+      in_words bound words noted = sym (ap (λ (x : List ℕ). pair_at x place) (cache_is bound words noted)) ∙ there
+
+      unentered_low : IsUnentered s.knows z.cells d → pair.decision ≤ length d.history
+      unentered_low un =
+          (decided_without d.history d.pending pair
+          (λ e. let u = un pair e in
+              let placed : cache_place z.cells pair.number ≡ place = ap (λ (n : ℕ). cache_place n pair.number) (sym stands.cells) ∙ known.placed in u.3 (ap (pair_at u.1) placed ∙ in_words u.0 u.1 u.2))
+          ordered.1 decided).1
+
+      cleared_low : IsCleared s.knows place → pair.decision ≤ length d.history
+      cleared_low (inl empty) = absurd (none_some (pair_at empty.1 place) pair empty.3 (in_words empty.0 empty.1 empty.2))
+      cleared_low (inr gone) =
+          let k = (noted_is (place_at z s.by) s.knows at.0 (passed place gone.0) stands gone.1.0).is_so in
+          let same : gone.0 ≡ pair = same_some gone.0 pair (sym k.there ∙ there) in
+          subst (λ (x : WriteTable × CommitPair). x.1.decision ≤ length x.0.history) (λ i. (table_is i, same i)) k.published_by
+
+      itself_low : DecidesItself s.knows (length d.history) place → pair.decision ≤ length d.history
+      itself_low k =
+          let same : record { number = k.2; decision = k.2 } ≡ pair = same_some (record { number = k.2; decision = k.2 }) pair (sym k.5 ∙ in_words k.0 k.1 k.3) in subst (λ (x : CommitPair). x.decision ≤ length d.history) same k.4
+
+      low : pair.decision ≤ length d.history
+      low = ⊎_elim unentered_low (λ (r : IsReadyAt s.knows (length d.history) place). ⊎_elim cleared_low itself_low r) ready
+
+      at_pair : IsFound (numbers_of pair)
+      at_pair =
+          let number = ordered.1 in let most = low in record {
+            bound = noted.0;
+            words = noted.1;
+            noted = noted.2;
+            within = subst (λ (n : ℕ). place < n) (sym (words_are noted.0 noted.1 noted.2)) within;
+            there = in_words noted.0 noted.1 noted.2;
+            published = low;
+            decided = extended_was d.history d.pending pair.number pair.decision (omega (arith, number, most)) low decided;
+            ordered = ordered.1;
+          }
 
     by_pair : (o : Option CommitPair) → pair_of word ≡ o → IfSome (option_map numbers_of o) IsFound
     by_pair None is = tt

@@ -18,3 +18,7 @@ raised cells published bound decision = if nat_le decision bound then bound else
 abbrev pub bound_after : ℕ → ℕ → ℕ → Option CommitPair → ℕ
 bound_after cells published bound None = bound
 bound_after cells published bound (Some pair) = raised cells published bound pair.decision
+
+-- the bound once the pairs of two words may go, one after the other
+abbrev pub bound_for_both : ℕ → ℕ → ℕ → Option CommitPair → Option CommitPair → ℕ
+bound_for_both cells published bound first second = bound_after cells published (bound_after cells published bound first) second

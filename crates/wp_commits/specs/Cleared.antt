@@ -43,7 +43,16 @@ DecidesItself a published place =
 abbrev pub IsUnentered : Actor → ℕ → WriteTable → Type 0
 IsUnentered a cells t =
     (pair : CommitPair) → pending_pair t.history t.pending ≡ Some pair
-    → (bound : ℕ) (words : List ℕ) → Noted a (words_stay bound words) → pair_at words (cache_place cells pair.number) ≢ Some pair
+    → (bound : ℕ) × (words : List ℕ) × Noted a (words_stay bound words) × (pair_at words (cache_place cells pair.number) ≢ Some pair)
+
+-- the word at this place may be replaced, or that takes no more than the bound
+abbrev pub IsReadyAt : Actor → ℕ → ℕ → Type 0
+IsReadyAt a published place = IsCleared a place ⊎ DecidesItself a published place
+
+-- The pair may be entered: it is the pending entry's, and its place is ready.
+pub record IsReady (a : Actor) (cells : ℕ) (t : WriteTable) (pair : CommitPair) : Type 0 where
+  pub pending : pending_pair t.history t.pending ≡ Some pair
+  pub word : IsReadyAt a (length t.history) (cache_place cells pair.number)
 
 -- the numbers whose pairs are to be entered, in order
 abbrev pub others_in : Option ℕ → List ℕ

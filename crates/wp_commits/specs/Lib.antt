@@ -1,4 +1,5 @@
 pub mod Bound
 pub mod Notes
 pub mod Making
+pub mod Gone
 pub mod Cleared

@@ -4,7 +4,7 @@ ghost use Rattle.wp_core.specs.Cache.{cache_place, pair_at};
 ghost use Rattle.wp_core.specs.Tables.{writes, prepared, snapshots};
 ghost use Rattle.wp_core.specs.Views.{passed, in_old_commits, apart, words_stay};
 ghost use Rattle.wp_rule.specs.Knows.{Noted};
-ghost use Rattle.wp_commits.specs.Bound.{raised, bound_after};
+ghost use Rattle.wp_commits.specs.Bound.{raised, bound_after, bound_for_both};
 ghost use Rattle.wp_commits.specs.Cleared.{IsThere, IsCleared, IsUnentered};
 ghost use Rattle.wp_commits.specs.Notes.{is_flag, is_of_words, GoesOn, DelayedFlagTells, OldFlagTells};
 
@@ -212,4 +212,59 @@ pub fn clear_for<D: Disk + Drop, R: Wait>(
     let place = steps::place_of(store, seat, p);
     clear_place(store, rt, seat, log, place)?;
     Ok(Cleared::of(p))
+}
+
+/// Makes the word at the second place ready too, where that is another one than the first, which is cleared.
+fn clear_second<D: Disk + Drop, R: Wait>(
+    store: &Shared<D>,
+    rt: &R,
+    seat: &mut Seat<D>,
+    log: &Log<D>,
+    first: usize,
+    second: usize,
+) -> Result<(), AllocError>
+    requires seat { (seat.old.table ≡ store.now.table) × (seat.old.knows.live ≡ true) }
+    requires held { seat.old.knows.held ≡ writes log.now.table ∷ [] }
+    requires words { (bound : ℕ) × (words : List ℕ) × Noted seat.old.knows (words_stay bound words) }
+    requires unentered { IsUnentered seat.old.knows store.now.cells log.now.table }
+    requires within { second < store.now.cells }
+    requires cleared { IsCleared seat.old.knows first }
+    ensures seat { GoesOn is_of_words (writes log.now.table ∷ []) seat.old.turns seat.old seat.new }
+    ensures bound { (before bound : ℕ) (words : List ℕ) → Noted seat.old.knows (words_stay bound words) → bound ≡ bound_after store.now.cells (length log.now.table.history) before (pair_at words first)
+        → Noted seat.new.knows (words_stay (bound_after store.now.cells (length log.now.table.history) bound (pair_at words second)) words) }
+    ensures cleared { OnOk result (IsCleared seat.new.knows first × IsCleared seat.new.knows second) }
+{
+    if first == second {
+        return Ok(());
+    }
+    clear_place(store, rt, seat, log, second)
+}
+
+/// Makes the words ready for the two pairs of a rollback: that of the Undo `r`, which decides itself, and then that of the Prepare
+/// `p`, which the Close behind it decides. Where they have the same place it is cleared for the first, and that one will go again
+/// for the second. All memory that this needs is taken here.
+pub fn clear_pair<D: Disk + Drop, R: Wait>(
+    store: &Shared<D>,
+    rt: &R,
+    seat: &mut Seat<D>,
+    log: &Log<D>,
+    r: Seq,
+    p: Seq,
+) -> Result<Cleared, AllocError>
+    requires seat { (seat.old.table ≡ store.now.table) × (seat.old.knows.live ≡ true) }
+    requires held { seat.old.knows.held ≡ writes log.now.table ∷ [] }
+    requires words { (bound : ℕ) × (words : List ℕ) × Noted seat.old.knows (words_stay bound words) }
+    requires unentered { IsUnentered seat.old.knows store.now.cells log.now.table }
+    ensures seat { GoesOn is_of_words seat.old.knows.held seat.old.turns seat.old seat.new }
+    ensures rises { (bound : ℕ) (words : List ℕ) → Noted seat.old.knows (words_stay bound words) → (later : ℕ) × (bound ≤ later) × Noted seat.new.knows (words_stay later words) }
+    ensures bound { OnOk result ((bound : ℕ) (words : List ℕ) → Noted seat.old.knows (words_stay bound words)
+        → Noted seat.new.knows (words_stay (bound_for_both store.now.cells (length log.now.table.history) bound (pair_at words (cache_place store.now.cells r)) (pair_at words (cache_place store.now.cells p))) words)) }
+    ensures numbers { IfOk result (λ cleared. cleared ≡ r ∷ p ∷ []) }
+    ensures cleared { OnOk result (IsCleared seat.new.knows (cache_place store.now.cells r) × IsCleared seat.new.knows (cache_place store.now.cells p)) }
+{
+    let first = steps::place_of(store, seat, r);
+    let second = steps::place_of(store, seat, p);
+    clear_place(store, rt, seat, log, first)?;
+    clear_second(store, rt, seat, log, first, second)?;
+    Ok(Cleared::of_two(r, p))
 }

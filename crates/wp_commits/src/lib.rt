@@ -4,5 +4,7 @@
 mod bound;
 mod clear;
 mod cleared;
+mod enter;
 pub mod laws;
 mod steps;
+mod take_out;

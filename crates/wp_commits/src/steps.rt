@@ -1,5 +1,5 @@
 //! The steps of the machine that the calls make, each as what it leaves of the seat.
-ghost use Rattle.std.specs.Prelude.{◌≡◌, ◌≤◌, ◌<◌, ℕ, true, List, [], ◌∷◌, length, Some, IfSome, OnOk};
+ghost use Rattle.std.specs.Prelude.{◌≡◌, ◌≢◌, ◌⊎◌, ◌≤◌, ◌<◌, ℕ, true, List, [], ◌∷◌, length, Some, IfSome, OnOk};
 ghost use Rattle.std.specs.Option.{option_map};
 ghost use Rattle.wp_judge.specs.Words.{numbers_of};
 ghost use Rattle.wp_model.specs.Decision.{decision_of};
@@ -9,15 +9,17 @@ ghost use Rattle.wp_core.specs.Cache.{cache_place, pair_at, with_pair};
 ghost use Rattle.wp_core.specs.Entries.{pending_pair};
 ghost use Rattle.wp_core.specs.Changes.{held_without};
 ghost use Rattle.wp_core.specs.Lists.{IsIn};
-ghost use Rattle.wp_core.specs.Tables.{writes, prepared, snapshots, with_moved, NoneDelayed, NoOldCommits};
+ghost use Rattle.wp_core.specs.Tables.{writes, prepared, snapshots, without_prepared, with_moved, NoneDelayed, NoOldCommits};
 ghost use Rattle.wp_core.specs.Turns.{prepared_turn, snapshots_turn};
 ghost use Rattle.wp_core.specs.Sound.Prepared.{IsInOldCommits};
 ghost use Rattle.wp_core.specs.Sound.Views.{IsApart};
 ghost use Rattle.wp_core.specs.Steps as step;
 ghost use Rattle.wp_core.specs.Views.{passed, in_old_commits, apart, words_stay, delayed_flag_stays, old_flag_stays};
 ghost use Rattle.wp_rule.specs.Knows.{Holding, Noted, KnowsFact};
-ghost use Rattle.wp_shared.specs.Seats.{place_at};
-ghost use Rattle.wp_commits.specs.Cleared.{IsThere, IsCleared, IsUnentered};
+ghost use Rattle.wp_core.specs.World.{World};
+ghost use Rattle.wp_shared.specs.Seats.{SeatState, Stands, place_at};
+ghost use Rattle.wp_commits.specs.Gone.{IsGone};
+ghost use Rattle.wp_commits.specs.Cleared.{IsThere, IsCleared, IsReadyAt, IsUnentered};
 ghost use Rattle.wp_commits.specs.Making.{noting_all, noted_all, delaying, keeping};
 ghost use Rattle.wp_commits.specs.Notes.{noting, is_flag, is_of_words, is_of_place, GoesOn, FlagTells, DelayedFlagTells, OldFlagTells};
 
@@ -56,7 +58,7 @@ pub fn pair<D: Disk + Drop>(
     requires held { IsIn (writes log.now.table) seat.old.knows.held }
     requires within { place < store.now.cells }
     requires words { (bound : ℕ) × (words : List ℕ) × Noted seat.old.knows (words_stay bound words) }
-    requires unentered { IsUnentered seat.old.knows store.now.cells log.now.table }
+    requires published { IsUnentered seat.old.knows store.now.cells log.now.table ⊎ IsReadyAt seat.old.knows (length log.now.table.history) place }
     ensures same { seat.new ≡ seat.old }
     ensures pair { (bound : ℕ) (words : List ℕ) → Noted seat.old.knows (words_stay bound words) → result ≡ option_map numbers_of (pair_at words place) }
     ensures there { IfSome result (λ r. IsThere seat.old.knows log.now.table.history place r.0 r.1) }
@@ -204,6 +206,8 @@ pub fn put_word<D: Disk + Drop>(
     requires cleared { IsCleared seat.old.knows place }
     ensures seat { GoesOn (is_of_place place) seat.old.knows.held seat.old.turns seat.old seat.new }
     ensures words { (bound : ℕ) (words : List ℕ) → Noted seat.old.knows (words_stay bound words) → Noted seat.new.knows (words_stay bound (with_pair words (record { number = p; decision = c }))) }
+    ensures there { (bound : ℕ) (words : List ℕ) → Noted seat.new.knows (words_stay bound words) → pair_at words place ≡ Some (record { number = p; decision = c }) }
+    ensures elsewhere { (i : ℕ) → i ≢ place → IsCleared seat.old.knows i → IsCleared seat.new.knows i }
 {
     log.told();
     store.store_word(seat, place, pack(p, c));
@@ -351,6 +355,44 @@ pub fn delay<D: Disk + Drop>(
     fit_delayed_flag(store, seat, tables, none);
     add_delayed_commit::<D, Brand>(store, seat, log, tables, p, c);
     Ok(())
+}
+
+fn take_out_by<D: Disk + Drop, J: Moves>(
+    store: &Shared<D>,
+    seat: &mut Seat<D>,
+    tables: &Prepared,
+    p: Seq,
+)
+    requires seat { seat.old.table ≡ store.now.table }
+    requires place { J.place ≡ place_at store.now seat.old.by }
+    requires steps { J.steps ≡ (λ w. step.take_out p ∷ []) }
+    requires held { (t : PreparedTables) × (seat.old.knows.held ≡ prepared t ∷ []) × (tables.now ≡ without_prepared t p) }
+    requires decided { (c : ℕ) × (decision_of seat.old.knows.participant.seen p ≡ Some c) }
+    ensures seat { seat.new ≡ record seat.old { knows = record seat.old.knows { held = prepared tables.now ∷ [] } } }
+    ensures gone { (s : SeatState) × (w : World) × Stands store.now s w × IsGone w.prepared p }
+{
+    store.make::<J>(seat);
+}
+
+/// Takes the number, which is decided, out of all prepared tables, and puts the flag down where nothing is delayed any more.
+pub fn take_out<D: Disk + Drop>(
+    store: &Shared<D>,
+    seat: &mut Seat<D>,
+    tables: &mut Prepared,
+    p: Seq,
+)
+    requires seat { seat.old.table ≡ store.now.table }
+    requires held { seat.old.knows.held ≡ prepared tables.old ∷ [] }
+    requires decided { (c : ℕ) × (decision_of seat.old.knows.participant.seen p ≡ Some c) }
+    requires flag { DelayedFlagTells seat.old.knows tables.old }
+    ensures seat { GoesOn is_flag (prepared tables.new ∷ []) seat.old.turns seat.old seat.new }
+    ensures flag { DelayedFlagTells seat.new.knows tables.new }
+    ensures gone { (s : SeatState) × (w : World) × Stands store.now s w × IsGone w.prepared p }
+{
+    let none = tables.none_delayed();
+    tables.remove(p);
+    take_out_by::<D, Brand>(store, seat, tables, p);
+    fit_delayed_flag(store, seat, tables, none);
 }
 
 // ---- the snapshots turn

@@ -7,4 +7,4 @@ returns-clause-pair g c bound words there =
 
 pub returns-clause-there : goal.returns-clause-there
 returns-clause-there g c =
-    found c.args.store.now c.args.seat.now c.word.new.seat c.args.log.now.table c.args.place c.word.result c.word.ensures.same c.word.ensures.found c.requires.held c.requires.within c.requires.words c.requires.unentered c.unpack.result c.unpack.ensures.pair
+    found c.args.store.now c.args.seat.now c.word.new.seat c.args.log.now.table c.args.place c.word.result c.word.ensures.same c.word.ensures.found c.requires.held c.requires.within c.requires.words c.requires.published c.unpack.result c.unpack.ensures.pair

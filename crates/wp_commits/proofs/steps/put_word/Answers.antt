@@ -1,5 +1,7 @@
+use Rattle.std.proofs.Common.{◌≡◌, ℕ, Some, sym, subst, ap, ◌∙◌}
+use Rattle.wp_judge.specs.Words.{word_of, pair_of}
 use Rattle.wp_shared.specs.Seats.{place_at}
-use Rattle.wp_commits.proofs.Entering.{next_has_word, may_put, put, words_put}
+use Rattle.wp_commits.proofs.Entering.{next_has_word, may_put, put, words_put, put_there, put_elsewhere}
 use Rattle.wp_commits.proofs.steps.put_word.Goals as goal
 
 pub pack-requires-clause-positive : goal.pack-requires-clause-positive
@@ -28,3 +30,10 @@ returns-clause-seat g c =
 pub returns-clause-words : goal.returns-clause-words
 returns-clause-words g c =
     words_put (place_at c.args.store.now c.args.seat.now.by) _ c.args.seat.now c.store_word.new.seat c.args.place (record { number = c.args.p; decision = c.args.c }) c.requires.place.0 c.store_word.ensures.same (c.store_word.ensures.moved (record { number = c.args.p; decision = c.args.c }) c.pack.ensures.unpacks)
+
+pub returns-clause-there : goal.returns-clause-there
+returns-clause-there g c =
+    put_there (place_at c.args.store.now c.args.seat.now.by) _ c.args.seat.now c.store_word.new.seat c.args.place (record { number = c.args.p; decision = c.args.c }) c.requires.place.0 c.store_word.ensures.same (c.store_word.ensures.moved (record { number = c.args.p; decision = c.args.c }) c.pack.ensures.unpacks) c.requires.place.1 (ap pair_of (sym c.pack.ensures.word) ∙ c.pack.ensures.unpacks)
+
+pub returns-clause-elsewhere : goal.returns-clause-elsewhere
+returns-clause-elsewhere g c = put_elsewhere (place_at c.args.store.now c.args.seat.now.by) _ c.args.seat.now c.store_word.new.seat c.args.place (record { number = c.args.p; decision = c.args.c }) c.requires.place.0 c.store_word.ensures.same (c.store_word.ensures.moved (record { number = c.args.p; decision = c.args.c }) c.pack.ensures.unpacks)

@@ -1,0 +1,79 @@
+-- A decided number leaves the prepared tables.
+use Rattle.std.proofs.Common.{◌≡◌, inl, ℕ, ◌||◌, true, false, true≢false, List, [], ◌∷◌, ◌++◌, length, refl, sym, subst, ap, ◌∙◌, Some, None, append-nil}
+use Rattle.wp_model.specs.Decision.{decision_of}
+use Rattle.wp_model.specs.PreparedTables.{PreparedTables}
+use Rattle.wp_model.specs.declared.entry.Entry.{Entry}
+use Rattle.wp_core.specs.Changes.{held_with}
+use Rattle.wp_core.specs.Lists.{IsIn}
+use Rattle.wp_core.specs.Steps.{take_out}
+use Rattle.wp_core.specs.Tables.{Content, prepared, without_prepared}
+use Rattle.wp_core.specs.Views.{Fact, delayed_flag_stays, old_flag_stays}
+use Rattle.wp_core.specs.World.{Actor, World}
+use Rattle.wp_core.specs.Sound.Views.{guarded_by}
+use Rattle.wp_core.proofs.Numbers.{in_removed, get_removed}
+use Rattle.wp_core.proofs.Tests.{some_none}
+use Rattle.wp_rule.specs.Moves.{MayMake, Moved}
+use Rattle.wp_rule.specs.Words.{Place, IsAt}
+use Rattle.wp_rule.proofs.Forgets.{EndsNothing}
+use Rattle.wp_rule.proofs.Knows.{held_is}
+use Rattle.wp_rule.proofs.MayBeMade.{known_made}
+use Rattle.wp_shared.specs.Calls.{Continues}
+use Rattle.wp_shared.specs.Seats.{SharedState, SeatState, IsFree, Stands, place_at}
+use Rattle.wp_shared.proofs.OneStep.{Made, made, becomes}
+use Rattle.wp_commits.specs.Gone.{IsGone}
+use Rattle.wp_commits.specs.Notes.{is_flag, GoesOn}
+
+abbrev prepared_in : PreparedTables → Content → PreparedTables
+prepared_in t (prepared d) = d
+prepared_in t other = t
+
+take_ends : (p : ℕ) → EndsNothing (take_out p)
+take_ends p = record { guard = λ turn. refl; place = λ words place. refl; words = refl; delayed_flag = refl; old_flag = refl; pending = refl; adds = refl; takes = refl; prepared = refl; unprepared = refl; transaction = λ history name. refl; direct = refl; moves = refl; replaces = refl; installing = refl }
+
+pub may_take_out : (at : Place) (a : Actor) (t : PreparedTables) (p : ℕ) → a.held ≡ prepared t ∷ [] → (c : ℕ) × (decision_of a.participant.seen p ≡ Some c) → MayMake at a (λ w. take_out p ∷ [])
+may_take_out at a t p held decided = known_made at a (take_out p) tt (record { table = t; held = subst (IsIn (prepared t)) (sym held) (inl refl); so_is = decided })
+
+module _ {D : Type 0} (z : SharedState D) (so : World → Type 0) (s t : SeatState) (old tables : PreparedTables) (p : ℕ) (held : s.knows.held ≡ prepared old ∷ []) (is : tables ≡ without_prepared old p) (same : (t.table ≡ s.table) × (t.by ≡ s.by) × (t.turns ≡ s.turns))
+    (moved : Moved (place_at z s.by) (λ w. take_out p ∷ []) so s.knows t.knows) where
+  step : Made (place_at z s.by) (take_out p) so s.knows t.knows
+  step = made (place_at z s.by) (take_out p) so s.knows t.knows (take_ends p) moved
+
+  pub took_out : t ≡ record s { knows = record s.knows { held = prepared tables ∷ [] } }
+  took_out =
+      let w = step.world in
+      let table : w.prepared ≡ old = ap (prepared_in old) (held_is (place_at z s.by) s.knows w (prepared old) step.before (subst (IsIn (prepared old)) (sym held) (inl refl))).1 in
+      let left : without_prepared w.prepared p ≡ tables = ap (λ (x : PreparedTables). without_prepared x p) table ∙ sym is in
+      becomes s t (record s.knows { held = prepared tables ∷ [] }) same
+      (step.actor ∙ (ap (λ (h : List Content). record s.knows { held = held_with h (prepared (without_prepared w.prepared p)) }) held ∙ ap (λ (x : PreparedTables). record s.knows { held = prepared x ∷ [] }) left))
+
+  pub gone_there : (x : SeatState) × (w : World) × Stands z x w × IsGone w.prepared p
+  gone_there =
+      let w = step.world in
+      (
+        record s { knows = t.knows },
+        _,
+        step.after,
+        ((λ i. in_removed w.prepared.heap p i || in_removed w.prepared.delayed p i), get_removed w.prepared.delayed_commits p),
+      )
+
+-- what is noted without a turn is no flag
+no_flag : (fact : Fact) → guarded_by fact ≡ None → is_flag fact ≡ false
+no_flag (delayed_flag_stays value) e = absurd (some_none _ e)
+no_flag (old_flag_stays value) e = absurd (some_none _ e)
+no_flag other e = refl
+
+pub continues_by : {D : Type 0} (z : SharedState D) (s t : SeatState) → IsFree z.table s → GoesOn is_flag [] [] s t → Continues z s t s.knows.participant
+continues_by z s t free k = record {
+  free = record {
+    same_table = ap (λ (x : SeatState). x.table) k.same ∙ free.same_table;
+    live = ap (λ (x : SeatState). x.knows.live) k.same ∙ free.live;
+    turns = ap (λ (x : SeatState). x.turns) k.same;
+    held = ap (λ (x : SeatState). x.knows.held) k.same;
+  };
+  same_by = ap (λ (x : SeatState). x.by) k.same;
+  seen = ([], ap (λ (x : SeatState). x.knows.participant.seen) k.same ∙ sym (append-nil s.knows.participant.seen));
+  participant = let e = ap (λ (x : SeatState). x.knows.participant) k.same in e ∙ ap (λ (l : List Entry). record s.knows.participant { seen = l }) (sym (ap (λ (x : SeatState). x.knows.participant.seen) k.same));
+  notes = λ fact guard there. k.noted fact (no_flag fact guard) there;
+  made = ap (λ (x : SeatState). x.knows.made) k.same;
+  joined = ap (λ (x : SeatState). x.knows.joined) k.same;
+}
