@@ -13,7 +13,7 @@ use Rattle.wp_rule.specs.Knows.{Noted}
 use Rattle.wp_shared.specs.Seats.{SeatState}
 use Rattle.wp_commits.specs.Bound.{bound_past, raised, bound_after}
 use Rattle.wp_commits.specs.Cleared.{IsThere, IsCleared}
-use Rattle.wp_commits.specs.Notes.{is_flag, is_of_words, noting, GoesOn}
+use Rattle.wp_commits.specs.Notes.{is_flag, is_of_words, is_of_place, noting, GoesOn}
 use Rattle.wp_commits.proofs.Goes.{holds_now, notes, then, wider, flags_too}
 
 -- ---- the bound
@@ -111,3 +111,25 @@ after_rises cells published bound (Some pair) = by_test (nat_le pair.decision bo
     by_test : (b : Bool) → nat_le pair.decision bound ≡ b → bound ≤ cond b bound (bound_past cells published pair.decision)
     by_test true e = omega arith
     by_test false e = let high : bound < pair.decision = grind (arith, nat_tests) in let reach = past_reaches cells published pair.decision in omega (arith, high, reach)
+
+pub words_in_place : (place : ℕ) (fact : Fact) → is_of_place place fact ≡ false → is_of_words fact ≡ false
+words_in_place place (passed i gone) e = refl
+words_in_place place (in_old_commits i gone) e = refl
+words_in_place place (apart i gone) e = refl
+words_in_place place other e = e
+
+-- a place is cleared as far as it was not, and then its word is stored
+pub then_put : (s s' t u : SeatState) (h : List Content) (place place' : ℕ) → s' ≡ s → place' ≡ place → s.knows.held ≡ h → GoesOn is_of_words h s'.turns s' t → GoesOn (is_of_place place') t.knows.held t.turns t u
+    → GoesOn (is_of_place place) s.knows.held s.turns s u
+then_put s s' t u h place place' same is held first second =
+    let a : GoesOn is_of_words h s.turns s t = subst (λ (x : SeatState). GoesOn is_of_words h x.turns x t) same first in
+    let b : GoesOn (is_of_place place) t.knows.held t.turns t u = subst (λ (i : ℕ). GoesOn (is_of_place i) t.knows.held t.turns t u) is second in
+    let b' : GoesOn (is_of_place place) h s.turns t u =
+    subst (λ (x : List Content × List ℕ). GoesOn (is_of_place place) x.0 x.1 t u) (λ i. (holds_now is_of_words s t h s.turns a i, ap (λ (y : SeatState). y.turns) a.same i)) b in
+    subst (λ (x : List Content). GoesOn (is_of_place place) x s.turns s u) (sym held) (then (is_of_place place) s t u h h s.turns s.turns (wider is_of_words s t u (is_of_place place) h s.turns (words_in_place place) a) b')
+
+pub first_is : (xs ps qs : List ℕ) (p q : ℕ) → xs ≡ p ∷ ps → xs ≡ q ∷ qs → p ≡ q
+first_is xs ps qs p q one two = let e : p ∷ ps ≡ q ∷ qs = sym one ∙ two in cc
+
+pub others_are : (xs ps qs : List ℕ) (p q : ℕ) → xs ≡ p ∷ ps → xs ≡ q ∷ qs → ps ≡ qs
+others_are xs ps qs p q one two = let e : p ∷ ps ≡ q ∷ qs = sym one ∙ two in cc

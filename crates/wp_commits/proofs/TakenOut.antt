@@ -3,7 +3,8 @@ use Rattle.std.proofs.Common.{◌≡◌, inl, ℕ, ◌||◌, true, false, true�
 use Rattle.wp_model.specs.Decision.{decision_of}
 use Rattle.wp_model.specs.PreparedTables.{PreparedTables}
 use Rattle.wp_model.specs.declared.entry.Entry.{Entry}
-use Rattle.wp_core.specs.Changes.{held_with}
+use Rattle.wp_core.specs.Changes.{held_with, held_without}
+use Rattle.wp_core.specs.Turns.{prepared_turn}
 use Rattle.wp_core.specs.Lists.{IsIn}
 use Rattle.wp_core.specs.Steps.{take_out}
 use Rattle.wp_core.specs.Tables.{Content, prepared, without_prepared}
@@ -22,6 +23,7 @@ use Rattle.wp_shared.specs.Seats.{SharedState, SeatState, IsFree, Stands, place_
 use Rattle.wp_shared.proofs.OneStep.{Made, made, becomes}
 use Rattle.wp_commits.specs.Gone.{IsGone}
 use Rattle.wp_commits.specs.Notes.{is_flag, GoesOn}
+use Rattle.wp_commits.proofs.Goes.{then, holds_now}
 
 abbrev prepared_in : PreparedTables → Content → PreparedTables
 prepared_in t (prepared d) = d
@@ -77,3 +79,11 @@ continues_by z s t free k = record {
   made = ap (λ (x : SeatState). x.knows.made) k.same;
   joined = ap (λ (x : SeatState). x.knows.joined) k.same;
 }
+
+-- the turn is taken, the number leaves, and the turn is given
+pub taken_out : {D : Type 0} (z : SharedState D) (s t u v : SeatState) (a b : PreparedTables) → IsFree z.table s → GoesOn is_flag (prepared a ∷ s.knows.held) (1 ∷ s.turns) s t → GoesOn is_flag (prepared b ∷ []) t.turns t u
+    → ((others : List ℕ) → u.turns ≡ 1 ∷ others → GoesOn is_flag (held_without u.knows.held prepared_turn) others u v) → GoesOn is_flag [] [] s v
+taken_out z s t u v a b free first second give =
+    let turns : u.turns ≡ 1 ∷ [] = ap (λ (x : SeatState). x.turns) second.same ∙ (ap (λ (x : SeatState). x.turns) first.same ∙ ap (λ (l : List ℕ). 1 ∷ l) free.turns) in
+    let third : GoesOn is_flag [] [] u v = subst (λ (h : List Content). GoesOn is_flag (held_without h prepared_turn) [] u v) (holds_now is_flag t u (prepared b ∷ []) t.turns second) (give [] turns) in
+    then is_flag s u v (prepared b ∷ []) [] t.turns [] (then is_flag s t u (prepared a ∷ s.knows.held) (prepared b ∷ []) (1 ∷ s.turns) t.turns first second) third

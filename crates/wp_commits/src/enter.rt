@@ -87,8 +87,9 @@ fn clear_again<D: Disk + Drop, R: Wait>(
         → Noted seat.new.knows (words_stay (bound_after store.now.cells (length log.now.table.history) bound (pair_at words place)) words) }
     ensures cleared { IsCleared seat.new.knows place }
 {
-    if let Some((p, c)) = steps::pair(store, seat, log, place) {
-        clear_own(store, rt, seat, log, place, p, c);
+    match steps::pair(store, seat, log, place) {
+        None => {}
+        Some((p, c)) => clear_own(store, rt, seat, log, place, p, c),
     }
 }
 
