@@ -1,5 +1,5 @@
 -- The prepared tables while the bound rises, and while a pair becomes a delayed commit.
-use Rattle.std.proofs.Common.{◌≡◌, ◌≢◌, inl, inr, ◌⊎◌, ℕ, zero, suc, ◌<◌, ◌≤◌, nat_le, nat_lt, Bool, true, false, true≢false, not, cond, ◌||◌, ◌&&◌, List, [], ◌∷◌, length, refl, sym, subst, ap, ◌∙◌, Option, Some, None, arith}
+use Rattle.std.proofs.Common.{◌≡◌, ◌≢◌, inl, inr, ◌⊎◌, ℕ, ◌<◌, ◌≤◌, nat_le, nat_lt, Bool, true, false, true≢false, not, cond, ◌||◌, ◌&&◌, List, [], ◌∷◌, length, refl, sym, subst, ap, ◌∙◌, Some, None, arith}
 use Rattle.std.proofs.lemmas.Bool.Decides.{nat_tests}
 use native.Mathlib.Decide.{ℕ_discrete}
 use mathlib.Core.Logic.{dite}
@@ -15,14 +15,14 @@ use Rattle.wp_model.specs.PreparedTables.{PreparedTables, is_prepared, commits_w
 use Rattle.wp_judge.specs.Words.{CommitPair}
 use Rattle.wp_core.specs.Changes.{held_with}
 use Rattle.wp_core.specs.Lists.{IsIn}
-use Rattle.wp_core.specs.Notes.{ends, forgets}
-use Rattle.wp_core.specs.Steps.{Step, store_max_evicted, add_delayed_commit, note}
+use Rattle.wp_core.specs.Notes.{ends}
+use Rattle.wp_core.specs.Steps.{Step, store_max_evicted, add_delayed_commit}
 use Rattle.wp_core.specs.Tables.{WriteTable, Content, writes, prepared, with_moved, NoneDelayed}
 use Rattle.wp_core.specs.Views.{Fact, words_stay, delayed_flag_stays, old_flag_stays}
 use Rattle.wp_core.specs.World.{Actor, World}
 use Rattle.wp_core.specs.Sound.Views.{IsApart}
 use Rattle.wp_core.proofs.Numbers.{get_inserted, get_inserted_else}
-use Rattle.wp_core.proofs.Tests.{some_none, none_some}
+use Rattle.wp_core.proofs.Tests.{none_some}
 use Rattle.wp_rule.specs.Knows.{Noted, IsUp}
 use Rattle.wp_rule.specs.Moves.{AreQuiet, AreMet, MayStep, MayMake, Moved, actor_after, storing_max}
 use Rattle.wp_rule.specs.Words.{Place, IsAt}
@@ -34,7 +34,7 @@ use Rattle.wp_shared.specs.Clients.{KeepClient}
 use Rattle.wp_shared.specs.Seats.{SeatState}
 use Rattle.wp_shared.proofs.OneStep.{becomes}
 use Rattle.wp_commits.specs.Making.{delaying}
-use Rattle.wp_commits.specs.Notes.{is_of_words, is_flag, GoesOn, FlagTells, DelayedFlagTells}
+use Rattle.wp_commits.specs.Notes.{is_of_words, GoesOn, FlagTells, DelayedFlagTells}
 use Rattle.wp_commits.proofs.Goes.{goes_with}
 use Rattle.wp_commits.proofs.Turns.{note_ends_none}
 

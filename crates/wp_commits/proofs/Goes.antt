@@ -1,5 +1,5 @@
 -- A seat that goes on, step after step.
-use Rattle.std.proofs.Common.{◌≡◌, inr, ℕ, Bool, true, false, true≢false, List, ◌∷◌, refl, sym, subst, ap, ◌∙◌}
+use Rattle.std.proofs.Common.{◌≡◌, inr, ℕ, Bool, false, true≢false, List, refl, sym, subst, ap, ◌∙◌}
 use Rattle.wp_core.specs.Tables.{Content}
 use Rattle.wp_core.specs.Views.{Fact, words_stay, delayed_flag_stays, old_flag_stays}
 use Rattle.wp_rule.specs.Knows.{Noted}

@@ -1,5 +1,5 @@
 -- That the pair of a word may go: what it takes to note it, and what that leaves.
-use Rattle.std.proofs.Common.{◌≡◌, inl, inr, ℕ, zero, suc, ◌<◌, ◌≤◌, Bool, true, false, true≢false, get_or, List, [], ◌∷◌, length, refl, sym, subst, ap, ◌∙◌, Option, Some, None, option_map, arith}
+use Rattle.std.proofs.Common.{◌≡◌, inl, inr, ℕ, zero, suc, ◌<◌, ◌≤◌, true, false, true≢false, get_or, List, [], ◌∷◌, length, refl, sym, subst, ap, ◌∙◌, Option, Some, None, option_map, arith}
 use Rattle.std.specs.Prelude.{slice_get}
 use Rattle.std.specs.List.{position}
 use Rattle.std.proofs.lemmas.Bool.{false_from_ne_true}
@@ -20,13 +20,13 @@ use Rattle.wp_core.specs.Tables.{WriteTable, Content, writes, prepared, snapshot
 use Rattle.wp_core.specs.Notes.{forgets}
 use Rattle.wp_core.specs.Steps.{note}
 use Rattle.wp_core.specs.Turns.{write_turn, Holds}
-use Rattle.wp_core.specs.Views.{Fact, passed, in_old_commits, apart, words_stay}
+use Rattle.wp_core.specs.Views.{passed, in_old_commits, apart, words_stay}
 use Rattle.wp_core.specs.World.{Actor, World}
 use Rattle.wp_core.specs.Sound.Prepared.{IsInOldCommits}
 use Rattle.wp_core.specs.Sound.Views.{IsApart, IsClearing}
 use Rattle.wp_core.proofs.ReaderFacts.{extended_stays}
 use Rattle.wp_core.proofs.Tests.{same_some}
-use Rattle.wp_rule.specs.Knows.{Noted, KnowsFact}
+use Rattle.wp_rule.specs.Knows.{KnowsFact}
 use Rattle.wp_rule.specs.Moves.{MayMake, Moved}
 use Rattle.wp_rule.specs.Words.{Place, IsAt}
 use Rattle.wp_rule.proofs.Forgets.{note_ends, forgets_nothing}

@@ -1,5 +1,5 @@
 -- The old commit map while a pair comes under each live number that overlaps it.
-use Rattle.std.proofs.Common.{◌≡◌, ◌≢◌, inl, inr, ◌⊎◌, ⊎_elim, ℕ, zero, suc, ◌+◌, ◌-◌, ◌<◌, ◌≤◌, nat_le, nat_lt, Bool, true, false, true≢false, cond, ◌||◌, ◌&&◌, List, [], ◌∷◌, length, refl, sym, subst, ap, ◌∙◌, Option, Some, None, is_some, arith}
+use Rattle.std.proofs.Common.{◌≡◌, ◌≢◌, inl, inr, ◌⊎◌, ⊎_elim, ℕ, zero, suc, ◌+◌, ◌-◌, ◌<◌, ◌≤◌, nat_le, nat_lt, Bool, true, false, true≢false, cond, ◌||◌, List, [], ◌∷◌, length, refl, sym, subst, ap, ◌∙◌, Option, Some, None, is_some, arith}
 use Rattle.std.specs.Option.{option_map_or}
 use Rattle.std.proofs.lemmas.Bool.Decides.{nat_tests}
 use native.Mathlib.Decide.{ℕ_discrete}
@@ -9,18 +9,16 @@ use Rattle.std.specs.Cmp.{nat_cmp_total}
 use Rattle.std.specs.FinSet as set
 use Rattle.std.specs.FinMap as finite
 use Rattle.wp_model.specs.Decision.{decision_of}
-use Rattle.wp_model.specs.Snapshots.{Snapshot, Snapshots, IsLive, is_old_commit, after_keep, overlaps, ChangesWhere}
+use Rattle.wp_model.specs.Snapshots.{Snapshot, Snapshots, is_old_commit, after_keep, overlaps, ChangesWhere}
 use Rattle.wp_core.specs.Changes.{held_with, placed, with_old_commit}
 use Rattle.wp_core.specs.Lists.{IsIn}
-use Rattle.wp_core.specs.Notes.{forgets}
-use Rattle.wp_core.specs.Steps.{Step, add_old_commit}
+use Rattle.wp_core.specs.Steps.{add_old_commit}
 use Rattle.wp_core.specs.Tables.{WriteTable, Content, writes, snapshots, NoOldCommits}
 use Rattle.wp_core.specs.Turns.{Holds, snapshots_turn}
 use Rattle.wp_core.specs.Views.{old_flag_stays}
 use Rattle.wp_core.specs.World.{Actor, World}
 use Rattle.wp_core.specs.Sound.Prepared.{IsInOldCommits}
 use Rattle.wp_core.proofs.Numbers.{in_inserted, get_inserted, get_inserted_else, get_removed, get_removed_else}
-use Rattle.wp_core.proofs.Tests.{none_some}
 use Rattle.wp_rule.specs.Moves.{AreQuiet, AreMet, MayMake, Moved, actor_after, actor_after_step, world_after_step}
 use Rattle.wp_rule.specs.Words.{Place, IsAt}
 use Rattle.wp_rule.proofs.Forgets.{EndsNothing, forgets_nothing}

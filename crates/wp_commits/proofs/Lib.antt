@@ -5,6 +5,6 @@ pub mod Turns
 pub mod Delayed
 pub mod Kept
 pub mod Going
-pub mod Entering
+pub mod Puts
 pub mod Clears
 pub mod TakenOut

@@ -1,5 +1,5 @@
 -- A decided number leaves the prepared tables.
-use Rattle.std.proofs.Common.{◌≡◌, inl, ℕ, ◌||◌, true, false, true≢false, List, [], ◌∷◌, ◌++◌, length, refl, sym, subst, ap, ◌∙◌, Some, None, append-nil}
+use Rattle.std.proofs.Common.{◌≡◌, inl, ℕ, ◌||◌, false, List, [], ◌∷◌, refl, sym, subst, ap, ◌∙◌, Some, None, append-nil}
 use Rattle.wp_model.specs.Decision.{decision_of}
 use Rattle.wp_model.specs.PreparedTables.{PreparedTables}
 use Rattle.wp_model.specs.declared.entry.Entry.{Entry}
@@ -14,7 +14,7 @@ use Rattle.wp_core.specs.Sound.Views.{guarded_by}
 use Rattle.wp_core.proofs.Numbers.{in_removed, get_removed}
 use Rattle.wp_core.proofs.Tests.{some_none}
 use Rattle.wp_rule.specs.Moves.{MayMake, Moved}
-use Rattle.wp_rule.specs.Words.{Place, IsAt}
+use Rattle.wp_rule.specs.Words.{Place}
 use Rattle.wp_rule.proofs.Forgets.{EndsNothing}
 use Rattle.wp_rule.proofs.Knows.{held_is}
 use Rattle.wp_rule.proofs.MayBeMade.{known_made}

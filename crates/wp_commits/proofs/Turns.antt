@@ -1,5 +1,5 @@
 -- The prepared turn and the snapshots turn, taken and given, and their flags.
-use Rattle.std.proofs.Common.{◌≡◌, inl, inr, ℕ, ◌==◌, Bool, true, false, true≢false, not, List, [], ◌∷◌, length, refl, sym, subst, ap, ◌∙◌, Some, arith}
+use Rattle.std.proofs.Common.{◌≡◌, inl, inr, ℕ, Bool, true, false, true≢false, List, [], ◌∷◌, length, refl, sym, subst, ap, ◌∙◌, Some, arith}
 use Rattle.std.specs.Prelude.{IsTrue, ◌↔◌}
 use Rattle.wp_model.specs.PreparedTables.{PreparedTables}
 use Rattle.wp_model.specs.Snapshots.{Snapshots}
@@ -16,7 +16,7 @@ use Rattle.wp_core.specs.Sound.Views.{guarded_by}
 use Rattle.wp_core.proofs.Tests.{same_some}
 use Rattle.wp_rule.specs.Knows.{Holding, Noted}
 use Rattle.wp_rule.specs.Moves.{MayStep, Moved}
-use Rattle.wp_rule.specs.Words.{Place, IsAt}
+use Rattle.wp_rule.specs.Words.{Place}
 use Rattle.wp_rule.proofs.Knows.{at_sound}
 use Rattle.wp_rule.proofs.Needed.{needed}
 use Rattle.wp_rule.proofs.Outlasting.{outlasts}

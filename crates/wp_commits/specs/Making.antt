@@ -1,5 +1,5 @@
 -- Which steps of the machine a call makes at one load.
-use Rattle.std.specs.Prelude.{ℕ, zero, suc, ◌-◌, Bool, true, false, List, [], ◌∷◌, if◌then◌else◌, is_some}
+use Rattle.std.specs.Prelude.{ℕ, zero, suc, ◌-◌, List, [], ◌∷◌, if◌then◌else◌, is_some}
 use Rattle.std.specs.FinMap as finite
 use Rattle.wp_model.specs.PreparedTables.{is_prepared}
 use Rattle.wp_model.specs.Snapshots.{Snapshots}

@@ -1,4 +1,4 @@
-use Rattle.std.proofs.Common.{◌≡◌, ℕ, inl, List, length, sym, subst, ap, ◌∙◌, Option, None}
+use Rattle.std.proofs.Common.{◌≡◌, inl, length, sym, subst, ◌∙◌, Option, None}
 use Rattle.wp_judge.specs.Words.{CommitPair}
 use Rattle.wp_core.specs.Cache.{pair_at}
 use Rattle.wp_core.specs.Views.{words_stay}

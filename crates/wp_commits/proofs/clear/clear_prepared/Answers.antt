@@ -1,4 +1,4 @@
-use Rattle.std.proofs.Common.{◌≡◌, ℕ, ◌∷◌, length, refl, ap, ◌∙◌}
+use Rattle.std.proofs.Common.{◌≡◌, ◌∷◌, length, refl, ap, ◌∙◌}
 use Rattle.wp_core.specs.Views.{passed, apart, words_stay}
 use Rattle.wp_rule.specs.Knows.{Noted}
 use Rattle.wp_shared.specs.Seats.{SeatState}

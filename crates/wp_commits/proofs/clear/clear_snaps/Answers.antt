@@ -1,8 +1,7 @@
-use Rattle.std.proofs.Common.{◌≡◌, ℕ, ◌∷◌, refl, ap, ◌∙◌}
+use Rattle.std.proofs.Common.{◌≡◌, ◌∷◌, refl, ap, ◌∙◌}
 use Rattle.wp_core.specs.Views.{in_old_commits}
 use Rattle.wp_rule.specs.Knows.{Noted}
 use Rattle.wp_shared.specs.Seats.{SeatState}
-use Rattle.wp_commits.specs.Cleared.{IsThere}
 use Rattle.wp_commits.proofs.Clears.{on_ok}
 use Rattle.wp_commits.proofs.clear.clear_snaps.Goals as goal
 

@@ -1,9 +1,9 @@
-use Rattle.std.proofs.Common.{◌≡◌, ℕ, List, ◌<◌, ◌≤◌, length, sym, subst, ◌∙◌, ap, arith}
+use Rattle.std.proofs.Common.{◌≡◌, ℕ, ◌<◌, ◌≤◌, length, sym, subst, ◌∙◌, arith}
 use Rattle.wp_core.specs.Views.{words_stay}
 use Rattle.wp_rule.specs.Knows.{Noted}
 use Rattle.wp_shared.specs.Seats.{SeatState}
 use Rattle.wp_commits.specs.Bound.{bound_past, raised}
-use Rattle.wp_commits.proofs.Clears.{raised_low, raised_high, past_reaches, past_published}
+use Rattle.wp_commits.proofs.Clears.{raised_low, raised_high, past_reaches}
 use Rattle.wp_commits.proofs.clear.raise_past.Goals as goal
 
 pub returns-then-c-bound-clause-bound : goal.returns-then-c-bound-clause-bound

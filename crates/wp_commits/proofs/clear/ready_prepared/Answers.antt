@@ -1,4 +1,4 @@
-use Rattle.std.proofs.Common.{ℕ, length, refl}
+use Rattle.std.proofs.Common.{length, refl}
 use Rattle.wp_core.specs.Views.{passed, apart, words_stay}
 use Rattle.wp_commits.specs.Bound.{raised}
 use Rattle.wp_commits.specs.Notes.{is_of_words}

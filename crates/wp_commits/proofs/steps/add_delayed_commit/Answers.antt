@@ -1,4 +1,3 @@
-use Rattle.std.proofs.Common.{◌-◌}
 use Rattle.wp_shared.specs.Seats.{place_at}
 use Rattle.wp_commits.specs.Making.{delaying}
 use Rattle.wp_commits.proofs.Making.{may_be, keep_client, moved_by}

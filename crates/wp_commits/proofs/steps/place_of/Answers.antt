@@ -1,4 +1,4 @@
-use Rattle.std.proofs.Common.{◌≡◌, ℕ, ◌<◌, ◌≤◌, ◌%◌, mod-lt, sym, subst, arith}
+use Rattle.std.proofs.Common.{ℕ, ◌<◌, ◌%◌, mod-lt, sym, subst, arith}
 use Rattle.wp_commits.proofs.Words.{some_words}
 use Rattle.wp_commits.proofs.steps.place_of.Goals as goal
 

@@ -1,7 +1,7 @@
-use Rattle.std.proofs.Common.{◌≡◌, ℕ, Some, sym, subst, ap, ◌∙◌}
-use Rattle.wp_judge.specs.Words.{word_of, pair_of}
+use Rattle.std.proofs.Common.{sym, ap, ◌∙◌}
+use Rattle.wp_judge.specs.Words.{pair_of}
 use Rattle.wp_shared.specs.Seats.{place_at}
-use Rattle.wp_commits.proofs.Entering.{next_has_word, may_put, put, words_put, put_there, put_elsewhere}
+use Rattle.wp_commits.proofs.Puts.{next_has_word, may_put, put, words_put, put_there, put_elsewhere}
 use Rattle.wp_commits.proofs.steps.put_word.Goals as goal
 
 pub pack-requires-clause-positive : goal.pack-requires-clause-positive

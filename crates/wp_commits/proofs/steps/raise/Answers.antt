@@ -1,5 +1,4 @@
 use Rattle.std.proofs.Common.{◌≡◌, inl, refl, sym, subst, ◌∙◌}
-use Rattle.wp_model.specs.PreparedTables.{PreparedTables}
 use Rattle.wp_core.specs.Lists.{IsIn}
 use Rattle.wp_core.specs.Tables.{prepared, with_moved, NoneDelayed}
 use Rattle.wp_core.specs.Views.{words_stay}

@@ -1,6 +1,6 @@
-use Rattle.std.proofs.Common.{◌≡◌, List, [], ◌∷◌, inl, refl, sym, subst, ap}
+use Rattle.std.proofs.Common.{inl, refl, sym, subst}
 use Rattle.wp_core.specs.Lists.{IsIn}
-use Rattle.wp_core.specs.Tables.{prepared, without_prepared}
+use Rattle.wp_core.specs.Tables.{prepared}
 use Rattle.wp_shared.specs.Seats.{SeatState}
 use Rattle.wp_commits.proofs.steps.take_out.Goals as goal
 

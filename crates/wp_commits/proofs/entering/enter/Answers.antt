@@ -1,11 +1,11 @@
-use Rattle.std.proofs.Common.{◌≡◌, ◌≢◌, ℕ, length, Some, sym, subst, ◌∙◌}
+use Rattle.std.proofs.Common.{◌≡◌, ◌≢◌, ℕ, length, Some, subst}
 use Rattle.wp_core.specs.Cache.{cache_place, pair_at, with_pair}
 use Rattle.wp_core.specs.Views.{words_stay}
 use Rattle.wp_rule.specs.Knows.{Noted}
 use Rattle.wp_commits.specs.Bound.{bound_after}
 use Rattle.wp_commits.specs.Cleared.{IsCleared}
 use Rattle.wp_commits.proofs.Clears.{first_is}
-use Rattle.wp_commits.proofs.enter.enter.Goals as goal
+use Rattle.wp_commits.proofs.entering.enter.Goals as goal
 
 pub returns-clause-words : goal.returns-clause-words
 returns-clause-words g c p others e bound words there =

@@ -1,5 +1,5 @@
 -- Storing the word of the pending entry's pair.
-use Rattle.std.proofs.Common.{◌≡◌, ◌≢◌, inl, inr, slice_index, ℕ, suc, ◌==◌, ◌<◌, ◌≤◌, ◌^◌, Bool, true, false, true≢false, List, [], ◌∷◌, ◌++◌, length, length-append, refl, sym, subst, ap, ◌∙◌, Some, None, arith}
+use Rattle.std.proofs.Common.{◌≡◌, ◌≢◌, inl, inr, slice_index, ℕ, ◌==◌, ◌<◌, ◌≤◌, ◌^◌, false, true≢false, List, [], ◌∷◌, ◌++◌, length, length-append, refl, sym, subst, ap, ◌∙◌, Some, None, arith}
 use Rattle.wp_model.specs.declared.entry.Entry.{Entry}
 use Rattle.wp_model.specs.Legal.{IsLegal}
 use Rattle.std.proofs.lemmas.Bool.{ne_eqb}
@@ -9,7 +9,7 @@ use Rattle.wp_core.specs.Cache.{cache_place, pair_at, with_pair}
 use Rattle.wp_core.specs.Entries.{pending_pair}
 use Rattle.wp_core.specs.Lists.{IsIn}
 use Rattle.wp_core.specs.Notes.{ends}
-use Rattle.wp_core.specs.Steps.{store_word, note}
+use Rattle.wp_core.specs.Steps.{store_word}
 use Rattle.wp_core.specs.Tables.{WriteTable, writes}
 use Rattle.wp_core.specs.Views.{Fact, passed, in_old_commits, apart, words_stay, delayed_flag_stays, old_flag_stays}
 use Rattle.wp_core.specs.World.{Actor, World}
@@ -21,7 +21,7 @@ use Rattle.wp_rule.proofs.Knows.{noted_is}
 use Rattle.wp_rule.proofs.Needed.{needed}
 use Rattle.wp_rule.proofs.Outlasting.{outlasts}
 use Rattle.wp_shared.specs.Seats.{SeatState}
-use Rattle.wp_commits.specs.Cleared.{IsEmptyAt, MayGoFrom, IsCleared}
+use Rattle.wp_commits.specs.Cleared.{IsCleared}
 use Rattle.wp_commits.specs.Notes.{is_of_place, GoesOn}
 use Rattle.wp_commits.proofs.Goes.{goes_with}
 use Rattle.wp_commits.proofs.Turns.{note_ends_none}

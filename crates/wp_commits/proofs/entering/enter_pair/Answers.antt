@@ -1,4 +1,4 @@
-use Rattle.std.proofs.Common.{◌≡◌, ℕ, length, Some, sym, subst, ap, ◌∙◌}
+use Rattle.std.proofs.Common.{◌≡◌, ℕ, length, Some, sym, subst, ◌∙◌}
 use Rattle.wp_core.specs.Cache.{cache_place, pair_at, with_pair}
 use Rattle.wp_core.specs.Views.{words_stay}
 use Rattle.wp_rule.specs.Knows.{Noted}
@@ -7,7 +7,7 @@ use Rattle.wp_commits.specs.Bound.{bound_after}
 use Rattle.wp_commits.specs.Cleared.{IsCleared, IsReadyAt}
 use Rattle.wp_commits.specs.Notes.{is_of_words}
 use Rattle.wp_commits.proofs.Clears.{then_put, still_cleared}
-use Rattle.wp_commits.proofs.enter.enter_pair.Goals as goal
+use Rattle.wp_commits.proofs.entering.enter_pair.Goals as goal
 
 pub clear_again-requires-clause-ready : goal.clear_again-requires-clause-ready
 clear_again-requires-clause-ready g c =

@@ -1,4 +1,4 @@
-use Rattle.std.proofs.Common.{◌≡◌, ⊎_elim, inl, inr, ◌⊎◌, ℕ, length, sym, subst, ap, ◌∙◌, Option, None}
+use Rattle.std.proofs.Common.{◌≡◌, ⊎_elim, inl, inr, length, sym, subst, ap, ◌∙◌, Option, None}
 use Rattle.wp_judge.specs.Words.{CommitPair}
 use Rattle.wp_core.specs.Cache.{pair_at}
 use Rattle.wp_core.specs.Views.{words_stay}
@@ -8,7 +8,7 @@ use Rattle.wp_shared.specs.Seats.{SeatState}
 use Rattle.wp_commits.specs.Bound.{bound_after}
 use Rattle.wp_commits.specs.Cleared.{IsEmptyAt, IsCleared, DecidesItself}
 use Rattle.wp_commits.proofs.Clears.{no_pair, that_pair}
-use Rattle.wp_commits.proofs.enter.clear_again.Goals as goal
+use Rattle.wp_commits.proofs.entering.clear_again.Goals as goal
 
 pub returns-in-None-clause-bound : goal.returns-in-None-clause-bound
 returns-in-None-clause-bound g c bound words there =

@@ -1,12 +1,12 @@
-use Rattle.std.proofs.Common.{◌≡◌, ◌≢◌, ⊎_elim, inl, inr, ◌⊎◌, ℕ, ◌≤◌, length, refl, sym, subst}
-use Rattle.wp_core.specs.Views.{Fact, passed, in_old_commits, apart, words_stay}
+use Rattle.std.proofs.Common.{◌≡◌, ⊎_elim, inl, inr, ℕ, ◌≤◌, length, refl, sym, subst}
+use Rattle.wp_core.specs.Views.{words_stay}
 use Rattle.wp_rule.specs.Knows.{Noted}
 use Rattle.wp_shared.specs.Seats.{SeatState}
 use Rattle.wp_commits.specs.Bound.{raised}
 use Rattle.wp_commits.specs.Cleared.{IsThere, IsCleared}
-use Rattle.wp_commits.specs.Notes.{is_of_words, noting}
-use Rattle.wp_commits.proofs.Clears.{passed_there, still_cleared, still_noted, just_noted}
-use Rattle.wp_commits.proofs.enter.clear_own.Goals as goal
+use Rattle.wp_commits.specs.Notes.{is_of_words}
+use Rattle.wp_commits.proofs.Clears.{passed_there, still_cleared}
+use Rattle.wp_commits.proofs.entering.clear_own.Goals as goal
 
 pub returns-then-p-c-clause-cleared : goal.returns-then-p-c-clause-cleared
 returns-then-p-c-clause-cleared g c = ⊎_elim

@@ -4,7 +4,7 @@ use Rattle.wp_rule.specs.Knows.{Noted}
 use Rattle.wp_shared.specs.Seats.{SeatState}
 use Rattle.wp_commits.specs.Bound.{raised}
 use Rattle.wp_commits.proofs.Clears.{raised_low}
-use Rattle.wp_commits.proofs.enter.let_pass.Goals as goal
+use Rattle.wp_commits.proofs.entering.let_pass.Goals as goal
 
 pub returns-then-c-bound-clause-bound : goal.returns-then-c-bound-clause-bound
 returns-then-c-bound-clause-bound g c bound words there =

@@ -1,10 +1,10 @@
-use Rattle.std.proofs.Common.{◌≡◌, ℕ, List, [], ◌∷◌, ap, ◌∙◌}
+use Rattle.std.proofs.Common.{List, ◌∷◌, ap, ◌∙◌}
 use Rattle.wp_core.specs.Tables.{Content, prepared}
 use Rattle.wp_shared.specs.Seats.{SeatState}
 use Rattle.wp_commits.specs.Notes.{is_flag}
 use Rattle.wp_commits.proofs.Goes.{holds_now}
 use Rattle.wp_commits.proofs.TakenOut.{continues_by, taken_out}
-use Rattle.wp_commits.proofs.take_out.take_out.Goals as goal
+use Rattle.wp_commits.proofs.cleanup.take_out.Goals as goal
 
 pub take_out-requires-clause-held : goal.take_out-requires-clause-held
 take_out-requires-clause-held g c =
