@@ -36,15 +36,8 @@ use Rattle.wp_shared.proofs.OneStep.{becomes}
 use Rattle.wp_commits.specs.Making.{delaying}
 use Rattle.wp_commits.specs.Notes.{is_of_words, GoesOn, FlagTells, DelayedFlagTells}
 use Rattle.wp_commits.proofs.Goes.{goes_with}
+use Rattle.wp_commits.proofs.Held.{writes_are, prepared_are}
 use Rattle.wp_commits.proofs.Turns.{note_ends_none}
-
-abbrev prepared_in : PreparedTables → Content → PreparedTables
-prepared_in t (prepared d) = d
-prepared_in t other = t
-
-abbrev writes_in : WriteTable → Content → WriteTable
-writes_in t (writes d) = d
-writes_in t other = t
 
 -- ---- the numbers that the bound reaches
 
@@ -72,7 +65,7 @@ left_none : (a b : Bool) → (a || b) ≡ false → a ≡ false
 left_none true b e = absurd (true≢false e)
 left_none false b e = refl
 
-right_none : (a b : Bool) → (a || b) ≡ false → b ≡ false
+pub right_none : (a b : Bool) → (a || b) ≡ false → b ≡ false
 right_none true b e = absurd (true≢false e)
 right_none false b e = e
 
@@ -121,8 +114,8 @@ module _ (p : Place) (s t : SeatState) (d : WriteTable) (old tables : PreparedTa
   module _ (so : World → Type 0) (same : (t.table ≡ s.table) × (t.by ≡ s.by) × (t.turns ≡ s.turns)) (moved : Moved p (storing_max m) so s.knows t.knows) where
     held_now : (w : World) → IsAt p s.knows w → held_with s.knows.held (prepared (with_moved w.prepared m)) ≡ prepared tables ∷ writes d ∷ []
     held_now w k =
-        let there = held_is p s.knows w (prepared old) k (subst (IsIn (prepared old)) (sym held) (inl refl)) in
-        ap (λ (h : List Content). held_with h (prepared (with_moved w.prepared m))) held ∙ ap (λ (x : PreparedTables). prepared x ∷ writes d ∷ []) (ap (λ (x : PreparedTables). with_moved x m) (ap (prepared_in old) there.1) ∙ sym is)
+        let table = prepared_are p s.knows w k old (subst (IsIn (prepared old)) (sym held) (inl refl)) in
+        ap (λ (h : List Content). held_with h (prepared (with_moved w.prepared m))) held ∙ ap (λ (x : PreparedTables). prepared x ∷ writes d ∷ []) (ap (λ (x : PreparedTables). with_moved x m) table ∙ sym is)
 
     keeps : (fact : Fact) → is_of_words fact ≡ false → Noted s.knows fact → Noted t.knows fact
     keeps fact other there =
@@ -180,13 +173,13 @@ module _ (place : Place) (s t : SeatState) (d : WriteTable) (old tables : Prepar
   steps_if b = cond b (add_delayed_commit (record { number = p; decision = c }) ∷ []) []
 
   table_is : (w : World) → IsAt place s.knows w → w.prepared ≡ old
-  table_is w k = ap (prepared_in old) (held_is place s.knows w (prepared old) k (subst (IsIn (prepared old)) (sym held) (inl refl))).1
+  table_is w k = prepared_are place s.knows w k old (subst (IsIn (prepared old)) (sym held) (inl refl))
 
   pub may_delay : decision_of d.history p ≡ Some c → DelayedFlagTells s.knows tables → MayMake place s.knows (delaying (record { number = p; decision = c }))
   may_delay decided flag w k = by_test (is_prepared w.prepared p) refl
     where
       history_is : w.writes ≡ d
-      history_is = ap (writes_in d) (held_is place s.knows w (writes d) k (subst (IsIn (writes d)) (sym held) (inr (inl refl)))).1
+      history_is = writes_are place s.knows w k d (subst (IsIn (writes d)) (sym held) (inr (inl refl)))
 
       up : is_prepared w.prepared p ≡ true → w.delayed_flag ≡ 0 → ⊥
       up there zero_flag =
@@ -217,8 +210,8 @@ module _ (place : Place) (s t : SeatState) (d : WriteTable) (old tables : Prepar
           let there : is_prepared old p ≡ true = ap (λ (x : PreparedTables). is_prepared x p) (sym (table_is w m.before)) ∙ e in
           let next : PreparedTables = record w.prepared { delayed_commits = finite.insert w.prepared.delayed_commits p c } in
           let next_is : next ≡ with_commit old p c =
-              ap (λ (x : PreparedTables). record x { delayed_commits = finite.insert x.delayed_commits p c }) (table_is w m.before)
-              ∙ ap (λ (x : Bool). record old { delayed_commits = cond x (finite.insert old.delayed_commits p c) old.delayed_commits }) (sym there) in
+          ap (λ (x : PreparedTables). record x { delayed_commits = finite.insert x.delayed_commits p c }) (table_is w m.before)
+          ∙ ap (λ (x : Bool). record old { delayed_commits = cond x (finite.insert old.delayed_commits p c) old.delayed_commits }) (sym there) in
           ap (λ (x : Actor). record x { held = held_with x.held (prepared next) }) (forgets_nothing w.writes.history (length w.cache) (add_delayed_commit (record { number = p; decision = c })) s.knows (commit_ends (record { number = p; decision = c })))
           ∙ (ap (λ (h : List Content). record s.knows { held = held_with h (prepared next) }) held ∙ ap (λ (x : PreparedTables). record s.knows { held = prepared x ∷ writes d ∷ [] }) next_is)
 

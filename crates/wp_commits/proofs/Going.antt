@@ -16,7 +16,7 @@ use Rattle.wp_judge.specs.Words.{CommitPair}
 use Rattle.wp_core.specs.Cache.{pair_at}
 use Rattle.wp_core.specs.Entries.{extended}
 use Rattle.wp_core.specs.Lists.{IsIn}
-use Rattle.wp_core.specs.Tables.{WriteTable, Content, writes, prepared, snapshots}
+use Rattle.wp_core.specs.Tables.{WriteTable, writes, prepared, snapshots}
 use Rattle.wp_core.specs.Notes.{forgets}
 use Rattle.wp_core.specs.Steps.{note}
 use Rattle.wp_core.specs.Turns.{write_turn, Holds}
@@ -34,12 +34,9 @@ use Rattle.wp_rule.proofs.Knows.{at_sound, held_is, noted_is}
 use Rattle.wp_rule.proofs.Needed.{guarded}
 use Rattle.wp_shared.specs.Seats.{SeatState}
 use Rattle.wp_shared.proofs.OneStep.{becomes}
+use Rattle.wp_commits.proofs.Held.{writes_are}
 use Rattle.wp_commits.specs.Cleared.{IsThere}
 use Rattle.wp_commits.specs.Making.{noting_all, noted_all}
-
-abbrev writes_in : WriteTable → Content → WriteTable
-writes_in t (writes d) = d
-writes_in t other = t
 
 module _ (a : Actor) (d : WriteTable) (place p c : ℕ) where
   pub knows_passed : IsIn (writes d) a.held → (k : IsThere a d.history place p c) × (c ≤ k.bound) → KnowsFact a (passed place (record { number = p; decision = c }))
@@ -85,7 +82,7 @@ not_own history (suc i) is decided = by_entry (slice_get history i) refl is deci
 module _ (at : Place) (a : Actor) (d : WriteTable) (place n : ℕ) (live : a.live ≡ true) (held : IsIn (writes d) a.held) (k : IsThere a d.history place n n) (low : n ≤ k.bound) where
   module _ (w : World) (there : IsAt at a w) where
     table_is : w.writes ≡ d
-    table_is = ap (writes_in d) (held_is at a w (writes d) there held).1
+    table_is = writes_are at a w there d held
 
     holds : Holds w.holders write_turn at.by
     holds = (held_is at a w (writes d) there held).0

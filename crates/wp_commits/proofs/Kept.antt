@@ -1,5 +1,5 @@
 -- The old commit map while a pair comes under each live number that overlaps it.
-use Rattle.std.proofs.Common.{◌≡◌, ◌≢◌, inl, inr, ◌⊎◌, ⊎_elim, ℕ, zero, suc, ◌+◌, ◌-◌, ◌<◌, ◌≤◌, nat_le, nat_lt, Bool, true, false, true≢false, cond, ◌||◌, List, [], ◌∷◌, length, refl, sym, subst, ap, ◌∙◌, Option, Some, None, is_some, arith}
+use Rattle.std.proofs.Common.{◌≡◌, ◌≢◌, inl, inr, ◌⊎◌, ⊎_elim, ℕ, zero, suc, ◌+◌, ◌-◌, ◌<◌, ◌≤◌, nat_le, nat_lt, Bool, true, false, true≢false, cond, List, [], ◌∷◌, length, refl, sym, subst, ap, ◌∙◌, Option, Some, None, is_some, arith}
 use Rattle.std.specs.Option.{option_map_or}
 use Rattle.std.proofs.lemmas.Bool.Decides.{nat_tests}
 use native.Mathlib.Decide.{ℕ_discrete}
@@ -26,16 +26,10 @@ use Rattle.wp_rule.proofs.Knows.{held_is, noted_is}
 use Rattle.wp_shared.specs.Clients.{KeepClient}
 use Rattle.wp_shared.specs.Seats.{SeatState}
 use Rattle.wp_shared.proofs.OneStep.{becomes}
+use Rattle.wp_commits.proofs.Delayed.{right_none}
+use Rattle.wp_commits.proofs.Held.{writes_are, snapshots_are}
 use Rattle.wp_commits.specs.Making.{keeping_from, keeping}
 use Rattle.wp_commits.specs.Notes.{OldFlagTells}
-
-abbrev snapshots_in : Snapshots → Content → Snapshots
-snapshots_in t (snapshots d) = d
-snapshots_in t other = t
-
-abbrev writes_in : WriteTable → Content → WriteTable
-writes_in t (writes d) = d
-writes_in t other = t
 
 -- ---- one number
 
@@ -143,10 +137,6 @@ module _ (m new : Snapshots) (p c : ℕ) (changes : ChangesWhere (overlaps p c) 
   pub none_before_kept : NoOldCommits new → NoOldCommits m
   none_before_kept none s q = by_test (overlaps p c s) refl
     where
-      right_none : (a b : Bool) → (a || b) ≡ false → b ≡ false
-      right_none true b e = absurd (true≢false e)
-      right_none false b e = e
-
       less : (o : Option Snapshot) → option_map_or (λ x. set.contains x.old_commits q) (after_keep p o) false ≡ false → option_map_or (λ x. set.contains x.old_commits q) o false ≡ false
       less None e = e
       less (Some x) e = right_none (eq_by_cmp nat_cmp q p) (set.contains x.old_commits q) (sym (set.contains-insert nat_cmp_total x.old_commits p q) ∙ e)
@@ -214,17 +204,16 @@ module _ (m : Snapshots) (p c by : ℕ) where
 
 module _ (place : Place) (s t : SeatState) (d : WriteTable) (old new : Snapshots) (p c : ℕ) (held : s.knows.held ≡ snapshots old ∷ writes d ∷ []) (changes : ChangesWhere (overlaps p c) (after_keep p) old new) where
   table_is : (w : World) → IsAt place s.knows w → w.snapshots ≡ old
-  table_is w k = ap (snapshots_in old) (held_is place s.knows w (snapshots old) k (subst (IsIn (snapshots old)) (sym held) (inl refl))).1
+  table_is w k = snapshots_are place s.knows w k old (subst (IsIn (snapshots old)) (sym held) (inl refl))
 
   pub may_keep : p ≤ c → decision_of d.history p ≡ Some c → OldFlagTells s.knows new → MayMake place s.knows (keeping p c)
   may_keep ordered decided flag w k =
-      let history_is : w.writes ≡ d = ap (writes_in d) (held_is place s.knows w (writes d) k (subst (IsIn (writes d)) (sym held) (inr (inl refl)))).1 in
+      let history_is : w.writes ≡ d = writes_are place s.knows w k d (subst (IsIn (writes d)) (sym held) (inr (inl refl))) in
       let holds = (held_is place s.knows w (snapshots old) k (subst (IsIn (snapshots old)) (sym held) (inl refl))).0 in
-      let value_is : w.old_flag ≡ flag.value = (noted_is place s.knows w (old_flag_stays flag.value) k flag.noted).is_so in
-      (
+      let value_is : w.old_flag ≡ flag.value = (noted_is place s.knows w (old_flag_stays flag.value) k flag.noted).is_so in (
         keeping_quiet w.snapshots p (c - p) p,
         keeping_met w.snapshots p c place.by (c - p) p w s.knows holds (subst (λ (x : WriteTable). decision_of x.history p ≡ Some c) (sym history_is) decided) (omega arith) (omega (arith, ordered)) (λ r from. refl)
-        (λ r live from below zero_flag.
+            (λ r live from below zero_flag.
             let live_old : is_some (finite.get old r) ≡ true = ap (λ (x : Snapshots). is_some (finite.get x r)) (sym (table_is w k)) ∙ live in
             true≢false (sym (kept_at old new p c changes r from below live_old) ∙ flag.empty (sym value_is ∙ zero_flag) r p)),
       )

@@ -1,3 +1,4 @@
+pub mod Held
 pub mod Making
 pub mod Words
 pub mod Goes

@@ -16,18 +16,14 @@ use Rattle.wp_core.proofs.Tests.{some_none}
 use Rattle.wp_rule.specs.Moves.{MayMake, Moved}
 use Rattle.wp_rule.specs.Words.{Place}
 use Rattle.wp_rule.proofs.Forgets.{EndsNothing}
-use Rattle.wp_rule.proofs.Knows.{held_is}
 use Rattle.wp_rule.proofs.MayBeMade.{known_made}
 use Rattle.wp_shared.specs.Calls.{Continues}
 use Rattle.wp_shared.specs.Seats.{SharedState, SeatState, IsFree, Stands, place_at}
 use Rattle.wp_shared.proofs.OneStep.{Made, made, becomes}
+use Rattle.wp_commits.proofs.Held.{prepared_are}
 use Rattle.wp_commits.specs.Gone.{IsGone}
 use Rattle.wp_commits.specs.Notes.{is_flag, GoesOn}
 use Rattle.wp_commits.proofs.Goes.{then, holds_now}
-
-abbrev prepared_in : PreparedTables → Content → PreparedTables
-prepared_in t (prepared d) = d
-prepared_in t other = t
 
 take_ends : (p : ℕ) → EndsNothing (take_out p)
 take_ends p = record { guard = λ turn. refl; place = λ words place. refl; words = refl; delayed_flag = refl; old_flag = refl; pending = refl; adds = refl; takes = refl; prepared = refl; unprepared = refl; transaction = λ history name. refl; direct = refl; moves = refl; replaces = refl; installing = refl }
@@ -43,15 +39,14 @@ module _ {D : Type 0} (z : SharedState D) (so : World → Type 0) (s t : SeatSta
   pub took_out : t ≡ record s { knows = record s.knows { held = prepared tables ∷ [] } }
   took_out =
       let w = step.world in
-      let table : w.prepared ≡ old = ap (prepared_in old) (held_is (place_at z s.by) s.knows w (prepared old) step.before (subst (IsIn (prepared old)) (sym held) (inl refl))).1 in
+      let table : w.prepared ≡ old = prepared_are (place_at z s.by) s.knows w step.before old (subst (IsIn (prepared old)) (sym held) (inl refl)) in
       let left : without_prepared w.prepared p ≡ tables = ap (λ (x : PreparedTables). without_prepared x p) table ∙ sym is in
       becomes s t (record s.knows { held = prepared tables ∷ [] }) same
       (step.actor ∙ (ap (λ (h : List Content). record s.knows { held = held_with h (prepared (without_prepared w.prepared p)) }) held ∙ ap (λ (x : PreparedTables). record s.knows { held = prepared x ∷ [] }) left))
 
   pub gone_there : (x : SeatState) × (w : World) × Stands z x w × IsGone w.prepared p
   gone_there =
-      let w = step.world in
-      (
+      let w = step.world in (
         record s { knows = t.knows },
         _,
         step.after,

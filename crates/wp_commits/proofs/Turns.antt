@@ -27,14 +27,7 @@ use Rattle.wp_shared.specs.Seats.{SharedState, SeatState, place_at}
 use Rattle.wp_shared.specs.Turns.{Taken, MayBeGiven, Given}
 use Rattle.wp_commits.specs.Notes.{is_flag, GoesOn, FlagTells, DelayedFlagTells, OldFlagTells}
 use Rattle.wp_commits.proofs.Goes.{goes_with}
-
-abbrev prepared_in : PreparedTables → Content → PreparedTables
-prepared_in t (prepared d) = d
-prepared_in t other = t
-
-abbrev snapshots_in : Snapshots → Content → Snapshots
-snapshots_in t (snapshots d) = d
-snapshots_in t other = t
+use Rattle.wp_commits.proofs.Held.{same_prepared, same_snapshots}
 
 abbrev tail_of : List ℕ → List ℕ
 tail_of [] = []
@@ -54,7 +47,7 @@ module _ {D : Type 0} (z : SharedState D) (old new : SeatState) (value : Part D)
   took_prepared t k is same =
       let w = k.world in
       let here : prepared w.prepared ≡ prepared t = sym (same_some (prepared t) (prepared w.prepared) (sym (ap content is) ∙ k.is)) in
-      let table : w.prepared ≡ t = ap (prepared_in t) here in
+      let table : w.prepared ≡ t = same_prepared w.prepared t here in
       let notes : new.knows.notes ≡ delayed_flag_stays w.delayed_flag ∷ old.knows.notes = ap (λ (a : Actor). a.notes) k.knows in
       let sound = at_sound (place_at z old.by) old.knows w k.before in (
         record {
@@ -75,7 +68,7 @@ module _ {D : Type 0} (z : SharedState D) (old new : SeatState) (value : Part D)
   took_snapshots m k is same =
       let w = k.world in
       let here : snapshots w.snapshots ≡ snapshots m = sym (same_some (snapshots m) (snapshots w.snapshots) (sym (ap content is) ∙ k.is)) in
-      let table : w.snapshots ≡ m = ap (snapshots_in m) here in
+      let table : w.snapshots ≡ m = same_snapshots w.snapshots m here in
       let notes : new.knows.notes ≡ old_flag_stays w.old_flag ∷ old.knows.notes = ap (λ (a : Actor). a.notes) k.knows in
       let sound = at_sound (place_at z old.by) old.knows w k.before in (
         record {

@@ -9,7 +9,7 @@ use Rattle.wp_judge.specs.Words.{CommitPair, pair_of, numbers_of}
 use Rattle.wp_core.specs.Cache.{cache_place, pair_at}
 use Rattle.wp_core.specs.Entries.{extended, pending_pair}
 use Rattle.wp_core.specs.Lists.{IsIn}
-use Rattle.wp_core.specs.Tables.{WriteTable, Content, writes}
+use Rattle.wp_core.specs.Tables.{WriteTable, writes}
 use Rattle.wp_core.specs.Views.{passed, words_stay}
 use Rattle.wp_core.specs.World.{World}
 use Rattle.wp_core.specs.Sound.Prepared.{IsPairAt}
@@ -18,13 +18,10 @@ use Rattle.wp_core.proofs.Tests.{same_some, none_some}
 use Rattle.wp_core.proofs.ReaderFacts.{pair_ordered, extended_was}
 use Rattle.wp_rule.specs.Knows.{Noted}
 use Rattle.wp_rule.specs.Words.{IsAt}
-use Rattle.wp_rule.proofs.Knows.{at_sound, held_is, noted_is}
+use Rattle.wp_rule.proofs.Knows.{at_sound, noted_is}
 use Rattle.wp_shared.specs.Seats.{SharedState, SeatState, Stands, place_at}
+use Rattle.wp_commits.proofs.Held.{writes_are}
 use Rattle.wp_commits.specs.Cleared.{IsThere, IsCleared, DecidesItself, IsReadyAt, IsUnentered}
-
-abbrev table_in : WriteTable → Content → WriteTable
-table_in t (writes d) = d
-table_in t other = t
 
 pub bound_is : {D : Type 0} (z : SharedState D) (s t : SeatState) (found : ℕ) → t ≡ s → (w : World) × Stands z t w × (found ≡ w.max_evicted) → (bound : ℕ) (words : List ℕ) → Noted s.knows (words_stay bound words) → found ≡ bound
 bound_is z s t found same at bound words there =
@@ -59,7 +56,7 @@ module _ {D : Type 0} (z : SharedState D) (s t : SeatState) (d : WriteTable) (pl
 
   module _ (held : IsIn (writes d) s.knows.held) (within : place < z.cells) (noted : (bound : ℕ) × (words : List ℕ) × Noted s.knows (words_stay bound words)) (ready : IsUnentered s.knows z.cells d ⊎ IsReadyAt s.knows (length d.history) place) where
     table_is : at.0.writes ≡ d
-    table_is = ap (table_in d) (held_is (place_at z s.by) s.knows at.0 (writes d) stands held).1
+    table_is = writes_are (place_at z s.by) s.knows at.0 stands d held
 
     abbrev IsFound : ℕ × ℕ → Type 0
     IsFound r = IsThere s.knows d.history place r.0 r.1
@@ -84,7 +81,7 @@ module _ {D : Type 0} (z : SharedState D) (s t : SeatState) (d : WriteTable) (pl
       unentered_low un =
           (decided_without d.history d.pending pair
           (λ e. let u = un pair e in
-              let placed : cache_place z.cells pair.number ≡ place = ap (λ (n : ℕ). cache_place n pair.number) (sym stands.cells) ∙ known.placed in u.3 (ap (pair_at u.1) placed ∙ in_words u.0 u.1 u.2))
+          let placed : cache_place z.cells pair.number ≡ place = ap (λ (n : ℕ). cache_place n pair.number) (sym stands.cells) ∙ known.placed in u.3 (ap (pair_at u.1) placed ∙ in_words u.0 u.1 u.2))
           ordered.1 decided).1
 
       cleared_low : IsCleared s.knows place → pair.decision ≤ length d.history

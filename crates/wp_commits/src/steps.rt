@@ -91,7 +91,7 @@ fn note_by<D: Disk + Drop, J: Moves>(store: &Shared<D>, seat: &mut Seat<D>, fact
 }
 
 /// Notes the fact, which the seat knows.
-pub fn note<D: Disk + Drop>(store: &Shared<D>, seat: &mut Seat<D>, fact: &Fact)
+fn note<D: Disk + Drop>(store: &Shared<D>, seat: &mut Seat<D>, fact: &Fact)
     requires seat { (seat.old.table ≡ store.now.table) × (seat.old.knows.live ≡ true) }
     requires known { KnowsFact seat.old.knows fact.now }
     ensures { seat.new ≡ noting fact.now seat.old }
@@ -113,7 +113,11 @@ pub fn note_passed<D: Disk + Drop>(
     requires passed { (k : IsThere seat.old.knows log.now.table.history place p c) × (c ≤ k.bound) }
     ensures { seat.new ≡ noting (passed place (record { number = p; decision = c })) seat.old }
 {
-    note(store, seat, &Fact::of(wp_machine::Noted::Passed(place, p, c)));
+    note(
+        store,
+        seat,
+        &Fact::of(wp_machine::Noted::Passed(place, p, c)),
+    );
 }
 
 /// Notes that no prepared table needs the pair of the word at this place any more.
@@ -132,7 +136,11 @@ pub fn note_apart<D: Disk + Drop>(
     requires apart { IsApart tables.now (record { number = p; decision = c }) }
     ensures { seat.new ≡ noting (apart place (record { number = p; decision = c })) seat.old }
 {
-    note(store, seat, &Fact::of(wp_machine::Noted::Apart(place, p, c)));
+    note(
+        store,
+        seat,
+        &Fact::of(wp_machine::Noted::Apart(place, p, c)),
+    );
 }
 
 /// Notes that the old commit map has the pair of the word at this place under each live number that overlaps it.
@@ -151,7 +159,11 @@ pub fn note_in_old_commits<D: Disk + Drop>(
     requires kept { IsInOldCommits snaps.now p c }
     ensures { seat.new ≡ noting (in_old_commits place (record { number = p; decision = c })) seat.old }
 {
-    note(store, seat, &Fact::of(wp_machine::Noted::InOldCommits(place, p, c)));
+    note(
+        store,
+        seat,
+        &Fact::of(wp_machine::Noted::InOldCommits(place, p, c)),
+    );
 }
 
 fn note_own_by<D: Disk + Drop, J: Moves>(
@@ -216,7 +228,11 @@ pub fn put_word<D: Disk + Drop>(
 // ---- the prepared turn
 
 /// Waits for the prepared turn, and takes it with its tables.
-pub fn take_prepared<D: Disk + Drop, R: Wait>(store: &Shared<D>, rt: &R, seat: &mut Seat<D>) -> Prepared
+pub fn take_prepared<D: Disk + Drop, R: Wait>(
+    store: &Shared<D>,
+    rt: &R,
+    seat: &mut Seat<D>,
+) -> Prepared
     requires { (seat.old.table ≡ store.now.table) × (seat.old.knows.live ≡ true) }
     ensures seat { GoesOn is_flag (prepared result ∷ seat.old.knows.held) (1 ∷ seat.old.turns) seat.old seat.new }
     ensures flag { DelayedFlagTells seat.new.knows result }

@@ -24,7 +24,7 @@ returns-clause-cleared g c =
     on_ok c.clear_place.result (IsCleared c.clear_place.new.seat.knows c.args.second) (IsCleared c.clear_place.new.seat.knows c.args.first × IsCleared c.clear_place.new.seat.knows c.args.second)
     (λ h. (
       still_cleared is_of_words c.args.seat.now c.clear_place.new.seat _ _ c.args.first (λ fact e. e) c.clear_place.ensures.seat
-      (λ bound words there. (bound_after c.args.store.now.cells (length c.args.log.now.table.history) bound (pair_at words c.args.second), c.clear_place.ensures.bound bound words there)) c.requires.cleared,
+          (λ bound words there. (bound_after c.args.store.now.cells (length c.args.log.now.table.history) bound (pair_at words c.args.second), c.clear_place.ensures.bound bound words there)) c.requires.cleared,
       h,
     ))
     c.clear_place.ensures.cleared

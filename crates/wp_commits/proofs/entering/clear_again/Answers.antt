@@ -25,9 +25,9 @@ pub clear_own-requires-clause-ready : goal.clear_own-requires-clause-ready
 clear_own-requires-clause-ready g c = ⊎_elim
     (λ (k : IsCleared c.args.seat.now.knows c.args.place). inl (subst (λ (x : SeatState). IsCleared x.knows c.args.place) (sym c.pair.ensures.same) k))
     (λ (k : DecidesItself c.args.seat.now.knows (length c.args.log.now.table.history) c.args.place).
-        let that = that_pair (pair_at k.1 c.args.place) c.in-Some.p c.in-Some.c (sym c.in-Some.is ∙ c.pair.ensures.pair k.0 k.1 k.3) in
-        let same = same_some (record { number = c.in-Some.p; decision = c.in-Some.c }) (record { number = k.2; decision = k.2 }) (sym that ∙ k.5) in
-        inr (ap (λ (x : CommitPair). x.number) same ∙ sym (ap (λ (x : CommitPair). x.decision) same)))
+    let that = that_pair (pair_at k.1 c.args.place) c.in-Some.p c.in-Some.c (sym c.in-Some.is ∙ c.pair.ensures.pair k.0 k.1 k.3) in
+    let same = same_some (record { number = c.in-Some.p; decision = c.in-Some.c }) (record { number = k.2; decision = k.2 }) (sym that ∙ k.5) in
+    inr (ap (λ (x : CommitPair). x.number) same ∙ sym (ap (λ (x : CommitPair). x.decision) same)))
     c.requires.ready
 
 pub returns-in-Some-clause-bound : goal.returns-in-Some-clause-bound

@@ -11,8 +11,8 @@ use Rattle.wp_commits.proofs.entering.clear_own.Goals as goal
 pub returns-then-p-c-clause-cleared : goal.returns-then-p-c-clause-cleared
 returns-then-p-c-clause-cleared g c = ⊎_elim
     (λ (k : IsCleared c.args.seat.now.knows c.args.place).
-        still_cleared is_of_words c.args.seat.now c.let_pass.new.seat _ _ c.args.place (λ fact e. e) c.let_pass.ensures.seat
-        (λ bound words there. (raised c.args.store.now.cells (length c.args.log.now.table.history) bound c.args.c, c.let_pass.ensures.bound bound words there)) k)
+    still_cleared is_of_words c.args.seat.now c.let_pass.new.seat _ _ c.args.place (λ fact e. e) c.let_pass.ensures.seat
+    (λ bound words there. (raised c.args.store.now.cells (length c.args.log.now.table.history) bound c.args.c, c.let_pass.ensures.bound bound words there)) k)
     (λ (same : c.args.p ≡ c.args.c). absurd (c.if-p-c.true same))
     c.requires.ready
 
