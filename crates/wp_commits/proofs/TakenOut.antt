@@ -1,5 +1,5 @@
 -- A decided number leaves the prepared tables.
-use Rattle.std.proofs.Common.{◌≡◌, inl, ℕ, ◌||◌, false, List, [], ◌∷◌, refl, sym, subst, ap, ◌∙◌, Some, None, append-nil}
+use Rattle.std.proofs.Common.{Bool, ◌≡◌, inl, ℕ, ◌||◌, false, List, [], ◌∷◌, refl, sym, subst, ap, ◌∙◌, Some, None, append-nil}
 use Rattle.wp_model.specs.Decision.{decision_of}
 use Rattle.wp_model.specs.PreparedTables.{PreparedTables}
 use Rattle.wp_model.specs.declared.entry.Entry.{Entry}
@@ -14,14 +14,14 @@ use Rattle.wp_core.specs.Sound.Views.{guarded_by}
 use Rattle.wp_core.proofs.Numbers.{in_removed, get_removed}
 use Rattle.wp_core.proofs.Tests.{some_none}
 use Rattle.wp_rule.specs.Moves.{MayMake, Moved}
-use Rattle.wp_rule.specs.Words.{Place}
+use Rattle.wp_rule.specs.Words.{Place, IsAt}
 use Rattle.wp_rule.proofs.Forgets.{EndsNothing}
 use Rattle.wp_rule.proofs.MayBeMade.{known_made}
 use Rattle.wp_shared.specs.Calls.{Continues}
-use Rattle.wp_shared.specs.Seats.{SharedState, SeatState, IsFree, Stands, place_at}
+use Rattle.wp_shared.specs.Seats.{SharedState, SeatState, IsFree, place_at}
 use Rattle.wp_shared.proofs.OneStep.{Made, made, becomes}
 use Rattle.wp_commits.proofs.Held.{prepared_are}
-use Rattle.wp_commits.specs.Gone.{IsGone}
+use Rattle.wp_commits.specs.Gone.{HasLeft}
 use Rattle.wp_commits.specs.Notes.{is_flag, GoesOn}
 use Rattle.wp_commits.proofs.Goes.{then, holds_now}
 
@@ -44,14 +44,25 @@ module _ {D : Type 0} (z : SharedState D) (so : World → Type 0) (s t : SeatSta
       becomes s t (record s.knows { held = prepared tables ∷ [] }) same
       (step.actor ∙ (ap (λ (h : List Content). record s.knows { held = held_with h (prepared (without_prepared w.prepared p)) }) held ∙ ap (λ (x : PreparedTables). record s.knows { held = prepared x ∷ [] }) left))
 
-  pub gone_there : (x : SeatState) × (w : World) × Stands z x w × IsGone w.prepared p
+  pub gone_there : HasLeft z s p
   gone_there =
-      let w = step.world in (
-        record s { knows = t.knows },
-        _,
-        step.after,
-        ((λ i. in_removed w.prepared.heap p i || in_removed w.prepared.delayed p i), get_removed w.prepared.delayed_commits p),
-      )
+      let w = step.world in record {
+        knows = t.knows;
+        participant = ap (λ (x : SeatState). x.knows.participant) took_out;
+        world = _;
+        there = step.after;
+        gone = ((λ i. in_removed w.prepared.heap p i || in_removed w.prepared.delayed p i), get_removed w.prepared.delayed_commits p);
+      }
+
+-- the same of a seat that only took the turn by then
+pub left_before : {D : Type 0} (z : SharedState D) (s t : SeatState) (p : ℕ) (test : Fact → Bool) (h : List Content) (m : List ℕ) → GoesOn test h m s t → HasLeft z t p → HasLeft z s p
+left_before z s t p test h m first k = record {
+  knows = k.knows;
+  participant = k.participant ∙ ap (λ (x : SeatState). x.knows.participant) first.same;
+  world = k.world;
+  there = subst (λ (by : ℕ). IsAt (place_at z by) k.knows k.world) (ap (λ (x : SeatState). x.by) first.same) k.there;
+  gone = k.gone;
+}
 
 -- what is noted without a turn is no flag
 no_flag : (fact : Fact) → guarded_by fact ≡ None → is_flag fact ≡ false

@@ -1,10 +1,9 @@
 //! Late clean-up: a decided number leaves the prepared tables.
 ghost use Rattle.std.specs.Prelude.{◌≡◌, ℕ, Some};
 ghost use Rattle.wp_model.specs.Decision.{decision_of};
-ghost use Rattle.wp_core.specs.World.{World};
 ghost use Rattle.wp_shared.specs.Calls.{Continues};
-ghost use Rattle.wp_shared.specs.Seats.{SeatState, IsFree, Stands};
-ghost use Rattle.wp_commits.specs.Gone.{IsGone};
+ghost use Rattle.wp_shared.specs.Seats.{IsFree};
+ghost use Rattle.wp_commits.specs.Gone.{HasLeft};
 
 use crate::steps;
 use std::sync::Wait;
@@ -18,7 +17,7 @@ pub fn take_out<D: Disk + Drop, R: Wait>(store: &Shared<D>, rt: &R, seat: &mut S
     requires free { IsFree store.now.table seat.old }
     requires decided { (c : ℕ) × (decision_of seat.old.knows.participant.seen p ≡ Some c) }
     ensures seat { Continues store.now seat.old seat.new seat.old.knows.participant }
-    ensures gone { (s : SeatState) × (w : World) × Stands store.now s w × IsGone w.prepared p }
+    ensures gone { HasLeft store.now seat.old p }
 {
     let mut tables = steps::take_prepared(store, rt, seat);
     steps::take_out(store, seat, &mut tables, p);

@@ -16,9 +16,8 @@ ghost use Rattle.wp_core.specs.Sound.Views.{IsApart};
 ghost use Rattle.wp_core.specs.Steps as step;
 ghost use Rattle.wp_core.specs.Views.{passed, in_old_commits, apart, words_stay, delayed_flag_stays, old_flag_stays};
 ghost use Rattle.wp_rule.specs.Knows.{Holding, Noted, KnowsFact};
-ghost use Rattle.wp_core.specs.World.{World};
-ghost use Rattle.wp_shared.specs.Seats.{SeatState, Stands, place_at};
-ghost use Rattle.wp_commits.specs.Gone.{IsGone};
+ghost use Rattle.wp_shared.specs.Seats.{place_at};
+ghost use Rattle.wp_commits.specs.Gone.{HasLeft};
 ghost use Rattle.wp_commits.specs.Cleared.{IsThere, IsCleared, IsReadyAt, IsUnentered};
 ghost use Rattle.wp_commits.specs.Making.{noting_all, noted_all, delaying, keeping};
 ghost use Rattle.wp_commits.specs.Notes.{noting, is_flag, is_of_words, is_of_place, GoesOn, FlagTells, DelayedFlagTells, OldFlagTells};
@@ -385,7 +384,7 @@ fn take_out_by<D: Disk + Drop, J: Moves>(
     requires held { (t : PreparedTables) × (seat.old.knows.held ≡ prepared t ∷ []) × (tables.now ≡ without_prepared t p) }
     requires decided { (c : ℕ) × (decision_of seat.old.knows.participant.seen p ≡ Some c) }
     ensures seat { seat.new ≡ record seat.old { knows = record seat.old.knows { held = prepared tables.now ∷ [] } } }
-    ensures gone { (s : SeatState) × (w : World) × Stands store.now s w × IsGone w.prepared p }
+    ensures gone { HasLeft store.now seat.old p }
 {
     store.make::<J>(seat);
 }
@@ -403,7 +402,7 @@ pub fn take_out<D: Disk + Drop>(
     requires flag { DelayedFlagTells seat.old.knows tables.old }
     ensures seat { GoesOn is_flag (prepared tables.new ∷ []) seat.old.turns seat.old seat.new }
     ensures flag { DelayedFlagTells seat.new.knows tables.new }
-    ensures gone { (s : SeatState) × (w : World) × Stands store.now s w × IsGone w.prepared p }
+    ensures gone { HasLeft store.now seat.old p }
 {
     let none = tables.none_delayed();
     tables.remove(p);

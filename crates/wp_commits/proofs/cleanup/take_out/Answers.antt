@@ -3,7 +3,7 @@ use Rattle.wp_core.specs.Tables.{Content, prepared}
 use Rattle.wp_shared.specs.Seats.{SeatState}
 use Rattle.wp_commits.specs.Notes.{is_flag}
 use Rattle.wp_commits.proofs.Goes.{holds_now}
-use Rattle.wp_commits.proofs.TakenOut.{continues_by, taken_out}
+use Rattle.wp_commits.proofs.TakenOut.{continues_by, taken_out, left_before}
 use Rattle.wp_commits.proofs.cleanup.take_out.Goals as goal
 
 pub take_out-requires-clause-held : goal.take_out-requires-clause-held
@@ -17,3 +17,6 @@ pub returns-clause-seat : goal.returns-clause-seat
 returns-clause-seat g c =
     continues_by c.args.store.now c.args.seat.now c.give_prepared.new.seat c.requires.free
     (taken_out c.args.store.now c.args.seat.now c.take_prepared-tables.new.seat c.take_out.new.seat c.give_prepared.new.seat c.take_prepared-tables.result c.take_out.new.tables c.requires.free c.take_prepared-tables.ensures.seat c.take_out.ensures.seat c.give_prepared.ensures)
+
+pub returns-clause-gone : goal.returns-clause-gone
+returns-clause-gone g c = left_before c.args.store.now c.args.seat.now c.take_prepared-tables.new.seat c.args.p is_flag _ _ c.take_prepared-tables.ensures.seat c.take_out.ensures.gone
