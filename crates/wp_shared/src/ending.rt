@@ -55,7 +55,7 @@ impl<D: Disk + Drop> Shared<D> {
 
     /// Ends the store, and gives what lay behind the turns. The seats are the first one and then all that it made, none of which
     /// holds a turn.
-    pub fn close(self, seats: Vec<Seat<D>>) -> Parts<Part<D>>
+    fn close(self, seats: Vec<Seat<D>>) -> Parts<Part<D>>
         requires free { AllFree self.table seats.items }
         requires all { AreAll seats.items }
         ensures { Remains self seats.items (part_of result) }
@@ -68,6 +68,7 @@ impl<D: Disk + Drop> Shared<D> {
         let Shared { words, .. } = self;
         words.close(first.seat)
     }
+
     /// Ends the store, and gives its history and its devices. The seats are the first one and then all that it made, none of which
     /// holds a turn.
     pub fn finish(self, seats: Vec<Seat<D>>) -> Finished<D>
