@@ -17,6 +17,7 @@ pub fn take_out<D: Disk + Drop, R: Wait>(store: &Shared<D>, rt: &R, seat: &mut S
     requires free { IsFree store.now.table seat.old }
     requires decided { (c : ℕ) × (decision_of seat.old.knows.participant.seen p ≡ Some c) }
     ensures seat { Continues store.now seat.old seat.new seat.old.knows.participant }
+    ensures same { seat.new.knows.participant ≡ seat.old.knows.participant }
     ensures gone { HasLeft store.now seat.old p }
 {
     let mut tables = steps::take_prepared(store, rt, seat);

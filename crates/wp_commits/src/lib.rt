@@ -13,6 +13,8 @@
 //! an entry is logged, and `enter` stores the word after it and takes none. `clear_pair` is for the two pairs of a rollback, of
 //! which the second may take the place of the first. `take_out` is the late clean-up.
 //!
+//! `take_prepared` and `give_prepared`: the prepared turn beside others, with what its flag says of it.
+//!
 //! The calls are made of small ones in `steps`, one for each step of the machine of `wp_core`, that say what is left of the seat.
 //! The turns are taken in their order, and each is given before the next. All calls wait.
 #![tactic(auto)]
@@ -31,3 +33,4 @@ pub use cleanup::take_out;
 pub use clear::{clear_for, clear_pair};
 pub use cleared::Cleared;
 pub use entering::enter;
+pub use steps::{give_prepared, take_prepared};

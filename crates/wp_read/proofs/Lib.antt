@@ -8,3 +8,6 @@ pub mod Taking
 pub mod Versions
 pub mod Shows
 pub mod Rounds
+pub mod HeldKeys
+pub mod Counts
+pub mod AllPinned

@@ -1,8 +1,9 @@
 -- Snapshots are registered and released, one step after another.
-use Rattle.std.proofs.Common.{◌≡◌, ◌≢◌, ◌⊎◌, inl, inr, ⊎_elim, ℕ, suc, ◌+◌, ◌-◌, ◌≤◌, nat_le, ◌==◌, eq-eqb, Bool, true, false, cond, true≢false, List, [], ◌∷◌, ◌++◌, length, refl, sym, subst, ap, ◌∙◌, Option, Some, None, arith}
+use Rattle.std.proofs.Common.{◌≡◌, ◌≢◌, ◌⊎◌, inl, inr, ⊎_elim, ℕ, suc, ◌+◌, ◌-◌, ◌≤◌, nat_le, ◌==◌, eq-eqb, Bool, true, false, cond, ◌||◌, true≢false, List, [], ◌∷◌, ◌++◌, length, refl, sym, subst, ap, ◌∙◌, Option, Some, None, arith}
 use Rattle.std.specs.Prelude.{MatchOption, unwrap_or}
 use Rattle.std.proofs.lemmas.Bool.Decides.{nat_tests}
 use Rattle.std.specs.Cmp.{nat_cmp_total}
+use Rattle.std.specs.List.{list_any}
 use Rattle.std.specs.Option.{option_map_or}
 use Rattle.std.specs.Ordering.{nat_cmp}
 use Rattle.std.specs.FinSet as set
@@ -27,7 +28,7 @@ use Rattle.wp_rule.proofs.MayBeMade.{known_made, registers_at}
 use Rattle.wp_shared.specs.Clients.{KeepClient}
 use Rattle.wp_shared.specs.Seats.{SharedState, SeatState, place_at}
 use Rattle.wp_shared.proofs.OneStep.{made, becomes}
-use Rattle.wp_read.specs.Registers.{all_but_last_of, all_but_last, last_of, before_first, behind_first, registration_of, Registers, Unregisters}
+use Rattle.wp_read.specs.Registers.{all_but_last_of, all_but_last, last_of, before_last, behind_last, registration_of, Registers, Unregisters}
 use Rattle.wp_read.proofs.Readings.{held_snapshots, held_live}
 
 -- ---- places in lists of registrations
@@ -49,23 +50,55 @@ same_registration r s e =
 is_same_as_itself : (r : Registration) → is_same_registration r r ≡ true
 is_same_as_itself r = let n = eq-eqb r.number r.number refl in let l = eq-eqb r.smallest r.smallest refl in rw (n, l) refl
 
-split_by : (r s : Registration) (others : List Registration) (b : Bool) → is_same_registration r s ≡ b → (IsIn r others → others ≡ before_first r others ++ r ∷ behind_first r others) → (s ≡ r) ⊎ IsIn r others
-    → s ∷ others ≡ cond b [] (s ∷ before_first r others) ++ r ∷ cond b others (behind_first r others)
-split_by r s others true is rest there = ap (λ x. x ∷ others) (same_registration r s is)
-split_by r s others false is rest there =
-    ⊎_elim (λ (e : s ≡ r). absurd (true≢false (sym (subst (λ (x : Registration). is_same_registration r x ≡ true) (sym e) (is_same_as_itself r)) ∙ is))) (λ (k : IsIn r others). ap (λ x. s ∷ x) (rest k)) there
+is_found_by : (b c : Bool) → (b ≡ true) ⊎ (c ≡ true) → (b || c) ≡ true
+is_found_by true c e = refl
+is_found_by false c e = ⊎_elim (λ (k : false ≡ true). absurd (true≢false (sym k))) (λ (k : c ≡ true). k) e
 
-pub split_first : (r : Registration) (rs : List Registration) → IsIn r rs → rs ≡ before_first r rs ++ r ∷ behind_first r rs
-split_first r [] there = absurd there
-split_first r (s ∷ others) there = split_by r s others (is_same_registration r s) refl (split_first r others) there
+-- a registration that is in the list is found there
+is_found : (r : Registration) (rs : List Registration) → IsIn r rs → list_any (is_same_registration r) rs ≡ true
+is_found r [] there = absurd there
+is_found r (s ∷ others) there =
+    is_found_by (is_same_registration r s) (list_any (is_same_registration r) others)
+    (⊎_elim (λ (e : s ≡ r). inl (subst (λ (x : Registration). is_same_registration r x ≡ true) (sym e) (is_same_as_itself r))) (λ (k : IsIn r others). inr (is_found r others k)) there)
+
+found_by : (r s : Registration) (others : List Registration) (b : Bool) → is_same_registration r s ≡ b → (list_any (is_same_registration r) others ≡ true → IsIn r others) → (b || list_any (is_same_registration r) others) ≡ true → IsIn r (s ∷ others)
+found_by r s others true is rest e = inl (same_registration r s is)
+found_by r s others false is rest e = inr (rest e)
+
+-- a registration that is found in the list is there
+found : (r : Registration) (rs : List Registration) → list_any (is_same_registration r) rs ≡ true → IsIn r rs
+found r [] e = absurd (true≢false (sym e))
+found r (s ∷ others) e = found_by r s others (is_same_registration r s) refl (found r others) e
+
+not_found : (r : Registration) (rs : List Registration) → list_any (is_same_registration r) rs ≡ false → IsIn r rs → ⊥
+not_found r rs e there = true≢false (sym (is_found r rs there) ∙ e)
+
+split_by : (r s : Registration) (others : List Registration) (b : Bool) → list_any (is_same_registration r) others ≡ b → (IsIn r others → others ≡ before_last r others ++ r ∷ behind_last r others) → (s ≡ r) ⊎ IsIn r others
+    → s ∷ others ≡ cond b (s ∷ before_last r others) [] ++ r ∷ cond b (behind_last r others) others
+split_by r s others true more rest there = ap (λ x. s ∷ x) (rest (found r others more))
+split_by r s others false none rest there = ⊎_elim (λ (e : s ≡ r). ap (λ x. x ∷ others) e) (λ (k : IsIn r others). absurd (not_found r others none k)) there
+
+-- a list is what is before the last place of one of its registrations, with that one and what is behind it
+pub split_last : (r : Registration) (rs : List Registration) → IsIn r rs → rs ≡ before_last r rs ++ r ∷ behind_last r rs
+split_last r [] there = absurd there
+split_last r (s ∷ others) there = split_by r s others (list_any (is_same_registration r) others) refl (split_last r others) there
+
+none_behind_by : (r : Registration) (others : List Registration) (b : Bool) → list_any (is_same_registration r) others ≡ b → (IsIn r (behind_last r others) → ⊥) → IsIn r (cond b (behind_last r others) others) → ⊥
+none_behind_by r others true more rest = rest
+none_behind_by r others false none rest = not_found r others none
+
+-- behind the last place of a registration there is no other that is equal to it
+pub none_behind : (r : Registration) (rs : List Registration) → IsIn r (behind_last r rs) → ⊥
+none_behind r [] = λ there. there
+none_behind r (s ∷ others) = none_behind_by r others (list_any (is_same_registration r) others) refl (none_behind r others)
 
 -- ---- one number's snapshot
 
-placed_there : (m : Snapshots) (n : ℕ) (o : Option snaps.Snapshot) → finite.get (placed m n o) n ≡ o
+pub placed_there : (m : Snapshots) (n : ℕ) (o : Option snaps.Snapshot) → finite.get (placed m n o) n ≡ o
 placed_there m n None = get_removed m n
 placed_there m n (Some x) = get_inserted m n x
 
-placed_else : (m : Snapshots) (n : ℕ) (o : Option snaps.Snapshot) (t : ℕ) → t ≢ n → finite.get (placed m n o) t ≡ finite.get m t
+pub placed_else : (m : Snapshots) (n : ℕ) (o : Option snaps.Snapshot) (t : ℕ) → t ≢ n → finite.get (placed m n o) t ≡ finite.get m t
 placed_else m n None t ne = get_removed_else m n t ne
 placed_else m n (Some x) t ne = get_inserted_else m n x t ne
 

@@ -1,20 +1,21 @@
 -- What a seat is again, once it gave what it took.
-use Rattle.std.proofs.Common.{◌≡◌, ◌⊎◌, ◌==◌, inl, inr, ℕ, suc, ◌≤◌, List, [], ◌∷◌, ◌++◌, length, refl, sym, subst, ap, ◌∙◌, Option, Some, None, append-nil}
+use Rattle.std.proofs.Common.{◌≡◌, ◌⊎◌, inl, inr, ℕ, suc, ◌≤◌, List, [], ◌∷◌, ◌++◌, length, refl, sym, subst, ap, ◌∙◌, Option, Some, None, append-nil, append_assoc}
 use Rattle.std.specs.Prelude.{MatchOption}
 use Rattle.std.specs.FinMap as finite
 use Rattle.wp_model.specs.declared.entry.Entry.{Entry}
 use Rattle.wp_model.specs.PreparedTables.{PreparedTables, IsSmallest, NonePrepared}
 use Rattle.wp_model.specs.Snapshots as snaps
-use Rattle.wp_model.specs.Snapshots.{Snapshots, ChangesWhere, after_register, after_release}
+use Rattle.wp_model.specs.Snapshots.{Snapshots}
 use Rattle.wp_core.specs.Changes.{turn_index, held_with, held_without, with_registered, with_released}
 use Rattle.wp_core.specs.Lists.{IsIn}
 use Rattle.wp_core.specs.Notes.{gives_guard}
 use Rattle.wp_core.specs.Reading.{Registration}
 use Rattle.wp_core.specs.Sound.Actors.{StartsWith}
 use Rattle.wp_core.specs.Steps.{give_turn}
-use Rattle.wp_core.specs.Tables.{prepared, snapshots, turn_of, NoneDelayed, NoOldCommits}
+use Rattle.wp_core.specs.Tables.{Content, prepared, snapshots, turn_of, NoneDelayed, NoOldCommits}
 use Rattle.wp_core.specs.Turns.{Turn, prepared_turn, snapshots_turn}
-use Rattle.wp_core.specs.Views.{delayed_flag_stays, old_flag_stays}
+use Rattle.wp_core.specs.Views.{Fact, delayed_flag_stays, old_flag_stays}
+use Rattle.wp_core.specs.Sound.Views.{guarded_by}
 use Rattle.wp_core.specs.World.{Participant, Actor}
 use Rattle.wp_core.proofs.Tests.{same_some}
 use Rattle.wp_rule.specs.Plays.{facts_at}
@@ -24,11 +25,11 @@ use Rattle.wp_guarded.specs.declared.part.Part.TheVariants as part
 use Rattle.wp_shared.specs.Calls.{Continues}
 use Rattle.wp_shared.specs.Seats.{SharedState, SeatState, IsFree, place_at}
 use Rattle.wp_shared.specs.Turns.{Taken, Given}
-use Rattle.wp_read.specs.Reads.{KeepsNotes}
-use Rattle.wp_read.specs.Registers.{registration_of, Registers, Unregisters, IsSeated, ChangesSnapshots, IsTaken}
+use Rattle.wp_read.specs.Reads.{KeepsNotes, noting}
+use Rattle.wp_read.specs.Registers.{registration_of, Registers, Unregisters, IsSeated, ChangesSnapshots, IsTakenAt}
 use Rattle.wp_read.proofs.HeldTables.{rest_of, in_back, taken_keeps, given_keeps, delayed_flag_noted, old_flag_noted}
 use Rattle.wp_read.proofs.Readings.{held_prepared, held_snapshots}
-use Rattle.wp_read.proofs.Registers.{changes_placed, registered_and_released, kept_by_register}
+use Rattle.wp_read.proofs.Registers.{registered_and_released, kept_by_register}
 
 pub seated_on : (r s t : SeatState) → IsSeated r s → IsSeated s t → IsSeated r t
 seated_on r s t j k = record { table = k.table ∙ j.table; by = k.by ∙ j.by; live = k.live ∙ j.live; made = k.made ∙ j.made; joined = k.joined ∙ j.joined }
@@ -83,8 +84,8 @@ module _ {D : Type 0} (z : SharedState D) (s t : SeatState) (n : ℕ) (least : O
   pub seen_more : StartsWith t.knows.participant.seen s.knows.participant.seen
   seen_more = subst (λ (h : List Entry). StartsWith h s.knows.participant.seen) (sym seen_after) (seen_is (place_at z s.by) s.knows k.world k.there)
 
-  pub changed : (m' : Snapshots) → ChangesWhere (λ q. q == n) after_register m m' → ChangesSnapshots s t (record s.knows.participant { registered = t.knows.participant.registered }) m' (prepared tables ∷ [])
-  changed m' c = record {
+  pub changed : (m' : Snapshots) → m' ≡ with_registered m n → ChangesSnapshots s t (record s.knows.participant { registered = t.knows.participant.registered }) m' (prepared tables ∷ [])
+  changed m' same = record {
     seated = record {
       table = ap (λ (x : SeatState). x.table) k.seat;
       by = ap (λ (x : SeatState). x.by) k.seat;
@@ -95,8 +96,8 @@ module _ {D : Type 0} (z : SharedState D) (s t : SeatState) (n : ℕ) (least : O
     turns = ap (λ (x : SeatState). x.turns) k.seat;
     participant = ap (λ (x : SeatState). x.knows.participant) k.seat ∙ (λ i. record s.knows.participant { seen = (sym seen_after) i; registered = (sym registered_after) i });
     seen = seen_more;
-    held = held_after ∙ ap (λ (x : Snapshots). snapshots x ∷ prepared tables ∷ []) (sym (changes_placed m m' n after_register c));
-    notes = ap (λ (x : SeatState). x.knows.notes) k.seat;
+    held = held_after ∙ ap (λ (x : Snapshots). snapshots x ∷ prepared tables ∷ []) (sym same);
+    notes = λ fact there. subst (λ (x : SeatState). IsIn fact x.knows.notes) (sym k.seat) there;
   }
 
   module _ (r : Registration) (is : r ≡ registration_of n least) where
@@ -106,11 +107,12 @@ module _ {D : Type 0} (z : SharedState D) (s t : SeatState) (n : ℕ) (least : O
     pub number_seen : r.number ≡ length t.knows.participant.seen
     number_seen = ap (λ (x : Registration). x.number) is ∙ (k.number_is ∙ ap length (sym seen_after))
 
-    pub was_taken : MatchOption least (NonePrepared tables) (IsSmallest tables) → IsTaken z s.by r
+    pub was_taken : MatchOption least (NonePrepared tables) (IsSmallest tables) → IsTakenAt z s.by r m
     was_taken found = record {
       world = k.world;
       actor = s.knows;
       there = k.there;
+      live = snapshots_are;
       number = ap (λ (x : Registration). x.number) is ∙ k.number_is;
       smallest = by least is found;
     }
@@ -145,19 +147,19 @@ module _ {D : Type 0} (z : SharedState D) (s t : SeatState) (n : ℕ) (least : O
       seen = subst (λ (h : List Entry). StartsWith h s.knows.participant.seen) (sym seen_back) (seen_is (place_at z s.by) s.knows k.world k.there);
       held = ap (λ (x : SeatState). x.knows.held) back.seat ∙ (ap (λ h. held_with h (snapshots (with_released (with_registered m n) n))) held_after ∙
           ap (λ (x : Snapshots). snapshots x ∷ prepared tables ∷ []) (registered_and_released m n none_zero ∙ sym same));
-      notes = ap (λ (x : SeatState). x.knows.notes) back.seat ∙ ap (λ (x : SeatState). x.knows.notes) k.seat;
+      notes = λ fact there. subst (λ (x : SeatState). IsIn fact x.knows.notes) (sym back.seat) (subst (λ (x : SeatState). IsIn fact x.knows.notes) (sym k.seat) there);
     }
 
 -- what is kept where it was registered
-pub kept_before : (m m' : Snapshots) (n : ℕ) → ChangesWhere (λ q. q == n) after_register m m' → NoOldCommits m' → NoOldCommits m
-kept_before m m' n c none = kept_by_register m n (subst NoOldCommits (changes_placed m m' n after_register c) none)
+pub kept_before : (m m' : Snapshots) (n : ℕ) → m' ≡ with_registered m n → NoOldCommits m' → NoOldCommits m
+kept_before m m' n same none = kept_by_register m n (subst NoOldCommits same none)
 
 -- ---- both turns are given
 
 module _ {D : Type 0} (z : SharedState D) (s0 s1 s2 s3 s4 : SeatState) (m m' : Snapshots) (tables : PreparedTables) (after : Participant) (same1 : (s1.table ≡ s0.table) × (s1.by ≡ s0.by) × (s1.turns ≡ 1 ∷ s0.turns)) (took1 : Taken z prepared_turn s0 s1 (part.Prepared tables))
     (same2 : (s2.table ≡ s1.table) × (s2.by ≡ s1.by) × (s2.turns ≡ 2 ∷ s1.turns)) (took2 : Taken z snapshots_turn s1 s2 (part.Snapshots m)) (changes : ChangesSnapshots s2 s3 after m' (prepared tables ∷ [])) where
   pub flag_noted : (NoOldCommits m' → NoOldCommits m) → NoOldCommits m' → IsIn (old_flag_stays 0) s3.knows.notes
-  flag_noted kept none = subst (IsIn (old_flag_stays 0)) (sym changes.notes) (old_flag_noted z s1 s2 m took2 (kept none))
+  flag_noted kept none = changes.notes (old_flag_stays 0) (old_flag_noted z s1 s2 m took2 (kept none))
 
   module _ (gave1 : Given z s3 s4 (part.Snapshots m')) where
     gave_snapshots : turn_of gave1.table ≡ snapshots_turn
@@ -170,7 +172,7 @@ module _ {D : Type 0} (z : SharedState D) (s0 s1 s2 s3 s4 : SeatState) (m m' : S
     delayed_noted none =
         let first = delayed_flag_noted z s0 s1 tables took1 none in
         let second : IsIn (delayed_flag_stays 0) s2.knows.notes = subst (λ (a : Actor). IsIn (delayed_flag_stays 0) a.notes) (sym took2.knows) (in_back (delayed_flag_stays 0) (facts_at snapshots_turn took2.world) s1.knows.notes first) in
-        gave1.notes (delayed_flag_stays 0) (subst (IsIn (delayed_flag_stays 0)) (sym changes.notes) second) (ap (λ (turn : Turn). gives_guard (Some prepared_turn) (give_turn turn)) gave_snapshots)
+        gave1.notes (delayed_flag_stays 0) (changes.notes (delayed_flag_stays 0) second) (ap (λ (turn : Turn). gives_guard (Some prepared_turn) (give_turn turn)) gave_snapshots)
 
     module _ (s5 : SeatState) (gave2 : Given z s4 s5 (part.Prepared tables)) (free : IsFree z.table s0) where
       gave_prepared : turn_of gave2.table ≡ prepared_turn
@@ -190,6 +192,10 @@ module _ {D : Type 0} (z : SharedState D) (s0 s1 s2 s3 s4 : SeatState) (m m' : S
       pub same_seen : s5.knows.participant.seen ≡ s3.knows.participant.seen
       same_seen = ap (λ (x : Participant). x.seen) same_participant
 
+      -- what was noted without a turn
+      pub both_noted : (fact : Fact) → guarded_by fact ≡ None → IsIn fact s3.knows.notes → IsIn fact s5.knows.notes
+      both_noted fact loose there = given_keeps z s4 s5 (part.Prepared tables) gave2 fact loose (given_keeps z s3 s4 (part.Snapshots m') gave1 fact loose there)
+
       pub continues_both : Continues z s0 s5 after
       continues_both =
           continues z s0 s5 after free
@@ -200,13 +206,12 @@ module _ {D : Type 0} (z : SharedState D) (s0 s1 s2 s3 s4 : SeatState) (m m' : S
           (subst (λ (x : List Entry × List Entry). StartsWith x.0 x.1) (λ i. ((sym same_seen) i, (was_participant i).seen)) changes.seen)
           (same_participant ∙ (changes.participant ∙ ap (λ (h : List Entry). record after { seen = h }) (sym same_seen)))
           (λ fact loose there.
-          given_keeps z s4 s5 (part.Prepared tables) gave2 fact loose
-          (given_keeps z s3 s4 (part.Snapshots m') gave1 fact loose (subst (IsIn fact) (sym changes.notes) (taken_keeps z snapshots_turn s1 s2 (part.Snapshots m) took2 fact loose (taken_keeps z prepared_turn s0 s1 (part.Prepared tables) took1 fact loose there)))))
+          both_noted fact loose (changes.notes fact (taken_keeps z snapshots_turn s1 s2 (part.Snapshots m) took2 fact loose (taken_keeps z prepared_turn s0 s1 (part.Prepared tables) took1 fact loose there))))
 
 -- ---- the registration is taken back
 
-module _ (s t : SeatState) (front back : List Registration) (r : Registration) (m m' : Snapshots) (k : Unregisters s t front back r m) (held : s.knows.held ≡ snapshots m ∷ []) (c : ChangesWhere (λ q. q == r.number) after_release m m') where
-  pub released_one : ChangesSnapshots s t (record s.knows.participant { registered = front ++ back }) m' []
+module _ (s t : SeatState) (front back : List Registration) (r : Registration) (m m' : Snapshots) (others : List Content) (k : Unregisters s t front back r m) (held : s.knows.held ≡ snapshots m ∷ others) (same : m' ≡ with_released m r.number) where
+  pub released_one : ChangesSnapshots s t (record s.knows.participant { registered = front ++ back }) m' others
   released_one = record {
     seated = record {
       table = ap (λ (x : SeatState). x.table) k.seat;
@@ -218,6 +223,65 @@ module _ (s t : SeatState) (front back : List Registration) (r : Registration) (
     turns = ap (λ (x : SeatState). x.turns) k.seat;
     participant = ap (λ (x : SeatState). x.knows.participant) k.seat ∙ (λ i. record s.knows.participant { registered = front ++ back; seen = (ap (λ (x : SeatState). x.knows.participant.seen) (sym k.seat)) i });
     seen = ([], ap (λ (x : SeatState). x.knows.participant.seen) k.seat ∙ sym (append-nil s.knows.participant.seen));
-    held = ap (λ (x : SeatState). x.knows.held) k.seat ∙ (ap (λ h. held_with h (snapshots (with_released m r.number))) held ∙ ap (λ (x : Snapshots). snapshots x ∷ []) (sym (changes_placed m m' r.number after_release c)));
-    notes = ap (λ (x : SeatState). x.knows.notes) k.seat;
+    held = ap (λ (x : SeatState). x.knows.held) k.seat ∙ (ap (λ h. held_with h (snapshots (with_released m r.number))) held ∙ ap (λ (x : Snapshots). snapshots x ∷ others) (sym same));
+    notes = λ fact there. subst (λ (x : SeatState). IsIn fact x.knows.notes) (sym k.seat) there;
   }
+
+-- ---- one change after another
+
+pub starts_on : (xs ys zs : List Entry) → StartsWith ys xs → StartsWith zs ys → StartsWith zs xs
+starts_on xs ys zs j k = (j.0 ++ k.0, k.1 ∙ (ap (λ (h : List Entry). h ++ k.0) j.1 ∙ append_assoc xs j.0 k.0))
+
+pub changes_on : (a b c : SeatState) (rs : List Registration) (m m' : Snapshots) (others : List Content) → ChangesSnapshots a b (record a.knows.participant { registered = b.knows.participant.registered }) m others
+    → ChangesSnapshots b c (record b.knows.participant { registered = rs }) m' others → ChangesSnapshots a c (record a.knows.participant { registered = c.knows.participant.registered }) m' others
+changes_on a b c rs m m' others j k =
+    let is : c.knows.participant.registered ≡ rs = ap (λ (x : Participant). x.registered) k.participant in record {
+      seated = seated_on a b c j.seated k.seated;
+      turns = k.turns ∙ j.turns;
+      participant = k.participant ∙ (λ i. record (j.participant i) { registered = (sym is) i; seen = c.knows.participant.seen });
+      seen = starts_on a.knows.participant.seen b.knows.participant.seen c.knows.participant.seen j.seen k.seen;
+      held = k.held;
+      notes = λ fact there. k.notes fact (j.notes fact there);
+    }
+
+-- nothing changes
+pub changes_none : (s : SeatState) (m : Snapshots) (others : List Content) → s.knows.held ≡ snapshots m ∷ others → ChangesSnapshots s s (record s.knows.participant { registered = s.knows.participant.registered }) m others
+changes_none s m others held = record {
+  seated = record { table = refl; by = refl; live = refl; made = refl; joined = refl };
+  turns = refl;
+  participant = refl;
+  seen = ([], sym (append-nil s.knows.participant.seen));
+  held = held;
+  notes = λ fact there. there;
+}
+
+-- a registration was taken back under the snapshots turn alone, the old-map flag was seen to, and the turn is given
+module _ {D : Type 0} (z : SharedState D) (s0 s1 s2 s3 s4 : SeatState) (m m' : Snapshots) (after : Participant) (free : IsFree z.table s0) (same : (s1.table ≡ s0.table) × (s1.by ≡ s0.by) × (s1.turns ≡ 2 ∷ s0.turns)) (took : Taken z snapshots_turn s0 s1 (part.Snapshots m)) (changes : ChangesSnapshots s1 s2 after m' [])
+    (settled : s3 ≡ noting s2 s3.knows.notes) (kept : KeepsNotes s2.knows.notes s3.knows.notes) (gave : Given z s3 s4 (part.Snapshots m')) where
+  settled_seated : IsSeated s2 s3
+  settled_seated = record {
+    table = ap (λ (x : SeatState). x.table) settled;
+    by = ap (λ (x : SeatState). x.by) settled;
+    live = ap (λ (x : SeatState). x.knows.live) settled;
+    made = ap (λ (x : SeatState). x.knows.made) settled;
+    joined = ap (λ (x : SeatState). x.knows.joined) settled;
+  }
+
+  gave_it : turn_of gave.table ≡ snapshots_turn
+  gave_it = ap turn_of (sym (same_some (snapshots m') gave.table gave.is))
+
+  same_at_last : s4.knows.participant ≡ s2.knows.participant
+  same_at_last = given_participant z s3 s4 (part.Snapshots m') gave ∙ ap (λ (x : SeatState). x.knows.participant) settled
+
+  seen_at_last : s4.knows.participant.seen ≡ s2.knows.participant.seen
+  seen_at_last = ap (λ (x : Participant). x.seen) same_at_last
+
+  pub continues_one : Continues z s0 s4 after
+  continues_one =
+      continues z s0 s4 after free
+      (seated_on s0 s3 s4 (seated_on s0 s2 s3 (seated_on s0 s1 s2 (taken_seated z snapshots_turn s0 s1 (part.Snapshots m) took same) changes.seated) settled_seated) (given_seated z s3 s4 (part.Snapshots m') gave))
+      (ap rest_of (sym gave.turns ∙ (ap (λ (x : SeatState). x.turns) settled ∙ (changes.turns ∙ same.2))) ∙ free.turns)
+      (given_held z s3 s4 (part.Snapshots m') snapshots_turn gave gave_it ∙ ap (λ h. held_without h snapshots_turn) (ap (λ (x : SeatState). x.knows.held) settled ∙ changes.held))
+      (subst (λ (x : List Entry × List Entry). StartsWith x.0 x.1) (λ i. ((sym seen_at_last) i, (taken_participant z snapshots_turn s0 s1 (part.Snapshots m) took i).seen)) changes.seen)
+      (same_at_last ∙ (changes.participant ∙ ap (λ (h : List Entry). record after { seen = h }) (sym seen_at_last)))
+      (λ fact loose there. given_keeps z s3 s4 (part.Snapshots m') gave fact loose (kept fact loose (changes.notes fact (taken_keeps z snapshots_turn s0 s1 (part.Snapshots m) took fact loose there))))

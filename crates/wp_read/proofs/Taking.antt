@@ -1,5 +1,5 @@
--- A snapshot was taken, or refused.
-use Rattle.std.proofs.Common.{◌≡◌, List, [], ◌∷◌, ◌++◌, subst, ap, ◌∙◌}
+-- Snapshots were taken, or refused.
+use Rattle.std.proofs.Common.{◌≡◌, ℕ, List, ◌++◌, subst, ap, ◌∙◌}
 use Rattle.std.specs.Prelude.{Result, Ok, Err, IfOk, OnErr}
 use Rattle.wp_model.specs.PreparedTables.{PreparedTables}
 use Rattle.wp_model.specs.Snapshots.{Snapshots}
@@ -10,9 +10,16 @@ use Rattle.wp_guarded.specs.declared.part.Part.TheVariants as part
 use Rattle.wp_shared.specs.Calls.{Continues}
 use Rattle.wp_shared.specs.Seats.{SharedState, SeatState}
 use Rattle.wp_shared.specs.Turns.{Taken}
+use Rattle.wp_read.specs.Registers.{IsTaken, IsTakenAt}
 use Rattle.wp_read.proofs.Seated.{taken_participant}
 
-module _ {D E : Type 0} (z : SharedState D) (s0 s1 s2 t : SeatState) (rs : List Registration) (result : Result Registration E) {m : Snapshots} {tables : PreparedTables} (took1 : Taken z prepared_turn s0 s1 (part.Prepared tables)) (took2 : Taken z snapshots_turn s1 s2 (part.Snapshots m))
+-- it was taken with these live snapshots
+pub taken_at : {D E : Type 0} (z : SharedState D) (m : Snapshots) (by by' : ℕ) (result : Result Registration E) → by ≡ by' → IfOk result (λ r. IsTakenAt z by r m) → IfOk result (λ r. IsTaken z by' r)
+taken_at z m by by' (Ok r) same k = (m, subst (λ (n : ℕ). IsTakenAt z n r m) same k)
+taken_at z m by by' (Err error) same k = k
+
+-- these are the registrations that an answer adds
+module _ {D E A : Type 0} (z : SharedState D) (s0 s1 s2 t : SeatState) (rs : List Registration) (result : Result A E) (adds : A → List Registration) {m : Snapshots} {tables : PreparedTables} (took1 : Taken z prepared_turn s0 s1 (part.Prepared tables)) (took2 : Taken z snapshots_turn s1 s2 (part.Snapshots m))
     (k : Continues z s0 t (record s2.knows.participant { registered = rs })) where
   was : s2.knows.participant ≡ s0.knows.participant
   was = taken_participant z snapshots_turn s1 s2 (part.Snapshots m) took2 ∙ taken_participant z prepared_turn s0 s1 (part.Prepared tables) took1
@@ -20,16 +27,16 @@ module _ {D E : Type 0} (z : SharedState D) (s0 s1 s2 t : SeatState) (rs : List 
   with_these : (qs : List Registration) → rs ≡ qs → Continues z s0 t (record s0.knows.participant { registered = qs })
   with_these qs e = subst (Continues z s0 t) (λ i. record (was i) { registered = e i }) k
 
-  pub taken_ok : IfOk result (λ r. rs ≡ s2.knows.participant.registered ++ r ∷ []) → IfOk result (λ r. Continues z s0 t (record s0.knows.participant { registered = s0.knows.participant.registered ++ r ∷ [] }))
+  pub taken_ok : IfOk result (λ r. rs ≡ s2.knows.participant.registered ++ adds r) → IfOk result (λ r. Continues z s0 t (record s0.knows.participant { registered = s0.knows.participant.registered ++ adds r }))
   taken_ok h = by result h
     where
-      by : (o : Result Registration E) → IfOk o (λ r. rs ≡ s2.knows.participant.registered ++ r ∷ []) → IfOk o (λ r. Continues z s0 t (record s0.knows.participant { registered = s0.knows.participant.registered ++ r ∷ [] }))
-      by (Ok r) e = with_these (s0.knows.participant.registered ++ r ∷ []) (e ∙ ap (λ (x : Participant). x.registered ++ r ∷ []) was)
+      by : (o : Result A E) → IfOk o (λ r. rs ≡ s2.knows.participant.registered ++ adds r) → IfOk o (λ r. Continues z s0 t (record s0.knows.participant { registered = s0.knows.participant.registered ++ adds r }))
+      by (Ok r) e = with_these (s0.knows.participant.registered ++ adds r) (e ∙ ap (λ (x : Participant). x.registered ++ adds r) was)
       by (Err error) e = e
 
   pub refused_err : OnErr result (rs ≡ s2.knows.participant.registered) → OnErr result (Continues z s0 t s0.knows.participant)
   refused_err h = by result h
     where
-      by : (o : Result Registration E) → OnErr o (rs ≡ s2.knows.participant.registered) → OnErr o (Continues z s0 t s0.knows.participant)
+      by : (o : Result A E) → OnErr o (rs ≡ s2.knows.participant.registered) → OnErr o (Continues z s0 t s0.knows.participant)
       by (Ok r) e = e
       by (Err error) e = with_these s0.knows.participant.registered (e ∙ ap (λ (x : Participant). x.registered) was)

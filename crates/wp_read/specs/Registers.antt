@@ -1,11 +1,20 @@
 -- How a snapshot is registered and released.
-use Rattle.std.specs.Prelude.{◌≡◌, ◌⊎◌, ℕ, suc, List, [], ◌∷◌, ◌++◌, unwrap_or, Option, if◌then◌else◌}
+use Rattle.std.specs.Prelude.{◌≡◌, ◌⊎◌, ◌↔◌, ℕ, suc, ◌≤◌, true, List, [], ◌∷◌, ◌++◌, length, map, fold, unwrap_or, Option, Some, if◌then◌else◌}
+use Rattle.std.specs.FinMap as finite
+use Rattle.std.specs.List.{Contains, list_any}
+use Rattle.std.specs.List.Sorted.{IsStrictlyIncreasing}
+use Rattle.wp_model.specs.declared.entry.Entry.{Entry}
+use Rattle.wp_model.specs.Covered.{is_among}
 use Rattle.wp_model.specs.PreparedTables.{IsSmallest, NonePrepared}
+use Rattle.wp_model.specs.Snapshots as snaps
 use Rattle.wp_model.specs.Snapshots.{Snapshots, IsLive}
 use Rattle.wp_core.specs.Changes.{sees, registers, releases, held_with, is_same_registration, with_registered, with_released}
+use Rattle.wp_core.specs.Lists.{IsIn}
 use Rattle.wp_core.specs.Reading.{Registration}
 use Rattle.wp_core.specs.Sound.Actors.{StartsWith}
+use Rattle.wp_core.specs.Steps.{Step, register_again, note}
 use Rattle.wp_core.specs.Tables.{Content, snapshots}
+use Rattle.wp_core.specs.Views.{Fact, live_listed}
 use Rattle.wp_core.specs.World.{Participant, Actor, World, published}
 use Rattle.wp_rule.specs.Words.{IsAt}
 use Rattle.wp_shared.specs.Seats.{SharedState, SeatState, place_at}
@@ -26,14 +35,15 @@ abbrev pub last_of : Registration → List Registration → Registration
 last_of r [] = r
 last_of r (s ∷ others) = last_of s others
 
--- those before the first place of this one, and those behind it
-abbrev pub before_first : Registration → List Registration → List Registration
-before_first r [] = []
-before_first r (s ∷ others) = if is_same_registration r s then [] else (s ∷ before_first r others)
+-- those before the last place of this one, where it is among them
+abbrev pub before_last : Registration → List Registration → List Registration
+before_last r [] = []
+before_last r (s ∷ others) = if list_any (is_same_registration r) others then (s ∷ before_last r others) else []
 
-abbrev pub behind_first : Registration → List Registration → List Registration
-behind_first r [] = []
-behind_first r (s ∷ others) = if is_same_registration r s then others else behind_first r others
+-- those behind the last place of this one, where it is among them
+abbrev pub behind_last : Registration → List Registration → List Registration
+behind_last r [] = []
+behind_last r (s ∷ others) = if list_any (is_same_registration r) others then behind_last r others else others
 
 -- ---- steps
 
@@ -65,22 +75,77 @@ pub record IsSeated (old new : SeatState) : Type 0 where
   pub joined : new.knows.joined ≡ old.knows.joined
 
 -- The seat has these live snapshots in place of those that it held, with what else it holds. It has seen no less than before,
--- and is this participant but for that.
+-- and is this participant but for that, and it has its notes still.
 pub record ChangesSnapshots (old new : SeatState) (after : Participant) (m : Snapshots) (others : List Content) : Type 0 where
   pub seated : IsSeated old new
   pub turns : new.turns ≡ old.turns
   pub participant : new.knows.participant ≡ record after { seen = new.knows.participant.seen }
   pub seen : StartsWith new.knows.participant.seen old.knows.participant.seen
   pub held : new.knows.held ≡ snapshots m ∷ others
-  pub notes : new.knows.notes ≡ old.knows.notes
+  pub notes : (fact : Fact) → IsIn fact old.knows.notes → IsIn fact new.knows.notes
 
 -- ---- calls
 
--- The snapshot was taken in a world of the store: its number is the one that was published, and its smallest is the least
--- prepared number, or the next number where none was prepared.
-pub record IsTaken {D : Type 0} (z : SharedState D) (by : ℕ) (snapshot : Registration) : Type 0 where
+-- The snapshot was taken in a world of the store, in which these were the live snapshots: its number is the one that was
+-- published, and its smallest is the least prepared number, or the next number where none was prepared.
+pub record IsTakenAt {D : Type 0} (z : SharedState D) (by : ℕ) (snapshot : Registration) (m : Snapshots) : Type 0 where
   pub world : World
   pub actor : Actor
   pub there : IsAt (place_at z by) actor world
+  pub live : world.snapshots ≡ m
   pub number : snapshot.number ≡ published world
   pub smallest : (NonePrepared world.prepared × (snapshot.smallest ≡ suc snapshot.number)) ⊎ IsSmallest world.prepared snapshot.smallest
+
+-- the snapshot was taken in a world of the store
+abbrev pub IsTaken : {D : Type 0} → SharedState D → ℕ → Registration → Type 0
+IsTaken z by snapshot = (m : Snapshots) × IsTakenAt z by snapshot m
+
+-- ---- all that is live
+
+-- a live number that is registered once more, of which nothing better is known than that no version is below 1
+abbrev pub again : ℕ → Registration
+again number = record { number = number; smallest = 1 }
+
+abbrev pub numbers_of : List Registration → List ℕ
+numbers_of registered = map (λ r. r.number) registered
+
+-- each of the numbers is registered once more
+abbrev pub with_each : Snapshots → List ℕ → Snapshots
+with_each m numbers = fold with_registered m numbers
+
+-- each live number is registered at least once
+abbrev pub AreCounted : Snapshots → Type 0
+AreCounted m = (s : ℕ) (x : snaps.Snapshot) → finite.get m s ≡ Some x → 1 ≤ x.registrations
+
+-- the numbers are just the live ones, ascending, each once
+pub record AreLive (m : Snapshots) (numbers : List ℕ) : Type 0 where
+  pub ascending : IsStrictlyIncreasing numbers
+  pub each : (s : ℕ) → Contains numbers s ↔ IsLive m s
+
+-- The numbers are live, and were seen. Each live number is one of them, or from the floor on, which was seen too.
+pub record MayPin (seen : List Entry) (m : Snapshots) (floor : ℕ) (numbers : List ℕ) : Type 0 where
+  pub floor_seen : floor ≤ length seen
+  pub live : (n : ℕ) → IsIn n numbers → IsLive m n × (n ≤ length seen)
+  pub all : (n : ℕ) → IsLive m n → (is_among numbers n ≡ true) ⊎ (floor ≤ n)
+
+-- each of the numbers is registered once more, and it is noted that they, and the numbers from the floor on, are all that is live
+abbrev pub pinning : ℕ → List ℕ → List Step
+pinning floor numbers = map register_again numbers ++ note (live_listed floor numbers) ∷ []
+
+-- the seat then, where it held these live snapshots, and these other tables
+abbrev pub pinned : SeatState → ℕ → List ℕ → Snapshots → List Content → SeatState
+pinned s floor numbers m others = record s {
+  knows = record s.knows {
+    participant = record s.knows.participant { registered = s.knows.participant.registered ++ map again numbers };
+    held = snapshots (with_each m numbers) ∷ others;
+    notes = live_listed floor numbers ∷ s.knows.notes;
+  };
+}
+
+-- All that was live was registered once more, in one world of the store: the floor is the snapshot that was taken then, and the
+-- others have just the numbers that were live before, ascending, each once.
+pub record IsPinned {D : Type 0} (z : SharedState D) (by : ℕ) (floor : Registration) (live : List Registration) : Type 0 where
+  pub before : Snapshots
+  pub taken : IsTakenAt z by floor before
+  pub are_again : live ≡ map again (numbers_of live)
+  pub are_live : AreLive before (numbers_of live)

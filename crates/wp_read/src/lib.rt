@@ -11,11 +11,19 @@
 //! `get` copies the newest few versions of a key under the store turn, and decides them without it, the newest first. Which of
 //! them the store still has may change between two rounds of copies; what was decided of a version does not.
 //!
+//! `prior` is what a rollback restores: the changes that leave the keys of a batch with what they had at a snapshot.
+//!
+//! `pin_all` registers each live number once more, with the published one as their floor: while these registrations last, a
+//! version that one of them shows has to stay.
+//!
 //! Each call begins and ends with a seat that holds no turn. Turns are taken in the order prepared, snapshots, store.
 #![tactic(auto)]
 
 mod answers;
 mod deciding;
+pub mod laws;
+mod pinning;
+mod priors;
 mod registering;
 mod registration;
 mod steps;
@@ -24,6 +32,8 @@ mod values;
 
 pub use answers::{Free, Look};
 pub use deciding::{decide_free, look, visible};
+pub use pinning::pin_all;
+pub use priors::prior;
 pub use registering::{release, snapshot};
-pub use registration::Snapshot;
+pub use registration::{Pinned, Snapshot};
 pub use values::get;

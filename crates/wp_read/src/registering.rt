@@ -1,15 +1,16 @@
 //! Snapshots are registered and released.
-ghost use Rattle.std.specs.Prelude.{◌≡◌, ◌==◌, suc, true, ℕ, List, [], ◌∷◌, ◌++◌, length, unwrap_or, IfOk, OnErr, IsTrue};
-ghost use Rattle.wp_model.specs.Snapshots.{Snapshots, ChangesWhere, after_register};
+ghost use Rattle.std.specs.Prelude.{◌≡◌, suc, true, ℕ, List, [], ◌∷◌, ◌++◌, length, unwrap_or, IfOk, OnOk, OnErr, IsTrue};
+ghost use Rattle.wp_model.specs.Snapshots.{IsLive};
+ghost use Rattle.wp_core.specs.Changes.{with_registered, with_released};
 ghost use Rattle.wp_core.specs.Lists.{IsIn};
 ghost use Rattle.wp_core.specs.Reading.{Registration};
 ghost use Rattle.wp_core.specs.Tables as table;
-ghost use Rattle.wp_core.specs.Tables.{NoOldCommits};
+ghost use Rattle.wp_core.specs.Tables.{Content, NoOldCommits};
 ghost use Rattle.wp_core.specs.Views.{old_flag_stays};
 ghost use Rattle.wp_shared.specs.Calls.{Continues};
 ghost use Rattle.wp_shared.specs.Seats.{IsFree};
 ghost use Rattle.wp_read.specs.Reads.{KeepsNotes, noting};
-ghost use Rattle.wp_read.specs.Registers.{ChangesSnapshots, IsTaken, registration_of};
+ghost use Rattle.wp_read.specs.Registers.{ChangesSnapshots, IsTaken, IsTakenAt, registration_of};
 
 use crate::registration::Snapshot;
 use crate::steps::{lower_old_flag, register, unregister, unregister_last};
@@ -26,7 +27,7 @@ use wp_snaps::Snaps;
 /// number is answered as want of memory, since no memory holds so many entries.
 fn enter(snaps: &mut Snaps, number: Seq, smallest: Option<Seq>) -> Result<Snapshot, AllocError>
     ensures snapshot { IfOk result (λ s. s ≡ registration_of number smallest) }
-    ensures registered { IfOk result (λ s. ChangesWhere (λ q. q == number) after_register snaps.old snaps.new) }
+    ensures registered { OnOk result (snaps.new ≡ with_registered snaps.old number) }
     ensures err { OnErr result (snaps.new ≡ snaps.old) }
 {
     let next = number.checked_add(1).ok_or(AllocError)?;
@@ -37,8 +38,20 @@ fn enter(snaps: &mut Snaps, number: Seq, smallest: Option<Seq>) -> Result<Snapsh
     })
 }
 
+/// Takes one registration of the snapshot out of the live snapshots.
+fn withdraw(snaps: &mut Snaps, snapshot: Snapshot)
+    requires { IsLive snaps.old snapshot.number }
+    ensures { snaps.new ≡ with_released snaps.old snapshot.number }
+{
+    let Snapshot {
+        number,
+        smallest: _smallest,
+    } = snapshot;
+    snaps.release(number);
+}
+
 /// Registers the published number, under the prepared turn and the snapshots turn. A refusal leaves no registration.
-fn register_in<D: Disk + Drop>(
+pub fn register_in<D: Disk + Drop>(
     store: &Shared<D>,
     seat: &mut Seat<D>,
     tables: &Prepared,
@@ -49,7 +62,8 @@ fn register_in<D: Disk + Drop>(
     ensures changes { ChangesSnapshots seat.old seat.new (record seat.old.knows.participant { registered = seat.new.knows.participant.registered }) snaps.new (table.prepared tables.now ∷ []) }
     ensures registered { IfOk result (λ s. seat.new.knows.participant.registered ≡ seat.old.knows.participant.registered ++ s ∷ []) }
     ensures number { IfOk result (λ s. s.number ≡ length seat.new.knows.participant.seen) }
-    ensures taken { IfOk result (λ s. IsTaken store.now seat.old.by s) }
+    ensures taken { IfOk result (λ s. IsTakenAt store.now seat.old.by s snaps.old) }
+    ensures entered { IfOk result (λ s. snaps.new ≡ with_registered snaps.old s.number) }
     ensures refused { OnErr result (seat.new.knows.participant.registered ≡ seat.old.knows.participant.registered) }
     ensures kept { NoOldCommits snaps.new → NoOldCommits snaps.old }
 {
@@ -84,7 +98,7 @@ pub fn snapshot<D: Disk + Drop, R: Wait>(
     taken
 }
 
-/// Takes one registration of the snapshot back, under the snapshots turn.
+/// Takes a registration of the snapshot back, the last of equal ones, under the snapshots turn.
 fn release_in<D: Disk + Drop>(
     store: &Shared<D>,
     seat: &mut Seat<D>,
@@ -95,14 +109,30 @@ fn release_in<D: Disk + Drop>(
     requires registered { IsIn snapshot seat.old.knows.participant.registered }
     requires held { seat.old.knows.held ≡ table.snapshots snaps.old ∷ [] }
     ensures { (front : List Registration) × (back : List Registration) × (seat.old.knows.participant.registered ≡ front ++ snapshot ∷ back)
+        × (IsIn snapshot back → ⊥)
         × ChangesSnapshots seat.old seat.new (record seat.old.knows.participant { registered = front ++ back }) snaps.new [] }
 {
     unregister(store, seat, &snapshot);
-    let Snapshot {
-        number,
-        smallest: _smallest,
-    } = snapshot;
-    snaps.release(number);
+    withdraw(snaps, snapshot);
+}
+
+/// Takes back the registration of the snapshot that was taken last, under the snapshots turn.
+pub fn release_last<D: Disk + Drop>(
+    store: &Shared<D>,
+    seat: &mut Seat<D>,
+    snaps: &mut Snaps,
+    snapshot: Snapshot,
+)
+    requires seat { seat.old.table ≡ store.now.table }
+    requires last { (front : List Registration) × (seat.old.knows.participant.registered ≡ front ++ snapshot ∷ []) }
+    requires held { (others : List Content) × (seat.old.knows.held ≡ table.snapshots snaps.old ∷ others) }
+    ensures changes { (front : List Registration) (others : List Content) → seat.old.knows.participant.registered ≡ front ++ snapshot ∷ []
+        → seat.old.knows.held ≡ table.snapshots snaps.old ∷ others
+        → ChangesSnapshots seat.old seat.new (record seat.old.knows.participant { registered = front }) snaps.new others }
+    ensures released { snaps.new ≡ with_released snaps.old snapshot.number }
+{
+    unregister_last(store, seat);
+    withdraw(snaps, snapshot);
 }
 
 /// Stores the old-map flag as 0 where the old commit map became empty, which it was not while the flag was up.
@@ -127,7 +157,7 @@ fn settle_old_flag<D: Disk + Drop>(
     }
 }
 
-/// Releases a snapshot of the seat's own. It takes no memory.
+/// Releases a snapshot of the seat's own. The last of equal registrations goes. It takes no memory.
 pub fn release<D: Disk + Drop, R: Wait>(
     store: &Shared<D>,
     rt: &R,
@@ -137,6 +167,7 @@ pub fn release<D: Disk + Drop, R: Wait>(
     requires free { IsFree store.now.table seat.old }
     requires registered { IsIn snapshot seat.old.knows.participant.registered }
     ensures { (front : List Registration) × (back : List Registration) × (seat.old.knows.participant.registered ≡ front ++ snapshot ∷ back)
+        × (IsIn snapshot back → ⊥)
         × Continues store.now seat.old seat.new (record seat.old.knows.participant { registered = front ++ back }) }
 {
     let mut snaps = take_snaps(store, rt, seat);

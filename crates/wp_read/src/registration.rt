@@ -1,4 +1,4 @@
-//! A snapshot that is registered.
+//! Snapshots that are registered.
 ghost use Rattle.std.specs.Prelude.{◌≡◌};
 
 use std::marker::Model;
@@ -27,9 +27,17 @@ impl Snapshot {
     }
 
     /// Each version below it is decided, and visible at the snapshot.
-    pub(crate) fn smallest(&self) -> Seq
+    pub fn smallest(&self) -> Seq
         ensures { result ≡ self.now.smallest }
     {
         self.smallest
     }
+}
+
+/// All that was live at one moment. Each of its snapshots has to be released.
+pub struct Pinned {
+    /// The number that was published then.
+    pub floor: Snapshot,
+    /// Each number that was live before, once more, ascending.
+    pub live: Vec<Snapshot>,
 }

@@ -16,10 +16,10 @@ ghost use Rattle.wp_core.specs.World.{World};
 ghost use Rattle.wp_shared.specs.Seats.{place_at};
 ghost use Rattle.wp_model.specs.PreparedTables.{PreparedTables, IsSmallest, NonePrepared};
 ghost use Rattle.wp_model.specs.Snapshots.{Snapshots};
-ghost use Rattle.wp_core.specs.Tables.{NoOldCommits};
+ghost use Rattle.wp_core.specs.Tables.{Content, NoOldCommits};
 ghost use Rattle.wp_core.specs.Views.{old_flag_stays};
 ghost use Rattle.wp_read.specs.Reads.{Reads, Loads, IsNext, IsOfWord, KeepsNotes, noting};
-ghost use Rattle.wp_read.specs.Registers.{Registers, Unregisters, before_first, behind_first};
+ghost use Rattle.wp_read.specs.Registers.{MayPin, Registers, Unregisters, before_last, behind_last, pinned, pinning};
 
 use crate::registration::Snapshot;
 use std::marker::Brand;
@@ -231,6 +231,38 @@ pub fn register<D: Disk + Drop>(store: &Shared<D>, seat: &mut Seat<D>, smallest:
     register_with::<D, Brand>(store, seat, smallest)
 }
 
+fn register_again_with<D: Disk + Drop, J: Moves>(
+    store: &Shared<D>,
+    seat: &mut Seat<D>,
+    floor: Seq,
+    numbers: &[Seq],
+)
+    requires seat { (seat.old.table ≡ store.now.table) × (J.place ≡ place_at store.now seat.old.by) }
+    requires steps { J.steps ≡ (λ w. pinning floor numbers.now) }
+    requires live { seat.old.knows.live ≡ true }
+    requires held { (m : Snapshots) × (others : List Content) × (seat.old.knows.held ≡ table.snapshots m ∷ others)
+        × MayPin seat.old.knows.participant.seen m floor numbers.now }
+    ensures { (m : Snapshots) (others : List Content) → seat.old.knows.held ≡ table.snapshots m ∷ others → seat.new ≡ pinned seat.old floor numbers.now m others }
+{
+    store.make::<J>(seat);
+}
+
+/// Registers each of the numbers once more, which with those from the floor on are all that is live, and notes that.
+pub fn register_again<D: Disk + Drop>(
+    store: &Shared<D>,
+    seat: &mut Seat<D>,
+    floor: Seq,
+    numbers: &[Seq],
+)
+    requires seat { seat.old.table ≡ store.now.table }
+    requires live { seat.old.knows.live ≡ true }
+    requires held { (m : Snapshots) × (others : List Content) × (seat.old.knows.held ≡ table.snapshots m ∷ others)
+        × MayPin seat.old.knows.participant.seen m floor numbers.now }
+    ensures { (m : Snapshots) (others : List Content) → seat.old.knows.held ≡ table.snapshots m ∷ others → seat.new ≡ pinned seat.old floor numbers.now m others }
+{
+    register_again_with::<D, Brand>(store, seat, floor, numbers)
+}
+
 fn unregister_at<D: Disk + Drop, J: Moves>(store: &Shared<D>, seat: &mut Seat<D>)
     requires seat { (seat.old.table ≡ store.now.table) × (J.place ≡ place_at store.now seat.old.by) }
     requires steps { (front : List Registration) × (back : List Registration) × (r : Registration) × (J.steps ≡ (λ w. step.release front r back ∷ []))
@@ -254,30 +286,30 @@ pub fn unregister_last<D: Disk + Drop>(store: &Shared<D>, seat: &mut Seat<D>)
     unregister_at::<D, Brand>(store, seat);
 }
 
-fn unregister_first<D: Disk + Drop, J: Moves>(
+fn unregister_with<D: Disk + Drop, J: Moves>(
     store: &Shared<D>,
     seat: &mut Seat<D>,
     snapshot: &Snapshot,
 )
     requires seat { (seat.old.table ≡ store.now.table) × (J.place ≡ place_at store.now seat.old.by) }
-    requires steps { J.steps ≡ (λ w. step.release (before_first snapshot.now seat.old.knows.participant.registered) snapshot.now (behind_first snapshot.now seat.old.knows.participant.registered) ∷ []) }
+    requires steps { J.steps ≡ (λ w. step.release (before_last snapshot.now seat.old.knows.participant.registered) snapshot.now (behind_last snapshot.now seat.old.knows.participant.registered) ∷ []) }
     requires registered { IsIn snapshot.now seat.old.knows.participant.registered }
     requires snapshots { (m : Snapshots) × IsIn (table.snapshots m) seat.old.knows.held }
     ensures { (m : Snapshots) → IsIn (table.snapshots m) seat.old.knows.held
-        → Unregisters seat.old seat.new (before_first snapshot.now seat.old.knows.participant.registered) (behind_first snapshot.now seat.old.knows.participant.registered) snapshot.now m }
+        → Unregisters seat.old seat.new (before_last snapshot.now seat.old.knows.participant.registered) (behind_last snapshot.now seat.old.knows.participant.registered) snapshot.now m }
 {
     unregister_at::<D, J>(store, seat);
 }
 
-/// Takes back one registration of the snapshot.
+/// Takes back a registration of the snapshot, the last of equal ones.
 pub fn unregister<D: Disk + Drop>(store: &Shared<D>, seat: &mut Seat<D>, snapshot: &Snapshot)
     requires seat { seat.old.table ≡ store.now.table }
     requires registered { IsIn snapshot.now seat.old.knows.participant.registered }
     requires snapshots { (m : Snapshots) × IsIn (table.snapshots m) seat.old.knows.held }
     ensures { (m : Snapshots) → IsIn (table.snapshots m) seat.old.knows.held
-        → Unregisters seat.old seat.new (before_first snapshot.now seat.old.knows.participant.registered) (behind_first snapshot.now seat.old.knows.participant.registered) snapshot.now m }
+        → Unregisters seat.old seat.new (before_last snapshot.now seat.old.knows.participant.registered) (behind_last snapshot.now seat.old.knows.participant.registered) snapshot.now m }
 {
-    unregister_first::<D, Brand>(store, seat, snapshot);
+    unregister_with::<D, Brand>(store, seat, snapshot);
 }
 
 /// Stores the old-map flag as 0, where the old commit map is empty.

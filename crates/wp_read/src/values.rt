@@ -164,6 +164,7 @@ pub fn get<D: Disk + Drop, R: Wait>(
     requires free { IsFree store.now.table seat.old }
     requires registered { IsIn snapshot.now seat.old.knows.participant.registered }
     ensures continues { Continues store.now seat.old seat.new seat.old.knows.participant }
+    ensures same { seat.new.knows.participant ≡ seat.old.knows.participant }
     ensures value { IfOk result (λ value. value ≡ value_at seat.new.knows.participant.seen key.now snapshot.now.number) }
 {
     let mut most = FIRST_COPIES;

@@ -7,6 +7,7 @@ ghost use Rattle.wp_rule.specs.Words.{SawAll};
 ghost use Rattle.wp_guarded.specs.Opening.{running_set};
 ghost use Rattle.wp_guarded.specs.Parts.{log_first, set_first};
 ghost use Rattle.wp_shared.specs.Devices.{devices_of, devices_behind};
+ghost use Rattle.wp_shared.specs.OpenedFrom.{IsOpenedFrom, IsRefusedFrom};
 ghost use Rattle.wp_shared.specs.Seats.{place_at};
 
 use crate::ending::take_apart;
@@ -17,7 +18,7 @@ use std::alloc::Global;
 use std::snapshot::Snapshot;
 use wp_guarded::{delayed_flag, guard};
 use wp_model::{Name, Seq};
-use wp_open::Parts;
+use wp_open::{OpenError, OpenRefused, Parts, open_parts};
 use wp_outside::{Disk, Disks};
 use wp_rule::Words;
 
@@ -87,6 +88,40 @@ impl<D: Disk + Drop> Shared<D> {
                 };
                 Err(take_apart(write.into_log(), tables.into_edits()).disks)
             }
+        }
+    }
+
+    /// Opens the log, the manifest and the tables of a store, and shares it. Where no log was made it makes one, with this id,
+    /// and likewise a manifest, with the log's. There are as many words in the commit cache as the bits number, and no entry gets
+    /// a number above the limit. The first seat is this client's, and has seen the history that was opened. The devices come back
+    /// with a refusal, of which want of memory may also come once all of them are read.
+    pub fn open(
+        alloc: Global,
+        client: Name,
+        disks: Disks<D>,
+        bits: u32,
+        limit: Seq,
+        id: u32,
+    ) -> Result<(Shared<D>, Seat<D>), OpenRefused<D>>
+        requires bits { bits ≤ 16 }
+        requires limit { (1 ≤ limit) × (limit < 2 ^ 32) }
+        ensures store { IfOk result (λ r. (r.0.cells ≡ 2 ^ bits) × (r.0.limit ≡ limit)) }
+        ensures opened { IfOk result (λ r. IsOpenedFrom id (devices_of D.moments D.faults disks) r.0) }
+        ensures seat { IfOk result (λ r. r.1 ≡ record { table = r.0.table; by = 0; knows = new_actor true client r.0.opened; turns = [] }) }
+        ensures stands { IfOk result (λ r. SawAll (place_at r.0 0) r.1.knows (length r.0.opened)) }
+        ensures refused { IfErr result (λ refused. IsRefusedFrom id (refused.disks.manifest ≡ disks.manifest) (refused.disks.tables ≡ disks.tables)
+            (devices_of D.moments D.faults disks) (devices_of D.moments D.faults refused.disks) refused.why) }
+    {
+        let parts = match open_parts(alloc, disks, id) {
+            Ok(parts) => parts,
+            Err(refused) => return Err(refused),
+        };
+        match Shared::new(alloc, client, parts, bits, limit) {
+            Ok(opened) => Ok(opened),
+            Err(disks) => Err(OpenRefused {
+                disks,
+                why: OpenError::Memory,
+            }),
         }
     }
 }

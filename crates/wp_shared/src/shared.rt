@@ -1,5 +1,5 @@
 //! The shared store.
-ghost use Rattle.std.specs.Prelude.{◌≡◌, ◌<◌, ◌∷◌, [], List, true, length, slice_index};
+ghost use Rattle.std.specs.Prelude.{◌≡◌, ◌<◌, ◌≤◌, ◌^◌, ◌∷◌, [], List, true, length, slice_index};
 ghost use Rattle.wp_model.specs.Legal.{IsLegal};
 ghost use Rattle.wp_core.specs.Sound.Actors.{StartsWith};
 ghost use Rattle.wp_core.specs.Changes.{sees, made_one};
@@ -38,7 +38,7 @@ impl<D: Disk + Drop> Model for Shared<D> {
 
     ghost view = { λ s. record { table = s.words.table; opened = s.words.opened; cells = s.words.cells; first = s.words.first; limit = s.limit } };
 
-    ghost invariant = { λ s. IsOneStore s.words.first × (1 ≤ s.limit) × (s.limit < 2 ^ 32) };
+    ghost invariant = { λ s. IsOneStore s.words.first × (1 ≤ s.words.cells) × (1 ≤ s.limit) × (s.limit < 2 ^ 32) };
 }
 
 /// Says whose the seat is, which did nothing yet.
@@ -75,11 +75,18 @@ impl<D: Disk + Drop> Shared<D> {
         Seat { seat: made, client }
     }
 
-    /// How many words the commit cache has.
+    /// How many words the commit cache has: at least one.
     pub fn cells(&self) -> usize
-        ensures { result ≡ self.now.cells }
+        ensures { (result ≡ self.now.cells) × (1 ≤ result) }
     {
         self.words.cells()
+    }
+
+    /// The greatest number that an entry may get: 1 to 4294967295.
+    pub fn limit(&self) -> Seq
+        ensures { (result ≡ self.now.limit) × (1 ≤ result) × (result < 2 ^ 32) }
+    {
+        self.limit
     }
 
     /// The published number. The seat has then seen the history up to it.

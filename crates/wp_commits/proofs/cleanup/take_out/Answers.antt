@@ -18,5 +18,10 @@ returns-clause-seat g c =
     continues_by c.args.store.now c.args.seat.now c.give_prepared.new.seat c.requires.free
     (taken_out c.args.store.now c.args.seat.now c.take_prepared-tables.new.seat c.take_out.new.seat c.give_prepared.new.seat c.take_prepared-tables.result c.take_out.new.tables c.requires.free c.take_prepared-tables.ensures.seat c.take_out.ensures.seat c.give_prepared.ensures)
 
+pub returns-clause-same : goal.returns-clause-same
+returns-clause-same g c =
+    ap (λ (x : SeatState). x.knows.participant)
+    (taken_out c.args.store.now c.args.seat.now c.take_prepared-tables.new.seat c.take_out.new.seat c.give_prepared.new.seat c.take_prepared-tables.result c.take_out.new.tables c.requires.free c.take_prepared-tables.ensures.seat c.take_out.ensures.seat c.give_prepared.ensures).same
+
 pub returns-clause-gone : goal.returns-clause-gone
 returns-clause-gone g c = left_before c.args.store.now c.args.seat.now c.take_prepared-tables.new.seat c.args.p is_flag _ _ c.take_prepared-tables.ensures.seat c.take_out.ensures.gone

@@ -28,5 +28,5 @@ returns-clause-bound g c bound words there =
     let test = c.if-c-bound.false in
     let high : bound < c.args.c = omega (arith, is, test) in
     let m : c.bound_past-m.result ≡ raised c.args.store.now.cells (length c.args.log.now.table.history) bound c.args.c =
-    c.bound_past-m.ensures ∙ ((λ i. bound_past (c.cells.ensures i) (c.published.ensures.value i) c.args.c) ∙ sym (raised_high c.args.store.now.cells (length c.args.log.now.table.history) bound c.args.c high)) in
+    c.bound_past-m.ensures ∙ ((λ i. bound_past (c.cells.ensures.0 i) (c.published.ensures.value i) c.args.c) ∙ sym (raised_high c.args.store.now.cells (length c.args.log.now.table.history) bound c.args.c high)) in
     subst (λ (x : ℕ). Noted c.raise.new.seat.knows (words_stay x words)) m (c.raise.ensures.bound bound words (subst (λ (x : SeatState). Noted x.knows (words_stay bound words)) (sym c.bound-bound.ensures.same) there))

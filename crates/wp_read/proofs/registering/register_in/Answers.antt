@@ -1,6 +1,7 @@
 use Rattle.std.proofs.Common.{inl, inr, refl, sym, subst, ap, ◌∙◌}
 use Rattle.wp_core.specs.Changes.{with_registered}
 use Rattle.wp_core.specs.Lists.{IsIn}
+use Rattle.wp_core.specs.Reading.{Registration}
 use Rattle.wp_core.specs.Tables.{prepared, snapshots}
 use Rattle.wp_shared.specs.Seats.{SeatState}
 use Rattle.wp_read.specs.Registers.{registration_of}
@@ -35,6 +36,9 @@ returns-in-Ok-clause-number g c = number_seen c.args.store.now c.args.seat.now c
 
 pub returns-in-Ok-clause-taken : goal.returns-in-Ok-clause-taken
 returns-in-Ok-clause-taken g c = was_taken c.args.store.now c.args.seat.now c.register-number.new.seat c.register-number.result c.smallest-smallest.result c.args.snaps.now c.args.tables.now (c.register-number.ensures c.args.snaps.now (subst (IsIn (snapshots c.args.snaps.now)) (sym c.requires.held) (inl refl))) c.requires.held c.in-Ok.snapshot c.in-Ok.ensures.snapshot c.smallest-smallest.ensures
+
+pub returns-in-Ok-clause-entered : goal.returns-in-Ok-clause-entered
+returns-in-Ok-clause-entered g c = c.in-Ok.ensures.registered ∙ ap (λ (x : Registration). with_registered c.args.snaps.now x.number) (sym c.in-Ok.ensures.snapshot)
 
 pub returns-in-Ok-clause-kept : goal.returns-in-Ok-clause-kept
 returns-in-Ok-clause-kept g c = kept_before c.args.snaps.now c.enter.new.snaps c.register-number.result c.in-Ok.ensures.registered

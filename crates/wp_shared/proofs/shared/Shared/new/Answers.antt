@@ -1,4 +1,4 @@
-use Rattle.std.proofs.Common.{ap, ◌∙◌}
+use Rattle.std.proofs.Common.{ℕ, ◌≤◌, ap, ◌∙◌, subst, sym}
 use Rattle.wp_guarded.specs.Parts.{content}
 use Rattle.wp_shared.proofs.Opened.{one_store, first_slot, last_slot}
 use Rattle.wp_shared.proofs.shared.Shared.new.Goals as goal
@@ -7,7 +7,7 @@ pub new-requires-clause-parts : goal.new-requires-clause-parts
 new-requires-clause-parts g c = rw c.of-entries.ensures (c.in-Ok.ensures.founds c.args.client c.count_words-cells.result c.delayed_flag-flag.result c.count_words-cells.ensures.range.0 c.delayed_flag-flag.ensures)
 
 pub invariant_of-result : goal.invariant_of-result
-invariant_of-result g c = let o = c.requires.opened in (one_store _ c.in-Ok.slots.items _ _ c.in-Ok-new.ensures.words.2 c.in-Ok.ensures.log c.in-Ok.ensures.set o.4.installed.id_is o.4.id_fits, c.requires.limit.0, c.requires.limit.1)
+invariant_of-result g c = let o = c.requires.opened in (one_store _ c.in-Ok.slots.items _ _ c.in-Ok-new.ensures.words.2 c.in-Ok.ensures.log c.in-Ok.ensures.set o.4.installed.id_is o.4.id_fits, subst (λ (n : ℕ). 1 ≤ n) (sym c.in-Ok-new.ensures.words.1) c.count_words-cells.ensures.range.0, c.requires.limit.0, c.requires.limit.1)
 
 pub into_log-requires : goal.into_log-requires
 into_log-requires g c = let are = c.in-Ok.ensures.slots in

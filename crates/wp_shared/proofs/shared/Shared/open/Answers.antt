@@ -1,0 +1,53 @@
+use Rattle.std.proofs.Common.{List, sym, subst}
+use Rattle.wp_model.specs.declared.entry.Entry.{Entry}
+use Rattle.wp_open.specs.Opens.{OpensTo, AllKnown, installed_of}
+use Rattle.wp_open.specs.Parts.{PartsOpened}
+use Rattle.wp_shared.specs.Devices.{DevicesLeft, devices_of}
+use Rattle.wp_shared.proofs.Opened.{refused_late}
+use Rattle.wp_shared.proofs.shared.Shared.open.Goals as goal
+
+pub new-requires-clause-opened : goal.new-requires-clause-opened
+new-requires-clause-opened g c = (c.args.id, g.D.Disk.moments c.args.disks.log, g.D.Disk.moments c.args.disks.manifest, g.D.Disk.moments c.args.disks.tables, c.in-Ok.ensures.opened)
+
+pub returns-in-Err-clause-refused : goal.returns-in-Err-clause-refused
+returns-in-Err-clause-refused g c = let e = c.in-Err.ensures in record {
+  cause = e.cause;
+  only = e.only;
+  left = e.left;
+  log_survives = e.log_survives;
+  log_durable = e.log_durable;
+  manifest_durable = e.manifest_durable;
+  log_later = e.log_later;
+  manifest_later = e.manifest_later;
+  tables_later = e.tables_later;
+}
+
+pub returns-in-Ok-new-clause-opened : goal.returns-in-Ok-new-clause-opened
+returns-in-Ok-new-clause-opened g c =
+    let e = c.in-Ok.ensures in let parts = c.in-Ok.parts in
+    let tables = g.D.Disk.moments parts.tables in
+    let same = sym c.in-Ok-new.ensures.store.0 in
+    let old : DevicesLeft = devices_of g.D.Disk.moments g.D.Disk.faults c.args.disks in record {
+      wal = parts.wal;
+      edits = parts.manifest;
+      tables = tables;
+      tables_faults = g.D.Disk.faults parts.tables;
+      versions = parts.store;
+      log_is = c.in-Ok-new.ensures.log;
+      set_is = c.in-Ok-new.ensures.set;
+      parts = subst (λ (h : List Entry). PartsOpened c.args.id old.log old.manifest old.tables parts.wal h parts.manifest tables parts.store) same e.opened;
+      opens = subst (λ (h : List Entry). AllKnown old.log old.manifest old.tables (OpensTo parts.wal.id h (installed_of parts.manifest.edit parts.store.tables))) same e.opens;
+      log_survives = e.log_survives;
+      manifest_survives = e.manifest_survives;
+      log_durable = e.log_durable;
+      manifest_durable = e.manifest_durable;
+      log_later = e.log_later;
+      manifest_later = e.manifest_later;
+      tables_later = e.tables_later;
+    }
+
+pub returns-in-Err-new-clause-refused : goal.returns-in-Err-new-clause-refused
+returns-in-Err-new-clause-refused g c =
+    let e = c.in-Ok.ensures in let parts = c.in-Ok.parts in
+    refused_late _ _ c.args.id (devices_of g.D.Disk.moments g.D.Disk.faults c.args.disks) _ parts.wal parts.history.entries parts.manifest (g.D.Disk.moments parts.tables) (g.D.Disk.faults parts.tables) parts.store
+    c.in-Err-new.ensures.refused e.opened e.log_survives e.manifest_survives e.log_durable e.manifest_durable e.log_later e.manifest_later e.tables_later
