@@ -36,6 +36,7 @@ use Rattle.wp_txn.specs.Turns.{seat_of, with_locks, GaveLocks}
 use Rattle.wp_txn.specs.Txn.{OpenState, HasOpen}
 use Rattle.wp_txn.specs.Under.{LocksKey}
 use Rattle.wp_txn.proofs.Freed.{either_turned}
+use Rattle.wp_txn.proofs.Goes.{still, open_still}
 use Rattle.wp_txn.proofs.GoesOn.{Turnless, back, under, held_back, nothing_done, finds}
 
 -- ---- which keys a batch changes with one change more
@@ -54,7 +55,7 @@ twice : (t u : Bool) → (t || (t || u)) ≡ (t || u)
 twice true u = refl
 twice false u = refl
 
-changed_one : (change : Change) (others : List Change) (k : List ℕ) → is_changed (change ∷ others) k ≡ (bytes_eq (key_of change) k || is_changed others k)
+pub changed_one : (change : Change) (others : List Change) (k : List ℕ) → is_changed (change ∷ others) k ≡ (bytes_eq (key_of change) k || is_changed others k)
 changed_one change others k = some_of (bytes_eq (key_of change) k) (value_of change) (change_to others k)
 
 -- ... as the sets of keys compare them
@@ -96,16 +97,6 @@ module _ {D : Type 0} (z : SharedState D) (old : SeatState) (name : List ℕ) (b
 
   pub its_keys : (k : List ℕ) → set.contains (transaction_in old.knows.participant name).locked k ≡ is_changed batch k
   its_keys k = ap (λ (x : Transaction). set.contains x.locked k) it_is ∙ h.keys k
-
-  -- it is open still where the seat keeps it
-  pub open_still : (new : SeatState) (p : Participant) → p.transactions ≡ old.knows.participant.transactions → Continues z old new p → HasOpen new name batch
-  open_still new p same goes = record {
-    transaction = h.transaction;
-    has = ap (λ (x : Participant). finite.get x.transactions name) goes.participant ∙ (ap (λ ts. finite.get ts name) same ∙ h.has);
-    batch_is = h.batch_is;
-    keys = h.keys;
-    noted = goes.notes (unprepared name) refl h.noted;
-  }
 
   module _ (key : List ℕ) where
     pub locking_has : (b : Bool) → is_some (finite.get (locking b name key old.knows.participant).transactions name) ≡ true
@@ -181,9 +172,9 @@ module _ {D : Type 0} (z : SharedState D) (old : SeatState) (free : IsFree z.tab
 
   -- where the key was not locked the transaction is as it was
   pub not_changed : (change : Change) (new : SeatState) (why : TxnError) → (IsFull txn.batch (key_of change) → ⊥) → key_of change ≡ key → HasOpen old txn.name txn.batch → HoldsKey z old txn key (Err why) new → Changes z old txn change (Err why) new txn
-  not_changed change new Memory room same has c = (refl, open_still z old txn.name txn.batch has new old.knows.participant refl c, c)
+  not_changed change new Memory room same has c = (refl, open_still old new (still z old new old.knows.participant refl refl c) txn.name txn.batch has, c)
   not_changed change new (Busy holder) room same has c =
-      (room, refl, open_still z old txn.name txn.batch has new _ refl c.2.goes_on, subst (λ (k : List ℕ). is_changed txn.batch k ≡ false) (sym same) c.0, c.1, subst (λ (k : List ℕ). Finds z old new (Some k) holder) (sym same) c.2)
+      (room, refl, open_still old new (still z old new _ refl refl c.2.goes_on) txn.name txn.batch has, subst (λ (k : List ℕ). is_changed txn.batch k ≡ false) (sym same) c.0, c.1, subst (λ (k : List ℕ). Finds z old new (Some k) holder) (sym same) c.2)
   not_changed change new (Taken other) room same has c = absurd c
   not_changed change new TooMany room same has c = absurd c
   not_changed change new Silent room same has c = absurd c

@@ -31,6 +31,7 @@ use Rattle.wp_txn.specs.declared.error.TxnError.{TxnError}
 use Rattle.wp_txn.specs.declared.error.TxnError.TheVariants.{Memory, Taken, Busy, TooMany, Silent, Unknown, InUse, NumbersFull, LogFault, Stopped}
 use Rattle.wp_txn.specs.Actors.{no_changes, with_claimed, with_found, with_told, with_heard, giving_up}
 use Rattle.wp_txn.specs.Calls.{remembering, with_transaction, Keeps, Finds, GivesUp, Begins, Tells, Hears}
+use Rattle.wp_txn.specs.Recording.{Frees}
 use Rattle.wp_txn.specs.Turns.{seat_of, with_locks, HoldsLocks, GaveLocks, IsApartFrom, IsWithout}
 use Rattle.wp_txn.specs.Txn.{HasOpen}
 use Rattle.wp_txn.specs.Under.{Claims, TellsUnder, HearsUnder}
@@ -179,6 +180,12 @@ module _ {D : Type 0} (z : SharedState D) (old : SeatState) (free : IsFree z.tab
           let goes = back (IsApartFrom name) t (f (with_locks t old).knows) r new (under f r without_it.seat) gave (held_back t u) free.live refl refl ([], sym (append-nil old.knows.participant.seen))
           (λ fact apart there. without_it.notes fact apart (subst (λ (x : SeatState). IsIn fact x.knows.notes) (sym took) there)) in
           goes
+
+      pub freed : (name : List ℕ) (u : LockTables) (r : SeatState) → IsWithout s r u name → GaveLocks r new → Frees z old new name
+      freed name u r without_it gave = record {
+        gives_up = given_up name u r without_it gave;
+        same = participant_back r new gave ∙ ap (λ (x : SeatState). x.knows.participant) (under (λ a. record (giving_up u name a) { notes = r.knows.notes }) r without_it.seat);
+      }
 
       -- ---- the board
 

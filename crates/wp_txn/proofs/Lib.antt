@@ -1,5 +1,12 @@
 mod Made
 mod Freed
 mod GoesOn
+mod Goes
 mod Adding
 mod Taking
+mod OneName
+mod MayPut
+mod UnderLog
+mod DirectWrites
+mod Ends
+mod RollsBack

@@ -57,7 +57,7 @@ none_forgotten (step ∷ steps) w by a e =
     ap (λ (x : Actor). actor_after steps (done w by x step) by (first_of (done (record w { actors = a ∷ [] }) 0 x step).actors a)) (forgets_nothing w.writes.history (length w.cache) step a e.0)
     ∙ none_forgotten steps (done w by a step) by (stepped w a step) e.1
 
-all_made : (p : Place) (steps : World → List Step) (so : World → Type 0) (a b : Actor) (m : Moved p steps so a b) → EndNothing (steps m.world) → b ≡ all_stepped (steps m.world) m.world p.by a
+pub all_made : (p : Place) (steps : World → List Step) (so : World → Type 0) (a b : Actor) (m : Moved p steps so a b) → EndNothing (steps m.world) → b ≡ all_stepped (steps m.world) m.world p.by a
 all_made p steps so a b m ends_none = m.actor ∙ none_forgotten (steps m.world) m.world p.by a ends_none
 
 claim_ends : (name : List ℕ) → EndsNothing (claim_name name)
@@ -213,7 +213,7 @@ leave_ends history words name (delayed_flag_stays value) = refl
 leave_ends history words name (old_flag_stays value) = refl
 
 -- the actor but for its notes
-but_notes : (a b c : Actor) → b ≡ record a { notes = c.notes } → b ≡ record a { notes = b.notes }
+pub but_notes : (a b c : Actor) → b ≡ record a { notes = c.notes } → b ≡ record a { notes = b.notes }
 but_notes a b c e = e ∙ ap (λ (notes : List Fact). record a { notes = notes }) (sym (ap (λ (x : Actor). x.notes) e))
 
 module _ (p : Place) (so : World → Type 0) (s new : SeatState) (same : (new.table ≡ s.table) × (new.by ≡ s.by) × (new.turns ≡ s.turns)) (t : LockTables) (name : List ℕ) (held : IsIn (locks t) s.knows.held) where

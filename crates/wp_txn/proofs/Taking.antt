@@ -3,12 +3,13 @@ use Rattle.std.proofs.Common.{◌≡◌, inl, inr, ℕ, ◌≤◌, true, true≢
 use Rattle.std.specs.Prelude.{unwrap_or, Result, Ok, Err}
 use Rattle.std.specs.FinMap as finite
 use Rattle.std.proofs.lemmas.Slice.Eq.{bytes_eq-Decides}
-use Rattle.wp_model.specs.History.{named, name_at, batch_at, is_changed}
+use Rattle.wp_model.specs.History.{entry_at, is_prepare, prepared_name, prepared_batch, is_undecided, named, name_at, batch_at, is_changed}
 use Rattle.wp_model.specs.LockTables.{LockTables}
 use Rattle.wp_model.specs.declared.change.Change.{Change}
 use Rattle.wp_model.specs.declared.entry.Entry.{Entry}
+use Rattle.wp_model.specs.declared.entry.Entry.TheVariants.{Write, Prepare, Commit, Undo, Close}
 use Rattle.wp_model.specs.declared.holder.Holder.TheVariants.{Txn}
-use Rattle.wp_model.proofs.Entries.{undecided_within}
+use Rattle.wp_model.proofs.Entries.{undecided_prepared, undecided_within}
 use Rattle.wp_model.proofs.Found.{found_named}
 use Rattle.wp_locks.specs.Locks.{RefusesTake}
 use Rattle.wp_locks.specs.declared.error.LockError.TheVariants as why
@@ -32,13 +33,25 @@ use Rattle.wp_shared.specs.Calls.{Continues}
 use Rattle.wp_txn.specs.declared.error.TxnError.{TxnError}
 use Rattle.wp_txn.specs.declared.error.TxnError.TheVariants.{Memory, Taken, Busy, TooMany, Silent, Unknown, InUse, NumbersFull, LogFault, Stopped}
 use Rattle.wp_txn.specs.Actors.{with_found, with_taken}
-use Rattle.wp_txn.specs.Calls.{Keeps, Takes, TakesPrepared}
+use Rattle.wp_txn.specs.Calls.{Keeps, StoodWithLog, Takes, TakesPrepared}
 use Rattle.wp_txn.specs.Turns.{seat_of, with_locks, HoldsLocks, GaveLocks, TookLog, HoldsLog, GaveLog, TakesPrepare}
 use Rattle.wp_txn.specs.Under.{IsPrepareOf, TakesUnder}
 use Rattle.wp_txn.proofs.GoesOn.{Turnless, same_rest, came_back}
 use Rattle.wp_txn.proofs.Made.{locks_are}
 
 -- ---- names
+
+-- an entry that is a Prepare
+prepare_of : (o : Option Entry) → is_prepare o ≡ true → o ≡ Some (Prepare (prepared_name o) (prepared_batch o))
+prepare_of (Some (Prepare name batch)) is = refl
+prepare_of (Some (Write batch)) is = absurd (true≢false (sym is))
+prepare_of (Some (Commit p)) is = absurd (true≢false (sym is))
+prepare_of (Some (Undo p batch)) is = absurd (true≢false (sym is))
+prepare_of (Some (Close p)) is = absurd (true≢false (sym is))
+prepare_of None is = absurd (true≢false (sym is))
+
+prepare_at : (history : List Entry) (p : ℕ) (name : List ℕ) (batch : List Change) → is_undecided history p ≡ true → name_at history p ≡ name → batch_at history p ≡ batch → entry_at history p ≡ Some (Prepare name batch)
+prepare_at history p name batch u named_so changes = prepare_of (entry_at history p) (undecided_prepared history p u) ∙ (λ i. Some (Prepare (named_so i) (changes i)))
 
 -- a name that is not live names no undecided prepare
 pub not_named : (p : Place) (a : Actor) (w : World) (t : LockTables) (name : List ℕ) → IsAt p a w → IsIn (locks t) a.held → finite.get t.names name ≡ None → named w.writes.history name ≡ None
@@ -53,10 +66,10 @@ refused_unknown None name asked r = (refl, r)
 refused_unknown (Some None) name asked r = absurd r
 refused_unknown (Some (Some client)) name asked r = absurd r
 
-pub refused_used : (o : Option (Option (List ℕ))) (name asked : List ℕ) → RefusesTake o name (why.InUse asked) → (is_some o ≡ true) × (asked ≡ name)
+pub refused_used : (o : Option (Option (List ℕ))) (name asked : List ℕ) → RefusesTake o name (why.InUse asked) → ((client : List ℕ) × (o ≡ Some (Some client))) × (asked ≡ name)
 refused_used None name asked r = absurd r
 refused_used (Some None) name asked r = absurd r
-refused_used (Some (Some client)) name asked r = (refl, r)
+refused_used (Some (Some client)) name asked r = ((client, refl), r)
 
 -- ---- turns
 
@@ -189,6 +202,15 @@ module _ {D : Type 0} (z : SharedState D) (old : SeatState) (free : IsFree z.tab
 
         -- ---- a refusal
 
+        stood_then : (w : World) → Stands z s w → StoodWithLog z old w
+        stood_then w stands = record {
+          actor = s.knows;
+          there = subst (λ (by : ℕ). IsAt (place_at z by) s.knows w) took_log.same_by stands;
+          table = log.table;
+          held = ap (λ (a : Actor). a.held) took_log.knows;
+          same = took_log.knows ∙ ap (λ (held : List Content). record old.knows { held = held; notes = s.knows.notes }) (sym (ap (λ (a : Actor). a.held) took_log.knows));
+        }
+
         pub not_taken : (w : World) (name : List ℕ) (reason : TxnError) (u : LockTables) → Stands z s w → w.locks ≡ t → TakesUnder t s2 name (Err reason) u r → TakesPrepared z old name (Err reason) new
         not_taken w name (Unknown other at) u stands are c =
             let h : List Entry = c.3.0 in let is = under_both (sees h) r c.3.4 in
@@ -198,22 +220,18 @@ module _ {D : Type 0} (z : SharedState D) (old : SeatState) (free : IsFree z.tab
               c.3.3 ∙ ap (λ (entries : List Entry). length entries) (sym seen),
               ap (λ (entries : List Entry). named entries name) seen ∙ c.3.2,
               record { free = goes.free; same_by = goes.same_by; seen = goes.seen; participant = goes.participant; notes = goes.notes; made = goes.made; joined = goes.joined },
+              (w, stood_then w stands, ap (λ (l : LockTables). finite.get l.names name) are ∙ c.1),
             )
         not_taken w name (InUse other) u stands are c = (
           c.0,
           record {
             world = w;
-            stood = record {
-              actor = s.knows;
-              there = subst (λ (by : ℕ). IsAt (place_at z by) s.knows w) took_log.same_by stands;
-              table = log.table;
-              held = ap (λ (a : Actor). a.held) took_log.knows;
-              same = took_log.knows ∙ ap (λ (held : List Content). record old.knows { held = held; notes = s.knows.notes }) (sym (ap (λ (a : Actor). a.held) took_log.knows));
-            };
+            stood = stood_then w stands;
             holds = (name, refl, ap (λ (l : LockTables). is_some (finite.get l.names name)) are ∙ c.1.0);
             account = c.1.2.0;
             goes_on = both_back (with_found None (Txn name) c.1.2.0 both) (under_both (with_found None (Txn name) c.1.2.0) r c.1.2.1) same_held free.live refl refl ([], sym (append-nil old.knows.participant.seen)) (λ fact there. there);
           },
+          (c.2.0, ap (λ (l : LockTables). finite.get l.names name) are ∙ c.2.1),
         )
         not_taken w name Memory u stands are c = absurd c
         not_taken w name (Taken other) u stands are c = absurd c
@@ -248,7 +266,6 @@ module _ {D : Type 0} (z : SharedState D) (old : SeatState) (free : IsFree z.tab
               record {
                 name_is = refl;
                 number_is = ap (λ (entries : List Entry). named entries name) seen ∙ named_is;
-                batch_is = ap (λ (entries : List Entry). batch_at entries number) (seen ∙ of_log) ∙ p.1;
                 has = record {
                   transaction = x;
                   has = ap (λ (y : Participant). finite.get y.transactions name) goes.participant ∙ at_inserted old.knows.participant.transactions name x name refl;
@@ -257,6 +274,8 @@ module _ {D : Type 0} (z : SharedState D) (old : SeatState) (free : IsFree z.tab
                   noted = gave_log.notes (undecided_at name number) refl (gave.notes (undecided_at name number)
                       (subst (λ (y : SeatState). IsIn (undecided_at name number) y.knows.notes) (sym is) (inl (ap (undecided_at name) number_is))));
                   seen = subst (λ (entries : List Entry). number ≤ length entries) (sym seen) (undecided_within h number f.0).1;
+                  stands = subst (λ (entries : List Entry). entry_at entries number ≡ Some (Prepare name batch)) (sym seen)
+                      (prepare_at h number name batch f.0 ((bytes_eq-Decides (name_at h number) name).0 f.1) (ap (λ (entries : List Entry). batch_at entries number) of_log ∙ p.1));
                 };
                 goes_on = record { free = goes.free; same_by = goes.same_by; seen = goes.seen; participant = goes.participant; notes = goes.notes; made = goes.made; joined = goes.joined };
               }

@@ -1,17 +1,17 @@
 -- What the steps of these calls make of the seat's actor, which holds the locks turn with these tables.
-use Rattle.std.specs.Prelude.{ℕ, List, [], ◌∷◌, length, Option, Some, unwrap_or}
+use Rattle.std.specs.Prelude.{ℕ, List, [], ◌∷◌, length, Option, Some, None, unwrap_or}
 use Rattle.std.specs.FinSet as set
 use Rattle.std.specs.FinMap as finite
 use Rattle.wp_model.specs.LockTables.{LockTables}
 use Rattle.wp_model.specs.declared.change.Change.{Change}
 use Rattle.wp_model.specs.declared.entry.Entry.{Entry}
 use Rattle.wp_model.specs.declared.holder.Holder.{Holder}
-use Rattle.wp_model.specs.declared.holder.Holder.TheVariants.{Txn}
+use Rattle.wp_model.specs.declared.holder.Holder.TheVariants.{Txn, Client}
 use Rattle.wp_model.specs.History.{batch_at, named}
 use Rattle.wp_core.specs.Tables.{locks}
-use Rattle.wp_core.specs.Views.{Account, claimed, took, locked, told, heard, found, unprepared, undecided_at}
+use Rattle.wp_core.specs.Views.{Account, Fact, claimed, took, locked, told, heard, found, stopped, unprepared, undecided_at, direct_free}
 use Rattle.wp_core.specs.World.{Transaction, Participant, Actor}
-use Rattle.wp_core.specs.Changes.{held_with, keys_of_holder, sees, remembers, has_transaction, has_no_transaction, with_name, with_key, with_label}
+use Rattle.wp_core.specs.Changes.{held_with, keys_of_holder, sees, remembers, has_transaction, has_no_transaction, has_direct, with_name, with_key, with_label}
 
 -- it holds these tables in place of those that it held
 abbrev pub holding : LockTables → Actor → Actor
@@ -29,6 +29,10 @@ transaction_in p name = unwrap_or (finite.get p.transactions name) no_changes
 abbrev pub with_key_locked : List ℕ → Transaction → Transaction
 with_key_locked key x = record x { locked = set.insert x.locked key }
 
+-- it noted this fact
+abbrev pub noting : Fact → Actor → Actor
+noting fact a = record a { notes = fact ∷ a.notes }
+
 -- it claimed a name, and noted that no undecided prepare has it
 abbrev pub with_claimed : LockTables → List ℕ → Actor → Actor
 with_claimed t name a = let b = holding (with_name t name (Some a.participant.client)) (remembers (has_transaction a name no_changes) (claimed name)) in record b { notes = unprepared name ∷ a.notes }
@@ -40,6 +44,18 @@ with_found key holder account a = remembers a (found key holder (length a.partic
 -- it locked a key for its transaction
 abbrev pub with_locked : LockTables → List ℕ → List ℕ → Actor → Actor
 with_locked t name key a = holding (with_key t key (Txn name)) (remembers (has_transaction a name (with_key_locked key (transaction_in a.participant name))) (locked key (Txn name)))
+
+-- it locked a key for its direct write, and noted that no undecided prepare has the key
+abbrev pub with_direct : LockTables → List ℕ → Actor → Actor
+with_direct t key a = noting (direct_free key) (holding (with_key t key (Client a.participant.client)) (remembers (has_direct a (Some key)) (locked key (Client a.participant.client))))
+
+-- its direct write is over, and the tables are these
+abbrev pub ending_direct : LockTables → Actor → Actor
+ending_direct t a = holding t (has_direct a None)
+
+-- it found the log closed, when so many entries were published
+abbrev pub with_stopped : ℕ → Actor → Actor
+with_stopped n a = remembers a (stopped n)
 
 -- its transaction has these changes
 abbrev pub with_batch : List ℕ → List Change → Actor → Actor

@@ -6,7 +6,7 @@ use Rattle.wp_model.specs.declared.change.Change.{Change}
 use Rattle.wp_model.specs.declared.holder.Holder.{Holder}
 use Rattle.wp_model.specs.declared.holder.Holder.TheVariants.{Txn}
 use Rattle.wp_model.specs.Batch.{key_of, change_to, with_change}
-use Rattle.wp_model.specs.History.{named, batch_at, is_changed}
+use Rattle.wp_model.specs.History.{named, is_changed}
 use Rattle.wp_core.specs.Tables.{WriteTable, writes}
 use Rattle.wp_core.specs.Views.{Account, Event, claimed, took, locked, told, heard, found}
 use Rattle.wp_core.specs.Lists.{IsIn}
@@ -100,14 +100,21 @@ pub record StoodWithLog {D : Type 0} (z : SharedState D) (old : SeatState) (w : 
 pub record Takes {D : Type 0} (z : SharedState D) (old : SeatState) (name : List ℕ) (txn : PreparedState) (new : SeatState) : Type 0 where
   pub name_is : txn.name ≡ name
   pub number_is : named new.knows.participant.seen name ≡ Some txn.number
-  pub batch_is : batch_at new.knows.participant.seen txn.number ≡ txn.batch
   pub has : HasPrepared new name txn.number txn.batch
   pub goes_on : Continues z old new (remembering (took name ∷ []) (with_transaction name has.transaction old.knows.participant))
 
+-- a client has the transaction of this name
+abbrev pub IsInUse : World → List ℕ → Type 0
+IsInUse w name = (client : List ℕ) × (finite.get w.locks.names name ≡ Some (Some client))
+
+-- in a world in which the seat held the write turn, the name was not live
+abbrev pub IsNotLive : {D : Type 0} → SharedState D → SeatState → List ℕ → Type 0
+IsNotLive z old name = (w : World) × StoodWithLog z old w × (finite.get w.locks.names name ≡ None)
+
 abbrev pub TakesPrepared : {D : Type 0} → SharedState D → SeatState → List ℕ → Result PreparedState TxnError → SeatState → Type 0
 TakesPrepared z old name (Ok txn) new = Takes z old name txn new
-TakesPrepared z old name (Err (Unknown other at)) new = (other ≡ name) × (at ≡ length new.knows.participant.seen) × (named new.knows.participant.seen name ≡ None) × Keeps z old new
-TakesPrepared z old name (Err (InUse other)) new = (other ≡ name) × FindsWhere (StoodWithLog z old) z old new None (Txn name)
+TakesPrepared z old name (Err (Unknown other at)) new = (other ≡ name) × (at ≡ length new.knows.participant.seen) × (named new.knows.participant.seen name ≡ None) × Keeps z old new × IsNotLive z old name
+TakesPrepared z old name (Err (InUse other)) new = (other ≡ name) × (found : FindsWhere (StoodWithLog z old) z old new None (Txn name)) × IsInUse found.world name
 TakesPrepared z old name (Err Memory) new = Keeps z old new
 TakesPrepared z old name (Err other) new = ⊥
 

@@ -4,3 +4,5 @@ pub mod Turns
 pub mod Under
 pub mod Calls
 pub mod Keys
+pub mod Writes
+pub mod Recording

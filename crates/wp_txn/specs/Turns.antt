@@ -1,5 +1,5 @@
 -- A seat while it holds turns, and what the steps that it makes then leave of it.
-use Rattle.std.specs.Prelude.{◌≡◌, ℕ, Bool, true, false, List, [], ◌∷◌, Some, None, is_some, unwrap_or, bytes_eq}
+use Rattle.std.specs.Prelude.{◌≡◌, ℕ, Bool, true, false, List, [], ◌∷◌, Some, None, is_some, unwrap_or}
 use Rattle.std.specs.FinSet as set
 use Rattle.wp_model.specs.declared.entry.Entry.{Entry}
 use Rattle.wp_model.specs.declared.holder.Holder.TheVariants.{Txn}
@@ -8,15 +8,16 @@ use Rattle.wp_model.specs.LockTables.{LockTables}
 use Rattle.wp_core.specs.Lists.{IsIn}
 use Rattle.wp_core.specs.Tables.{WriteTable, writes, locks}
 use Rattle.wp_core.specs.Turns.{write_turn, locks_turn}
-use Rattle.wp_core.specs.Views.{Fact, undecided_at, prior_values, unprepared}
+use Rattle.wp_core.specs.Views.{Fact, direct_free}
 use Rattle.wp_core.specs.World.{Actor}
 use Rattle.wp_core.specs.Changes.{turn_index, held_without, keys_of_holder}
 use Rattle.wp_core.specs.Sound.Actors.{StartsWith}
 use Rattle.wp_core.specs.Sound.Views.{guarded_by}
 use Rattle.wp_guarded.specs.Log.{LogState}
 use Rattle.wp_guarded.specs.Parts.{log_first}
+use Rattle.wp_publish.specs.Records.{is_about}
 use Rattle.wp_shared.specs.Seats.{SharedState, SeatState}
-use Rattle.wp_txn.specs.Actors.{giving_up, with_taken}
+use Rattle.wp_txn.specs.Actors.{giving_up, ending_direct, with_taken}
 
 -- the seat with this actor
 abbrev pub seat_of : SeatState → Actor → SeatState
@@ -73,21 +74,28 @@ pub record GaveLog (old new : SeatState) : Type 0 where
 
 -- ---- what is known of a transaction
 
--- the fact is about the transaction of this name
-abbrev pub is_about : List ℕ → Fact → Bool
-is_about name (undecided_at other p) = bytes_eq name other
-is_about name (prior_values other p batch) = bytes_eq name other
-is_about name (unprepared other) = bytes_eq name other
-is_about name other = false
-
 -- a fact that is noted without a turn, and is not about that transaction
 abbrev pub IsApartFrom : List ℕ → Fact → Type 0
-IsApartFrom name fact = (guarded_by fact ≡ None) × (is_about name fact ≡ false)
+IsApartFrom name fact = (guarded_by fact ≡ None) × (is_about (Some name) fact ≡ false)
 
 -- its transaction of this name is gone, and the tables are these now; it knows no more about the transaction
 pub record IsWithout (old new : SeatState) (t : LockTables) (name : List ℕ) : Type 0 where
   pub seat : new ≡ seat_of old (record (giving_up t name old.knows) { notes = new.knows.notes })
   pub notes : (fact : Fact) → IsApartFrom name fact → IsIn fact old.knows.notes → IsIn fact new.knows.notes
+
+-- the fact is about a direct write
+abbrev pub is_of_direct : Fact → Bool
+is_of_direct (direct_free key) = true
+is_of_direct other = false
+
+-- a fact that is noted without a turn, and is not about a direct write
+abbrev pub IsNoDirect : Fact → Type 0
+IsNoDirect fact = (guarded_by fact ≡ None) × (is_of_direct fact ≡ false)
+
+-- its direct write is over, and the tables are these now; it knows no more about a direct write
+pub record IsWithoutDirect (old new : SeatState) (t : LockTables) : Type 0 where
+  pub seat : new ≡ seat_of old (record (ending_direct t old.knows) { notes = new.knows.notes })
+  pub notes : (fact : Fact) → IsNoDirect fact → IsIn fact old.knows.notes → IsIn fact new.knows.notes
 
 -- The seat saw the history, and took the undecided prepare of the name; the tables held the keys of its batch for it. A history that
 -- the seat holds is that one.

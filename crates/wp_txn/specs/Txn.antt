@@ -3,7 +3,8 @@ use Rattle.std.specs.Prelude.{◌≡◌, ℕ, ◌≤◌, true, List, length, Som
 use Rattle.std.specs.FinSet as set
 use Rattle.std.specs.FinMap as finite
 use Rattle.wp_model.specs.declared.change.Change.{Change}
-use Rattle.wp_model.specs.History.{is_changed}
+use Rattle.wp_model.specs.declared.entry.Entry.TheVariants.{Prepare}
+use Rattle.wp_model.specs.History.{entry_at, is_changed}
 use Rattle.wp_core.specs.Lists.{IsIn}
 use Rattle.wp_core.specs.Views.{undecided_at, unprepared}
 use Rattle.wp_core.specs.World.{Transaction}
@@ -28,7 +29,7 @@ pub record HasOpen (s : SeatState) (name : List ℕ) (batch : List Change) : Typ
   pub noted : IsIn (unprepared name) s.knows.notes
 
 -- The seat has a transaction of this name with these changes, which locked each key that they change. It is the undecided prepare
--- with this number, which the seat has seen.
+-- with this number, which the seat has seen with just these changes.
 pub record HasPrepared (s : SeatState) (name : List ℕ) (number : ℕ) (batch : List Change) : Type 0 where
   pub transaction : Transaction
   pub has : finite.get s.knows.participant.transactions name ≡ Some transaction
@@ -36,3 +37,4 @@ pub record HasPrepared (s : SeatState) (name : List ℕ) (number : ℕ) (batch :
   pub keys : (key : List ℕ) → is_changed batch key ≡ true → set.contains transaction.locked key ≡ true
   pub noted : IsIn (undecided_at name number) s.knows.notes
   pub seen : number ≤ length s.knows.participant.seen
+  pub stands : entry_at s.knows.participant.seen number ≡ Some (Prepare name batch)

@@ -5,15 +5,17 @@ use Rattle.wp_model.specs.LockTables.{LockTables}
 use Rattle.wp_model.specs.declared.change.Change.{Change}
 use Rattle.wp_model.specs.declared.entry.Entry.{Entry}
 use Rattle.wp_model.specs.History.{named, batch_at}
-use Rattle.wp_model.specs.declared.holder.Holder.TheVariants.{Txn}
+use Rattle.wp_model.specs.declared.holder.Holder.{Holder}
+use Rattle.wp_model.specs.declared.holder.Holder.TheVariants.{Txn, Client}
 use Rattle.wp_model.specs.Holder.{is_same_txn}
+use Rattle.wp_locks.specs.Locks.{is_free_for}
 use Rattle.wp_core.specs.Views.{Account}
 use Rattle.wp_core.specs.Changes.{sees, with_name, with_key, with_label}
 use Rattle.wp_core.specs.Sound.Actors.{StartsWith}
 use Rattle.wp_shared.specs.Seats.{SeatState}
 use Rattle.wp_txn.specs.declared.error.TxnError.{TxnError}
 use Rattle.wp_txn.specs.declared.error.TxnError.TheVariants.{Memory, Taken, Busy, Silent, Unknown, InUse}
-use Rattle.wp_txn.specs.Actors.{with_claimed, with_found, with_locked, with_told, with_heard}
+use Rattle.wp_txn.specs.Actors.{with_claimed, with_found, with_locked, with_direct, with_told, with_heard}
 use Rattle.wp_txn.specs.Turns.{seat_of, TakesPrepare}
 
 -- the name is live, and the seat found that
@@ -26,6 +28,14 @@ Claims old s name (Err (Taken other)) new t = (other ≡ name) × FindsName old 
 Claims old s name (Err Memory) new t = (new ≡ old) × (t ≡ s)
 Claims old s name (Err other) new t = ⊥
 
+-- the key is the holder's, or it is another's, and the seat found that
+abbrev pub LocksFor : LockTables → SeatState → List ℕ → Holder → Result (Unit {0}) TxnError → LockTables → SeatState → Type 0
+LocksFor old s key holder (Ok done) new t = (is_free_for (finite.get old.keys key) holder ≡ true) × (new ≡ with_key old key holder) × (t ≡ s)
+LocksFor old s key holder (Err (Busy other)) new t =
+    (finite.get old.keys key ≡ Some other) × (is_same_txn other holder ≡ false) × (new ≡ old) × ((account : Account) × (t ≡ seat_of s (with_found (Some key) other account s.knows)))
+LocksFor old s key holder (Err Memory) new t = (new ≡ old) × (t ≡ s)
+LocksFor old s key holder (Err other) new t = ⊥
+
 abbrev pub LocksKey : LockTables → SeatState → List ℕ → List ℕ → Result (Unit {0}) TxnError → LockTables → SeatState → Type 0
 LocksKey old s name key (Ok done) new t = (new ≡ with_key old key (Txn name)) × (t ≡ seat_of s (with_locked old name key s.knows))
 LocksKey old s name key (Err (Busy holder)) new t =
@@ -33,11 +43,15 @@ LocksKey old s name key (Err (Busy holder)) new t =
 LocksKey old s name key (Err Memory) new t = (new ≡ old) × (t ≡ s)
 LocksKey old s name key (Err other) new t = ⊥
 
+abbrev pub LocksDirect : LockTables → SeatState → List ℕ → Result (Unit {0}) TxnError → LockTables → SeatState → Type 0
+LocksDirect old s key (Ok done) new t = (new ≡ with_key old key (Client s.knows.participant.client)) × (t ≡ seat_of s (with_direct old key s.knows))
+LocksDirect old s key (Err why) new t = LocksFor old s key (Client s.knows.participant.client) (Err why) new t
+
 abbrev pub TakesUnder : LockTables → SeatState → List ℕ → Result (Unit {0}) TxnError → LockTables → SeatState → Type 0
 TakesUnder old s name (Ok done) new t = (new ≡ with_name old name (Some s.knows.participant.client)) × (finite.get old.names name ≡ Some None) × TakesPrepare s old name t
 TakesUnder old s name (Err (Unknown other at)) new t =
     (other ≡ name) × (finite.get old.names name ≡ None) × (new ≡ old) × ((history : List Entry) × StartsWith history s.knows.participant.seen × (named history name ≡ None) × (at ≡ length history) × (t ≡ seat_of s (sees history s.knows)))
-TakesUnder old s name (Err (InUse other)) new t = (other ≡ name) × FindsName old s name new t
+TakesUnder old s name (Err (InUse other)) new t = (other ≡ name) × FindsName old s name new t × ((client : List ℕ) × (finite.get old.names name ≡ Some (Some client)))
 TakesUnder old s name (Err other) new t = ⊥
 
 abbrev pub TellsUnder : LockTables → SeatState → List ℕ → Result ℕ TxnError → LockTables → SeatState → Type 0

@@ -14,12 +14,13 @@ ghost use Rattle.wp_txn.specs.Txn.{HasOpen};
 ghost use Rattle.wp_txn.specs.Under.{LocksKey};
 
 use crate::error::TxnError;
-use crate::steps::{find_holder, lock_key, set_batch};
+use crate::locking::lock_for;
+use crate::steps::{lock_key, set_batch};
 use crate::turns::{give_locks, take_locks};
 use crate::txn::OpenTxn;
 use std::alloc::Global;
 use std::sync::Wait;
-use wp_locks::{LockError, Locks};
+use wp_locks::Locks;
 use wp_model::{Batch, Change, Holder, Key, Name, SetError, Value};
 use wp_outside::Disk;
 use wp_shared::{Seat, Shared};
@@ -51,18 +52,9 @@ fn lock<D: Disk + Drop>(
     requires unlocked { set.contains (transaction_in seat.old.knows.participant name.now).locked key.now ≡ false }
     ensures { LocksKey tables.old seat.old name.now key.now result tables.new seat.new }
 {
-    match tables.lock(key, holder) {
-        Ok(()) => {
-            lock_key(store, seat, name, key);
-            Ok(())
-        }
-        Err(LockError::Busy(other)) => {
-            find_holder(store, seat, tables, key, &other);
-            Err(TxnError::Busy(other))
-        }
-        Err(LockError::Memory) => Err(TxnError::Memory),
-        Err(LockError::Taken(_) | LockError::Unknown(_) | LockError::InUse(_)) => unreachable!(),
-    }
+    lock_for(store, seat, tables, key, holder)?;
+    lock_key(store, seat, name, key);
+    Ok(())
 }
 
 /// Locks the key for the transaction, unless the key has a change there already.

@@ -45,3 +45,9 @@ impl From<AllocError> for TxnError {
         TxnError::Memory
     }
 }
+
+/// A transaction that a call refused, as it was, and why. It has to be spent.
+pub struct Refused<T> {
+    pub txn: T,
+    pub why: TxnError,
+}

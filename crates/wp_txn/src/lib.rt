@@ -8,25 +8,40 @@
 //!   where the batch has none of it. `abandon` drops it, with its name and its keys.
 //! - `leave` gives up a prepared transaction, whose name stays live and whose keys stay held, and `take_prepared` takes one that
 //!   nobody has.
+//! - `write` is one change, written at once: its key is locked for the call alone. `prepare` puts the changes of an open
+//!   transaction into the log, and `commit` decides them; `commit_now` does both by one entry. `rollback` reads what their keys
+//!   have, at a snapshot of its own, and puts that back, with the end of the prepare in the same record. Each takes the write turn
+//!   for its record, finds the log running and room under the limit, and has the record made by `wp_publish`. Behind the write
+//!   turn the name and the keys of the transaction are free again, and a decided number leaves the prepared tables.
 //! - `tell` and `hear`: labels on a board, by which one client lets another see what it has seen.
 //!
-//! A transaction is a value that has to be spent: it is handed to the call that ends it. The calls wait for turns and for
-//! nothing else. `abandon`, `leave` and `hear` take no memory; all others may be refused for want of it, and then leave the
-//! transaction as it was, and the seat but for what it has seen.
+//! A transaction is a value that has to be spent: it is handed to the call that ends it, and comes back where that is refused. The
+//! calls wait for turns, and else for the log's device alone. `abandon`, `leave` and `hear` take no memory; all others may be
+//! refused for want of it, and then leave the transaction as it was, and the seat but for what it has seen.
 #![tactic(auto)]
 
 mod board;
 mod changes;
+mod deciding;
+mod direct;
 mod error;
+mod locking;
 mod names;
 mod prepared;
+mod preparing;
+mod recording;
 mod steps;
 mod turns;
 mod txn;
+mod undoing;
 
 pub use board::{hear, tell};
 pub use changes::{del, put};
-pub use error::TxnError;
+pub use deciding::commit;
+pub use direct::write;
+pub use error::{Refused, TxnError};
 pub use names::{abandon, begin};
 pub use prepared::{leave, take_prepared};
+pub use preparing::{commit_now, prepare};
 pub use txn::{OpenTxn, PreparedTxn};
+pub use undoing::rollback;

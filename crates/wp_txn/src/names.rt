@@ -7,13 +7,14 @@ ghost use Rattle.wp_txn.specs.Under.{Claims};
 ghost use Rattle.wp_txn.specs.Turns.{HoldsLocks};
 
 use crate::error::TxnError;
-use crate::steps::{claim_name, find_name, free_transaction};
+use crate::locking::free;
+use crate::steps::{claim_name, find_name};
 use crate::turns::{give_locks, take_locks};
 use crate::txn::OpenTxn;
 use std::alloc::Global;
 use std::sync::Wait;
 use wp_locks::{LockError, Locks};
-use wp_model::{Batch, Holder, Name};
+use wp_model::{Batch, Name};
 use wp_outside::Disk;
 use wp_shared::{Seat, Shared};
 
@@ -77,9 +78,5 @@ pub fn abandon<D: Disk + Drop, R: Wait>(store: &Shared<D>, rt: &R, seat: &mut Se
         name,
         batch: _batch,
     } = txn;
-    let mut tables = take_locks(store, rt, seat);
-    free_transaction(store, seat, &tables, &name);
-    tables.free_name(&name);
-    tables.unlock_all(&Holder::Txn(name));
-    give_locks(store, seat, tables);
+    free(store, rt, seat, name);
 }

@@ -4,22 +4,24 @@ ghost use Rattle.std.specs.FinSet as set;
 ghost use Rattle.std.specs.FinMap as finite;
 ghost use Rattle.wp_model.specs.Batch.{is_batch};
 ghost use Rattle.wp_model.specs.declared.entry.Entry.{Entry};
-ghost use Rattle.wp_model.specs.declared.holder.Holder.TheVariants.{Txn};
+ghost use Rattle.wp_model.specs.declared.holder.Holder.TheVariants.{Txn, Client};
+ghost use Rattle.wp_model.specs.History.{named};
 ghost use Rattle.wp_model.specs.LockTables.{LockTables};
 ghost use Rattle.wp_locks.specs.Locks.{is_free_for};
-ghost use Rattle.wp_core.specs.Changes.{with_name, without_transaction};
+ghost use Rattle.wp_core.specs.Changes.{with_name, without_key, without_transaction};
 ghost use Rattle.wp_core.specs.Lists.{IsIn};
 ghost use Rattle.wp_core.specs.Sound.Actors.{StartsWith};
-ghost use Rattle.wp_core.specs.Tables.{locks};
+ghost use Rattle.wp_core.specs.Tables.{writes, locks};
 ghost use Rattle.wp_core.specs.Views.{Account, unprepared, undecided_at};
 ghost use Rattle.wp_core.specs.World.{World};
 ghost use Rattle.wp_rule.specs.Moves.{MayMake, Moved};
 ghost use Rattle.wp_shared.specs.Clients.{KeepClient};
 ghost use Rattle.wp_shared.specs.Seats.{place_at};
-ghost use Rattle.wp_txn.specs.Actors.{transaction_in, with_claimed, with_found, with_locked, with_batch, with_told, with_heard};
-ghost use Rattle.wp_txn.specs.Turns.{seat_of, HoldsLocks, IsWithout, TakesPrepare};
+ghost use Rattle.wp_txn.specs.Actors.{transaction_in, noting, with_claimed, with_found, with_locked, with_direct, with_stopped, with_batch, with_told, with_heard};
+ghost use Rattle.wp_txn.specs.Turns.{seat_of, HoldsLocks, IsWithout, IsWithoutDirect, TakesPrepare};
 
 use std::marker::Brand;
+use wp_guarded::Log;
 use wp_locks::Locks;
 use wp_model::{Batch, Holder, Key, Name, Seq};
 use wp_outside::Disk;
@@ -89,6 +91,30 @@ pub(crate) fn lock_key<D: Disk + Drop>(
     ensures { (t : LockTables) → IsIn (locks t) seat.old.knows.held → seat.new ≡ seat_of seat.old (with_locked t name.now key.now seat.old.knows) }
 {
     make_about::<D, Brand, (&Name, &Key)>(store, seat, &(name, key));
+}
+
+/// The seat locked the key, which nobody held, for its direct write. It still holds the tables as they were before.
+pub(crate) fn lock_direct<D: Disk + Drop>(store: &Shared<D>, seat: &mut Seat<D>, key: &Key)
+    requires seat { (seat.old.table ≡ store.now.table) × (seat.old.knows.live ≡ true) }
+    requires none { seat.old.knows.participant.direct ≡ None }
+    requires free { (t : LockTables) × IsIn (locks t) seat.old.knows.held × (is_free_for (finite.get t.keys key.now) (Client seat.old.knows.participant.client) ≡ true) }
+    ensures { (t : LockTables) → IsIn (locks t) seat.old.knows.held → seat.new ≡ seat_of seat.old (with_direct t key.now seat.old.knows) }
+{
+    make_about::<D, Brand, Key>(store, seat, key);
+}
+
+/// The seat freed the key of its direct write.
+pub(crate) fn free_direct<D: Disk + Drop>(
+    store: &Shared<D>,
+    seat: &mut Seat<D>,
+    tables: &Locks,
+    key: &Key,
+)
+    requires seat { HoldsLocks store.now seat.old tables.now }
+    requires has { seat.old.knows.participant.direct ≡ Some key.now }
+    ensures { IsWithoutDirect seat.old seat.new (without_key tables.now key.now) }
+{
+    make_about::<D, Brand, Key>(store, seat, key);
 }
 
 /// The seat's transaction of this name has this batch.
@@ -170,4 +196,47 @@ pub(crate) fn hear_label<D: Disk + Drop>(
         × (seat.new ≡ seat_of seat.old (with_heard history label.now number seat.old.knows)) }
 {
     make_about::<D, Brand, (&Name, Seq)>(store, seat, &(label, number))
+}
+
+/// The seat found the log closed.
+pub(crate) fn find_log_closed<D: Disk + Drop>(store: &Shared<D>, seat: &mut Seat<D>, log: &Log<D>)
+    requires seat { seat.old.table ≡ store.now.table }
+    requires held { IsIn (writes log.now.table) seat.old.knows.held }
+    requires closed { log.now.table.closed ≡ true }
+    ensures { seat.new ≡ seat_of seat.old (with_stopped (length log.now.table.history) seat.old.knows) }
+{
+    store.make::<Brand>(seat);
+}
+
+/// The seat noted that its transaction of this name is the undecided prepare with this number.
+pub(crate) fn note_undecided<D: Disk + Drop>(
+    store: &Shared<D>,
+    seat: &mut Seat<D>,
+    log: &Log<D>,
+    name: &Name,
+    number: Seq,
+)
+    requires seat { (seat.old.table ≡ store.now.table) × (seat.old.knows.live ≡ true) }
+    requires held { IsIn (writes log.now.table) seat.old.knows.held }
+    requires has { is_some (finite.get seat.old.knows.participant.transactions name.now) ≡ true }
+    requires prepare { named log.now.table.history name.now ≡ Some number }
+    ensures { seat.new ≡ seat_of seat.old (noting (undecided_at name.now number) seat.old.knows) }
+{
+    make_about::<D, Brand, (&Name, Seq)>(store, seat, &(name, number));
+}
+
+/// The seat noted that no undecided prepare has the name of its transaction.
+pub(crate) fn note_unprepared<D: Disk + Drop>(
+    store: &Shared<D>,
+    seat: &mut Seat<D>,
+    log: &Log<D>,
+    name: &Name,
+)
+    requires seat { (seat.old.table ≡ store.now.table) × (seat.old.knows.live ≡ true) }
+    requires held { IsIn (writes log.now.table) seat.old.knows.held }
+    requires has { is_some (finite.get seat.old.knows.participant.transactions name.now) ≡ true }
+    requires none { named log.now.table.history name.now ≡ None }
+    ensures { seat.new ≡ seat_of seat.old (noting (unprepared name.now) seat.old.knows) }
+{
+    make_about::<D, Brand, Name>(store, seat, name);
 }

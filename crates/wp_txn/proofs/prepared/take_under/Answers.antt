@@ -1,4 +1,4 @@
-use Rattle.std.proofs.Common.{◌≡◌, ℕ, List, None, sym, ap, subst, ◌∙◌}
+use Rattle.std.proofs.Common.{◌≡◌, ℕ, List, Some, None, is_some, sym, ap, subst, ◌∙◌}
 use Rattle.std.specs.FinMap as finite
 use Rattle.wp_model.specs.History.{named}
 use Rattle.wp_model.specs.declared.entry.Entry.{Entry}
@@ -8,7 +8,7 @@ use Rattle.wp_core.specs.Lists.{IsIn}
 use Rattle.wp_core.specs.Tables.{locks}
 use Rattle.wp_core.specs.World.{Actor}
 use Rattle.wp_shared.proofs.OneStep.{becomes}
-use Rattle.wp_txn.proofs.Taking.{not_named, refused_unknown}
+use Rattle.wp_txn.proofs.Taking.{not_named, refused_unknown, refused_used}
 use Rattle.wp_txn.proofs.prepared.take_under.Goals as goal
 
 pub take_name-requires-in_default-clause-left : goal.take_name-requires-in_default-clause-left
@@ -32,3 +32,10 @@ returns-in-Unknown g c =
         becomes c.args.seat.now new _ seen.same seen.rest,
       ),
     )
+
+pub returns-in-InUse : goal.returns-in-InUse
+returns-in-InUse g c =
+    let t = c.args.tables.now in let r = c.in-Err.ensures {u = tt} in
+    let f = refused_used (finite.get t.names c.args.asked) c.args.asked c.in-InUse.asked (subst (λ (why : LockError). RefusesTake (finite.get t.names c.args.asked) c.args.asked why) c.in-InUse.is r.0) in
+    let has : finite.get t.names c.args.name.now ≡ Some (Some f.0.0) = ap (λ (name : List ℕ). finite.get t.names name) (sym c.requires.names.0) ∙ f.0.1 in
+    (f.1 ∙ c.requires.names.0, (ap is_some has, r.2, c.find_name.ensures), (f.0.0, has))

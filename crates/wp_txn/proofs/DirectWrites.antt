@@ -1,0 +1,255 @@
+-- A direct write: its key is locked, the change is put into the history, and the key is freed.
+use Rattle.std.proofs.Common.{◌≡◌, inl, inr, ℕ, true, false, List, [], ◌∷◌, ◌++◌, length, refl, sym, subst, ap, ◌∙◌, append-nil, Option, Some, None}
+use Rattle.std.specs.Prelude.{Result, Ok, Err}
+use Rattle.std.specs.FinMap as finite
+use Rattle.wp_model.specs.Batch.{key_of}
+use Rattle.wp_model.specs.History.{holder_of}
+use Rattle.wp_model.specs.LockTables.{LockTables}
+use Rattle.wp_model.specs.declared.change.Change.{Change}
+use Rattle.wp_model.specs.declared.entry.Entry.{Entry}
+use Rattle.wp_model.specs.declared.entry.Entry.TheVariants.{Write}
+use Rattle.wp_model.specs.declared.holder.Holder.{Holder}
+use Rattle.wp_model.specs.declared.holder.Holder.TheVariants.{Txn, Client}
+use Rattle.wp_model.proofs.Found.{found_holder}
+use Rattle.wp_locks.specs.Locks.{is_free_for}
+use Rattle.wp_core.specs.Changes.{with_key, without_key}
+use Rattle.wp_core.specs.Lists.{IsIn}
+use Rattle.wp_core.specs.Notes.{ends}
+use Rattle.wp_core.specs.Steps.{lock_direct, free_direct, note}
+use Rattle.wp_core.specs.Tables.{locks}
+use Rattle.wp_core.specs.Views.{Fact, passed, in_old_commits, apart, words_stay, versions_in_memory, versions_nowhere, number_in_heap, number_not_in_heap, undecided_at, prior_values, unprepared, direct_free, tables_stay, live_listed, nothing_flushed, frozen_stay, delayed_flag_stays, old_flag_stays}
+use Rattle.wp_core.specs.World.{Actor, Participant, World}
+use Rattle.wp_core.specs.Sound.Views.{guarded_by}
+use Rattle.wp_core.proofs.HistoryGrows.{none_is}
+use Rattle.wp_core.proofs.Keyed.{at_inserted}
+use Rattle.wp_core.proofs.Tests.{some_none}
+use Rattle.wp_rule.specs.Knows.{Noted}
+use Rattle.wp_rule.specs.Moves.{MayMake, Moved, actor_after}
+use Rattle.wp_rule.specs.Words.{Place, IsAt}
+use Rattle.wp_rule.proofs.Forgets.{EndsNothing, note_ends}
+use Rattle.wp_rule.proofs.Knows.{at_sound, noted_is}
+use Rattle.wp_rule.proofs.MayBeMade.{known_made}
+use Rattle.wp_rule.proofs.Needed.{has_locks, alone}
+use Rattle.wp_rule.proofs.Outlasting.{outlasts}
+use Rattle.wp_publish.specs.Records.{numbers_behind, is_about}
+use Rattle.wp_shared.specs.Calls.{ContinuesWith, Continues}
+use Rattle.wp_shared.specs.Seats.{SharedState, SeatState, IsFree, Stands, place_at}
+use Rattle.wp_shared.proofs.OneStep.{becomes}
+use Rattle.wp_txn.specs.declared.error.TxnError.{TxnError}
+use Rattle.wp_txn.specs.declared.error.TxnError.TheVariants.{Memory, Taken, Busy, TooMany, Silent, Unknown, InUse, NumbersFull, LogFault, Stopped}
+use Rattle.wp_txn.specs.Actors.{with_direct, ending_direct}
+use Rattle.wp_txn.specs.Calls.{remembering}
+use Rattle.wp_txn.specs.Recording.{Records, HasDirect, HoldsDirect, EndsDirect, without_direct}
+use Rattle.wp_txn.specs.Turns.{with_locks, HoldsLocks, GaveLocks, is_of_direct, IsNoDirect, IsWithoutDirect}
+use Rattle.wp_txn.specs.Under.{LocksDirect}
+use Rattle.wp_txn.specs.Writes.{Refuses, WritesDirect, wrote_direct, writing_direct}
+use Rattle.wp_txn.proofs.GoesOn.{Turnless, back, under, held_back, nothing_done, finds, noted_back, still_holds}
+use Rattle.wp_txn.proofs.Goes.{chain, put_within, refused_within, refused_still, refused_free}
+use Rattle.wp_txn.proofs.Made.{all_made, locks_are, but_notes}
+
+-- ---- steps
+
+lock_ends : (key : List ℕ) → EndsNothing (lock_direct key)
+lock_ends key = record { guard = λ turn. refl; place = λ words place. refl; words = refl; delayed_flag = refl; old_flag = refl; pending = refl; adds = refl; takes = refl; prepared = refl; unprepared = refl; transaction = λ history name. refl; direct = refl; moves = refl; replaces = refl; installing = refl }
+
+-- a direct write locks what nobody holds
+none_there : (o : Option Holder) (client : List ℕ) → is_free_for o (Client client) ≡ true → o ≡ None
+none_there None client free = refl
+none_there (Some (Txn name)) client free = absurd cc
+none_there (Some (Client other)) client free = absurd cc
+
+-- a key that nobody holds is in no undecided batch
+free_there : (p : Place) (a : Actor) (w : World) (key : List ℕ) → IsAt p a w → finite.get w.locks.keys key ≡ None → holder_of w.writes.history key ≡ None
+free_there p a w key k free = none_is (holder_of w.writes.history key) (λ q e.
+    let f = found_holder w.writes.history key q e in some_none _ (sym ((at_sound p a w k).locks.prepared_keys q key f.0 f.1) ∙ free))
+
+pub may_lock_direct : (p : Place) (a : Actor) (t : LockTables) (key : List ℕ) → a.live ≡ true → a.participant.direct ≡ None → IsIn (locks t) a.held → is_free_for (finite.get t.keys key) (Client a.participant.client) ≡ true
+    → MayMake p a (λ w. lock_direct key ∷ note (direct_free key) ∷ [])
+may_lock_direct p a t key live none held free w k =
+    let h = has_locks p a w k (λ l. is_free_for (finite.get l.keys key) (Client a.participant.client) ≡ true) (record { table = t; held = held; so_is = free }) in
+    let nobody = none_there (finite.get w.locks.keys key) a.participant.client h.1 in
+    ((tt, (tt, tt)), ((h.0, none, nobody), ((live, alone p a w k, (refl, at_inserted w.locks.keys key (Client a.participant.client) key refl, free_there p a w key k nobody)), tt)))
+
+pub direct_locked : (p : Place) (so : World → Type 0) (a b : Actor) (t : LockTables) (key : List ℕ) → Moved p (λ w. lock_direct key ∷ note (direct_free key) ∷ []) so a b → IsIn (locks t) a.held → b ≡ with_direct t key a
+direct_locked p so a b t key m held =
+    all_made p (λ w. lock_direct key ∷ note (direct_free key) ∷ []) so a b m (lock_ends key, (note_ends (direct_free key), tt)) ∙ ap (λ (l : LockTables). with_direct l key a) (locks_are p a m.world t m.before held)
+
+pub may_free_direct : (p : Place) (a : Actor) (t : LockTables) (key : List ℕ) → a.participant.direct ≡ Some key → IsIn (locks t) a.held → MayMake p a (λ w. free_direct key ∷ [])
+may_free_direct p a t key has held = known_made p a (free_direct key) tt (record { table = t; held = held; so_is = has })
+
+free_ends : (history : List Entry) (words : ℕ) (key : List ℕ) (fact : Fact) → IsNoDirect fact → ends history words (free_direct key) fact ≡ false
+free_ends history words key (direct_free other) e = e.1
+free_ends history words key (undecided_at other p) e = refl
+free_ends history words key (prior_values other p batch) e = refl
+free_ends history words key (unprepared other) e = refl
+free_ends history words key (live_listed floor listed) e = refl
+free_ends history words key (passed place pair) e = let n = e.0 in absurd cc
+free_ends history words key (in_old_commits place pair) e = let n = e.0 in absurd cc
+free_ends history words key (apart place pair) e = let n = e.0 in absurd cc
+free_ends history words key (words_stay max cache) e = let n = e.0 in absurd cc
+free_ends history words key versions_in_memory e = let n = e.0 in absurd cc
+free_ends history words key versions_nowhere e = let n = e.0 in absurd cc
+free_ends history words key number_in_heap e = let n = e.0 in absurd cc
+free_ends history words key number_not_in_heap e = let n = e.0 in absurd cc
+free_ends history words key (tables_stay versions floor) e = let n = e.0 in absurd cc
+free_ends history words key nothing_flushed e = let n = e.0 in absurd cc
+free_ends history words key (frozen_stay n versions) e = let m = e.0 in absurd cc
+free_ends history words key (delayed_flag_stays value) e = let n = e.0 in absurd cc
+free_ends history words key (old_flag_stays value) e = let n = e.0 in absurd cc
+
+pub direct_freed : (p : Place) (so : World → Type 0) (s new : SeatState) (same : (new.table ≡ s.table) × (new.by ≡ s.by) × (new.turns ≡ s.turns)) (t : LockTables) (key : List ℕ) → IsIn (locks t) s.knows.held
+    → Moved p (λ w. free_direct key ∷ []) so s.knows new.knows → IsWithoutDirect s new (without_key t key)
+direct_freed p so s new same t key held m =
+    let after = actor_after (free_direct key ∷ []) m.world p.by s.knows in
+    let e : new.knows ≡ record (ending_direct (without_key t key) s.knows) { notes = after.notes } =
+    m.actor ∙ ap (λ (l : LockTables). record (ending_direct (without_key l key) s.knows) { notes = after.notes }) (locks_are p s.knows m.world t m.before held) in
+    record {
+      seat = becomes s new (record (ending_direct (without_key t key) s.knows) { notes = new.knows.notes }) same (but_notes (ending_direct (without_key t key) s.knows) new.knows after e);
+      notes = λ fact stays there.
+          subst (λ (x : Actor). Noted x fact) (sym m.actor) (outlasts fact (free_direct key ∷ []) m.world p.by s.knows there ((λ x. x), free_ends m.world.writes.history (length m.world.cache) key fact stays, tt));
+    }
+
+-- ---- the key is held, and given back
+
+module _ {D : Type 0} (z : SharedState D) (old : SeatState) (free : IsFree z.table old) (none : old.knows.participant.direct ≡ None) (key : List ℕ) where
+  none_noted : (w : World) → Stands z old w → (other : List ℕ) → IsIn (direct_free other) old.knows.notes → ⊥
+  none_noted w stands other there =
+      let so = (noted_is (place_at z old.by) old.knows w (direct_free other) stands there).is_so in some_none other (sym so.0 ∙ none)
+
+  pub direct_held : (t u : LockTables) (s r new : SeatState) (w : World) (answer : Result (Unit {0}) TxnError) → s ≡ with_locks t old → Stands z old w → w.locks ≡ t → LocksDirect t s key answer u r → GaveLocks r new → HoldsDirect z old key answer new
+  direct_held t u s r new w (Ok done) took stands are c gave =
+      let b : Actor = with_direct t key (with_locks t old).knows in let is = under z old free t s took (with_direct t key) r c.1 in
+      record {
+        goes_on = back z old free Turnless t b r new is gave (held_back z old free t (with_key t key (Client old.knows.participant.client))) free.live refl refl ([], sym (append-nil old.knows.participant.seen)) (λ fact kept there. inr there);
+        noted = noted_back z old free t b r new (direct_free key) is gave (inl refl);
+        first = none_noted w stands;
+      }
+  direct_held t u s r new w (Err (Busy holder)) took stands are c gave = finds z old free t s took new w (Some key) holder r c.3.0 stands are c.0 c.3.1 gave
+  direct_held t u s r new w (Err Memory) took stands are c gave = nothing_done z old free t s took new r c.1 gave
+  direct_held t u s r new w (Err (Taken other)) took stands are c gave = c
+  direct_held t u s r new w (Err TooMany) took stands are c gave = c
+  direct_held t u s r new w (Err Silent) took stands are c gave = c
+  direct_held t u s r new w (Err (Unknown other at)) took stands are c gave = c
+  direct_held t u s r new w (Err (InUse other)) took stands are c gave = c
+  direct_held t u s r new w (Err (NumbersFull published limit)) took stands are c gave = c
+  direct_held t u s r new w (Err LogFault) took stands are c gave = c
+  direct_held t u s r new w (Err (Stopped n)) took stands are c gave = c
+
+module _ {D : Type 0} (z : SharedState D) (old : SeatState) (free : IsFree z.table old) (t : LockTables) (key : List ℕ) (s r : SeatState) (took : s ≡ with_locks t old) (without : IsWithoutDirect s r (without_key t key)) where
+  abbrev ending : Actor → Actor
+  ending a = record (ending_direct (without_key t key) a) { notes = r.knows.notes }
+
+  -- it holds the tables without the key
+  pub ended_holds : (m : LockTables) → m ≡ without_key t key → HoldsLocks z r m
+  ended_holds m is = still_holds z old free t s took ending r m without.seat free.live (inl (ap locks (sym is)))
+
+  pub ended_direct : (new : SeatState) → GaveLocks r new → EndsDirect z old new
+  ended_direct new gave =
+      let is = under z old free t s took ending r without.seat in record {
+        goes_on = back z old free IsNoDirect t (ending (with_locks t old).knows) r new is gave (held_back z old free t (without_key t key)) free.live refl refl ([], sym (append-nil old.knows.participant.seen))
+            (λ fact stays there. without.notes fact stays (subst (λ (x : SeatState). IsIn fact x.knows.notes) (sym took) there));
+        same = ap (λ (a : Actor). a.participant) gave.knows ∙ ap (λ (x : SeatState). x.knows.participant) is;
+      }
+
+-- ---- the whole call
+
+-- a fact of a seat that noted nothing of a direct write is about none
+no_direct : (notes : List Fact) → ((other : List ℕ) → IsIn (direct_free other) notes → ⊥) → (fact : Fact) → IsIn fact notes → is_of_direct fact ≡ false
+no_direct notes none (direct_free key) there = absurd (none key there)
+no_direct notes none other there = refl
+
+pub none_about : (fact : Fact) → is_about None fact ≡ false
+none_about (undecided_at name p) = refl
+none_about (prior_values name p batch) = refl
+none_about (unprepared name) = refl
+none_about other = refl
+
+module _ {D : Type 0} (z : SharedState D) (old mid left new : SeatState) (change : Change) (none : old.knows.participant.direct ≡ None) (held : HasDirect z old mid (key_of change)) (ended : EndsDirect z left new) where
+  abbrev key : List ℕ
+  key = key_of change
+
+  abbrev was : Participant
+  was = old.knows.participant
+
+  -- with all that was noted before the call
+  turnless_still : (R : Participant) → ContinuesWith IsNoDirect z old new R → Continues z old new R
+  turnless_still R goes = record {
+    free = goes.free;
+    same_by = goes.same_by;
+    seen = goes.seen;
+    participant = goes.participant;
+    notes = λ fact turnless there. goes.notes fact (turnless, no_direct old.knows.notes held.first fact there) there;
+    made = goes.made;
+    joined = goes.joined;
+  }
+
+  -- what the seat was between, and is when the key is given back
+  given : (Part : Fact → Type 0) (change_it : Participant → Participant) → ((fact : Fact) → guarded_by fact ≡ None → Part fact)
+      → ((x : Participant) (seen : List Entry) → record (without_direct (record (change_it (record x { seen = seen })) { seen = left.knows.participant.seen })) { seen = new.knows.participant.seen } ≡ record (change_it (without_direct x)) { seen = new.knows.participant.seen })
+      → ContinuesWith Part z mid left (change_it mid.knows.participant) → Continues z old new (change_it (wrote_direct key was))
+  given Part change_it stays commutes goes =
+      let first : ContinuesWith IsNoDirect z old left (change_it mid.knows.participant) =
+      chain IsNoDirect (λ fact. guarded_by fact ≡ None) Part z old mid left (writing_direct key was) (change_it mid.knows.participant) (change_it mid.knows.participant) (λ fact s. s.0) (λ fact s. stays fact s.0) held.goes_on goes refl in
+      turnless_still (change_it (wrote_direct key was))
+      (chain IsNoDirect IsNoDirect IsNoDirect z old left new (change_it mid.knows.participant) (without_direct left.knows.participant) (change_it (wrote_direct key was)) (λ fact s. s) (λ fact s. s) first ended.goes_on
+      (ap (λ (x : Participant). record (without_direct x) { seen = new.knows.participant.seen }) (first.participant ∙ ap (λ (x : Participant). record (change_it x) { seen = left.knows.participant.seen }) held.goes_on.participant)
+      ∙ commutes (writing_direct key was) mid.knows.participant.seen
+      ∙ ap (λ (d : Option (List ℕ)). record (change_it (record (wrote_direct key was) { direct = d })) { seen = new.knows.participant.seen }) (sym none)))
+
+  same_seen : new.knows.participant.seen ≡ left.knows.participant.seen
+  same_seen = ap (λ (p : Participant). p.seen) ended.same
+
+  pub wrote : (n : ℕ) → Records z mid (Write (change ∷ []) ∷ []) (λ m. []) (Ok n) left → WritesDirect z old change (Ok n) new
+  wrote n r =
+      let put = r.1.1.put in let history = r.1.0 in (
+        r.0 ∙ ap (λ (es : List Entry). length es) (sym same_seen),
+        (
+          history,
+          put_within _ Turnless z old mid left new (writing_direct key was) (wrote_direct key was) history (Write (change ∷ []) ∷ []) held.goes_on.same_by held.goes_on.seen held.goes_on.participant put same_seen
+              (given _ (λ x. record x { own = x.own ++ numbers_behind (length history) (Write (change ∷ []) ∷ []) }) (λ fact turnless. (turnless, none_about fact)) (λ x seen. refl) put.goes_on),
+        ),
+      )
+
+  refused : (why : TxnError) → Refuses z mid left 1 mid.knows.participant mid.knows.participant why → Refuses z old new 1 (writing_direct key was) (wrote_direct key was) why
+  refused why c =
+      refused_within z old mid left new 1 (writing_direct key was) (wrote_direct key was) held.goes_on.same_by held.goes_on.participant same_seen
+      (λ goes. given Turnless (λ x. x) (λ fact turnless. turnless) (λ x seen. refl) goes)
+      (λ events goes. given Turnless (remembering events) (λ fact turnless. turnless) (λ x seen. refl) goes) why c
+
+  pub not_written : (why : TxnError) → Refuses z mid left 1 mid.knows.participant mid.knows.participant why → WritesDirect z old change (Err why) new
+  not_written Memory c = inr (refused Memory c)
+  not_written (Stopped n) c = refused (Stopped n) c
+  not_written (NumbersFull published limit) c = refused (NumbersFull published limit) c
+  not_written LogFault c = refused LogFault c
+  not_written (Taken name) c = absurd c
+  not_written (Busy holder) c = absurd c
+  not_written TooMany c = absurd c
+  not_written Silent c = absurd c
+  not_written (Unknown name at) c = absurd c
+  not_written (InUse name) c = absurd c
+
+  pub written : (answer : Result ℕ TxnError) → Records z mid (Write (change ∷ []) ∷ []) (λ m. []) answer left → WritesDirect z old change answer new
+  written (Ok n) r = wrote n r
+  written (Err why) r = not_written why r
+
+-- behind a record the seat is free, and has the direct write that it had
+pub free_after : {D : Type 0} (z : SharedState D) (mid left : SeatState) (entries : List Entry) (facts : ℕ → List Fact) (answer : Result ℕ TxnError) → Records z mid entries facts answer left → IsFree z.table left
+free_after z mid left entries facts (Ok n) r = r.1.1.put.goes_on.free
+free_after z mid left entries facts (Err why) r = refused_free z mid left (length entries) why r
+
+pub direct_after : {D : Type 0} (z : SharedState D) (mid left : SeatState) (entries : List Entry) (facts : ℕ → List Fact) (answer : Result ℕ TxnError) → Records z mid entries facts answer left → left.knows.participant.direct ≡ mid.knows.participant.direct
+direct_after z mid left entries facts (Ok n) r = ap (λ (p : Participant). p.direct) r.1.1.put.goes_on.participant
+direct_after z mid left entries facts (Err why) r = (refused_still z mid left (length entries) why r).direct
+
+-- where the key was not held nothing was written
+pub not_held : {D : Type 0} (z : SharedState D) (old new : SeatState) (change : Change) (why : TxnError) → HoldsDirect z old (key_of change) (Err why) new → WritesDirect z old change (Err why) new
+not_held z old new change Memory c = inl c
+not_held z old new change (Busy holder) c = c
+not_held z old new change (Taken name) c = absurd c
+not_held z old new change TooMany c = absurd c
+not_held z old new change Silent c = absurd c
+not_held z old new change (Unknown name at) c = absurd c
+not_held z old new change (InUse name) c = absurd c
+not_held z old new change (NumbersFull published limit) c = absurd c
+not_held z old new change LogFault c = absurd c
+not_held z old new change (Stopped n) c = absurd c

@@ -1,0 +1,170 @@
+-- A transaction that its entries end, and one that is prepared.
+use Rattle.std.proofs.Common.{◌≡◌, ◌⊎◌, ⊎_elim, inl, inr, ℕ, suc, true, false, List, [], ◌∷◌, ◌++◌, length, refl, sym, subst, ap, ◌∙◌, Option, Some, None, is_some, eq-eqb, ◌+◌, arith}
+use Rattle.std.specs.Prelude.{Ok}
+use Rattle.std.specs.FinMap as finite
+use Rattle.wp_model.specs.Decision.{decision_of}
+use Rattle.wp_model.specs.History.{entry_at, name_at, prepared_name}
+use Rattle.wp_model.specs.declared.change.Change.{Change}
+use Rattle.wp_model.specs.declared.entry.Entry.{Entry}
+use Rattle.wp_model.specs.declared.entry.Entry.TheVariants.{Write, Prepare, Commit}
+use Rattle.wp_model.proofs.Entries.{entry_at_old}
+use Rattle.wp_history.proofs.Growth.{after_front, entry_at_next, length_next}
+use Rattle.wp_core.specs.Lists.{IsIn}
+use Rattle.wp_core.specs.Views.{Fact, undecided_at}
+use Rattle.wp_core.specs.World.{Participant}
+use Rattle.wp_core.specs.Sound.Actors.{StartsWith}
+use Rattle.wp_core.specs.Sound.Views.{guarded_by}
+use Rattle.wp_core.proofs.HistoryLaws.{next_decides_prepare}
+use Rattle.wp_publish.specs.Records.{numbers_behind, transaction_in, is_about}
+use Rattle.wp_shared.specs.Calls.{ContinuesWith, Continues}
+use Rattle.wp_commits.specs.Gone.{HasLeft}
+use Rattle.wp_rule.specs.Words.{IsAt}
+use Rattle.wp_shared.specs.Seats.{SharedState, SeatState, place_at}
+use Rattle.wp_txn.specs.Calls.{remembering, without_transaction}
+use Rattle.wp_txn.specs.Recording.{Records, Frees}
+use Rattle.wp_txn.specs.Turns.{IsApartFrom}
+use Rattle.wp_txn.specs.Txn.{OpenState, PreparedState, HasOpen, HasPrepared}
+use Rattle.wp_txn.specs.Writes.{HasPut, Refuses, Prepares, Ends, RefusesOpen, RefusesPrepared}
+use Rattle.wp_txn.specs.declared.error.TxnError.{TxnError}
+use Rattle.wp_txn.proofs.DirectWrites.{none_about}
+use Rattle.wp_txn.proofs.Goes.{chain, put_within, refused_within, refused_still, open_still, prepared_still}
+
+-- ---- the transaction is freed
+
+-- a fact that is not about the transaction is not about the record's
+not_about : (o : Option (List ℕ)) (name : List ℕ) (fact : Fact) → (o ≡ None) ⊎ (o ≡ Some name) → is_about (Some name) fact ≡ false → is_about o fact ≡ false
+not_about o name fact which apart = ⊎_elim
+    (λ (e : o ≡ None). ap (λ (x : Option (List ℕ)). is_about x fact) e ∙ none_about fact)
+    (λ (e : o ≡ Some name). ap (λ (x : Option (List ℕ)). is_about x fact) e ∙ apart) which
+
+-- the call began with what left the seat as it was, but for what it had seen
+module _ {D : Type 0} (z : SharedState D) (old start mid new : SeatState) (name : List ℕ) (entries : List Entry) (facts : ℕ → List Fact) (n : ℕ) (begins : Continues z old start old.knows.participant)
+    (r : Records z start entries facts (Ok n) mid) (which : (transaction_in r.1.0 entries ≡ None) ⊎ (transaction_in r.1.0 entries ≡ Some name)) where
+  abbrev it : Participant
+  it = old.knows.participant
+
+  abbrev Part : Fact → Type 0
+  Part fact = (guarded_by fact ≡ None) × (is_about (transaction_in r.1.0 entries) fact ≡ false)
+
+  -- with these numbers more of its own
+  abbrev owning : Participant → Participant
+  owning p = record p { own = p.own ++ numbers_behind (length r.1.0) entries }
+
+  apart_stays : (fact : Fact) → IsApartFrom name fact → Part fact
+  apart_stays fact apart = (apart.0, not_about (transaction_in r.1.0 entries) name fact which apart.1)
+
+  until_then : ContinuesWith (IsApartFrom name) z old mid (owning it)
+  until_then =
+      chain (IsApartFrom name) (λ fact. guarded_by fact ≡ None) Part z old start mid it (owning start.knows.participant) (owning it) (λ fact apart. apart.0) apart_stays begins r.1.1.put.goes_on
+      (ap (λ (p : Participant). record (owning p) { seen = mid.knows.participant.seen }) begins.participant)
+
+  same_seen : Frees z mid new name → new.knows.participant.seen ≡ mid.knows.participant.seen
+  same_seen frees = ap (λ (p : Participant). p.seen) frees.same
+
+  -- what was put is put still, and the transaction is gone
+  pub put_and_freed : Frees z mid new name → HasPut (IsApartFrom name) z old new it (without_transaction name it) r.1.0 entries
+  put_and_freed frees =
+      put_within Part (IsApartFrom name) z old start mid new it (without_transaction name it) r.1.0 entries begins.same_by begins.seen begins.participant r.1.1.put (same_seen frees)
+      (chain (IsApartFrom name) (IsApartFrom name) (IsApartFrom name) z old mid new (owning it) (without_transaction name mid.knows.participant) (owning (without_transaction name it)) (λ fact apart. apart) (λ fact apart. apart)
+      until_then frees.gives_up (ap (λ (p : Participant). record (without_transaction name p) { seen = new.knows.participant.seen }) until_then.participant))
+
+  -- the number published then is how much it has seen still
+  pub number_still : Frees z mid new name → n ≡ length new.knows.participant.seen
+  number_still frees = r.0 ∙ ap (λ (es : List Entry). length es) (sym (same_seen frees))
+
+  pub ended : Frees z mid new name → Ends z old name entries n new
+  ended frees = (number_still frees, (r.1.0, put_and_freed frees))
+
+  -- it has the transaction until then
+  pub has_until : is_some (finite.get it.transactions name) ≡ true → is_some (finite.get mid.knows.participant.transactions name) ≡ true
+  has_until there = ap (λ (p : Participant). is_some (finite.get p.transactions name)) until_then.participant ∙ there
+
+-- a refusal behind such a beginning
+pub refused_from : {D : Type 0} (z : SharedState D) (old start new : SeatState) (needed : ℕ) (begins : Continues z old start old.knows.participant) (why : TxnError)
+    → Refuses z start new needed start.knows.participant start.knows.participant why → Refuses z old new needed old.knows.participant old.knows.participant why
+refused_from z old start new needed begins why c =
+    let Turnless : Fact → Type 0 = λ fact. guarded_by fact ≡ None in let it = old.knows.participant in
+    refused_within z old start new new needed it it begins.same_by begins.participant refl
+    (λ goes. chain Turnless Turnless Turnless z old start new it start.knows.participant it (λ fact stays. stays) (λ fact stays. stays) begins goes (ap (λ (p : Participant). record p { seen = new.knows.participant.seen }) begins.participant))
+    (λ events goes.
+    chain Turnless Turnless Turnless z old start new it (remembering events start.knows.participant) (remembering events it) (λ fact stays. stays) (λ fact stays. stays) begins goes
+    (ap (λ (p : Participant). record (remembering events p) { seen = new.knows.participant.seen }) begins.participant))
+    why c
+
+-- what was noted of a transaction outlasts a record that is of none
+pub noted_until : {D : Type 0} (z : SharedState D) (old mid : SeatState) (batch : List Change) (facts : ℕ → List Fact) (n : ℕ) (fact : Fact) → Records z old (Write batch ∷ []) facts (Ok n) mid → guarded_by fact ≡ None → IsIn fact old.knows.notes
+    → IsIn fact mid.knows.notes
+noted_until z old mid batch facts n fact r turnless there = r.1.1.put.goes_on.notes fact (turnless, none_about fact) there
+
+-- freed, and then out of the prepared tables
+pub freed_then : {D : Type 0} (z : SharedState D) (old mid new : SeatState) (name : List ℕ) → Frees z old mid name → Continues z mid new mid.knows.participant → new.knows.participant ≡ mid.knows.participant → Frees z old new name
+freed_then z old mid new name frees goes same = record {
+  gives_up = chain (IsApartFrom name) (IsApartFrom name) (λ fact. guarded_by fact ≡ None) z old mid new (without_transaction name old.knows.participant) mid.knows.participant (without_transaction name old.knows.participant)
+      (λ fact apart. apart) (λ fact apart. apart.0) frees.gives_up goes (ap (λ (p : Participant). record p { seen = new.knows.participant.seen }) frees.same);
+  same = same ∙ frees.same;
+}
+
+-- no prepared table has the number, where the seat has seen no more since
+pub left_since : {D : Type 0} (z : SharedState D) (mid new : SeatState) (number : ℕ) → new.by ≡ mid.by → new.knows.participant ≡ mid.knows.participant → HasLeft z mid number → HasLeft z new number
+left_since z mid new number by same k = record {
+  knows = k.knows;
+  participant = k.participant ∙ sym same;
+  world = k.world;
+  there = subst (λ (n : ℕ). IsAt (place_at z n) k.knows k.world) (sym by) k.there;
+  gone = k.gone;
+}
+
+-- ---- a prepare is decided
+
+module _ {D : Type 0} (z : SharedState D) (old mid : SeatState) (name : List ℕ) (number : ℕ) (batch : List Change) (h : HasPrepared old name number batch) where
+  -- its prepare stands in what the record was put behind
+  pub stands_before : (history : List Entry) → StartsWith history old.knows.participant.seen → entry_at history number ≡ Some (Prepare name batch)
+  stands_before history grown = ap (λ (es : List Entry). entry_at es number) grown.1 ∙ entry_at_old old.knows.participant.seen grown.0 number h.seen ∙ h.stands
+
+  pub name_before : (history : List Entry) → StartsWith history old.knows.participant.seen → Some (name_at history number) ≡ Some name
+  name_before history grown = ap (λ (o : Option Entry). Some (prepared_name o)) (stands_before history grown)
+
+  pub there_before : is_some (finite.get old.knows.participant.transactions name) ≡ true
+  there_before = ap is_some h.has
+
+  module _ (facts : ℕ → List Fact) (n : ℕ) (r : Records z old (Commit number ∷ []) facts (Ok n) mid) where
+    pub commit_is_of : (transaction_in r.1.0 (Commit number ∷ []) ≡ None) ⊎ (transaction_in r.1.0 (Commit number ∷ []) ≡ Some name)
+    commit_is_of = inr (name_before r.1.0 r.1.1.put.grown)
+
+    -- the number is decided in what the seat has seen
+    pub commit_decides : (c : ℕ) × (decision_of mid.knows.participant.seen number ≡ Some c)
+    commit_decides =
+        let k = r.1.1 in let history = r.1.0 in (
+          suc (length history),
+          ap (λ (es : List Entry). decision_of es number) k.put.seen ∙ next_decides_prepare history (Commit number) number (after_front history (Commit number) [] k.legal).names_undecided (eq-eqb number number refl),
+        )
+
+-- ---- a transaction is prepared
+
+pub prepares : {D : Type 0} (z : SharedState D) (old new : SeatState) (txn : OpenState) (n : ℕ) → HasOpen old txn.name txn.batch → Records z old (Prepare txn.name txn.batch ∷ []) (λ m. undecided_at txn.name m ∷ []) (Ok n) new
+    → Prepares z old txn (record { name = txn.name; number = n; batch = txn.batch }) n new
+prepares z old new txn n h r =
+    let history = r.1.0 in let put = r.1.1.put in let seen = put.seen in
+    let last : n ≡ length history + 1 = r.0 ∙ ap (λ (es : List Entry). length es) seen ∙ length_next history (Prepare txn.name txn.batch) in (
+      r.0,
+      refl,
+      record {
+        transaction = h.transaction;
+        has = ap (λ (p : Participant). finite.get p.transactions txn.name) put.goes_on.participant ∙ h.has;
+        batch_is = h.batch_is;
+        keys = λ key changed. h.keys key ∙ changed;
+        noted = r.2 (undecided_at txn.name n) (inl refl);
+        seen = (let e = r.0 in omega (arith, e));
+        stands = ap (λ (es : List Entry). entry_at es n) seen ∙ ap (entry_at (history ++ Prepare txn.name txn.batch ∷ [])) last ∙ entry_at_next history (Prepare txn.name txn.batch);
+      },
+      (history, put),
+    )
+
+-- ---- a refusal
+
+pub refuses_open : {D : Type 0} (z : SharedState D) (old new : SeatState) (txn : OpenState) (why : TxnError) → HasOpen old txn.name txn.batch → Refuses z old new 1 old.knows.participant old.knows.participant why → RefusesOpen z old txn txn why new
+refuses_open z old new txn why h c = (refl, open_still old new (refused_still z old new 1 why c) txn.name txn.batch h, c)
+
+pub refuses_prepared : {D : Type 0} (z : SharedState D) (old new : SeatState) (txn : PreparedState) (needed : ℕ) (why : TxnError) → HasPrepared old txn.name txn.number txn.batch
+    → Refuses z old new needed old.knows.participant old.knows.participant why → RefusesPrepared z old txn needed txn why new
+refuses_prepared z old new txn needed why h c = (refl, prepared_still old new (refused_still z old new needed why c) txn.name txn.number txn.batch h, c)

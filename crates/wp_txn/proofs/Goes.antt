@@ -1,0 +1,143 @@
+-- A seat that goes on twice goes on.
+use Rattle.std.proofs.Common.{◌≡◌, ℕ, ◌+◌, ◌≤◌, Bool, true, false, List, [], ◌∷◌, ◌++◌, length, refl, sym, subst, ap, ◌∙◌, append_assoc, None, arith}
+use Rattle.std.specs.FinMap as finite
+use Rattle.wp_model.specs.History.{entry_at}
+use Rattle.wp_model.specs.declared.change.Change.{Change}
+use Rattle.wp_model.specs.declared.entry.Entry.{Entry}
+use Rattle.wp_model.proofs.Entries.{entry_at_old}
+use Rattle.wp_core.specs.Lists.{IsIn}
+use Rattle.wp_core.specs.Views.{Event, Fact, stopped, log_failed, undecided_at, unprepared}
+use Rattle.wp_core.specs.World.{Participant, Transactions}
+use Rattle.wp_core.specs.Sound.Actors.{StartsWith}
+use Rattle.wp_core.specs.Sound.Views.{guarded_by}
+use Rattle.wp_core.proofs.KeepsSeen.{shorter}
+use Rattle.wp_rule.specs.Words.{IsAt}
+use Rattle.wp_publish.specs.Writing.{FoundLog}
+use Rattle.wp_publish.specs.Records.{numbers_behind, failing}
+use Rattle.wp_shared.specs.Calls.{ContinuesWith, Continues}
+use Rattle.wp_shared.specs.Seats.{SharedState, SeatState, IsFree, place_at}
+use Rattle.wp_txn.specs.declared.error.TxnError.{TxnError}
+use Rattle.wp_txn.specs.declared.error.TxnError.TheVariants.{Memory, Taken, Busy, TooMany, Silent, Unknown, InUse, NumbersFull, LogFault, Stopped}
+use Rattle.wp_txn.specs.Calls.{remembering}
+use Rattle.wp_txn.specs.Txn.{HasOpen, HasPrepared}
+use Rattle.wp_txn.specs.Writes.{HasPut, Refuses}
+
+pub starts_through : (a b c : List Entry) → StartsWith c b → StartsWith b a → StartsWith c a
+starts_through a b c later sooner = (sooner.0 ++ later.0, later.1 ∙ ap (λ (es : List Entry). es ++ later.0) sooner.1 ∙ append_assoc a sooner.0 later.0)
+
+-- the participant that it is in the end, whatever it had seen on the way
+pub chain : {D : Type 0} (Stays First Second : Fact → Type 0) (z : SharedState D) (a b c : SeatState) (P Q R : Participant) → ((fact : Fact) → Stays fact → First fact) → ((fact : Fact) → Stays fact → Second fact)
+    → ContinuesWith First z a b P → ContinuesWith Second z b c Q → (record Q { seen = c.knows.participant.seen } ≡ record R { seen = c.knows.participant.seen }) → ContinuesWith Stays z a c R
+chain Stays First Second z a b c P Q R one two first second same = record {
+  free = second.free;
+  same_by = second.same_by ∙ first.same_by;
+  seen = starts_through a.knows.participant.seen b.knows.participant.seen c.knows.participant.seen second.seen first.seen;
+  participant = second.participant ∙ same;
+  notes = λ fact stays there. second.notes fact (two fact stays) (first.notes fact (one fact stays) there);
+  made = second.made ∙ first.made;
+  joined = second.joined ∙ first.joined;
+}
+
+-- the log was found by whoever the participant was then but for what it had seen
+pub found_from : {D : Type 0} (z : SharedState D) (by at : ℕ) (p q : Participant) (seen history : List Entry) (b : Bool) → at ≡ by → q ≡ record p { seen = seen } → FoundLog z at q history b → FoundLog z by p history b
+found_from z by at p q seen history b same is found = record {
+  world = found.world;
+  actor = found.actor;
+  there = subst (λ (n : ℕ). IsAt (place_at z n) found.actor found.world) same found.there;
+  held = found.held;
+  participant = found.participant ∙ ap (λ (x : Participant). record x { seen = history }) is;
+  history_is = found.history_is;
+  closed_is = found.closed_is;
+}
+
+-- what was put by a part of a call, which goes on from this participant, was put by the call
+pub put_within : {D : Type 0} (Part Stays : Fact → Type 0) (z : SharedState D) (old mid left new : SeatState) (found after : Participant) (history entries : List Entry)
+    → mid.by ≡ old.by → StartsWith mid.knows.participant.seen old.knows.participant.seen → mid.knows.participant ≡ record found { seen = mid.knows.participant.seen }
+    → HasPut Part z mid left mid.knows.participant mid.knows.participant history entries → new.knows.participant.seen ≡ left.knows.participant.seen
+    → ContinuesWith Stays z old new (record after { own = after.own ++ numbers_behind (length history) entries }) → HasPut Stays z old new found after history entries
+put_within Part Stays z old mid left new found after history entries by starts is put same goes = record {
+  grown = starts_through old.knows.participant.seen mid.knows.participant.seen history put.grown starts;
+  found_log = found_from z old.by mid.by found mid.knows.participant mid.knows.participant.seen history false by is put.found_log;
+  seen = same ∙ put.seen;
+  within = put.within;
+  goes_on = goes;
+}
+
+-- ... and what it was refused for, the call was
+module _ {D : Type 0} (z : SharedState D) (old mid left new : SeatState) (needed : ℕ) (found after : Participant) (by : mid.by ≡ old.by) (is : mid.knows.participant ≡ record found { seen = mid.knows.participant.seen })
+    (same : new.knows.participant.seen ≡ left.knows.participant.seen) (plain : Continues z mid left mid.knows.participant → Continues z old new after)
+    (more : (events : List Event) → Continues z mid left (remembering events mid.knows.participant) → Continues z old new (remembering events after)) where
+  found_in : (b : Bool) → FoundLog z mid.by mid.knows.participant left.knows.participant.seen b → FoundLog z old.by found new.knows.participant.seen b
+  found_in b k = subst (λ (h : List Entry). FoundLog z old.by found h b) (sym same) (found_from z old.by mid.by found mid.knows.participant mid.knows.participant.seen left.knows.participant.seen b by is k)
+
+  same_length : length left.knows.participant.seen ≡ length new.knows.participant.seen
+  same_length = ap (λ (h : List Entry). length h) (sym same)
+
+  pub refused_within : (why : TxnError) → Refuses z mid left needed mid.knows.participant mid.knows.participant why → Refuses z old new needed found after why
+  refused_within Memory c = plain c
+  refused_within (Stopped n) c = (c.0 ∙ same_length, found_in true c.1, more (stopped n ∷ []) c.2)
+  refused_within (NumbersFull published limit) c = (c.0 ∙ same_length, c.1, c.2, found_in false c.3, plain c.4)
+  refused_within LogFault c = (subst (λ (n : ℕ). n + needed ≤ z.limit) same_length c.0, found_in false c.1, more (log_failed ∷ []) c.2)
+  refused_within (Taken name) c = c
+  refused_within (Busy holder) c = c
+  refused_within TooMany c = c
+  refused_within Silent c = c
+  refused_within (Unknown name at) c = c
+  refused_within (InUse name) c = c
+
+-- ---- a refusal leaves transactions as they were
+
+-- the seat has the transactions that it had, and knows of them what it knew
+pub record HasStill (old new : SeatState) : Type 0 where
+  pub transactions : new.knows.participant.transactions ≡ old.knows.participant.transactions
+  pub direct : new.knows.participant.direct ≡ old.knows.participant.direct
+  pub seen : StartsWith new.knows.participant.seen old.knows.participant.seen
+  pub notes : (fact : Fact) → guarded_by fact ≡ None → IsIn fact old.knows.notes → IsIn fact new.knows.notes
+
+pub still : {D : Type 0} (z : SharedState D) (old new : SeatState) (p : Participant) → p.transactions ≡ old.knows.participant.transactions → p.direct ≡ old.knows.participant.direct → Continues z old new p → HasStill old new
+still z old new p same direct goes = record { transactions = ap (λ (x : Participant). x.transactions) goes.participant ∙ same; direct = ap (λ (x : Participant). x.direct) goes.participant ∙ direct; seen = goes.seen; notes = goes.notes }
+
+pub refused_still : {D : Type 0} (z : SharedState D) (old new : SeatState) (needed : ℕ) (why : TxnError) → Refuses z old new needed old.knows.participant old.knows.participant why → HasStill old new
+refused_still z old new needed Memory c = still z old new old.knows.participant refl refl c
+refused_still z old new needed (Stopped n) c = still z old new (remembering (stopped n ∷ []) old.knows.participant) refl refl c.2
+refused_still z old new needed (NumbersFull published limit) c = still z old new old.knows.participant refl refl c.4
+refused_still z old new needed LogFault c = still z old new (failing old.knows.participant) refl refl c.2
+refused_still z old new needed (Taken name) c = absurd c
+refused_still z old new needed (Busy holder) c = absurd c
+refused_still z old new needed TooMany c = absurd c
+refused_still z old new needed Silent c = absurd c
+refused_still z old new needed (Unknown name at) c = absurd c
+refused_still z old new needed (InUse name) c = absurd c
+
+pub refused_free : {D : Type 0} (z : SharedState D) (old new : SeatState) (needed : ℕ) (why : TxnError) → Refuses z old new needed old.knows.participant old.knows.participant why → IsFree z.table new
+refused_free z old new needed Memory c = c.free
+refused_free z old new needed (Stopped n) c = c.2.free
+refused_free z old new needed (NumbersFull published limit) c = c.4.free
+refused_free z old new needed LogFault c = c.2.free
+refused_free z old new needed (Taken name) c = absurd c
+refused_free z old new needed (Busy holder) c = absurd c
+refused_free z old new needed TooMany c = absurd c
+refused_free z old new needed Silent c = absurd c
+refused_free z old new needed (Unknown name at) c = absurd c
+refused_free z old new needed (InUse name) c = absurd c
+
+module _ (old new : SeatState) (k : HasStill old new) (name : List ℕ) where
+  pub open_still : (batch : List Change) → HasOpen old name batch → HasOpen new name batch
+  open_still batch h = record {
+    transaction = h.transaction;
+    has = ap (λ (ts : Transactions). finite.get ts name) k.transactions ∙ h.has;
+    batch_is = h.batch_is;
+    keys = h.keys;
+    noted = k.notes (unprepared name) refl h.noted;
+  }
+
+  pub prepared_still : (number : ℕ) (batch : List Change) → HasPrepared old name number batch → HasPrepared new name number batch
+  prepared_still number batch h = let low = shorter new.knows.participant.seen old.knows.participant.seen k.seen in record {
+    transaction = h.transaction;
+    has = ap (λ (ts : Transactions). finite.get ts name) k.transactions ∙ h.has;
+    batch_is = h.batch_is;
+    keys = h.keys;
+    noted = k.notes (undecided_at name number) refl h.noted;
+    seen = (let s = h.seen in omega (arith, low, s));
+    stands = ap (λ (es : List Entry). entry_at es number) k.seen.1 ∙ entry_at_old old.knows.participant.seen k.seen.0 number h.seen ∙ h.stands;
+  }

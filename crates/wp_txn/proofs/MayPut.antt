@@ -1,0 +1,191 @@
+-- An entry of a seat's own transaction or direct write may come next, behind the log that the seat holds.
+use Rattle.std.proofs.Common.{◌≡◌, ⊎_elim, inl, inr, ℕ, ◌≤◌, ◌||◌, Bool, true, false, true≢false, List, [], ◌∷◌, ◌++◌, refl, sym, subst, ap, ◌∙◌, Option, Some, None, is_some, append_assoc, arith}
+use Rattle.std.specs.Prelude.{option_map}
+use Rattle.std.specs.FinMap as finite
+use Rattle.std.specs.Str.{bytes_eq}
+use Rattle.std.proofs.lemmas.Slice.Eq.{bytes_eq-Decides}
+use Rattle.wp_model.specs.Batch.{key_of, change_to, is_batch}
+use Rattle.wp_model.specs.History.{entry_at, prepared_name, prepared_batch, name_at, batch_at, is_changed, is_undecided, named, holder_of, newest}
+use Rattle.wp_model.specs.Legal.{IsLegal, IsLegalNext, AreFree, undone_last, prior}
+use Rattle.wp_model.specs.declared.change.Change.{Change}
+use Rattle.wp_model.specs.declared.entry.Entry.{Entry}
+use Rattle.wp_model.specs.declared.entry.Entry.TheVariants.{Write, Prepare, Commit, Undo, Close}
+use Rattle.wp_model.proofs.Entries.{entry_at_old, undecided_within}
+use Rattle.wp_model.proofs.Found.{found_named}
+use Rattle.wp_history.proofs.Growth.{legal_next, length_next}
+use Rattle.wp_history.proofs.Held.{prior_to}
+use Rattle.wp_history.proofs.Undecided.{close_follows}
+use Rattle.wp_core.specs.Conditions.{HasTransaction}
+use Rattle.wp_core.specs.Entries.{transaction_of, changes_under}
+use Rattle.wp_core.specs.Lists.{IsIn}
+use Rattle.wp_core.specs.Tables.{WriteTable, writes}
+use Rattle.wp_core.specs.Views.{direct_free, undecided_at, unprepared}
+use Rattle.wp_core.specs.World.{Transactions, Participant, Actor}
+use Rattle.wp_core.proofs.HistoryGrows.{none_is}
+use Rattle.wp_core.proofs.Tests.{either, same_some, some_none}
+use Rattle.wp_rule.proofs.Knows.{at_sound, noted_is}
+use Rattle.wp_commits.proofs.Held.{writes_are}
+use Rattle.wp_guarded.specs.Log.{LogState}
+use Rattle.wp_publish.specs.Records.{OwnsEntry, MayPut}
+use Rattle.wp_shared.specs.Seats.{SharedState, SeatState, place_at}
+use Rattle.wp_txn.specs.Recording.{OpensLog}
+use Rattle.wp_txn.specs.Txn.{HasOpen, HasPrepared}
+use Rattle.wp_txn.proofs.Adding.{changed_one}
+
+-- ---- batches
+
+first_changed : (change : Change) (others : List Change) → is_changed (change ∷ others) (key_of change) ≡ true
+first_changed change others = changed_one change others (key_of change) ∙ ap (λ (t : Bool). t || is_changed others (key_of change)) ((bytes_eq-Decides (key_of change) (key_of change)).1 refl)
+
+or_later : (s t : Bool) → t ≡ true → (s || t) ≡ true
+or_later true t e = refl
+or_later false t e = e
+
+all_free : (history : List Entry) (batch : List Change) → ((key : List ℕ) → is_changed batch key ≡ true → holder_of history key ≡ None) → AreFree history batch
+all_free history [] free = tt
+all_free history (change ∷ others) free =
+    (free (key_of change) (first_changed change others), all_free history others (λ key changed. free key (changed_one change others key ∙ or_later (bytes_eq (key_of change) key) (is_changed others key) changed)))
+
+-- one change is to its key alone
+only_key : (change : Change) (key : List ℕ) → is_changed (change ∷ []) key ≡ true → key ≡ key_of change
+only_key change key changed = ⊎_elim
+    (λ (same : bytes_eq (key_of change) key ≡ true). sym ((bytes_eq-Decides (key_of change) key).0 same))
+    (λ (none : false ≡ true). absurd (true≢false (sym none)))
+    (either (bytes_eq (key_of change) key) false (sym (changed_one change [] key) ∙ changed))
+
+some_kept : {X : Type 0} {Y : Type 0} (f : X → Y) (o : Option X) → is_some (option_map f o) ≡ is_some o
+some_kept f (Some x) = refl
+some_kept f None = refl
+
+-- what a batch would restore is to just its keys
+prior_changes : (history : List Entry) (batch : List Change) (key : List ℕ) → is_changed (prior history batch) key ≡ is_changed batch key
+prior_changes history batch key = ap is_some (prior_to history batch key) ∙ some_kept (λ (v : Option (List ℕ)). newest history key) (change_to batch key)
+
+module _ {D : Type 0} (z : SharedState D) (old new : SeatState) (log : LogState) (needed : ℕ) (o : OpensLog z old new log needed) where
+  abbrev history : List Entry
+  history = log.table.history
+
+  tables_are : o.world.writes ≡ log.table
+  tables_are = writes_are (place_at z new.by) new.knows o.world o.stands log.table (subst (IsIn (writes log.table)) (sym o.takes.holds.held) (inl refl))
+
+  same_participant : new.knows.participant ≡ record old.knows.participant { seen = history }
+  same_participant = ap (λ (a : Actor). a.participant) o.takes.knows
+
+  same_transactions : new.knows.participant.transactions ≡ old.knows.participant.transactions
+  same_transactions = ap (λ (p : Participant). p.transactions) same_participant
+
+  nothing_undone : undone_last history ≡ None
+  nothing_undone = none_is (undone_last history) (λ p e.
+      let closing = (at_sound (place_at z new.by) new.knows o.world o.stands).history.undo_closes p (ap (λ (d : WriteTable). undone_last d.history) tables_are ∙ e) in
+      let none : [] ≡ Close p ∷ [] = sym o.takes.holds.pending ∙ ap (λ (d : WriteTable). d.pending) (sym tables_are) ∙ closing.0 in absurd (cc))
+
+  pub legal_now : IsLegal history
+  legal_now = subst (λ (d : WriteTable). IsLegal d.history) tables_are (at_sound (place_at z new.by) new.knows o.world o.stands).history.legal
+
+  grows_by : (entry : Entry) → 1 ≤ needed → IsLegalNext history entry → IsLegal (history ++ entry ∷ [])
+  grows_by entry one next = let a = o.within in let b = o.few in legal_next history entry legal_now next (omega (arith, a, b, one))
+
+  writes_next : (batch : List Change) → is_batch batch ≡ true → ((key : List ℕ) → is_changed batch key ≡ true → holder_of history key ≡ None) → IsLegalNext history (Write batch)
+  writes_next batch whole free = record { batch = whole; names_undecided = tt; undo_is_closed = nothing_undone; restores_prior = tt; keys_are_free = all_free history batch free }
+
+  -- ---- a direct write
+
+  pub may_write_direct : 1 ≤ needed → (key : List ℕ) (change : Change) → key ≡ key_of change → is_batch (change ∷ []) ≡ true → old.knows.participant.direct ≡ Some key → IsIn (direct_free key) old.knows.notes
+      → MayPut new.knows history (Write (change ∷ []) ∷ [])
+  may_write_direct one key change is whole direct noted =
+      let so = (noted_is (place_at z new.by) new.knows o.world (direct_free key) o.stands (o.takes.notes (direct_free key) noted)).is_so in
+      let free : holder_of history key ≡ None = ap (λ (d : WriteTable). holder_of d.history key) (sym tables_are) ∙ so.2 in
+      record {
+        legal = grows_by (Write (change ∷ [])) one (writes_next (change ∷ []) whole (λ k changed. ap (holder_of history) (only_key change k changed ∙ sym is) ∙ free));
+        owned = (
+          record {
+            keys = λ k changed. inl (ap (λ (p : Participant). p.direct) same_participant ∙ direct ∙ ap (λ (x : List ℕ). Some x) (is ∙ sym (only_key change k changed)));
+            transaction = λ name e. absurd (some_none name (sym e));
+          },
+          tt,
+        );
+      }
+
+  -- ---- an open transaction
+
+  module _ (name : List ℕ) (batch : List Change) (h : HasOpen old name batch) (whole : is_batch batch ≡ true) (one : 1 ≤ needed) where
+    has : HasTransaction new.knows name h.transaction
+    has = ap (λ (ts : Transactions). finite.get ts name) same_transactions ∙ h.has
+
+    open_so : (named history name ≡ None) × ((key : List ℕ) → is_changed batch key ≡ true → holder_of history key ≡ None)
+    open_so =
+        let so = (noted_is (place_at z new.by) new.knows o.world (unprepared name) o.stands (o.takes.notes (unprepared name) h.noted)).is_so in (
+          ap (λ (d : WriteTable). named d.history name) (sym tables_are) ∙ so.1,
+          λ key changed. ap (λ (d : WriteTable). holder_of d.history key) (sym tables_are) ∙ so.2 h.transaction key has (h.keys key ∙ changed),
+        )
+
+    pub may_write_open : MayPut new.knows history (Write batch ∷ [])
+    may_write_open = record {
+      legal = grows_by (Write batch) one (writes_next batch whole open_so.1);
+      owned = (record { keys = λ key changed. inr (name, h.transaction, has, h.keys key ∙ changed); transaction = λ other e. absurd (some_none other (sym e)) }, tt);
+    }
+
+    pub may_prepare : MayPut new.knows history (Prepare name batch ∷ [])
+    may_prepare = record {
+      legal = grows_by (Prepare name batch) one (record { batch = whole; names_undecided = tt; undo_is_closed = nothing_undone; restores_prior = tt; keys_are_free = (all_free history batch open_so.1, open_so.0) });
+      owned = (
+        record {
+          keys = λ key changed. inr (name, h.transaction, has, h.keys key ∙ changed);
+          transaction = λ other e. (h.transaction, subst (λ (n : List ℕ). HasTransaction new.knows n h.transaction) (same_some name other e) has, λ key changed. h.keys key ∙ changed);
+        },
+        tt,
+      );
+    }
+
+  -- ---- a prepared transaction
+
+  module _ (name : List ℕ) (number : ℕ) (batch : List Change) (h : HasPrepared old name number batch) where
+    still_has : HasTransaction new.knows name h.transaction
+    still_has = ap (λ (ts : Transactions). finite.get ts name) same_transactions ∙ h.has
+
+    -- its prepare stands where it stood
+    pub stands_still : entry_at history number ≡ Some (Prepare name batch)
+    stands_still = ap (λ (es : List Entry). entry_at es number) o.takes.grown.1 ∙ entry_at_old old.knows.participant.seen o.takes.grown.0 number h.seen ∙ h.stands
+
+    pub named_still : named history name ≡ Some number
+    named_still =
+        let so = (noted_is (place_at z new.by) new.knows o.world (undecided_at name number) o.stands (o.takes.notes (undecided_at name number) h.noted)).is_so in
+        ap (λ (d : WriteTable). named d.history name) (sym tables_are) ∙ so.1
+
+    pub undecided_still : is_undecided history number ≡ true
+    undecided_still = (found_named history name number named_still).0
+
+    owns_end : (before : List Entry) (entry : Entry) → entry_at before number ≡ Some (Prepare name batch) → transaction_of before entry ≡ Some (name_at before number)
+        → ((key : List ℕ) → is_changed (changes_under before entry) key ≡ true → is_changed batch key ≡ true) → OwnsEntry new.knows before entry
+    owns_end before entry there is keys = record {
+      keys = λ key changed. inr (name, h.transaction, still_has, h.keys key (keys key changed));
+      transaction = λ other e. (
+        h.transaction,
+        subst (λ (n : List ℕ). HasTransaction new.knows n h.transaction) (sym (ap prepared_name there) ∙ same_some (name_at before number) other (sym is ∙ e)) still_has,
+        λ key changed. h.keys key (keys key changed),
+      );
+    }
+
+    pub may_commit : 1 ≤ needed → MayPut new.knows history (Commit number ∷ [])
+    may_commit one = record {
+      legal = grows_by (Commit number) one (record { batch = refl; names_undecided = undecided_still; undo_is_closed = nothing_undone; restores_prior = tt; keys_are_free = tt });
+      owned = (owns_end history (Commit number) stands_still refl (λ key changed. ap (λ (b : List Change). is_changed b key) (sym (ap prepared_batch stands_still)) ∙ changed), tt);
+    }
+
+    -- the batch is what its keys have in the history
+    pub may_roll_back : 2 ≤ needed → (restored : List Change) → is_batch restored ≡ true → restored ≡ prior history (batch_at history number) → MayPut new.knows history (Undo number restored ∷ Close number ∷ [])
+    may_roll_back two restored whole is =
+        let undo : IsLegalNext history (Undo number restored) = record { batch = whole; names_undecided = undecided_still; undo_is_closed = nothing_undone; restores_prior = is; keys_are_free = tt } in
+        let grown : List Entry = history ++ Undo number restored ∷ [] in
+        let first : IsLegal grown = grows_by (Undo number restored) (omega (arith, two)) undo in
+        let there : entry_at grown number ≡ Some (Prepare name batch) = entry_at_old history (Undo number restored ∷ []) number (undecided_within history number undecided_still).1 ∙ stands_still in
+        let a = o.within in let b = o.few in
+        record {
+          legal = subst IsLegal (append_assoc history (Undo number restored ∷ []) (Close number ∷ []))
+              (legal_next grown (Close number) first (close_follows history number restored undo) (omega (arith, a, b, two, length_next history (Undo number restored))));
+          owned = (
+            owns_end history (Undo number restored) stands_still refl
+                (λ key changed. ap (λ (c : List Change). is_changed c key) (sym (ap prepared_batch stands_still)) ∙ sym (prior_changes history (batch_at history number) key) ∙ ap (λ (c : List Change). is_changed c key) (sym is) ∙ changed),
+            (owns_end grown (Close number) there refl (λ key changed. ap (λ (c : List Change). is_changed c key) (sym (ap prepared_batch there)) ∙ changed), tt),
+          );
+        }

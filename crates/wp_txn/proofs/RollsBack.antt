@@ -1,0 +1,173 @@
+-- A prepared transaction that is rolled back.
+use Rattle.std.proofs.Common.{◌≡◌, ◌⊎◌, inl, inr, ℕ, suc, ◌≤◌, true, List, [], ◌∷◌, ◌++◌, length, take, refl, sym, subst, ap, ◌∙◌, Some, None, append_assoc, eq-eqb, arith}
+use Rattle.std.specs.Prelude.{Ok}
+use Rattle.std.proofs.lemmas.List.{take-append-le}
+use Rattle.wp_model.specs.Decision.{decision_of}
+use Rattle.wp_model.specs.History.{batch_at, prepared_batch, named, is_undecided}
+use Rattle.wp_model.specs.Legal.{IsLegal, prior}
+use Rattle.wp_model.specs.declared.change.Change.{Change}
+use Rattle.wp_model.specs.declared.entry.Entry.{Entry}
+use Rattle.wp_model.specs.declared.entry.Entry.TheVariants.{Undo, Close}
+use Rattle.wp_history.proofs.Growth.{after_front, legal_before}
+use Rattle.wp_core.specs.Lists.{IsIn}
+use Rattle.wp_core.specs.Reading.{Registration}
+use Rattle.wp_core.specs.Views.{Fact}
+use Rattle.wp_core.specs.World.{Participant}
+use Rattle.wp_core.proofs.HistoryGrows.{named_stays}
+use Rattle.wp_core.proofs.HistoryLaws.{next_decides_prepare}
+use Rattle.wp_core.proofs.KeepsSeen.{shorter}
+use Rattle.wp_commits.specs.Gone.{HasLeft}
+use Rattle.wp_guarded.specs.Log.{LogState}
+use Rattle.wp_publish.specs.Records.{transaction_in}
+use Rattle.wp_shared.specs.Calls.{Continues}
+use Rattle.wp_shared.specs.Seats.{SharedState, SeatState}
+use Rattle.wp_txn.specs.Calls.{without_transaction}
+use Rattle.wp_txn.specs.Recording.{OpensLog, Records, HadPrior, IsPriorSince, Frees}
+use Rattle.wp_txn.specs.Turns.{IsApartFrom}
+use Rattle.wp_txn.specs.Txn.{HasPrepared}
+use Rattle.wp_txn.specs.Writes.{HasPut, RollsBack}
+use Rattle.wp_txn.proofs.Ends.{put_and_freed, number_still, name_before, stands_before}
+use Rattle.wp_txn.proofs.Goes.{chain, still, prepared_still}
+use Rattle.wp_txn.proofs.GoesOn.{Turnless}
+use Rattle.wp_txn.proofs.MayPut.{legal_now, stands_still, undecided_still}
+use Rattle.wp_txn.proofs.OneName.{name_is_free}
+
+-- ---- the registration is as before
+
+in_last : {X : Type 0} (xs : List X) (x : X) → IsIn x (xs ++ x ∷ [])
+in_last [] x = inl refl
+in_last (y ∷ ys) x = inr (in_last ys x)
+
+none_before : {X : Type 0} (front back : List X) (x : X) → [] ≡ front ++ x ∷ back → ⊥
+none_before [] back x e = absurd cc
+none_before (y ∷ front) back x e = absurd cc
+
+-- where the last one is taken out, the others are left
+last_out : {X : Type 0} (xs front back : List X) (x : X) → xs ++ x ∷ [] ≡ front ++ x ∷ back → (IsIn x back → ⊥) → front ++ back ≡ xs
+last_out [] [] back x e none = let e' : [] ≡ back = cc in sym e'
+last_out (y ∷ xs) [] back x e none = let e' : xs ++ x ∷ [] ≡ back = cc in absurd (none (subst (IsIn x) e' (in_last xs x)))
+last_out [] (y ∷ front) back x e none = let e' : [] ≡ front ++ x ∷ back = cc in absurd (none_before front back x e')
+last_out (y ∷ xs) (z ∷ front) back x e none =
+    let here : y ≡ z = cc in let e' : xs ++ x ∷ [] ≡ front ++ x ∷ back = cc in
+    (λ i. sym here i ∷ last_out xs front back x e' none i)
+
+-- the seat took a snapshot, read at it, and released it
+module _ {D : Type 0} (z : SharedState D) (a b : SeatState) (r : Registration) (took : Continues z a b (record a.knows.participant { registered = a.knows.participant.registered ++ r ∷ [] })) where
+  abbrev it : Participant
+  it = a.knows.participant
+
+  -- with these registrations
+  abbrev registering : List Registration → Participant
+  registering rs = record it { registered = rs }
+
+  abbrev more : List Registration
+  more = it.registered ++ r ∷ []
+
+  registered_then : b.knows.participant.registered ≡ more
+  registered_then = ap (λ (p : Participant). p.registered) took.participant
+
+  pub is_registered : IsIn r b.knows.participant.registered
+  is_registered = subst (IsIn r) (sym registered_then) (in_last it.registered r)
+
+  module _ (c : SeatState) (read : Continues z b c b.knows.participant) where
+    registered_later : c.knows.participant.registered ≡ more
+    registered_later = ap (λ (p : Participant). p.registered) read.participant ∙ registered_then
+
+    pub is_registered_still : IsIn r c.knows.participant.registered
+    is_registered_still = subst (IsIn r) (sym registered_later) (in_last it.registered r)
+
+    until_read : Continues z a c (registering more)
+    until_read = chain Turnless Turnless Turnless z a b c (registering more) b.knows.participant (registering more) (λ fact stays. stays) (λ fact stays. stays) took read
+        (ap (λ (p : Participant). record p { seen = c.knows.participant.seen }) took.participant)
+
+    module _ (d : SeatState) (front back : List Registration) (there : c.knows.participant.registered ≡ front ++ r ∷ back) (last : IsIn r back → ⊥) (left : Continues z c d (record c.knows.participant { registered = front ++ back })) where
+      as_before : front ++ back ≡ it.registered
+      as_before = last_out it.registered front back r (sym registered_later ∙ there) last
+
+      -- it is as it was
+      pub released : Continues z a d it
+      released = chain Turnless Turnless Turnless z a c d (registering more) (record c.knows.participant { registered = front ++ back }) it (λ fact stays. stays) (λ fact stays. stays) until_read left
+          (ap (λ (p : Participant). record p { registered = front ++ back; seen = d.knows.participant.seen }) until_read.participant
+          ∙ ap (λ (rs : List Registration). record it { registered = rs; seen = d.knows.participant.seen }) as_before)
+
+      -- what was read is what the keys had since
+      pub had_prior : (batch found : List Change) → r.number ≡ length b.knows.participant.seen → found ≡ prior (take r.number c.knows.participant.seen) batch → IsPriorSince a d batch found
+      had_prior batch found number is =
+          let first = shorter b.knows.participant.seen a.knows.participant.seen took.seen in
+          let second = shorter c.knows.participant.seen b.knows.participant.seen read.seen in
+          let third = shorter d.knows.participant.seen c.knows.participant.seen left.seen in
+          let within : r.number ≤ length c.knows.participant.seen = omega (arith, second, number) in (
+            r.number,
+            omega (arith, first, number),
+            omega (arith, within, third),
+            is ∙ ap (λ (h : List Entry). prior h batch) (sym (ap (take r.number) left.seen.1 ∙ take-append-le r.number c.knows.participant.seen left.seen.0 within)),
+          )
+
+-- ---- the name of what was rolled back
+
+module _ (history : List Entry) (p : ℕ) (batch : List Change) (legal : IsLegal (history ++ Undo p batch ∷ Close p ∷ [])) where
+  abbrev undone : List Entry
+  undone = history ++ Undo p batch ∷ []
+
+  in_two : undone ++ Close p ∷ [] ≡ history ++ Undo p batch ∷ Close p ∷ []
+  in_two = append_assoc history (Undo p batch ∷ []) (Close p ∷ [])
+
+  both : IsLegal (undone ++ Close p ∷ [])
+  both = subst IsLegal (sym in_two) legal
+
+  pub rollback_frees : (name : List ℕ) → named history name ≡ Some p → named (history ++ Undo p batch ∷ Close p ∷ []) name ≡ None
+  rollback_frees name is =
+      ap (λ (h : List Entry). named h name) (sym in_two) ∙ name_is_free undone (Close p) p name both (named_stays history (Undo p batch) (legal_before undone (Close p ∷ []) both) name p is refl) (eq-eqb p p refl) refl
+
+  -- the prepare is decided by the Close
+  pub rollback_decides : (c : ℕ) × (decision_of (history ++ Undo p batch ∷ Close p ∷ []) p ≡ Some c)
+  rollback_decides = (
+    suc (length undone),
+    ap (λ (h : List Entry). decision_of h p) (sym in_two) ∙ next_decides_prepare undone (Close p) p (after_front undone (Close p) [] both).names_undecided (eq-eqb p p refl),
+  )
+
+-- ---- what the keys had is what they have
+
+-- what holds of each history: the keys of an undecided prepare keep their values
+abbrev pub KeysKeepValues : Type 0
+KeysKeepValues = (h : List Entry) (p n : ℕ) → IsLegal h → is_undecided h p ≡ true → p ≤ n → n ≤ length h → prior (take n h) (batch_at h p) ≡ prior h (batch_at h p)
+
+module _ {D : Type 0} (z : SharedState D) (old new : SeatState) (log : LogState) (needed : ℕ) (o : OpensLog z old new log needed) (name : List ℕ) (number : ℕ) (batch : List Change) (h : HasPrepared old name number batch) where
+  -- the seat saw a part of this history then
+  pub restores : KeysKeepValues → (found : List Change) → HadPrior old number batch found → found ≡ prior log.table.history (batch_at log.table.history number)
+  restores law found had =
+      let history = log.table.history in let seen = old.knows.participant.seen in let n = had.0 in let high = had.2 in
+      let long = shorter history seen o.takes.grown in
+      let same : batch ≡ batch_at history number = sym (ap prepared_batch (stands_still z old new log needed o name number batch h)) in
+      had.3 ∙ ap (prior (take n seen)) same
+      ∙ ap (λ (es : List Entry). prior es (batch_at history number)) (sym (ap (take n) o.takes.grown.1 ∙ take-append-le n seen o.takes.grown.0 high))
+      ∙ law history number n (legal_now z old new log needed o) (undecided_still z old new log needed o name number batch h) had.1 (omega (arith, long, high))
+
+-- ---- the transaction is rolled back
+
+-- it is as it was, behind what left the seat as it was
+pub prepared_since : {D : Type 0} (z : SharedState D) (old new : SeatState) (name : List ℕ) (number : ℕ) (batch : List Change) → Continues z old new old.knows.participant → HasPrepared old name number batch → HasPrepared new name number batch
+prepared_since z old new name number batch begins = prepared_still old new (still z old new old.knows.participant refl refl begins) name number batch
+
+module _ {D : Type 0} (z : SharedState D) (old start mid : SeatState) (name : List ℕ) (number : ℕ) (batch restored : List Change) (begins : Continues z old start old.knows.participant) (h : HasPrepared start name number batch)
+    (facts : ℕ → List Fact) (n : ℕ) (r : Records z start (Undo number restored ∷ Close number ∷ []) facts (Ok n) mid) where
+  abbrev before_it : List Entry
+  before_it = r.1.0
+
+  rollback_is_of : (transaction_in before_it (Undo number restored ∷ Close number ∷ []) ≡ None) ⊎ (transaction_in before_it (Undo number restored ∷ Close number ∷ []) ≡ Some name)
+  rollback_is_of = inr (name_before z start mid name number batch h before_it r.1.1.put.grown)
+
+  pub rolled_back_decides : (c : ℕ) × (decision_of mid.knows.participant.seen number ≡ Some c)
+  rolled_back_decides = subst (λ (es : List Entry). (c : ℕ) × (decision_of es number ≡ Some c)) (sym r.1.1.put.seen) (rollback_decides before_it number restored r.1.1.legal)
+
+  restored_is : restored ≡ prior before_it batch
+  restored_is = (after_front before_it (Undo number restored) (Close number ∷ []) r.1.1.legal).restores_prior ∙ ap (prior before_it) (ap prepared_batch (stands_before z start mid name number batch h before_it r.1.1.put.grown))
+
+  pub rolled_back : (new : SeatState) → Frees z mid new name → HasLeft z new number → RollsBack z old (record { name = name; number = number; batch = batch }) n new
+  rolled_back new frees gone =
+      let entries : List Entry = Undo number restored ∷ Close number ∷ [] in
+      let Put : List Change → Type 0 = λ b. HasPut (IsApartFrom name) z old new old.knows.participant (without_transaction name old.knows.participant) before_it (Undo number b ∷ Close number ∷ []) in (
+        number_still z old start mid new name entries facts n begins r rollback_is_of frees,
+        (before_it, subst Put restored_is (put_and_freed z old start mid new name entries facts n begins r rollback_is_of frees)),
+        gone,
+      )

@@ -1,0 +1,36 @@
+use Rattle.std.proofs.Common.{◌≡◌, ℕ, List, [], ◌∷◌, get_or, sym, subst, ap, ◌∙◌, arith}
+use Rattle.wp_model.specs.Batch.{key_of, is_batch}
+use Rattle.wp_model.specs.declared.change.Change.{Change}
+use Rattle.wp_model.specs.declared.entry.Entry.TheVariants.{Write}
+use Rattle.wp_core.specs.World.{Participant}
+use Rattle.wp_publish.specs.Records.{MayPut}
+use Rattle.wp_txn.specs.Recording.{Records, HasDirect}
+use Rattle.wp_txn.proofs.MayPut.{may_write_direct}
+use Rattle.wp_txn.proofs.DirectWrites.{free_after, direct_after, written}
+use Rattle.wp_txn.proofs.direct.write.Goals as goal
+
+-- the key is that of the only change
+first_key : (change first : Change) (key : List ℕ) (all batch : List Change) → all ≡ batch → batch ≡ change ∷ [] → first ≡ get_or all 0 first → key ≡ key_of first → key ≡ key_of change
+first_key change first key all batch same is at k = k ∙ ap key_of (at ∙ ap (λ (cs : List Change). get_or cs 0 first) (same ∙ is))
+
+pub record_write-outcome-requires-clause-may : goal.record_write-outcome-requires-clause-may
+record_write-outcome-requires-clause-may g c s log o =
+    let held = c.in_ok-hold.ensures {u = tt} in let is = c.in_ok-batch.ensures {u = tt} in
+    subst (λ (b : List Change). MayPut s.knows log.table.history (Write b ∷ [])) (sym is)
+    (may_write_direct c.args.store.now c.hold.new.seat s log 1 o (omega arith) c.key-key.result.now c.args.change
+    (first_key c.args.change c.index-changes-0.result c.key-key.result.now c.changes.result.now c.in_ok-batch.batch c.changes.ensures.value is c.index-changes-0.is c.key-key.ensures)
+    (ap is_batch (sym is) ∙ c.changes.ensures.batch) (ap (λ (p : Participant). p.direct) held.goes_on.participant) held.noted)
+
+pub give_back-requires-clause-free : goal.give_back-requires-clause-free
+give_back-requires-clause-free g c = free_after c.args.store.now c.hold.new.seat c.record_write-outcome.new.seat (Write c.in_ok-batch.batch ∷ []) (λ n. []) c.record_write-outcome.result c.record_write-outcome.ensures
+
+pub give_back-requires-clause-has : goal.give_back-requires-clause-has
+give_back-requires-clause-has g c = let held = c.in_ok-hold.ensures {u = tt} in
+    direct_after c.args.store.now c.hold.new.seat c.record_write-outcome.new.seat (Write c.in_ok-batch.batch ∷ []) (λ n. []) c.record_write-outcome.result c.record_write-outcome.ensures ∙ ap (λ (p : Participant). p.direct) held.goes_on.participant
+
+pub returns : goal.returns
+returns g c =
+    let held = c.in_ok-hold.ensures {u = tt} in let is = c.in_ok-batch.ensures {u = tt} in let mid = c.hold.new.seat in let left = c.record_write-outcome.new.seat in
+    let key_is = first_key c.args.change c.index-changes-0.result c.key-key.result.now c.changes.result.now c.in_ok-batch.batch c.changes.ensures.value is c.index-changes-0.is c.key-key.ensures in
+    written c.args.store.now c.args.seat.now mid left c.give_back.new.seat c.args.change c.requires.none (subst (λ (key : List ℕ). HasDirect c.args.store.now c.args.seat.now mid key) key_is held) c.give_back.ensures c.record_write-outcome.result
+    (subst (λ (b : List Change). Records c.args.store.now mid (Write b ∷ []) (λ n. []) c.record_write-outcome.result left) is c.record_write-outcome.ensures)

@@ -1,0 +1,32 @@
+use Rattle.std.proofs.Common.{[], ◌∷◌, inl, refl}
+use Rattle.wp_core.specs.Views.{unprepared}
+use Rattle.wp_txn.proofs.Ends.{refuses_prepared, refused_from}
+use Rattle.wp_txn.proofs.RollsBack.{prepared_since, rolled_back_decides, rolled_back}
+use Rattle.wp_txn.specs.declared.error.TxnError.TheVariants.{Memory}
+use Rattle.wp_txn.proofs.undoing.rollback.Goals as goal
+
+pub returns-in_default-clause-refused : goal.returns-in_default-clause-refused
+returns-in_default-clause-refused g c = refuses_prepared c.args.store.now c.args.seat.now c.prior_now.new.seat c.args.txn 2 Memory c.requires.prepared c.prior_now.ensures.seat
+
+pub record_rollback-requires-clause-prepared : goal.record_rollback-requires-clause-prepared
+record_rollback-requires-clause-prepared g c = let x = c.args.txn in prepared_since c.args.store.now c.args.seat.now c.prior_now.new.seat x.name x.number x.batch c.prior_now.ensures.seat c.requires.prepared
+
+pub end-requires-clause-noted : goal.end-requires-clause-noted
+end-requires-clause-noted g c = (c.in-Ok-record_rollback.ensures {u = tt}).2 (unprepared c.args.txn.name) (inl refl)
+
+pub end-requires-clause-decided : goal.end-requires-clause-decided
+end-requires-clause-decided g c =
+    let z = c.args.store.now in let s = c.args.seat.now in let t = c.prior_now.new.seat in let x = c.args.txn in let begins = c.prior_now.ensures.seat in
+    rolled_back_decides z s t c.record_rollback.new.seat x.name x.number x.batch c.in-Ok.prior begins (prepared_since z s t x.name x.number x.batch begins c.requires.prepared) (λ n. unprepared x.name ∷ []) c.in-Ok-record_rollback.number
+    (c.in-Ok-record_rollback.ensures {u = tt})
+
+pub returns-in-Ok-record_rollback-clause-ok : goal.returns-in-Ok-record_rollback-clause-ok
+returns-in-Ok-record_rollback-clause-ok g c =
+    let z = c.args.store.now in let s = c.args.seat.now in let t = c.prior_now.new.seat in let x = c.args.txn in let begins = c.prior_now.ensures.seat in
+    rolled_back z s t c.record_rollback.new.seat x.name x.number x.batch c.in-Ok.prior begins (prepared_since z s t x.name x.number x.batch begins c.requires.prepared) (λ n. unprepared x.name ∷ []) c.in-Ok-record_rollback.number
+    (c.in-Ok-record_rollback.ensures {u = tt}) c.end.new.seat c.end.ensures.frees c.end.ensures.gone
+
+pub returns-clause-refused : goal.returns-clause-refused
+returns-clause-refused g c =
+    let z = c.args.store.now in let s = c.args.seat.now in let new = c.record_rollback.new.seat in let why = c.in-Err.why in
+    refuses_prepared z s new c.args.txn 2 why c.requires.prepared (refused_from z s c.prior_now.new.seat new 2 c.prior_now.ensures.seat why (c.in-Err.ensures {u = tt}))

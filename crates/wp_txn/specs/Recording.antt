@@ -1,0 +1,91 @@
+-- How a call puts a record of entries into the history, and what it does beside that.
+use Rattle.std.specs.Prelude.{◌≡◌, ℕ, ◌+◌, ◌≤◌, ◌<◌, ◌^◌, false, List, ◌++◌, length, take, Some, None, Result, Ok, Err}
+use Rattle.wp_model.specs.declared.entry.Entry.{Entry}
+use Rattle.wp_model.specs.Legal.{IsLegal, prior}
+use Rattle.wp_model.specs.declared.change.Change.{Change}
+use Rattle.wp_core.specs.Lists.{IsIn}
+use Rattle.wp_core.specs.Sound.Views.{guarded_by}
+use Rattle.wp_core.specs.Views.{Fact, direct_free}
+use Rattle.wp_core.specs.World.{Participant, World}
+use Rattle.wp_guarded.specs.Log.{LogState}
+use Rattle.wp_publish.specs.declared.error.WriteError.{WriteError}
+use Rattle.wp_publish.specs.declared.error.WriteError.TheVariants as write_error
+use Rattle.wp_publish.specs.Records.{transaction_in, is_about, IsPut, Puts}
+use Rattle.wp_publish.specs.Writing.{TakesWrite}
+use Rattle.wp_shared.specs.Calls.{ContinuesWith, Continues}
+use Rattle.wp_shared.specs.Seats.{SharedState, SeatState, Stands}
+use Rattle.wp_txn.specs.declared.error.TxnError.{TxnError}
+use Rattle.wp_txn.specs.declared.error.TxnError.TheVariants.{Memory, Busy, LogFault}
+use Rattle.wp_txn.specs.Calls.{Keeps, Finds, GivesUp, without_transaction}
+use Rattle.wp_txn.specs.Turns.{IsNoDirect}
+use Rattle.wp_txn.specs.Writes.{HasPut, Refuses, writing_direct}
+
+-- The seat took the write turn with this log, which is running, and stands so in a world of the store. So many entries more have
+-- their numbers within the limit.
+pub record OpensLog {D : Type 0} (z : SharedState D) (old new : SeatState) (log : LogState) (needed : ℕ) : Type 0 where
+  pub takes : TakesWrite z old new log
+  pub running : log.table.closed ≡ false
+  pub within : length log.table.history + needed ≤ z.limit
+  pub few : z.limit < 2 ^ 32
+  pub world : World
+  pub stands : Stands z new world
+
+-- what a record leaves, behind which these facts are noted while the write turn is held
+abbrev pub PutsNoting : {D : Type 0} → SharedState D → SeatState → LogState → List Entry → List Fact → Result (Unit {0}) WriteError → SeatState → LogState → Type 0
+PutsNoting z old log entries facts (Ok done) new left = IsPut z old log entries new left × ((fact : Fact) → IsIn fact facts → IsIn fact new.knows.notes)
+PutsNoting z old log entries facts (Err why) new left = Puts z old log entries (Err why) new left
+
+-- the number published now, or why the record is not there
+abbrev pub answer_of : Result (Unit {0}) WriteError → ℕ → Result ℕ TxnError
+answer_of (Ok done) n = Ok n
+answer_of (Err write_error.Memory) n = Err Memory
+answer_of (Err write_error.LogFault) n = Err LogFault
+
+-- The seat put the entries behind this history, which is legal with them. It lost none of the facts that it noted without a turn
+-- but for those about the record's transaction.
+pub record HasRecorded {D : Type 0} (z : SharedState D) (old new : SeatState) (history entries : List Entry) : Type 0 where
+  pub put : HasPut (λ fact. (guarded_by fact ≡ None) × (is_about (transaction_in history entries) fact ≡ false)) z old new old.knows.participant old.knows.participant history entries
+  pub legal : IsLegal (history ++ entries)
+
+-- What a call answers that puts the entries into the history, and then notes these facts, which may name the number published
+-- then; and what it leaves.
+abbrev pub Records : {D : Type 0} → SharedState D → SeatState → List Entry → (ℕ → List Fact) → Result ℕ TxnError → SeatState → Type 0
+Records z old entries facts (Ok n) new =
+    (n ≡ length new.knows.participant.seen) × ((history : List Entry) × HasRecorded z old new history entries) × ((fact : Fact) → IsIn fact (facts n) → IsIn fact new.knows.notes)
+Records z old entries facts (Err why) new = Refuses z old new (length entries) old.knows.participant old.knows.participant why
+
+-- these are what the keys of the batch had once the seat had seen so many entries, the prepare's number at least
+abbrev pub HadPrior : SeatState → ℕ → List Change → List Change → Type 0
+HadPrior s number batch found = (n : ℕ) × (number ≤ n) × (n ≤ length s.knows.participant.seen) × (found ≡ prior (take n s.knows.participant.seen) batch)
+
+-- ... at some moment since the seat was the old one
+abbrev pub IsPriorSince : SeatState → SeatState → List Change → List Change → Type 0
+IsPriorSince old new batch found = HadPrior new (length old.knows.participant.seen) batch found
+
+-- a transaction of this name is gone from the seat, which has seen no more
+pub record Frees {D : Type 0} (z : SharedState D) (old new : SeatState) (name : List ℕ) : Type 0 where
+  pub gives_up : GivesUp z old new name
+  pub same : new.knows.participant ≡ without_transaction name old.knows.participant
+
+-- ---- a direct write
+
+-- the participant without a direct write
+abbrev pub without_direct : Participant → Participant
+without_direct p = record p { direct = None }
+
+-- The key is locked for the seat's direct write, and noted as that of no undecided prepare. Before that it had noted no such fact.
+pub record HasDirect {D : Type 0} (z : SharedState D) (old new : SeatState) (key : List ℕ) : Type 0 where
+  pub goes_on : Continues z old new (writing_direct key old.knows.participant)
+  pub noted : IsIn (direct_free key) new.knows.notes
+  pub first : (other : List ℕ) → IsIn (direct_free other) old.knows.notes → ⊥
+
+abbrev pub HoldsDirect : {D : Type 0} → SharedState D → SeatState → List ℕ → Result (Unit {0}) TxnError → SeatState → Type 0
+HoldsDirect z old key (Ok done) new = HasDirect z old new key
+HoldsDirect z old key (Err (Busy holder)) new = Finds z old new (Some key) holder
+HoldsDirect z old key (Err Memory) new = Keeps z old new
+HoldsDirect z old key (Err other) new = ⊥
+
+-- the direct write is over; the seat has seen no more
+pub record EndsDirect {D : Type 0} (z : SharedState D) (old new : SeatState) : Type 0 where
+  pub goes_on : ContinuesWith IsNoDirect z old new (without_direct old.knows.participant)
+  pub same : new.knows.participant ≡ without_direct old.knows.participant

@@ -1,0 +1,103 @@
+-- What the calls answer that make entries, and what they leave of the seat.
+use Rattle.std.specs.Prelude.{◌≡◌, ◌⊎◌, ℕ, ◌+◌, ◌<◌, ◌≤◌, true, false, List, [], ◌∷◌, ◌++◌, length, Some, None, Result, Ok, Err}
+use Rattle.wp_model.specs.declared.change.Change.{Change}
+use Rattle.wp_model.specs.declared.entry.Entry.{Entry}
+use Rattle.wp_model.specs.declared.entry.Entry.TheVariants.{Write, Prepare, Commit, Undo, Close}
+use Rattle.wp_model.specs.declared.holder.Holder.TheVariants.{Client}
+use Rattle.wp_model.specs.Batch.{key_of}
+use Rattle.wp_model.specs.Legal.{prior}
+use Rattle.wp_core.specs.Sound.Actors.{StartsWith}
+use Rattle.wp_core.specs.Sound.Views.{guarded_by}
+use Rattle.wp_core.specs.Views.{Fact, locked, stopped}
+use Rattle.wp_core.specs.World.{Participant}
+use Rattle.wp_commits.specs.Gone.{HasLeft}
+use Rattle.wp_publish.specs.Writing.{FoundLog}
+use Rattle.wp_publish.specs.Records.{numbers_behind, failing}
+use Rattle.wp_shared.specs.Calls.{ContinuesWith, Continues}
+use Rattle.wp_shared.specs.Seats.{SharedState, SeatState}
+use Rattle.wp_txn.specs.declared.error.TxnError.{TxnError}
+use Rattle.wp_txn.specs.declared.error.TxnError.TheVariants.{Memory, Busy, NumbersFull, LogFault, Stopped}
+use Rattle.wp_txn.specs.Calls.{Keeps, Finds, remembering, without_transaction}
+use Rattle.wp_txn.specs.Turns.{IsApartFrom}
+use Rattle.wp_txn.specs.Txn.{OpenState, PreparedState, HasOpen, HasPrepared}
+
+-- ---- any entries
+
+-- The seat put the entries behind this history, in which it found the log running; they end what it has seen, and their numbers
+-- are its own. It was the first participant as it found the log, and is the second one but for what it put; it has these facts
+-- still.
+pub record HasPut {D : Type 0} (Stays : Fact → Type 0) (z : SharedState D) (old new : SeatState) (found after : Participant) (history entries : List Entry) : Type 0 where
+  pub grown : StartsWith history old.knows.participant.seen
+  pub found_log : FoundLog z old.by found history false
+  pub seen : new.knows.participant.seen ≡ history ++ entries
+  pub within : length (history ++ entries) ≤ z.limit
+  pub goes_on : ContinuesWith Stays z old new (record after { own = after.own ++ numbers_behind (length history) entries })
+
+-- ... behind some history
+abbrev pub HasPutThese : {D : Type 0} → (Fact → Type 0) → SharedState D → SeatState → SeatState → Participant → Participant → List Entry → Type 0
+HasPutThese Stays z old new found after entries = (history : List Entry) × HasPut Stays z old new found after history entries
+
+-- Why a call put no entries there, of which it needs so many. It was the first participant as it found the log, and is the second
+-- one but for what it remembers of that.
+abbrev pub Refuses : {D : Type 0} → SharedState D → SeatState → SeatState → ℕ → Participant → Participant → TxnError → Type 0
+Refuses z old new needed found after Memory = Continues z old new after
+Refuses z old new needed found after (Stopped n) =
+    (n ≡ length new.knows.participant.seen) × FoundLog z old.by found new.knows.participant.seen true × Continues z old new (remembering (stopped n ∷ []) after)
+Refuses z old new needed found after (NumbersFull published limit) =
+    (published ≡ length new.knows.participant.seen) × (limit ≡ z.limit) × (limit < published + needed)
+    × FoundLog z old.by found new.knows.participant.seen false × Continues z old new after
+Refuses z old new needed found after LogFault =
+    (length new.knows.participant.seen + needed ≤ z.limit) × FoundLog z old.by found new.knows.participant.seen false × Continues z old new (failing after)
+Refuses z old new needed found after other = ⊥
+
+-- ---- a direct write
+
+-- the participant, which locked the key for its direct write and freed it again
+abbrev pub wrote_direct : List ℕ → Participant → Participant
+wrote_direct key p = remembering (locked key (Client p.client) ∷ []) p
+
+-- ... while it holds the key
+abbrev pub writing_direct : List ℕ → Participant → Participant
+writing_direct key p = record (wrote_direct key p) { direct = Some key }
+
+abbrev pub WritesDirect : {D : Type 0} → SharedState D → SeatState → Change → Result ℕ TxnError → SeatState → Type 0
+WritesDirect z old change (Ok n) new =
+    (n ≡ length new.knows.participant.seen)
+    × HasPutThese (λ fact. guarded_by fact ≡ None) z old new (writing_direct (key_of change) old.knows.participant) (wrote_direct (key_of change) old.knows.participant) (Write (change ∷ []) ∷ [])
+WritesDirect z old change (Err (Busy holder)) new = Finds z old new (Some (key_of change)) holder
+WritesDirect z old change (Err Memory) new = Keeps z old new ⊎ Continues z old new (wrote_direct (key_of change) old.knows.participant)
+WritesDirect z old change (Err why) new = Refuses z old new 1 (writing_direct (key_of change) old.knows.participant) (wrote_direct (key_of change) old.knows.participant) why
+
+-- ---- a transaction
+
+abbrev pub Prepares : {D : Type 0} → SharedState D → SeatState → OpenState → PreparedState → ℕ → SeatState → Type 0
+Prepares z old txn prepared n new =
+    (n ≡ length new.knows.participant.seen) × (prepared ≡ record { name = txn.name; number = n; batch = txn.batch }) × HasPrepared new txn.name n txn.batch
+    × HasPutThese (IsApartFrom txn.name) z old new old.knows.participant old.knows.participant (Prepare txn.name txn.batch ∷ [])
+
+-- these entries end the transaction of that name, which the seat has no more
+abbrev pub Ends : {D : Type 0} → SharedState D → SeatState → List ℕ → List Entry → ℕ → SeatState → Type 0
+Ends z old name entries n new =
+    (n ≡ length new.knows.participant.seen) × HasPutThese (IsApartFrom name) z old new old.knows.participant (without_transaction name old.knows.participant) entries
+
+abbrev pub CommitsNow : {D : Type 0} → SharedState D → SeatState → OpenState → ℕ → SeatState → Type 0
+CommitsNow z old txn n new = Ends z old txn.name (Write txn.batch ∷ []) n new
+
+-- ... and no prepared table has its number any more
+abbrev pub Commits : {D : Type 0} → SharedState D → SeatState → PreparedState → ℕ → SeatState → Type 0
+Commits z old txn n new = Ends z old txn.name (Commit txn.number ∷ []) n new × HasLeft z new txn.number
+
+-- what the keys had in the history that it was put behind, and then the end of the prepare
+abbrev pub RollsBack : {D : Type 0} → SharedState D → SeatState → PreparedState → ℕ → SeatState → Type 0
+RollsBack z old txn n new =
+    (n ≡ length new.knows.participant.seen)
+    × ((history : List Entry)
+    × HasPut (IsApartFrom txn.name) z old new old.knows.participant (without_transaction txn.name old.knows.participant) history (Undo txn.number (prior history txn.batch) ∷ Close txn.number ∷ []))
+    × HasLeft z new txn.number
+
+-- it is refused, and the transaction is as it was
+abbrev pub RefusesOpen : {D : Type 0} → SharedState D → SeatState → OpenState → OpenState → TxnError → SeatState → Type 0
+RefusesOpen z old txn left why new = (left ≡ txn) × HasOpen new txn.name txn.batch × Refuses z old new 1 old.knows.participant old.knows.participant why
+
+abbrev pub RefusesPrepared : {D : Type 0} → SharedState D → SeatState → PreparedState → ℕ → PreparedState → TxnError → SeatState → Type 0
+RefusesPrepared z old txn needed left why new = (left ≡ txn) × HasPrepared new txn.name txn.number txn.batch × Refuses z old new needed old.knows.participant old.knows.participant why

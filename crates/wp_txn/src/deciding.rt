@@ -1,0 +1,67 @@
+//! A prepared transaction is committed, and one that is decided ends.
+ghost use Rattle.std.specs.Prelude.{◌≡◌, ℕ, true, is_some, Some, IfOk, IfErr};
+ghost use Rattle.std.specs.FinMap as finite;
+ghost use Rattle.wp_model.specs.Decision.{decision_of};
+ghost use Rattle.wp_commits.specs.Gone.{HasLeft};
+ghost use Rattle.wp_core.specs.Lists.{IsIn};
+ghost use Rattle.wp_core.specs.Views.{unprepared};
+ghost use Rattle.wp_shared.specs.Seats.{IsFree};
+ghost use Rattle.wp_txn.specs.Recording.{Frees};
+ghost use Rattle.wp_txn.specs.Txn.{HasPrepared};
+ghost use Rattle.wp_txn.specs.Writes.{Commits, RefusesPrepared};
+
+use crate::error::Refused;
+use crate::locking::free;
+use crate::recording::record_commit;
+use crate::txn::PreparedTxn;
+use std::alloc::Global;
+use std::sync::Wait;
+use wp_commits::take_out;
+use wp_model::Seq;
+use wp_outside::Disk;
+use wp_shared::{Seat, Shared};
+
+/// Frees a transaction whose prepare is decided, and takes the number of that out of the prepared tables. It takes no memory.
+pub(crate) fn end<D: Disk + Drop, R: Wait>(
+    store: &Shared<D>,
+    rt: &R,
+    seat: &mut Seat<D>,
+    txn: PreparedTxn,
+)
+    requires free { IsFree store.now.table seat.old }
+    requires has { is_some (finite.get seat.old.knows.participant.transactions txn.name) ≡ true }
+    requires noted { IsIn (unprepared txn.name) seat.old.knows.notes }
+    requires decided { (c : ℕ) × (decision_of seat.old.knows.participant.seen txn.number ≡ Some c) }
+    ensures frees { Frees store.now seat.old seat.new txn.name }
+    ensures gone { HasLeft store.now seat.new txn.number }
+{
+    let PreparedTxn {
+        name,
+        number,
+        batch: _batch,
+    } = txn;
+    free(store, rt, seat, name);
+    take_out(store, rt, seat, number);
+}
+
+/// Commits a prepared transaction, by one short entry. The answer is its number.
+pub fn commit<D: Disk + Drop, R: Wait>(
+    store: &Shared<D>,
+    rt: &R,
+    alloc: Global,
+    seat: &mut Seat<D>,
+    txn: PreparedTxn,
+) -> Result<Seq, Refused<PreparedTxn>>
+    requires free { IsFree store.now.table seat.old }
+    requires prepared { HasPrepared seat.old txn.name txn.number txn.batch }
+    ensures ok { IfOk result (λ n. Commits store.now seat.old txn n seat.new) }
+    ensures refused { IfErr result (λ r. RefusesPrepared store.now seat.old txn 1 r.txn r.why seat.new) }
+{
+    match record_commit(store, rt, alloc, seat, &txn) {
+        Ok(number) => {
+            end(store, rt, seat, txn);
+            Ok(number)
+        }
+        Err(why) => Err(Refused { txn, why }),
+    }
+}

@@ -1,0 +1,90 @@
+//! A direct write: one change, as an entry of its own.
+ghost use Rattle.std.specs.Prelude.{◌≡◌, Some, None};
+ghost use Rattle.wp_model.specs.declared.holder.Holder.TheVariants.{Client};
+ghost use Rattle.wp_shared.specs.Seats.{IsFree};
+ghost use Rattle.wp_txn.specs.Recording.{HoldsDirect, EndsDirect};
+ghost use Rattle.wp_txn.specs.Turns.{HoldsLocks};
+ghost use Rattle.wp_txn.specs.Under.{LocksDirect};
+ghost use Rattle.wp_txn.specs.Writes.{WritesDirect};
+
+use crate::error::TxnError;
+use crate::locking::lock_for;
+use crate::recording::record_write;
+use crate::steps::{free_direct, lock_direct};
+use crate::turns::{give_locks, take_locks};
+use std::alloc::Global;
+use std::sync::Wait;
+use wp_locks::Locks;
+use wp_model::{Batch, Change, Holder, Key, Seq};
+use wp_outside::Disk;
+use wp_shared::{Seat, Shared};
+
+/// Locks the key for the direct write of the seat's client, or finds its holder.
+fn lock<D: Disk + Drop>(
+    store: &Shared<D>,
+    seat: &mut Seat<D>,
+    tables: &mut Locks,
+    key: &Key,
+    holder: Holder,
+) -> Result<(), TxnError>
+    requires seat { HoldsLocks store.now seat.old tables.old }
+    requires none { seat.old.knows.participant.direct ≡ None }
+    requires holder { holder ≡ Client seat.old.knows.participant.client }
+    ensures { LocksDirect tables.old seat.old key.now result tables.new seat.new }
+{
+    lock_for(store, seat, tables, key, holder)?;
+    lock_direct(store, seat, key);
+    Ok(())
+}
+
+/// Holds the key for the seat's direct write.
+fn hold<D: Disk + Drop, R: Wait>(
+    store: &Shared<D>,
+    rt: &R,
+    alloc: Global,
+    seat: &mut Seat<D>,
+    key: &Key,
+) -> Result<(), TxnError>
+    requires free { IsFree store.now.table seat.old }
+    requires none { seat.old.knows.participant.direct ≡ None }
+    ensures { HoldsDirect store.now seat.old key.now result seat.new }
+{
+    let holder = Holder::Client(seat.client().copy(alloc)?);
+    let mut tables = take_locks(store, rt, seat);
+    let outcome = lock(store, seat, &mut tables, key, holder);
+    give_locks(store, seat, tables);
+    outcome
+}
+
+/// Gives back the key of the seat's direct write, and that alone. It takes no memory.
+fn give_back<D: Disk + Drop, R: Wait>(store: &Shared<D>, rt: &R, seat: &mut Seat<D>, key: &Key)
+    requires free { IsFree store.now.table seat.old }
+    requires has { seat.old.knows.participant.direct ≡ Some key.now }
+    ensures { EndsDirect store.now seat.old seat.new }
+{
+    let mut tables = take_locks(store, rt, seat);
+    free_direct(store, seat, &tables, key);
+    tables.unlock(key);
+    give_locks(store, seat, tables);
+}
+
+/// Writes the change at once, as an entry of its own. The key is held for the seat's client during the call, against every other
+/// call. The answer is the entry's number.
+pub fn write<D: Disk + Drop, R: Wait>(
+    store: &Shared<D>,
+    rt: &R,
+    alloc: Global,
+    seat: &mut Seat<D>,
+    change: Change,
+) -> Result<Seq, TxnError>
+    requires free { IsFree store.now.table seat.old }
+    requires none { seat.old.knows.participant.direct ≡ None }
+    ensures { WritesDirect store.now seat.old change result seat.new }
+{
+    let batch = Batch::of(alloc, change)?;
+    let key = batch.changes()[0].key();
+    hold(store, rt, alloc, seat, key)?;
+    let outcome = record_write(store, rt, alloc, seat, &batch);
+    give_back(store, rt, seat, key);
+    outcome
+}

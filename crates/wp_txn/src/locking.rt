@@ -1,0 +1,59 @@
+//! What locks and frees have in common, of transactions and of direct writes.
+ghost use Rattle.std.specs.Prelude.{◌≡◌, true, is_some};
+ghost use Rattle.std.specs.FinMap as finite;
+ghost use Rattle.wp_core.specs.Lists.{IsIn};
+ghost use Rattle.wp_core.specs.Views.{unprepared};
+ghost use Rattle.wp_shared.specs.Seats.{IsFree};
+ghost use Rattle.wp_txn.specs.Recording.{Frees};
+ghost use Rattle.wp_txn.specs.Turns.{HoldsLocks};
+ghost use Rattle.wp_txn.specs.Under.{LocksFor};
+
+use crate::error::TxnError;
+use crate::steps::{find_holder, free_transaction};
+use crate::turns::{give_locks, take_locks};
+use std::sync::Wait;
+use wp_locks::{LockError, Locks};
+use wp_model::{Holder, Key, Name};
+use wp_outside::Disk;
+use wp_shared::{Seat, Shared};
+
+/// Gives the key to the holder in the tables, or finds who holds it.
+pub(crate) fn lock_for<D: Disk + Drop>(
+    store: &Shared<D>,
+    seat: &mut Seat<D>,
+    tables: &mut Locks,
+    key: &Key,
+    holder: Holder,
+) -> Result<(), TxnError>
+    requires { HoldsLocks store.now seat.old tables.old }
+    ensures { LocksFor tables.old seat.old key.now holder result tables.new seat.new }
+{
+    match tables.lock(key, holder) {
+        Ok(()) => Ok(()),
+        Err(LockError::Busy(other)) => {
+            find_holder(store, seat, tables, key, &other);
+            Err(TxnError::Busy(other))
+        }
+        Err(LockError::Memory) => Err(TxnError::Memory),
+        Err(LockError::Taken(_) | LockError::Unknown(_) | LockError::InUse(_)) => unreachable!(),
+    }
+}
+
+/// Frees the name of a transaction that is no undecided prepare, and its keys. It takes no memory.
+pub(crate) fn free<D: Disk + Drop, R: Wait>(
+    store: &Shared<D>,
+    rt: &R,
+    seat: &mut Seat<D>,
+    name: Name,
+)
+    requires free { IsFree store.now.table seat.old }
+    requires has { is_some (finite.get seat.old.knows.participant.transactions name) ≡ true }
+    requires noted { IsIn (unprepared name) seat.old.knows.notes }
+    ensures { Frees store.now seat.old seat.new name }
+{
+    let mut tables = take_locks(store, rt, seat);
+    free_transaction(store, seat, &tables, &name);
+    tables.free_name(&name);
+    tables.unlock_all(&Holder::Txn(name));
+    give_locks(store, seat, tables);
+}

@@ -1,0 +1,70 @@
+//! An open transaction is prepared, or committed at once.
+ghost use Rattle.std.specs.Prelude.{◌≡◌, IfOk, IfErr};
+ghost use Rattle.wp_shared.specs.Seats.{IsFree};
+ghost use Rattle.wp_txn.specs.Txn.{HasOpen};
+ghost use Rattle.wp_txn.specs.Writes.{Prepares, CommitsNow, RefusesOpen};
+
+use crate::error::Refused;
+use crate::locking::free;
+use crate::recording::{record_prepare, record_write};
+use crate::txn::{OpenTxn, PreparedTxn};
+use std::alloc::Global;
+use std::sync::Wait;
+use wp_model::Seq;
+use wp_outside::Disk;
+use wp_shared::{Seat, Shared};
+
+/// Prepares the transaction: its changes go to the log and into memory, and are not committed. The answer is the number of its
+/// prepare.
+pub fn prepare<D: Disk + Drop, R: Wait>(
+    store: &Shared<D>,
+    rt: &R,
+    alloc: Global,
+    seat: &mut Seat<D>,
+    txn: OpenTxn,
+) -> Result<(PreparedTxn, Seq), Refused<OpenTxn>>
+    requires free { IsFree store.now.table seat.old }
+    requires open { HasOpen seat.old txn.name txn.batch }
+    ensures ok { IfOk result (λ r. Prepares store.now seat.old txn r.0 r.1 seat.new) }
+    ensures refused { IfErr result (λ r. RefusesOpen store.now seat.old txn r.txn r.why seat.new) }
+{
+    match record_prepare(store, rt, alloc, seat, &txn) {
+        Ok(number) => {
+            let OpenTxn { name, batch } = txn;
+            let prepared = PreparedTxn {
+                name,
+                number,
+                batch,
+            };
+            Ok((prepared, number))
+        }
+        Err(why) => Err(Refused { txn, why }),
+    }
+}
+
+/// Commits a transaction that was not prepared: its changes are one entry. The answer is its number.
+pub fn commit_now<D: Disk + Drop, R: Wait>(
+    store: &Shared<D>,
+    rt: &R,
+    alloc: Global,
+    seat: &mut Seat<D>,
+    txn: OpenTxn,
+) -> Result<Seq, Refused<OpenTxn>>
+    requires free { IsFree store.now.table seat.old }
+    requires open { HasOpen seat.old txn.name txn.batch }
+    ensures ok { IfOk result (λ n. CommitsNow store.now seat.old txn n seat.new) }
+    ensures refused { IfErr result (λ r. RefusesOpen store.now seat.old txn r.txn r.why seat.new) }
+{
+    txn.batch.changes();
+    match record_write(store, rt, alloc, seat, &txn.batch) {
+        Ok(number) => {
+            let OpenTxn {
+                name,
+                batch: _batch,
+            } = txn;
+            free(store, rt, seat, name);
+            Ok(number)
+        }
+        Err(why) => Err(Refused { txn, why }),
+    }
+}
