@@ -20,6 +20,7 @@ use Rattle.wp_core.specs.Sound.Pasts.{past_of}
 use Rattle.wp_core.specs.Sound.Views.{guarded_by}
 use Rattle.wp_core.proofs.AllParticipants.{mine}
 use Rattle.wp_core.proofs.Keyed.{at_inserted}
+use Rattle.wp_core.proofs.Tests.{some_none}
 use Rattle.wp_rule.specs.Accounts.{IsHolderIn}
 use Rattle.wp_rule.proofs.Knows.{at_sound}
 use Rattle.wp_guarded.specs.declared.part.Part.{Part}
@@ -36,6 +37,7 @@ use Rattle.wp_txn.specs.Turns.{seat_of, with_locks, HoldsLocks, GaveLocks, IsApa
 use Rattle.wp_txn.specs.Txn.{HasOpen}
 use Rattle.wp_txn.specs.Under.{Claims, TellsUnder, HearsUnder}
 use Rattle.wp_txn.proofs.Freed.{freed_tables}
+use Rattle.wp_txn.proofs.Made.{not_had}
 
 same_locks : (l r : LockTables) → Some (locks l) ≡ Some (locks r) → l ≡ r
 same_locks l r e = cc
@@ -52,6 +54,10 @@ Turnless fact = guarded_by fact ≡ None
 
 participant_back : (s new : SeatState) → GaveLocks s new → new.knows.participant ≡ s.knows.participant
 participant_back s new gave = ap (λ (x : Actor). x.participant) gave.knows
+
+-- it has no transaction of a name that was not live
+pub not_live : {D : Type 0} (z : SharedState D) (old : SeatState) (w : World) (t : LockTables) (name : List ℕ) → Stands z old w → w.locks ≡ t → finite.get t.names name ≡ None → finite.get old.knows.participant.transactions name ≡ None
+not_live z old w t name stands are none = not_had (place_at z old.by) old.knows w t name stands are (λ client has. some_none (Some client) (sym has ∙ none))
 
 module _ {D : Type 0} (z : SharedState D) (old : SeatState) (free : IsFree z.table old) where
   pub stays : Keeps z old old

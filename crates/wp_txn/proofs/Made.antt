@@ -27,6 +27,7 @@ use Rattle.wp_core.specs.Sound.Actors.{StartsWith}
 use Rattle.wp_core.specs.Sound.Locks.{IsOwner, owner_of}
 use Rattle.wp_core.proofs.AllParticipants.{mine}
 use Rattle.wp_core.proofs.Keyed.{at_inserted}
+use Rattle.wp_core.proofs.HistoryGrows.{none_is}
 use Rattle.wp_rule.specs.Words.{Place, IsAt}
 use Rattle.wp_rule.specs.Moves.{MayMake, MayStep, Moved, first_of, actor_after, world_after, taking_name}
 use Rattle.wp_rule.specs.Accounts.{IsHolderIn, account_of}
@@ -96,6 +97,10 @@ locks_are p a w t k held = (has_locks p a w k (λ l. l ≡ t) (record { table = 
 
 owned : (p : Place) (a : Actor) (w : World) → IsAt p a w → IsOwner w.locks (owner_of a.participant)
 owned p a w k = (at_sound p a w k).locks.had p.by 0 (owner_of a.participant) (mine owner_of w.actors p.by a a k.there refl)
+
+-- it has no transaction whose name is no client's
+pub not_had : (p : Place) (a : Actor) (w : World) (t : LockTables) (name : List ℕ) → IsAt p a w → w.locks ≡ t → ((client : List ℕ) → finite.get t.names name ≡ Some (Some client) → ⊥) → finite.get a.participant.transactions name ≡ None
+not_had p a w t name k are none = none_is (finite.get a.participant.transactions name) (λ x has. none a.participant.client (ap (λ (l : LockTables). finite.get l.names name) (sym are) ∙ (owned p a w k).names name x has))
 
 pub may_give : (p : Place) (a : Actor) (t : LockTables) → IsIn (locks t) a.held → MayStep p a (give_turn locks_turn)
 may_give p a t held w k = needed p a w k (give_turn locks_turn) (record { table = t; held = held; so_is = tt })

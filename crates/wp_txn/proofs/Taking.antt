@@ -37,7 +37,7 @@ use Rattle.wp_txn.specs.Calls.{Keeps, StoodWithLog, Takes, TakesPrepared}
 use Rattle.wp_txn.specs.Turns.{seat_of, with_locks, HoldsLocks, GaveLocks, TookLog, HoldsLog, GaveLog, TakesPrepare}
 use Rattle.wp_txn.specs.Under.{IsPrepareOf, TakesUnder}
 use Rattle.wp_txn.proofs.GoesOn.{Turnless, same_rest, came_back}
-use Rattle.wp_txn.proofs.Made.{locks_are}
+use Rattle.wp_txn.proofs.Made.{locks_are, not_had}
 
 -- ---- names
 
@@ -75,6 +75,9 @@ refused_used (Some (Some client)) name asked r = ((client, refl), r)
 
 pub may_give_log : (p : Place) (a : Actor) (log : LogState) → IsIn (writes log.table) a.held → log.table.pending ≡ [] → MayStep p a (give_turn write_turn)
 may_give_log p a log held none w k = needed p a w k (give_turn write_turn) (record { table = log.table; held = held; so_is = none })
+
+none_left : (client : List ℕ) → Some None ≡ Some (Some client) → ⊥
+none_left client e = absurd cc
 
 there_is : (o : Option ℕ) (n : ℕ) → o ≡ Some n → unwrap_or o 0 ≡ n
 there_is o n e = ap (λ (x : Option ℕ). unwrap_or x 0) e
@@ -252,8 +255,8 @@ module _ {D : Type 0} (z : SharedState D) (old : SeatState) (free : IsFree z.tab
           pub not_none : IsPrepareOf log.table.history name None → ⊥
           not_none none = true≢false (sym c.named_there ∙ ap (λ (h : List Entry). is_some (named h name)) of_log ∙ ap is_some none)
 
-          pub taken : (number : ℕ) (batch : List Change) → IsPrepareOf log.table.history name (Some (number, batch)) → Takes z old name (record { name = name; number = number; batch = batch }) new
-          taken number batch p =
+          pub taken : (w : World) (number : ℕ) (batch : List Change) → Stands z s w → w.locks ≡ t → finite.get t.names name ≡ Some None → IsPrepareOf log.table.history name (Some (number, batch)) → Takes z old name (record { name = name; number = number; batch = batch }) new
+          taken w number batch stands are left p =
               let h : List Entry = c.history in let q : ℕ = unwrap_or (named h name) 0 in let b = with_taken t h name both in
               let is = under_both (with_taken t h name) r c.seat in
               let named_is : named h name ≡ Some number = ap (λ (entries : List Entry). named entries name) of_log ∙ p.0 in
@@ -265,6 +268,7 @@ module _ {D : Type 0} (z : SharedState D) (old : SeatState) (free : IsFree z.tab
               let f = found_named h name number named_is in
               record {
                 name_is = refl;
+                not_had = ap (λ (a : Actor). finite.get a.participant.transactions name) (sym took_log.knows) ∙ not_had (place_at z s.by) s.knows w t name stands are (λ client has. none_left client (sym left ∙ has));
                 number_is = ap (λ (entries : List Entry). named entries name) seen ∙ named_is;
                 has = record {
                   transaction = x;

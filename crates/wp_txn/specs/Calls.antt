@@ -55,6 +55,7 @@ GivesUp z old new name = ContinuesWith (IsApartFrom name) z old new (without_tra
 
 abbrev pub Begins : {D : Type 0} → SharedState D → SeatState → List ℕ → Result OpenState TxnError → SeatState → Type 0
 Begins z old name (Ok txn) new = (txn ≡ record { name = name; batch = [] }) × HasOpen new name [] × Continues z old new (remembering (claimed name ∷ []) (with_transaction name no_changes old.knows.participant))
+    × (finite.get old.knows.participant.transactions name ≡ None)
 Begins z old name (Err (Taken other)) new = (other ≡ name) × Finds z old new None (Txn name)
 Begins z old name (Err Memory) new = Keeps z old new
 Begins z old name (Err other) new = ⊥
@@ -96,9 +97,10 @@ pub record StoodWithLog {D : Type 0} (z : SharedState D) (old : SeatState) (w : 
   pub held : actor.held ≡ writes table ∷ old.knows.held
   pub same : actor ≡ record old.knows { held = actor.held; notes = actor.notes }
 
--- A prepare of the seen is taken, which is undecided there.
+-- A prepare of the seen is taken, which is undecided there, and which the seat did not have.
 pub record Takes {D : Type 0} (z : SharedState D) (old : SeatState) (name : List ℕ) (txn : PreparedState) (new : SeatState) : Type 0 where
   pub name_is : txn.name ≡ name
+  pub not_had : finite.get old.knows.participant.transactions name ≡ None
   pub number_is : named new.knows.participant.seen name ≡ Some txn.number
   pub has : HasPrepared new name txn.number txn.batch
   pub goes_on : Continues z old new (remembering (took name ∷ []) (with_transaction name has.transaction old.knows.participant))

@@ -23,7 +23,7 @@ abbrev pub FindsName : LockTables → SeatState → List ℕ → LockTables → 
 FindsName old s name new t = (is_some (finite.get old.names name) ≡ true) × (new ≡ old) × ((account : Account) × (t ≡ seat_of s (with_found None (Txn name) account s.knows)))
 
 abbrev pub Claims : LockTables → SeatState → List ℕ → Result (Unit {0}) TxnError → LockTables → SeatState → Type 0
-Claims old s name (Ok done) new t = (new ≡ with_name old name (Some s.knows.participant.client)) × (t ≡ seat_of s (with_claimed old name s.knows))
+Claims old s name (Ok done) new t = (new ≡ with_name old name (Some s.knows.participant.client)) × (t ≡ seat_of s (with_claimed old name s.knows)) × (finite.get old.names name ≡ None)
 Claims old s name (Err (Taken other)) new t = (other ≡ name) × FindsName old s name new t
 Claims old s name (Err Memory) new t = (new ≡ old) × (t ≡ s)
 Claims old s name (Err other) new t = ⊥

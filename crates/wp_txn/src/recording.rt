@@ -205,6 +205,8 @@ pub(crate) fn record_rollback<D: Disk + Drop, R: Wait>(
     held_keys_keep_their_values();
     prior.changes();
     let mut log = open_log(store, rt, seat, 2)?;
-    let outcome = put_rollback(store, rt, alloc, seat, &mut log, &txn.name, txn.number, prior);
+    let outcome = put_rollback(
+        store, rt, alloc, seat, &mut log, &txn.name, txn.number, prior,
+    );
     close_log(store, seat, log, outcome)
 }

@@ -5,7 +5,7 @@ use Rattle.wp_model.specs.declared.change.Change.{Change}
 use Rattle.wp_txn.specs.declared.error.TxnError.{TxnError}
 use Rattle.wp_txn.specs.Calls.{Begins}
 use Rattle.wp_txn.specs.Txn.{OpenState}
-use Rattle.wp_txn.proofs.GoesOn.{begun, not_begun}
+use Rattle.wp_txn.proofs.GoesOn.{begun, not_begun, not_live}
 use Rattle.wp_txn.proofs.names.begin.Goals as goal
 
 pub returns-in_err-outcome : goal.returns-in_err-outcome
@@ -15,5 +15,6 @@ returns-in_err-outcome g c = let f = c.take_locks-tables.ensures.found in let p 
 
 pub returns : goal.returns
 returns g c =
+    let f = c.take_locks-tables.ensures.found in
     let b = begun c.args.store.now c.args.seat.now c.requires c.take_locks-tables.result _ c.take_locks-tables.ensures.seat _ c.args.name _ (c.in_ok-outcome.ensures {u = tt}).1 c.give_locks.ensures in
-    let begun_with : List Change → OpenState = λ batch. record { name = c.args.name; batch = batch } in (ap begun_with c.new.ensures, b.0, b.1)
+    let begun_with : List Change → OpenState = λ batch. record { name = c.args.name; batch = batch } in (ap begun_with c.new.ensures, b.0, b.1, not_live c.args.store.now c.args.seat.now f.0 c.take_locks-tables.result c.args.name f.1 f.2 (c.in_ok-outcome.ensures {u = tt}).2)

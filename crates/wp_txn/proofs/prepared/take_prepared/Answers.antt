@@ -37,9 +37,9 @@ unreachable-requires g c = let name = c.args.name.now in
     (c.in_ok-outcome.ensures {u = tt}).2 (subst (λ (o : Option (ℕ × List Change)). IsPrepareOf c.take_log-log.result.table.history name o) c.in_default-prepare.is found)
 
 pub returns : goal.returns
-returns g c = let name = c.args.name.now in
+returns g c = let name = c.args.name.now in let f = c.take_locks-tables.ensures.found in
     let found : IsPrepareOf c.take_log-log.result.table.history name c.in-Ok.prepare = subst (λ (entries : List Entry). IsPrepareOf entries name c.in-Ok.prepare) c.history.ensures (c.in-Ok.ensures {u = tt}) in
     let t = taken c.args.store.now c.args.seat.now c.requires c.take_log-log.result _ c.take_log-log.ensures c.take_locks-tables.result _ c.take_locks-tables.ensures.seat _ _ c.give_locks.ensures _ c.give_log-2.ensures name
-    (c.in_ok-outcome.ensures {u = tt}).2 c.in-Some.number c.in-Some.batch (subst (λ (o : Option (ℕ × List Change)). IsPrepareOf c.take_log-log.result.table.history name o) c.in-Some.is found) in
+    (c.in_ok-outcome.ensures {u = tt}).2 f.0 c.in-Some.number c.in-Some.batch f.1 f.2 (c.in_ok-outcome.ensures {u = tt}).1 (subst (λ (o : Option (ℕ × List Change)). IsPrepareOf c.take_log-log.result.table.history name o) c.in-Some.is found) in
     let under : List ℕ → PreparedState = λ n. record { name = n; number = c.in-Some.number; batch = c.in-Some.batch } in
     subst (λ (n : List ℕ). Takes c.args.store.now c.args.seat.now name (under n) c.give_log-2.new.seat) (sym (c.in_ok-taken.ensures {u = tt})) t
