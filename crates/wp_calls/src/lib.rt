@@ -28,4 +28,6 @@ mod scripts;
 #[cfg(test)]
 mod stores;
 #[cfg(test)]
+mod threads;
+#[cfg(test)]
 mod transactions;
