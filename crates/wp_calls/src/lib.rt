@@ -8,6 +8,8 @@
 #![tactic(auto)]
 
 #[cfg(test)]
+mod bounds;
+#[cfg(test)]
 mod calls;
 #[cfg(test)]
 mod clients;

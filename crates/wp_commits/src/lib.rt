@@ -26,9 +26,8 @@ mod cleared;
 mod entering;
 pub mod laws;
 mod steps;
-#[cfg(test)]
-mod tests;
 
+pub use bound::bound_past;
 pub use cleanup::take_out;
 pub use clear::{clear_for, clear_pair};
 pub use cleared::Cleared;

@@ -17,8 +17,6 @@ mod log;
 mod opening;
 mod part;
 mod stock;
-#[cfg(test)]
-mod tests;
 
 pub use edits::Edits;
 pub use log::Log;

@@ -15,8 +15,6 @@ mod memory;
 mod opening;
 mod reason;
 mod tables;
-#[cfg(test)]
-mod tests;
 
 pub use bad::Bad;
 pub use laws::{a_store_is_opened_in_one_way, opened_parts_open_again};

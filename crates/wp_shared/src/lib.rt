@@ -22,8 +22,6 @@ mod opening;
 mod seat;
 mod shared;
 mod steps;
-#[cfg(test)]
-mod tests;
 mod turns;
 
 pub use ending::Finished;

@@ -1,0 +1,58 @@
+//! The devices of store 1, whose log has one record, which is in a table.
+ghost use Rattle.std.specs.Prelude.{ℕ, List, IfOk};
+ghost use Rattle.wp_outside.specs.Disk.{Moment};
+ghost use Rattle.wp_open.specs.Parts.{PartsOpened};
+
+use std::alloc::Global;
+use std::test::Fail;
+use wp_open::{Parts, open_parts};
+use wp_outside::{Disk, Disks, MemDisk};
+
+/// The log, with the put of `1` under `k`.
+pub(super) const LOG: &[u8; 32] =
+    b"\x01WPLG\x01\0\0\0\x01\x01\0\0\0\0\0\0\0\x0c\0\0\0\x01\x01\x01\x01\x01k\0\x011\0";
+
+/// The manifest, with one edit: the entries up to 1 are in one table of 53 bytes at place 0.
+pub(super) const MANIFEST: &[u8; 44] =
+    b"\x01WPMF\x01\0\0\0\x01\x01\0\0\0\0\0\0\0\x18\0\0\0\x01\0\0\0\x01\0\0\0\0\0\0\0\0\0\0\0\0\0\0\0\x35\0";
+
+/// The table of `k` = `1` under the number 1.
+pub(super) const TABLE: &[u8; 53] = b"WPTB\x01\0\0\0\x01\0\0\0\0\0\0\0\x01\0\0\0\0\0\0\0\x01\
+    \0\x01\x01k\0\0\0\x01\x01\0\x011\0\0\0\0\0\0\0\x19\0\0\0\0\0\0\0\x25";
+
+/// A device with these bytes, whose calls with these numbers fail, counted from 1.
+pub(super) fn device(alloc: Global, bytes: &[u8], fails: &[u64]) -> Result<MemDisk, Fail> {
+    Ok(MemDisk::new(
+        alloc,
+        bytes.to_vec(alloc)?,
+        1000,
+        1000,
+        fails.to_vec(alloc)?,
+    )?)
+}
+
+pub(super) fn devices(
+    alloc: Global,
+    log: &[u8],
+    manifest: &[u8],
+    tables: &[u8],
+) -> Result<Disks<MemDisk>, Fail> {
+    Ok(Disks {
+        log: device(alloc, log, &[])?,
+        manifest: device(alloc, manifest, &[])?,
+        tables: device(alloc, tables, &[])?,
+    })
+}
+
+/// The parts of a store that has to open.
+pub(super) fn opened(alloc: Global, disks: Disks<MemDisk>) -> Result<Parts<MemDisk>, Fail>
+    ensures { IfOk result (λ parts. (asked : ℕ) × (log : List Moment) × (manifest : List Moment) × (tables : List Moment)
+        × PartsOpened asked log manifest tables parts.wal parts.history.entries parts.manifest (⟦<MemDisk as Disk>⟧.moments parts.tables) parts.store) }
+{
+    match open_parts(alloc, disks, 1) {
+        Ok(parts) => Ok(parts),
+        Err(refused) => Err(Fail::from(refused.why)),
+    }
+}
+
+pub(super) fn goes_to_a_thread<T: Send>(_value: &T) {}
