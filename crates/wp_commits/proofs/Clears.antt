@@ -119,10 +119,9 @@ words_in_place place (apart i gone) e = refl
 words_in_place place other e = e
 
 -- a place is cleared as far as it was not, and then its word is stored
-pub then_put : (s s' t u : SeatState) (h : List Content) (place place' : ℕ) → s' ≡ s → place' ≡ place → s.knows.held ≡ h → GoesOn is_of_words h s'.turns s' t → GoesOn (is_of_place place') t.knows.held t.turns t u
+pub then_put : (s t u : SeatState) (h : List Content) (place place' : ℕ) → place' ≡ place → s.knows.held ≡ h → GoesOn is_of_words h s.turns s t → GoesOn (is_of_place place') t.knows.held t.turns t u
     → GoesOn (is_of_place place) s.knows.held s.turns s u
-then_put s s' t u h place place' same is held first second =
-    let a : GoesOn is_of_words h s.turns s t = subst (λ (x : SeatState). GoesOn is_of_words h x.turns x t) same first in
+then_put s t u h place place' is held a second =
     let b : GoesOn (is_of_place place) t.knows.held t.turns t u = subst (λ (i : ℕ). GoesOn (is_of_place i) t.knows.held t.turns t u) is second in
     let b' : GoesOn (is_of_place place) h s.turns t u =
     subst (λ (x : List Content × List ℕ). GoesOn (is_of_place place) x.0 x.1 t u) (λ i. (holds_now is_of_words s t h s.turns a i, ap (λ (y : SeatState). y.turns) a.same i)) b in

@@ -117,7 +117,3 @@ module _ {D : Type 0} (z : SharedState D) (s t : SeatState) (d : WriteTable) (pl
 
     pub found : (o : Option (ℕ × ℕ)) → o ≡ option_map numbers_of (pair_of word) → IfSome o IsFound
     found o is = subst (λ (x : Option (ℕ × ℕ)). IfSome x IsFound) (sym is) (by_pair (pair_of word) refl)
-
--- a cache has words
-pub some_words : {D : Type 0} (z : SharedState D) (t : SeatState) (found : ℕ) → (w : World) × Stands z t w × (found ≡ w.max_evicted) → 1 ≤ z.cells
-some_words z t found at = subst (λ (n : ℕ). 1 ≤ n) at.1.cells (at_sound (place_at z t.by) t.knows at.0 at.1).cache.some

@@ -65,14 +65,11 @@ pub fn pair<D: Disk + Drop>(
     unpack(store.word(seat, place))
 }
 
-/// The place of the number's word. That there are words, each world of the store shows.
-pub fn place_of<D: Disk + Drop>(store: &Shared<D>, seat: &mut Seat<D>, p: Seq) -> usize
-    requires { seat.old.table ≡ store.now.table }
-    ensures same { seat.new ≡ seat.old }
+/// The place of the number's word.
+pub fn place_of<D: Disk + Drop>(store: &Shared<D>, p: Seq) -> usize
     ensures place { result ≡ cache_place store.now.cells p }
     ensures within { result < store.now.cells }
 {
-    store.max(seat);
     (p % store.cells() as u64) as usize
 }
 

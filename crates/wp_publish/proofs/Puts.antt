@@ -15,7 +15,7 @@ use Rattle.wp_commits.specs.Notes.{noting, GoesOn}
 use Rattle.wp_publish.specs.declared.error.WriteError.{WriteError}
 use Rattle.wp_publish.specs.declared.error.WriteError.TheVariants.{Memory, LogFault}
 use Rattle.wp_publish.specs.Writing.{HoldsWrite}
-use Rattle.wp_publish.specs.Records.{putting, transaction_in, is_about, IsPut, IsNotPut, failing, Puts}
+use Rattle.wp_publish.specs.Records.{putting, transaction_behind, is_about, IsPut, IsNotPut, failing, Puts}
 use Rattle.wp_publish.specs.Stages.{is_guarded, may_end, holding, as_failed, IsLogged, HasJoined}
 use Rattle.wp_publish.proofs.Facts.{unguarded}
 use Rattle.wp_publish.proofs.Holding.{as_write}
@@ -72,8 +72,8 @@ module _ {D : Type 0} (z : SharedState D) (s t new : SeatState) (log mid left : 
     notes = λ fact guard there. p.notes fact guard (k.noted fact (unguarded fact guard) there);
   }
 
-  about_same : (entries : List Entry) (fact : Fact) → is_about (transaction_in mid.table.history entries) fact ≡ is_about (transaction_in log.table.history entries) fact
-  about_same entries fact = ap (λ (e : List Entry). is_about (transaction_in e entries) fact) history
+  about_same : (entries : List Entry) (fact : Fact) → is_about (transaction_behind mid.table.history entries) fact ≡ is_about (transaction_behind log.table.history entries) fact
+  about_same entries fact = ap (λ (e : List Entry). is_about (transaction_behind e entries) fact) history
 
   put_before : (entries : List Entry) → IsPut z t mid entries new left → IsPut z s log entries new left
   put_before entries p = record {

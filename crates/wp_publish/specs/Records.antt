@@ -50,9 +50,9 @@ abbrev pub putting : List Entry → List Entry → Participant → Participant
 putting history entries p = record p { seen = history ++ entries; own = p.own ++ numbers_behind (length history) entries }
 
 -- the transaction that a record behind this history is of, if it is of one
-abbrev pub transaction_in : List Entry → List Entry → Option (List ℕ)
-transaction_in history [] = None
-transaction_in history (entry ∷ entries) = transaction_of history entry
+abbrev pub transaction_behind : List Entry → List Entry → Option (List ℕ)
+transaction_behind history [] = None
+transaction_behind history (entry ∷ entries) = transaction_of history entry
 
 -- the fact is about the transaction of this name
 abbrev pub is_about : Option (List ℕ) → Fact → Bool
@@ -69,7 +69,7 @@ pub record IsPut {D : Type 0} (z : SharedState D) (old : SeatState) (log : LogSt
   pub history : left.table.history ≡ log.table.history ++ entries
   pub running : left.table.closed ≡ false
   pub knows : new.knows ≡ record old.knows { participant = putting log.table.history entries old.knows.participant; learned = []; held = writes left.table ∷ []; notes = new.knows.notes }
-  pub notes : (fact : Fact) → guarded_by fact ≡ None → is_about (transaction_in log.table.history entries) fact ≡ false → IsIn fact old.knows.notes → IsIn fact new.knows.notes
+  pub notes : (fact : Fact) → guarded_by fact ≡ None → is_about (transaction_behind log.table.history entries) fact ≡ false → IsIn fact old.knows.notes → IsIn fact new.knows.notes
 
 -- The history is as it was, and nothing is pending. The log is closed now, or it is not.
 pub record IsNotPut {D : Type 0} (z : SharedState D) (old : SeatState) (log : LogState) (closed : Bool) (after : Participant) (new : SeatState) (left : LogState) : Type 0 where

@@ -81,7 +81,7 @@ fn join<D: Disk + Drop>(store: &Shared<D>, seat: &mut Seat<D>, log: &mut Log<D>,
 }
 
 /// Puts the pending Prepare into the log and the history, as this number.
-pub(crate) fn put_prepare<D: Disk + Drop, R: Wait>(
+pub(crate) fn put_undecided<D: Disk + Drop, R: Wait>(
     store: &Shared<D>,
     rt: &R,
     seat: &mut Seat<D>,

@@ -14,7 +14,7 @@ ghost use Rattle.wp_publish.specs.Records.{MayPut, Puts};
 ghost use Rattle.wp_publish.specs.Stages.{is_guarded, HoldsPending, IsUnlogged};
 
 use crate::error::WriteError;
-use crate::putting::{put_both, put_one, put_prepare};
+use crate::putting::{put_both, put_one, put_undecided};
 use crate::reached::Reached;
 use crate::stages::{give_up, make_pending, put_number, put_versions};
 use crate::steps;
@@ -118,7 +118,7 @@ pub fn write<D: Disk + Drop, R: Wait>(
 // ---- a Prepare
 
 /// Puts the pending Prepare, of which nothing is anywhere, into the history.
-fn put_prepared<D: Disk + Drop, R: Wait>(
+fn put_prepare<D: Disk + Drop, R: Wait>(
     store: &Shared<D>,
     rt: &R,
     seat: &mut Seat<D>,
@@ -141,7 +141,7 @@ fn put_prepared<D: Disk + Drop, R: Wait>(
     let Ok(()) = put_number(store, rt, seat, log, n) else {
         return Err(give_up(store, rt, seat, log, n, Reached::InMemory));
     };
-    put_prepare(store, rt, seat, log, n)
+    put_undecided(store, rt, seat, log, n)
 }
 
 /// Puts a Prepare entry of this name with these changes into the history, with its number in the prepared heap.
@@ -161,7 +161,7 @@ pub fn prepare<D: Disk + Drop, R: Wait>(
 {
     let entries = alone(alloc, Entry::Prepare(name.copy(alloc)?, batch.copy(alloc)?))?;
     make_pending(store, seat, log, entries)?;
-    put_prepared(store, rt, seat, log, name, batch)
+    put_prepare(store, rt, seat, log, name, batch)
 }
 
 // ---- a Commit

@@ -1,5 +1,5 @@
 //! The steps of the machine that a record takes, each as what it leaves of the seat, and the store turn.
-ghost use Rattle.std.specs.Prelude.{◌≡◌, ◌≢◌, ℕ, suc, true, false, List, [], ◌∷◌, ◌++◌, length, None};
+ghost use Rattle.std.specs.Prelude.{◌≡◌, ℕ, suc, true, false, List, [], ◌∷◌, ◌++◌, length, None};
 ghost use Rattle.std.specs.FinSet as set;
 ghost use Rattle.wp_model.specs.declared.entry.Entry.{Entry};
 ghost use Rattle.wp_model.specs.Legal.{IsLegal};
@@ -12,12 +12,8 @@ ghost use Rattle.wp_core.specs.Tables.{WriteTable, StoreTable, writes, prepared}
 ghost use Rattle.wp_core.specs.Tables as table;
 ghost use Rattle.wp_core.specs.Turns.{store_turn};
 ghost use Rattle.wp_core.specs.Views.{versions_in_memory, versions_nowhere, number_in_heap, number_not_in_heap};
-ghost use Rattle.wp_core.specs.World.{World};
 ghost use Rattle.wp_rule.specs.Knows.{HasNoVersions, Noted};
-ghost use Rattle.wp_rule.specs.Moves.{MayMake, Moved};
 ghost use Rattle.wp_guarded.specs.Stock.{store_table};
-ghost use Rattle.wp_shared.specs.Clients.{KeepClient};
-ghost use Rattle.wp_shared.specs.Seats.{place_at};
 ghost use Rattle.wp_commits.specs.Notes.{noting, GoesOn};
 ghost use Rattle.wp_publish.specs.Stages.{no_fact, is_of_versions, is_of_heap, is_of_pending, holding, as_failed, HasPrepare, IsUnlogged, IsNext, IsInPlace, IsPublished};
 ghost use Rattle.wp_publish.specs.Writing.{KnowsWords};
@@ -29,19 +25,7 @@ use wp_machine::Turn;
 use wp_model::Seq;
 use wp_outside::Disk;
 use wp_prepared::Prepared;
-use wp_rule::Moves;
 use wp_shared::{Held, Seat, Shared};
-
-/// Makes steps about this, which a caller picks by `Brand`: it is told it for that alone.
-fn make_about<D: Disk + Drop, J: Moves, A>(store: &Shared<D>, seat: &mut Seat<D>, about: &A) -> Seq
-    requires seat { (seat.old.table ≡ store.now.table) × (J.place ≡ place_at store.now seat.old.by) }
-    requires may { MayMake J.place seat.old.knows J.steps }
-    requires client { (w : World) → KeepClient (J.steps w) }
-    ensures same { (seat.new.table ≡ seat.old.table) × (seat.new.by ≡ seat.old.by) × (seat.new.turns ≡ seat.old.turns) }
-    ensures moved { Moved J.place J.steps (λ w. result ≡ length w.writes.history) seat.old.knows seat.new.knows }
-{
-    store.make::<J>(seat)
-}
 
 // ---- the pending record
 
@@ -55,7 +39,7 @@ pub(crate) fn begin<D: Disk + Drop>(store: &Shared<D>, seat: &mut Seat<D>, log: 
     ensures nowhere { Noted seat.new.knows versions_nowhere }
     ensures below { Noted seat.new.knows number_not_in_heap }
 {
-    make_about::<D, Brand, Log<D>>(store, seat, log);
+    store.make_about::<Brand, Log<D>>(seat, log);
 }
 
 /// The pending entries of the log were dropped, of which nothing was left.
@@ -148,7 +132,7 @@ pub(crate) fn add_versions<D: Disk + Drop>(
     ensures seat { GoesOn is_of_versions (table.store (store_table stock.now) ∷ writes log.now.table ∷ []) seat.old.turns seat.old seat.new }
     ensures noted { Noted seat.new.knows versions_in_memory }
 {
-    make_about::<D, Brand, Stock>(store, seat, stock);
+    store.make_about::<Brand, Stock>(seat, stock);
 }
 
 /// The versions of the pending entry went out of memory.
@@ -164,7 +148,7 @@ pub(crate) fn take_versions<D: Disk + Drop>(
     ensures seat { GoesOn is_of_versions (table.store (store_table stock.now) ∷ writes log.now.table ∷ []) seat.old.turns seat.old seat.new }
     ensures noted { Noted seat.new.knows versions_nowhere }
 {
-    make_about::<D, Brand, Stock>(store, seat, stock);
+    store.make_about::<Brand, Stock>(seat, stock);
 }
 
 /// Notes that all versions of the pending entry are in memory, since it has none.

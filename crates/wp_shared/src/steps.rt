@@ -32,6 +32,17 @@ impl<D: Disk + Drop> Shared<D> {
         self.words.make::<J>(&mut seat.seat)
     }
 
+    /// Makes steps about this at a load of the published number. A caller that picks them by `Brand` hands it in for that alone.
+    pub fn make_about<J: Moves, A>(&self, seat: &mut Seat<D>, about: &A) -> Seq
+        requires seat { (seat.old.table ≡ self.now.table) × (J.place ≡ place_at self.now seat.old.by) }
+        requires may { MayMake J.place seat.old.knows J.steps }
+        requires client { (w : World) → KeepClient (J.steps w) }
+        ensures same { (seat.new.table ≡ seat.old.table) × (seat.new.by ≡ seat.old.by) × (seat.new.turns ≡ seat.old.turns) }
+        ensures moved { Moved J.place J.steps (λ w. result ≡ length w.writes.history) seat.old.knows seat.new.knows }
+    {
+        self.make::<J>(seat)
+    }
+
     /// Loads the evicted bound, and makes the steps there.
     pub fn load_max<J: Moves>(&self, seat: &mut Seat<D>) -> Seq
         requires seat { (seat.old.table ≡ self.now.table) × (J.place ≡ place_at self.now seat.old.by) }

@@ -15,7 +15,7 @@ use Rattle.wp_core.specs.World.{Participant}
 use Rattle.wp_core.specs.Sound.Actors.{StartsWith}
 use Rattle.wp_core.specs.Sound.Views.{guarded_by}
 use Rattle.wp_core.proofs.HistoryLaws.{next_decides_prepare}
-use Rattle.wp_publish.specs.Records.{numbers_behind, transaction_in, is_about}
+use Rattle.wp_publish.specs.Records.{numbers_behind, transaction_behind, is_about}
 use Rattle.wp_shared.specs.Calls.{ContinuesWith, Continues}
 use Rattle.wp_commits.specs.Gone.{HasLeft}
 use Rattle.wp_rule.specs.Words.{IsAt}
@@ -39,19 +39,19 @@ not_about o name fact which apart = ⊎_elim
 
 -- the call began with what left the seat as it was, but for what it had seen
 module _ {D : Type 0} (z : SharedState D) (old start mid new : SeatState) (name : List ℕ) (entries : List Entry) (facts : ℕ → List Fact) (n : ℕ) (begins : Continues z old start old.knows.participant)
-    (r : Records z start entries facts (Ok n) mid) (which : (transaction_in r.1.0 entries ≡ None) ⊎ (transaction_in r.1.0 entries ≡ Some name)) where
+    (r : Records z start entries facts (Ok n) mid) (which : (transaction_behind r.1.0 entries ≡ None) ⊎ (transaction_behind r.1.0 entries ≡ Some name)) where
   abbrev it : Participant
   it = old.knows.participant
 
   abbrev Part : Fact → Type 0
-  Part fact = (guarded_by fact ≡ None) × (is_about (transaction_in r.1.0 entries) fact ≡ false)
+  Part fact = (guarded_by fact ≡ None) × (is_about (transaction_behind r.1.0 entries) fact ≡ false)
 
   -- with these numbers more of its own
   abbrev owning : Participant → Participant
   owning p = record p { own = p.own ++ numbers_behind (length r.1.0) entries }
 
   apart_stays : (fact : Fact) → IsApartFrom name fact → Part fact
-  apart_stays fact apart = (apart.0, not_about (transaction_in r.1.0 entries) name fact which apart.1)
+  apart_stays fact apart = (apart.0, not_about (transaction_behind r.1.0 entries) name fact which apart.1)
 
   until_then : ContinuesWith (IsApartFrom name) z old mid (owning it)
   until_then =
@@ -128,7 +128,7 @@ module _ {D : Type 0} (z : SharedState D) (old mid : SeatState) (name : List ℕ
   there_before = ap is_some h.has
 
   module _ (facts : ℕ → List Fact) (n : ℕ) (r : Records z old (Commit number ∷ []) facts (Ok n) mid) where
-    pub commit_is_of : (transaction_in r.1.0 (Commit number ∷ []) ≡ None) ⊎ (transaction_in r.1.0 (Commit number ∷ []) ≡ Some name)
+    pub commit_is_of : (transaction_behind r.1.0 (Commit number ∷ []) ≡ None) ⊎ (transaction_behind r.1.0 (Commit number ∷ []) ≡ Some name)
     commit_is_of = inr (name_before r.1.0 r.1.1.put.grown)
 
     -- the number is decided in what the seat has seen

@@ -12,7 +12,7 @@ use Rattle.wp_locks.specs.Locks.{FreesAllOf}
 use Rattle.wp_core.specs.Lists.{IsIn}
 use Rattle.wp_core.specs.Tables.{Content, locks}
 use Rattle.wp_core.specs.Turns.{locks_turn}
-use Rattle.wp_core.specs.Views.{Account, Fact, claimed, told, unprepared}
+use Rattle.wp_core.specs.Views.{Fact, claimed, found, told, unprepared}
 use Rattle.wp_core.specs.World.{Participant, Actor, World}
 use Rattle.wp_core.specs.Changes.{held_with, held_without, sees, without_transaction, with_name, with_label}
 use Rattle.wp_core.specs.Sound.Actors.{StartsWith}
@@ -21,7 +21,7 @@ use Rattle.wp_core.specs.Sound.Views.{guarded_by}
 use Rattle.wp_core.proofs.AllParticipants.{mine}
 use Rattle.wp_core.proofs.Keyed.{at_inserted}
 use Rattle.wp_core.proofs.Tests.{some_none}
-use Rattle.wp_rule.specs.Accounts.{IsHolderIn}
+use Rattle.wp_rule.specs.Accounts.{IsHolderIn, account_of}
 use Rattle.wp_rule.proofs.Knows.{at_sound}
 use Rattle.wp_guarded.specs.declared.part.Part.{Part}
 use Rattle.wp_guarded.specs.declared.part.Part.TheVariants as part
@@ -141,14 +141,15 @@ module _ {D : Type 0} (z : SharedState D) (old : SeatState) (free : IsFree z.tab
           record { free = goes.free; same_by = goes.same_by; seen = goes.seen; participant = goes.participant; notes = goes.notes; made = goes.made; joined = goes.joined }
 
       -- it found a holder
-      pub finds : (w : World) (key : Option (List ℕ)) (holder : Holder) (r : SeatState) (account : Account) → Stands z old w → w.locks ≡ t → IsHolderIn t key holder → r ≡ seat_of s (with_found key holder account s.knows) → GaveLocks r new
+      pub finds : (w : World) (key : Option (List ℕ)) (holder : Holder) (r : SeatState) (published : ℕ) → Stands z old w → w.locks ≡ t → IsHolderIn t key holder → r ≡ seat_of s (with_found t published key holder s.knows) → GaveLocks r new
           → Finds z old new key holder
-      finds w key holder r account stands are is e gave = record {
+      finds w key holder r published stands are is e gave = record {
         world = w;
         stood = stands;
         holds = subst (λ (l : LockTables). IsHolderIn l key holder) (sym are) is;
-        account = account;
-        goes_on = back Turnless t (with_found key holder account (with_locks t old).knows) r new (under (with_found key holder account) r e) gave (held_same t) free.live refl refl ([], sym (append-nil old.knows.participant.seen)) (λ fact kept there. there);
+        published = published;
+        goes_on = subst (λ (l : LockTables). Continues z old new (remembering (found key holder (length old.knows.participant.seen) (account_of old.knows.participant l published key holder) ∷ []) old.knows.participant)) (sym are)
+            (back Turnless t (with_found t published key holder (with_locks t old).knows) r new (under (with_found t published key holder) r e) gave (held_same t) free.live refl refl ([], sym (append-nil old.knows.participant.seen)) (λ fact kept there. there));
       }
 
       -- ---- a name

@@ -116,12 +116,13 @@ pub may_find : (p : Place) (a : Actor) (t : LockTables) (key : Option (List ℕ)
     → MayMake p a (λ w. find_holder key holder (account_of a.participant w.locks (length w.writes.history) key holder) ∷ [])
 may_find p a t key holder held is = finds_holder p a key holder (record { table = t; held = held; so_is = is })
 
-pub holder_found : (p : Place) (so : World → Type 0) (s new : SeatState) (key : Option (List ℕ)) (holder : Holder) → (new.table ≡ s.table) × (new.by ≡ s.by) × (new.turns ≡ s.turns)
+pub holder_found : (p : Place) (so : World → Type 0) (s new : SeatState) (t : LockTables) (key : Option (List ℕ)) (holder : Holder) → IsIn (locks t) s.knows.held → (new.table ≡ s.table) × (new.by ≡ s.by) × (new.turns ≡ s.turns)
     → Moved p (λ w. find_holder key holder (account_of s.knows.participant w.locks (length w.writes.history) key holder) ∷ []) so s.knows new.knows
-    → (account : Account) × (new ≡ seat_of s (with_found key holder account s.knows))
-holder_found p so s new key holder same m =
-    let w = m.world in let account : Account = account_of s.knows.participant w.locks (length w.writes.history) key holder in
-    (account, becomes s new (with_found key holder account s.knows) same (all_made p (λ v. find_holder key holder (account_of s.knows.participant v.locks (length v.writes.history) key holder) ∷ []) so s.knows new.knows m (find_ends key holder account, tt)))
+    → (published : ℕ) × (new ≡ seat_of s (with_found t published key holder s.knows))
+holder_found p so s new t key holder held same m =
+    let w = m.world in let n : ℕ = length w.writes.history in
+    let made = all_made p (λ v. find_holder key holder (account_of s.knows.participant v.locks (length v.writes.history) key holder) ∷ []) so s.knows new.knows m (find_ends key holder (account_of s.knows.participant w.locks n key holder), tt) in
+    (n, becomes s new (with_found t n key holder s.knows) same (made ∙ ap (λ (l : LockTables). with_found l n key holder s.knows) (locks_are p s.knows w t m.before held)))
 
 -- ---- keys and batches
 

@@ -18,7 +18,7 @@ use Rattle.wp_core.proofs.HistoryLaws.{next_decides_prepare}
 use Rattle.wp_core.proofs.KeepsSeen.{shorter}
 use Rattle.wp_commits.specs.Gone.{HasLeft}
 use Rattle.wp_guarded.specs.Log.{LogState}
-use Rattle.wp_publish.specs.Records.{transaction_in}
+use Rattle.wp_publish.specs.Records.{transaction_behind}
 use Rattle.wp_shared.specs.Calls.{Continues}
 use Rattle.wp_shared.specs.Seats.{SharedState, SeatState}
 use Rattle.wp_txn.specs.Calls.{without_transaction}
@@ -154,7 +154,7 @@ module _ {D : Type 0} (z : SharedState D) (old start mid : SeatState) (name : Li
   abbrev before_it : List Entry
   before_it = r.1.0
 
-  rollback_is_of : (transaction_in before_it (Undo number restored ∷ Close number ∷ []) ≡ None) ⊎ (transaction_in before_it (Undo number restored ∷ Close number ∷ []) ≡ Some name)
+  rollback_is_of : (transaction_behind before_it (Undo number restored ∷ Close number ∷ []) ≡ None) ⊎ (transaction_behind before_it (Undo number restored ∷ Close number ∷ []) ≡ Some name)
   rollback_is_of = inr (name_before z start mid name number batch h before_it r.1.1.put.grown)
 
   pub rolled_back_decides : (c : ℕ) × (decision_of mid.knows.participant.seen number ≡ Some c)

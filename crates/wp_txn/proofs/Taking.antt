@@ -16,7 +16,7 @@ use Rattle.wp_locks.specs.declared.error.LockError.TheVariants as why
 use Rattle.wp_core.specs.Lists.{IsIn}
 use Rattle.wp_core.specs.Tables.{Content, writes, locks}
 use Rattle.wp_core.specs.Turns.{write_turn, locks_turn}
-use Rattle.wp_core.specs.Views.{Fact, undecided_at}
+use Rattle.wp_core.specs.Views.{Fact, found, undecided_at}
 use Rattle.wp_core.specs.World.{Transaction, Participant, Actor, World}
 use Rattle.wp_core.specs.Changes.{held_with, held_without, sees, keys_of_holder, with_name}
 use Rattle.wp_core.specs.Steps.{give_turn}
@@ -33,7 +33,7 @@ use Rattle.wp_shared.specs.Calls.{Continues}
 use Rattle.wp_txn.specs.declared.error.TxnError.{TxnError}
 use Rattle.wp_txn.specs.declared.error.TxnError.TheVariants.{Memory, Taken, Busy, TooMany, Silent, Unknown, InUse, NumbersFull, LogFault, Stopped}
 use Rattle.wp_txn.specs.Actors.{with_found, with_taken}
-use Rattle.wp_txn.specs.Calls.{Keeps, StoodWithLog, Takes, TakesPrepared}
+use Rattle.wp_txn.specs.Calls.{remembering, Keeps, StoodWithLog, Takes, TakesPrepared}
 use Rattle.wp_txn.specs.Turns.{seat_of, with_locks, HoldsLocks, GaveLocks, TookLog, HoldsLog, GaveLog, TakesPrepare}
 use Rattle.wp_txn.specs.Under.{IsPrepareOf, TakesUnder}
 use Rattle.wp_txn.proofs.GoesOn.{Turnless, same_rest, came_back}
@@ -231,8 +231,9 @@ module _ {D : Type 0} (z : SharedState D) (old : SeatState) (free : IsFree z.tab
             world = w;
             stood = stood_then w stands;
             holds = (name, refl, ap (λ (l : LockTables). is_some (finite.get l.names name)) are ∙ c.1.0);
-            account = c.1.2.0;
-            goes_on = both_back (with_found None (Txn name) c.1.2.0 both) (under_both (with_found None (Txn name) c.1.2.0) r c.1.2.1) same_held free.live refl refl ([], sym (append-nil old.knows.participant.seen)) (λ fact there. there);
+            published = c.1.2.0;
+            goes_on = subst (λ (l : LockTables). Continues z old new (remembering (found None (Txn name) (length old.knows.participant.seen) (account_of old.knows.participant l c.1.2.0 None (Txn name)) ∷ []) old.knows.participant)) (sym are)
+                (both_back (with_found t c.1.2.0 None (Txn name) both) (under_both (with_found t c.1.2.0 None (Txn name)) r c.1.2.1) same_held free.live refl refl ([], sym (append-nil old.knows.participant.seen)) (λ fact there. there));
           },
           (c.2.0, ap (λ (l : LockTables). finite.get l.names name) are ∙ c.2.1),
         )

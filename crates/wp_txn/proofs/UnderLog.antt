@@ -30,7 +30,7 @@ use Rattle.wp_commits.proofs.Held.{writes_are}
 use Rattle.wp_guarded.specs.Log.{LogState}
 use Rattle.wp_publish.specs.declared.error.WriteError.{WriteError}
 use Rattle.wp_publish.specs.declared.error.WriteError.TheVariants as write_error
-use Rattle.wp_publish.specs.Records.{numbers_behind, putting, transaction_in, is_about, failing, MayPut, IsPut, IsNotPut, Puts}
+use Rattle.wp_publish.specs.Records.{numbers_behind, putting, transaction_behind, is_about, failing, MayPut, IsPut, IsNotPut, Puts}
 use Rattle.wp_publish.specs.Writing.{HoldsWrite, FoundLog, TakesWrite, GivesWrite}
 use Rattle.wp_shared.specs.Calls.{ContinuesWith, Continues}
 use Rattle.wp_shared.specs.Seats.{SharedState, SeatState, place_at}
@@ -176,7 +176,7 @@ module _ {D : Type 0} (z : SharedState D) (old s t new : SeatState) (log left : 
   abbrev it : Participant
   it = old.knows.participant
 
-  put_back : IsPut z s log entries t left → HasPut (λ fact. (guarded_by fact ≡ None) × (is_about (transaction_in before_it entries) fact ≡ false)) z old new it it before_it entries
+  put_back : IsPut z s log entries t left → HasPut (λ fact. (guarded_by fact ≡ None) × (is_about (transaction_behind before_it entries) fact ≡ false)) z old new it it before_it entries
   put_back put =
       let seen_there : t.knows.participant.seen ≡ before_it ++ entries = ap (λ (a : Actor). a.participant.seen) put.knows in record {
         grown = o.takes.grown;

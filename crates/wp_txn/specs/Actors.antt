@@ -9,9 +9,10 @@ use Rattle.wp_model.specs.declared.holder.Holder.{Holder}
 use Rattle.wp_model.specs.declared.holder.Holder.TheVariants.{Txn, Client}
 use Rattle.wp_model.specs.History.{batch_at, named}
 use Rattle.wp_core.specs.Tables.{locks}
-use Rattle.wp_core.specs.Views.{Account, Fact, claimed, took, locked, told, heard, found, stopped, unprepared, undecided_at, direct_free}
+use Rattle.wp_core.specs.Views.{Fact, claimed, took, locked, told, heard, found, stopped, unprepared, undecided_at, direct_free}
 use Rattle.wp_core.specs.World.{Transaction, Participant, Actor}
 use Rattle.wp_core.specs.Changes.{held_with, keys_of_holder, sees, remembers, has_transaction, has_no_transaction, has_direct, with_name, with_key, with_label}
+use Rattle.wp_rule.specs.Accounts.{account_of}
 
 -- it holds these tables in place of those that it held
 abbrev pub holding : LockTables → Actor → Actor
@@ -37,9 +38,9 @@ noting fact a = record a { notes = fact ∷ a.notes }
 abbrev pub with_claimed : LockTables → List ℕ → Actor → Actor
 with_claimed t name a = let b = holding (with_name t name (Some a.participant.client)) (remembers (has_transaction a name no_changes) (claimed name)) in record b { notes = unprepared name ∷ a.notes }
 
--- it found this holder of a key, or else of a live name
-abbrev pub with_found : Option (List ℕ) → Holder → Account → Actor → Actor
-with_found key holder account a = remembers a (found key holder (length a.participant.seen) account)
+-- it found this holder of a key, or else of a live name, when so many entries were published
+abbrev pub with_found : LockTables → ℕ → Option (List ℕ) → Holder → Actor → Actor
+with_found t published key holder a = remembers a (found key holder (length a.participant.seen) (account_of a.participant t published key holder))
 
 -- it locked a key for its transaction
 abbrev pub with_locked : LockTables → List ℕ → List ℕ → Actor → Actor

@@ -8,11 +8,11 @@ use Rattle.wp_model.specs.declared.holder.Holder.TheVariants.{Txn}
 use Rattle.wp_model.specs.Batch.{key_of, change_to, with_change}
 use Rattle.wp_model.specs.History.{named, is_changed}
 use Rattle.wp_core.specs.Tables.{WriteTable, writes}
-use Rattle.wp_core.specs.Views.{Account, Event, claimed, took, locked, told, heard, found}
+use Rattle.wp_core.specs.Views.{Event, claimed, took, locked, told, heard, found}
 use Rattle.wp_core.specs.Lists.{IsIn}
 use Rattle.wp_core.specs.World.{Transaction, Participant, Actor, World}
 use Rattle.wp_rule.specs.Words.{IsAt}
-use Rattle.wp_rule.specs.Accounts.{IsHolderIn}
+use Rattle.wp_rule.specs.Accounts.{IsHolderIn, account_of}
 use Rattle.wp_shared.specs.Seats.{SharedState, SeatState, Stands, place_at}
 use Rattle.wp_shared.specs.Calls.{ContinuesWith, Continues}
 use Rattle.wp_txn.specs.declared.error.TxnError.{TxnError}
@@ -37,13 +37,13 @@ abbrev pub Keeps : {D : Type 0} → SharedState D → SeatState → SeatState �
 Keeps z old new = Continues z old new old.knows.participant
 
 -- In a world in which the seat stood so, the tables had this holder of the key, or else of a live name. The seat remembers that
--- it found it.
+-- it found it, and how these tables account for it, when so many entries were published.
 pub record FindsWhere {D : Type 0} (Stood : World → Type 0) (z : SharedState D) (old new : SeatState) (key : Option (List ℕ)) (holder : Holder) : Type 0 where
   pub world : World
   pub stood : Stood world
   pub holds : IsHolderIn world.locks key holder
-  pub account : Account
-  pub goes_on : Continues z old new (remembering (found key holder (length old.knows.participant.seen) account ∷ []) old.knows.participant)
+  pub published : ℕ
+  pub goes_on : Continues z old new (remembering (found key holder (length old.knows.participant.seen) (account_of old.knows.participant world.locks published key holder) ∷ []) old.knows.participant)
 
 -- the tables as the call found them
 abbrev pub Finds : {D : Type 0} → SharedState D → SeatState → SeatState → Option (List ℕ) → Holder → Type 0

@@ -10,7 +10,7 @@ use Rattle.wp_core.specs.World.{Participant, World}
 use Rattle.wp_guarded.specs.Log.{LogState}
 use Rattle.wp_publish.specs.declared.error.WriteError.{WriteError}
 use Rattle.wp_publish.specs.declared.error.WriteError.TheVariants as write_error
-use Rattle.wp_publish.specs.Records.{transaction_in, is_about, IsPut, Puts}
+use Rattle.wp_publish.specs.Records.{transaction_behind, is_about, IsPut, Puts}
 use Rattle.wp_publish.specs.Writing.{TakesWrite}
 use Rattle.wp_shared.specs.Calls.{ContinuesWith, Continues}
 use Rattle.wp_shared.specs.Seats.{SharedState, SeatState, Stands}
@@ -44,7 +44,7 @@ answer_of (Err write_error.LogFault) n = Err LogFault
 -- The seat put the entries behind this history, which is legal with them. It lost none of the facts that it noted without a turn
 -- but for those about the record's transaction.
 pub record HasRecorded {D : Type 0} (z : SharedState D) (old new : SeatState) (history entries : List Entry) : Type 0 where
-  pub put : HasPut (λ fact. (guarded_by fact ≡ None) × (is_about (transaction_in history entries) fact ≡ false)) z old new old.knows.participant old.knows.participant history entries
+  pub put : HasPut (λ fact. (guarded_by fact ≡ None) × (is_about (transaction_behind history entries) fact ≡ false)) z old new old.knows.participant old.knows.participant history entries
   pub legal : IsLegal (history ++ entries)
 
 -- What a call answers that puts the entries into the history, and then notes these facts, which may name the number published

@@ -9,7 +9,6 @@ use Rattle.wp_model.specs.declared.holder.Holder.{Holder}
 use Rattle.wp_model.specs.declared.holder.Holder.TheVariants.{Txn, Client}
 use Rattle.wp_model.specs.Holder.{is_same_txn}
 use Rattle.wp_locks.specs.Locks.{is_free_for}
-use Rattle.wp_core.specs.Views.{Account}
 use Rattle.wp_core.specs.Changes.{sees, with_name, with_key, with_label}
 use Rattle.wp_core.specs.Sound.Actors.{StartsWith}
 use Rattle.wp_shared.specs.Seats.{SeatState}
@@ -20,7 +19,7 @@ use Rattle.wp_txn.specs.Turns.{seat_of, TakesPrepare}
 
 -- the name is live, and the seat found that
 abbrev pub FindsName : LockTables → SeatState → List ℕ → LockTables → SeatState → Type 0
-FindsName old s name new t = (is_some (finite.get old.names name) ≡ true) × (new ≡ old) × ((account : Account) × (t ≡ seat_of s (with_found None (Txn name) account s.knows)))
+FindsName old s name new t = (is_some (finite.get old.names name) ≡ true) × (new ≡ old) × ((published : ℕ) × (t ≡ seat_of s (with_found old published None (Txn name) s.knows)))
 
 abbrev pub Claims : LockTables → SeatState → List ℕ → Result (Unit {0}) TxnError → LockTables → SeatState → Type 0
 Claims old s name (Ok done) new t = (new ≡ with_name old name (Some s.knows.participant.client)) × (t ≡ seat_of s (with_claimed old name s.knows)) × (finite.get old.names name ≡ None)
@@ -32,14 +31,14 @@ Claims old s name (Err other) new t = ⊥
 abbrev pub LocksFor : LockTables → SeatState → List ℕ → Holder → Result (Unit {0}) TxnError → LockTables → SeatState → Type 0
 LocksFor old s key holder (Ok done) new t = (is_free_for (finite.get old.keys key) holder ≡ true) × (new ≡ with_key old key holder) × (t ≡ s)
 LocksFor old s key holder (Err (Busy other)) new t =
-    (finite.get old.keys key ≡ Some other) × (is_same_txn other holder ≡ false) × (new ≡ old) × ((account : Account) × (t ≡ seat_of s (with_found (Some key) other account s.knows)))
+    (finite.get old.keys key ≡ Some other) × (is_same_txn other holder ≡ false) × (new ≡ old) × ((published : ℕ) × (t ≡ seat_of s (with_found old published (Some key) other s.knows)))
 LocksFor old s key holder (Err Memory) new t = (new ≡ old) × (t ≡ s)
 LocksFor old s key holder (Err other) new t = ⊥
 
 abbrev pub LocksKey : LockTables → SeatState → List ℕ → List ℕ → Result (Unit {0}) TxnError → LockTables → SeatState → Type 0
 LocksKey old s name key (Ok done) new t = (new ≡ with_key old key (Txn name)) × (t ≡ seat_of s (with_locked old name key s.knows))
 LocksKey old s name key (Err (Busy holder)) new t =
-    (finite.get old.keys key ≡ Some holder) × (is_same_txn holder (Txn name) ≡ false) × (new ≡ old) × ((account : Account) × (t ≡ seat_of s (with_found (Some key) holder account s.knows)))
+    (finite.get old.keys key ≡ Some holder) × (is_same_txn holder (Txn name) ≡ false) × (new ≡ old) × ((published : ℕ) × (t ≡ seat_of s (with_found old published (Some key) holder s.knows)))
 LocksKey old s name key (Err Memory) new t = (new ≡ old) × (t ≡ s)
 LocksKey old s name key (Err other) new t = ⊥
 

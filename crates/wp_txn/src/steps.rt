@@ -1,5 +1,5 @@
 //! The steps of the machine that these calls make: each as an equation of the seat, made where the published number is loaded.
-ghost use Rattle.std.specs.Prelude.{◌≡◌, ◌≤◌, true, false, List, length, Some, None, is_some};
+ghost use Rattle.std.specs.Prelude.{◌≡◌, ◌≤◌, ℕ, true, false, List, length, Some, None, is_some};
 ghost use Rattle.std.specs.FinSet as set;
 ghost use Rattle.std.specs.FinMap as finite;
 ghost use Rattle.wp_model.specs.Batch.{is_batch};
@@ -12,11 +12,7 @@ ghost use Rattle.wp_core.specs.Changes.{with_name, without_key, without_transact
 ghost use Rattle.wp_core.specs.Lists.{IsIn};
 ghost use Rattle.wp_core.specs.Sound.Actors.{StartsWith};
 ghost use Rattle.wp_core.specs.Tables.{writes, locks};
-ghost use Rattle.wp_core.specs.Views.{Account, unprepared, undecided_at};
-ghost use Rattle.wp_core.specs.World.{World};
-ghost use Rattle.wp_rule.specs.Moves.{MayMake, Moved};
-ghost use Rattle.wp_shared.specs.Clients.{KeepClient};
-ghost use Rattle.wp_shared.specs.Seats.{place_at};
+ghost use Rattle.wp_core.specs.Views.{unprepared, undecided_at};
 ghost use Rattle.wp_txn.specs.Actors.{transaction_in, noting, with_claimed, with_found, with_locked, with_direct, with_stopped, with_batch, with_told, with_heard};
 ghost use Rattle.wp_txn.specs.Turns.{seat_of, HoldsLocks, IsWithout, IsWithoutDirect, TakesPrepare};
 
@@ -25,19 +21,7 @@ use wp_guarded::Log;
 use wp_locks::Locks;
 use wp_model::{Batch, Holder, Key, Name, Seq};
 use wp_outside::Disk;
-use wp_rule::Moves;
 use wp_shared::{Seat, Shared};
-
-/// Makes steps about these, which a caller picks by `Brand`: it is told them for that alone.
-fn make_about<D: Disk + Drop, J: Moves, A>(store: &Shared<D>, seat: &mut Seat<D>, about: &A) -> Seq
-    requires seat { (seat.old.table ≡ store.now.table) × (J.place ≡ place_at store.now seat.old.by) }
-    requires may { MayMake J.place seat.old.knows J.steps }
-    requires client { (w : World) → KeepClient (J.steps w) }
-    ensures same { (seat.new.table ≡ seat.old.table) × (seat.new.by ≡ seat.old.by) × (seat.new.turns ≡ seat.old.turns) }
-    ensures moved { Moved J.place J.steps (λ w. result ≡ length w.writes.history) seat.old.knows seat.new.knows }
-{
-    store.make::<J>(seat)
-}
 
 /// The seat claimed the name, which was not live. It still holds the tables as they were before.
 pub(crate) fn claim_name<D: Disk + Drop>(store: &Shared<D>, seat: &mut Seat<D>, name: &Name)
@@ -45,7 +29,7 @@ pub(crate) fn claim_name<D: Disk + Drop>(store: &Shared<D>, seat: &mut Seat<D>, 
     requires free { (t : LockTables) × IsIn (locks t) seat.old.knows.held × (finite.get t.names name.now ≡ None) }
     ensures { (t : LockTables) → IsIn (locks t) seat.old.knows.held → seat.new ≡ seat_of seat.old (with_claimed t name.now seat.old.knows) }
 {
-    make_about::<D, Brand, Name>(store, seat, name);
+    store.make_about::<Brand, Name>(seat, name);
 }
 
 /// The seat found that the name is live.
@@ -57,9 +41,9 @@ pub(crate) fn find_name<D: Disk + Drop>(
 )
     requires seat { HoldsLocks store.now seat.old tables.now }
     requires live { is_some (finite.get tables.now.names name.now) ≡ true }
-    ensures { (account : Account) × (seat.new ≡ seat_of seat.old (with_found None (Txn name.now) account seat.old.knows)) }
+    ensures { (published : ℕ) × (seat.new ≡ seat_of seat.old (with_found tables.now published None (Txn name.now) seat.old.knows)) }
 {
-    make_about::<D, Brand, Name>(store, seat, name);
+    store.make_about::<Brand, Name>(seat, name);
 }
 
 /// The seat found the holder of the key.
@@ -72,9 +56,9 @@ pub(crate) fn find_holder<D: Disk + Drop>(
 )
     requires seat { HoldsLocks store.now seat.old tables.now }
     requires holds { finite.get tables.now.keys key.now ≡ Some holder.now }
-    ensures { (account : Account) × (seat.new ≡ seat_of seat.old (with_found (Some key.now) holder.now account seat.old.knows)) }
+    ensures { (published : ℕ) × (seat.new ≡ seat_of seat.old (with_found tables.now published (Some key.now) holder.now seat.old.knows)) }
 {
-    make_about::<D, Brand, (&Key, &Holder)>(store, seat, &(key, holder));
+    store.make_about::<Brand, (&Key, &Holder)>(seat, &(key, holder));
 }
 
 /// The seat locked the key, which nobody held, for its transaction of this name. It still holds the tables as they were before.
@@ -90,7 +74,7 @@ pub(crate) fn lock_key<D: Disk + Drop>(
     requires free { (t : LockTables) × IsIn (locks t) seat.old.knows.held × (is_free_for (finite.get t.keys key.now) (Txn name.now) ≡ true) }
     ensures { (t : LockTables) → IsIn (locks t) seat.old.knows.held → seat.new ≡ seat_of seat.old (with_locked t name.now key.now seat.old.knows) }
 {
-    make_about::<D, Brand, (&Name, &Key)>(store, seat, &(name, key));
+    store.make_about::<Brand, (&Name, &Key)>(seat, &(name, key));
 }
 
 /// The seat locked the key, which nobody held, for its direct write. It still holds the tables as they were before.
@@ -100,7 +84,7 @@ pub(crate) fn lock_direct<D: Disk + Drop>(store: &Shared<D>, seat: &mut Seat<D>,
     requires free { (t : LockTables) × IsIn (locks t) seat.old.knows.held × (is_free_for (finite.get t.keys key.now) (Client seat.old.knows.participant.client) ≡ true) }
     ensures { (t : LockTables) → IsIn (locks t) seat.old.knows.held → seat.new ≡ seat_of seat.old (with_direct t key.now seat.old.knows) }
 {
-    make_about::<D, Brand, Key>(store, seat, key);
+    store.make_about::<Brand, Key>(seat, key);
 }
 
 /// The seat freed the key of its direct write.
@@ -114,7 +98,7 @@ pub(crate) fn free_direct<D: Disk + Drop>(
     requires has { seat.old.knows.participant.direct ≡ Some key.now }
     ensures { IsWithoutDirect seat.old seat.new (without_key tables.now key.now) }
 {
-    make_about::<D, Brand, Key>(store, seat, key);
+    store.make_about::<Brand, Key>(seat, key);
 }
 
 /// The seat's transaction of this name has this batch.
@@ -129,7 +113,7 @@ pub(crate) fn set_batch<D: Disk + Drop>(
     requires batch { is_batch batch.now ≡ true }
     ensures { seat.new ≡ seat_of seat.old (with_batch name.now batch.now seat.old.knows) }
 {
-    make_about::<D, Brand, (&Name, &Batch)>(store, seat, &(name, batch));
+    store.make_about::<Brand, (&Name, &Batch)>(seat, &(name, batch));
 }
 
 /// The seat freed its transaction, which was never prepared, with its name and its keys.
@@ -144,7 +128,7 @@ pub(crate) fn free_transaction<D: Disk + Drop>(
     requires noted { IsIn (unprepared name.now) seat.old.knows.notes }
     ensures { IsWithout seat.old seat.new (without_transaction tables.now name.now) name.now }
 {
-    make_about::<D, Brand, Name>(store, seat, name);
+    store.make_about::<Brand, Name>(seat, name);
 }
 
 /// The seat left its transaction, which is an undecided prepare, to whoever takes it.
@@ -161,7 +145,7 @@ pub(crate) fn leave_name<D: Disk + Drop>(
     ensures seat { IsWithout seat.old seat.new (with_name tables.now name.now None) name.now }
     ensures live { is_some (finite.get tables.now.names name.now) ≡ true }
 {
-    make_about::<D, Brand, Name>(store, seat, name);
+    store.make_about::<Brand, Name>(seat, name);
 }
 
 /// The seat took the undecided prepare of this name, which nobody had. It still holds the tables as they were before.
@@ -170,7 +154,7 @@ pub(crate) fn take_name<D: Disk + Drop>(store: &Shared<D>, seat: &mut Seat<D>, n
     requires left { (t : LockTables) × IsIn (locks t) seat.old.knows.held × (finite.get t.names name.now ≡ Some None) }
     ensures { (t : LockTables) → IsIn (locks t) seat.old.knows.held → TakesPrepare seat.old t name.now seat.new }
 {
-    make_about::<D, Brand, Name>(store, seat, name);
+    store.make_about::<Brand, Name>(seat, name);
 }
 
 /// The seat told under the label how much it has seen. It still holds the tables as they were before.
@@ -179,7 +163,7 @@ pub(crate) fn tell_label<D: Disk + Drop>(store: &Shared<D>, seat: &mut Seat<D>, 
     requires held { (t : LockTables) × IsIn (locks t) seat.old.knows.held }
     ensures { (t : LockTables) → IsIn (locks t) seat.old.knows.held → seat.new ≡ seat_of seat.old (with_told t label.now seat.old.knows) }
 {
-    make_about::<D, Brand, Name>(store, seat, label);
+    store.make_about::<Brand, Name>(seat, label);
 }
 
 /// The seat heard this number under the label, and saw no less of the history. The answer is how much that is.
@@ -195,7 +179,7 @@ pub(crate) fn hear_label<D: Disk + Drop>(
     ensures { (history : List Entry) × StartsWith history seat.old.knows.participant.seen × (number ≤ length history) × (result ≡ length history)
         × (seat.new ≡ seat_of seat.old (with_heard history label.now number seat.old.knows)) }
 {
-    make_about::<D, Brand, (&Name, Seq)>(store, seat, &(label, number))
+    store.make_about::<Brand, (&Name, Seq)>(seat, &(label, number))
 }
 
 /// The seat found the log closed.
@@ -222,7 +206,7 @@ pub(crate) fn note_undecided<D: Disk + Drop>(
     requires prepare { named log.now.table.history name.now ≡ Some number }
     ensures { seat.new ≡ seat_of seat.old (noting (undecided_at name.now number) seat.old.knows) }
 {
-    make_about::<D, Brand, (&Name, Seq)>(store, seat, &(name, number));
+    store.make_about::<Brand, (&Name, Seq)>(seat, &(name, number));
 }
 
 /// The seat noted that no undecided prepare has the name of its transaction.
@@ -238,5 +222,5 @@ pub(crate) fn note_unprepared<D: Disk + Drop>(
     requires none { named log.now.table.history name.now ≡ None }
     ensures { seat.new ≡ seat_of seat.old (noting (unprepared name.now) seat.old.knows) }
 {
-    make_about::<D, Brand, Name>(store, seat, name);
+    store.make_about::<Brand, Name>(seat, name);
 }

@@ -2,26 +2,25 @@ use Rattle.std.proofs.Common.{◌≡◌, ℕ, length, Some, sym, subst, ◌∙�
 use Rattle.wp_core.specs.Cache.{cache_place, pair_at, with_pair}
 use Rattle.wp_core.specs.Views.{words_stay}
 use Rattle.wp_rule.specs.Knows.{Noted}
-use Rattle.wp_shared.specs.Seats.{SeatState}
 use Rattle.wp_commits.specs.Bound.{bound_after}
-use Rattle.wp_commits.specs.Cleared.{IsCleared, IsReadyAt}
+use Rattle.wp_commits.specs.Cleared.{IsReadyAt}
 use Rattle.wp_commits.specs.Notes.{is_of_words}
 use Rattle.wp_commits.proofs.Clears.{then_put, still_cleared}
 use Rattle.wp_commits.proofs.entering.enter_pair.Goals as goal
 
 pub clear_again-requires-clause-ready : goal.clear_again-requires-clause-ready
 clear_again-requires-clause-ready g c =
-    subst (λ (x : SeatState × ℕ). IsReadyAt x.0.knows (length c.args.log.now.table.history) x.1) (λ i. (sym c.place_of-place.ensures.same i, sym c.place_of-place.ensures.place i)) c.requires.ready.word
+    subst (IsReadyAt c.args.seat.now.knows (length c.args.log.now.table.history)) (sym c.place_of-place.ensures.place) c.requires.ready.word
 
 pub returns-clause-seat : goal.returns-clause-seat
 returns-clause-seat g c =
-    then_put c.args.seat.now c.place_of-place.new.seat c.clear_again.new.seat c.put_word.new.seat _ (cache_place c.args.store.now.cells c.args.p) c.place_of-place.result c.place_of-place.ensures.same c.place_of-place.ensures.place c.requires.held c.clear_again.ensures.seat c.put_word.ensures.seat
+    then_put c.args.seat.now c.clear_again.new.seat c.put_word.new.seat _ (cache_place c.args.store.now.cells c.args.p) c.place_of-place.result c.place_of-place.ensures.place c.requires.held c.clear_again.ensures.seat c.put_word.ensures.seat
 
 pub returns-clause-words : goal.returns-clause-words
 returns-clause-words g c bound words there =
     let cells = c.args.store.now.cells in let published = length c.args.log.now.table.history in
     subst (λ (i : ℕ). Noted c.put_word.new.seat.knows (words_stay (bound_after cells published bound (pair_at words i)) (with_pair words (record { number = c.args.p; decision = c.args.c })))) c.place_of-place.ensures.place
-    (c.put_word.ensures.words (bound_after cells published bound (pair_at words c.place_of-place.result)) words (c.clear_again.ensures.bound bound words (subst (λ (x : SeatState). Noted x.knows (words_stay bound words)) (sym c.place_of-place.ensures.same) there)))
+    (c.put_word.ensures.words (bound_after cells published bound (pair_at words c.place_of-place.result)) words (c.clear_again.ensures.bound bound words there))
 
 pub returns-clause-there : goal.returns-clause-there
 returns-clause-there g c bound words there =
@@ -31,6 +30,6 @@ pub returns-clause-elsewhere : goal.returns-clause-elsewhere
 returns-clause-elsewhere g c place ne cleared =
     let cells = c.args.store.now.cells in let published = length c.args.log.now.table.history in
     c.put_word.ensures.elsewhere place (λ e. ne (e ∙ c.place_of-place.ensures.place))
-    (still_cleared is_of_words c.place_of-place.new.seat c.clear_again.new.seat _ _ place (λ fact e. e) c.clear_again.ensures.seat
+    (still_cleared is_of_words c.args.seat.now c.clear_again.new.seat _ _ place (λ fact e. e) c.clear_again.ensures.seat
     (λ bound words there. (bound_after cells published bound (pair_at words c.place_of-place.result), c.clear_again.ensures.bound bound words there))
-    (subst (λ (x : SeatState). IsCleared x.knows place) (sym c.place_of-place.ensures.same) cleared))
+    cleared)

@@ -6,4 +6,4 @@ pub make_about-requires-clause-may : goal.make_about-requires-clause-may
 make_about-requires-clause-may g c = may_find _ _ c.args.tables.now (Some c.args.key.now) c.args.holder.now c.requires.seat.held c.requires.holds
 
 pub returns : goal.returns
-returns g c = holder_found _ _ _ _ (Some c.args.key.now) c.args.holder.now c.make_about.ensures.same c.make_about.ensures.moved
+returns g c = holder_found _ _ _ _ c.args.tables.now (Some c.args.key.now) c.args.holder.now c.requires.seat.held c.make_about.ensures.same c.make_about.ensures.moved

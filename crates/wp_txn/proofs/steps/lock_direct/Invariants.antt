@@ -5,4 +5,4 @@ use Rattle.wp_shared.specs.Seats.{place_at}
 use Rattle.wp_txn.proofs.steps.lock_direct.Given as goal
 
 abbrev pub ghosts-make_about : goal.ghosts-make_about
-ghosts-make_about g a = record { place = place_at a.store.now a.seat.now.by; steps = λ w. lock_direct a.about.now ∷ note (direct_free a.about.now) ∷ [] }
+ghosts-make_about g a = record { place = place_at a.self.now a.seat.now.by; steps = λ w. lock_direct a.about.now ∷ note (direct_free a.about.now) ∷ [] }

@@ -7,13 +7,13 @@ use Rattle.wp_publish.specs.Stages.{is_guarded, is_of_number, is_of_versions}
 use Rattle.wp_publish.proofs.Facts.{and_still, not_number, not_versions}
 use Rattle.wp_publish.proofs.Puts.{puts_before}
 use Rattle.wp_publish.proofs.Readied.{may_still}
-use Rattle.wp_publish.proofs.records.put_prepared.Goals as goal
+use Rattle.wp_publish.proofs.records.put_prepare.Goals as goal
 
 pub put_number-requires-clause-below : goal.put_number-requires-clause-below
 put_number-requires-clause-below g c = c.put_versions.ensures.seat.noted number_not_in_heap refl c.requires.below
 
-pub put_prepare-requires-clause-may : goal.put_prepare-requires-clause-may
-put_prepare-requires-clause-may g c =
+pub put_undecided-requires-clause-may : goal.put_undecided-requires-clause-may
+put_undecided-requires-clause-may g c =
     may_still c.args.seat.now.knows c.put_number.new.seat.knows c.args.log.now.table.history c.args.log.now.table.pending
     (ap (λ (x : SeatState). x.knows.participant) c.put_number.ensures.seat.same ∙ ap (λ (x : SeatState). x.knows.participant) c.put_versions.ensures.seat.same) c.requires.may
 
@@ -21,7 +21,7 @@ pub returns : goal.returns
 returns g c =
     let s = c.args.seat.now in let t = c.put_versions.new.seat in let u = c.put_number.new.seat in
     let goes = and_still is_guarded is_of_versions is_of_number not_versions not_number s t u s.knows.held s.turns c.put_versions.ensures.seat c.put_number.ensures.seat in
-    puts_before c.args.store.now s u c.put_prepare.new.seat c.args.log.now c.args.log.now c.put_prepare.new.log _ _ goes refl refl c.args.log.now.table.pending c.put_prepare.result c.put_prepare.ensures
+    puts_before c.args.store.now s u c.put_undecided.new.seat c.args.log.now c.args.log.now c.put_undecided.new.log _ _ goes refl refl c.args.log.now.table.pending c.put_undecided.result c.put_undecided.ensures
 
 pub returns-in_default : goal.returns-in_default
 returns-in_default g c =

@@ -2,7 +2,7 @@ use Rattle.std.proofs.Common.{[], ◌∷◌, refl}
 use Rattle.wp_model.specs.declared.entry.Entry.TheVariants.{Prepare}
 use Rattle.wp_publish.proofs.Following.{first_next}
 use Rattle.wp_publish.proofs.Puts.{put_alone}
-use Rattle.wp_publish.proofs.putting.put_prepare.Goals as goal
+use Rattle.wp_publish.proofs.putting.put_undecided.Goals as goal
 
 pub join-requires-clause-next : goal.join-requires-clause-next
 join-requires-clause-next g c = let p = c.requires.prepare in let entry = Prepare p.0 p.1 in
