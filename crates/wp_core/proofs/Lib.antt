@@ -83,3 +83,4 @@ pub mod SetsClient
 pub mod EachStep
 pub mod OneWrite
 pub mod Openings
+pub mod OneActor

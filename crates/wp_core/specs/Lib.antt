@@ -16,3 +16,4 @@ pub mod Needs
 pub mod Images
 pub mod IsSound
 pub mod Runs
+pub mod Alone

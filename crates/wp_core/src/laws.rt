@@ -9,6 +9,7 @@ ghost use Rattle.wp_model.specs.Batch.{is_batch};
 ghost use Rattle.wp_model.specs.Legal.{IsLegal, undone_last};
 ghost use Rattle.wp_judge.specs.declared.observed.Observed.{Observed};
 ghost use Rattle.wp_judge.specs.Order.{judgement};
+ghost use Rattle.wp_core.specs.Alone.{IsAlone, IsOnlyOf};
 ghost use Rattle.wp_core.specs.World.{World, Actor, history};
 ghost use Rattle.wp_core.specs.Steps.{Step};
 ghost use Rattle.wp_core.specs.Runs.{IsStep, IsOpening, ReachesFrom, Reaches};
@@ -79,4 +80,9 @@ pub fn writes_can_be_published()
 pub fn readers_can_judge()
     ensures { (w : World) × Reaches w × (a : Actor) × (r : Observed)
         × (get_elem? w.actors 0 ≡ some a) × (a.reading ≡ Some r) × (judgement r ≡ Some true) }
+{}
+
+/// An actor that is alone knows of the world by what it did itself.
+pub fn what_one_did_is_all()
+    ensures { (w : World) → Reaches w → (a : Actor) → IsAlone w a → IsOnlyOf w a.participant }
 {}
