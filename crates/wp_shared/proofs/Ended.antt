@@ -1,11 +1,11 @@
 -- What is left of a store once all its seats were handed in.
-use Rattle.std.proofs.Common.{◌≡◌, ℕ, ◌+◌, true, false, List, [], ◌∷◌, ◌++◌, length, map, Option, Some, None, unwrap_or, refl, sym, ap, subst, ◌∙◌, append-nil}
+use Rattle.std.proofs.Common.{◌≡◌, inl, ℕ, ◌+◌, Bool, true, false, List, [], ◌∷◌, ◌++◌, length, map, Option, Some, None, unwrap_or, refl, sym, ap, subst, ◌∙◌, append-nil}
 use Rattle.wp_model.specs.declared.entry.Entry.{Entry}
 use Rattle.wp_model.specs.Flushed.{IsEditCovered}
-use Rattle.wp_outside.specs.Disk.{images}
+use Rattle.wp_outside.specs.Disk.{Moment, images, IfKnown}
 use Rattle.wp_entry.specs.Record.{IsRecord}
 use Rattle.wp_wal.specs.Spelling.{IsLogOf}
-use Rattle.wp_wal.specs.Wal.{WalState}
+use Rattle.wp_wal.specs.Wal.{WalState, LeavesHistory, LeavesHistoryOrNext}
 use Rattle.wp_manifest.specs.Spelling.{IsManifestOf, last_edit}
 use Rattle.wp_merge.specs.Merge.{joined, sorted_of}
 use Rattle.wp_merge.proofs.Sorted.{merged_sorted}
@@ -42,7 +42,14 @@ abbrev installed_in : Option Content → Installed → Installed
 installed_in (Some (installed t)) d = t
 installed_in other d = d
 
-module _ {D : Type 0} (z : SharedState D) (first : SeatState) (others : List SeatState) (parts : Turn → Part D) (log : LogState) (edits : EditsState) (o : IsOneStore z.first) (none_joined : first.knows.joined ≡ []) (l : Leaves content (tells z.first) z.first (place_at z 0) (all_joined first.knows others) parts) (is_log : parts write_turn ≡ part.Write log) (is_edits : parts tables_turn ≡ part.Tables edits) (k : IsLog log) (e : IsEdits edits) where
+-- a log at rest, or one whose append has failed
+stored_as : {id : ℕ} {history failed : List Entry} (closed : Bool) {was : Bool} → was ≡ closed → (moments : List Moment) → (was ≡ true → IfKnown moments (LeavesHistoryOrNext id history failed)) → (was ≡ false → IfKnown moments (LeavesHistory id history))
+    → IfKnown moments (LeavesHistoryOrNext id history failed)
+stored_as true is moments left rests = left is
+stored_as false is [] left rests = tt
+stored_as false is (m ∷ past) left rests = λ image at. let k = rests is image at in (inl k.0, k.1)
+
+module _ {D : Type 0} (z : SharedState D) (first : SeatState) (others : List SeatState) (parts : Turn → Part D) (log : LogState) (edits : EditsState) (o : IsOneStore z.first) (none_joined : first.knows.joined ≡ []) (l : Leaves content (tells z.first) z.first (place_at z 0) (all_joined first.knows others) parts) (is_log : parts write_turn ≡ part.Write log) (is_edits : parts tables_turn ≡ part.Tables edits) (k : IsLog log) (e : IsEdits edits) (stored : log.wal.closed ≡ false → IfKnown log.wal.moments (LeavesHistory log.wal.id log.table.log)) where
   -- the world with the first seat alone
   abbrev w : World
   w = record l.world { actors = all_joined first.knows others ∷ [] }
@@ -89,6 +96,10 @@ module _ {D : Type 0} (z : SharedState D) (first : SeatState) (others : List Sea
   none_asked = subst (λ (t : Installed). t.halted ≡ false → t.failed ≡ None) same_installed (λ running. e.none_failed (e.running running))
 
   -- ---- what a crash leaves
+
+  stored_left : IfKnown log.wal.moments (LeavesHistoryOrNext o.wal.id w.writes.history w.writes.failed)
+  stored_left = subst (λ (x : ℕ × List Entry × List Entry). IfKnown log.wal.moments (LeavesHistoryOrNext x.0 x.1 x.2)) (λ i. (log_id i, (ap (λ (t : WriteTable). t.log) same_writes ∙ log_is) i, ap (λ (t : WriteTable). t.failed) same_writes i))
+      (stored_as log.wal.closed refl log.wal.moments (k.stores.left) stored)
 
   opens_left : (log_image manifest_image tables_image : List ℕ) → images log.wal.moments log_image → images edits.set.manifest.log.moments manifest_image → images edits.set.moments tables_image
       → OpensAsLeft o.wal.id w.writes w.installed log_image manifest_image tables_image
@@ -150,6 +161,7 @@ module _ {D : Type 0} (z : SharedState D) (first : SeatState) (others : List Sea
     whole = whole_failed;
     none_asked = none_asked;
     opened = o;
+    stored = stored_left;
     opens = opens_left;
     since = since_opened;
   }
@@ -168,6 +180,6 @@ edits_left z [] parts all l = absurd all
 edits_left z (first ∷ others) parts all l = (l.world.installed, (l.are_parts tables_turn).0)
 
 pub ended : {D : Type 0} (z : SharedState D) (seats : List SeatState) (parts : Turn → Part D) (log : LogState) (edits : EditsState) (history : List Entry) (left : DevicesLeft) → IsOneStore z.first → AreAll seats → Remains z seats parts
-    → parts write_turn ≡ part.Write log → parts tables_turn ≡ part.Tables edits → IsLog log → IsEdits edits → history ≡ log.table.history → left ≡ devices_behind log.wal edits.set → IsEnded z seats history left
-ended z [] parts log edits history left o all l is_log is_edits k e same devices = absurd all
-ended z (first ∷ others) parts log edits history left o all l is_log is_edits k e same devices = ended_as z first others parts log edits o all.1 l is_log is_edits k e history left same devices
+    → parts write_turn ≡ part.Write log → parts tables_turn ≡ part.Tables edits → IsLog log → IsEdits edits → (log.wal.closed ≡ false → IfKnown log.wal.moments (LeavesHistory log.wal.id log.table.log)) → history ≡ log.table.history → left ≡ devices_behind log.wal edits.set → IsEnded z seats history left
+ended z [] parts log edits history left o all l is_log is_edits k e stored same devices = absurd all
+ended z (first ∷ others) parts log edits history left o all l is_log is_edits k e stored same devices = ended_as z first others parts log edits o all.1 l is_log is_edits k e stored history left same devices

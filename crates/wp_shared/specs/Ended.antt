@@ -4,11 +4,11 @@ use Rattle.wp_model.specs.declared.entry.Entry.{Entry}
 use Rattle.wp_model.specs.Flushed.{InstalledEdit}
 use Rattle.wp_model.specs.Legal.{IsLegal}
 use Rattle.wp_model.specs.LockTables.{LockTables}
-use Rattle.wp_outside.specs.Disk.{images}
+use Rattle.wp_outside.specs.Disk.{images, IfKnown}
 use Rattle.wp_outside.specs.Faults.{Rose}
 use Rattle.wp_entry.specs.Record.{IsRecord}
 use Rattle.wp_gatelog.specs.Durability.{LosesNoRecord}
-use Rattle.wp_wal.specs.Wal.{WalState, LosesNothing}
+use Rattle.wp_wal.specs.Wal.{WalState, LosesNothing, LeavesHistoryOrNext}
 use Rattle.wp_manifest.specs.Spelling.{MAGIC}
 use Rattle.wp_tableset.specs.Device.{KeepsFronts}
 use Rattle.wp_tableset.specs.Set.{TableSetState}
@@ -73,7 +73,9 @@ pub record IsEnded {D : Type 0} (z : SharedState D) (seats : List SeatState) (hi
   pub none_failed : writes.closed ≡ false → writes.failed ≡ []
   pub whole : writes.closed ≡ true → IsRecord (length history + 1) writes.failed
   pub none_asked : edits.halted ≡ false → edits.failed ≡ None
-  -- so whatever a crash leaves of the devices opens, under the store's id
+  -- so a crash leaves the log with the history acknowledged, and perhaps with the failed record behind it, under the store's id;
+  -- and what it leaves of the three devices opens
   pub opened : IsOneStore z.first
+  pub stored : IfKnown left.log (LeavesHistoryOrNext opened.wal.id history writes.failed)
   pub opens : (log manifest tables : List ℕ) → images left.log log → images left.manifest manifest → images left.tables tables → OpensAsLeft opened.wal.id writes edits log manifest tables
   pub since : IsSince opened.wal opened.set writes edits left

@@ -1,8 +1,10 @@
 //! The end of a store.
-ghost use Rattle.std.specs.Prelude.{◌≡◌};
+ghost use Rattle.std.specs.Prelude.{◌≡◌, false};
 ghost use Rattle.wp_core.specs.Changes.{joins};
 ghost use Rattle.wp_rule.specs.Ends.{part_of};
 ghost use Rattle.wp_shared.specs.Seats.{IsFree};
+ghost use Rattle.wp_outside.specs.Disk.{IfKnown};
+ghost use Rattle.wp_wal.specs.Wal.{LeavesHistory};
 ghost use Rattle.wp_guarded.specs.Log.{IsLog};
 ghost use Rattle.wp_guarded.specs.Edits.{IsEdits};
 ghost use Rattle.wp_shared.specs.Devices.{devices_of, devices_behind};
@@ -29,6 +31,7 @@ pub(crate) fn take_apart<D: Disk + Drop>(log: Log<D>, edits: Edits<D>) -> Finish
     ensures history { result.history.entries ≡ log.table.history }
     ensures disks { devices_of D.moments D.faults result.disks ≡ devices_behind log.wal edits.set }
     ensures log { IsLog log }
+    ensures stored { log.wal.closed ≡ false → IfKnown log.wal.moments (LeavesHistory log.wal.id log.table.log) }
     ensures edits { IsEdits edits }
 {
     let (wal, history) = log.into_parts();

@@ -11,4 +11,4 @@ into_edits-requires g c = edits_left c.args.self c.args.seats.items (part_of c.c
 pub returns : goal.returns
 returns g c =
     ended c.args.self c.args.seats.items (part_of c.close-write.result) c.into_log.result c.into_edits.result _ _ c.is_one.ensures c.requires.all c.close-write.ensures c.into_log.ensures c.into_edits.ensures
-    c.take_apart.ensures.log c.take_apart.ensures.edits c.take_apart.ensures.history c.take_apart.ensures.disks
+    c.take_apart.ensures.log c.take_apart.ensures.edits c.take_apart.ensures.stored c.take_apart.ensures.history c.take_apart.ensures.disks
