@@ -11,6 +11,7 @@ use Rattle.wp_core.specs.Views.{Fact, undecided_at, prior_values, unprepared, di
 use Rattle.wp_core.specs.World.{Transaction, Actor, Participant, World}
 use Rattle.wp_core.specs.Steps.{Step}
 use Rattle.wp_core.specs.Notes.{ends, ends_transaction}
+use Rattle.wp_core.specs.Entries.{batch_of_name}
 use Rattle.wp_core.specs.Sound.Locks.{Owner, owner_of, IsNameOf, IsDirectOf, IsOwner, AreLocked}
 use Rattle.wp_core.specs.Sound.Views.{Owns}
 use Rattle.wp_core.specs.IsSound.{IsSound, participants}
@@ -27,6 +28,7 @@ pub record Drops (w : World) (name : List ℕ) (t : LockTables) (step : Step) : 
   pub others : KeepsOthers w name t
   pub nobody : (c : List ℕ) → finite.get t.names name ≡ Some (Some c) → ⊥
   pub left : finite.get t.names name ≡ Some None → is_some (named w.writes.history name) ≡ true
+  pub left_keys : (k : List ℕ) → finite.get t.names name ≡ Some None → finite.get t.keys k ≡ Some (Txn name) → is_changed (batch_of_name w.writes.history name) k ≡ true
   pub transactions_were : (k n : List ℕ) → finite.get t.keys k ≡ Some (Txn n) → finite.get w.locks.keys k ≡ Some (Txn n)
   pub directs_were : (k c : List ℕ) → finite.get t.keys k ≡ Some (Client c) → finite.get w.locks.keys k ≡ Some (Client c)
   pub prepared_names : (q : ℕ) → is_undecided w.writes.history q ≡ true → is_some (finite.get t.names (name_at w.writes.history q)) ≡ true
@@ -77,6 +79,11 @@ module _ (w : World) (by : ℕ) (a : Actor) (name : List ℕ) (x0 : Transaction)
       (λ (q : n ≡ name). ap (λ (z : List ℕ). is_some (named w.writes.history z)) q ∙ d.left (ap (finite.get t.names) (sym q) ∙ h))
       (λ (ne : n ≡ name → ⊥). s.locks.names_left n (sym (d.others.names n ne) ∙ h)) (is_word_same n name)
 
+  keys_left : (k n : List ℕ) → finite.get t.names n ≡ Some None → finite.get t.keys k ≡ Some (Txn n) → is_changed (batch_of_name w.writes.history n) k ≡ true
+  keys_left k n h held = ⊎_elim
+      (λ (q : n ≡ name). ap (λ (z : List ℕ). is_changed (batch_of_name w.writes.history z) k) q ∙ d.left_keys k (ap (finite.get t.names) (sym q) ∙ h) (held ∙ ap (λ (z : List ℕ). Some (Txn z)) q))
+      (λ (ne : n ≡ name → ⊥). s.locks.keys_left k n (sym (d.others.names n ne) ∙ h) (d.transactions_were k n held)) (is_word_same n name)
+
   locked_part : AreLocked w.writes.history t after
   locked_part = record {
     prepared_names = d.prepared_names;
@@ -85,6 +92,7 @@ module _ (w : World) (by : ℕ) (a : Actor) (name : List ℕ) (x0 : Transaction)
     apart = owners_apart w.actors by a b at refl (λ n x h. inl (x, (had_name n x h).1)) (λ c h. inl h) s.locks.apart;
     names_had = names_had;
     names_left = names_left;
+    keys_left = keys_left;
     keys_live = d.live;
     keys_known = λ k n h. key_known w.actors by a b at refl (λ m x has_it. (had_name m x has_it).1) k n (s.locks.keys_known k n (d.transactions_were k n h));
     keys_direct = λ k c h. direct_still k c (s.locks.keys_direct k c (d.directs_were k c h));

@@ -3,7 +3,7 @@ use Rattle.std.proofs.Common.{◌≡◌, ℕ, length, sym, subst}
 use mathlib.Core.Option.{some}
 use lib.ListN.{get_elem?}
 use Rattle.wp_core.specs.World.{Actor, World}
-use Rattle.wp_core.specs.Steps.{Step, load_published, register, begin_reading, load, end_reading, store_published, store_max_evicted, store_word, store_delayed_flag, store_old_flag, take_turn, give_turn, make_pending, log_pending, close_log, find_log_closed, drop_pending, add_prepared, take_pending_prepared, add_delayed_commit, take_out, register_again, release, add_old_commit, add_versions, take_versions, move_versions, replace_versions, install, halt, find_flushed, claim_name, take_name, leave_name, free_transaction, lock_key, free_key, lock_direct, free_direct, find_holder, tell, hear, set_batch, note, make_note, make_seat, set_client, learn, join_seat}
+use Rattle.wp_core.specs.Steps.{Step, load_published, register, begin_reading, load, end_reading, store_published, store_max_evicted, store_word, store_delayed_flag, store_old_flag, take_turn, give_turn, make_pending, log_pending, close_log, find_log_closed, drop_pending, add_prepared, take_pending_prepared, add_delayed_commit, take_out, register_again, release, add_old_commit, add_versions, take_versions, move_versions, replace_versions, install, halt, find_edit, claim_name, take_name, leave_name, free_transaction, lock_key, free_key, lock_direct, free_direct, find_holder, tell, hear, set_batch, note, make_note, make_seat, set_client, learn, join_seat}
 use Rattle.wp_core.specs.Effects.{done}
 use Rattle.wp_core.specs.Needs.{Needs}
 use Rattle.wp_core.specs.Notes.{forgets}
@@ -21,7 +21,7 @@ use Rattle.wp_core.proofs.TakesTurn.{takes_turn}
 use Rattle.wp_core.proofs.KeepsGive.{gives}
 use Rattle.wp_core.proofs.PendingSteps.{makes_pending, logs_pending}
 use Rattle.wp_core.proofs.ClosesLog.{closes_log}
-use Rattle.wp_core.proofs.KeepsRemembered.{finds_log_closed, finds_flushed, hears, finds_holder}
+use Rattle.wp_core.proofs.KeepsRemembered.{finds_log_closed, finds_edit, hears, finds_holder}
 use Rattle.wp_core.proofs.DropsPending.{drops_pending}
 use Rattle.wp_core.proofs.PendingPrepared.{adds_prepared, takes_pending_prepared}
 use Rattle.wp_core.proofs.PreparedSteps.{takes_out, adds_delayed_commit}
@@ -77,7 +77,7 @@ kept w by a (move_versions memory tables) at needs s = moves_versions w by a mem
 kept w by a (replace_versions tables floor) at needs s = replaces_versions w by a tables floor at needs s
 kept w by a (install edit compacts) at needs s = installs w by a edit compacts at needs s
 kept w by a (halt edit) at needs s = halts w by a edit at needs s
-kept w by a find_flushed at needs s = finds_flushed w by a at needs s
+kept w by a find_edit at needs s = finds_edit w by a at needs s
 kept w by a (claim_name name) at needs s = claims_name w by a name at needs s
 kept w by a (take_name name p) at needs s = takes_name w by a name p at needs s
 kept w by a (leave_name name) at needs s = leaves_name w by a name at needs s

@@ -4,10 +4,11 @@ use mathlib.Core.Option.{some}
 use lib.ListN.{get_elem?}
 use Rattle.std.specs.FinSet as words
 use Rattle.std.specs.FinMap as finite
-use Rattle.wp_model.specs.History.{named}
+use Rattle.wp_model.specs.History.{named, is_changed}
 use Rattle.wp_model.specs.declared.holder.Holder.TheVariants.{Txn}
 use Rattle.wp_model.specs.LockTables.{LockTables}
 use Rattle.wp_core.specs.Lists.{IsIn}
+use Rattle.wp_core.specs.Entries.{batch_of_name}
 use Rattle.wp_core.specs.Views.{Event, claimed, took, Fact, undecided_at, prior_values, unprepared}
 use Rattle.wp_core.specs.World.{Transaction, Actor, Participant, World}
 use Rattle.wp_core.specs.Steps.{Step}
@@ -108,6 +109,11 @@ module _ (w : World) (by : ℕ) (a : Actor) (name : List ℕ) (x1 : Transaction)
       (λ (e : n ≡ name). let q : Some (Some a.participant.client) ≡ Some None = sym (at_inserted w.locks.names name (Some a.participant.client) n e) ∙ h in absurd cc)
       (λ (ne : n ≡ name → ⊥). s.locks.names_left n (sym (else_inserted w.locks.names name (Some a.participant.client) n ne) ∙ h)) (is_word_same n name)
 
+  keys_left : (key n : List ℕ) → finite.get t.names n ≡ Some None → finite.get w.locks.keys key ≡ Some (Txn n) → is_changed (batch_of_name w.writes.history n) key ≡ true
+  keys_left key n h held = ⊎_elim
+      (λ (e : n ≡ name). let q : Some (Some a.participant.client) ≡ Some None = sym (at_inserted w.locks.names name (Some a.participant.client) n e) ∙ h in absurd cc)
+      (λ (ne : n ≡ name → ⊥). s.locks.keys_left key n (sym (else_inserted w.locks.names name (Some a.participant.client) n ne) ∙ h) held) (is_word_same n name)
+
   keys_known : (key n : List ℕ) → finite.get w.locks.keys key ≡ Some (Txn n) → (j i : ℕ) (o : Owner) → IsParticipantAt after j i o → (x : Transaction) → Has o n x → words.contains x.locked key ≡ true
   keys_known key n h j i o there x has = ⊎_elim
       (λ (g : (j ≡ by) × (i ≡ 0) × (o ≡ owner_of p)). ⊎_elim
@@ -124,6 +130,7 @@ module _ (w : World) (by : ℕ) (a : Actor) (name : List ℕ) (x1 : Transaction)
     apart = owners_apart w.actors by a b at refl had_or_new (λ c h. inl h) s.locks.apart;
     names_had = names_had;
     names_left = names_left;
+    keys_left = keys_left;
     keys_live = λ key n h. some_inserted w.locks.names name (Some a.participant.client) n (s.locks.keys_live key n h);
     keys_known = keys_known;
     keys_direct = λ key client h. direct_still key client (s.locks.keys_direct key client h);
@@ -152,8 +159,8 @@ module _ (w : World) (by : ℕ) (a : Actor) (name : List ℕ) (x1 : Transaction)
 
   quiet : IsQuiet start
   quiet = ⊎_elim
-      (λ (c : start ≡ claimed name). subst IsQuiet (sym c) (record { log = refl; tables = refl; due = λ n. refl }))
-      (λ (c : start ≡ took name). subst IsQuiet (sym c) (record { log = refl; tables = refl; due = λ n. refl })) d.begins
+      (λ (c : start ≡ claimed name). subst IsQuiet (sym c) (record { log = refl; tables = refl; due = λ n. refl; last = λ n. refl }))
+      (λ (c : start ≡ took name). subst IsQuiet (sym c) (record { log = refl; tables = refl; due = λ n. refl; last = λ n. refl })) d.begins
 
   finds_nothing : FindsNothing start
   finds_nothing = ⊎_elim (λ (c : start ≡ claimed name). subst FindsNothing (sym c) tt) (λ (c : start ≡ took name). subst FindsNothing (sym c) tt) d.begins

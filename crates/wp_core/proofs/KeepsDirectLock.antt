@@ -84,6 +84,7 @@ module _ (w : World) (by : ℕ) (a : Actor) (key : List ℕ) (at : get_elem? w.a
     apart = owners_apart w.actors by a b at refl (λ n x h. inl (x, h)) (λ c h. inr (is_new c h)) s.locks.apart;
     names_had = λ n c h. name_still n c (s.locks.names_had n c h);
     names_left = s.locks.names_left;
+    keys_left = λ k n left h. s.locks.keys_left k n left (txn_held k n h);
     keys_live = λ k n h. s.locks.keys_live k n (txn_held k n h);
     keys_known = λ k n h. key_known w.actors by a b at refl (λ m x has. has) k n (s.locks.keys_known k n (txn_held k n h));
     keys_direct = direct_held;

@@ -123,6 +123,7 @@ module _ (w : World) (by : ℕ) (a : Actor) (name : List ℕ) (x0 : Transaction)
     apart = owners_apart w.actors by a b at refl (λ n x h. inl (had_name w by a name x0 x1 at has n x h)) (λ c h. inl h) s.locks.apart;
     names_had = λ n c h. name_still n c (s.locks.names_had n c h);
     names_left = s.locks.names_left;
+    keys_left = λ k n left h. s.locks.keys_left k n left (held_before k (Txn n) h).1;
     keys_live = λ k n h. s.locks.keys_live k n (held_before k (Txn n) h).1;
     keys_known = keys_known;
     keys_direct = λ k c h. direct_still k c (s.locks.keys_direct k c (held_before k (Client c) h).1);

@@ -8,10 +8,11 @@ use Rattle.std.specs.FinMap as finite
 use Rattle.std.specs.Ordering.{eq_by_cmp}
 use Rattle.std.proofs.lemmas.Cmp.{nat_list_cmp_total}
 use Rattle.wp_model.specs.Batch.{key_cmp}
-use Rattle.wp_model.specs.History.{holder_of, name_at}
+use Rattle.wp_model.specs.History.{holder_of, name_at, is_changed}
 use Rattle.wp_model.specs.declared.holder.Holder.TheVariants.{Txn, Client}
 use Rattle.wp_model.specs.LockTables.{LockTables}
 use Rattle.wp_model.proofs.Found.{found_holder}
+use Rattle.wp_core.specs.Entries.{batch_of_name}
 use Rattle.wp_core.specs.Views.{Event, locked, Fact, undecided_at, prior_values, unprepared, direct_free}
 use Rattle.wp_core.specs.World.{Transaction, Actor, Participant, World}
 use Rattle.wp_core.specs.Steps.{lock_key}
@@ -110,6 +111,15 @@ module _ (w : World) (by : ℕ) (a : Actor) (name : List ℕ) (x0 : Transaction)
       both (inl g) (inr v) = let same : name ≡ n = let f = g.1 in cc in absurd (nobody_else w by a name x0 at has s j i o n x v.0 v.1 there_has (sym same))
       both (inr g) (inr v) = s.locks.keys_known k n g.1 j i o v.1 x there_has
 
+  -- the name of the key is the actor's
+  keys_left : (k n : List ℕ) → finite.get w.locks.names n ≡ Some None → finite.get t.keys k ≡ Some (Txn n) → is_changed (batch_of_name w.writes.history n) k ≡ true
+  keys_left k n left h = ⊎_elim
+      (λ (g : (k ≡ key) × (Txn name ≡ Txn n)).
+      let same : name ≡ n = let f = g.1 in cc in
+      let had = (s.locks.had by 0 (owner_of a.participant) (mine owner_of w.actors by a a at refl)).names name x0 has in
+      let f : Some (Some a.participant.client) ≡ Some None = sym had ∙ (ap (finite.get w.locks.names) same ∙ left) in absurd cc)
+      (λ (g : (k ≡ key → ⊥) × (finite.get w.locks.keys k ≡ Some (Txn n))). s.locks.keys_left k n left g.1) (held_now w key (Txn name) free k (Txn n) h)
+
   keys_direct : (k c : List ℕ) → finite.get t.keys k ≡ Some (Client c) → IsDirectOf after k c
   keys_direct k c h = ⊎_elim
       (λ (g : (k ≡ key) × (Txn name ≡ Client c)). let f = g.1 in absurd cc)
@@ -123,6 +133,7 @@ module _ (w : World) (by : ℕ) (a : Actor) (name : List ℕ) (x0 : Transaction)
     apart = owners_apart w.actors by a b at refl (λ n x h. inl (had_name w by a name x0 x1 at has n x h)) (λ c h. inl h) s.locks.apart;
     names_had = λ n c h. name_still n c (s.locks.names_had n c h);
     names_left = s.locks.names_left;
+    keys_left = keys_left;
     keys_live = keys_live;
     keys_known = keys_known;
     keys_direct = keys_direct;

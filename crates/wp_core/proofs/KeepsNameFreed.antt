@@ -78,6 +78,7 @@ module _ (w : World) (by : ℕ) (a : Actor) (name : List ℕ) (x0 : Transaction)
     others = record { names = λ n ne. else_removed w.locks.names name n ne; transactions = transactions; directs = directs };
     nobody = λ c h. let f : None ≡ Some (Some c) = sym (at_removed w.locks.names name name refl) ∙ h in absurd cc;
     left = λ h. let f : None ≡ Some None = sym (at_removed w.locks.names name name refl) ∙ h in absurd cc;
+    left_keys = λ k h held. absurd (for_another k name held refl);
     transactions_were = λ k n h. were k (Txn n) h;
     directs_were = λ k c h. were k (Client c) h;
     prepared_names = λ q u. ap is_some (else_removed w.locks.names name (name_at w.writes.history q) (λ same. none_named w.writes.history name q unprepared u same)) ∙ s.locks.prepared_names q u;

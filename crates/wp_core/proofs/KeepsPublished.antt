@@ -29,11 +29,12 @@ use Rattle.wp_core.proofs.Participants.{each_person_set}
 use Rattle.wp_core.proofs.PendingSteps.{SoPending}
 use Rattle.wp_core.proofs.PublishesDecisions.{cache_part, decided_part, undecided_part, delayed_part}
 use Rattle.wp_core.proofs.PublishesHistory.{history_part, seen_grows, owned_part}
-use Rattle.wp_core.proofs.PublishesLocks.{some_there, locks_part, holders_part, board_part, faults_part}
+use Rattle.wp_core.proofs.PublishesLocks.{locks_part, holders_part, board_part, faults_part}
 use Rattle.wp_core.proofs.PublishesNotes.{prepares_held, transaction_live, mine_grows, others_grow}
 use Rattle.wp_core.proofs.PublishesReaders.{registered_part, readers_part, judged_part}
 use Rattle.wp_core.proofs.PublishesVersions.{stored_part}
 use Rattle.wp_core.proofs.Quiet.{idle_after}
+use Rattle.wp_core.proofs.Tests.{some_there}
 use Rattle.wp_core.proofs.SnapshotsStep.{among_live}
 use Rattle.wp_core.proofs.AllParts.{all_parts, kept_part, pasts_kept, readers_kept, turns_changed, notes_stay, led_still}
 use Rattle.wp_core.proofs.Gives.{not_free}

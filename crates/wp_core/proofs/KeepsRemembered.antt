@@ -1,19 +1,19 @@
 -- An actor that only remembers what it found keeps every part of a sound world.
-use Rattle.std.proofs.Common.{◌≡◌, ⊎_elim, inl, inr, ℕ, ◌≤◌, true, false, List, [], ◌∷◌, ◌++◌, length, length-append, zero, suc, map, set, refl, sym, subst, ap, ◌∙◌, arith, Option, Some, None, is_some, take}
+use Rattle.std.proofs.Common.{◌≡◌, ⊎_elim, inl, inr, ℕ, ◌≤◌, ◌<◌, true, false, List, [], ◌∷◌, ◌++◌, length, length-append, zero, suc, map, set, refl, sym, subst, ap, ◌∙◌, arith, Option, Some, None, is_some, unwrap_or, take}
 use Rattle.std.proofs.Math.Seq.{take-length}
 use mathlib.Core.Option.{some, some-injective, some-ne-none}
 use lib.ListN.{get_elem?}
 use Rattle.std.specs.FinMap as finite
 use Rattle.wp_model.specs.declared.entry.Entry.{Entry}
-use Rattle.wp_model.specs.History.{named}
+use Rattle.wp_model.specs.History.{named, batch_at, is_changed}
 use Rattle.wp_model.specs.declared.holder.Holder.{Holder}
 use Rattle.wp_model.specs.declared.holder.Holder.TheVariants.{Txn, Client}
 use Rattle.wp_core.specs.Lists.{IsIn}
 use Rattle.wp_core.specs.Turns.{write_turn, locks_turn, tables_turn}
-use Rattle.wp_core.specs.Views.{Account, own, another, prepare_at, Event, claimed, took, locked, told, heard, stopped, found_flushed, found, Fact}
+use Rattle.wp_core.specs.Views.{Account, own, another, prepare_at, Event, claimed, took, locked, told, heard, stopped, found_edit, found, Fact}
 use Rattle.wp_core.specs.World.{Actor, Participant, World, content_of}
 use Rattle.wp_core.specs.World as world
-use Rattle.wp_core.specs.Steps.{Step, find_log_closed, find_flushed, find_holder, hear}
+use Rattle.wp_core.specs.Steps.{Step, find_log_closed, find_edit, find_holder, hear}
 use Rattle.wp_core.specs.Changes.{with_actor, remembers}
 use Rattle.wp_core.specs.Effects.{done}
 use Rattle.wp_core.specs.Needs.{Needs}
@@ -21,13 +21,14 @@ use Rattle.wp_core.specs.Conditions.{Accounts, IsHolder, IsSelf}
 use Rattle.wp_core.specs.Notes.{forgets}
 use Rattle.wp_core.specs.Sound.Actors.{seen_of, participants_of, IsParticipantAt}
 use Rattle.wp_core.specs.Sound.Locks.{Owner, owner_of, Began}
-use Rattle.wp_core.specs.Sound.Pasts.{past_of, IsPast, Makes, HasDone, IsAccounted, WasLocked, WasInstalled}
+use Rattle.wp_core.specs.Sound.Pasts.{past_of, IsPast, Makes, HasDone, HasKeyAt, IsAccounted, WasLocked, WasInstalled, tables_due, OtherCompacts}
 use Rattle.wp_core.specs.Sound.Views.{noter_of}
 use Rattle.wp_core.specs.IsSound.{IsSound, participants}
 use Rattle.wp_core.proofs.Frames.{at_map}
 use Rattle.wp_core.proofs.AllParticipants.{mine}
 use Rattle.wp_core.proofs.OwnersStay.{past_locked}
 use Rattle.wp_core.proofs.Quiet.{holder_lives}
+use Rattle.wp_core.proofs.Tests.{some_there}
 use Rattle.wp_core.proofs.Remembers.{IsQuiet, holders_more, board_more, faults_more, edits_more}
 use Rattle.wp_core.proofs.AllParts.{SoIn, all_parts, tables_of, views_still, readers_still, turns_still, notes_stay, idle_set, led_still}
 
@@ -44,14 +45,14 @@ abbrev pub MayRemember : World → ℕ → Event → Type 0
 MayRemember w by (found key holder seen account) = IsAccounted w.writes.history (participants past_of w) by 0 key holder seen account × ((k : List ℕ) → key ≡ Some k → WasLocked w.opened (participants past_of w) k holder)
 MayRemember w by (heard label n) = (is_some (finite.get w.locks.labels label) ≡ true) × IsPast (participants past_of w) (told label n)
 MayRemember w by (stopped n) = (w.writes.closed ≡ true) × (n ≡ length w.writes.history)
-MayRemember w by (found_flushed n) = WasInstalled w.first_edit (participants past_of w) n
+MayRemember w by (found_edit n tables due halted) = WasInstalled w.first_edit (participants past_of w) n × (tables < due → OtherCompacts (participants past_of w) by 0) × (halted ≡ true → w.installed.halted ≡ true)
 MayRemember w by e = ⊥
 
 remembered_quietly : (w : World) (by : ℕ) (e : Event) → MayRemember w by e → IsQuiet e
-remembered_quietly w by (found key holder seen account) may = record { log = refl; tables = refl; due = λ m. refl }
-remembered_quietly w by (heard label n) may = record { log = refl; tables = refl; due = λ m. refl }
-remembered_quietly w by (stopped n) may = record { log = refl; tables = refl; due = λ m. refl }
-remembered_quietly w by (found_flushed n) may = record { log = refl; tables = refl; due = λ m. refl }
+remembered_quietly w by (found key holder seen account) may = record { log = refl; tables = refl; due = λ m. refl; last = λ m. refl }
+remembered_quietly w by (heard label n) may = record { log = refl; tables = refl; due = λ m. refl; last = λ m. refl }
+remembered_quietly w by (stopped n) may = record { log = refl; tables = refl; due = λ m. refl; last = λ m. refl }
+remembered_quietly w by (found_edit n tables due halted) may = record { log = refl; tables = refl; due = λ m. refl; last = λ m. refl }
 remembered_quietly w by e may = absurd may
 
 pub remembering : (w : World) (by : ℕ) (a : Actor) (e : Event) (step : Step) → get_elem? w.actors by ≡ some a → (a.live ≡ false → ⊥) → MayRemember w by e → IsSound w
@@ -64,8 +65,8 @@ remembering w by a e step at live may s =
       holders = holders_more w.actors by a b e at refl refl w.opened w.writes.history w.locks (λ key holder seen account q. (is (found key holder seen account) q).0) (λ key holder seen account q. (is (found (Some key) holder seen account) q).1 key refl) s.holders;
       board = board_more w.actors by a b e at refl refl (world.published w) w.locks
           (λ label n q. ⊎_elim (λ (r : e ≡ told label n). absurd (is (told label n) r)) (λ (r : e ≡ heard label n). (is (heard label n) r).0) q) (λ label n q. (is (heard label n) q).1) (λ label n q. is (told label n) q) s.board;
-      faults = faults_more w.actors by a b e at refl refl w.writes w.installed.halted quiet (λ n q. is (stopped n) q) s.faults;
-      edits = edits_more w.actors by a b e at refl refl w.first_edit w.installed quiet (λ n q. is (found_flushed n) q) s.edits;
+      faults = faults_more w.actors by a b e at refl refl w.writes w.installed.halted quiet (λ n q. is (stopped n) q) (λ n tables due q. (is (found_edit n tables due true) q).2 refl) s.faults;
+      edits = edits_more w.actors by a b e at refl refl w.first_edit w.installed quiet (λ n tables due halted q. let k = is (found_edit n tables due halted) q in (k.0, k.1)) s.edits;
     }) (turns_still w by a b at refl s)
     (readers_still w by a b at refl s)
     (notes_stay w by a b at step w.holders (SoIn w) refl (λ fact left m. record { guarded = m.guarded; is_so = so_past w a.participant (a.participant.past ++ e ∷ []) fact m.is_so }) (λ j x fact ne there m. m) s)
@@ -77,9 +78,18 @@ pub finds_log_closed : (w : World) (by : ℕ) (a : Actor) → get_elem? w.actors
     → IsSound (done w by (forgets w.writes.history (length w.cache) find_log_closed a) find_log_closed)
 finds_log_closed w by a at n s = remembering w by a (stopped (world.published w)) find_log_closed at (holder_lives w by a write_turn at n.0 s) (n.1, refl) s
 
-pub finds_flushed : (w : World) (by : ℕ) (a : Actor) → get_elem? w.actors by ≡ some a → Needs w by a find_flushed → IsSound w
-    → IsSound (done w by (forgets w.writes.history (length w.cache) find_flushed a) find_flushed)
-finds_flushed w by a at n s = remembering w by a (found_flushed w.installed.last.flushed) find_flushed at (holder_lives w by a tables_turn at n s) s.edits.last s
+-- who finds fewer tables than it knows of knows that another one compacted
+few_found : (w : World) (by : ℕ) (a : Actor) → get_elem? w.actors by ≡ some a → IsSound w → w.installed.last.tables < tables_due w.first_edit a.participant.past → OtherCompacts (participants past_of w) by 0
+few_found w by a at s few = ⊎_elim
+    (λ (enough : tables_due w.first_edit a.participant.past ≤ w.installed.last.tables). absurd (omega arith))
+    (λ (other : OtherCompacts (participants past_of w) by 0). other)
+    (s.edits.tables by 0 a.participant.past (mine past_of w.actors by a a at refl))
+
+pub finds_edit : (w : World) (by : ℕ) (a : Actor) → get_elem? w.actors by ≡ some a → Needs w by a find_edit → IsSound w
+    → IsSound (done w by (forgets w.writes.history (length w.cache) find_edit a) find_edit)
+finds_edit w by a at n s =
+    let e = w.installed in
+    remembering w by a (found_edit e.last.flushed e.last.tables (tables_due w.first_edit a.participant.past) e.halted) find_edit at (holder_lives w by a tables_turn at n s) (s.edits.last, few_found w by a at s, λ q. q) s
 
 pub hears : (w : World) (by : ℕ) (a : Actor) (label : List ℕ) (n : ℕ) → get_elem? w.actors by ≡ some a → Needs w by a (hear label n) → IsSound w
     → IsSound (done w by (forgets w.writes.history (length w.cache) (hear label n) a) (hear label n))
@@ -132,19 +142,28 @@ self_made w j i o (Some key) (Client client) s there is =
     )
 self_made w j i o None (Client client) s there is = absurd is
 
-accounts : (w : World) (by : ℕ) (a : Actor) (key : Option (List ℕ)) (holder : Holder) (account : Account) → get_elem? w.actors by ≡ some a → IsSound w → Accounts w by a key holder account → IsAccounted w.writes.history (participants past_of w) by 0 key holder (length a.participant.seen) account
-accounts w by a key holder own at s k = self_made w by 0 (owner_of a.participant) key holder s (mine owner_of w.actors by a a at refl) k
-accounts w by a key holder another at s k =
+-- a key of a name that nobody has is the undecided prepare's
+left_key : (w : World) (key : Option (List ℕ)) (name : List ℕ) (p : ℕ) → finite.get w.locks.names name ≡ Some None → named w.writes.history name ≡ Some p → IsHolder w key (Txn name) → IsSound w → HasKeyAt w.writes.history p key
+left_key w None name p left is held s = tt
+left_key w (Some key) name p left is held s = ap (λ (o : Option ℕ). is_changed (batch_at w.writes.history (unwrap_or o 0)) key) (sym is) ∙ s.locks.keys_left key name left held
+
+accounts : (w : World) (by : ℕ) (a : Actor) (key : Option (List ℕ)) (holder : Holder) (account : Account) → get_elem? w.actors by ≡ some a → IsHolder w key holder → IsSound w → Accounts w by a key holder account → IsAccounted w.writes.history (participants past_of w) by 0 key holder (length a.participant.seen) account
+accounts w by a key holder own at is s k = self_made w by 0 (owner_of a.participant) key holder s (mine owner_of w.actors by a a at refl) k
+accounts w by a key holder another at is s k =
     let made = self_made w k.at k.place k.participant key holder s k.there k.is in (k.at, k.place, made.0, k.apart, made.1, made.2)
-accounts w by a key (Txn name) (prepare_at n) at s k =
+accounts w by a key (Txn name) (prepare_at n) at is s k =
     let seen = s.seen by 0 a.participant.seen (mine seen_of w.actors by a a at refl) in
     let few : length a.participant.seen ≤ length w.writes.history = rw seen.1 (rw (length-append a.participant.seen seen.0) (omega arith)) in
     let whole : take n w.writes.history ≡ w.writes.history = ap (λ (m : ℕ). take m w.writes.history) k.0 ∙ take-length w.writes.history in
-    (subst (λ (m : ℕ). length a.participant.seen ≤ m) (sym k.0) few, subst (λ (m : ℕ). m ≤ length w.writes.history) (sym k.0) (omega arith), ap (λ (h : List Entry). is_some (named h name)) whole ∙ k.1)
-accounts w by a key (Client client) (prepare_at n) at s k = absurd k
+    let p = some_there (named w.writes.history name) (s.locks.names_left name k.1) in (
+      subst (λ (m : ℕ). length a.participant.seen ≤ m) (sym k.0) few,
+      subst (λ (m : ℕ). m ≤ length w.writes.history) (sym k.0) (omega arith),
+      subst (λ (h : List Entry). (q : ℕ) × (named h name ≡ Some q) × HasKeyAt h q key) (sym whole) (p.0, p.1, left_key w key name p.0 k.1 p.1 is s),
+    )
+accounts w by a key (Client client) (prepare_at n) at is s k = absurd k
 
 pub finds_holder : (w : World) (by : ℕ) (a : Actor) (key : Option (List ℕ)) (holder : Holder) (account : Account) → get_elem? w.actors by ≡ some a → Needs w by a (find_holder key holder account) → IsSound w
     → IsSound (done w by (forgets w.writes.history (length w.cache) (find_holder key holder account) a) (find_holder key holder account))
 finds_holder w by a key holder account at needs s =
     remembering w by a (found key holder (length a.participant.seen) account) (find_holder key holder account) at (holder_lives w by a locks_turn at needs.0 s)
-    (accounts w by a key holder account at s needs.2, λ k q. s.holders.keys k holder (subst (λ (z : Option (List ℕ)). IsHolder w z holder) q needs.1)) s
+    (accounts w by a key holder account at needs.1 s needs.2, λ k q. s.holders.keys k holder (subst (λ (z : Option (List ℕ)). IsHolder w z holder) q needs.1)) s

@@ -38,7 +38,7 @@ module _ (w : World) (key : List ℕ) (holder : Holder) (free : finite.get w.loc
 
   pub pasts_locked : (by : ℕ) (a : Actor) (step : Step) (p : Participant) → get_elem? w.actors by ≡ some a → p.past ≡ a.participant.past ++ locked key holder ∷ [] → IsSound w → PastParts w.opened w.writes t w.first_edit w.installed (actors_after w by a step p t)
   pasts_locked by a step p at grown s =
-      pasts_grown w by a step p t at (locked key holder) grown (record { log = refl; tables = refl; due = λ n. refl }) tt (λ n live. inr live)
+      pasts_grown w by a step p t at (locked key holder) grown (record { log = refl; tables = refl; due = λ n. refl; last = λ n. refl }) tt (λ n live. inr live)
       (λ k h is. ⊎_elim
       (λ (g : (k ≡ key) × (holder ≡ h)). inl (λ i. locked (sym g.0 i) (g.1 i)))
       (λ (g : (k ≡ key → ⊥) × (finite.get w.locks.keys k ≡ Some h)). inr g.1) (held_now k h is))

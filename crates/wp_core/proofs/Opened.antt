@@ -1,5 +1,5 @@
 -- Each opening is sound.
-use Rattle.std.proofs.Common.{◌≡◌, inl, inr, ℕ, zero, suc, ◌<◌, ◌≤◌, ◌||◌, eqb, eq-eqb, Bool, true, false, true≢false, List, [], ◌∷◌, ◌++◌, length, refl, sym, subst, ap, ◌∙◌, Option, Some, None, is_some, slice_index, ⊎_elim, append-nil, arith}
+use Rattle.std.proofs.Common.{◌≡◌, inl, inr, ℕ, zero, suc, ◌<◌, ◌≤◌, ◌||◌, eqb, eq-eqb, Bool, true, false, true≢false, List, [], ◌∷◌, ◌++◌, length, refl, sym, subst, ap, ◌∙◌, Option, Some, None, is_some, unwrap_or, slice_index, ⊎_elim, append-nil, arith}
 use Rattle.std.specs.Prelude.{All}
 use Rattle.std.specs.List.{list_any}
 use Rattle.std.proofs.lemmas.Bool.Decides.{nat_tests}
@@ -12,7 +12,7 @@ use Rattle.std.specs.FinMap as finite
 use Rattle.wp_model.specs.Batch.{key_cmp}
 use Rattle.wp_model.specs.declared.entry.Entry.{Entry}
 use Rattle.wp_model.specs.declared.holder.Holder.TheVariants.{Txn, Client}
-use Rattle.wp_model.specs.History.{is_undecided, name_at, undecided, named, holder_of}
+use Rattle.wp_model.specs.History.{is_undecided, name_at, batch_at, undecided, named, holder_of, is_changed}
 use Rattle.wp_model.specs.Legal.{IsLegal, undone_last}
 use Rattle.wp_model.specs.Snapshots as snaps
 use Rattle.wp_model.specs.LockTables.{LockTables}
@@ -24,20 +24,21 @@ use Rattle.wp_judge.specs.declared.observed.Observed.{Observed}
 use Rattle.wp_model.proofs.Found.{found_holder}
 use Rattle.wp_core.specs.Lists.{IsIn}
 use Rattle.wp_core.specs.Turns.{Turn, write_turn, prepared_turn, snapshots_turn, store_turn, locks_turn, tables_turn, Holds, all_free}
+use Rattle.wp_core.specs.Entries.{batch_of_name}
 use Rattle.wp_core.specs.Tables.{StoreTable, Installed, NoneDelayed}
 use Rattle.wp_model.specs.Flushed.{InstalledEdit}
 use Rattle.wp_core.specs.Reading.{Registration}
-use Rattle.wp_core.specs.Views.{Event, Fact, told, heard, stopped, found_flushed, found}
+use Rattle.wp_core.specs.Views.{Event, Fact, told, heard, log_failed, tables_failed, stopped, found_edit, found}
 use Rattle.wp_core.specs.World.{World, Actor, Participant, Transaction, new_actor, new_participant, content_of}
 use Rattle.wp_core.specs.Runs.{IsOpening, AreOpened, named_by}
 use Rattle.wp_core.specs.Sound.Actors.{StartsWith, once, AreHeld, Role, IsParticipantAt}
 use Rattle.wp_core.specs.Sound.Snapshots.{count_of, HasSeen}
 use Rattle.wp_core.specs.Sound.Store.{IsStored, NoneFlushed}
 use Rattle.wp_core.specs.Sound.Locks.{prepare_holding, Owner, owner_of, IsOwner}
-use Rattle.wp_core.specs.Sound.Pasts.{IsPast, tables_due}
+use Rattle.wp_core.specs.Sound.Pasts.{IsPast, tables_due, last_installed}
 use Rattle.wp_core.specs.IsSound.{IsSound}
 use Rattle.wp_core.proofs.HistoryLaws.{decision_within, undecided_not_decided}
-use Rattle.wp_core.proofs.OneHolder.{holder_is, found_name}
+use Rattle.wp_core.proofs.OneHolder.{holder_is, name_is, found_name}
 use Rattle.wp_core.proofs.Tests.{none_some}
 use Rattle.wp_core.proofs.Keyed.{txn_is}
 use Rattle.wp_core.proofs.PendingSteps.{none_logged}
@@ -159,6 +160,14 @@ module _ (opened : List Entry) (cache : List ℕ) (flag : ℕ) (logged : Bool) (
       let h = found_holder opened key k.0 k.1 in
       subst (λ (n : List ℕ). is_some (finite.get t.names n) ≡ true) k.2 (is_live k.0 h.0)
 
+  -- a key that is held is the undecided prepare's of that name
+  key_changed : (key name : List ℕ) → finite.get t.keys key ≡ Some (Txn name) → is_changed (batch_of_name opened name) key ≡ true
+  key_changed key name e =
+      let k = who_holds opened (holder_of opened key) name (sym (locks.keys key) ∙ e) in
+      let h = found_holder opened key k.0 k.1 in
+      subst (λ (n : List ℕ). is_changed (batch_of_name opened n) key ≡ true) k.2
+      (ap (λ (o : Option ℕ). is_changed (batch_at opened (unwrap_or o 0)) key) (name_is opened legal k.0 h.0) ∙ h.1)
+
   starts : StartsWith opened opened
   starts = ([], sym (append-nil opened))
 
@@ -212,6 +221,7 @@ module _ (opened : List Entry) (cache : List ℕ) (flag : ℕ) (logged : Bool) (
       };
       names_had = λ name c e. absurd (nobody_named (named opened name) c (sym (locks.names name) ∙ e));
       names_left = λ name e. was_named name (ap is_some e);
+      keys_left = λ key name left e. key_changed key name e;
       keys_live = key_live;
       keys_known = λ key name e j i o at x has. absurd (no_transaction name x (ap (λ (z : Owner). finite.get z.transactions name) (one_participant (owner_of (new_participant client opened)) j i o at) ∙ has));
       keys_direct = λ key c e. absurd (no_client_holds opened (holder_of opened key) c (sym (locks.keys key) ∙ e));
@@ -223,8 +233,23 @@ module _ (opened : List Entry) (cache : List ℕ) (flag : ℕ) (logged : Bool) (
       found = λ j i key holder seen account k. absurd (no_past (found key holder seen account) (j, i, k));
     };
     board = record { labels = λ label n e. ⊎_elim (λ k. absurd (no_past (told label n) k)) (λ k. absurd (no_past (heard label n) k)) e; numbers = λ label n e. absurd (none_some _ n (no_label label) e); heard = λ label n k. absurd (no_past (heard label n) k); told = λ label n k. absurd (no_past (told label n) k) };
-    faults = record { log = refl; tables = refl; not_logged = λ e. inl refl; stopped = λ n k. absurd (no_past (stopped n) k) };
-    edits = record { last = inl refl; found = λ n k. absurd (no_past (found_flushed n) k); tables = λ j i past at. inl (subst (λ (z : List Event). tables_due edit z ≤ edit.tables) (one_participant [] j i past at) (omega arith)) };
+    faults = record {
+      log = refl;
+      tables = refl;
+      not_logged = λ e. inl refl;
+      stopped = λ n k. absurd (no_past (stopped n) k);
+      failed = λ entries k. absurd (no_past (log_failed entries) k);
+      found_halted = λ n tables due k. absurd (no_past (found_edit n tables due true) k);
+    };
+    edits = record {
+      last = inl refl;
+      found = λ n tables due halted k. absurd (no_past (found_edit n tables due halted) k);
+      few = λ j i n tables due halted k less. absurd (no_past (found_edit n tables due halted) (j, i, k));
+      edit = λ j i past at. inl (ap (last_installed edit) (one_participant [] j i past at));
+      tables = λ j i past at. inl (subst (λ (z : List Event). tables_due edit z ≤ edit.tables) (one_participant [] j i past at) (omega arith));
+      failed = λ last failing k. absurd (no_past (tables_failed last failing) k);
+      none_failed = λ _. refl;
+    };
     pending = λ _. refl;
     held = λ j held at. subst (AreHeld all_free (content_of world) j) (one [] held j at) tt;
     have = λ turn j e. absurd (no_turn turn j e);

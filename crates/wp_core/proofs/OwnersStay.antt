@@ -62,6 +62,7 @@ module _ (xs : List Actor) (by : ℕ) (a b : Actor) (at : get_elem? xs by ≡ so
     apart = owners_apart xs by a b at same (λ name x h. let y = is.had name x h in inl (y.0, y.1)) (λ key h. inl (sym is.direct ∙ h)) k.apart;
     names_had = λ name client h. name_kept xs by a b at same is.client is.past name client (λ y q. let x = is.has name y q in (x.0, x.1)) (k.names_had name client h);
     names_left = k.names_left;
+    keys_left = k.keys_left;
     keys_live = k.keys_live;
     keys_known = λ key name h. known_still key name (k.keys_known key name h);
     keys_direct = λ key client h. direct_kept xs by a b at same is.client is.past key client (λ q. is.direct ∙ q) (k.keys_direct key client h);

@@ -29,6 +29,10 @@ pub total_more : {X : Type 0} (f : X → ℕ) (xs : List X) (x : X) → total f 
 total_more f [] x = omega arith
 total_more f (y ∷ xs) x = let k = total_more f xs x in omega arith
 
+-- what is so at a place that is this one
+pub at_place : (P : ℕ → ℕ → Type 0) (j i k l : ℕ) → k ≡ j → l ≡ i → P k l → P j i
+at_place P j i k l row place h = subst (λ (n : ℕ). P n i) row (subst (P k) place h)
+
 module _ (xs : List Actor) (by : ℕ) (a b : Actor) (e : Event) (at : get_elem? xs by ≡ some a) (same : b.joined ≡ a.joined) (grown : b.participant.past ≡ a.participant.past ++ e ∷ []) where
   abbrev before : List (List (List Event))
   before = map (participants_of past_of) xs

@@ -1,5 +1,5 @@
 -- What is so of the participants is so after actors came and went.
-use Rattle.std.proofs.Common.{◌≡◌, ◌≢◌, ◌⊎◌, ⊎_elim, inl, inr, ℕ, ◌≤◌, ◌==◌, Bool, true, false, List, [], ◌∷◌, map, fold, refl, sym, subst, ap, ◌∙◌, arith, Option, Some, None}
+use Rattle.std.proofs.Common.{◌≡◌, ◌≢◌, ◌⊎◌, ⊎_elim, inl, inr, ℕ, ◌≤◌, ◌<◌, ◌==◌, Bool, true, false, List, [], ◌∷◌, map, fold, refl, sym, subst, ap, ◌∙◌, arith, Option, Some, None}
 use mathlib.Core.Option.{some, some-ne-none}
 use mathlib.Core.Logic.{dite}
 use native.Mathlib.Decide.{ℕ_discrete}
@@ -15,12 +15,13 @@ use Rattle.wp_core.specs.Lists.{IsIn, one_if, total}
 use Rattle.wp_core.specs.Tables.{WriteTable, Installed}
 use Rattle.wp_model.specs.Flushed.{InstalledEdit}
 use Rattle.wp_core.specs.Reading.{Registration}
-use Rattle.wp_core.specs.Views.{Account, own, another, prepare_at, Event, installed, found}
+use Rattle.wp_core.specs.Views.{Account, own, another, prepare_at, Event, installed, found_edit, found}
 use Rattle.wp_core.specs.World.{Actor, Participant, Transaction}
 use Rattle.wp_core.specs.Sound.Actors.{participants_of, IsParticipantAt, StartsWith, seen_of, own_of, times, AreSeen, AreOwned, EachParticipant}
 use Rattle.wp_core.specs.Sound.Snapshots.{registered_of, AreBelowCommitted, AreRegistered, view_of, HasSeen}
 use Rattle.wp_core.specs.Sound.Locks.{Owner, owner_of, Has, IsOwner, AreLocked}
-use Rattle.wp_core.specs.Sound.Pasts.{past_of, HasDone, IsPast, IsAccounted, WasLocked, AreHolders, IsBoard, is_log_fault, is_tables_fault, AreFaults, WasInstalled, due_after, tables_due, OtherCompacts, AreEdits}
+use Rattle.wp_core.specs.Sound.Pasts.{past_of, HasDone, IsPast, IsAccounted, WasLocked, AreHolders, IsBoard, is_log_fault, is_tables_fault, AreFaults, WasInstalled, due_after, tables_due, last_after, last_installed, OtherDid, OtherInstalls, OtherCompacts, AreEdits}
+use Rattle.wp_core.proofs.PastsGrow.{at_place}
 use Rattle.wp_core.proofs.Persons.{IsNone, Moves, same_there, apart_still, CameWith, IsOfNone, came_from, goes_to, total_same}
 
 -- ---- what one has that has nothing
@@ -45,19 +46,34 @@ none_owner t p none = record {
 
 -- ---- the tables that are due
 
-due_one : (d : ℕ) (e : Event) → (d ≤ due_after d e) ⊎ ((n tables : ℕ) × (installed n tables true ≡ e))
-due_one d (installed n tables true) = inr (n, tables, refl)
-due_one d (installed n tables false) = inl (omega arith)
+due_one : (d : ℕ) (e : Event) → (d ≤ due_after d e) ⊎ ((edit : InstalledEdit) × (installed edit true ≡ e))
+due_one d (installed edit true) = inr (edit, refl)
+due_one d (installed edit false) = inl (omega arith)
 due_one d e = inl (omega arith)
 
-due_from : (d : ℕ) (past : List Event) → (d ≤ fold due_after d past) ⊎ ((n tables : ℕ) × IsIn (installed n tables true) past)
+due_from : (d : ℕ) (past : List Event) → (d ≤ fold due_after d past) ⊎ ((edit : InstalledEdit) × IsIn (installed edit true) past)
 due_from d [] = inl (omega arith)
 due_from d (e ∷ past) = ⊎_elim
     (λ (le : d ≤ due_after d e). ⊎_elim
     (λ (more : due_after d e ≤ fold due_after (due_after d e) past). inl (omega arith))
-    (λ (k : (n tables : ℕ) × IsIn (installed n tables true) past). inr (k.0, k.1, inr k.2))
+    (λ (k : (edit : InstalledEdit) × IsIn (installed edit true) past). inr (k.0, inr k.1))
     (due_from (due_after d e) past))
-    (λ (k : (n tables : ℕ) × (installed n tables true ≡ e)). inr (k.0, k.1, inl (sym k.2))) (due_one d e)
+    (λ (k : (edit : InstalledEdit) × (installed edit true ≡ e)). inr (k.0, inl (sym k.1))) (due_one d e)
+
+-- ---- the last edit
+
+last_one : (last : InstalledEdit) (e : Event) → (last_after last e ≡ last) ⊎ ((edit : InstalledEdit) × (compacts : Bool) × (installed edit compacts ≡ e))
+last_one last (installed edit compacts) = inr (edit, compacts, refl)
+last_one last e = inl refl
+
+last_from : (last : InstalledEdit) (past : List Event) → (fold last_after last past ≡ last) ⊎ ((edit : InstalledEdit) × (compacts : Bool) × IsIn (installed edit compacts) past)
+last_from last [] = inl refl
+last_from last (e ∷ past) = ⊎_elim
+    (λ (same : last_after last e ≡ last). ⊎_elim
+    (λ (rest : fold last_after (last_after last e) past ≡ last_after last e). inl (rest ∙ same))
+    (λ (k : (edit : InstalledEdit) × (compacts : Bool) × IsIn (installed edit compacts) past). inr (k.0, k.1, inr k.2))
+    (last_from (last_after last e) past))
+    (λ (k : (edit : InstalledEdit) × (compacts : Bool) × (installed edit compacts ≡ e)). inr (k.0, k.1, inl (sym k.2))) (last_one last e)
 
 module _ (row place : ℕ → ℕ → ℕ) (history : List Entry) (xs ys : List Actor) (m : Moves row place history xs ys) where
   -- ---- what they saw and published, and their registrations
@@ -143,6 +159,7 @@ module _ (row place : ℕ → ℕ → ℕ) (history : List Entry) (xs ys : List 
         (λ (n : IsOfNone row place history xs ys m owner_of o.owner). absurd (not_none o.owner name o.transaction n o.has))
         (goes_to row place history xs ys m owner_of o.at o.place o.owner o.there);
     names_left = k.names_left;
+    keys_left = k.keys_left;
     keys_live = k.keys_live;
     keys_known = λ key name h j i o there x has. let c = who_has j i o name x there has in k.keys_known key name h c.at c.at_place o c.there x has;
     keys_direct = λ key client h.
@@ -224,48 +241,93 @@ module _ (row place : ℕ → ℕ → ℕ) (history : List Entry) (xs ys : List 
     tables = total_same row place history xs ys m past_of (total (λ (e : Event). one_if (is_tables_fault e))) (λ p none. ap (λ (z : Participant). total (λ (e : Event). one_if (is_tables_fault e)) z.past) none) ∙ k.tables;
     not_logged = k.not_logged;
     stopped = λ n h. k.stopped n (past_was _ h);
+    failed = λ entries h. k.failed entries (past_was _ h);
+    found_halted = λ n tables due h. k.found_halted n tables due (past_was _ h);
   }
 
   installed_moved : (first : InstalledEdit) (n : ℕ) → WasInstalled first (pasts xs) n → WasInstalled first (pasts ys) n
   installed_moved first n (inl k) = inl k
-  installed_moved first n (inr (tables, k)) = inr (tables, past_moved _ k)
+  installed_moved first n (inr (edit, flushed, k)) = inr (edit, flushed, past_moved _ k)
+
+  other_moved : (j i : ℕ) (e : Event) → OtherDid (pasts xs) j i e → OtherDid (pasts ys) (row j i) (place j i) e
+  other_moved j i e (l, n, apart, k) = (row l n, place l n, apart_still row place history xs ys m j i l n apart, done_moved l n e k)
+
+  -- for one that did nothing it is another that did it
+  other_else : (j i k l : ℕ) (e : Event) → IsParticipantAt (pasts ys) j i [] → HasDone (pasts xs) k l e → OtherDid (pasts ys) j i e
+  other_else j i k l e there h =
+      let done = done_moved k l e h in
+      (row k l, place k l, apart done, done)
+    where
+      not_here : HasDone (pasts ys) j i e → ⊥
+      not_here (past, here, is) = subst (IsIn e) (same_there (pasts ys) j i past [] here there) is
+
+      apart : HasDone (pasts ys) (row k l) (place k l) e → (row k l ≢ j) ⊎ (place k l ≢ i)
+      apart done = dite (ℕ_discrete (row k l) j)
+          (λ (same : row k l ≡ j). inr (λ f. not_here (at_place (λ (r p : ℕ). HasDone (pasts ys) r p e) j i (row k l) (place k l) same f done)))
+          (λ (ne : row k l ≢ j). inl ne)
 
   compacts_moved : (j i : ℕ) → OtherCompacts (pasts xs) j i → OtherCompacts (pasts ys) (row j i) (place j i)
-  compacts_moved j i (l, n, number, tables, apart, k) = (row l n, place l n, number, tables, apart_still row place history xs ys m j i l n apart, done_moved l n _ k)
+  compacts_moved j i (edit, k) = (edit, other_moved j i _ k)
 
-  -- one that did nothing knows a compaction to be another's
-  compacts_else : (j i k l n tables : ℕ) → IsParticipantAt (pasts ys) j i [] → HasDone (pasts xs) k l (installed n tables true) → OtherCompacts (pasts ys) j i
-  compacts_else j i k l n tables there h =
-      let done = done_moved k l (installed n tables true) h in
-      (row k l, place k l, n, tables, apart done, done)
-    where
-      not_here : HasDone (pasts ys) j i (installed n tables true) → ⊥
-      not_here (past, here, is) = subst (IsIn (installed n tables true)) (same_there (pasts ys) j i past [] here there) is
+  installs_moved : (j i : ℕ) → OtherInstalls (pasts xs) j i → OtherInstalls (pasts ys) (row j i) (place j i)
+  installs_moved j i (edit, compacts, k) = (edit, compacts, other_moved j i _ k)
 
-      apart : HasDone (pasts ys) (row k l) (place k l) (installed n tables true) → (row k l ≢ j) ⊎ (place k l ≢ i)
-      apart done = dite (ℕ_discrete (row k l) j)
-          (λ (e : row k l ≡ j). inr (λ f. not_here (subst (λ (z : ℕ). HasDone (pasts ys) z i (installed n tables true)) e (subst (λ (z : ℕ). HasDone (pasts ys) (row k l) z (installed n tables true)) f done))))
-          (λ (ne : row k l ≢ j). inl ne)
+  -- what an actor knows of the edits, one knows that did nothing: it is so, or another's doing
+  module _ (by : ℕ) (a : Actor) (first : InstalledEdit) (t : Installed) (mine : IsParticipantAt (pasts xs) by 0 a.participant.past) (k : AreEdits first t (pasts xs)) (j i : ℕ) (here : IsParticipantAt (pasts ys) j i []) where
+    edit_else : (t.last ≡ first) ⊎ OtherInstalls (pasts ys) j i
+    edit_else = ⊎_elim
+        (λ (d : t.last ≡ last_installed first a.participant.past). ⊎_elim
+        (λ (same : last_installed first a.participant.past ≡ first). inl (d ∙ same))
+        (λ (c : (edit : InstalledEdit) × (compacts : Bool) × IsIn (installed edit compacts) a.participant.past). inr (c.0, c.1, other_else j i by 0 (installed c.0 c.1) here (a.participant.past, mine, c.2)))
+        (last_from first a.participant.past))
+        (λ (d : OtherInstalls (pasts xs) by 0). inr (d.0, d.1, other_else j i d.2.0 d.2.1 (installed d.0 d.1) here d.2.3))
+        (k.edit by 0 a.participant.past mine)
+
+    tables_else : (first.tables ≤ t.last.tables) ⊎ OtherCompacts (pasts ys) j i
+    tables_else = ⊎_elim
+        (λ (d : tables_due first a.participant.past ≤ t.last.tables). ⊎_elim
+        (λ (le : first.tables ≤ tables_due first a.participant.past). inl (omega arith))
+        (λ (c : (edit : InstalledEdit) × IsIn (installed edit true) a.participant.past). inr (c.0, other_else j i by 0 (installed c.0 true) here (a.participant.past, mine, c.1)))
+        (due_from first.tables a.participant.past))
+        (λ (d : OtherCompacts (pasts xs) by 0). inr (d.0, other_else j i d.1.0 d.1.1 (installed d.0 true) here d.1.3))
+        (k.tables by 0 a.participant.past mine)
+
+  abbrev NonePast : List Event → Type 0
+  NonePast past = (o : IsOfNone row place history xs ys m past_of past) × StartsWith history o.person.seen
+
+  is_empty : (past : List Event) → NonePast past → past ≡ []
+  is_empty past n = sym n.0.has ∙ no_past n.0.person n.0.none
+
+  few_moved : (first : InstalledEdit) (t : Installed) → AreEdits first t (pasts xs) → (j i n tables due : ℕ) (halted : Bool) → HasDone (pasts ys) j i (found_edit n tables due halted) → tables < due → OtherCompacts (pasts ys) j i
+  few_moved first t k j i n tables due halted h few =
+      let o = done_was j i (found_edit n tables due halted) h in
+      at_place (OtherCompacts (pasts ys)) j i (row o.at o.at_place) (place o.at o.at_place) o.row_is o.place_is (compacts_moved o.at o.at_place (k.few o.at o.at_place n tables due halted o.done few))
 
   pub edits_moved : (by : ℕ) (a : Actor) (first : InstalledEdit) (t : Installed) → get_elem? xs by ≡ some a → IsParticipantAt (pasts xs) by 0 a.participant.past → AreEdits first t (pasts xs) → AreEdits first t (pasts ys)
   edits_moved by a first t at mine k = record {
     last = installed_moved first t.last.flushed k.last;
-    found = λ n h. installed_moved first n (k.found n (past_was _ h));
+    found = λ n tables due halted h. installed_moved first n (k.found n tables due halted (past_was _ h));
+    few = few_moved first t k;
+    edit = λ j i past there. ⊎_elim
+        (λ (c : CameWith row place history xs ys m past_of j i past). ⊎_elim
+        (λ d. inl d)
+        (λ (d : OtherInstalls (pasts xs) c.at c.at_place). inr (at_place (OtherInstalls (pasts ys)) j i (row c.at c.at_place) (place c.at c.at_place) c.row_is c.place_is (installs_moved c.at c.at_place d)))
+        (k.edit c.at c.at_place past c.there))
+        (λ (n : NonePast past).
+        let empty = is_empty past n in
+        ⊎_elim (λ (d : t.last ≡ first). inl (d ∙ ap (last_installed first) (sym empty))) (λ d. inr d)
+        (edit_else by a first t mine k j i (subst (IsParticipantAt (pasts ys) j i) empty there)))
+        (came_from row place history xs ys m past_of j i past there);
     tables = λ j i past there. ⊎_elim
         (λ (c : CameWith row place history xs ys m past_of j i past). ⊎_elim
         (λ d. inl d)
-        (λ (d : OtherCompacts (pasts xs) c.at c.at_place). inr (subst (λ (n : ℕ). OtherCompacts (pasts ys) n i) c.row_is (subst (λ (n : ℕ). OtherCompacts (pasts ys) (row c.at c.at_place) n) c.place_is (compacts_moved c.at c.at_place d))))
+        (λ (d : OtherCompacts (pasts xs) c.at c.at_place). inr (at_place (OtherCompacts (pasts ys)) j i (row c.at c.at_place) (place c.at c.at_place) c.row_is c.place_is (compacts_moved c.at c.at_place d)))
         (k.tables c.at c.at_place past c.there))
-        (λ (n : (o : IsOfNone row place history xs ys m past_of past) × StartsWith history o.person.seen).
-        let empty : past ≡ [] = sym n.0.has ∙ no_past n.0.person n.0.none in
-        let here : IsParticipantAt (pasts ys) j i [] = subst (IsParticipantAt (pasts ys) j i) empty there in
-        let none_due : tables_due first past ≡ first.tables = ap (tables_due first) empty in
-        ⊎_elim
-        (λ (d : tables_due first a.participant.past ≤ t.last.tables). ⊎_elim
-        (λ (le : first.tables ≤ tables_due first a.participant.past). inl (omega arith))
-        (λ (c : (number tables : ℕ) × IsIn (installed number tables true) a.participant.past). inr (compacts_else j i by 0 c.0 c.1 here (a.participant.past, mine, c.2)))
-        (due_from first.tables a.participant.past))
-        (λ (d : OtherCompacts (pasts xs) by 0). inr (compacts_else j i d.0 d.1 d.2 d.3 here d.5))
-        (k.tables by 0 a.participant.past mine))
+        (λ (n : NonePast past).
+        let empty = is_empty past n in
+        ⊎_elim (λ (d : first.tables ≤ t.last.tables). inl (subst (λ (z : List Event). tables_due first z ≤ t.last.tables) (sym empty) d)) (λ d. inr d)
+        (tables_else by a first t mine k j i (subst (IsParticipantAt (pasts ys) j i) empty there)))
         (came_from row place history xs ys m past_of j i past there);
+    failed = λ last edit h. k.failed last edit (past_was _ h);
+    none_failed = k.none_failed;
   }

@@ -1,6 +1,6 @@
 -- The pending entry joins the history: names and keys, holders, the board, and faults.
-use Rattle.std.proofs.Common.{◌≡◌, ⊎_elim, ℕ, suc, Bool, true, false, true≢false, List, [], ◌∷◌, ◌++◌, length, refl, sym, ap, ◌∙◌, Option, Some, None, arith}
-use Rattle.std.specs.Prelude.{is_some}
+use Rattle.std.proofs.Common.{◌≡◌, ⊎_elim, ℕ, suc, Bool, true, false, true≢false, List, [], ◌∷◌, ◌++◌, length, refl, sym, subst, ap, ◌∙◌, Option, Some, None, arith}
+use Rattle.std.specs.Prelude.{is_some, unwrap_or}
 use Rattle.std.proofs.lemmas.List.{take-append-le}
 use Rattle.std.proofs.lemmas.Slice.Eq.{bytes_eq-Decides}
 use Rattle.std.specs.FinMap as finite
@@ -13,14 +13,16 @@ use Rattle.wp_model.specs.History.{is_prepare, prepared_name, prepared_batch, na
 use Rattle.wp_model.specs.Legal.{IsLegal}
 use Rattle.wp_model.specs.LockTables.{LockTables}
 use Rattle.wp_model.proofs.Found.{found_named}
+use Rattle.wp_model.proofs.Entries.{undecided_within}
 use Rattle.wp_core.specs.Entries.{transaction_of}
 use Rattle.wp_core.specs.Tables.{WriteTable}
 use Rattle.wp_core.specs.Views.{Account, own, another, prepare_at, Event}
 use Rattle.wp_core.specs.Effects.{with_entry}
 use Rattle.wp_core.specs.Sound.Locks.{Owner, AreLocked}
-use Rattle.wp_core.specs.Sound.Pasts.{IsAccounted, AreHolders, IsBoard, AreFaults}
+use Rattle.wp_core.specs.Sound.Pasts.{HasKeyAt, IsAccounted, AreHolders, IsBoard, AreFaults}
 use Rattle.wp_core.proofs.HistoryLaws.{is_equal}
 use Rattle.wp_core.proofs.HistoryGrows.{at_next, grown_length, named_stays, name_at_old, batch_at_grown, undecided_before_or_now}
+use Rattle.wp_core.proofs.Tests.{some_there}
 
 -- the Prepare that an entry is
 pub record IsPrepareOf (entry : Entry) : Type 0 where
@@ -43,10 +45,6 @@ decider_of history p (Write batch) d = absurd (true≢false (sym d))
 decider_of history p (Prepare name batch) d = absurd (true≢false (sym d))
 decider_of history p (Undo q batch) d = absurd (true≢false (sym d))
 
-pub some_there : {A : Type 0} (o : Option A) → is_some o ≡ true → (x : A) × (o ≡ Some x)
-some_there None e = absurd (true≢false (sym e))
-some_there (Some x) e = (x, refl)
-
 -- what is named is of the transaction of an entry only where the entry decides it
 pub not_decided : (history : List Entry) (entry : Entry) (name : List ℕ) (p : ℕ) → named history name ≡ Some p → (transaction_of history entry ≡ Some name → ⊥) → decides p entry ≡ false
 not_decided history entry name p is other = by (decides p entry) refl
@@ -68,6 +66,16 @@ module _ (history : List Entry) (entry : Entry) (legal : IsLegal (history ++ ent
   pub batch_new : (name : List ℕ) (batch : List Change) → entry ≡ Prepare name batch → batch_at grown next ≡ batch
   batch_new name batch is = ap prepared_batch (at_next history entry legal) ∙ ap (λ (x : Entry). prepared_batch (Some x)) is
 
+  -- the undecided prepare of a name that nobody has stays it
+  still_left : (t : LockTables) → ((name : List ℕ) → transaction_of history entry ≡ Some name → (client : List ℕ) × (finite.get t.names name ≡ Some (Some client)))
+      → (name : List ℕ) → finite.get t.names name ≡ Some None → is_some (named history name) ≡ true → (p : ℕ) × (named history name ≡ Some p) × (named grown name ≡ Some p)
+  still_left t live name left is =
+      let x = some_there (named history name) is in (
+        x.0,
+        x.1,
+        named_stays history entry legal name x.0 x.1 (not_decided history entry name x.0 x.1 (λ of. let l = live name of in let q : Some None ≡ Some (Some l.0) = sym left ∙ l.1 in absurd cc)),
+      )
+
   pub locks_part : (t : LockTables) (owners : List (List Owner)) → ((name : List ℕ) → transaction_of history entry ≡ Some name → (client : List ℕ) × (finite.get t.names name ≡ Some (Some client)))
       → ((name : List ℕ) (batch : List Change) (key : List ℕ) → entry ≡ Prepare name batch → is_changed batch key ≡ true → finite.get t.keys key ≡ Some (Txn name))
       → AreLocked history t owners → AreLocked grown t owners
@@ -88,9 +96,12 @@ module _ (history : List Entry) (entry : Entry) (legal : IsLegal (history ++ ent
     had = k.had;
     apart = k.apart;
     names_had = k.names_had;
-    names_left = λ name e.
-        let x = some_there (named history name) (k.names_left name e) in
-        ap is_some (named_stays history entry legal name x.0 x.1 (not_decided history entry name x.0 x.1 (λ of. let l = live name of in let q : Some None ≡ Some (Some l.0) = sym e ∙ l.1 in absurd cc)));
+    names_left = λ name e. ap is_some (still_left t live name e (k.names_left name e)).2;
+    keys_left = λ key name e held.
+        let x = still_left t live name e (k.names_left name e) in
+        let low = (undecided_within history x.0 (found_named history name x.0 x.1).0).1 in
+        ap (λ (o : Option ℕ). is_changed (batch_at grown (unwrap_or o 0)) key) x.2 ∙ ap (λ (z : List Change). is_changed z key) (batch_at_grown history entry legal x.0 low)
+        ∙ ap (λ (o : Option ℕ). is_changed (batch_at history (unwrap_or o 0)) key) (sym x.1) ∙ k.keys_left key name e held;
     keys_live = k.keys_live;
     keys_known = k.keys_known;
     keys_direct = k.keys_direct;
@@ -101,7 +112,9 @@ module _ (history : List Entry) (entry : Entry) (legal : IsLegal (history ++ ent
   accounted_grows : (pasts : List (List (List Event))) (j i : ℕ) (key : Option (List ℕ)) (holder : Holder) (seen : ℕ) (account : Account) → IsAccounted history pasts j i key holder seen account → IsAccounted grown pasts j i key holder seen account
   accounted_grows pasts j i key holder seen own k = k
   accounted_grows pasts j i key holder seen another k = k
-  accounted_grows pasts j i key (Txn name) seen (prepare_at n) k = let low = k.1 in let l = grown_length history entry legal in (k.0, omega (arith, low, l), ap (λ (h : List Entry). is_some (named h name)) (take-append-le n history (entry ∷ []) low) ∙ k.2)
+  accounted_grows pasts j i key (Txn name) seen (prepare_at n) k =
+      let low = k.1 in let l = grown_length history entry legal in
+      (k.0, omega (arith, low, l), subst (λ (h : List Entry). (p : ℕ) × (named h name ≡ Some p) × HasKeyAt h p key) (sym (take-append-le n history (entry ∷ []) low)) k.2)
   accounted_grows pasts j i key (Client name) seen (prepare_at n) k = k
 
   pub holders_part : (opened : List Entry) (t : LockTables) (pasts : List (List (List Event))) → AreHolders opened history t pasts → AreHolders opened grown t pasts
@@ -116,4 +129,6 @@ faults_part t entry others halted pasts open_log k = record {
   tables = k.tables;
   not_logged = λ closed. absurd (true≢false (sym closed ∙ open_log));
   stopped = λ n h. absurd (true≢false (sym (k.stopped n h).0 ∙ open_log));
+  failed = k.failed;
+  found_halted = k.found_halted;
 }

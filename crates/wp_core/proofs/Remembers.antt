@@ -1,5 +1,5 @@
 -- What is so of all pasts, once one actor's past has an event more that installs nothing and is no fault.
-use Rattle.std.proofs.Common.{◌≡◌, ◌⊎◌, ⊎_elim, inl, inr, ℕ, ◌≤◌, Bool, true, false, List, [], ◌∷◌, ◌++◌, length, map, set, sym, subst, ap, ◌∙◌, arith, Option, is_some, Some, ◌≢◌}
+use Rattle.std.proofs.Common.{◌≡◌, ◌⊎◌, ⊎_elim, inl, inr, ℕ, ◌≤◌, ◌<◌, Bool, true, false, true≢false, List, [], ◌∷◌, ◌++◌, length, map, set, sym, subst, ap, ◌∙◌, arith, Option, is_some, Some, None, ◌≢◌}
 use Rattle.std.proofs.lemmas.List.Sums.{fold-append}
 use mathlib.Core.Option.{some}
 use lib.ListN.{get_elem?}
@@ -10,24 +10,25 @@ use Rattle.wp_model.specs.declared.holder.Holder.TheVariants.{Txn, Client}
 use Rattle.wp_model.specs.LockTables.{LockTables}
 use Rattle.wp_core.specs.Tables.{WriteTable, Installed}
 use Rattle.wp_model.specs.Flushed.{InstalledEdit}
-use Rattle.wp_core.specs.Views.{Account, own, another, prepare_at, Event, claimed, took, locked, told, heard, stopped, found_flushed, found}
+use Rattle.wp_core.specs.Views.{Account, own, another, prepare_at, Event, claimed, took, locked, told, heard, log_failed, tables_failed, stopped, found_edit, found}
 use Rattle.wp_core.specs.World.{Actor}
 use Rattle.wp_core.specs.Sound.Actors.{participants_of, IsParticipantAt}
-use Rattle.wp_core.specs.Sound.Pasts.{past_of, IsPast, IsAccounted, WasLocked, AreHolders, IsBoard, is_log_fault, is_tables_fault, AreFaults, WasInstalled, due_after, tables_due, OtherCompacts, AreEdits}
+use Rattle.wp_core.specs.Sound.Pasts.{past_of, HasDone, IsPast, IsAccounted, WasLocked, AreHolders, IsBoard, is_log_fault, is_tables_fault, AreFaults, WasInstalled, due_after, tables_due, last_after, last_installed, OtherDid, OtherInstalls, OtherCompacts, AreEdits}
 use Rattle.wp_core.proofs.AllParticipants.{mine, was_apart}
-use Rattle.wp_core.proofs.PastsGrow.{done_still, done_before, past_still, past_last, past_before, times_more}
+use Rattle.wp_core.proofs.PastsGrow.{at_place, done_still, done_before, past_still, past_last, past_before, times_more}
 
 -- it installs nothing, and is no fault
 pub record IsQuiet (e : Event) : Type 0 where
   pub log : is_log_fault e ≡ false
   pub tables : is_tables_fault e ≡ false
   pub due : (n : ℕ) → due_after n e ≡ n
+  pub last : (edit : InstalledEdit) → last_after edit e ≡ edit
 
--- it finds no holder, no closed log and no flush
+-- it finds no holder, no closed log and no edit
 abbrev pub FindsNothing : Event → Type 0
 FindsNothing (found key holder seen account) = ⊥
 FindsNothing (stopped n) = ⊥
-FindsNothing (found_flushed n) = ⊥
+FindsNothing (found_edit n tables due halted) = ⊥
 FindsNothing e = Unit {0}
 
 -- it tells and hears nothing
@@ -104,51 +105,102 @@ module _ (xs : List Actor) (by : ℕ) (a b : Actor) (e : Event) (at : get_elem? 
   board_still published t nothing k = board_more published t (λ label n q. absurd (⊎_elim (λ (r : e ≡ told label n). subst TellsNothing r nothing) (λ (r : e ≡ heard label n). subst TellsNothing r nothing) q)) (λ label n q. absurd (subst TellsNothing q nothing)) (λ label n q. subst TellsNothing q nothing) k
 
   pub faults_more : (writes : WriteTable) (halted : Bool) → IsQuiet e → ((n : ℕ) → e ≡ stopped n → (writes.closed ≡ true) × (n ≡ length writes.history))
-      → AreFaults writes halted before → AreFaults writes halted after
-  faults_more writes halted quiet new k = record {
+      → ((n tables due : ℕ) → e ≡ found_edit n tables due true → halted ≡ true) → AreFaults writes halted before → AreFaults writes halted after
+  faults_more writes halted quiet new new_edit k = record {
     log = times_more xs by a b e at same grown is_log_fault ∙ rw quiet.log (let z = k.log in omega (arith, z));
     tables = times_more xs by a b e at same grown is_tables_fault ∙ rw quiet.tables (let z = k.tables in omega (arith, z));
     not_logged = k.not_logged;
     stopped = λ n h. ⊎_elim (λ c. k.stopped n c) (λ c. new n c) (past_before xs by a b e at same grown (stopped n) h);
+    failed = λ entries h. ⊎_elim (λ c. k.failed entries c) (λ (q : e ≡ log_failed entries). absurd (true≢false (sym (ap is_log_fault q) ∙ quiet.log))) (past_before xs by a b e at same grown (log_failed entries) h);
+    found_halted = λ n tables due h. ⊎_elim (λ c. k.found_halted n tables due c) (λ c. new_edit n tables due c) (past_before xs by a b e at same grown (found_edit n tables due true) h);
   }
 
   pub installed_still : (first : InstalledEdit) (n : ℕ) → WasInstalled first before n → WasInstalled first after n
   installed_still first n (inl k) = inl k
-  installed_still first n (inr (tables, k)) = inr (tables, past_still xs by a b e at same grown _ k)
+  installed_still first n (inr (edit, flushed, k)) = inr (edit, flushed, past_still xs by a b e at same grown _ k)
 
-  pub compacts_still : (j i : ℕ) → OtherCompacts before j i → OtherCompacts after j i
-  compacts_still j i (l, m, n, tables, apart, k) = (l, m, n, tables, apart, done_still xs by a b e at same grown l m _ k)
+  other_still : (j i : ℕ) (x : Event) → OtherDid before j i x → OtherDid after j i x
+  other_still j i x (l, m, apart, k) = (l, m, apart, done_still xs by a b e at same grown l m x k)
+
+  compacts_still : (j i : ℕ) → OtherCompacts before j i → OtherCompacts after j i
+  compacts_still j i (edit, k) = (edit, other_still j i _ k)
+
+  installs_still : (j i : ℕ) → OtherInstalls before j i → OtherInstalls after j i
+  installs_still j i (edit, compacts, k) = (edit, compacts, other_still j i _ k)
 
   due_same : (first : InstalledEdit) → ((n : ℕ) → due_after n e ≡ n) → tables_due first b.participant.past ≡ tables_due first a.participant.past
   due_same first due = ap (tables_due first) grown ∙ fold-append due_after first.tables a.participant.past (e ∷ []) ∙ due (tables_due first a.participant.past)
 
-  -- the edits, where the last one may be another and the tables that are due may be more
-  pub edits_grown : (first : InstalledEdit) (t u : Installed) → ((n : ℕ) → e ≡ found_flushed n → WasInstalled first before n) → WasInstalled first after u.last.flushed
-      → (tables_due first a.participant.past ≤ t.last.tables → tables_due first b.participant.past ≤ u.last.tables)
-      → ((j i : ℕ) (past : List Event) → (j ≢ by) ⊎ (i ≢ 0) → tables_due first past ≤ t.last.tables → (tables_due first past ≤ u.last.tables) ⊎ OtherCompacts after j i)
-      → AreEdits first t before → AreEdits first u after
-  edits_grown first t u new last its theirs k = record {
-    last = last;
-    found = λ n h. installed_still first n (⊎_elim (λ c. k.found n c) (λ c. new n c) (past_before xs by a b e at same grown (found_flushed n) h));
+  last_same : (first : InstalledEdit) → ((edit : InstalledEdit) → last_after edit e ≡ edit) → last_installed first b.participant.past ≡ last_installed first a.participant.past
+  last_same first last = ap (last_installed first) grown ∙ fold-append last_after first a.participant.past (e ∷ []) ∙ last (last_installed first a.participant.past)
+
+  -- what of a found edit is so by itself
+  abbrev pub AreFound : InstalledEdit → Type 0
+  AreFound first = (n tables due : ℕ) (halted : Bool) → e ≡ found_edit n tables due halted → WasInstalled first before n × (tables < due → OtherCompacts before by 0)
+
+  -- what the edits need, where the last one may be another, and more tables may be due
+  pub record EditsGrow (first : InstalledEdit) (t u : Installed) : Type 0 where
+    pub last : WasInstalled first after u.last.flushed
+    pub found : AreFound first
+    pub its_edit : t.last ≡ last_installed first a.participant.past → u.last ≡ last_installed first b.participant.past
+    pub their_edit : (j i : ℕ) (past : List Event) → (j ≢ by) ⊎ (i ≢ 0) → t.last ≡ last_installed first past → (u.last ≡ last_installed first past) ⊎ OtherInstalls after j i
+    pub its_tables : tables_due first a.participant.past ≤ t.last.tables → tables_due first b.participant.past ≤ u.last.tables
+    pub their_tables : (j i : ℕ) (past : List Event) → (j ≢ by) ⊎ (i ≢ 0) → tables_due first past ≤ t.last.tables → (tables_due first past ≤ u.last.tables) ⊎ OtherCompacts after j i
+    pub failed : (last : InstalledEdit) (edit : Option InstalledEdit) → IsPast after (tables_failed last edit) → (u.halted ≡ true) × (u.last ≡ last) × (u.failed ≡ edit)
+    pub none_failed : u.halted ≡ false → u.failed ≡ None
+
+  few_more : (first : InstalledEdit) (t : Installed) → AreFound first → AreEdits first t before → (j i n tables due : ℕ) (halted : Bool) → HasDone after j i (found_edit n tables due halted) → tables < due → OtherCompacts after j i
+  few_more first t is_so k j i n tables due halted h few = ⊎_elim
+      (λ (c : HasDone before j i (found_edit n tables due halted)). compacts_still j i (k.few j i n tables due halted c few))
+      (λ (c : (j ≡ by) × (i ≡ 0) × (e ≡ found_edit n tables due halted)). at_place (OtherCompacts after) j i by 0 (sym c.0) (sym c.1) (compacts_still by 0 ((is_so n tables due halted c.2).1 few)))
+      (done_before xs by a b e at same grown j i (found_edit n tables due halted) h)
+
+  pub edits_grown : (first : InstalledEdit) (t u : Installed) → EditsGrow first t u → AreEdits first t before → AreEdits first u after
+  edits_grown first t u g k = record {
+    last = g.last;
+    found = λ n tables due halted h. installed_still first n (⊎_elim (λ c. k.found n tables due halted c) (λ c. (g.found n tables due halted c).0) (past_before xs by a b e at same grown (found_edit n tables due halted) h));
+    few = few_more first t g.found k;
+    edit = λ j i past there. ⊎_elim
+        (λ (c : (j ≡ by) × (i ≡ 0) × (past ≡ b.participant.past)).
+        ⊎_elim
+        (λ (d : t.last ≡ last_installed first a.participant.past). inl (g.its_edit d ∙ ap (last_installed first) (sym c.2)))
+        (λ (d : OtherInstalls before by 0). inr (at_place (OtherInstalls after) j i by 0 (sym c.0) (sym c.1) (installs_still by 0 d)))
+        (k.edit by 0 a.participant.past (mine past_of xs by a b at same)))
+        (λ (c : ((j ≢ by) ⊎ (i ≢ 0)) × IsParticipantAt before j i past).
+        ⊎_elim
+        (λ (d : t.last ≡ last_installed first past). g.their_edit j i past c.0 d)
+        (λ (d : OtherInstalls before j i). inr (installs_still j i d))
+        (k.edit j i past c.1))
+        (was_apart past_of xs by a b at same j i past there);
     tables = λ j i past there. ⊎_elim
         (λ (c : (j ≡ by) × (i ≡ 0) × (past ≡ b.participant.past)).
         ⊎_elim
-        (λ (d : tables_due first a.participant.past ≤ t.last.tables). inl (subst (λ (p : List Event). tables_due first p ≤ u.last.tables) (sym c.2) (its d)))
-        (λ (d : OtherCompacts before by 0). inr (subst (λ (n : ℕ). OtherCompacts after n i) (sym c.0) (subst (λ (n : ℕ). OtherCompacts after by n) (sym c.1) (compacts_still by 0 d))))
+        (λ (d : tables_due first a.participant.past ≤ t.last.tables). inl (subst (λ (p : List Event). tables_due first p ≤ u.last.tables) (sym c.2) (g.its_tables d)))
+        (λ (d : OtherCompacts before by 0). inr (at_place (OtherCompacts after) j i by 0 (sym c.0) (sym c.1) (compacts_still by 0 d)))
         (k.tables by 0 a.participant.past (mine past_of xs by a b at same)))
         (λ (c : ((j ≢ by) ⊎ (i ≢ 0)) × IsParticipantAt before j i past).
         ⊎_elim
-        (λ (d : tables_due first past ≤ t.last.tables). theirs j i past c.0 d)
+        (λ (d : tables_due first past ≤ t.last.tables). g.their_tables j i past c.0 d)
         (λ (d : OtherCompacts before j i). inr (compacts_still j i d))
         (k.tables j i past c.1))
         (was_apart past_of xs by a b at same j i past there);
+    failed = g.failed;
+    none_failed = g.none_failed;
   }
 
-  -- the same where the event installs nothing, a fault or not
-  pub edits_still : (first : InstalledEdit) (t : Installed) → ((n : ℕ) → due_after n e ≡ n) → ((n : ℕ) → e ≡ found_flushed n → WasInstalled first before n)
+  -- the same where the event installs nothing and is no fault of the tables' devices
+  pub edits_still : (first : InstalledEdit) (t : Installed) → ((n : ℕ) → due_after n e ≡ n) → ((edit : InstalledEdit) → last_after edit e ≡ edit) → is_tables_fault e ≡ false → AreFound first
       → AreEdits first t before → AreEdits first t after
-  edits_still first t due new k = edits_grown first t t new (installed_still first t.last.flushed k.last) (λ le. subst (λ (n : ℕ). n ≤ t.last.tables) (sym (due_same first due)) le) (λ j i past elsewhere le. inl le) k
+  edits_still first t due last working is_so k = edits_grown first t t record {
+    last = installed_still first t.last.flushed k.last;
+    found = is_so;
+    its_edit = λ d. d ∙ sym (last_same first last);
+    their_edit = λ j i past elsewhere d. inl d;
+    its_tables = λ le. subst (λ (n : ℕ). n ≤ t.last.tables) (sym (due_same first due)) le;
+    their_tables = λ j i past elsewhere le. inl le;
+    failed = λ last edit h. ⊎_elim (λ c. k.failed last edit c) (λ (q : e ≡ tables_failed last edit). absurd (true≢false (sym (ap is_tables_fault q) ∙ working))) (past_before xs by a b e at same grown (tables_failed last edit) h);
+    none_failed = k.none_failed;
+  } k
 
-  pub edits_more : (first : InstalledEdit) (t : Installed) → IsQuiet e → ((n : ℕ) → e ≡ found_flushed n → WasInstalled first before n)
-      → AreEdits first t before → AreEdits first t after
-  edits_more first t quiet new k = edits_still first t quiet.due new k
+  pub edits_more : (first : InstalledEdit) (t : Installed) → IsQuiet e → AreFound first → AreEdits first t before → AreEdits first t after
+  edits_more first t quiet is_so k = edits_still first t quiet.due quiet.last quiet.tables is_so k

@@ -64,6 +64,7 @@ module _ (xs : List Actor) (by : ℕ) (a b : Actor) (at : get_elem? xs by ≡ so
         (λ (c : IsParticipantAt after o.at o.place o.owner). record { at = o.at; place = o.place; owner = o.owner; transaction = o.transaction; there = c; client_is = o.client_is; has = o.has; began = o.began })
         (still owner_of xs by a b at same o.at o.place o.owner o.there);
     names_left = k.names_left;
+    keys_left = k.keys_left;
     keys_live = k.keys_live;
     keys_known = λ key name h. key_known xs by a b at same (λ n x has. absurd (none_now (owner_of b.participant) n x refl has)) key name (k.keys_known key name h);
     keys_direct = λ key client h.

@@ -1,5 +1,5 @@
 -- What tests say together, and what an option that is known says.
-use Rattle.std.proofs.Common.{◌≡◌, ◌⊎◌, inl, inr, ◌&&◌, ◌||◌, not, Bool, true, false, true≢false, cond, refl, sym, ◌∙◌, Option, Some, None}
+use Rattle.std.proofs.Common.{◌≡◌, ◌⊎◌, inl, inr, ◌&&◌, ◌||◌, not, Bool, true, false, true≢false, cond, refl, sym, ◌∙◌, Option, Some, None, is_some}
 
 -- ---- tests
 
@@ -30,6 +30,10 @@ some_none x e = absurd (cc)
 
 pub none_some : {A : Type 0} (o : Option A) (x : A) → o ≡ None → o ≡ Some x → ⊥
 none_some o x none there = some_none x (sym there ∙ none)
+
+pub some_there : {A : Type 0} (o : Option A) → is_some o ≡ true → (x : A) × (o ≡ Some x)
+some_there None e = absurd (true≢false (sym e))
+some_there (Some x) e = (x, refl)
 
 pub none_either : {A : Type 0} (b : Bool) → ◌≡◌ {A = Option A} None (cond b None None)
 none_either true = refl

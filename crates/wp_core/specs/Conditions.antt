@@ -5,7 +5,7 @@ use Rattle.std.specs.FinMap as finite
 use Rattle.wp_model.specs.declared.change.Change.{Change}
 use Rattle.wp_model.specs.declared.entry.Entry.{Entry}
 use Rattle.wp_model.specs.declared.entry.Entry.TheVariants.{Prepare}
-use Rattle.wp_model.specs.History.{named, is_changed}
+use Rattle.wp_model.specs.History.{is_changed}
 use Rattle.wp_model.specs.Legal.{IsLegal}
 use Rattle.wp_model.specs.declared.version.Version.{Version}
 use Rattle.wp_model.specs.Versions.{version_at}
@@ -145,8 +145,9 @@ pub record IsOther (w : World) (by : ℕ) (key : Option (List ℕ)) (holder : Ho
   pub apart : (at ≢ by) ⊎ (place ≢ 0)
   pub is : IsSelf participant key holder
 
+-- how the holder is accounted for: it is the actor itself, or another one, or a live name that nobody has
 abbrev pub Accounts : World → ℕ → Actor → Option (List ℕ) → Holder → Account → Type 0
 Accounts w by a key holder own = IsSelf (owner_of a.participant) key holder
 Accounts w by a key holder another = IsOther w by key holder
-Accounts w by a key (Txn name) (prepare_at n) = (n ≡ published w) × (is_some (named w.writes.history name) ≡ true)
+Accounts w by a key (Txn name) (prepare_at n) = (n ≡ published w) × (finite.get w.locks.names name ≡ Some None)
 Accounts w by a key (Client client) (prepare_at n) = ⊥

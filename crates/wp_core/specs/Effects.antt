@@ -10,10 +10,11 @@ use Rattle.wp_core.specs.Cache.{with_pair}
 use Rattle.wp_core.specs.Tables.{WriteTable, Installed, writes, prepared, snapshots, store, locks, installed, without_prepared, with_moved}
 use Rattle.wp_model.specs.Flushed.{InstalledEdit}
 use Rattle.wp_core.specs.Reading.{reads}
-use Rattle.wp_core.specs.Views.{claimed, took, locked, told, heard, log_failed, tables_failed, stopped, found_flushed, found}
+use Rattle.wp_core.specs.Views.{claimed, took, locked, told, heard, log_failed, tables_failed, stopped, found_edit, found}
 use Rattle.wp_core.specs.Views as event
 use Rattle.wp_core.specs.World.{Actor, new_actor, World, published, content_of}
-use Rattle.wp_core.specs.Steps.{Step, load_published, register, begin_reading, load, end_reading, store_published, store_max_evicted, store_word, store_delayed_flag, store_old_flag, take_turn, give_turn, make_pending, log_pending, close_log, find_log_closed, drop_pending, add_prepared, take_pending_prepared, add_delayed_commit, take_out, register_again, release, add_old_commit, add_versions, take_versions, move_versions, replace_versions, install, halt, find_flushed, claim_name, take_name, leave_name, free_transaction, lock_key, free_key, lock_direct, free_direct, find_holder, tell, hear, set_batch, note, make_note, make_seat, set_client, learn, join_seat}
+use Rattle.wp_core.specs.Steps.{Step, load_published, register, begin_reading, load, end_reading, store_published, store_max_evicted, store_word, store_delayed_flag, store_old_flag, take_turn, give_turn, make_pending, log_pending, close_log, find_log_closed, drop_pending, add_prepared, take_pending_prepared, add_delayed_commit, take_out, register_again, release, add_old_commit, add_versions, take_versions, move_versions, replace_versions, install, halt, find_edit, claim_name, take_name, leave_name, free_transaction, lock_key, free_key, lock_direct, free_direct, find_holder, tell, hear, set_batch, note, make_note, make_seat, set_client, learn, join_seat}
+use Rattle.wp_core.specs.Sound.Pasts.{tables_due}
 use Rattle.wp_core.specs.Changes.{with_actor, held_without, change, sees, remembers, registers, releases, has_transaction, has_no_transaction, has_direct, loaded, with_registered, with_released, with_old_commit, keys_of_holder, with_name, with_key, without_key, without_transaction, with_label, informed, joins, joined_actor, made_one}
 
 -- ---- tables
@@ -46,7 +47,7 @@ done w by a (take_turn turn) = with_actor (record w { holders = with_holder w.ho
 done w by a (give_turn turn) = with_actor (record w { holders = with_holder w.holders turn None }) by (record a { held = held_without a.held turn })
 done w by a (make_pending entries) = change w by a (writes (record w.writes { pending = entries; logged = false }))
 done w by a log_pending = change w by a (writes (record w.writes { logged = true; log = w.writes.log ++ w.writes.pending }))
-done w by a close_log = change w by (remembers a log_failed) (writes (record w.writes { closed = true; failed = w.writes.pending }))
+done w by a close_log = change w by (remembers a (log_failed w.writes.pending)) (writes (record w.writes { closed = true; failed = w.writes.pending }))
 done w by a find_log_closed = with_actor w by (remembers a (stopped (published w)))
 done w by a drop_pending = change w by a (writes (record w.writes { pending = [] }))
 done w by a add_prepared = change w by a (prepared (record w.prepared { heap = set.insert w.prepared.heap (suc (published w)) }))
@@ -60,9 +61,9 @@ done w by a (add_versions memory) = change w by a (store (record w.store { memor
 done w by a (take_versions memory) = change w by a (store (record w.store { memory = memory }))
 done w by a (move_versions memory tables) = change w by a (store (record w.store { memory = memory; tables = tables }))
 done w by a (replace_versions tables floor) = change w by a (store (record w.store { tables = tables; floor = floor }))
-done w by a (install edit compacts) = change w by (remembers a (event.installed edit.flushed edit.tables compacts)) (installed (record w.installed { last = edit }))
-done w by a (halt edit) = change w by (remembers a tables_failed) (installed (with_failed w.installed edit))
-done w by a find_flushed = with_actor w by (remembers a (found_flushed w.installed.last.flushed))
+done w by a (install edit compacts) = change w by (remembers a (event.installed edit compacts)) (installed (record w.installed { last = edit }))
+done w by a (halt edit) = change w by (remembers a (tables_failed w.installed.last edit)) (installed (with_failed w.installed edit))
+done w by a find_edit = with_actor w by (remembers a (found_edit w.installed.last.flushed w.installed.last.tables (tables_due w.first_edit a.participant.past) w.installed.halted))
 done w by a (claim_name name) = change w by (remembers (has_transaction a name (record { batch = []; locked = set.empty })) (claimed name)) (locks (with_name w.locks name (Some a.participant.client)))
 done w by a (take_name name p) = change w by (remembers (has_transaction a name (record { batch = batch_at w.writes.history p; locked = keys_of_holder w.locks (Txn name) })) (took name)) (locks (with_name w.locks name (Some a.participant.client)))
 done w by a (leave_name name) = change w by (has_no_transaction a name) (locks (with_name w.locks name None))

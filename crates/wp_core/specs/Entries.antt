@@ -1,9 +1,9 @@
 -- What an entry that comes next is about: its versions, its pair, its keys, its transaction.
-use Rattle.std.specs.Prelude.{◌≡◌, ℕ, suc, ◌==◌, List, [], ◌∷◌, ◌++◌, length, Option, Some, None, if◌then◌else◌}
+use Rattle.std.specs.Prelude.{◌≡◌, ℕ, suc, ◌==◌, List, [], ◌∷◌, ◌++◌, length, Option, Some, None, unwrap_or, if◌then◌else◌}
 use Rattle.wp_model.specs.declared.change.Change.{Change}
 use Rattle.wp_model.specs.declared.entry.Entry.{Entry}
 use Rattle.wp_model.specs.declared.entry.Entry.TheVariants.{Write, Prepare, Commit, Undo, Close}
-use Rattle.wp_model.specs.History.{batch_at, name_at}
+use Rattle.wp_model.specs.History.{batch_at, name_at, named}
 use Rattle.wp_model.specs.Decision.{version_in}
 use Rattle.wp_model.specs.declared.version.Version.{Version}
 use Rattle.wp_model.specs.Versions.{version_at}
@@ -46,6 +46,10 @@ changes_under history (Prepare name batch) = batch
 changes_under history (Commit p) = batch_at history p
 changes_under history (Undo p batch) = batch
 changes_under history (Close p) = batch_at history p
+
+-- the batch of the undecided prepare of this name, or of none
+abbrev pub batch_of_name : List Entry → List ℕ → List Change
+batch_of_name history name = batch_at history (unwrap_or (named history name) 0)
 
 -- a record: one entry, or an Undo with its Close
 abbrev pub IsOneRecord : List Entry → Type 0

@@ -70,7 +70,7 @@ pub data Step : Type 0 where
   install : InstalledEdit → Bool → Step
   -- the devices failed, in the install of this edit or before one
   halt : Option InstalledEdit → Step
-  find_flushed : Step
+  find_edit : Step
   -- ---- the locks turn
   claim_name : List ℕ → Step
   -- the undecided prepare with this name and number, which no actor has

@@ -1,8 +1,10 @@
 -- What an actor did and found, and what it knows of tables that others may hold.
 use Rattle.std.specs.Prelude.{ℕ, Bool, List, Option}
 use Rattle.wp_model.specs.declared.change.Change.{Change}
+use Rattle.wp_model.specs.declared.entry.Entry.{Entry}
 use Rattle.wp_model.specs.declared.version.Version.{Version}
 use Rattle.wp_model.specs.declared.holder.Holder.{Holder}
+use Rattle.wp_model.specs.Flushed.{InstalledEdit}
 use Rattle.wp_judge.specs.Words.{CommitPair}
 
 -- how a holder that was found is accounted for: the finder's own, another actor's, or a prepare undecided after so many entries
@@ -18,13 +20,17 @@ pub data Event : Type 0 where
   locked : List ℕ → Holder → Event
   told : List ℕ → ℕ → Event
   heard : List ℕ → ℕ → Event
-  -- an edit with this flushed number and so many tables; true where a compaction made it
-  installed : ℕ → ℕ → Bool → Event
-  log_failed : Event
-  tables_failed : Event
+  -- this edit; true where a compaction made it
+  installed : InstalledEdit → Bool → Event
+  -- the append of this record failed
+  log_failed : List Entry → Event
+  -- the devices failed, where the first was the last edit, in the install of the second, if of one
+  tables_failed : InstalledEdit → Option InstalledEdit → Event
   -- the log was found closed at this published number
   stopped : ℕ → Event
-  found_flushed : ℕ → Event
+  -- the last edit was found, with this flushed number and so many tables, by one who knew of so many; true where the
+  -- devices had failed
+  found_edit : ℕ → ℕ → ℕ → Bool → Event
   -- this holder was found, of a key or else of a live name, by one who had seen so many entries
   found : Option (List ℕ) → Holder → ℕ → Account → Event
 

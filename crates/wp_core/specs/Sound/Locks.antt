@@ -7,6 +7,7 @@ use Rattle.wp_model.specs.History.{is_undecided, is_changed, name_at, batch_at, 
 use Rattle.wp_model.specs.declared.holder.Holder.{Holder}
 use Rattle.wp_model.specs.declared.holder.Holder.TheVariants.{Txn, Client}
 use Rattle.wp_core.specs.Lists.{IsIn}
+use Rattle.wp_core.specs.Entries.{batch_of_name}
 use Rattle.wp_model.specs.LockTables.{LockTables}
 use Rattle.wp_core.specs.Views.{Event, claimed, took, locked}
 use Rattle.wp_core.specs.World.{Transaction, Transactions, Participant}
@@ -67,7 +68,8 @@ pub record AreApart (owners : List (List Owner)) : Type 0 where
   pub direct : (j i k l : ℕ) (o p : Owner) (key : List ℕ) → IsParticipantAt owners j i o → IsParticipantAt owners k l p → o.direct ≡ Some key → p.direct ≡ Some key → (j ≡ k) × (i ≡ l)
 
 -- Each undecided prepare has its name live and its keys held; nothing else is live, and a key is held for a live
--- transaction or as a direct write's alone.
+-- transaction or as a direct write's alone. A live name that nobody has is an undecided prepare's, and so is each key that
+-- is held for it.
 pub record AreLocked (history : List Entry) (t : LockTables) (owners : List (List Owner)) : Type 0 where
   pub prepared_names : (p : ℕ) → is_undecided history p ≡ true → is_some (finite.get t.names (name_at history p)) ≡ true
   pub prepared_keys : (p : ℕ) (key : List ℕ) → is_undecided history p ≡ true → is_changed (batch_at history p) key ≡ true → finite.get t.keys key ≡ Some (Txn (name_at history p))
@@ -75,6 +77,7 @@ pub record AreLocked (history : List Entry) (t : LockTables) (owners : List (Lis
   pub apart : AreApart owners
   pub names_had : (name client : List ℕ) → finite.get t.names name ≡ Some (Some client) → IsNameOf owners name client
   pub names_left : (name : List ℕ) → finite.get t.names name ≡ Some None → is_some (named history name) ≡ true
+  pub keys_left : (key name : List ℕ) → finite.get t.names name ≡ Some None → finite.get t.keys key ≡ Some (Txn name) → is_changed (batch_of_name history name) key ≡ true
   pub keys_live : (key name : List ℕ) → finite.get t.keys key ≡ Some (Txn name) → is_some (finite.get t.names name) ≡ true
   pub keys_known : (key name : List ℕ) → finite.get t.keys key ≡ Some (Txn name) → EachParticipant (λ o. (x : Transaction) → Has o name x → set.contains x.locked key ≡ true) owners
   pub keys_direct : (key client : List ℕ) → finite.get t.keys key ≡ Some (Client client) → IsDirectOf owners key client

@@ -1,15 +1,15 @@
 -- What is so of the actors' pasts: whom they found, what they told, which faults they met, which edits they installed.
-use Rattle.std.specs.Prelude.{◌≡◌, ◌≢◌, ◌⊎◌, ℕ, ◌+◌, ◌≤◌, Bool, true, false, List, [], length, take, fold, Option, Some, is_some}
+use Rattle.std.specs.Prelude.{◌≡◌, ◌≢◌, ◌⊎◌, ℕ, ◌+◌, ◌≤◌, ◌<◌, Bool, true, false, List, [], length, take, fold, Option, Some, None, is_some}
 use Rattle.std.specs.FinMap as finite
 use Rattle.wp_model.specs.declared.entry.Entry.{Entry}
-use Rattle.wp_model.specs.History.{named, holder_of}
+use Rattle.wp_model.specs.History.{named, holder_of, batch_at, is_changed}
 use Rattle.wp_model.specs.declared.holder.Holder.{Holder}
 use Rattle.wp_model.specs.declared.holder.Holder.TheVariants.{Txn, Client}
 use Rattle.wp_core.specs.Lists.{IsIn, one_if, total}
 use Rattle.wp_model.specs.LockTables.{LockTables}
 use Rattle.wp_core.specs.Tables.{WriteTable, Installed}
 use Rattle.wp_model.specs.Flushed.{InstalledEdit}
-use Rattle.wp_core.specs.Views.{Account, own, another, prepare_at, Event, claimed, took, locked, told, heard, installed, log_failed, tables_failed, stopped, found_flushed, found}
+use Rattle.wp_core.specs.Views.{Account, own, another, prepare_at, Event, claimed, took, locked, told, heard, installed, log_failed, tables_failed, stopped, found_edit, found}
 use Rattle.wp_core.specs.World.{Participant}
 use Rattle.wp_core.specs.Sound.Actors.{IsParticipantAt, total_participants}
 use Rattle.wp_core.specs.Sound.Locks.{prepare_holding}
@@ -38,12 +38,17 @@ Makes (took name) key (Txn other) = name ≡ other
 Makes (locked key holder) (Some other) (Client client) = (key ≡ other) × (holder ≡ Client client)
 Makes e key holder = ⊥
 
+-- the prepare with this number changes the key, where one is given
+abbrev pub HasKeyAt : List Entry → ℕ → Option (List ℕ) → Type 0
+HasKeyAt history p None = Unit {0}
+HasKeyAt history p (Some key) = is_changed (batch_at history p) key ≡ true
+
 -- How the answer of one of the participants, that this is the holder of a key or else a live name, is accounted for: by
 -- what it did itself, by what another did, or by a prepare that was undecided when it had seen so many entries, or later.
 abbrev pub IsAccounted : List Entry → List (List (List Event)) → ℕ → ℕ → Option (List ℕ) → Holder → ℕ → Account → Type 0
 IsAccounted history pasts j i key holder seen own = (e : Event) × Makes e key holder × HasDone pasts j i e
 IsAccounted history pasts j i key holder seen another = (k l : ℕ) × (e : Event) × ((k ≢ j) ⊎ (l ≢ i)) × Makes e key holder × HasDone pasts k l e
-IsAccounted history pasts j i key (Txn name) seen (prepare_at n) = (seen ≤ n) × (n ≤ length history) × (is_some (named (take n history) name) ≡ true)
+IsAccounted history pasts j i key (Txn name) seen (prepare_at n) = (seen ≤ n) × (n ≤ length history) × ((p : ℕ) × (named (take n history) name ≡ Some p) × HasKeyAt (take n history) p key)
 IsAccounted history pasts j i key (Client name) seen (prepare_at n) = ⊥
 
 -- the key was locked for the holder, or is one of a prepare that was undecided at the opening
@@ -70,11 +75,11 @@ pub record IsBoard (published : ℕ) (t : LockTables) (pasts : List (List (List 
 -- ---- faults
 
 abbrev pub is_log_fault : Event → Bool
-is_log_fault log_failed = true
+is_log_fault (log_failed entries) = true
 is_log_fault other = false
 
 abbrev pub is_tables_fault : Event → Bool
-is_tables_fault tables_failed = true
+is_tables_fault (tables_failed last edit) = true
 is_tables_fault other = false
 
 pub record AreFaults (writes : WriteTable) (halted : Bool) (pasts : List (List (List Event))) : Type 0 where
@@ -82,27 +87,52 @@ pub record AreFaults (writes : WriteTable) (halted : Bool) (pasts : List (List (
   pub tables : times_past is_tables_fault pasts ≡ one_if halted
   pub not_logged : writes.closed ≡ true → (writes.pending ≡ []) ⊎ (writes.logged ≡ false)
   pub stopped : (n : ℕ) → IsPast pasts (stopped n) → (writes.closed ≡ true) × (n ≡ length writes.history)
+  -- the record whose append failed is the one that the log may have
+  pub failed : (entries : List Entry) → IsPast pasts (log_failed entries) → (writes.closed ≡ true) × (writes.failed ≡ entries)
+  pub found_halted : (n tables due : ℕ) → IsPast pasts (found_edit n tables due true) → halted ≡ true
 
 -- ---- edits
 
 -- a flushed number is that of the opening, or one that a flush installed
 abbrev pub WasInstalled : InstalledEdit → List (List (List Event)) → ℕ → Type 0
-WasInstalled first pasts n = (n ≡ first.flushed) ⊎ ((tables : ℕ) × IsPast pasts (installed n tables false))
+WasInstalled first pasts n = (n ≡ first.flushed) ⊎ ((edit : InstalledEdit) × (edit.flushed ≡ n) × IsPast pasts (installed edit false))
 
 -- the tables that are there at least, for one who knows of so many and installed an edit
 abbrev pub due_after : ℕ → Event → ℕ
-due_after due (installed n tables true) = tables
-due_after due (installed n tables false) = due + 1
+due_after due (installed edit true) = edit.tables
+due_after due (installed edit false) = due + 1
 due_after due other = due
 
 abbrev pub tables_due : InstalledEdit → List Event → ℕ
 tables_due first past = fold due_after first.tables past
 
--- another one has a compaction in its past
-abbrev pub OtherCompacts : List (List (List Event)) → ℕ → ℕ → Type 0
-OtherCompacts pasts j i = (k l n tables : ℕ) × ((k ≢ j) ⊎ (l ≢ i)) × HasDone pasts k l (installed n tables true)
+-- the last edit for one who knew of this one
+abbrev pub last_after : InstalledEdit → Event → InstalledEdit
+last_after last (installed edit compacts) = edit
+last_after last other = last
 
+abbrev pub last_installed : InstalledEdit → List Event → InstalledEdit
+last_installed first past = fold last_after first past
+
+-- another one has it in its past
+abbrev pub OtherDid : List (List (List Event)) → ℕ → ℕ → Event → Type 0
+OtherDid pasts j i e = (k l : ℕ) × ((k ≢ j) ⊎ (l ≢ i)) × HasDone pasts k l e
+
+abbrev pub OtherInstalls : List (List (List Event)) → ℕ → ℕ → Type 0
+OtherInstalls pasts j i = (edit : InstalledEdit) × (compacts : Bool) × OtherDid pasts j i (installed edit compacts)
+
+abbrev pub OtherCompacts : List (List (List Event)) → ℕ → ℕ → Type 0
+OtherCompacts pasts j i = (edit : InstalledEdit) × OtherDid pasts j i (installed edit true)
+
+-- The last edit's flushed number is the opening's or a flush's, and so is each that was found. It is the edit that a
+-- participant installed last, unless another one installed one, and has at least the tables that this one knows of, unless
+-- another one compacted; so has the edit that was found. Where the devices failed, it is that one still, and so is the one
+-- whose install failed.
 pub record AreEdits (first : InstalledEdit) (t : Installed) (pasts : List (List (List Event))) : Type 0 where
   pub last : WasInstalled first pasts t.last.flushed
-  pub found : (n : ℕ) → IsPast pasts (found_flushed n) → WasInstalled first pasts n
+  pub found : (n tables due : ℕ) (halted : Bool) → IsPast pasts (found_edit n tables due halted) → WasInstalled first pasts n
+  pub few : (j i n tables due : ℕ) (halted : Bool) → HasDone pasts j i (found_edit n tables due halted) → tables < due → OtherCompacts pasts j i
+  pub edit : (j i : ℕ) (past : List Event) → IsParticipantAt pasts j i past → (t.last ≡ last_installed first past) ⊎ OtherInstalls pasts j i
   pub tables : (j i : ℕ) (past : List Event) → IsParticipantAt pasts j i past → (tables_due first past ≤ t.last.tables) ⊎ OtherCompacts pasts j i
+  pub failed : (last : InstalledEdit) (edit : Option InstalledEdit) → IsPast pasts (tables_failed last edit) → (t.halted ≡ true) × (t.last ≡ last) × (t.failed ≡ edit)
+  pub none_failed : t.halted ≡ false → t.failed ≡ None
