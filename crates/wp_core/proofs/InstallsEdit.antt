@@ -85,6 +85,8 @@ module _ (w : World) (by : ℕ) (a : Actor) (edit : InstalledEdit) (compacts : B
   edits_installed : AreEdits w.first_edit t after
   edits_installed = edits_grown w.actors by a c e at refl refl w.first_edit w.installed t record {
     last = flushed_at compacts refl;
+    rises = n.5;
+    new = λ x q. let same : edit ≡ x = cc in subst (λ (z : InstalledEdit). z.flushed ≤ edit.flushed) same (omega arith);
     found = λ n tables due halted q. absurd cc;
     its_edit = λ same. sym (last_more w.first_edit a.participant.past e);
     their_edit = λ j i past apart same. inr (edit, compacts, by_other j i apart);
@@ -164,6 +166,8 @@ module _ (w : World) (by : ℕ) (a : Actor) (edit : Option InstalledEdit) (at : 
       let same : u.last ≡ w.installed.last = still_last w.installed edit in
       let tables : u.last.tables ≡ w.installed.last.tables = ap (λ (z : InstalledEdit). z.tables) same in
       edits_grown w.actors by a b failure at refl refl w.first_edit w.installed u record {
+        rises = let flushed = ap (λ (z : InstalledEdit). z.flushed) same in omega (arith, flushed);
+        new = λ x q. absurd cc;
         last = subst (λ (z : InstalledEdit). WasInstalled w.first_edit then z.flushed) (sym same) (installed_still w.actors by a b failure at refl refl w.first_edit w.installed.last.flushed s.edits.last);
         found = λ n tables due halted q. absurd cc;
         its_edit = λ known. same ∙ known ∙ sym (last_more w.first_edit a.participant.past failure);

@@ -1,5 +1,5 @@
 -- An actor that is alone tells the tables of its world.
-use Rattle.std.proofs.Common.{◌≡◌, ◌≤◌, ◌==◌, ◌⊎◌, ⊎_elim, inl, inr, ℕ, zero, suc, ◌+◌, Bool, true, false, List, [], ◌∷◌, length, map, refl, sym, subst, ap, ◌∙◌, Option, Some, None, arith}
+use Rattle.std.proofs.Common.{◌≡◌, ◌≤◌, ◌==◌, ◌⊎◌, ⊎_elim, inl, inr, ℕ, zero, suc, ◌+◌, Bool, true, false, List, [], ◌∷◌, length, map, refl, sym, subst, ap, ◌∙◌, Option, Some, None, ◌≢◌, arith}
 use mathlib.Core.Option.{some, some-injective, some-ne-none}
 use lib.ListN.{get_elem?}
 use Rattle.std.specs.FinMap as finite
@@ -13,10 +13,11 @@ use Rattle.wp_core.specs.Reading.{Registration}
 use Rattle.wp_core.specs.World.{Participant, Actor, World, new_participant}
 use Rattle.wp_core.specs.Sound.Actors.{participants_of, IsParticipantAt, total_participants, own_of, times, Role, role_of}
 use Rattle.wp_core.specs.Sound.Locks.{owner_of}
-use Rattle.wp_core.specs.Sound.Pasts.{past_of, is_log_fault, is_tables_fault, IsPast}
+use Rattle.wp_core.specs.Sound.Pasts.{past_of, is_log_fault, is_tables_fault, IsPast, last_installed, OtherInstalls}
 use Rattle.wp_core.specs.Sound.Snapshots.{registered_of, count_of}
 use Rattle.wp_core.specs.IsSound.{IsSound, participants}
-use Rattle.wp_core.specs.Views.{Event, told}
+use Rattle.wp_core.specs.Views.{Event, told, installed}
+use Rattle.wp_core.proofs.AllParticipants.{mine}
 use Rattle.wp_core.proofs.Frames.{at_map}
 use Rattle.wp_core.proofs.Registered.{total_at}
 
@@ -48,12 +49,12 @@ quiet_total f F none (b ∷ xs) quiet =
     let joined : total F (map f b.joined) ≡ 0 = ap (λ (ps : List Participant). total F (map f ps)) q.joined in
     let rest = quiet_total f F none xs (λ j c at. quiet (suc j) c at) in omega (arith, own, joined, rest)
 
-first_alone : {X : Type 0} (x y : X) (i : ℕ) → get_elem? (y ∷ []) i ≡ some x → x ≡ y
-first_alone x y zero at = sym (some-injective y x at)
+first_alone : {X : Type 0} (x y : X) (i : ℕ) → get_elem? (y ∷ []) i ≡ some x → (i ≡ 0) × (x ≡ y)
+first_alone x y zero at = (refl, sym (some-injective y x at))
 first_alone x y (suc i) at = absurd (some-ne-none x (sym at))
 
 -- the participants of one that joined nobody
-of_one : {X : Type 0} (f : Participant → X) (i : ℕ) (x : X) (b : Actor) (ps : List X) → b.joined ≡ [] → ps ≡ participants_of f b → get_elem? ps i ≡ some x → x ≡ f b.participant
+of_one : {X : Type 0} (f : Participant → X) (i : ℕ) (x : X) (b : Actor) (ps : List X) → b.joined ≡ [] → ps ≡ participants_of f b → get_elem? ps i ≡ some x → (i ≡ 0) × (x ≡ f b.participant)
 of_one f i x b ps none is at = first_alone x (f b.participant) i (sym (ap (λ qs. get_elem? qs i) (is ∙ ap (λ (js : List Participant). f b.participant ∷ map f js) none)) ∙ at)
 
 found : {X : Type 0} (f : Participant → X) (ys : List Actor) (k : ℕ) (ps : List X) → get_elem? (map (participants_of f) ys) k ≡ some ps → (b : Actor) × (get_elem? ys k ≡ some b) × (ps ≡ participants_of f b)
@@ -115,17 +116,17 @@ module _ (w : World) (a : Actor) (alone : IsAlone w a) (s : IsSound w) where
       let rest = quiet_total f F none xs (others_quiet xs are) in
       let all : total_participants F (participants f w) ≡ (F (f a.participant) + total F (map f a.joined)) + total_participants F (map (participants_of f) xs) = ap (λ (ys : List Actor). total_participants F (map (participants_of f) ys)) are in omega (arith, all, joined, rest)
 
-  of_all : {X : Type 0} (f : Participant → X) (i : ℕ) (x : X) (j : ℕ) (ps : List X) → get_elem? (map (participants_of f) (a ∷ xs)) j ≡ some ps → get_elem? ps i ≡ some x → (x ≡ f a.participant) ⊎ ((p : Participant) × New p × (x ≡ f p))
-  of_all f i x zero ps at in_it = inl (of_one f i x a ps alone.joined (sym (some-injective (participants_of f a) ps at)) in_it)
-  of_all f i x (suc j) ps at in_it = let b = found f xs j ps at in let q = others_quiet xs are j b.0 b.1 in inr (b.0.participant, q.new, of_one f i x b.0 ps q.joined b.2 in_it)
+  of_all : {X : Type 0} (f : Participant → X) (i : ℕ) (x : X) (j : ℕ) (ps : List X) → get_elem? (map (participants_of f) (a ∷ xs)) j ≡ some ps → get_elem? ps i ≡ some x → ((j ≡ 0) × (i ≡ 0) × (x ≡ f a.participant)) ⊎ ((p : Participant) × New p × (x ≡ f p))
+  of_all f i x zero ps at in_it = let k = of_one f i x a ps alone.joined (sym (some-injective (participants_of f a) ps at)) in_it in inl (refl, k.0, k.1)
+  of_all f i x (suc j) ps at in_it = let b = found f xs j ps at in let q = others_quiet xs are j b.0 b.1 in inr (b.0.participant, q.new, (of_one f i x b.0 ps q.joined b.2 in_it).1)
 
   -- each participant is its own, or did nothing
-  only : {X : Type 0} (f : Participant → X) (j i : ℕ) (x : X) → IsParticipantAt (participants f w) j i x → (x ≡ f a.participant) ⊎ ((p : Participant) × New p × (x ≡ f p))
+  only : {X : Type 0} (f : Participant → X) (j i : ℕ) (x : X) → IsParticipantAt (participants f w) j i x → ((j ≡ 0) × (i ≡ 0) × (x ≡ f a.participant)) ⊎ ((p : Participant) × New p × (x ≡ f p))
   only f j i x there = of_all f i x j there.0 (ap (λ (ys : List Actor). get_elem? (map (participants_of f) ys) j) (sym are) ∙ there.1) there.2
 
   only_past : (e : Event) → IsPast (participants past_of w) e → IsIn e a.participant.past
   only_past e h = ⊎_elim
-      (λ (q : h.2.0 ≡ a.participant.past). subst (IsIn e) q h.2.2)
+      (λ (q : (h.0 ≡ 0) × (h.1 ≡ 0) × (h.2.0 ≡ a.participant.past)). subst (IsIn e) q.2 h.2.2)
       (λ (n : (p : Participant) × New p × (h.2.0 ≡ past_of p)). absurd (subst (IsIn e) (n.2 ∙ ap past_of n.1) h.2.2))
       (only past_of h.0 h.1 h.2.0 h.2.1)
 
@@ -138,19 +139,27 @@ module _ (w : World) (a : Actor) (alone : IsAlone w a) (s : IsSound w) where
       let is : count_of (finite.get w.snapshots n) ≡ x.0.registrations = ap count_of x.1 in
       one_of n a.participant.registered (omega (arith, mine, counted, least, is))
 
+  -- nobody else did anything
+  no_other : OtherInstalls (participants past_of w) 0 0 → ⊥
+  no_other (edit, compacts, (j, i, apart, (past, there, k))) = ⊎_elim
+      (λ (q : (j ≡ 0) × (i ≡ 0) × (past ≡ a.participant.past)). ⊎_elim (λ (ne : j ≢ 0). ne q.0) (λ (ne : i ≢ 0). ne q.1) apart)
+      (λ (n : (p : Participant) × New p × (past ≡ past_of p)). absurd (subst (IsIn (installed edit compacts)) (n.2 ∙ ap past_of n.1) k))
+      (only past_of j i past there)
+
   pub tells : IsOnlyOf w a.participant
   tells = record {
     owned = λ n. sym (only_total own_of (times n) (λ p new. ap (λ (q : Participant). times n q.own) new)) ∙ s.owned n;
     closed = sym (only_total past_of (total (λ e. one_if (is_log_fault e))) (λ p new. ap (λ (q : Participant). total (λ e. one_if (is_log_fault e)) q.past) new)) ∙ s.faults.log;
     halted = sym (only_total past_of (total (λ e. one_if (is_tables_fault e))) (λ p new. ap (λ (q : Participant). total (λ e. one_if (is_tables_fault e)) q.past) new)) ∙ s.faults.tables;
+    edit = ⊎_elim (λ (q : w.installed.last ≡ last_installed w.first_edit a.participant.past). q) (λ (h : OtherInstalls (participants past_of w) 0 0). absurd (no_other h)) (s.edits.edit 0 0 a.participant.past (mine past_of w.actors 0 a a alone.there refl));
     names = λ name client h.
         let k = s.locks.names_had name client h in ⊎_elim
-        (λ (q : k.owner ≡ owner_of a.participant). (k.transaction, sym (ap (λ o. finite.get o.transactions name) q) ∙ k.has))
+        (λ (q : (k.at ≡ 0) × (k.place ≡ 0) × (k.owner ≡ owner_of a.participant)). (k.transaction, sym (ap (λ o. finite.get o.transactions name) q.2) ∙ k.has))
         (λ (n : (p : Participant) × New p × (k.owner ≡ owner_of p)). let e : finite.get k.owner.transactions name ≡ None = ap (λ o. finite.get o.transactions name) (n.2 ∙ ap owner_of n.1) ∙ finite.get-empty key_cmp name in let c : None ≡ Some k.transaction = sym e ∙ k.has in absurd cc)
         (only owner_of k.at k.place k.owner k.there);
     direct = λ key client h.
         let k = s.locks.keys_direct key client h in ⊎_elim
-        (λ (q : k.owner ≡ owner_of a.participant). sym (ap (λ o. o.direct) q) ∙ k.has)
+        (λ (q : (k.at ≡ 0) × (k.place ≡ 0) × (k.owner ≡ owner_of a.participant)). sym (ap (λ o. o.direct) q.2) ∙ k.has)
         (λ (n : (p : Participant) × New p × (k.owner ≡ owner_of p)). let e : k.owner.direct ≡ None = ap (λ o. o.direct) (n.2 ∙ ap owner_of n.1) in let c : None ≡ Some key = sym e ∙ k.has in absurd cc)
         (only owner_of k.at k.place k.owner k.there);
     labels = λ label n h. only_past (told label n) (s.board.numbers label n h);

@@ -28,6 +28,7 @@ use Rattle.wp_core.specs.Entries.{batch_of_name}
 use Rattle.wp_core.specs.Tables.{StoreTable, Installed, NoneDelayed}
 use Rattle.wp_model.specs.Flushed.{InstalledEdit}
 use Rattle.wp_core.specs.Reading.{Registration}
+use Rattle.wp_core.specs.Views as event
 use Rattle.wp_core.specs.Views.{Event, Fact, told, heard, log_failed, tables_failed, stopped, found_edit, found}
 use Rattle.wp_core.specs.World.{World, Actor, Participant, Transaction, new_actor, new_participant, content_of}
 use Rattle.wp_core.specs.Runs.{IsOpening, AreOpened, named_by}
@@ -243,6 +244,7 @@ module _ (opened : List Entry) (cache : List ℕ) (flag : ℕ) (logged : Bool) (
     };
     edits = record {
       last = inl refl;
+      rises = λ n k. ⊎_elim (λ (q : n ≡ edit.flushed). omega (arith, q)) (λ (h : (x : InstalledEdit) × (x.flushed ≡ n) × IsPast (([] ∷ []) ∷ []) (event.installed x false)). absurd (no_past (event.installed h.0 false) h.2)) k;
       found = λ n tables due halted k. absurd (no_past (found_edit n tables due halted) k);
       few = λ j i n tables due halted k less. absurd (no_past (found_edit n tables due halted) (j, i, k));
       edit = λ j i past at. inl (ap (last_installed edit) (one_participant [] j i past at));

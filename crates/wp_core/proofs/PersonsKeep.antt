@@ -306,6 +306,7 @@ module _ (row place : ℕ → ℕ → ℕ) (history : List Entry) (xs ys : List 
   pub edits_moved : (by : ℕ) (a : Actor) (first : InstalledEdit) (t : Installed) → get_elem? xs by ≡ some a → IsParticipantAt (pasts xs) by 0 a.participant.past → AreEdits first t (pasts xs) → AreEdits first t (pasts ys)
   edits_moved by a first t at mine k = record {
     last = installed_moved first t.last.flushed k.last;
+    rises = λ n h. k.rises n (⊎_elim (λ q. inl q) (λ (c : (x : InstalledEdit) × (x.flushed ≡ n) × IsPast (pasts ys) (installed x false)). inr (c.0, c.1, past_was _ c.2)) h);
     found = λ n tables due halted h. installed_moved first n (k.found n tables due halted (past_was _ h));
     few = few_moved first t k;
     edit = λ j i past there. ⊎_elim

@@ -10,7 +10,7 @@ use Rattle.wp_model.specs.declared.holder.Holder.TheVariants.{Txn, Client}
 use Rattle.wp_model.specs.LockTables.{LockTables}
 use Rattle.wp_core.specs.Tables.{WriteTable, Installed}
 use Rattle.wp_model.specs.Flushed.{InstalledEdit}
-use Rattle.wp_core.specs.Views.{Account, own, another, prepare_at, Event, claimed, took, locked, told, heard, log_failed, tables_failed, stopped, found_edit, found}
+use Rattle.wp_core.specs.Views.{Account, own, another, prepare_at, Event, claimed, took, locked, told, heard, installed, log_failed, tables_failed, stopped, found_edit, found}
 use Rattle.wp_core.specs.World.{Actor}
 use Rattle.wp_core.specs.Sound.Actors.{participants_of, IsParticipantAt}
 use Rattle.wp_core.specs.Sound.Pasts.{past_of, HasDone, IsPast, IsAccounted, WasLocked, AreHolders, IsBoard, is_log_fault, is_tables_fault, AreFaults, WasInstalled, due_after, tables_due, last_after, last_installed, OtherDid, OtherInstalls, OtherCompacts, AreEdits}
@@ -141,6 +141,8 @@ module _ (xs : List Actor) (by : ℕ) (a b : Actor) (e : Event) (at : get_elem? 
   -- what the edits need, where the last one may be another, and more tables may be due
   pub record EditsGrow (first : InstalledEdit) (t u : Installed) : Type 0 where
     pub last : WasInstalled first after u.last.flushed
+    pub rises : t.last.flushed ≤ u.last.flushed
+    pub new : (edit : InstalledEdit) → e ≡ installed edit false → edit.flushed ≤ u.last.flushed
     pub found : AreFound first
     pub its_edit : t.last ≡ last_installed first a.participant.past → u.last ≡ last_installed first b.participant.past
     pub their_edit : (j i : ℕ) (past : List Event) → (j ≢ by) ⊎ (i ≢ 0) → t.last ≡ last_installed first past → (u.last ≡ last_installed first past) ⊎ OtherInstalls after j i
@@ -155,9 +157,17 @@ module _ (xs : List Actor) (by : ℕ) (a b : Actor) (e : Event) (at : get_elem? 
       (λ (c : (j ≡ by) × (i ≡ 0) × (e ≡ found_edit n tables due halted)). at_place (OtherCompacts after) j i by 0 (sym c.0) (sym c.1) (compacts_still by 0 ((is_so n tables due halted c.2).1 few)))
       (done_before xs by a b e at same grown j i (found_edit n tables due halted) h)
 
+  risen : (first : InstalledEdit) (t u : Installed) → EditsGrow first t u → AreEdits first t before → (n : ℕ) → WasInstalled first after n → n ≤ u.last.flushed
+  risen first t u g k n (inl q) = let was = k.rises n (inl q) in let more = g.rises in omega (arith, was, more)
+  risen first t u g k n (inr (edit, flushed, h)) = ⊎_elim
+      (λ (c : IsPast before (installed edit false)). let was = k.rises n (inr (edit, flushed, c)) in let more = g.rises in omega (arith, was, more))
+      (λ (q : e ≡ installed edit false). let new = g.new edit q in omega (arith, new, flushed))
+      (past_before xs by a b e at same grown (installed edit false) h)
+
   pub edits_grown : (first : InstalledEdit) (t u : Installed) → EditsGrow first t u → AreEdits first t before → AreEdits first u after
   edits_grown first t u g k = record {
     last = g.last;
+    rises = risen first t u g k;
     found = λ n tables due halted h. installed_still first n (⊎_elim (λ c. k.found n tables due halted c) (λ c. (g.found n tables due halted c).0) (past_before xs by a b e at same grown (found_edit n tables due halted) h));
     few = few_more first t g.found k;
     edit = λ j i past there. ⊎_elim
@@ -193,6 +203,8 @@ module _ (xs : List Actor) (by : ℕ) (a b : Actor) (e : Event) (at : get_elem? 
       → AreEdits first t before → AreEdits first t after
   edits_still first t due last working is_so k = edits_grown first t t record {
     last = installed_still first t.last.flushed k.last;
+    rises = omega arith;
+    new = λ edit q. let d : 1 ≡ 0 = subst (λ (x : Event). due_after 0 x ≡ 0) q (due 0) in absurd cc;
     found = is_so;
     its_edit = λ d. d ∙ sym (last_same first last);
     their_edit = λ j i past elsewhere d. inl d;

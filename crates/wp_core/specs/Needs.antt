@@ -65,7 +65,7 @@ Needs w by a (move_versions memory tables) = Holds w.holders store_turn by × Ho
 Needs w by a (replace_versions tables floor) = Holds w.holders store_turn by × Holds w.holders tables_turn by × (w.store.floor ≤ floor) × KeepsStore w (record w.store { tables = tables; floor = floor }) w.installed
 -- an edit's versions, with the history's later ones, answer at the published number; a flush brings one table more, and a
 -- compaction keeps the flushed number
-Needs w by a (install edit compacts) = Holds w.holders tables_turn by × (w.installed.halted ≡ false) × KeepsStore w w.store (record w.installed { last = edit }) × (compacts ≡ false → edit.tables ≡ w.installed.last.tables + 1) × (compacts ≡ true → edit.flushed ≡ w.installed.last.flushed)
+Needs w by a (install edit compacts) = Holds w.holders tables_turn by × (w.installed.halted ≡ false) × KeepsStore w w.store (record w.installed { last = edit }) × (compacts ≡ false → edit.tables ≡ w.installed.last.tables + 1) × (compacts ≡ true → edit.flushed ≡ w.installed.last.flushed) × (w.installed.last.flushed ≤ edit.flushed)
 Needs w by a (halt edit) = Holds w.holders tables_turn by × (w.installed.halted ≡ false) × KeepsStore w w.store (with_failed w.installed edit)
 Needs w by a find_edit = Holds w.holders tables_turn by
 -- a name is claimed where it is not live, and a key locked where it is not held; what is undecided is left, where it has

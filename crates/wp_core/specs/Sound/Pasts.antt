@@ -124,12 +124,13 @@ OtherInstalls pasts j i = (edit : InstalledEdit) × (compacts : Bool) × OtherDi
 abbrev pub OtherCompacts : List (List (List Event)) → ℕ → ℕ → Type 0
 OtherCompacts pasts j i = (edit : InstalledEdit) × OtherDid pasts j i (installed edit true)
 
--- The last edit's flushed number is the opening's or a flush's, and so is each that was found. It is the edit that a
--- participant installed last, unless another one installed one, and has at least the tables that this one knows of, unless
--- another one compacted; so has the edit that was found. Where the devices failed, it is that one still, and so is the one
--- whose install failed.
+-- The last edit's flushed number is the opening's or a flush's, of which none is greater, and so is each that was found. It is
+-- the edit that a participant installed last, unless another one installed one, and has at least the tables that this one knows
+-- of, unless another one compacted; so has the edit that was found. Where the devices failed, it is that one still, and so is the
+-- one whose install failed.
 pub record AreEdits (first : InstalledEdit) (t : Installed) (pasts : List (List (List Event))) : Type 0 where
   pub last : WasInstalled first pasts t.last.flushed
+  pub rises : (n : ℕ) → WasInstalled first pasts n → n ≤ t.last.flushed
   pub found : (n tables due : ℕ) (halted : Bool) → IsPast pasts (found_edit n tables due halted) → WasInstalled first pasts n
   pub few : (j i n tables due : ℕ) (halted : Bool) → HasDone pasts j i (found_edit n tables due halted) → tables < due → OtherCompacts pasts j i
   pub edit : (j i : ℕ) (past : List Event) → IsParticipantAt pasts j i past → (t.last ≡ last_installed first past) ⊎ OtherInstalls pasts j i
