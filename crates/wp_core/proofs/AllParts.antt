@@ -21,7 +21,7 @@ use Rattle.wp_core.specs.Sound.Actors.{seen_of, own_of, AreSeen, AreLearned, Are
 use Rattle.wp_core.specs.Sound.History.{IsHistory, IsPendingHeld}
 use Rattle.wp_core.specs.Sound.Prepared.{IsCache, AreDecided, AreUndecided, AreDelayed, AreFlags}
 use Rattle.wp_core.specs.Sound.Snapshots.{registered_of, AreRegistered, view_of, HasSeen}
-use Rattle.wp_core.specs.Sound.Store.{IsStored, IsFlushedGone}
+use Rattle.wp_core.specs.Sound.Store.{IsStored, IsSettled}
 use Rattle.wp_core.specs.Sound.Locks.{owner_of, AreLocked}
 use Rattle.wp_core.specs.Sound.Pasts.{past_of, AreHolders, IsBoard, AreFaults, AreEdits}
 use Rattle.wp_core.specs.Sound.Reader.{AreReaders, AreJudged, reader_of}
@@ -41,7 +41,7 @@ pub record TableParts (opened : List Entry) (d : WriteTable) (max delayed_flag o
   pub delayed : AreDelayed d.history t words
   pub flags : AreFlags delayed_flag old_flag t m h.prepared h.snapshots
   pub versions : IsStored d.history d.pending m st e
-  pub flushed : IsFlushedGone h.tables st.memory e.last.flushed
+  pub settled : IsSettled h.tables st e.last
   pub pending : IsPendingHeld h.write d.pending
 
 -- what the participants saw, published and registered
@@ -110,7 +110,7 @@ all_parts w actors tables views locks pasts turns readers notes led idle = recor
   viewed = views.viewed;
   flags = tables.flags;
   versions = tables.versions;
-  flushed = tables.flushed;
+  settled = tables.settled;
   locks = locks;
   holders = pasts.holders;
   board = pasts.board;
@@ -128,7 +128,7 @@ all_parts w actors tables views locks pasts turns readers notes led idle = recor
 
 module _ (w : World) (s : IsSound w) where
   pub tables_of : TablesOf w
-  tables_of = record { history = s.history; cache = s.cache; decided = s.decided; undecided = s.undecided; delayed = s.delayed; flags = s.flags; versions = s.versions; flushed = s.flushed; pending = s.pending }
+  tables_of = record { history = s.history; cache = s.cache; decided = s.decided; undecided = s.undecided; delayed = s.delayed; flags = s.flags; versions = s.versions; settled = s.settled; pending = s.pending }
 
   pub views_of : ViewsOf w w.actors
   views_of = record { seen = s.seen; learned = s.learned; owned = s.owned; registrations = s.registrations; viewed = s.viewed }

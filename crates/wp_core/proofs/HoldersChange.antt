@@ -12,7 +12,7 @@ use Rattle.wp_core.specs.Notes.{forgets, ends}
 use Rattle.wp_core.specs.Sound.Actors.{AreIdle}
 use Rattle.wp_core.specs.Sound.History.{IsPendingHeld}
 use Rattle.wp_core.specs.Sound.Prepared.{AreFlags}
-use Rattle.wp_core.specs.Sound.Store.{IsFlushedGone}
+use Rattle.wp_core.specs.Sound.Store.{IsSettled}
 use Rattle.wp_core.specs.Sound.Views.{guarded_by}
 use Rattle.wp_core.specs.IsSound.{IsSound}
 use Rattle.wp_core.proofs.AllParts.{TurnParts, SoIn, views_of, pasts_of, readers_still, notes_stay, quiet_step}
@@ -25,9 +25,9 @@ module _ (w : World) (x : Option ℕ) where
   flags_with snapshots_turn may f = record { none_delayed = f.none_delayed; none_kept = f.none_kept; delayed_free = f.delayed_free; old_free = may }
   flags_with t may f = f
 
-  flushed_with : (t : Turn) → (x ≡ None → MayGive w t) → IsFlushedGone w.holders.tables w.store.memory w.installed.last.flushed → IsFlushedGone (with_holder w.holders t x).tables w.store.memory w.installed.last.flushed
-  flushed_with tables_turn may k = may
-  flushed_with t may k = k
+  settled_with : (t : Turn) → (x ≡ None → MayGive w t) → IsSettled w.holders.tables w.store w.installed.last → IsSettled (with_holder w.holders t x).tables w.store w.installed.last
+  settled_with tables_turn may k = may
+  settled_with t may k = k
 
   pending_with : (t : Turn) → (x ≡ None → MayGive w t) → IsPendingHeld w.holders.write w.writes.pending → IsPendingHeld (with_holder w.holders t x).write w.writes.pending
   pending_with write_turn may k = may
@@ -43,7 +43,7 @@ module _ (w : World) (x : Option ℕ) where
       let h : Holders = with_holder w.holders t x in
       let b : Actor = record (forgets w.writes.history (length w.cache) step a) { held = held } in
       quiet_step w (record w { holders = h }) by a b at refl
-      (record { history = s.history; cache = s.cache; decided = s.decided; undecided = s.undecided; delayed = s.delayed; flags = flags_with t may s.flags; versions = s.versions; flushed = flushed_with t may s.flushed; pending = pending_with t may s.pending })
+      (record { history = s.history; cache = s.cache; decided = s.decided; undecided = s.undecided; delayed = s.delayed; flags = flags_with t may s.flags; versions = s.versions; settled = settled_with t may s.settled; pending = pending_with t may s.pending })
       (views_of w s) s.locks (pasts_of w s) turns (readers_still w by a b at refl s)
       (notes_stay w by a b at step h (SoIn w) refl
       (λ fact left m. record { guarded = λ u is. mine fact u left is (m.guarded u is); is_so = m.is_so })

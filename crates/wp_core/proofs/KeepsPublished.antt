@@ -82,7 +82,7 @@ module _ (w : World) (by : ℕ) (a : Actor) (entry : Entry) (others : List Entry
         delayed = delayed_part w.writes.history entry others n.legal w.prepared w.cache n.pair s.delayed;
         flags = s.flags;
         versions = stored_part w.writes.history entry n.legal w.writes.pending others w.snapshots w.store w.installed n.pending live_within in_memory s.versions;
-        flushed = s.flushed;
+        settled = s.settled;
         pending = λ free. absurd (not_free w.holders write_turn by n.turn free);
       })
       (record {

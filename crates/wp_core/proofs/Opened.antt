@@ -34,7 +34,7 @@ use Rattle.wp_core.specs.World.{World, Actor, Participant, Transaction, new_acto
 use Rattle.wp_core.specs.Runs.{IsOpening, AreOpened, named_by}
 use Rattle.wp_core.specs.Sound.Actors.{StartsWith, once, AreHeld, Role, IsParticipantAt}
 use Rattle.wp_core.specs.Sound.Snapshots.{count_of, HasSeen}
-use Rattle.wp_core.specs.Sound.Store.{IsStored, NoneFlushed}
+use Rattle.wp_core.specs.Sound.Store.{IsStored, HasTablesOf}
 use Rattle.wp_core.specs.Sound.Locks.{prepare_holding, Owner, owner_of, IsOwner}
 use Rattle.wp_core.specs.Sound.Pasts.{IsPast, tables_due, last_installed}
 use Rattle.wp_core.specs.IsSound.{IsSound}
@@ -121,7 +121,7 @@ opened_world opened cache flag logged store locks edit client =
 module _ (opened : List Entry) (cache : List ℕ) (flag : ℕ) (logged : Bool) (store : StoreTable) (t : LockTables) (edit : InstalledEdit) (client : List ℕ)
     (legal : IsLegal opened) (no_undo : undone_last opened ≡ None) (words : 1 ≤ length cache) (zeros : All (λ word. word ≡ 0) cache)
     (down : flag ≡ 0 → undecided opened ≡ []) (up : undecided opened ≡ [] → flag ≡ 0)
-    (versions : IsStored opened [] finite.empty store (running edit)) (flushed : NoneFlushed store.memory edit.flushed) (locks : AreOpened opened t) where
+    (versions : IsStored opened [] finite.empty store (running edit)) (settled : HasTablesOf store edit) (locks : AreOpened opened t) where
   abbrev world : World
   world = opened_world opened cache flag logged store t edit client
 
@@ -210,7 +210,7 @@ module _ (opened : List Entry) (cache : List ℕ) (flag : ℕ) (logged : Bool) (
     };
     flags = record { none_delayed = none_delayed; none_kept = λ _ s p. not_kept s p; delayed_free = λ _ none. delayed_free none; old_free = λ _ _. refl };
     versions = versions;
-    flushed = λ _ key p le. flushed key p le;
+    settled = λ _. settled;
     locks = record {
       prepared_names = is_live;
       prepared_keys = λ p key u changed. locks.keys key ∙ ap (prepare_holding opened) (holder_is opened legal p key u changed);
@@ -289,5 +289,5 @@ opening_is_sound w o =
     subst IsSound (sym (same_world w o))
     (opened_is_sound w.opened w.cache w.delayed_flag w.writes.logged w.store w.locks w.first_edit o.client o.legal o.closed_undo o.words o.cache o.delayed_flag o.delayed_free
     (subst (λ (z : World). IsStored z.opened [] z.snapshots z.store z.installed) (same_world w o) o.versions)
-    (subst (λ (z : World). NoneFlushed z.store.memory z.installed.last.flushed) (same_world w o) o.flushed)
+    (subst (λ (z : World). HasTablesOf z.store z.installed.last) (same_world w o) o.settled)
     o.locks)

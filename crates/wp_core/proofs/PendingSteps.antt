@@ -47,7 +47,7 @@ pending_changes w by a step pending logged log at holds history cache undecided 
     let c : Actor = forgets w.writes.history (length w.cache) step a in
     let b : Actor = record c { held = held_with c.held (writes d) } in
     quiet_step w (with_content w (writes d)) by a b at refl
-    (record { history = history; cache = cache; decided = s.decided; undecided = undecided; delayed = s.delayed; flags = s.flags; versions = stored; flushed = s.flushed; pending = λ free. absurd (not_free w.holders write_turn by holds free) })
+    (record { history = history; cache = cache; decided = s.decided; undecided = undecided; delayed = s.delayed; flags = s.flags; versions = stored; settled = s.settled; pending = λ free. absurd (not_free w.holders write_turn by holds free) })
     (views_of w s) s.locks (record { holders = s.holders; board = s.board; faults = faults; edits = s.edits })
     (turns_changed w by a b at (writes d) holds refl s) (readers_still w by a b at refl s)
     (noted_after w by a b step (SoPending w d) at refl refl notes s) (idle_after w by a b write_turn at holds s refl) s

@@ -27,7 +27,7 @@ use Rattle.wp_core.specs.Entries.{pair_by, pending_pair, transaction_of, changes
 use Rattle.wp_core.specs.Sound.Actors.{IsParticipantAt, participants_of}
 use Rattle.wp_core.specs.Sound.Locks.{Owner, owner_of}
 use Rattle.wp_core.specs.Sound.Prepared.{IsInOldCommits}
-use Rattle.wp_core.specs.Sound.Store.{IsStored, NoneFlushed}
+use Rattle.wp_core.specs.Sound.Store.{IsStored, HasTablesOf}
 use Rattle.wp_core.specs.Sound.Views.{IsApart, IsInMemory, IsNowhere}
 
 -- ---- loads
@@ -86,12 +86,12 @@ pub record MayBeEvicted (w : World) (pair : CommitPair) : Type 0 where
   pub kept : IsInOldCommits w.snapshots pair.number pair.decision
   pub apart : IsApart w.prepared pair
 
--- a turn is given with nothing pending, with its flag down where its tables are empty, and with no flushed version in memory
+-- a turn is given with nothing pending, with its flag down where its tables are empty, and with the last edit's tables
 abbrev pub MayGive : World → Turn → Type 0
 MayGive w write_turn = w.writes.pending ≡ []
 MayGive w prepared_turn = NoneDelayed w.prepared → w.delayed_flag ≡ 0
 MayGive w snapshots_turn = NoOldCommits w.snapshots → w.old_flag ≡ 0
-MayGive w tables_turn = NoneFlushed w.store.memory w.installed.last.flushed
+MayGive w tables_turn = HasTablesOf w.store w.installed.last
 MayGive w other = Unit {0}
 
 -- ---- the write turn
