@@ -34,7 +34,7 @@ use Rattle.wp_core.specs.World.{World, Actor, Participant, Transaction, new_acto
 use Rattle.wp_core.specs.Runs.{IsOpening, AreOpened, named_by}
 use Rattle.wp_core.specs.Sound.Actors.{StartsWith, once, AreHeld, Role, IsParticipantAt}
 use Rattle.wp_core.specs.Sound.Snapshots.{count_of, HasSeen}
-use Rattle.wp_core.specs.Sound.Store.{IsStored, HasTablesOf}
+use Rattle.wp_core.specs.Sound.Store.{IsStored, IsOfEdit}
 use Rattle.wp_core.specs.Sound.Locks.{prepare_holding, Owner, owner_of, IsOwner}
 use Rattle.wp_core.specs.Sound.Pasts.{IsPast, tables_due, last_installed}
 use Rattle.wp_core.specs.IsSound.{IsSound}
@@ -121,7 +121,7 @@ opened_world opened cache flag logged store locks edit client =
 module _ (opened : List Entry) (cache : List ℕ) (flag : ℕ) (logged : Bool) (store : StoreTable) (t : LockTables) (edit : InstalledEdit) (client : List ℕ)
     (legal : IsLegal opened) (no_undo : undone_last opened ≡ None) (words : 1 ≤ length cache) (zeros : All (λ word. word ≡ 0) cache)
     (down : flag ≡ 0 → undecided opened ≡ []) (up : undecided opened ≡ [] → flag ≡ 0)
-    (versions : IsStored opened [] finite.empty store (running edit)) (settled : HasTablesOf store edit) (locks : AreOpened opened t) where
+    (versions : IsStored opened [] finite.empty store (running edit)) (settled : IsOfEdit store edit) (locks : AreOpened opened t) where
   abbrev world : World
   world = opened_world opened cache flag logged store t edit client
 
@@ -289,5 +289,5 @@ opening_is_sound w o =
     subst IsSound (sym (same_world w o))
     (opened_is_sound w.opened w.cache w.delayed_flag w.writes.logged w.store w.locks w.first_edit o.client o.legal o.closed_undo o.words o.cache o.delayed_flag o.delayed_free
     (subst (λ (z : World). IsStored z.opened [] z.snapshots z.store z.installed) (same_world w o) o.versions)
-    (subst (λ (z : World). HasTablesOf z.store z.installed.last) (same_world w o) o.settled)
+    (subst (λ (z : World). IsOfEdit z.store z.installed.last) (same_world w o) o.settled)
     o.locks)

@@ -27,7 +27,7 @@ use Rattle.wp_core.specs.Entries.{pair_by, pending_pair, transaction_of, changes
 use Rattle.wp_core.specs.Sound.Actors.{IsParticipantAt, participants_of}
 use Rattle.wp_core.specs.Sound.Locks.{Owner, owner_of}
 use Rattle.wp_core.specs.Sound.Prepared.{IsInOldCommits}
-use Rattle.wp_core.specs.Sound.Store.{IsStored, HasTablesOf}
+use Rattle.wp_core.specs.Sound.Store.{IsStored, IsOfEdit}
 use Rattle.wp_core.specs.Sound.Views.{IsApart, IsInMemory, IsNowhere}
 
 -- ---- loads
@@ -91,7 +91,7 @@ abbrev pub MayGive : World → Turn → Type 0
 MayGive w write_turn = w.writes.pending ≡ []
 MayGive w prepared_turn = NoneDelayed w.prepared → w.delayed_flag ≡ 0
 MayGive w snapshots_turn = NoOldCommits w.snapshots → w.old_flag ≡ 0
-MayGive w tables_turn = HasTablesOf w.store w.installed.last
+MayGive w tables_turn = IsOfEdit w.store w.installed.last
 MayGive w other = Unit {0}
 
 -- ---- the write turn

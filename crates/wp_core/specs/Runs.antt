@@ -15,7 +15,7 @@ use Rattle.wp_core.specs.Effects.{done}
 use Rattle.wp_core.specs.Needs.{Needs}
 use Rattle.wp_core.specs.Notes.{forgets}
 use Rattle.wp_core.specs.Sound.Locks.{prepare_holding}
-use Rattle.wp_core.specs.Sound.Store.{IsStored, HasTablesOf}
+use Rattle.wp_core.specs.Sound.Store.{IsStored, IsOfEdit}
 
 -- one step of an actor
 abbrev pub IsStep : World → ℕ → Step → World → Type 0
@@ -53,7 +53,7 @@ pub record IsOpening (w : World) : Type 0 where
   pub old_flag : w.old_flag ≡ 0
   pub snapshots : w.snapshots ≡ finite.empty
   pub versions : IsStored w.opened [] w.snapshots w.store w.installed
-  pub settled : HasTablesOf w.store w.installed.last
+  pub settled : IsOfEdit w.store w.installed.last
   pub first_edit : w.installed.last ≡ w.first_edit
   pub not_failed : w.installed.failed ≡ None
   pub running : w.installed.halted ≡ false

@@ -233,7 +233,7 @@ module _ (asked : ℕ) (log manifest tables : List Moment) (wal : WalState) (his
       old_flag = refl;
       snapshots = refl;
       versions = stored installed.failed none_failed;
-      flushed = none_flushed;
+      settled = (none_flushed, refl);
       first_edit = refl;
       not_failed = none_failed;
       running = refl;

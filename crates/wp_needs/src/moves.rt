@@ -1,5 +1,5 @@
 //! Whether the versions and the edits of a world may become others.
-ghost use Rattle.std.specs.Prelude.{◌≡◌, ◌↔◌, ◌++◌, Bool, true, false, ◌+◌, IfOk};
+ghost use Rattle.std.specs.Prelude.{◌≡◌, ◌≤◌, ◌↔◌, ◌++◌, Bool, true, false, ◌+◌, IfOk};
 ghost use Rattle.std.specs.Option.{option_copied};
 ghost use Rattle.wp_core.specs.Steps as step;
 ghost use Rattle.wp_core.specs.Needs.{Needs};
@@ -172,15 +172,16 @@ fn keeps_edits(
     Ok(yes)
 }
 
-/// A flush brings one table more, and a compaction keeps the flushed number.
+/// The flushed number does not fall. A flush brings one table more, and a compaction keeps the flushed number.
 fn follows(last: &InstalledEdit, edit: &InstalledEdit, compacts: bool) -> bool
     ensures flush { result ≡ true → compacts ≡ false → edit.now.tables ≡ last.now.tables + 1 }
     ensures compaction { result ≡ true → compacts ≡ true → edit.now.flushed ≡ last.now.flushed }
+    ensures rises { result ≡ true → last.now.flushed ≤ edit.now.flushed }
 {
     if compacts {
         return edit.flushed == last.flushed;
     }
-    last.tables.checked_add(1) == Some(edit.tables)
+    last.flushed <= edit.flushed && last.tables.checked_add(1) == Some(edit.tables)
 }
 
 /// Whether the edit may be installed.

@@ -41,7 +41,7 @@ use Rattle.wp_core.proofs.HistoryLaws.{decision_stays}
 use Rattle.wp_core.proofs.KeepsSeen.{shorter}
 use Rattle.wp_core.proofs.Tests.{none_some}
 use Rattle.wp_rule.specs.Words.{Place, IsAt}
-use Rattle.wp_rule.specs.Knows.{Holding, Noted, IsUp, KnowsLook, KnowsCleared, KnowsGive, KnowsPair, HasNoVersions, KnowsFact, KnowsHeld, KnowsPublish, Knows}
+use Rattle.wp_rule.specs.Knows.{Holding, Noted, IsUp, KnowsLook, KnowsCleared, KnowsTables, KnowsGive, KnowsPair, HasNoVersions, KnowsFact, KnowsHeld, KnowsPublish, Knows}
 use Rattle.wp_rule.proofs.Knows.{at_sound, held_is, seen_is, noted_is}
 use Rattle.wp_rule.proofs.Maintenance.{edit_later, moved, next_stays, replaced, installed_now, halted_now, halted_only}
 
@@ -135,7 +135,7 @@ module _ (p : Place) (a : Actor) (w : World) (k : IsAt p a w) where
   gives snapshots_turn n = let h = has_snapshots _ n in (h.0, λ none. is_so (old_flag_stays 0) (h.1 none))
   gives store_turn n = has_store (λ t. Unit {0}) n
   gives locks_turn n = has_locks (λ t. Unit {0}) n
-  gives tables_turn n = let h = has_installed _ n in (h.0, is_so nothing_flushed h.1)
+  gives tables_turn n = let h = has_installed (λ e. KnowsTables a e.last) n in (h.0, is_so nothing_flushed h.1.0, (is_so (tables_stay w.installed.last.versions h.1.1.0) h.1.1.1).0)
 
   -- ---- names and keys
 
@@ -317,7 +317,7 @@ module _ (p : Place) (a : Actor) (w : World) (k : IsAt p a w) where
       (h.0, g.0, r.rises, replaced w.writes.history w.writes.pending w.snapshots w.store w.installed sound.versions a tables floor r sound.history.legal (seen_is p a w k) (is_so (live_listed floor r.listed) r.live).1 live_within)
   needed (install edit compacts) n =
       let h = has_installed _ n in let m = h.1 in
-      (h.0, m.running, installed_now w.writes.history w.writes.pending w.snapshots w.store w.installed sound.versions edit (covers edit m.covered) m.rises, m.one_more, m.keeps)
+      (h.0, m.running, installed_now w.writes.history w.writes.pending w.snapshots w.store w.installed sound.versions edit (covers edit m.covered) m.rises, m.one_more, m.keeps, m.rises)
   needed (halt None) n = let h = has_installed _ n in (h.0, h.1, halted_only w.writes.history w.writes.pending w.snapshots w.store w.installed sound.versions)
   needed (halt (Some edit)) n = let h = has_installed _ n in (h.0, h.1.0, halted_now w.writes.history w.writes.pending w.snapshots w.store w.installed sound.versions edit (covers edit h.1.1))
   needed (store_published entry others) n = let h = has_writes _ n in publishes entry others h.0 h.1

@@ -179,7 +179,7 @@ module _ (w : World) (a : Actor) (others : List Actor) (is : w.actors ≡ a ∷ 
     viewed = λ j i x there. s.viewed j i x (up view_of j i x there);
     flags = s.flags;
     versions = s.versions;
-    flushed = s.flushed;
+    settled = s.settled;
     locks = locks_down;
     holders = holders_down;
     board = board_down;

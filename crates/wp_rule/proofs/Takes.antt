@@ -1,10 +1,11 @@
 -- What a seat leaves that takes a turn and notes what the turn guards.
-use Rattle.std.proofs.Common.{◌≡◌, inl, ℕ, true, List, [], ◌∷◌, map, length, set, refl, subst, ap, ◌∙◌, Some, None}
+use Rattle.std.proofs.Common.{◌≡◌, inl, inr, ℕ, true, List, [], ◌∷◌, map, length, set, refl, subst, ap, ◌∙◌, Some, None}
 use mathlib.Core.Option.{some}
 use lib.ListN.{get_elem?}
 use Rattle.wp_core.specs.Turns.{Turn, write_turn, prepared_turn, snapshots_turn, store_turn, locks_turn, tables_turn, turn_holder, with_holder, Holds}
 use Rattle.wp_core.specs.Tables.{Content, turn_of}
-use Rattle.wp_core.specs.Views.{Fact, delayed_flag_stays, old_flag_stays}
+use Rattle.wp_model.specs.declared.version.Version.{Version}
+use Rattle.wp_core.specs.Views.{Fact, tables_stay, delayed_flag_stays, old_flag_stays}
 use Rattle.wp_core.specs.World.{Actor, World, content_of}
 use Rattle.wp_core.specs.Conditions.{MayGive}
 use Rattle.wp_core.specs.Steps.{take_turn, note}
@@ -35,7 +36,7 @@ may_give w prepared_turn s free = s.flags.delayed_free free
 may_give w snapshots_turn s free = s.flags.old_free free
 may_give w store_turn s free = tt
 may_give w locks_turn s free = tt
-may_give w tables_turn s free = s.flushed free
+may_give w tables_turn s free = s.settled free
 
 pub knows_give : (w : World) (a : Actor) (turn : Turn) → MayGive w turn → KnowsGive (with_turn turn w a) turn
 knows_give w a write_turn may = record { table = w.writes; held = inl refl; so_is = may }
@@ -43,7 +44,7 @@ knows_give w a prepared_turn may = record { table = w.prepared; held = inl refl;
 knows_give w a snapshots_turn may = record { table = w.snapshots; held = inl refl; so_is = λ none. inl (ap old_flag_stays (may none)) }
 knows_give w a store_turn may = record { table = w.store; held = inl refl; so_is = tt }
 knows_give w a locks_turn may = record { table = w.locks; held = inl refl; so_is = tt }
-knows_give w a tables_turn may = record { table = w.installed; held = inl refl; so_is = inl refl }
+knows_give w a tables_turn may = record { table = w.installed; held = inl refl; so_is = (inl refl, (w.store.floor, inr (inl (ap (λ (versions : List Version). tables_stay versions w.store.floor) may.1)))) }
 
 -- ---- the steps
 
@@ -56,7 +57,7 @@ taking_is_met w by a s live prepared_turn free = ((free, live), ((live, holds_no
 taking_is_met w by a s live snapshots_turn free = ((free, live), ((live, holds_now w by snapshots_turn, refl), tt))
 taking_is_met w by a s live store_turn free = ((free, live), tt)
 taking_is_met w by a s live locks_turn free = ((free, live), tt)
-taking_is_met w by a s live tables_turn free = ((free, live), ((live, holds_now w by tables_turn, s.flushed free), tt))
+taking_is_met w by a s live tables_turn free = ((free, live), ((live, holds_now w by tables_turn, (s.settled free).0), ((live, holds_now w by tables_turn, (refl, refl)), tt)))
 
 abbrev noted : Actor → Fact → Actor
 noted a fact = record a { notes = fact ∷ a.notes }

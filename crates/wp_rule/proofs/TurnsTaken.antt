@@ -7,7 +7,7 @@ use Rattle.wp_core.specs.Tables.{Content}
 use Rattle.wp_core.specs.Changes.{turn_index}
 use Rattle.wp_core.specs.Notes.{ends}
 use Rattle.wp_core.specs.Steps.{give_turn}
-use Rattle.wp_core.specs.Views.{Fact, nothing_flushed, delayed_flag_stays, old_flag_stays}
+use Rattle.wp_core.specs.Views.{Fact, tables_stay, nothing_flushed, delayed_flag_stays, old_flag_stays}
 use Rattle.wp_core.specs.World.{Actor, World, content_of}
 use Rattle.wp_core.proofs.Frames.{filter_in}
 use Rattle.wp_core.proofs.Gives.{in_left}
@@ -30,7 +30,7 @@ more_to_give a w turn prepared_turn k = record { table = k.table; held = inr k.h
 more_to_give a w turn snapshots_turn k = record { table = k.table; held = inr k.held; so_is = λ none. in_more _ _ a.notes (k.so_is none) }
 more_to_give a w turn store_turn k = record { table = k.table; held = inr k.held; so_is = tt }
 more_to_give a w turn locks_turn k = record { table = k.table; held = inr k.held; so_is = tt }
-more_to_give a w turn tables_turn k = record { table = k.table; held = inr k.held; so_is = in_more _ _ a.notes k.so_is }
+more_to_give a w turn tables_turn k = record { table = k.table; held = inr k.held; so_is = (in_more _ _ a.notes k.so_is.0, (k.so_is.1.0, in_more _ _ a.notes k.so_is.1.1)) }
 
 module _ (a : Actor) (w : World) (turn : Turn) where
   abbrev less : Actor
@@ -46,7 +46,7 @@ module _ (a : Actor) (w : World) (turn : Turn) where
   less_to_give snapshots_turn ne k = record { table = k.table; held = in_left turn snapshots_turn _ a.held refl ne k.held; so_is = λ none. still_noted (old_flag_stays 0) (ap (λ (b : Bool). b || false) (ne_eqb 2 (turn_index turn) ne)) (k.so_is none) }
   less_to_give store_turn ne k = record { table = k.table; held = in_left turn store_turn _ a.held refl ne k.held; so_is = tt }
   less_to_give locks_turn ne k = record { table = k.table; held = in_left turn locks_turn _ a.held refl ne k.held; so_is = tt }
-  less_to_give tables_turn ne k = record { table = k.table; held = in_left turn tables_turn _ a.held refl ne k.held; so_is = still_noted nothing_flushed (ap (λ (b : Bool). b || false) (ne_eqb 5 (turn_index turn) ne)) k.so_is }
+  less_to_give tables_turn ne k = record { table = k.table; held = in_left turn tables_turn _ a.held refl ne k.held; so_is = (still_noted nothing_flushed (ap (λ (b : Bool). b || false) (ne_eqb 5 (turn_index turn) ne)) k.so_is.0, (k.so_is.1.0, still_noted (tables_stay k.table.last.versions k.so_is.1.0) (ap (λ (b : Bool). b || false) (ne_eqb 5 (turn_index turn) ne)) k.so_is.1.1)) }
 
 -- ---- all that were taken, the last one first
 

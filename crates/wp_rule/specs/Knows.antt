@@ -62,6 +62,10 @@ KnowsCleared a cells pair =
     ((max : ℕ) × (words : List ℕ) × Noted a (words_stay max words) × (pair_at words (cache_place cells pair.number) ≡ None))
     ⊎ ((gone : CommitPair) × Noted a (passed (cache_place cells pair.number) gone) × Noted a (in_old_commits (cache_place cells pair.number) gone) × Noted a (apart (cache_place cells pair.number) gone))
 
+-- the store was noted to have just the edit's tables
+abbrev pub KnowsTables : Actor → InstalledEdit → Type 0
+KnowsTables a edit = Noted a nothing_flushed × ((floor : ℕ) × Noted a (tables_stay edit.versions floor))
+
 -- a turn may be given
 abbrev pub KnowsGive : Actor → Turn → Type 0
 KnowsGive a write_turn = Holding a writes (λ d. d.pending ≡ [])
@@ -69,7 +73,7 @@ KnowsGive a prepared_turn = Holding a prepared (λ t. NoneDelayed t → Noted a 
 KnowsGive a snapshots_turn = Holding a snapshots (λ m. NoOldCommits m → Noted a (old_flag_stays 0))
 KnowsGive a store_turn = Holding a store (λ t. Unit {0})
 KnowsGive a locks_turn = Holding a locks (λ t. Unit {0})
-KnowsGive a tables_turn = Holding a installed (λ e. Noted a nothing_flushed)
+KnowsGive a tables_turn = Holding a installed (λ e. KnowsTables a e.last)
 
 -- a word of the cache that was noted has the pair, which is published
 abbrev pub KnowsPair : Actor → ℕ → ℕ → CommitPair → (ℕ → Type 0) → Type 0

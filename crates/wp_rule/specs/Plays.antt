@@ -6,7 +6,7 @@ use Rattle.wp_core.specs.Changes.{turn_index}
 use Rattle.wp_core.specs.Conditions.{MayGive}
 use Rattle.wp_core.specs.Lists.{IsIn}
 use Rattle.wp_core.specs.Tables.{Content, turn_of}
-use Rattle.wp_core.specs.Views.{Fact, words_stay, delayed_flag_stays, old_flag_stays, nothing_flushed}
+use Rattle.wp_core.specs.Views.{Fact, words_stay, delayed_flag_stays, old_flag_stays, tables_stay, nothing_flushed}
 use Rattle.wp_core.specs.World.{Actor, World, content_of}
 use Rattle.wp_core.specs.Steps.{take_turn, give_turn, note}
 use Rattle.wp_core.specs.Steps as machine
@@ -16,12 +16,12 @@ use Rattle.wp_rule.specs.Shows.{IsPart}
 
 -- ---- a turn that was found free
 
--- what it guards besides its table: bound and words, a flag, or that no flushed version is in memory
+-- what it guards besides its table: bound and words, a flag, or which versions are in tables, and that no flushed one is in memory
 abbrev pub facts_at : Turn → World → List Fact
 facts_at write_turn w = words_stay w.max_evicted w.cache ∷ []
 facts_at prepared_turn w = delayed_flag_stays w.delayed_flag ∷ []
 facts_at snapshots_turn w = old_flag_stays w.old_flag ∷ []
-facts_at tables_turn w = nothing_flushed ∷ []
+facts_at tables_turn w = nothing_flushed ∷ tables_stay w.store.tables w.store.floor ∷ []
 facts_at other w = []
 
 -- it is taken, and these are noted

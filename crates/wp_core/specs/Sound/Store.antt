@@ -27,9 +27,9 @@ abbrev pub NoneFlushed : List Version → ℕ → Type 0
 NoneFlushed memory flushed = (key : List ℕ) (p : ℕ) → p ≤ flushed → version_at memory key p ≡ None
 
 -- the tables are those of the edit, and no version that it flushed is in memory
-abbrev pub HasTablesOf : StoreTable → InstalledEdit → Type 0
-HasTablesOf t edit = NoneFlushed t.memory edit.flushed × (t.tables ≡ edit.versions)
+abbrev pub IsOfEdit : StoreTable → InstalledEdit → Type 0
+IsOfEdit t edit = NoneFlushed t.memory edit.flushed × (t.tables ≡ edit.versions)
 
 -- so it is of the last edit while the tables turn is free
 abbrev pub IsSettled : Option ℕ → StoreTable → InstalledEdit → Type 0
-IsSettled holder t last = holder ≡ None → HasTablesOf t last
+IsSettled holder t last = holder ≡ None → IsOfEdit t last

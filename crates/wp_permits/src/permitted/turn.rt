@@ -1,6 +1,7 @@
 //! Whether a turn may be taken or given.
 ghost use Rattle.std.specs.Prelude.{◌≡◌, true};
 ghost use Rattle.wp_core.specs.Conditions.{MayGive};
+ghost use Rattle.wp_core.specs.Sound.Store.{IsOfEdit};
 ghost use Rattle.wp_core.specs.Tables.{NoneDelayed, NoOldCommits};
 ghost use Rattle.wp_machine.specs.Parts.{turn_of};
 ghost use Rattle.wp_machine.specs.Machine.{turn_step};
@@ -29,6 +30,14 @@ fn old_flag_is_right(world: &World) -> bool
     !has_no_old_commits(&world.snapshots)
 }
 
+/// The store has just the last edit's tables, and no flushed version is in memory.
+fn has_last_tables(world: &World) -> bool
+    ensures { result ≡ true → IsOfEdit world.now.store world.now.installed.last }
+{
+    let last = &world.installed.last;
+    none_flushed(&world.store.memory, last.flushed) && world.store.tables == last.versions
+}
+
 fn may_give(world: &World, turn: Turn) -> bool
     ensures { result ≡ true → MayGive world.now (turn_of turn) }
 {
@@ -37,7 +46,7 @@ fn may_give(world: &World, turn: Turn) -> bool
         Turn::Prepared => delayed_flag_is_right(world),
         Turn::Snapshots => old_flag_is_right(world),
         Turn::Store | Turn::Locks => true,
-        Turn::Tables => none_flushed(&world.store.memory, world.installed.last.flushed),
+        Turn::Tables => has_last_tables(world),
     }
 }
 
