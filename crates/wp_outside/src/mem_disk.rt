@@ -82,6 +82,13 @@ impl MemDisk {
         &self.bytes
     }
 
+    /// How many calls there were, up to the greatest `u64`.
+    pub(crate) fn made(&self) -> u64
+        ensures { result ≡ self.now.calls.made }
+    {
+        self.counter.made()
+    }
+
     // Whether a call is left, and room for this length and so many more bytes written.
     fn fits(&self, len: u64, more: usize) -> bool
         ensures tests { result ≡ not (is_used_up self.now len more) }

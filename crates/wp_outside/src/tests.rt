@@ -1,6 +1,8 @@
 use crate::{Disk, Failed, Gate, Got, MemDisk, MemSink, MemSource, OpenGate, Sink, Source};
 use std::test::Fail;
 
+mod gates;
+
 #[test]
 fn source_gives_its_bytes_in_order(rt: HostRuntime) -> Result<(), Fail> {
     let alloc = rt.alloc();
