@@ -111,7 +111,7 @@ of_stores d t (store.ReplaceVersions replaced floor) s e = subst Acts (only (ste
 of_tabless : (k : TablesStep) (s : Step) → tables_step k ≡ Some s → Acts s
 of_tabless (tables.Install edit compacts) s e = subst Acts (only (step.install edit compacts) _ e) tt
 of_tabless (tables.Halt edit) s e = subst Acts (only (step.halt edit) _ e) tt
-of_tabless tables.FindFlushed s e = subst Acts (only (step.find_flushed) _ e) tt
+of_tabless tables.FindEdit s e = subst Acts (only (step.find_edit) _ e) tt
 
 of_lockss : (w : World) (p : Participant) (k : LocksStep) (s : Step) → locks_step w p k ≡ Some s → Acts s
 of_lockss w p (locks.ClaimName name) s e = subst Acts (only (step.claim_name name) _ e) tt
@@ -189,7 +189,7 @@ again w by x a (step.move_versions x0 x1) i = ap (λ (zs : List Actor). record (
 again w by x a (step.replace_versions x0 x1) i = ap (λ (zs : List Actor). record (done w by a (step.replace_versions x0 x1)) { actors = zs }) (set-set w.actors by x _)
 again w by x a (step.install x0 x1) i = ap (λ (zs : List Actor). record (done w by a (step.install x0 x1)) { actors = zs }) (set-set w.actors by x _)
 again w by x a (step.halt x0) i = ap (λ (zs : List Actor). record (done w by a (step.halt x0)) { actors = zs }) (set-set w.actors by x _)
-again w by x a step.find_flushed i = ap (λ (zs : List Actor). record (done w by a step.find_flushed) { actors = zs }) (set-set w.actors by x _)
+again w by x a step.find_edit i = ap (λ (zs : List Actor). record (done w by a step.find_edit) { actors = zs }) (set-set w.actors by x _)
 again w by x a (step.claim_name x0) i = ap (λ (zs : List Actor). record (done w by a (step.claim_name x0)) { actors = zs }) (set-set w.actors by x _)
 again w by x a (step.take_name x0 x1) i = ap (λ (zs : List Actor). record (done w by a (step.take_name x0 x1)) { actors = zs }) (set-set w.actors by x _)
 again w by x a (step.leave_name x0) i = ap (λ (zs : List Actor). record (done w by a (step.leave_name x0)) { actors = zs }) (set-set w.actors by x _)

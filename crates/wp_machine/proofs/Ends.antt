@@ -128,7 +128,7 @@ of_stores h n d t (store.ReplaceVersions replaced floor) s e = subst (EndsAs h n
 of_tabless : (h : List Entry) (n : ℕ) (k : TablesStep) (s : Step) → tables_step k ≡ Some s → EndsAs h n (of_tables k) s
 of_tabless h n (tables.Install edit compacts) s e = subst (EndsAs h n _) (only (step.install edit compacts) _ e) (record { guard = λ turn. refl; alone = refl; place = λ n. refl; words = refl; pending = refl; transaction = λ name. refl; delayed_flag = refl; old_flag = refl; add_prepared = refl; take_prepared = refl; add_versions = refl; take_versions = refl; moves = refl; replaces = refl; installs = refl; direct = refl })
 of_tabless h n (tables.Halt edit) s e = subst (EndsAs h n _) (only (step.halt edit) _ e) (record { guard = λ turn. refl; alone = refl; place = λ n. refl; words = refl; pending = refl; transaction = λ name. refl; delayed_flag = refl; old_flag = refl; add_prepared = refl; take_prepared = refl; add_versions = refl; take_versions = refl; moves = refl; replaces = refl; installs = refl; direct = refl })
-of_tabless h n tables.FindFlushed s e = subst (EndsAs h n _) (only (step.find_flushed) _ e) (record { guard = λ turn. refl; alone = refl; place = λ n. refl; words = refl; pending = refl; transaction = λ name. refl; delayed_flag = refl; old_flag = refl; add_prepared = refl; take_prepared = refl; add_versions = refl; take_versions = refl; moves = refl; replaces = refl; installs = refl; direct = refl })
+of_tabless h n tables.FindEdit s e = subst (EndsAs h n _) (only (step.find_edit) _ e) (record { guard = λ turn. refl; alone = refl; place = λ n. refl; words = refl; pending = refl; transaction = λ name. refl; delayed_flag = refl; old_flag = refl; add_prepared = refl; take_prepared = refl; add_versions = refl; take_versions = refl; moves = refl; replaces = refl; installs = refl; direct = refl })
 
 of_lockss : (h : List Entry) (n : ℕ) (w : World) (p : Participant) (k : LocksStep) (s : Step) → locks_step w p k ≡ Some s → EndsAs h n (of_locks k) s
 of_lockss h n w p (locks.ClaimName name) s e = subst (EndsAs h n _) (only (step.claim_name name) _ e) (record { guard = λ turn. refl; alone = refl; place = λ n. refl; words = refl; pending = refl; transaction = λ name. refl; delayed_flag = refl; old_flag = refl; add_prepared = refl; take_prepared = refl; add_versions = refl; take_versions = refl; moves = refl; replaces = refl; installs = refl; direct = refl })

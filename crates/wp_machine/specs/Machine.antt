@@ -115,7 +115,7 @@ store_step d t (store.ReplaceVersions replaced floor) = Some (step.replace_versi
 abbrev pub tables_step : TablesStep → Option Step
 tables_step (tables.Install edit compacts) = Some (step.install edit compacts)
 tables_step (tables.Halt edit) = Some (step.halt edit)
-tables_step tables.FindFlushed = Some step.find_flushed
+tables_step tables.FindEdit = Some step.find_edit
 
 abbrev pub locks_step : World → Participant → LocksStep → Option Step
 locks_step w p (locks.ClaimName name) = Some (step.claim_name name)

@@ -42,11 +42,11 @@ event_of (found.Took name) = view.took name
 event_of (found.Locked key holder) = view.locked key holder
 event_of (found.Told label n) = view.told label n
 event_of (found.Heard label n) = view.heard label n
-event_of (found.Installed flushed tables compacts) = view.installed flushed tables compacts
-event_of found.LogFailed = view.log_failed
-event_of found.TablesFailed = view.tables_failed
+event_of (found.Installed edit compacts) = view.installed edit compacts
+event_of (found.LogFailed entries) = view.log_failed entries.items
+event_of (found.TablesFailed last edit) = view.tables_failed last edit
 event_of (found.Stopped n) = view.stopped n
-event_of (found.Flushed n) = view.found_flushed n
+event_of (found.Edit flushed tables due halted) = view.found_edit flushed tables due halted
 event_of (found.Holder key holder seen account) = view.found key holder seen (account_of account)
 
 abbrev pub fact_of : Noted → Fact

@@ -178,8 +178,8 @@ fn make(world: &mut World, by: usize, kind: Kind) -> Result<(), AllocError>
 
 /// What the step makes of the world.
 ///
-/// Want of memory is answered too where an actor that was joined makes a step that asks for its client, and where a
-/// number is past its type's end; in a sound world neither comes.
+/// Want of memory is answered too where an actor that was joined makes a step that asks for its client, which in a sound
+/// world never comes, and where a number is past its type's end.
 pub fn apply(world: World, step: Step) -> Result<World, AllocError>
     requires { MayMake world step.by step.kind }
     ensures made { IfOk result (λ next. Makes world step.by step.kind next) }

@@ -21,6 +21,7 @@ mod applied;
 mod cache;
 mod content;
 mod copies;
+mod due;
 mod effects;
 mod ending;
 mod left;

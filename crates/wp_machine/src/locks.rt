@@ -1,4 +1,4 @@
-ghost use Rattle.std.specs.Prelude.{◌≡◌, not, filter, map, IfOk, OnOk};
+ghost use Rattle.std.specs.Prelude.{◌≡◌, ◌↔◌, true, Some, None, not, filter, map, IfOk, OnOk};
 ghost use Rattle.std.specs.Option.{option_copied};
 ghost use Rattle.std.specs.FinSet as set;
 ghost use Rattle.std.specs.FinMap as finite;
@@ -176,6 +176,16 @@ impl LockTables {
         ensures { option_copied result ≡ finite.get self.now.names name.now }
     {
         name_under(&self.names, name)
+    }
+
+    /// Whether the name is live, and no client has it.
+    pub fn is_left(&self, name: &Name) -> bool
+        ensures { (result ≡ true) ↔ (finite.get self.now.names name.now ≡ Some None) }
+    {
+        match self.name(name) {
+            Some(client) => client.is_none(),
+            None => false,
+        }
     }
 
     #[tactic(auto, using(crate::proofs::Maps::under_is_got))]

@@ -115,7 +115,7 @@ pub enum TablesStep {
     Install(InstalledEdit, bool),
     /// The devices failed, in the install of this edit or before one.
     Halt(Option<InstalledEdit>),
-    FindFlushed,
+    FindEdit,
 }
 
 /// A step with the locks turn.

@@ -81,7 +81,7 @@ impl InstalledEdit {
     }
 }
 
-fn copy_failed(
+pub fn copy_edit(
     edit: &Option<InstalledEdit>,
     alloc: Global,
 ) -> Result<Option<InstalledEdit>, AllocError>
@@ -99,7 +99,7 @@ impl Installed {
     {
         Ok(Installed {
             last: self.last.copy(alloc)?,
-            failed: copy_failed(&self.failed, alloc)?,
+            failed: copy_edit(&self.failed, alloc)?,
             halted: self.halted,
         })
     }

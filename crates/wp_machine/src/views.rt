@@ -1,8 +1,9 @@
 ghost use Rattle.std.specs.Prelude.{◌≡◌};
 
+use crate::store::InstalledEdit;
 use crate::turn::Turn;
 use std::marker::Model;
-use wp_model::{Batch, Holder, Key, Name, Seq, Version};
+use wp_model::{Batch, Entry, Holder, Key, Name, Seq, Version};
 
 /// How a holder that was found is accounted for: the finder's own, another actor's, or a prepare undecided after so many
 /// entries.
@@ -21,13 +22,17 @@ pub enum Found {
     Locked(Key, Holder),
     Told(Name, Seq),
     Heard(Name, Seq),
-    /// An edit with this flushed number and so many tables; true where a compaction made it.
-    Installed(Seq, u64, bool),
-    LogFailed,
-    TablesFailed,
+    /// This edit; true where a compaction made it.
+    Installed(InstalledEdit, bool),
+    /// The append of this record failed.
+    LogFailed(Vec<Entry>),
+    /// The devices failed, where the first was the last edit, in the install of the second, if of one.
+    TablesFailed(InstalledEdit, Option<InstalledEdit>),
     /// The log was found closed at this published number.
     Stopped(Seq),
-    Flushed(Seq),
+    /// The last edit, with this flushed number and so many tables, by one who knew of so many; true where the devices had
+    /// failed.
+    Edit(Seq, u64, u64, bool),
     /// This holder, of a key or else of a live name, by one who had seen so many entries.
     Holder(Option<Key>, Holder, Seq, Account),
 }

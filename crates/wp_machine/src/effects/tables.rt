@@ -5,9 +5,10 @@ ghost use Rattle.wp_machine.specs.Machine.{tables_step};
 ghost use Rattle.wp_machine.specs.Effect.{IsEffect};
 
 use crate::actor::Actor;
+use crate::due::tables_due;
 use crate::effects::turn::hold;
 use crate::step::TablesStep;
-use crate::store::InstalledEdit;
+use crate::store::{InstalledEdit, copy_edit};
 use crate::turn::Turn;
 use crate::views::{Event, Found};
 use crate::world::World;
@@ -21,7 +22,8 @@ fn install(
 ) -> Result<(), AllocError>
     ensures { OnOk result ((by : ℕ) → IsEffect by world.old actor.old (step.install edit compacts) world.new actor.new) }
 {
-    actor.remember(Event::of(Found::Installed(edit.flushed, edit.tables, compacts)))?;
+    let installed = edit.copy(world.alloc)?;
+    actor.remember(Event::of(Found::Installed(installed, compacts)))?;
     world.installed.last = edit;
     hold(world, actor, Turn::Tables)
 }
@@ -29,15 +31,21 @@ fn install(
 fn halt(world: &mut World, actor: &mut Actor, edit: Option<InstalledEdit>) -> Result<(), AllocError>
     ensures { OnOk result ((by : ℕ) → IsEffect by world.old actor.old (step.halt edit) world.new actor.new) }
 {
-    actor.remember(Event::of(Found::TablesFailed))?;
+    let alloc = world.alloc;
+    let last = world.installed.last.copy(alloc)?;
+    let failed = copy_edit(&edit, alloc)?;
+    actor.remember(Event::of(Found::TablesFailed(last, failed)))?;
     world.installed.halt(edit);
     hold(world, actor, Turn::Tables)
 }
 
-fn find_flushed(world: &mut World, actor: &mut Actor) -> Result<(), AllocError>
-    ensures { OnOk result ((by : ℕ) → IsEffect by world.old actor.old step.find_flushed world.new actor.new) }
+fn find_edit(world: &mut World, actor: &mut Actor) -> Result<(), AllocError>
+    ensures { OnOk result ((by : ℕ) → IsEffect by world.old actor.old step.find_edit world.new actor.new) }
 {
-    actor.remember(Event::of(Found::Flushed(world.installed.last.flushed)))
+    let due = tables_due(&world.first_edit, &actor.participant.past)?;
+    let installed = &world.installed;
+    let (flushed, tables) = (installed.last.flushed, installed.last.tables);
+    actor.remember(Event::of(Found::Edit(flushed, tables, due, installed.halted)))
 }
 
 pub(crate) fn tables(
@@ -51,6 +59,6 @@ pub(crate) fn tables(
     match kind {
         TablesStep::Install(edit, compacts) => install(world, actor, edit, compacts),
         TablesStep::Halt(edit) => halt(world, actor, edit),
-        TablesStep::FindFlushed => find_flushed(world, actor),
+        TablesStep::FindEdit => find_edit(world, actor),
     }
 }

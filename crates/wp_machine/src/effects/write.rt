@@ -5,6 +5,7 @@ ghost use Rattle.wp_machine.specs.Machine.{write_step};
 ghost use Rattle.wp_machine.specs.Effect.{IsEffect};
 
 use crate::actor::Actor;
+use crate::copies::copy_entries;
 use crate::effects::turn::hold;
 use crate::step::WriteStep;
 use crate::turn::Turn;
@@ -31,8 +32,10 @@ fn log_pending(world: &mut World, actor: &mut Actor) -> Result<(), AllocError>
 fn close_log(world: &mut World, actor: &mut Actor) -> Result<(), AllocError>
     ensures { OnOk result ((by : ℕ) → IsEffect by world.old actor.old step.close_log world.new actor.new) }
 {
-    world.writes.close_log(world.alloc)?;
-    actor.remember(Event::of(Found::LogFailed))?;
+    let alloc = world.alloc;
+    world.writes.close_log(alloc)?;
+    let failed = copy_entries(&world.writes.failed, alloc)?;
+    actor.remember(Event::of(Found::LogFailed(failed)))?;
     hold(world, actor, Turn::Write)
 }
 
