@@ -58,7 +58,7 @@ pub record Scene (client : Client) (c : Command) (answer : Reply) : Type 0 where
   pub evidence : Evidence
   pub from : ℕ
   pub progress : Progress
-  pub low : progress.progress.last ≤ from
+  pub low : progress.last ≤ from
   pub txn : TxnIsWithin from client.txn
   pub snapshots : AreWithin from client.snapshots
   pub given : IsDueFrom evidence from progress client c answer
