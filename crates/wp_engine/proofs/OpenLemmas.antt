@@ -5,6 +5,7 @@ use Rattle.wp_model.specs.declared.entry.Entry.{Entry}
 use Rattle.wp_model.specs.declared.version.Version.{Version}
 use Rattle.wp_model.specs.Flushed.{InstalledEdit, IsEditCovered}
 use Rattle.wp_model.specs.Legal.{IsLegal}
+use Rattle.wp_model.specs.LockTables.{Labels}
 use Rattle.wp_history.proofs.Growth.{legal_before}
 use Rattle.wp_outside.specs.Disk.{Moment, IfKnown, images}
 use Rattle.wp_gatelog.specs.Moments.{Leaves}
@@ -139,9 +140,9 @@ opens_as id entries IsHistory IsLast log manifest tables fits history edit = rec
   );
 }
 
-pub all_open : (wal : WalState) (entries : List Entry) (set : TableSetState) (store : StoreParts) (stopped : Bool) (limit : ℕ) → IsConsistent wal entries set store stopped limit → (set.halted ≡ false → set.manifest.log.closed ≡ false)
-    → AllOpen (engine_state wal entries set store stopped limit) wal.moments set.manifest.log.moments set.moments
-all_open wal entries set store stopped limit whole running = (
+pub all_open : (wal : WalState) (entries : List Entry) (set : TableSetState) (store : StoreParts) (stopped : Bool) (limit : ℕ) (board : Labels) → IsConsistent wal entries set store stopped limit → (set.halted ≡ false → set.manifest.log.closed ≡ false)
+    → AllOpen (engine_state wal entries set store stopped limit board) wal.moments set.manifest.log.moments set.moments
+all_open wal entries set store stopped limit board whole running = (
   failed_edit whole.tables,
   λ l m t at_l at_m at_t.
       opens_as wal.id entries _ _ l m t whole.log.id_fits (log_spelled wal entries stopped limit l whole.log at_l) (named wal.id entries set store whole.tables m t at_m at_t running),

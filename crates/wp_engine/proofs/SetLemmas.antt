@@ -5,6 +5,7 @@ use Rattle.wp_model.specs.declared.entry.Entry.{Entry}
 use Rattle.wp_model.specs.declared.version.Version.{Version}
 use Rattle.wp_model.specs.Flushed.{InstalledEdit, IsEditCovered}
 use Rattle.wp_model.specs.Legal.{IsLegal}
+use Rattle.wp_model.specs.LockTables.{Labels}
 use Rattle.wp_outside.specs.Disk.{images}
 use Rattle.wp_manifest.specs.Edit.{Edit, no_edit}
 use Rattle.wp_manifest.specs.Manifest.{ManifestState}
@@ -72,7 +73,7 @@ module _ {wal : WalState} {entries : List Entry} {set new : TableSetState} {stor
     };
   }
 
-  pub has_installed : NextInstalled set new next after → kept.tables ≡ after store.tables → HasInstalled (engine_state wal entries set store stopped limit) (engine_state wal entries new kept stopped limit) edit parts
+  pub has_installed : {board : Labels} → NextInstalled set new next after → kept.tables ≡ after store.tables → HasInstalled (engine_state wal entries set store stopped limit board) (engine_state wal entries new kept stopped limit board) edit parts
   has_installed installed tables =
       let is : installed_of new.manifest.edit kept.tables ≡ edit = rw (installed.last, tables) call.edit_is in
       let halted : new.halted ≡ set.halted = installed.running ∙ sym call.running in
@@ -153,10 +154,10 @@ module _ {wal : WalState} {entries : List Entry} {set new : TableSetState} {stor
             (still_covered same) still_last m t at_m at_t open_)
       ]
 
-    pub not_installed : (something : Type 0) → something → (why : TableSetError) → NextRefused set new next after why
-        → IsNotInstalled (engine_state wal entries set store stopped limit) (engine_state wal entries new kept stopped limit) something edit (maintenance_error set.manifest.edit.flushed why)
-    not_installed something some Memory refused = (call.running, rw (refused.0, tables) refl)
-    not_installed something some Fault refused = elim refused.2 [
+    pub not_installed : (board : Labels) (something : Type 0) → something → (why : TableSetError) → NextRefused set new next after why
+        → IsNotInstalled (engine_state wal entries set store stopped limit board) (engine_state wal entries new kept stopped limit board) something edit (maintenance_error set.manifest.edit.flushed why)
+    not_installed board something some Memory refused = (call.running, rw (refused.0, tables) refl)
+    not_installed board something some Fault refused = elim refused.2 [
       | inl failed ↦ (
         some,
         record {
@@ -176,11 +177,11 @@ module _ {wal : WalState} {entries : List Entry} {set new : TableSetState} {stor
         },
       )
     ]
-    not_installed something some Halted refused = let halted = refused.0 in let runs = call.running in absurd cc
+    not_installed board something some Halted refused = let halted = refused.0 in let runs = call.running in absurd cc
 
   -- ---- what stays
 
-  pub keeps_tables : KeepsTables (engine_state wal entries set store stopped limit) (engine_state wal entries new kept stopped limit)
+  pub keeps_tables : {board : Labels} → KeepsTables (engine_state wal entries set store stopped limit board) (engine_state wal entries new kept stopped limit board)
   keeps_tables = record {
     fronts = call.keeps.fronts tabled.edits tabled.next store.tables tabled.next_parts tabled.stores;
     durable = call.keeps.durable tabled.edits tabled.next tabled.stores.manifest;

@@ -1,6 +1,7 @@
 -- At each moment of a flush or a compaction a crash leaves devices that open.
 use Rattle.std.proofs.Common.{◌≡◌, ◌⊎◌, inl, inr, ℕ, Bool, List, [], ◌∷◌, ◌++◌, Result, Ok, Err, refl, sym, ap, subst}
 use Rattle.wp_model.specs.declared.entry.Entry.{Entry}
+use Rattle.wp_model.specs.LockTables.{Labels}
 use Rattle.wp_model.specs.declared.version.Version.{Version}
 use Rattle.wp_model.specs.Flushed.{InstalledEdit}
 use Rattle.wp_outside.specs.Disk.{Moment, IfKnown, Each, Passes, images}
@@ -100,16 +101,16 @@ module _ {wal : WalState} {entries : List Entry} {set new : TableSetState} {stor
   manifest_uncalled : new.manifest ≡ set.manifest → Passes OpensEither set.manifest.log.moments new.manifest.log.moments
   manifest_uncalled same = ([], rw same refl, tt)
 
-  throughout : Passes OpensEither set.manifest.log.moments new.manifest.log.moments → OpensThroughout (engine_state wal entries set store stopped limit) (engine_state wal entries new kept stopped limit) edit
+  throughout : {board : Labels} → Passes OpensEither set.manifest.log.moments new.manifest.log.moments → OpensThroughout (engine_state wal entries set store stopped limit board) (engine_state wal entries new kept stopped limit board) edit
   throughout passed = record { tables = tables_passed; manifest = passed }
 
   passed : {T : Type 0} (result : Result T TableSetError) → Installs set new next after result → Passes (Leaves (IsManifestOrNext id edits next)) set.manifest.log.moments new.manifest.log.moments
   passed result installs = installs.passed edits at_first.manifest call.open_
 
-  pub installed_throughout : {T : Type 0} (x : T) → Installs {T = T} set new next after (Ok x) → OpensThroughout (engine_state wal entries set store stopped limit) (engine_state wal entries new kept stopped limit) edit
+  pub installed_throughout : {board : Labels} → {T : Type 0} (x : T) → Installs {T = T} set new next after (Ok x) → OpensThroughout (engine_state wal entries set store stopped limit board) (engine_state wal entries new kept stopped limit board) edit
   installed_throughout x installs = throughout (manifest_passed (rw (installs.installed.last, call.keeps.id) at (installs.installed.stores edits store.tables at_first).left) (passed (Ok x) installs))
 
-  pub refused_throughout : {T : Type 0} (why : TableSetError) → Installs {T = T} set new next after (Err why) → OpensThroughout (engine_state wal entries set store stopped limit) (engine_state wal entries new kept stopped limit) edit
+  pub refused_throughout : {board : Labels} → {T : Type 0} (why : TableSetError) → Installs {T = T} set new next after (Err why) → OpensThroughout (engine_state wal entries set store stopped limit board) (engine_state wal entries new kept stopped limit board) edit
   refused_throughout Memory installs = throughout (manifest_uncalled (ap (λ (s : TableSetState). s.manifest) installs.refused.0))
   refused_throughout Fault installs = elim installs.refused.2 [
     | inl failed ↦ throughout (manifest_uncalled failed.manifest)

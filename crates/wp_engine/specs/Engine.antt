@@ -1,8 +1,11 @@
 -- The store on one thread, between two calls.
 use Rattle.std.specs.Prelude.{ℕ, Bool, List}
+use Rattle.std.specs.Coded.{Coded, coded_ℕ, coded_list}
+use Rattle.std.specs.FinMap as map
 use Rattle.wp_model.specs.declared.entry.Entry.{Entry}
 use Rattle.wp_model.specs.declared.version.Version.{Version}
 use Rattle.wp_model.specs.Flushed.{InstalledEdit}
+use Rattle.wp_model.specs.LockTables.{Labels}
 use Rattle.wp_outside.specs.Disk.{Moment}
 use Rattle.wp_open.specs.Opens.{installed_of}
 use Rattle.wp_store.specs.Store.{StoreParts}
@@ -23,9 +26,14 @@ pub record EngineState : Type 0 where
   pub manifest_moments : List Moment
   pub tables_faults : ℕ
   pub tables_moments : List Moment
+  pub board : Labels  -- what was told last under each label
 
-abbrev pub engine_state : WalState → List Entry → TableSetState → StoreParts → Bool → ℕ → EngineState
-engine_state wal entries set store stopped limit = record {
+-- the board is stored as its entries
+abbrev pub labels_code : Coded Labels
+labels_code = map.code (coded_list coded_ℕ) coded_ℕ
+
+abbrev pub engine_state : WalState → List Entry → TableSetState → StoreParts → Bool → ℕ → Labels → EngineState
+engine_state wal entries set store stopped limit board = record {
   entries = entries;
   stopped = stopped;
   limit = limit;
@@ -39,4 +47,5 @@ engine_state wal entries set store stopped limit = record {
   manifest_moments = set.manifest.log.moments;
   tables_faults = set.faults;
   tables_moments = set.moments;
+  board = board;
 }

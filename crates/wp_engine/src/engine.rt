@@ -1,4 +1,5 @@
-ghost use Rattle.std.specs.Prelude.{◌≡◌, ◌+◌, ◌≤◌, ◌<◌, ◌^◌, ◌++◌, ℕ, List, [], None, false, length};
+ghost use Rattle.std.specs.Prelude.{◌≡◌, ◌+◌, ◌≤◌, ◌<◌, ◌^◌, ◌++◌, ℕ, List, [], None, false, length, IfOk, OnErr};
+ghost use Rattle.std.specs.FinMap as map;
 ghost use Rattle.wp_model.specs.Flushed.{later_versions};
 ghost use Rattle.wp_model.specs.Legal.{IsLegal, undone_last};
 ghost use Rattle.wp_outside.specs.Disk.{Moment, IfKnown};
@@ -11,11 +12,12 @@ ghost use Rattle.wp_engine.specs.Stored.{AllOpen, CrashLeaves, fault_count};
 
 use crate::error::WriteError;
 use crate::memory::{insert_all, remove_all};
-use std::alloc::Global;
+use std::alloc::{AllocError, Global};
 use std::marker::Model;
 use wp_gatelog::AppendError;
 use wp_history::{History, laws};
-use wp_model::{Entry, Seq};
+use wp_locks::Locks;
+use wp_model::{Entry, Name, Seq};
 use wp_open::Parts;
 use wp_outside::{Disk, Disks};
 use wp_store::Store;
@@ -23,7 +25,8 @@ use wp_tableset::TableSet;
 use wp_wal::Wal;
 
 /// The store on one thread: its log, and the history that the log spells, which is searched for each decision; and its
-/// versions, in memory and in the tables of the set. An entry is in the history once its record is in the log.
+/// versions, in memory and in the tables of the set. An entry is in the history once its record is in the log. The board is
+/// kept beside it all, in memory alone.
 #[derive(Drop)]
 pub struct Engine<D: Disk> {
     pub(crate) alloc: Global,
@@ -33,15 +36,20 @@ pub struct Engine<D: Disk> {
     pub(crate) store: Store,
     pub(crate) stopped: bool,
     pub(crate) limit: Seq,
+    /// No name is claimed and no key is locked, since no two clients run at once.
+    board: Locks,
 }
 
 impl<D: Disk> Model for Engine<D> {
-    ghost use Rattle.wp_engine.specs.Engine.{EngineState, engine_state};
+    ghost use Rattle.std.specs.Coded.{codes};
+    ghost use Rattle.wp_engine.specs.Engine.{EngineState, engine_state, labels_code};
     ghost use Rattle.wp_engine.specs.Stored.{IsConsistent};
 
     ghost Value = { EngineState };
 
-    ghost view = { λ e. engine_state e.wal e.history.entries e.set e.store e.stopped e.limit };
+    ghost coded = { Prim.hlevel (codes, labels_code) };
+
+    ghost view = { λ e. engine_state e.wal e.history.entries e.set e.store e.stopped e.limit e.board.labels };
 
     ghost invariant = { λ e. IsConsistent e.wal e.history.entries e.set e.store e.stopped e.limit };
 }
@@ -78,6 +86,7 @@ impl<D: Disk> Engine<D> {
           manifest_moments = parts.manifest.log.moments;
           tables_faults = D.faults parts.tables;
           tables_moments = D.moments parts.tables;
+          board = map.empty;
         } }
     {
         let Parts {
@@ -96,6 +105,7 @@ impl<D: Disk> Engine<D> {
             store,
             stopped: false,
             limit,
+            board: Locks::new(alloc),
         }
     }
 
@@ -156,6 +166,23 @@ impl<D: Disk> Engine<D> {
             }
             Err(AppendError::Closed(_)) => unreachable!(),
         }
+    }
+
+    /// Tells the number published under the label, in place of what was told there before.
+    pub fn tell(&mut self, label: Name) -> Result<Seq, AllocError>
+        ensures told { IfOk result (λ n. (n ≡ length self.old.entries) × (self.new ≡ record self.old { board = map.insert self.old.board label n })) }
+        ensures err { OnErr result (self.new ≡ self.old) }
+    {
+        let published = self.history.published();
+        self.board.tell(label, published)?;
+        Ok(published)
+    }
+
+    /// The number that was told last under the label.
+    pub fn told(&self, label: &Name) -> Option<Seq>
+        ensures { result ≡ map.get self.now.board label.now }
+    {
+        self.board.told(label)
     }
 
     /// Gives the devices back.

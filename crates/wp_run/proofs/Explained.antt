@@ -14,14 +14,16 @@ use Rattle.wp_session.specs.Client.{Client, new_client}
 use Rattle.wp_session.specs.Due.{Store, logged_entries, client_after}
 use Rattle.wp_session.specs.Kind.{acknowledged, is_fault, is_stopped, is_tables_fault, is_halted}
 use Rattle.wp_session.specs.Laws.{DueIsSession}
+use Rattle.wp_session.specs.Known.{StoredState}
 use Rattle.wp_session.specs.Replies.{Failed}
 use Rattle.wp_session.specs.Current.{RunsAlone}
 use Rattle.wp_engine.specs.Stored.{fault_count}
 use Rattle.wp_run.specs.Failed.{AsksLog, AsksTables, FaultAsks, OneFaultAsks}
 use Rattle.wp_run.specs.Runs.{Runs, AllRun}
-use Rattle.wp_run.specs.Transcript.{StoredState, stored_in, IsExact, all_replies, Explains, opened_store}
+use Rattle.wp_run.specs.Transcript.{stored_in, dialogues, IsExact, all_replies, Explains, opened_store}
 use Rattle.wp_run.proofs.Stores.{IsLaterStore, step_later, runs_later, all_later}
 use Rattle.wp_run.proofs.Asked.{log_fails_once, tables_fail_once, each_asks}
+use Rattle.wp_run.proofs.Board.{none_told}
 use Rattle.wp_run.proofs.Said.{none_said, all_say}
 use Rattle.wp_run.proofs.Sessions.{are_sessions}
 
@@ -147,7 +149,7 @@ explained law limit found failed new parts sessions low h stopped halted legal =
     record {
       legal = legal;
       begins = (all_later (opened_store limit found) new parts sessions h).grows;
-      answered = are_sessions law failed new (opened_store limit found) limit found [] parts sessions (omega arith) refl h (none_said (opened_store limit found))
+      answered = are_sessions law failed new (opened_store limit found) limit found [] parts sessions (omega arith) refl h (none_said (opened_store limit found)) (none_told (dialogues parts sessions) (length found.history))
           (each_asks is_fault (AsksLog failed.entries) _ log_fails_once (opened_store limit found) new parts sessions h stopped) (each_asks is_tables_fault (AsksTables failed.edit) _ tables_fail_once (opened_store limit found) new parts sessions h halted);
       paired = λ n after within. rw total.numbers (count_once n (length found.history + 1) total.count (omega arith) (omega (arith, total.longer)));
       log_failed = omega (arith, total.failed);

@@ -20,7 +20,7 @@ use Rattle.wp_engine.specs.declared.error.MaintenanceError.TheVariants as mainte
 use Rattle.wp_engine.specs.Engine.{EngineState}
 use Rattle.wp_engine.specs.Stored.{fault_count, IsOrOneMore, CrashLeaves, CrashOpens, AllOpen, LeavesEdit}
 use Rattle.wp_engine.specs.Maintenance.{IsNotInstalled, IsFlushResult, IsCompactResult}
-use Rattle.wp_run.specs.Answering.{IsRefusalOfTables, IsLogAnswer, IsFlushAnswer, IsCompactionAnswer, Flushes, Compacts}
+use Rattle.wp_run.specs.Answering.{IsRefusalOfTables, IsLogAnswer, IsFlushAnswer, IsCompactionAnswer, Flushes, Compacts, Tells}
 use Rattle.wp_run.specs.Failed.{AsksLog, AsksTables, FaultAsks, OneFaultAsks, LeavesEntries, IfFailed, IfStopped, IfHalted}
 use Rattle.wp_run.specs.Later.{Later, store_of}
 use Rattle.wp_run.specs.Runs.{Answered, Runs, AllRunSoFar, replies_of}
@@ -80,6 +80,13 @@ not_stopped = not_failed stopped_in LeavesEntries
 -- nor a device of the tables
 pub not_halted : (old new : EngineState) (A : InstalledEdit → Type 0) → new.halted ≡ old.halted → IfHalted old new A
 not_halted = not_failed halted_in LeavesEdit
+
+-- what is told changes no device
+pub tell_stops_none : (old new : EngineState) (label : List ℕ) (answer : Reply) (A : List Entry → Type 0) → Tells old label answer new → IfStopped old new A
+tell_stops_none old new label answer A told = not_stopped old new A (ap (λ (s : EngineState). s.stopped) told.1)
+
+pub tell_halts_none : (old new : EngineState) (label : List ℕ) (answer : Reply) (A : InstalledEdit → Type 0) → Tells old label answer new → IfHalted old new A
+tell_halts_none old new label answer A told = not_halted old new A (ap (λ (s : EngineState). s.halted) told.1)
 
 -- a step to entries that the log was asked for
 pub log_stops : (old new : EngineState) (was now : Client) (c : Command) (entries : List Entry) (success answer : Reply) → asked_of (plan old.entries was c) ≡ entries → IsLogAnswer old was entries success answer new now

@@ -1,5 +1,6 @@
 -- What stays on the devices of the store on one thread.
 use Rattle.std.proofs.Common.{ℕ, List, [], refl, ◌∙◌, arith}
+use Rattle.wp_model.specs.LockTables.{Labels}
 use Rattle.wp_outside.specs.Disk.{Moment}
 use Rattle.wp_gatelog.specs.Durability.{HasAcknowledged, LosesNoRecord}
 use Rattle.wp_gatelog.specs.Moments.{Leaves}
@@ -20,8 +21,9 @@ fronts_same ms = λ front. ([], refl, tt)
 pub fronts_trans : (old mid new : List Moment) → KeepsFronts old mid → KeepsFronts mid new → KeepsFronts old new
 fronts_trans old mid new a b = λ front. preserves_on (Leaves (BeginsWith front)) old mid new (a front) (b front)
 
-pub keeps_same : (s : EngineState) → KeepsDevices s s
-keeps_same s = record {
+-- whatever is on the board
+pub keeps_beside : (s : EngineState) (board : Labels) → KeepsDevices s (record s { board = board })
+keeps_beside s board = record {
   limited = refl;
   named = refl;
   log = records_same _ s.moments;
@@ -31,6 +33,9 @@ keeps_same s = record {
   manifest_later = omega arith;
   tables_later = omega arith;
 }
+
+pub keeps_same : (s : EngineState) → KeepsDevices s s
+keeps_same s = keeps_beside s s.board
 
 pub keeps_trans : (old mid new : EngineState) → KeepsDevices old mid → KeepsDevices mid new → KeepsDevices old new
 keeps_trans old mid new a b = record {

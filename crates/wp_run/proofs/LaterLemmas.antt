@@ -7,6 +7,7 @@ use Rattle.std.proofs.lemmas.List.{append-nil}
 use Rattle.wp_model.specs.declared.entry.Entry.{Entry}
 use Rattle.wp_model.specs.declared.version.Version.{Version}
 use Rattle.wp_model.specs.Flushed.{InstalledEdit}
+use Rattle.wp_model.specs.LockTables.{Labels}
 use Rattle.wp_outside.specs.Faults.{Rose}
 use Rattle.wp_text.specs.declared.reply.Reply.{Reply}
 use Rattle.wp_session.specs.Client.{Client}
@@ -17,7 +18,7 @@ use Rattle.wp_engine.specs.Logging.{CallsLog}
 use Rattle.wp_engine.specs.Maintenance.{KeepsTables, but_tables, HasInstalled, IsNotInstalled, IsFlushResult, IsCompactResult}
 use Rattle.wp_run.specs.Answering.{IsRefusalOfTables, IsLogAnswer, Compacts}
 use Rattle.wp_run.specs.Later.{Later, TablesRose, store_of}
-use Rattle.wp_run.proofs.Keeping.{keeps_same, keeps_trans, records_same, fronts_same}
+use Rattle.wp_run.proofs.Keeping.{keeps_beside, keeps_trans, records_same, fronts_same}
 
 -- no test has both answers
 pub false_is_true : {P : Type 0} (b : Bool) → b ≡ false → b ≡ true → P
@@ -26,9 +27,10 @@ false_is_true false e f = absurd cc
 
 -- ---- two in turn
 
-pub later_same : (s : EngineState) → Later s s
-later_same s = record {
-  keeps = keeps_same s;
+-- whatever is told
+pub later_beside : (s : EngineState) (board : Labels) → Later s (record s { board = board })
+later_beside s board = record {
+  keeps = keeps_beside s board;
   grows = ([], sym (append-nil s.entries));
   stopped = λ e. e;
   ended = λ e. (refl, refl);
@@ -37,6 +39,12 @@ later_same s = record {
   settled = λ e. (refl, refl, refl);
   tables_rose = λ e f. false_is_true s.halted e f;
 }
+
+pub later_same : (s : EngineState) → Later s s
+later_same s = later_beside s s.board
+
+pub later_told : (old new : EngineState) (board : Labels) → new ≡ record old { board = board } → Later old new
+later_told old new board is = subst (λ (s : EngineState). Later old s) (sym is) (later_beside old board)
 
 pub later_equal : (old new : EngineState) → new ≡ old → Later old new
 later_equal old new e = subst (λ (s : EngineState). Later old s) (sym e) (later_same old)

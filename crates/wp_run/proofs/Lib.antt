@@ -1,5 +1,6 @@
 pub mod Stores
 pub mod Said
+pub mod Board
 pub mod Sessions
 pub mod Explained
 pub mod Keeping

@@ -17,15 +17,15 @@ use Rattle.wp_run.specs.Runs.{no_edit, flushed, compacted, IsStep, Runs, AllRun}
 use Rattle.wp_run.specs.Transcript.{all_replies}
 use Rattle.wp_run.proofs.Stores.{step_later, longer_by}
 
-pub any_front : (p : Reply → Bool) (xs ys : List Reply) → list_any p xs ≡ true → list_any p (xs ++ ys) ≡ true
+pub any_front : {A : Type 0} (p : A → Bool) (xs ys : List A) → list_any p xs ≡ true → list_any p (xs ++ ys) ≡ true
 any_front p xs ys is = list_any-append p xs ys ∙ rw is refl
 
-pub any_back : (p : Reply → Bool) (xs ys : List Reply) → list_any p ys ≡ true → list_any p (xs ++ ys) ≡ true
-any_back p xs ys is = list_any-append p xs ys ∙ by (list_any p xs)
-  where
-    by : (b : Bool) → (b || list_any p ys) ≡ true
-    by true = refl
-    by false = is
+pub or_back : (a b : Bool) → b ≡ true → (a || b) ≡ true
+or_back true b is = refl
+or_back false b is = is
+
+pub any_back : {A : Type 0} (p : A → Bool) (xs ys : List A) → list_any p ys ≡ true → list_any p (xs ++ ys) ≡ true
+any_back p xs ys is = list_any-append p xs ys ∙ or_back (list_any p xs) (list_any p ys) is
 
 -- the flushed number is one of the history's
 abbrev pub IsWithin : Store → Type 0

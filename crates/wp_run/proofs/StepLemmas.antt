@@ -1,6 +1,7 @@
 -- What one command does to the store on one thread and to its client.
 use Rattle.std.proofs.Common.{◌≡◌, ℕ, ◌+◌, ◌<◌, ◌≤◌, Bool, true, false, List, [], ◌∷◌, ◌++◌, length, Option, Some, None, refl, sym, ap, ◌∙◌, subst, length-append, arith, inl, inr}
 use Rattle.std.specs.Prelude.{Result, Ok, Err, IfOk, OnOk, IfSome}
+use Rattle.std.specs.FinMap as map
 use Rattle.std.specs.List.{range_with_len}
 use Rattle.std.proofs.lemmas.Bool.{lt-ltb, le-ltb}
 use Rattle.std.proofs.lemmas.List.{append-nil}
@@ -9,17 +10,19 @@ use Rattle.wp_model.specs.declared.entry.Entry.{Entry}
 use Rattle.wp_model.specs.declared.entry.Entry.TheVariants as entry
 use Rattle.wp_model.specs.declared.version.Version.{Version}
 use Rattle.wp_model.specs.Flushed.{InstalledEdit, later_versions}
+use Rattle.wp_model.specs.LockTables.{Labels}
 use Rattle.wp_text.specs.declared.script.Command.{Command}
 use Rattle.wp_text.specs.declared.script.Command.TheVariants as command
 use Rattle.wp_text.specs.declared.reply.Reply.{Reply}
 use Rattle.wp_text.specs.declared.reply.Reply.TheVariants as reply
-use Rattle.wp_session.specs.declared.plan.Plan.TheVariants.{Say, Log, RollBack, Flush, Compact}
+use Rattle.wp_session.specs.declared.plan.Plan.TheVariants.{Say, Log, RollBack, Flush, Compact, Tell, Hear}
 use Rattle.wp_session.specs.Client.{Client, ClientFits, numbers_of}
-use Rattle.wp_session.specs.Due.{Store, logged, flushed, reply_to, due, logged_entries, edit_of, installed_edit, store_after, client_after}
+use Rattle.wp_session.specs.Due.{Store, logged, flushed, heard, reply_to, due, logged_entries, edit_of, installed_edit, board_after, store_after, client_after}
 use Rattle.wp_session.specs.Kind.{Kind, Logged, RolledBack, Flushed, Compacted, kind, acknowledged, numbers_logged, is_logged, says_logged, is_fault, says_failed, is_installed, says_installed, is_tables_fault, says_tables_failed, is_halted, says_halted, number_in, fresh_in, is_stopped, says_stopped}
 use Rattle.wp_session.specs.After.{after_decision}
 use Rattle.wp_session.specs.Plan.{plan, asked_of}
 use Rattle.wp_session.specs.Tables.{unflushed, retained, after_flush, after_compaction}
+use Rattle.wp_session.proofs.BoardLemmas.{asking, asks_itself}
 use Rattle.wp_session.proofs.PlanLemmas.{Logs}
 use Rattle.wp_session.proofs.SaidLemmas.{plan_says, within_more}
 use Rattle.wp_engine.specs.declared.error.MaintenanceError.{MaintenanceError}
@@ -27,21 +30,32 @@ use Rattle.wp_engine.specs.declared.error.MaintenanceError.TheVariants as mainte
 use Rattle.wp_engine.specs.Engine.{EngineState}
 use Rattle.wp_engine.specs.Logging.{HasLogged, HasFailed}
 use Rattle.wp_engine.specs.Maintenance.{HasInstalled, HasHalted, IsNotInstalled, IsFlushResult, IsCompactResult}
-use Rattle.wp_run.specs.Answering.{IsRefusalOfTables, IsLogAnswer, IsFlushAnswer, IsCompactionAnswer, Flushes, Compacts}
+use Rattle.wp_run.specs.Answering.{IsRefusalOfTables, IsLogAnswer, IsFlushAnswer, IsCompactionAnswer, Flushes, Compacts, Tells}
 use Rattle.wp_run.specs.Later.{store_of}
 use Rattle.wp_run.specs.Runs.{no_edit, flushed as is_flush, compacted as is_compaction, TablesStep, IsStep}
 use Rattle.wp_run.proofs.LaterLemmas.{false_is_true}
 
 -- two stores that agree in all
-pub same_store : (a b : Store) → a.history ≡ b.history → a.stopped ≡ b.stopped → a.limit ≡ b.limit → a.installed ≡ b.installed → a.halted ≡ b.halted → a ≡ b
-same_store a b h s l i t =
-    ap (λ (x : List Entry). record { history = x; stopped = a.stopped; limit = a.limit; installed = a.installed; halted = a.halted }) h
-    ∙ ap (λ (x : Bool). record { history = b.history; stopped = x; limit = a.limit; installed = a.installed; halted = a.halted }) s
-    ∙ ap (λ (x : ℕ). record { history = b.history; stopped = b.stopped; limit = x; installed = a.installed; halted = a.halted }) l
-    ∙ ap (λ (x : InstalledEdit). record { history = b.history; stopped = b.stopped; limit = b.limit; installed = x; halted = a.halted }) i
-    ∙ ap (λ (x : Bool). record { history = b.history; stopped = b.stopped; limit = b.limit; installed = b.installed; halted = x }) t
+pub same_store : (a b : Store) → a.history ≡ b.history → a.stopped ≡ b.stopped → a.limit ≡ b.limit → a.installed ≡ b.installed → a.halted ≡ b.halted → a.board ≡ b.board → a ≡ b
+same_store a b h s l i t d =
+    ap (λ (x : List Entry). record a { history = x }) h
+    ∙ ap (λ (x : Bool). record a { history = b.history; stopped = x }) s
+    ∙ ap (λ (x : ℕ). record a { history = b.history; stopped = b.stopped; limit = x }) l
+    ∙ ap (λ (x : InstalledEdit). record a { history = b.history; stopped = b.stopped; limit = b.limit; installed = x }) i
+    ∙ ap (λ (x : Bool). record b { halted = x; board = a.board }) t
+    ∙ ap (λ (x : Labels). record b { board = x }) d
 
 -- ---- replies that acknowledge entries
+
+-- it is that of a label that was told
+abbrev pub is_told : Reply → Bool
+is_told (reply.Told n) = true
+is_told other = false
+
+-- any other leaves the board
+untold : (board : Labels) (c : Command) (r : Reply) → is_told r ≡ false → board_after board c r ≡ board
+untold board (command.Tell label) (reply.Told n) none = absurd cc
+untold board c r none = refl
 
 -- a reply that acknowledges entries says nothing else
 pub record IsMere (r : Reply) : Type 0 where
@@ -50,13 +64,14 @@ pub record IsMere (r : Reply) : Type 0 where
   pub uninstalled : is_installed r ≡ false
   pub intact : is_tables_fault r ≡ false
   pub unhalted : is_halted r ≡ false
+  pub untold : is_told r ≡ false
 
 mere : (r : Reply) → is_logged r ≡ true → IsMere r
-mere (reply.Put n) is = record { faultless = refl; running = refl; uninstalled = refl; intact = refl; unhalted = refl }
-mere (reply.Del n) is = record { faultless = refl; running = refl; uninstalled = refl; intact = refl; unhalted = refl }
-mere (reply.Prepared n) is = record { faultless = refl; running = refl; uninstalled = refl; intact = refl; unhalted = refl }
-mere (reply.Committed n) is = record { faultless = refl; running = refl; uninstalled = refl; intact = refl; unhalted = refl }
-mere (reply.RolledBack n) is = record { faultless = refl; running = refl; uninstalled = refl; intact = refl; unhalted = refl }
+mere (reply.Put n) is = record { faultless = refl; running = refl; uninstalled = refl; intact = refl; unhalted = refl; untold = refl }
+mere (reply.Del n) is = record { faultless = refl; running = refl; uninstalled = refl; intact = refl; unhalted = refl; untold = refl }
+mere (reply.Prepared n) is = record { faultless = refl; running = refl; uninstalled = refl; intact = refl; unhalted = refl; untold = refl }
+mere (reply.Committed n) is = record { faultless = refl; running = refl; uninstalled = refl; intact = refl; unhalted = refl; untold = refl }
+mere (reply.RolledBack n) is = record { faultless = refl; running = refl; uninstalled = refl; intact = refl; unhalted = refl; untold = refl }
 mere other is = absurd cc
 
 settles : (h : List Entry) (client : Client) (c : Command) (r : Reply) → is_logged r ≡ true → client_after h client c r ≡ after_decision client r
@@ -126,18 +141,18 @@ fresh_same : (o : Option ℕ) (n : ℕ) → IfSome o (λ m. m ≡ n) → IfSome 
 fresh_same None n is = tt
 fresh_same (Some m) n is = (omega (arith, is), omega (arith, is))
 
--- the store with the edit that is the last one after a reply
+-- the store with the last edit and the board after a reply
 abbrev pub with_edit : Store → Client → Command → Reply → Store
-with_edit s was c answer = record s { installed = installed_edit s was c answer }
+with_edit s was c answer = record s { installed = installed_edit s was c answer; board = board_after s.board c answer }
 
--- nothing but the edit changes
+-- nothing but the edit and the board changes
 edit_steps : (s new : Store) (was now : Client) (c : Command) (answer : Reply) → answer ≡ due s was c → now ≡ client_after s.history was c answer → LogsNothing s c answer → new ≡ with_edit s was c answer → (s.halted ≡ true → new.installed ≡ s.installed) → TablesStep s was c answer → AreFew s
     → IsStep s was c answer new now
 edit_steps s new was now c answer is client plain edited settled tables few =
     let same : new.history ≡ s.history = ap (λ (t : Store). t.history) edited in
     record {
       replied = inl is;
-      store = edited ∙ same_store (with_edit s was c answer) (store_after s was c answer) (rw plain.unlogged (sym (append-nil s.history))) (rw plain.faultless refl) refl refl (rw plain.intact refl);
+      store = edited ∙ same_store (with_edit s was c answer) (store_after s was c answer) (rw plain.unlogged (sym (append-nil s.history))) (rw plain.faultless refl) refl refl (rw plain.intact refl) refl;
       client = client;
       numbers = rw (plain.none, plain.unlogged) refl;
       fresh = rw same (fresh_same (fresh_in c answer) (length s.history) plain.current);
@@ -152,9 +167,9 @@ edit_steps s new was now c answer is client plain edited settled tables few =
     }
 
 -- a reply that changes nothing of the store
-still_steps : (s : Store) (was now : Client) (c : Command) (answer : Reply) → answer ≡ due s was c → now ≡ client_after s.history was c answer → LogsNothing s c answer → is_installed answer ≡ false → AreFew s → IsStep s was c answer s now
-still_steps s was now c answer is client plain none few =
-    edit_steps s s was now c answer is client plain (same_store s (with_edit s was c answer) refl refl refl (rw none refl) refl) (λ e. refl) (no_edit none) few
+still_steps : (s : Store) (was now : Client) (c : Command) (answer : Reply) → answer ≡ due s was c → now ≡ client_after s.history was c answer → LogsNothing s c answer → is_installed answer ≡ false → board_after s.board c answer ≡ s.board → AreFew s → IsStep s was c answer s now
+still_steps s was now c answer is client plain none board few =
+    edit_steps s s was now c answer is client plain (same_store s (with_edit s was c answer) refl refl refl (rw none refl) refl (sym board)) (λ e. refl) (no_edit none) few
 
 -- ---- entries for the log
 
@@ -180,7 +195,8 @@ takes_steps old new was now c entries success asks takes is few =
       replied = inl (sym (asks.replies ∙ logged_takes s (length entries) success takes.called.running takes.called.fits));
       store = same_store (store_of new) (store_after s was c success) (longer ∙ ap (λ (xs : List Entry). old.entries ++ xs) (sym added_is))
           (ap (λ (j : EngineState). j.stopped) takes.changed ∙ rw plain.faultless refl) (ap (λ (j : EngineState). j.limit) takes.changed)
-          (ap (λ (j : EngineState). j.installed) takes.changed ∙ rw plain.uninstalled refl) (ap (λ (j : EngineState). j.halted) takes.changed ∙ rw plain.intact refl);
+          (ap (λ (j : EngineState). j.installed) takes.changed ∙ rw plain.uninstalled refl) (ap (λ (j : EngineState). j.halted) takes.changed ∙ rw plain.intact refl)
+          (ap (λ (j : EngineState). j.board) takes.changed ∙ sym (untold old.board c success plain.untold));
       client = is ∙ sym (settles old.entries was c success asks.logs.logged);
       numbers = asks.logs.numbers ∙ ap (λ (xs : List Entry). range_with_len (length old.entries + 1) (length xs)) (sym added_is);
       fresh = rw (longer, length-append old.entries entries) (fresh_if_numbered (λ n. (length old.entries ≤ n) × (n ≤ length old.entries + length entries)) c success asks.logs.fresh);
@@ -200,7 +216,8 @@ fails_steps old new was c entries success asks fails few =
     let longer : new.entries ≡ old.entries = ap (λ (j : EngineState). j.entries) fails.changed in
     record {
       replied = inr (inl (refl, ap is_logged (asks.replies ∙ logged_takes s (length entries) success fails.called.running fails.called.fits) ∙ asks.logs.logged));
-      store = same_store (store_of new) (store_after s was c reply.FaultLog) (longer ∙ sym (append-nil old.entries)) (ap (λ (j : EngineState). j.stopped) fails.changed) (ap (λ (j : EngineState). j.limit) fails.changed) (ap (λ (j : EngineState). j.installed) fails.changed) (ap (λ (j : EngineState). j.halted) fails.changed);
+      store = same_store (store_of new) (store_after s was c reply.FaultLog) (longer ∙ sym (append-nil old.entries)) (ap (λ (j : EngineState). j.stopped) fails.changed) (ap (λ (j : EngineState). j.limit) fails.changed) (ap (λ (j : EngineState). j.installed) fails.changed) (ap (λ (j : EngineState). j.halted) fails.changed)
+          (ap (λ (j : EngineState). j.board) fails.changed ∙ sym (untold old.board c reply.FaultLog refl));
       client = refl;
       numbers = refl;
       fresh = fresh_if_numbered _ c reply.FaultLog tt;
@@ -226,10 +243,10 @@ logged_steps old new was now c entries success answer asks few answered =
       | inr (inl failed) ↦ subst (λ (r : Reply). IsStep s was c r (store_of new) now) (sym failed.1) (subst (λ (x : Client). IsStep s was c reply.FaultLog (store_of new) x) (sym failed.2) (fails_steps old new was c entries success asks failed.0 few))
       | inr (inr (inl full)) ↦ step_at s (store_of new) was now c answer (reply.Full (length old.entries) old.limit) full.1 (ap store_of full.0.same) full.2
           (still_steps s was was c (reply.Full (length old.entries) old.limit) (sym (asks.replies ∙ logged_full s (length entries) success full.0.running full.0.past)) refl
-          (logs_nothing s c (reply.Full (length old.entries) old.limit) refl refl refl (λ t. absurd cc) (λ t. absurd cc) tt) refl few)
+          (logs_nothing s c (reply.Full (length old.entries) old.limit) refl refl refl (λ t. absurd cc) (λ t. absurd cc) tt) refl (untold s.board c (reply.Full (length old.entries) old.limit) refl) few)
       | inr (inr (inr stopped)) ↦ step_at s (store_of new) was now c answer (reply.Stopped (length old.entries)) stopped.1 (ap store_of stopped.0.same) stopped.2
           (still_steps s was was c (reply.Stopped (length old.entries)) (sym (asks.replies ∙ logged_stopped s (length entries) success stopped.0.stopped)) refl
-          (logs_nothing s c (reply.Stopped (length old.entries)) refl refl refl (λ t. stopped.0.stopped) (λ t. absurd cc) tt) refl few)
+          (logs_nothing s c (reply.Stopped (length old.entries)) refl refl refl (λ t. stopped.0.stopped) (λ t. absurd cc) tt) refl (untold s.board c (reply.Stopped (length old.entries)) refl) few)
     ]
 
 pub logged_fits : (old new : EngineState) (was now : Client) (entries : List Entry) (success answer : Reply) → Logs old.entries was entries success → ClientFits old.entries was → IsLogAnswer old was entries success answer new now → ClientFits new.entries now
@@ -245,6 +262,11 @@ logged_fits old new was now entries success answer logs fits answered = elim ans
   | inr (inr (inr stopped)) ↦ subst (λ (x : Client). ClientFits new.entries x) (sym stopped.2) (rw stopped.0.same fits)
 ]
 
+-- a reply without the log, the tables and the board leaves the board
+says_untold : (h : List Entry) (client : Client) (c : Command) (answer : Reply) (board : Labels) → plan h client c ≡ Say answer → board_after board c answer ≡ board
+says_untold h client (command.Tell label) answer board is = absurd cc
+says_untold h client c answer board is = refl
+
 pub said_steps : (s : Store) (was now : Client) (c : Command) (answer : Reply) → plan s.history was c ≡ Say answer → now ≡ client_after s.history was c answer → AreFew s → IsStep s was c answer s now
 said_steps s was now c answer planned is few =
     let plain = plan_says s.history was c answer planned in
@@ -256,7 +278,7 @@ said_steps s was now c answer planned is few =
       stopped = λ t. false_is_true (is_stopped answer) plain.running t;
       halted = λ t. false_is_true (is_halted answer) plain.unhalted t;
       current = plain.current;
-    }) plain.uninstalled few
+    }) plain.uninstalled (says_untold s.history was c answer s.board planned) few
 
 -- ---- an edit for the tables
 
@@ -276,6 +298,10 @@ installed_alone (Flushed n) is = (refl, refl, refl, refl, refl)
 installed_alone (Compacted n versions) is = (refl, refl, refl, refl, refl)
 installed_alone other is = absurd cc
 
+installed_untold : (r : Reply) → is_installed r ≡ true → is_told r ≡ false
+installed_untold (reply.Told n) is = absurd cc
+installed_untold other is = refl
+
 -- a device failed as the tables took the edit
 halted_steps : (old new : EngineState) (was : Client) (c : Command) (edit : InstalledEdit) → HasHalted old new edit → is_installed (due (store_of old) was c) ≡ true → AreFew (store_of old) → IsStep (store_of old) was c reply.FaultTables (store_of new) was
 halted_steps old new was c edit failed installs few =
@@ -284,7 +310,7 @@ halted_steps old new was c edit failed installs few =
     record {
       replied = inr (inr (refl, installs));
       store = same_store (store_of new) (store_after s was c reply.FaultTables) (longer ∙ sym (append-nil old.entries)) (ap (λ (j : EngineState). j.stopped) failed.changed) (ap (λ (j : EngineState). j.limit) failed.changed) (ap (λ (j : EngineState). j.installed) failed.changed)
-          (ap (λ (j : EngineState). j.halted) failed.changed);
+          (ap (λ (j : EngineState). j.halted) failed.changed) (ap (λ (j : EngineState). j.board) failed.changed ∙ sym (untold old.board c reply.FaultTables refl));
       client = refl;
       numbers = refl;
       fresh = fresh_if_numbered _ c reply.FaultTables tt;
@@ -305,7 +331,8 @@ module _ (old new : EngineState) (was : Client) (c : Command) (answer said : Rep
       let s = store_of old in
       let alone = installed_alone (kind said) asks.installs in
       let plain = logs_nothing s c said alone.0 alone.1 alone.2 (λ t. false_is_true (is_stopped said) alone.3 t) (λ t. false_is_true (is_halted said) alone.4 t) (rw asks.number refl) in
-      let edited : store_of new ≡ with_edit s was c said = ap store_of made.changed ∙ ap (λ (e : InstalledEdit). record (store_of old) { installed = e }) (sym (rw asks.installs asks.asked)) in
+      let edited : store_of new ≡ with_edit s was c said = ap store_of made.changed ∙ ap (λ (e : InstalledEdit). record (store_of old) { installed = e }) (sym (rw asks.installs asks.asked))
+      ∙ ap (λ (b : Labels). record (store_of old) { installed = installed_edit s was c said; board = b }) (sym (untold s.board c said (installed_untold said asks.installs))) in
       subst (λ (r : Reply). IsStep s was c r (store_of new) was) (sym is)
       (edit_steps s (store_of new) was was c said (sym (asks.replies made.running some)) (sym asks.stays) plain edited (λ e. false_is_true old.halted made.running e) asks.step few)
 
@@ -317,13 +344,13 @@ module _ (old new : EngineState) (was : Client) (c : Command) (answer said : Rep
       (halted_steps old new was c edit refused.1 (ap is_installed (asks.replies refused.1.running refused.0) ∙ asks.installs) few)
   edit_refused (maintenance.Halted n) refused is =
       step_at (store_of old) (store_of new) was was c answer (reply.Halted old.installed.flushed) (is ∙ ap (λ (m : ℕ). reply.Halted m) refused.1) (ap store_of refused.2) refl
-      (still_steps (store_of old) was was c (reply.Halted old.installed.flushed) (sym (asks.halted refused.0)) refl (logs_nothing (store_of old) c (reply.Halted old.installed.flushed) refl refl refl (λ t. absurd cc) (λ t. refused.0) tt) refl few)
+      (still_steps (store_of old) was was c (reply.Halted old.installed.flushed) (sym (asks.halted refused.0)) refl (logs_nothing (store_of old) c (reply.Halted old.installed.flushed) refl refl refl (λ t. absurd cc) (λ t. refused.0) tt) refl (untold old.board c (reply.Halted old.installed.flushed) refl) few)
 
   -- there was nothing to do
   edit_needless : due (store_of old) was c ≡ reply.Nothing → new ≡ old → answer ≡ reply.Nothing → IsStep (store_of old) was c answer (store_of new) was
   edit_needless nothing same is =
       step_at (store_of old) (store_of new) was was c answer reply.Nothing is (ap store_of same) refl
-      (still_steps (store_of old) was was c reply.Nothing (sym nothing) refl (logs_nothing (store_of old) c reply.Nothing refl refl refl (λ t. absurd cc) (λ t. absurd cc) tt) refl few)
+      (still_steps (store_of old) was was c reply.Nothing (sym nothing) refl (logs_nothing (store_of old) c reply.Nothing refl refl refl (λ t. absurd cc) (λ t. absurd cc) tt) refl (untold old.board c reply.Nothing refl) few)
 
 flushed_some : (n : ℕ) (versions : List Version) → 1 ≤ length versions → flushed n versions ≡ reply.Flushed n (length versions)
 flushed_some n [] le = absurd (omega arith)
@@ -372,6 +399,30 @@ compaction_answered old new was c answer (Err why) planned few refused is = edit
 
 pub compaction_steps : (old new : EngineState) (was : Client) (c : Command) (answer : Reply) → plan old.entries was c ≡ Compact → AreFew (store_of old) → Compacts old (numbers_of was.snapshots) answer new → IsStep (store_of old) was c answer (store_of new) was
 compaction_steps old new was c answer planned few answered = compaction_answered old new was c answer answered.0 planned few answered.1 answered.2
+
+-- ---- the board
+
+pub tell_steps : (old new : EngineState) (was : Client) (c : Command) (label : List ℕ) (answer : Reply) → plan old.entries was c ≡ Tell label → AreFew (store_of old) → Tells old label answer new → IsStep (store_of old) was c answer (store_of new) was
+tell_steps old new was c label answer planned few told =
+    let s = store_of old in
+    let n = length old.entries in
+    let plain = logs_nothing s (command.Tell label) (reply.Told n) refl refl refl (λ t. absurd cc) (λ t. absurd cc) refl in
+    subst (λ (x : Command). IsStep s was x answer (store_of new) was) (asks_itself old.entries was c (command.Tell label) (ap asking planned))
+    (subst (λ (r : Reply). IsStep s was (command.Tell label) r (store_of new) was) (sym told.0)
+    (edit_steps s (store_of new) was was (command.Tell label) (reply.Told n) refl refl plain (ap store_of told.1) (λ e. ap (λ (j : EngineState). j.installed) told.1) (no_edit refl) few))
+
+pub hear_steps : (s : Store) (was : Client) (c : Command) (label : List ℕ) (answer : Reply) → plan s.history was c ≡ Hear label → AreFew s → answer ≡ heard (length s.history) (map.get s.board label) label → IsStep s was c answer s was
+hear_steps s was c label answer planned few is =
+    subst (λ (x : Command). IsStep s was x answer s was) (asks_itself s.history was c (command.Hear label) (ap asking planned))
+    (subst (λ (r : Reply). IsStep s was (command.Hear label) r s was) (sym is) (by (map.get s.board label) refl))
+  where
+    by : (told : Option ℕ) → map.get s.board label ≡ told → IsStep s was (command.Hear label) (heard (length s.history) told label) s was
+    by None none =
+        still_steps s was was (command.Hear label) (reply.Silent label) (sym (ap (λ (o : Option ℕ). heard (length s.history) o label) none)) refl
+        (logs_nothing s (command.Hear label) (reply.Silent label) refl refl refl (λ t. absurd cc) (λ t. absurd cc) tt) refl refl few
+    by (Some n) some =
+        still_steps s was was (command.Hear label) (reply.Heard (length s.history)) (sym (ap (λ (o : Option ℕ). heard (length s.history) o label) some)) refl
+        (logs_nothing s (command.Hear label) (reply.Heard (length s.history)) refl refl refl (λ t. absurd cc) (λ t. absurd cc) refl) refl refl few
 
 -- ---- answers
 

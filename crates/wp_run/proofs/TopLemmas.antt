@@ -1,5 +1,6 @@
 -- From a run of all clients to how a call ends.
 use Rattle.std.specs.Prelude.{Result, Ok, Err, IfOk, OnErr}
+use Rattle.std.specs.FinMap as map
 use Rattle.std.specs.Global.{Vec}
 use Rattle.std.specs.declared.alloc.AllocError.{AllocError}
 use Rattle.std.proofs.Common.{◌≡◌, ℕ, ◌≤◌, Bool, true, false, List, length, refl, sym, subst, inl, inr, arith}
@@ -52,6 +53,7 @@ use Rattle.wp_run.proofs.RunLemmas.{firsts_ran}
 pub record IsOpened (state : EngineState) (s : Serving) : Type 0 where
   pub running : state.stopped ≡ false
   pub unhalted : state.halted ≡ false
+  pub untold : state.board ≡ map.empty
   pub limit : state.limit ≡ s.limit
   pub within : state.installed.flushed ≤ length state.entries
   pub log_counted : s.disks.log.faults_before ≤ state.faults
@@ -113,7 +115,7 @@ stores old s end A B opened h failed = record {
 
 -- the store that the clients begin with
 begins_with : (state : EngineState) (s : Serving) → IsOpened state s → store_of state ≡ opened_store s.limit (stored_in (store_of state))
-begins_with state s opened = rw (opened.running, opened.limit, opened.unhalted) refl
+begins_with state s opened = rw (opened.running, opened.limit, opened.unhalted, opened.untold) refl
 
 explains : DueIsSession → (old : EngineState) (s : Serving) (new : EngineState) (parts : List Part) (replies : List (List Reply)) (failed : Failed) → IsOpened old s → IsLegal new.entries → AllRun (store_of old) parts replies (store_of new)
     → (new.stopped ≡ true → OneFaultAsks is_fault (AsksLog failed.entries) (store_of old) parts replies) → (new.halted ≡ true → OneFaultAsks is_tables_fault (AsksTables failed.edit) (store_of old) parts replies)
@@ -186,6 +188,7 @@ engine_of wal entries edits moments faults store limit = record {
   manifest_moments = edits.log.moments;
   tables_faults = faults;
   tables_moments = moments;
+  board = map.empty;
 }
 
 -- how it was served
@@ -198,6 +201,7 @@ serves_opened law s wal history edits moments faults store end o opens log manif
     serves law (engine_of wal history edits moments faults store s.limit) s end (record {
       running = refl;
       unhalted = refl;
+      untold = refl;
       limit = refl;
       within = o.store.covering.covered.flushed;
       log_counted = log;

@@ -1,6 +1,7 @@
 -- How a client is answered where its command asks the log or the tables.
 use Rattle.std.specs.Prelude.{◌≡◌, ◌⊎◌, ℕ, List, length, Option, Some, None, Result, Ok, Err}
 use Rattle.std.specs.declared.alloc.AllocError.{AllocError}
+use Rattle.std.specs.FinMap as map
 use Rattle.wp_model.specs.declared.entry.Entry.{Entry}
 use Rattle.wp_text.specs.declared.reply.Reply.{Reply}
 use Rattle.wp_text.specs.declared.reply.Reply.TheVariants as reply
@@ -66,3 +67,9 @@ Flushes old answer new = (result : Result (Option ℕ) MaintenanceError) × IsFl
 -- likewise a compaction, where snapshots with these numbers are live
 abbrev pub Compacts : EngineState → List ℕ → Reply → EngineState → Type 0
 Compacts old snapshots answer new = (result : Result (Option ℕ) MaintenanceError) × IsCompactResult old new snapshots result × IsCompactionAnswer (length old.entries) result answer
+
+-- ---- the board
+
+-- the label was told the number published
+abbrev pub Tells : EngineState → List ℕ → Reply → EngineState → Type 0
+Tells old label answer new = (answer ≡ reply.Told (length old.entries)) × (new ≡ record old { board = map.insert old.board label (length old.entries) })

@@ -11,7 +11,7 @@ use Rattle.wp_engine.specs.Engine.{EngineState}
 
 -- what the clients are answered by
 abbrev pub store_of : EngineState → Store
-store_of s = record { history = s.entries; stopped = s.stopped; limit = s.limit; installed = s.installed; halted = s.halted }
+store_of s = record { history = s.entries; stopped = s.stopped; limit = s.limit; installed = s.installed; halted = s.halted; board = s.board }
 
 -- What stays, whatever is done: the limit and the store's number; what was for good on a device before; and no count of
 -- faults falls.

@@ -12,6 +12,7 @@ use Rattle.wp_text.specs.declared.script.Command.{Command}
 use Rattle.wp_text.specs.declared.script.Part.{Part}
 use Rattle.wp_text.specs.declared.reply.Reply.{Reply}
 use Rattle.wp_session.specs.Kind.{is_fault, is_tables_fault}
+use Rattle.wp_session.specs.Known.{StoredState}
 use Rattle.wp_session.specs.Replies.{Failed}
 use Rattle.wp_wal.specs.Spelling.{MAGIC, IsLogOf}
 use Rattle.wp_wal.specs.Wal.{LeavesHistoryOrNext}
@@ -26,7 +27,7 @@ use Rattle.wp_run.specs.declared.status.Status.TheVariants as status
 use Rattle.wp_run.specs.Failed.{AsksLog, AsksTables, OneFaultAsks, IfStopped, IfHalted}
 use Rattle.wp_run.specs.Later.{Later, store_of}
 use Rattle.wp_run.specs.Runs.{Answered, AllRunSoFar, are_whole, replies_of}
-use Rattle.wp_run.specs.Transcript.{Faults, StoredState, Explains, IsTranscript, text_of}
+use Rattle.wp_run.specs.Transcript.{Faults, Explains, IsTranscript, text_of}
 use Rattle.wp_run.specs.Use.{DisksUse, Device, SinkUse}
 
 -- ---- a served script

@@ -1,6 +1,7 @@
 -- A transcript: the replies of all clients, and the one history and the last edit that explain them.
 use Rattle.std.specs.Prelude.{◌≡◌, ◌⊎◌, ℕ, ◌<◌, ◌≤◌, ◌==◌, true, false, List, [], ◌∷◌, ◌++◌, length, count_by, codes}
 use Rattle.std.specs.List.{flat_map, list_any}
+use Rattle.std.specs.FinMap as map
 use Rattle.wp_model.specs.declared.entry.Entry.{Entry}
 use Rattle.wp_model.specs.Flushed.{InstalledEdit}
 use Rattle.wp_model.specs.History.{undecided}
@@ -12,15 +13,11 @@ use Rattle.wp_session.specs.Client.{new_client}
 use Rattle.wp_session.specs.Kind.{acknowledged, is_fault, is_stopped, is_flushed, is_installed, is_tables_fault, is_halted}
 use Rattle.wp_session.specs.Session.{IsSession}
 use Rattle.wp_session.specs.Replies.{Failed, Evidence}
-use Rattle.wp_session.specs.Known.{evidence_of}
+use Rattle.wp_session.specs.Progress.{Progress}
+use Rattle.wp_session.specs.Known.{StoredState, Dialogue, evidence_of}
 use Rattle.wp_session.specs.Due.{Store}
 use Rattle.wp_session.specs.Current.{RunsAlone}
 use Rattle.wp_run.specs.Failed.{AsksLog, AsksTables, FaultAsks}
-
--- what a store has on its devices: a history, and the last edit of the tables
-pub record StoredState : Type 0 where
-  pub history : List Entry
-  pub edit : InstalledEdit
 
 abbrev pub stored_in : Store → StoredState
 stored_in store = record { history = store.history; edit = store.installed }
@@ -34,22 +31,35 @@ pub record Faults : Type 0 where
 abbrev pub all_replies : List (List Reply) → List Reply
 all_replies sessions = flat_map (λ answers. answers) sessions
 
--- what a client's replies are judged by, with those to the clients before it and after it
-abbrev pub judged_by : (left : StoredState) → ℕ → Failed → (found : StoredState) → List (List Reply) → List Reply → List (List Reply) → Evidence
-judged_by left limit failed found before answers others = evidence_of left.history left.edit limit failed found.edit.flushed (all_replies (before ++ answers ∷ others)) (all_replies (before ++ others))
+-- a client's dialogue
+abbrev pub dialogue : Part → List Reply → Dialogue
+dialogue part answers = record { part = part; answers = answers }
 
--- Each part has one session, which begins with what was found. These sessions come before them.
-abbrev pub AreSessions : (left : StoredState) → ℕ → Failed → (found : StoredState) → List (List Reply) → List Part → List (List Reply) → Type 0
+-- each client's
+abbrev pub dialogues : List Part → List (List Reply) → List Dialogue
+dialogues (part ∷ parts) (answers ∷ others) = dialogue part answers ∷ dialogues parts others
+dialogues parts sessions = []
+
+-- what a client's replies are judged by, with the dialogues of the clients before it and after it
+abbrev pub judged_by : (left : StoredState) → ℕ → Failed → (found : StoredState) → List Dialogue → Dialogue → List Dialogue → Evidence
+judged_by left limit failed found before own others = evidence_of left limit failed found (before ++ own ∷ others) (before ++ others)
+
+-- what a client knows as its session begins
+abbrev pub known_at_first : StoredState → Progress
+known_at_first found = record { last = length found.history; tables = found.edit.tables; labels = [] }
+
+-- Each part has one session, which begins with what was found. These dialogues come before them.
+abbrev pub AreSessions : (left : StoredState) → ℕ → Failed → (found : StoredState) → List Dialogue → List Part → List (List Reply) → Type 0
 AreSessions left limit failed found before [] [] = Unit {0}
 AreSessions left limit failed found before [] (answers ∷ others) = ⊥
 AreSessions left limit failed found before (part ∷ parts) [] = ⊥
 AreSessions left limit failed found before (part ∷ parts) (answers ∷ others) =
-    IsSession (judged_by left limit failed found before answers others) (length found.history) found.edit.tables new_client part.commands answers
-    × AreSessions left limit failed found (before ++ answers ∷ []) parts others
+    IsSession (judged_by left limit failed found before (dialogue part answers) (dialogues parts others)) (known_at_first found) new_client part.commands answers
+    × AreSessions left limit failed found (before ++ dialogue part answers ∷ []) parts others
 
--- the store as it was opened
+-- the store as it was opened, with nothing on the board
 abbrev pub opened_store : ℕ → StoredState → Store
-opened_store limit found = record { history = found.history; stopped = false; limit = limit; installed = found.edit; halted = false }
+opened_store limit found = record { history = found.history; stopped = false; limit = limit; installed = found.edit; halted = false; board = map.empty }
 
 -- With one client, nobody else changes the store: what is left is what its replies leave, and what a device failed to take
 -- is what the very command asked for that was answered so.

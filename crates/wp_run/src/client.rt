@@ -1,19 +1,21 @@
-ghost use Rattle.std.specs.Prelude.{◌≡◌, true, IfOk, OnOk, OnErr};
+ghost use Rattle.std.specs.Prelude.{◌≡◌, true, length, IfOk, OnOk, OnErr};
+ghost use Rattle.std.specs.FinMap as map;
 ghost use Rattle.wp_model.specs.Batch.{is_batch};
 ghost use Rattle.wp_model.specs.Legal.{changes_in};
 ghost use Rattle.wp_session.specs.Client.{ClientFits, new_client, numbers_of};
+ghost use Rattle.wp_session.specs.Due.{heard};
 ghost use Rattle.wp_session.specs.Kind.{is_fault, is_tables_fault};
 ghost use Rattle.wp_run.specs.Failed.{AsksLog, AsksTables, FaultAsks, IfStopped, IfHalted};
 ghost use Rattle.wp_run.specs.Later.{Later, store_of};
 ghost use Rattle.wp_run.specs.Runs.{IsStep, IsRunSoFar};
 ghost use Rattle.wp_session.specs.Next.{AreNext};
-ghost use Rattle.wp_run.specs.Answering.{IsRefusalOf, IsRefusalOfTables, IsLogAnswer, Flushes, Compacts};
+ghost use Rattle.wp_run.specs.Answering.{IsRefusalOf, IsRefusalOfTables, IsLogAnswer, Flushes, Compacts, Tells};
 
 use std::alloc::{AllocError, Global};
 use std::marker::Model;
 use wp_engine::{Engine, MaintenanceError, WriteError};
 use wp_history::laws;
-use wp_model::Entry;
+use wp_model::{Entry, Name};
 use wp_outside::Disk;
 use wp_session::{Client, Plan, plan_of};
 use wp_text::{Command, Reply};
@@ -129,6 +131,28 @@ fn compact<D: Disk>(
     }
 }
 
+/// Tells the number published under the label.
+fn tell<D: Disk>(engine: &mut Engine<D>, label: Name) -> Result<Reply, AllocError>
+    ensures answered { IfOk result (λ answer. Tells engine.old label answer engine.new) }
+    ensures later { Later engine.old engine.new }
+    ensures err { OnErr result (engine.new ≡ engine.old) }
+{
+    match engine.tell(label) {
+        Ok(published) => Ok(Reply::Told(published)),
+        Err(AllocError) => Err(AllocError),
+    }
+}
+
+/// Hears the number published, where something was told under the label.
+fn hear<D: Disk>(engine: &Engine<D>, label: Name) -> Reply
+    ensures { result ≡ heard (length engine.now.entries) (map.get engine.now.board label) label }
+{
+    match engine.told(&label) {
+        Some(_) => Reply::Heard(engine.history().published()),
+        None => Reply::Silent(label),
+    }
+}
+
 /// What an entry has of changes is a batch.
 fn changes_are_a_batch(entry: &Entry)
     ensures { is_batch (changes_in entry.now) ≡ true }
@@ -175,6 +199,8 @@ fn answer<D: Disk>(
         }
         Plan::Flush => flush(engine),
         Plan::Compact => compact(alloc, engine, client),
+        Plan::Tell(label) => tell(engine, label),
+        Plan::Hear(label) => Ok(hear(engine, label)),
     }
 }
 

@@ -1,6 +1,7 @@
 -- Replies that are due at moments of the history, one after another, are a session.
-use Rattle.std.proofs.Common.{◌≡◌, ℕ, ◌+◌, ◌-◌, ◌≤◌, ◌⊎◌, true, List, [], ◌∷◌, ◌++◌, length, take, drop, Option, Some, None, refl, sym, ap, ◌∙◌, subst, append_assoc, length-append, arith, inl, inr}
+use Rattle.std.proofs.Common.{◌≡◌, ℕ, ◌+◌, ◌-◌, ◌≤◌, ◌⊎◌, Bool, true, false, true≢false, List, [], ◌∷◌, ◌++◌, length, take, drop, Option, Some, None, refl, sym, ap, ◌∙◌, subst, append_assoc, length-append, arith, inl, inr}
 use Rattle.std.specs.Prelude.{IfSome, is_some, nat_le, unwrap_or}
+use Rattle.std.specs.FinMap as map
 use Rattle.std.proofs.lemmas.Bool.{cases_Bool}
 use Rattle.std.proofs.lemmas.Slice.Eq.{bytes_eq-Decides}
 use Rattle.std.proofs.lemmas.List.{take-append-drop}
@@ -8,6 +9,8 @@ use Rattle.wp_model.specs.declared.change.Change.{Change}
 use Rattle.wp_model.specs.declared.change.Change.TheVariants as change
 use Rattle.wp_model.specs.declared.entry.Entry.{Entry}
 use Rattle.wp_model.specs.declared.entry.Entry.TheVariants as entry
+use Rattle.wp_model.specs.declared.holder.Holder.{Holder}
+use Rattle.wp_model.specs.declared.holder.Holder.TheVariants as holder
 use Rattle.wp_model.specs.Batch.{key_of, change_to}
 use Rattle.wp_model.specs.History.{entry_at, name_at, batch_at, named, holder_of, value_at}
 use Rattle.wp_model.specs.Legal.{prior}
@@ -22,22 +25,23 @@ use Rattle.wp_session.specs.declared.plan.Plan.{Plan}
 use Rattle.wp_session.specs.declared.plan.Plan.TheVariants.{Say, Log, RollBack}
 use Rattle.wp_session.specs.Client.{Client, AreWithin, number_of, own_batch, has_no_room}
 use Rattle.wp_session.specs.After.{with_staged, labels_after}
-use Rattle.wp_session.specs.Kind.{is_logged, fresh_in, last_after, tables_after}
-use Rattle.wp_session.specs.Replies.{Evidence, refusal_of, refuses_change, IsLoggedAt, WasUndecided, IsBusy, TxnIsOpen, TxnIsWithin, OwnSays, needed, AsksFor, unless_labelled, unless_idle, unless_open, if_idle, unless_prepared, PreparesAt, CommitsAt, RollsBackAt, UnlessRefused}
+use Rattle.wp_session.specs.Kind.{is_logged, fresh_in}
+use Rattle.wp_session.specs.Progress.{Progress, knows_label, progress_after}
+use Rattle.wp_session.specs.Replies.{WasTold, Evidence, IsKnown, refusal_of, refuses_change, IsLoggedAt, WasUndecided, IsBusy, TxnIsOpen, TxnIsWithin, OwnSays, needed, AsksFor, unless_labelled, unless_idle, unless_open, if_idle, unless_prepared, PreparesAt, CommitsAt, RollsBackAt, UnlessRefused}
 use Rattle.wp_session.specs.Plan.{plan, asked_of, next, busy_or, change_plan, read_reply, get_reply, get_at_reply, free_reply, begin_reply, begin_plan, prepare_plan, commit_plan, rollback_plan, leave_plan, take_reply, take_plan}
-use Rattle.wp_session.specs.Due.{reply_to, due, taken, client_after}
+use Rattle.wp_session.specs.Due.{heard, reply_to, due, taken, client_after}
 use Rattle.wp_session.specs.Moments.{AreDueFrom}
 use Rattle.wp_session.specs.Session.{IsSession}
 use Rattle.wp_model.proofs.Found.{found_holder, found_named}
 use Rattle.wp_model.proofs.Entries.{undecided_within, batch_at_old}
 use Rattle.wp_session.proofs.SaidLemmas.{within_same, within_filter, within_more, number_within}
 use Rattle.wp_session.proofs.Rows.{snapshots_after}
-use Rattle.wp_session.proofs.Scenes.{entry_in_front, next_entry, value_in_front, Scene, front, store_in, RowOf, IsAllowed, front_size, front_fresh, say_refused, say_allowed, log_allowed, entries_in, one_allowed}
+use Rattle.wp_session.proofs.Scenes.{entry_in_front, next_entry, value_in_front, Scene, front, store_in, RowOf, IsAllowed, front_size, front_fresh, say_refused, say_allowed, board_allowed, log_allowed, entries_in, one_allowed}
 use Rattle.wp_session.proofs.DueTables.{flush_allowed, compact_allowed}
 
 -- ---- put, del
 
-busy_in : {client : Client} {c : Command} {answer : Reply} (s : Scene client c answer) (key : List ℕ) (p : ℕ) → holder_of (front s) key ≡ Some p → IsBusy s.evidence s.last key (name_at (front s) p)
+busy_in : {client : Client} {c : Command} {answer : Reply} (s : Scene client c answer) (key : List ℕ) (p : ℕ) → holder_of (front s) key ≡ Some p → IsBusy s.evidence s.progress.last key (holder.Txn (name_at (front s) p))
 busy_in s key p is =
     let found = found_holder (front s) key p is in
     let fresh = front_fresh s in
@@ -49,8 +53,8 @@ option_cases (Some a) = inr (a, refl)
 
 change_allowed : {client : Client} {c : Command} {answer : Reply} (s : Scene client c answer) (change : Change) (made : Reply)
     → plan (front s) client c ≡ change_plan (front s) client.txn change made → refusal_of client c ≡ refuses_change client.txn (key_of change) → (client.txn ≡ Idle → needed client.txn c ≡ 1) → (client.txn ≡ Idle → AsksFor client.txn c (entry.Write (change ∷ []) ∷ [])) → is_logged made ≡ true
-    → (client.txn ≡ Idle → IsLoggedAt s.evidence.history s.last (next (front s)) (entry.Write (change ∷ [])) → RowOf s made)
-    → ((name : List ℕ) → IsBusy s.evidence s.last (key_of change) name → RowOf s (reply.Busy name))
+    → (client.txn ≡ Idle → IsLoggedAt s.evidence.history s.progress.last (next (front s)) (entry.Write (change ∷ [])) → RowOf s made)
+    → ((by : Holder) → IsBusy s.evidence s.progress.last (key_of change) by → RowOf s (reply.Busy by))
     → (TxnIsOpen client.txn → RowOf s reply.Held) → IsAllowed s
 change_allowed {client = client} {c = c} s change made plan_is refusal_is needs asks logs row busy held = by client.txn refl
   where
@@ -58,7 +62,7 @@ change_allowed {client = client} {c = c} s change made plan_is refusal_is needs 
     on_holder other is free rest =
         elim (option_cases (holder_of (front s) (key_of change))) [
           | inl none ↦ rest (is ∙ ap (λ (o : Option ℕ). busy_or (front s) o other) none)
-          | inr found ↦ say_allowed s (reply.Busy (name_at (front s) found.0)) (is ∙ ap (λ (o : Option ℕ). busy_or (front s) o other) found.1) refl free (busy _ (busy_in s (key_of change) found.0 found.1))
+          | inr found ↦ say_allowed s (reply.Busy (holder.Txn (name_at (front s) found.0))) (is ∙ ap (λ (o : Option ℕ). busy_or (front s) o other) found.1) refl free (busy _ (busy_in s (key_of change) found.0 found.1))
         ]
 
     by : (txn : Txn) → client.txn ≡ txn → IsAllowed s
@@ -144,7 +148,7 @@ free_allowed {client = client} label s = by (number_of client.snapshots label) r
 
 -- ---- transactions
 
-was_in : {client : Client} {c : Command} {answer : Reply} (s : Scene client c answer) (name : List ℕ) (p : ℕ) → named (front s) name ≡ Some p → WasUndecided s.evidence.history s.last name p
+was_in : {client : Client} {c : Command} {answer : Reply} (s : Scene client c answer) (name : List ℕ) (p : ℕ) → named (front s) name ≡ Some p → WasUndecided s.evidence.history s.progress.last name p
 was_in s name p is =
     let found = found_named (front s) name p is in
     let fresh = front_fresh s in
@@ -167,7 +171,7 @@ prepare_allowed {client = client} s = by client.txn refl
   where
     by : (txn : Txn) → client.txn ≡ txn → IsAllowed s
     by Idle is = say_refused s reply.State (ap (prepare_plan (front s)) is) refl (ap unless_open is)
-    by (Open name batch) is = one_allowed s (entry.Prepare name batch) (reply.Prepared (next (front s))) (ap (prepare_plan (front s)) is) refl (ap unless_open is) (ap (λ (t : Txn). needed t command.Prepare) is) (subst (λ (t : Txn). AsksFor t command.Prepare (entry.Prepare name batch ∷ [])) (sym is) refl) (λ here. subst (λ (t : Txn). PreparesAt s.evidence.history s.last t (next (front s))) (sym is) here)
+    by (Open name batch) is = one_allowed s (entry.Prepare name batch) (reply.Prepared (next (front s))) (ap (prepare_plan (front s)) is) refl (ap unless_open is) (ap (λ (t : Txn). needed t command.Prepare) is) (subst (λ (t : Txn). AsksFor t command.Prepare (entry.Prepare name batch ∷ [])) (sym is) refl) (λ here. subst (λ (t : Txn). PreparesAt s.evidence.history s.progress.last t (next (front s))) (sym is) here)
     by (Prepared p) is = say_refused s reply.State (ap (prepare_plan (front s)) is) refl (ap unless_open is)
 
 commit_allowed : {client : Client} {answer : Reply} (s : Scene client command.Commit answer) → IsAllowed s
@@ -175,13 +179,13 @@ commit_allowed {client = client} s = by client.txn refl
   where
     by : (txn : Txn) → client.txn ≡ txn → IsAllowed s
     by Idle is = say_refused s reply.State (ap (commit_plan (front s)) is) refl (ap if_idle is)
-    by (Open name batch) is = one_allowed s (entry.Write batch) (reply.Committed (next (front s))) (ap (commit_plan (front s)) is) refl (ap if_idle is) (ap (λ (t : Txn). needed t command.Commit) is) (subst (λ (t : Txn). AsksFor t command.Commit (entry.Write batch ∷ [])) (sym is) refl) (λ here. subst (λ (t : Txn). CommitsAt s.evidence.history s.last t (next (front s))) (sym is) here)
-    by (Prepared p) is = one_allowed s (entry.Commit p) (reply.Committed (next (front s))) (ap (commit_plan (front s)) is) refl (ap if_idle is) (ap (λ (t : Txn). needed t command.Commit) is) (subst (λ (t : Txn). AsksFor t command.Commit (entry.Commit p ∷ [])) (sym is) refl) (λ here. subst (λ (t : Txn). CommitsAt s.evidence.history s.last t (next (front s))) (sym is) here)
+    by (Open name batch) is = one_allowed s (entry.Write batch) (reply.Committed (next (front s))) (ap (commit_plan (front s)) is) refl (ap if_idle is) (ap (λ (t : Txn). needed t command.Commit) is) (subst (λ (t : Txn). AsksFor t command.Commit (entry.Write batch ∷ [])) (sym is) refl) (λ here. subst (λ (t : Txn). CommitsAt s.evidence.history s.progress.last t (next (front s))) (sym is) here)
+    by (Prepared p) is = one_allowed s (entry.Commit p) (reply.Committed (next (front s))) (ap (commit_plan (front s)) is) refl (ap if_idle is) (ap (λ (t : Txn). needed t command.Commit) is) (subst (λ (t : Txn). AsksFor t command.Commit (entry.Commit p ∷ [])) (sym is) refl) (λ here. subst (λ (t : Txn). CommitsAt s.evidence.history s.progress.last t (next (front s))) (sym is) here)
 
 rollback_allowed : {client : Client} {answer : Reply} (s : Scene client command.Rollback answer) → IsAllowed s
 rollback_allowed {client = client} {answer = answer} s = by client.txn refl
   where
-    rolled : (p : ℕ) → client.txn ≡ Prepared p → answer ≡ reply.RolledBack (next (front s) + 1) → RollsBackAt s.evidence.history s.last (Prepared p) (next (front s) + 1)
+    rolled : (p : ℕ) → client.txn ≡ Prepared p → answer ≡ reply.RolledBack (next (front s) + 1) → RollsBackAt s.evidence.history s.progress.last (Prepared p) (next (front s) + 1)
     rolled p is answered =
         let n = next (front s) + 1 in
         let batch = prior (front s) (batch_at (front s) p) in
@@ -194,7 +198,7 @@ rollback_allowed {client = client} {answer = answer} s = by client.txn refl
     by : (txn : Txn) → client.txn ≡ txn → IsAllowed s
     by Idle is = say_refused s reply.State (ap (rollback_plan (front s)) is) refl (ap if_idle is)
     by (Open name batch) is = say_allowed s reply.Dropped (ap (rollback_plan (front s)) is) refl (ap if_idle is) (subst TxnIsOpen (sym is) tt)
-    by (Prepared p) is = log_allowed s 2 (reply.RolledBack (next (front s) + 1)) (ap if_idle is) (ap (λ (t : Txn). needed t command.Rollback) is) (omega arith) (subst (λ (t : Txn). AsksFor t command.Rollback (asked_of (rollback_plan (front s) t))) (sym is) (prior (front s) (batch_at (front s) p), refl)) (ap (λ (t : Txn). reply_to (store_in s) client (rollback_plan (front s) t)) is) refl (λ answered. subst (λ (t : Txn). RollsBackAt s.evidence.history s.last t (next (front s) + 1)) (sym is) (rolled p is answered))
+    by (Prepared p) is = log_allowed s 2 (reply.RolledBack (next (front s) + 1)) (ap if_idle is) (ap (λ (t : Txn). needed t command.Rollback) is) (omega arith) (subst (λ (t : Txn). AsksFor t command.Rollback (asked_of (rollback_plan (front s) t))) (sym is) (prior (front s) (batch_at (front s) p), refl)) (ap (λ (t : Txn). reply_to (store_in s) client (rollback_plan (front s) t)) is) refl (λ answered. subst (λ (t : Txn). RollsBackAt s.evidence.history s.progress.last t (next (front s) + 1)) (sym is) (rolled p is answered))
 
 leave_allowed : {client : Client} {answer : Reply} (s : Scene client command.Leave answer) → IsAllowed s
 leave_allowed {client = client} s = by client.txn refl
@@ -213,18 +217,33 @@ take_allowed {client = client} name s = by client.txn refl
         say_allowed s (reply.Unknown name (length (front s))) (ap (λ (t : Txn). take_plan (front s) t name) idle ∙ ap (λ (o : Option ℕ). Say (take_reply (front s) o name)) is) refl (ap unless_idle idle) (refl, front_fresh s, ap (λ (xs : List Entry). named xs name) same ∙ is)
     by_holder (Some p) is idle =
         let takes : taken (front s) (command.Take name) ≡ p = ap (λ (o : Option ℕ). unwrap_or o 0) is in
-        say_allowed s reply.Took (ap (λ (t : Txn). take_plan (front s) t name) idle ∙ ap (λ (o : Option ℕ). Say (take_reply (front s) o name)) is) refl (ap unless_idle idle) (subst (WasUndecided s.evidence.history s.last name) (sym takes) (was_in s name p is))
+        say_allowed s reply.Took (ap (λ (t : Txn). take_plan (front s) t name) idle ∙ ap (λ (o : Option ℕ). Say (take_reply (front s) o name)) is) refl (ap unless_idle idle) (subst (WasUndecided s.evidence.history s.progress.last name) (sym takes) (was_in s name p is))
 
     by : (txn : Txn) → client.txn ≡ txn → IsAllowed s
     by Idle is = by_holder (named (front s) name) refl is
     by (Open other batch) is = say_refused s reply.State (ap (λ (t : Txn). take_plan (front s) t name) is) refl (ap unless_idle is)
     by (Prepared p) is = say_refused s reply.State (ap (λ (t : Txn). take_plan (front s) t name) is) refl (ap unless_idle is)
 
+-- ---- the board
+
+hear_allowed : {client : Client} {answer : Reply} (label : List ℕ) (s : Scene client (command.Hear label) answer) → IsAllowed s
+hear_allowed {client = client} label s = by (map.get s.given.devices.board label) refl
+  where
+    unknown : map.get s.given.devices.board label ≡ None → (b : Bool) → knows_label s.progress.labels label ≡ b → b ≡ false
+    unknown none true knows = absurd (true≢false (sym (s.given.known.heard label knows) ∙ ap is_some none))
+    unknown none false knows = refl
+
+    by : (told : Option ℕ) → map.get s.given.devices.board label ≡ told → IsAllowed s
+    by None is = board_allowed s (reply.Silent label) (ap (λ (o : Option ℕ). heard (length (front s)) o label) is) refl refl (refl, unknown is (knows_label s.progress.labels label) refl)
+    by (Some n) is =
+        board_allowed s (reply.Heard (length (front s))) (ap (λ (o : Option ℕ). heard (length (front s)) o label) is) refl refl
+        (front_fresh s, subst (λ (m : ℕ). IsKnown s.evidence (WasTold label m)) (sym (front_size s)) (s.given.known.told label n is))
+
 -- ---- all commands
 
 due_allowed : (client : Client) (c : Command) (answer : Reply) (s : Scene client c answer) → IsAllowed s
-due_allowed client (command.Put key value) answer s = change_allowed s (change.Put key value) (reply.Put (next (front s))) refl refl (λ is. ap (λ (t : Txn). needed t (command.Put key value)) is) (λ is. subst (λ (t : Txn). AsksFor t (command.Put key value) (entry.Write (change.Put key value ∷ []) ∷ [])) (sym is) refl) refl (λ is here. (is, here)) (λ name busy. busy) (λ opened. opened)
-due_allowed client (command.Del key) answer s = change_allowed s (change.Del key) (reply.Del (next (front s))) refl refl (λ is. ap (λ (t : Txn). needed t (command.Del key)) is) (λ is. subst (λ (t : Txn). AsksFor t (command.Del key) (entry.Write (change.Del key ∷ []) ∷ [])) (sym is) refl) refl (λ is here. (is, here)) (λ name busy. busy) (λ opened. opened)
+due_allowed client (command.Put key value) answer s = change_allowed s (change.Put key value) (reply.Put (next (front s))) refl refl (λ is. ap (λ (t : Txn). needed t (command.Put key value)) is) (λ is. subst (λ (t : Txn). AsksFor t (command.Put key value) (entry.Write (change.Put key value ∷ []) ∷ [])) (sym is) refl) refl (λ is here. (is, here)) (λ by busy. busy) (λ opened. opened)
+due_allowed client (command.Del key) answer s = change_allowed s (change.Del key) (reply.Del (next (front s))) refl refl (λ is. ap (λ (t : Txn). needed t (command.Del key)) is) (λ is. subst (λ (t : Txn). AsksFor t (command.Del key) (entry.Write (change.Del key ∷ []) ∷ [])) (sym is) refl) refl (λ is here. (is, here)) (λ by busy. busy) (λ opened. opened)
 due_allowed client (command.Get key) answer s = get_allowed key s
 due_allowed client (command.GetAt key label) answer s = get_at_allowed key label s
 due_allowed client (command.Snap label) answer s = snap_allowed label s
@@ -237,6 +256,8 @@ due_allowed client command.Leave answer s = leave_allowed s
 due_allowed client (command.Take name) answer s = take_allowed name s
 due_allowed client command.Flush answer s = flush_allowed s
 due_allowed client command.Compact answer s = compact_allowed s
+due_allowed client (command.Tell label) answer s = board_allowed s (reply.Told (length (front s))) refl refl refl (front_fresh s)
+due_allowed client (command.Hear label) answer s = hear_allowed label s
 
 -- ---- what the reply leaves
 
@@ -287,18 +308,18 @@ last_within : (last before after : ℕ) (number : Option ℕ) → last ≤ befor
 last_within last before after (Some n) low grows fresh = fresh.1
 last_within last before after None low grows fresh = omega (arith, low, grows)
 
-pub due_session : (e : Evidence) (from last tables : ℕ) (client : Client) (cs : List Command) (rs : List Reply) → last ≤ from → TxnIsWithin from client.txn → AreWithin from client.snapshots → AreDueFrom e from tables client cs rs → IsSession e last tables client cs rs
-due_session e from last tables client [] [] low txn snapshots due = tt
-due_session e from last tables client [] (r ∷ rs) low txn snapshots due = absurd due
-due_session e from last tables client (c ∷ cs) [] low txn snapshots due = absurd due
-due_session e from last tables client (c ∷ cs) (r ∷ rs) low txn snapshots (given, rest) =
-    let s : Scene client c r = record { evidence = e; from = from; last = last; tables = tables; low = low; txn = txn; snapshots = snapshots; given = given } in
+pub due_session : (e : Evidence) (from : ℕ) (progress : Progress) (client : Client) (cs : List Command) (rs : List Reply) → progress.last ≤ from → TxnIsWithin from client.txn → AreWithin from client.snapshots → AreDueFrom e from progress client cs rs → IsSession e progress client cs rs
+due_session e from progress client [] [] low txn snapshots due = tt
+due_session e from progress client [] (r ∷ rs) low txn snapshots due = absurd due
+due_session e from progress client (c ∷ cs) [] low txn snapshots due = absurd due
+due_session e from progress client (c ∷ cs) (r ∷ rs) low txn snapshots (given, rest) =
+    let s : Scene client c r = record { evidence = e; from = from; progress = progress; low = low; txn = txn; snapshots = snapshots; given = given } in
     let later : from ≤ given.after = omega (arith, given.earlier, given.grows) in
     let allowed = due_allowed client c r s in (
       taken (take given.before e.history) c,
       allowed,
-      due_session e given.after (last_after last c r) (tables_after tables r) (client_after (take given.before e.history) client c r) cs rs
-          (last_within last given.before given.after (fresh_in c r) (omega (arith, low, given.earlier)) given.grows given.fresh)
+      due_session e given.after (progress_after progress c r) (client_after (take given.before e.history) client c r) cs rs
+          (last_within progress.last given.before given.after (fresh_in c r) (omega (arith, low, given.earlier)) given.grows given.fresh)
           (txn_within client c r s allowed (txn_more from given.after client.txn later txn))
           (subst (AreWithin given.after) (sym (snapshots_after (taken (take given.before e.history) c) client c r)) (labels_within client c r s (within_more from given.after client.snapshots later snapshots)))
           rest,

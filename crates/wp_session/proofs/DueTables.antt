@@ -71,7 +71,7 @@ on_tables {client = client} {c = c} {answer = answer} s made free due_is unlogge
 at_front : {client : Client} {c : Command} {answer : Reply} (s : Scene client c answer) → take (length (front s)) s.evidence.history ≡ front s
 at_front s = ap (λ (n : ℕ). take n s.evidence.history) (front_size s)
 
-flush_fails : {client : Client} {answer : Reply} (s : Scene client command.Flush answer) → 1 ≤ length (unflushed (front s) s.given.devices.installed) → is_tables_fault answer ≡ true → FailsFlush s.evidence s.last
+flush_fails : {client : Client} {answer : Reply} (s : Scene client command.Flush answer) → 1 ≤ length (unflushed (front s) s.given.devices.installed) → is_tables_fault answer ≡ true → FailsFlush s.evidence s.progress.last
 flush_fails s some f =
     let asked = s.given.asked_edit f in record {
       at = length (front s);
@@ -80,7 +80,7 @@ flush_fails s some f =
       edit = rw (at_front s, ← asked.1) asked.0;
     }
 
-compaction_fails : {client : Client} {answer : Reply} (s : Scene client command.Compact answer) → nat_lt s.given.devices.installed.tables 2 ≡ false → is_tables_fault answer ≡ true → FailsCompaction s.evidence s.last client
+compaction_fails : {client : Client} {answer : Reply} (s : Scene client command.Compact answer) → nat_lt s.given.devices.installed.tables 2 ≡ false → is_tables_fault answer ≡ true → FailsCompaction s.evidence s.progress.last client
 compaction_fails {client = client} s enough f =
     let asked = s.given.asked_edit f in record {
       at = length (front s);
@@ -97,14 +97,14 @@ flush_allowed {client = client} s = by (unflushed (front s) s.given.devices.inst
     by : (versions : List Version) → unflushed (front s) s.given.devices.installed ≡ versions → IsAllowed s
     by [] is = on_tables s reply.Nothing refl (ap (λ (vs : List Version). unless_halted (store_in s) (flushed (length (front s)) vs)) is) refl (seen, (s.given.devices.installed.flushed, s.given.known.flushed, none)) (λ f installs. absurd cc) (λ halted. halted)
       where
-        seen : s.last ≤ length s.evidence.history
+        seen : s.progress.last ≤ length s.evidence.history
         seen = omega (arith, s.low, s.given.earlier, s.given.grows, s.given.within)
 
-        none : later_versions (take s.last s.evidence.history) s.given.devices.installed.flushed ≡ []
+        none : later_versions (take s.progress.last s.evidence.history) s.given.devices.installed.flushed ≡ []
         none =
-            let low : s.last ≤ s.given.before = omega (arith, s.low, s.given.earlier) in
-            let parts : take s.last s.evidence.history ++ drop s.last (front s) ≡ front s = subst (λ (xs : List Entry). xs ++ drop s.last (front s) ≡ front s) (front_take s.evidence.history s.last s.given.before low) (take-append-drop s.last (front s)) in
-            none_above (take s.last s.evidence.history) (drop s.last (front s)) s.given.devices.installed.flushed s.given.devices.installed.flushed (rw parts is)
+            let low : s.progress.last ≤ s.given.before = omega (arith, s.low, s.given.earlier) in
+            let parts : take s.progress.last s.evidence.history ++ drop s.progress.last (front s) ≡ front s = subst (λ (xs : List Entry). xs ++ drop s.progress.last (front s) ≡ front s) (front_take s.evidence.history s.progress.last s.given.before low) (take-append-drop s.progress.last (front s)) in
+            none_above (take s.progress.last s.evidence.history) (drop s.progress.last (front s)) s.given.devices.installed.flushed s.given.devices.installed.flushed (rw parts is)
     by (v ∷ versions) is =
         on_tables s (reply.Flushed (length (front s)) (length (v ∷ versions))) refl (ap (λ (vs : List Version). unless_halted (store_in s) (flushed (length (front s)) vs)) is) refl
         (front_fresh s, omega arith, (s.given.devices.installed.flushed, s.given.known.flushed, ap (λ (xs : List Entry). length (later_versions xs s.given.devices.installed.flushed)) (at_front s) ∙ ap (λ (vs : List Version). length vs) is)) (λ f installs. flush_fails s (rw is (omega arith)) f) (λ halted. halted)
@@ -125,7 +125,7 @@ compact_allowed {client = client} s =
     kept : List Version
     kept = retained (front s) (numbers_of client.snapshots) s.given.devices.installed
 
-    few_known : nat_lt s.given.devices.installed.tables 2 ≡ true → (s.tables ≤ s.given.devices.installed.tables) ⊎ IsKnown s.evidence OtherCompacted → HasNothingToMerge s.evidence s.tables
+    few_known : nat_lt s.given.devices.installed.tables 2 ≡ true → (s.progress.tables ≤ s.given.devices.installed.tables) ⊎ IsKnown s.evidence OtherCompacted → HasNothingToMerge s.evidence s.progress.tables
     few_known few (inl counted) = inl (omega (arith, counted, ltb-true _ _ few))
     few_known few (inr known) = inr known
 

@@ -1,5 +1,6 @@
 pub mod PlanLemmas
 pub mod SaidLemmas
+pub mod BoardLemmas
 pub mod Rows
 pub mod Scenes
 pub mod DueTables

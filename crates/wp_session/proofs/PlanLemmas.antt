@@ -163,6 +163,8 @@ plan_logs pending h client command.Leave e answer legal closed fits whole is = a
 plan_logs pending h client (command.Take name) e answer legal closed fits whole is = absurd (take_asks h client.txn name e answer is)
 plan_logs pending h client command.Flush e answer legal closed fits whole is = absurd cc
 plan_logs pending h client command.Compact e answer legal closed fits whole is = absurd cc
+plan_logs pending h client (command.Tell label) e answer legal closed fits whole is = absurd cc
+plan_logs pending h client (command.Hear label) e answer legal closed fits whole is = absurd cc
 
 -- ---- plans that roll back
 
@@ -241,3 +243,5 @@ plan_rolls_back follows h client command.Leave p batch answer closed fits whole 
 plan_rolls_back follows h client (command.Take name) p batch answer closed fits whole is = absurd (take_rolls h client.txn name p batch answer is)
 plan_rolls_back follows h client command.Flush p batch answer closed fits whole is = absurd cc
 plan_rolls_back follows h client command.Compact p batch answer closed fits whole is = absurd cc
+plan_rolls_back follows h client (command.Tell label) p batch answer closed fits whole is = absurd cc
+plan_rolls_back follows h client (command.Hear label) p batch answer closed fits whole is = absurd cc

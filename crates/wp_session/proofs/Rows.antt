@@ -3,6 +3,8 @@ use Rattle.std.proofs.Common.{◌≡◌, ℕ, zero, suc, ◌-◌, ◌≤◌, Boo
 use Rattle.std.specs.Prelude.{slice_get}
 use Rattle.std.proofs.lemmas.List.{take-append-le}
 use Rattle.wp_model.specs.declared.entry.Entry.{Entry}
+use Rattle.wp_model.specs.declared.holder.Holder.{Holder}
+use Rattle.wp_model.specs.declared.holder.Holder.TheVariants as holder
 use Rattle.wp_model.specs.Batch.{change_to}
 use Rattle.wp_model.specs.Flushed.{later_versions}
 use Rattle.wp_model.specs.History.{entry_at, name_at, batch_at, is_undecided, is_changed, named, newest}
@@ -15,8 +17,8 @@ use Rattle.wp_session.specs.declared.client.Txn.{Txn}
 use Rattle.wp_session.specs.declared.client.Txn.TheVariants.{Idle, Open, Prepared}
 use Rattle.wp_session.specs.Client.{Client}
 use Rattle.wp_session.specs.After.{labels_after, after_reply}
-use Rattle.wp_session.specs.Kind.{last_after, tables_after}
-use Rattle.wp_session.specs.Replies.{Claim, Evidence, IsKnown, HasName, HasKey, LogFailed, WasFlushed, TablesFailed, OtherCompacted, refusal_of, IsFresh, IsLoggedAt, WasUndecided, IsBusy, IsNameTaken, OwnSays, PreparesAt, CommitsAt, RollsBackAt, IsFlushCount, HasNothingToFlush, HasNothingToMerge, FailsFlush, FailsCompaction, IsHaltedAt, Row, UnlessRefused}
+use Rattle.wp_session.specs.Progress.{Progress, progress_after}
+use Rattle.wp_session.specs.Replies.{Claim, Evidence, IsKnown, HasName, HasKey, WritesKey, WasTold, LogFailed, WasFlushed, TablesFailed, OtherCompacted, refusal_of, IsFresh, IsLoggedAt, WasUndecided, IsBusy, IsNameTaken, OwnSays, PreparesAt, CommitsAt, RollsBackAt, IsFlushCount, HasNothingToFlush, HasNothingToMerge, FailsFlush, FailsCompaction, IsHaltedAt, Row, UnlessRefused}
 use Rattle.wp_session.specs.Session.{IsSession}
 use Rattle.wp_session.specs.Tables.{unflushed, after_flush, after_compaction}
 
@@ -61,10 +63,11 @@ grown e more later = record e { history = e.history ++ more; known = later }
 abbrev KnowsMore : Evidence → (Claim → Bool) → Type 0
 KnowsMore e later = (claim : Claim) → IsKnown e claim → later claim ≡ true
 
-busy_more : (e : Evidence) (more : List Entry) (later : Claim → Bool) → KnowsMore e later → (last : ℕ) (key name : List ℕ) → IsBusy e last key name → IsBusy (grown e more later) last key name
+busy_more : (e : Evidence) (more : List Entry) (later : Claim → Bool) → KnowsMore e later → (last : ℕ) (key : List ℕ) (by : Holder) → IsBusy e last key by → IsBusy (grown e more later) last key by
 unfolding was_more
-busy_more e more later f last key name (inl (p, was, changed)) = inl (p, was_more e.history more last name p was, front_more (λ f. is_changed (batch_at f p) key ≡ true) e.history more was.at was.fresh.1 changed)
-busy_more e more later f last key name (inr claim) = inr (f (HasKey name key) claim)
+busy_more e more later f last key (holder.Txn name) (inl (p, was, changed)) = inl (p, was_more e.history more last name p was, front_more (λ f. is_changed (batch_at f p) key ≡ true) e.history more was.at was.fresh.1 changed)
+busy_more e more later f last key (holder.Txn name) (inr claims) = inr (f (HasName name) claims.0, f (HasKey name key) claims.1)
+busy_more e more later f last key (holder.Client name) claim = f (WritesKey name key) claim
 
 taken_more : (e : Evidence) (more : List Entry) (later : Claim → Bool) → KnowsMore e later → (last : ℕ) (name : List ℕ) → IsNameTaken e last name → IsNameTaken (grown e more later) last name
 taken_more e more later f last name (inl (p, was)) = inl (p, was_more e.history more last name p was)
@@ -139,51 +142,55 @@ snapshots_after p client c r = refl
 
 -- ---- the rows
 
-row_more : (e : Evidence) (more : List Entry) (later : Claim → Bool) → KnowsMore e later → (last tables : ℕ) (client : Client) (p : ℕ) (c : Command) (r : Reply) → Row e last tables client p c r → Row (grown e more later) last tables client p c r
-row_more e more later f last tables client p c (reply.Full published most) k = (k.0, fresh_more e.history more last published k.1, k.2, k.3)
-row_more e more later f last tables client p c reply.FaultLog k = k
-row_more e more later f last tables client p c (reply.Stopped n) k = (k.0, fresh_more e.history more last n k.1, f (LogFailed n) k.2)
-row_more e more later f last tables client p (command.Put key value) (reply.Put n) k = (k.0, logged_more e.history more last n _ k.1)
-row_more e more later f last tables client p (command.Put key value) reply.Held k = k
-row_more e more later f last tables client p (command.Put key value) (reply.Busy name) k = busy_more e more later f last key name k
-row_more e more later f last tables client p (command.Del key) (reply.Del n) k = (k.0, logged_more e.history more last n _ k.1)
-row_more e more later f last tables client p (command.Del key) reply.Held k = k
-row_more e more later f last tables client p (command.Del key) (reply.Busy name) k = busy_more e more later f last key name k
-row_more e more later f last tables client p (command.Get key) (reply.Got value n) k = (own_more e.history more client.txn key _ k.0, fresh_more e.history more last n k.1, value_more e.history more key n _ k.1.1 k.2)
-row_more e more later f last tables client p (command.Get key) (reply.Missing n) k = (own_more e.history more client.txn key _ k.0, fresh_more e.history more last n k.1, value_more e.history more key n _ k.1.1 k.2)
-row_more e more later f last tables client p (command.Get key) (reply.GotOwn value) k = own_more e.history more client.txn key _ k
-row_more e more later f last tables client p (command.Get key) reply.MissingOwn k = own_more e.history more client.txn key _ k
-row_more e more later f last tables client p (command.GetAt key label) (reply.Got value n) k = ((k.0.0, longer e.history more n k.0.1), value_more e.history more key n _ k.0.1 k.1)
-row_more e more later f last tables client p (command.GetAt key label) (reply.Missing n) k = ((k.0.0, longer e.history more n k.0.1), value_more e.history more key n _ k.0.1 k.1)
-row_more e more later f last tables client p (command.Snap label) (reply.Snapped n) k = fresh_more e.history more last n k
-row_more e more later f last tables client p (command.Free label) reply.Freed k = k
-row_more e more later f last tables client p (command.Begin name) reply.Begun k = k
-row_more e more later f last tables client p (command.Begin name) (reply.Taken other) k = (k.0, taken_more e more later f last name k.1)
-row_more e more later f last tables client p command.Prepare (reply.Prepared n) k = prepares_more e.history more last client.txn n k
-row_more e more later f last tables client p command.Commit (reply.Committed n) k = commits_more e.history more last client.txn n k
-row_more e more later f last tables client p command.Rollback reply.Dropped k = k
-row_more e more later f last tables client p command.Rollback (reply.RolledBack n) k = rolls_more e.history more last client.txn n k
-row_more e more later f last tables client p command.Leave reply.Left k = k
-row_more e more later f last tables client p (command.Take name) reply.Took k = was_more e.history more last name p k
-row_more e more later f last tables client p (command.Take name) (reply.Unknown other n) k = (k.0, fresh_more e.history more last n k.1, front_more (λ f. named f name ≡ None) e.history more n k.1.1 k.2)
-row_more e more later f last tables client p command.Flush (reply.Flushed n versions) k = (fresh_more e.history more last n k.0, k.1, flush_count_more e more later f n versions k.0.1 k.2)
-row_more e more later f last tables client p command.Flush reply.Nothing k = nothing_to_flush_more e more later f last k
-row_more e more later f last tables client p command.Flush (reply.Halted flushed) k = halted_more e more later f flushed k
-row_more e more later f last tables client p command.Flush reply.FaultTables k = flush_fails_more e more later last k
-row_more e more later f last tables client p command.Compact (reply.Compacted n versions) k = (fresh_more e.history more last n k.0, front_more (λ h. versions ≤ length (later_versions h 0)) e.history more n k.0.1 k.1)
-row_more e more later f last tables client p command.Compact reply.Nothing k = nothing_to_merge_more e more later f tables k
-row_more e more later f last tables client p command.Compact (reply.Halted flushed) k = halted_more e more later f flushed k
-row_more e more later f last tables client p command.Compact reply.FaultTables k = compaction_fails_more e more later last client k
-row_more e more later f last tables client p c r k = absurd k
+row_more : (e : Evidence) (more : List Entry) (later : Claim → Bool) → KnowsMore e later → (progress : Progress) (client : Client) (p : ℕ) (c : Command) (r : Reply) → Row e progress client p c r → Row (grown e more later) progress client p c r
+row_more e more later f progress client p c (reply.Full published most) k = (k.0, fresh_more e.history more progress.last published k.1, k.2, k.3)
+row_more e more later f progress client p c reply.FaultLog k = k
+row_more e more later f progress client p c (reply.Stopped n) k = (k.0, fresh_more e.history more progress.last n k.1, f (LogFailed n) k.2)
+row_more e more later f progress client p (command.Put key value) (reply.Put n) k = (k.0, logged_more e.history more progress.last n _ k.1)
+row_more e more later f progress client p (command.Put key value) reply.Held k = k
+row_more e more later f progress client p (command.Put key value) (reply.Busy holder) k = busy_more e more later f progress.last key holder k
+row_more e more later f progress client p (command.Del key) (reply.Del n) k = (k.0, logged_more e.history more progress.last n _ k.1)
+row_more e more later f progress client p (command.Del key) reply.Held k = k
+row_more e more later f progress client p (command.Del key) (reply.Busy holder) k = busy_more e more later f progress.last key holder k
+row_more e more later f progress client p (command.Get key) (reply.Got value n) k = (own_more e.history more client.txn key _ k.0, fresh_more e.history more progress.last n k.1, value_more e.history more key n _ k.1.1 k.2)
+row_more e more later f progress client p (command.Get key) (reply.Missing n) k = (own_more e.history more client.txn key _ k.0, fresh_more e.history more progress.last n k.1, value_more e.history more key n _ k.1.1 k.2)
+row_more e more later f progress client p (command.Get key) (reply.GotOwn value) k = own_more e.history more client.txn key _ k
+row_more e more later f progress client p (command.Get key) reply.MissingOwn k = own_more e.history more client.txn key _ k
+row_more e more later f progress client p (command.GetAt key label) (reply.Got value n) k = ((k.0.0, longer e.history more n k.0.1), value_more e.history more key n _ k.0.1 k.1)
+row_more e more later f progress client p (command.GetAt key label) (reply.Missing n) k = ((k.0.0, longer e.history more n k.0.1), value_more e.history more key n _ k.0.1 k.1)
+row_more e more later f progress client p (command.Snap label) (reply.Snapped n) k = fresh_more e.history more progress.last n k
+row_more e more later f progress client p (command.Free label) reply.Freed k = k
+row_more e more later f progress client p (command.Begin name) reply.Begun k = k
+row_more e more later f progress client p (command.Begin name) (reply.Taken other) k = (k.0, taken_more e more later f progress.last name k.1)
+row_more e more later f progress client p command.Prepare (reply.Prepared n) k = prepares_more e.history more progress.last client.txn n k
+row_more e more later f progress client p command.Commit (reply.Committed n) k = commits_more e.history more progress.last client.txn n k
+row_more e more later f progress client p command.Rollback reply.Dropped k = k
+row_more e more later f progress client p command.Rollback (reply.RolledBack n) k = rolls_more e.history more progress.last client.txn n k
+row_more e more later f progress client p command.Leave reply.Left k = k
+row_more e more later f progress client p (command.Take name) reply.Took k = was_more e.history more progress.last name p k
+row_more e more later f progress client p (command.Take name) (reply.Unknown other n) k = (k.0, fresh_more e.history more progress.last n k.1, front_more (λ f. named f name ≡ None) e.history more n k.1.1 k.2)
+row_more e more later f progress client p (command.Take name) (reply.InUse other) k = (k.0, f (HasName name) k.1)
+row_more e more later f progress client p command.Flush (reply.Flushed n versions) k = (fresh_more e.history more progress.last n k.0, k.1, flush_count_more e more later f n versions k.0.1 k.2)
+row_more e more later f progress client p command.Flush reply.Nothing k = nothing_to_flush_more e more later f progress.last k
+row_more e more later f progress client p command.Flush (reply.Halted flushed) k = halted_more e more later f flushed k
+row_more e more later f progress client p command.Flush reply.FaultTables k = flush_fails_more e more later progress.last k
+row_more e more later f progress client p command.Compact (reply.Compacted n versions) k = (fresh_more e.history more progress.last n k.0, front_more (λ h. versions ≤ length (later_versions h 0)) e.history more n k.0.1 k.1)
+row_more e more later f progress client p command.Compact reply.Nothing k = nothing_to_merge_more e more later f progress.tables k
+row_more e more later f progress client p command.Compact (reply.Halted flushed) k = halted_more e more later f flushed k
+row_more e more later f progress client p command.Compact reply.FaultTables k = compaction_fails_more e more later progress.last client k
+row_more e more later f progress client p (command.Tell label) (reply.Told n) k = fresh_more e.history more progress.last n k
+row_more e more later f progress client p (command.Hear label) (reply.Heard n) k = (fresh_more e.history more progress.last n k.0, f (WasTold label n) k.1)
+row_more e more later f progress client p (command.Hear label) (reply.Silent other) k = k
+row_more e more later f progress client p c r k = absurd k
 
 unless_refused_more : (refusal : Option Reply) (r : Reply) (A B : Type 0) → (A → B) → UnlessRefused refusal r A → UnlessRefused refusal r B
 unless_refused_more None r A B f a = f a
 unless_refused_more (Some refusal) r A B f is = is
 
 -- a session over a history that grows, with more known of the others
-pub session_more : (e : Evidence) (more : List Entry) (later : Claim → Bool) → KnowsMore e later → (last tables : ℕ) (client : Client) (cs : List Command) (rs : List Reply) → IsSession e last tables client cs rs → IsSession (grown e more later) last tables client cs rs
-session_more e more later f last tables client [] [] s = tt
-session_more e more later f last tables client [] (r ∷ rs) s = absurd s
-session_more e more later f last tables client (c ∷ cs) [] s = absurd s
-session_more e more later f last tables client (c ∷ cs) (r ∷ rs) (p, allowed, rest) =
-    (p, unless_refused_more (refusal_of client c) r _ _ (row_more e more later f last tables client p c r) allowed, session_more e more later f (last_after last c r) (tables_after tables r) (after_reply p client c r) cs rs rest)
+pub session_more : (e : Evidence) (more : List Entry) (later : Claim → Bool) → KnowsMore e later → (progress : Progress) (client : Client) (cs : List Command) (rs : List Reply) → IsSession e progress client cs rs → IsSession (grown e more later) progress client cs rs
+session_more e more later f progress client [] [] s = tt
+session_more e more later f progress client [] (r ∷ rs) s = absurd s
+session_more e more later f progress client (c ∷ cs) [] s = absurd s
+session_more e more later f progress client (c ∷ cs) (r ∷ rs) (p, allowed, rest) =
+    (p, unless_refused_more (refusal_of client c) r _ _ (row_more e more later f progress client p c r) allowed, session_more e more later f (progress_after progress c r) (after_reply p client c r) cs rs rest)

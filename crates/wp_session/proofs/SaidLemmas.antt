@@ -10,6 +10,8 @@ use Rattle.wp_model.specs.declared.change.Change.{Change}
 use Rattle.wp_model.specs.declared.change.Change.TheVariants as change
 use Rattle.wp_model.specs.declared.entry.Entry.{Entry}
 use Rattle.wp_model.specs.declared.entry.Entry.TheVariants as entry
+use Rattle.wp_model.specs.declared.holder.Holder.{Holder}
+use Rattle.wp_model.specs.declared.holder.Holder.TheVariants as holder
 use Rattle.wp_model.specs.Batch.{key_cmp, key_of, change_to, by_order, with_change}
 use Rattle.wp_model.specs.History.{named, name_at, holder_of, value_at}
 use Rattle.wp_model.specs.Legal.{AreFree}
@@ -67,12 +69,12 @@ plain_if_bare h c answer fresh b = record {
   current = rw (fresh b) tt;
 }
 
-busy_or_answers : (P : Reply → Type 0) (h : List Entry) (holder : Option ℕ) (made : Plan) (answer : Reply) → ((name : List ℕ) → P (reply.Busy name)) → ((given : Reply) → holder ≡ None → made ≡ Say given → P given) → busy_or h holder made ≡ Say answer → P answer
+busy_or_answers : (P : Reply → Type 0) (h : List Entry) (holder : Option ℕ) (made : Plan) (answer : Reply) → ((by : Holder) → P (reply.Busy by)) → ((given : Reply) → holder ≡ None → made ≡ Say given → P given) → busy_or h holder made ≡ Say answer → P answer
 busy_or_answers P h None made answer busy others is = others answer refl is
-busy_or_answers P h (Some p) made answer busy others is = subst P (said_is (reply.Busy (name_at h p)) answer is) (busy (name_at h p))
+busy_or_answers P h (Some p) made answer busy others is = subst P (said_is (reply.Busy (holder.Txn (name_at h p))) answer is) (busy (holder.Txn (name_at h p)))
 
 -- what has P, if each reply has it that a change may be given without the log
-change_answers : (P : Reply → Type 0) (h : List Entry) (txn : Txn) (c : Change) (made answer : Reply) → P reply.State → ((name : List ℕ) → P (reply.Busy name)) → P reply.TooMany → ((name : List ℕ) (batch : List Change) → txn ≡ Open name batch → holder_of h (key_of c) ≡ None → P reply.Held) → change_plan h txn c made ≡ Say answer → P answer
+change_answers : (P : Reply → Type 0) (h : List Entry) (txn : Txn) (c : Change) (made answer : Reply) → P reply.State → ((by : Holder) → P (reply.Busy by)) → P reply.TooMany → ((name : List ℕ) (batch : List Change) → txn ≡ Open name batch → holder_of h (key_of c) ≡ None → P reply.Held) → change_plan h txn c made ≡ Say answer → P answer
 change_answers P h Idle c made answer state busy many held is = busy_or_answers P h (holder_of h (key_of c)) (Log (entry.Write (c ∷ [])) made) answer busy (λ given none said. absurd cc) is
 change_answers P h (Open name batch) c made answer state busy many held is =
     elim (cases_Bool (has_no_room batch (key_of c))) [
@@ -82,7 +84,7 @@ change_answers P h (Open name batch) c made answer state busy many held is =
 change_answers P h (Prepared p) c made answer state busy many held is = subst P (said_is reply.State answer is) state
 
 change_says : (h : List Entry) (txn : Txn) (c : Change) (made answer : Reply) → change_plan h txn c made ≡ Say answer → IsBare answer
-change_says h txn c made answer is = change_answers IsBare h txn c made answer refl (λ name. refl) refl (λ name batch o none. refl) is
+change_says h txn c made answer is = change_answers IsBare h txn c made answer refl (λ by. refl) refl (λ name batch o none. refl) is
 
 read_is_plain : (h : List Entry) (key : List ℕ) (value : Option (List ℕ)) (n : ℕ) → n ≡ length h → IsPlain h (command.Get key) (read_reply value n)
 read_is_plain h key (Some value) n at = record { none = refl; unlogged = refl; faultless = refl; running = refl; uninstalled = refl; intact = refl; unhalted = refl; current = at }
@@ -171,6 +173,8 @@ plan_says h client command.Leave answer is = plain_if_bare h command.Leave answe
 plan_says h client (command.Take name) answer is = take_says h client.txn name answer is
 plan_says h client command.Flush answer is = absurd cc
 plan_says h client command.Compact answer is = absurd cc
+plan_says h client (command.Tell label) answer is = absurd cc
+plan_says h client (command.Hear label) answer is = absurd cc
 
 -- ---- the client
 
@@ -212,7 +216,7 @@ change_fits : (h : List Entry) (client : Client) (c : Command) (change : Change)
     → client_after h client c reply.Held ≡ record client { txn = with_staged client.txn change }
     → change_plan h client.txn change made ≡ Say answer → ClientFits h (client_after h client c answer)
 change_fits h client c change made answer fits held is =
-    change_answers (λ (r : Reply). ClientFits h (client_after h client c r)) h client.txn change made answer fits (λ name. fits) fits
+    change_answers (λ (r : Reply). ClientFits h (client_after h client c r)) h client.txn change made answer fits (λ by. fits) fits
     (λ name batch o none. rw held (record {
       txn = rw o (let own = rw o at fits.txn in (free_with_change h batch change own.0 none, own.1));
       snapshots = fits.snapshots;
@@ -312,3 +316,5 @@ plan_fits h client command.Leave answer fits is = leave_fits h client client.txn
 plan_fits h client (command.Take name) answer fits is = take_fits h client client.txn name answer fits is
 plan_fits h client command.Flush answer fits is = absurd cc
 plan_fits h client command.Compact answer fits is = absurd cc
+plan_fits h client (command.Tell label) answer fits is = absurd cc
+plan_fits h client (command.Hear label) answer fits is = absurd cc

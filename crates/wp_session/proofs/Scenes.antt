@@ -12,6 +12,7 @@ use Rattle.wp_session.specs.declared.plan.Plan.{Plan}
 use Rattle.wp_session.specs.declared.plan.Plan.TheVariants.{Say, Log}
 use Rattle.wp_session.specs.Client.{Client, AreWithin}
 use Rattle.wp_session.specs.Kind.{Kind, Logged, RolledBack, kind, is_logged, says_logged, is_fault, is_installed, says_installed}
+use Rattle.wp_session.specs.Progress.{Progress}
 use Rattle.wp_session.specs.Replies.{LogFailed, Evidence, IsKnown, refusal_of, IsFresh, IsLoggedAt, TxnIsWithin, needed, AsksFor, Row, UnlessRefused, Allows}
 use Rattle.wp_session.specs.Plan.{plan, asked_of, next}
 use Rattle.wp_session.specs.Due.{Store, logged, reply_to, due, IsReply, logged_entries, taken}
@@ -56,12 +57,11 @@ value_in_front h key n m le = ap (λ (xs : List Entry). newest xs key) (front_ta
 pub record Scene (client : Client) (c : Command) (answer : Reply) : Type 0 where
   pub evidence : Evidence
   pub from : ℕ
-  pub last : ℕ
-  pub tables : ℕ
-  pub low : last ≤ from
+  pub progress : Progress
+  pub low : progress.last ≤ from
   pub txn : TxnIsWithin from client.txn
   pub snapshots : AreWithin from client.snapshots
-  pub given : IsDueFrom evidence from tables client c answer
+  pub given : IsDueFrom evidence from progress client c answer
 
 -- the entries published before the command
 abbrev pub front : {client : Client} {c : Command} {answer : Reply} → Scene client c answer → List Entry
@@ -72,15 +72,15 @@ store_in s = store_at s.evidence s.given.devices s.given.before
 
 -- a reply's row
 abbrev pub RowOf : {client : Client} {c : Command} {answer : Reply} → Scene client c answer → Reply → Type 0
-RowOf {client = client} {c = c} s made = Row s.evidence s.last s.tables client (taken (front s) c) c made
+RowOf {client = client} {c = c} s made = Row s.evidence s.progress client (taken (front s) c) c made
 
 abbrev pub IsAllowed : {client : Client} {c : Command} {answer : Reply} → Scene client c answer → Type 0
-IsAllowed {client = client} {c = c} {answer = answer} s = Allows s.evidence s.last s.tables client (taken (front s) c) c answer
+IsAllowed {client = client} {c = c} {answer = answer} s = Allows s.evidence s.progress client (taken (front s) c) c answer
 
 pub front_size : {client : Client} {c : Command} {answer : Reply} (s : Scene client c answer) → length (front s) ≡ s.given.before
 front_size s = size s.evidence.history s.given.before (omega (arith, s.given.grows, s.given.within))
 
-pub front_fresh : {client : Client} {c : Command} {answer : Reply} (s : Scene client c answer) → IsFresh s.evidence.history s.last (length (front s))
+pub front_fresh : {client : Client} {c : Command} {answer : Reply} (s : Scene client c answer) → IsFresh s.evidence.history s.progress.last (length (front s))
 front_fresh s = (omega (arith, front_size s, s.low, s.given.earlier), omega (arith, front_size s, s.given.grows, s.given.within))
 
 said_is : (made answer : Reply) → Say made ≡ Say answer → made ≡ answer
@@ -99,14 +99,18 @@ nor_of true b none is = absurd cc
 nor_of false true none is = absurd cc
 nor_of false false none is = absurd cc
 
--- a reply without the log and the tables is the one that the plan says
-said : {client : Client} {c : Command} {answer : Reply} (s : Scene client c answer) (made : Reply) → plan (front s) client c ≡ Say made → may_fail made ≡ false → answer ≡ made
-said {client = client} {c = c} {answer = answer} s made is plain = by s.given.replied
+-- a reply without the log and the tables is the one that is due
+answered : {client : Client} {c : Command} {answer : Reply} (s : Scene client c answer) (made : Reply) → due (store_in s) client c ≡ made → may_fail made ≡ false → answer ≡ made
+answered {client = client} {c = c} {answer = answer} s made is plain = by s.given.replied
   where
     by : IsReply (store_in s) client c answer → answer ≡ made
-    by (inl due) = due ∙ ap (reply_to (store_in s) client) is
-    by (inr (inl fault)) = let logs : is_logged made ≡ true = subst (λ (p : Plan). is_logged (reply_to (store_in s) client p) ≡ true) is fault.1 in absurd (none_of (is_logged made) (is_installed made) plain logs)
-    by (inr (inr fault)) = let installs : is_installed made ≡ true = subst (λ (p : Plan). is_installed (reply_to (store_in s) client p) ≡ true) is fault.1 in absurd (nor_of (is_logged made) (is_installed made) plain installs)
+    by (inl said) = said ∙ is
+    by (inr (inl fault)) = let logs : is_logged made ≡ true = subst (λ (r : Reply). is_logged r ≡ true) is fault.1 in absurd (none_of (is_logged made) (is_installed made) plain logs)
+    by (inr (inr fault)) = let installs : is_installed made ≡ true = subst (λ (r : Reply). is_installed r ≡ true) is fault.1 in absurd (nor_of (is_logged made) (is_installed made) plain installs)
+
+-- likewise where the plan says it
+said : {client : Client} {c : Command} {answer : Reply} (s : Scene client c answer) (made : Reply) → plan (front s) client c ≡ Say made → may_fail made ≡ false → answer ≡ made
+said {client = client} s made is plain = answered s made (ap (reply_to (store_in s) client) is) plain
 
 pub say_refused : {client : Client} {c : Command} {answer : Reply} (s : Scene client c answer) (made : Reply) → plan (front s) client c ≡ Say made → may_fail made ≡ false → refusal_of client c ≡ Some made → IsAllowed s
 say_refused {client = client} {c = c} {answer = answer} s made is plain refused = subst (λ (o : Option Reply). UnlessRefused o answer (RowOf s answer)) (sym refused) (said s made is plain)
@@ -116,6 +120,9 @@ by_row {client = client} {c = c} {answer = answer} s free row = subst (λ (o : O
 
 pub say_allowed : {client : Client} {c : Command} {answer : Reply} (s : Scene client c answer) (made : Reply) → plan (front s) client c ≡ Say made → may_fail made ≡ false → refusal_of client c ≡ None → RowOf s made → IsAllowed s
 say_allowed s made is plain free row = by_row s free (subst (RowOf s) (sym (said s made is plain)) row)
+
+pub board_allowed : {client : Client} {c : Command} {answer : Reply} (s : Scene client c answer) (made : Reply) → due (store_in s) client c ≡ made → may_fail made ≡ false → refusal_of client c ≡ None → RowOf s made → IsAllowed s
+board_allowed s made is plain free row = by_row s free (subst (RowOf s) (sym (answered s made is plain)) row)
 
 -- a reply that acknowledges entries tells of no edit
 logged_or_installed : (k : Kind) → says_logged k ≡ true → says_installed k ≡ true → ⊥
@@ -171,7 +178,7 @@ entries_in {client = client} {c = c} s p made is logs answered =
 
 -- a plan with one entry
 pub one_allowed : {client : Client} {c : Command} {answer : Reply} (s : Scene client c answer) (e : Entry) (made : Reply) → plan (front s) client c ≡ Log e made → is_logged made ≡ true → refusal_of client c ≡ None → needed client.txn c ≡ 1 → AsksFor client.txn c (e ∷ [])
-    → (IsLoggedAt s.evidence.history s.last (next (front s)) e → RowOf s made) → IsAllowed s
+    → (IsLoggedAt s.evidence.history s.progress.last (next (front s)) e → RowOf s made) → IsAllowed s
 one_allowed {client = client} {c = c} s e made is logs free needs asks row =
     log_allowed s 1 made free needs (omega arith) (subst (AsksFor client.txn c) (sym (ap asked_of is)) asks) (ap (reply_to (store_in s) client) is) logs (λ answered.
     let all = entries_in s (Log e made) made is logs answered in

@@ -17,7 +17,8 @@ use Rattle.wp_session.specs.declared.client.Txn.{Txn}
 use Rattle.wp_session.specs.declared.client.Txn.TheVariants.{Idle, Open, Prepared}
 use Rattle.wp_session.specs.Client.{Client, number_of, has_no_room}
 use Rattle.wp_session.specs.After.{after_reply}
-use Rattle.wp_session.specs.Kind.{Plain, kind, number_of_kind, numbers_logged, acknowledged, fresh_in, last_after, tables_after}
+use Rattle.wp_session.specs.Kind.{Plain, kind, number_of_kind, numbers_logged, acknowledged, fresh_in, last_after}
+use Rattle.wp_session.specs.Progress.{Progress, progress_after}
 use Rattle.wp_session.specs.Replies.{Evidence, refuses_change, unless_idle, unless_open, unless_prepared, if_idle, unless_labelled, refuses_label, refusal_of, IsFresh, IsLoggedAt, PreparesAt, CommitsAt, RollsBackAt, Row, UnlessRefused, Allows}
 use Rattle.wp_session.specs.Session.{IsSession}
 use Rattle.wp_session.specs.Laws.{ReadsValue, AreReads, NeverFall, AsksLog, AreAsked, Takes, AreLogged}
@@ -64,6 +65,8 @@ refusal_plain client command.Leave = (idle_plain client.txn).2
 refusal_plain client (command.Take name) = (idle_plain client.txn).0
 refusal_plain client command.Flush = tt
 refusal_plain client command.Compact = tt
+refusal_plain client (command.Tell label) = tt
+refusal_plain client (command.Hear label) = tt
 
 -- what is true by the row, and where the reply speaks of no entry
 allowed_gives : (Q : Type 0) (refusal : Option Reply) (r : Reply) (row : Type 0) → IsPlainIfSome refusal → (row → Q) → (kind r ≡ Plain → Q) → UnlessRefused refusal r row → Q
@@ -72,20 +75,20 @@ allowed_gives Q (Some refusal) r row plain by_row by_kind allowed = by_kind (ap 
 
 -- ---- reads
 
-allowed_read : (e : Evidence) (last tables : ℕ) (client : Client) (p : ℕ) (c : Command) (r : Reply) → Allows e last tables client p c r → ReadsValue e.history last client.snapshots c r
-allowed_read e last tables client p (command.Get key) (reply.Got value n) a = (a.1, a.2)
-allowed_read e last tables client p (command.Get key) (reply.Missing n) a = (a.1, a.2)
-allowed_read e last tables client p (command.GetAt key label) (reply.Got value n) a = allowed_gives _ (unless_labelled (number_of client.snapshots label) label) (reply.Got value n) _ (labelled_plain (number_of client.snapshots label) label) (λ row. (row.0.0, row.0.1, row.1)) (λ plain. absurd cc) a
-allowed_read e last tables client p (command.GetAt key label) (reply.Missing n) a = allowed_gives _ (unless_labelled (number_of client.snapshots label) label) (reply.Missing n) _ (labelled_plain (number_of client.snapshots label) label) (λ row. (row.0.0, row.0.1, row.1)) (λ plain. absurd cc) a
-allowed_read e last tables client p c r a = tt
+allowed_read : (e : Evidence) (progress : Progress) (client : Client) (p : ℕ) (c : Command) (r : Reply) → Allows e progress client p c r → ReadsValue e.history progress.last client.snapshots c r
+allowed_read e progress client p (command.Get key) (reply.Got value n) a = (a.1, a.2)
+allowed_read e progress client p (command.Get key) (reply.Missing n) a = (a.1, a.2)
+allowed_read e progress client p (command.GetAt key label) (reply.Got value n) a = allowed_gives _ (unless_labelled (number_of client.snapshots label) label) (reply.Got value n) _ (labelled_plain (number_of client.snapshots label) label) (λ row. (row.0.0, row.0.1, row.1)) (λ plain. absurd cc) a
+allowed_read e progress client p (command.GetAt key label) (reply.Missing n) a = allowed_gives _ (unless_labelled (number_of client.snapshots label) label) (reply.Missing n) _ (labelled_plain (number_of client.snapshots label) label) (λ row. (row.0.0, row.0.1, row.1)) (λ plain. absurd cc) a
+allowed_read e progress client p c r a = tt
 
-pub session_reads : (e : Evidence) (last tables : ℕ) (client : Client) (cs : List Command) (rs : List Reply) → IsSession e last tables client cs rs → AreReads e.history last client.snapshots cs rs
-session_reads e last tables client [] [] s = tt
-session_reads e last tables client [] (r ∷ rs) s = tt
-session_reads e last tables client (c ∷ cs) [] s = tt
-session_reads e last tables client (c ∷ cs) (r ∷ rs) (p, allowed, rest) = (
-  allowed_read e last tables client p c r allowed,
-  subst (λ (snapshots : List LabelledSnapshot). AreReads e.history (last_after last c r) snapshots cs rs) (snapshots_after p client c r) (session_reads e (last_after last c r) (tables_after tables r) (after_reply p client c r) cs rs rest),
+pub session_reads : (e : Evidence) (progress : Progress) (client : Client) (cs : List Command) (rs : List Reply) → IsSession e progress client cs rs → AreReads e.history progress.last client.snapshots cs rs
+session_reads e progress client [] [] s = tt
+session_reads e progress client [] (r ∷ rs) s = tt
+session_reads e progress client (c ∷ cs) [] s = tt
+session_reads e progress client (c ∷ cs) (r ∷ rs) (p, allowed, rest) = (
+  allowed_read e progress client p c r allowed,
+  subst (λ (snapshots : List LabelledSnapshot). AreReads e.history (last_after progress.last c r) snapshots cs rs) (snapshots_after p client c r) (session_reads e (progress_after progress c r) (after_reply p client c r) cs rs rest),
 )
 
 -- ---- numbers
@@ -110,33 +113,35 @@ rolls_fresh : (h : List Entry) (last : ℕ) (txn : Txn) (n : ℕ) → RollsBackA
 rolls_fresh h last (Prepared p) n l = logged_fresh h last n _ l.0
 rolls_fresh h last _ n l = absurd l
 
-row_fresh : (e : Evidence) (last tables : ℕ) (client : Client) (p : ℕ) (c : Command) (r : Reply) → Row e last tables client p c r → IfSome (fresh_in c r) (IsFresh e.history last)
-row_fresh e last tables client p (command.Put key value) (reply.Put n) k = logged_fresh e.history last n _ k.1
-row_fresh e last tables client p (command.Del key) (reply.Del n) k = logged_fresh e.history last n _ k.1
-row_fresh e last tables client p (command.Get key) (reply.Got value n) k = k.1
-row_fresh e last tables client p (command.Get key) (reply.Missing n) k = k.1
-row_fresh e last tables client p (command.GetAt key label) r k = tt
-row_fresh e last tables client p (command.Snap label) (reply.Snapped n) k = k
-row_fresh e last tables client p command.Prepare (reply.Prepared n) k = prepares_fresh e.history last client.txn n k
-row_fresh e last tables client p command.Commit (reply.Committed n) k = commits_fresh e.history last client.txn n k
-row_fresh e last tables client p command.Rollback (reply.RolledBack n) k = rolls_fresh e.history last client.txn n k
-row_fresh e last tables client p (command.Take name) (reply.Unknown other n) k = k.1
-row_fresh e last tables client p command.Flush (reply.Flushed n versions) k = k.0
-row_fresh e last tables client p command.Compact (reply.Compacted n versions) k = k.0
-row_fresh e last tables client p c reply.Held k = tt
-row_fresh e last tables client p c r k = first_of (search rules, cc)
+row_fresh : (e : Evidence) (progress : Progress) (client : Client) (p : ℕ) (c : Command) (r : Reply) → Row e progress client p c r → IfSome (fresh_in c r) (IsFresh e.history progress.last)
+row_fresh e progress client p (command.Put key value) (reply.Put n) k = logged_fresh e.history progress.last n _ k.1
+row_fresh e progress client p (command.Del key) (reply.Del n) k = logged_fresh e.history progress.last n _ k.1
+row_fresh e progress client p (command.Get key) (reply.Got value n) k = k.1
+row_fresh e progress client p (command.Get key) (reply.Missing n) k = k.1
+row_fresh e progress client p (command.GetAt key label) r k = tt
+row_fresh e progress client p (command.Snap label) (reply.Snapped n) k = k
+row_fresh e progress client p command.Prepare (reply.Prepared n) k = prepares_fresh e.history progress.last client.txn n k
+row_fresh e progress client p command.Commit (reply.Committed n) k = commits_fresh e.history progress.last client.txn n k
+row_fresh e progress client p command.Rollback (reply.RolledBack n) k = rolls_fresh e.history progress.last client.txn n k
+row_fresh e progress client p (command.Take name) (reply.Unknown other n) k = k.1
+row_fresh e progress client p command.Flush (reply.Flushed n versions) k = k.0
+row_fresh e progress client p command.Compact (reply.Compacted n versions) k = k.0
+row_fresh e progress client p (command.Tell label) (reply.Told n) k = k
+row_fresh e progress client p (command.Hear label) (reply.Heard n) k = k.0
+row_fresh e progress client p c reply.Held k = tt
+row_fresh e progress client p c r k = first_of (search rules, cc)
 
 fresh_none : (h : List Entry) (last : ℕ) (c : Command) (r : Reply) → kind r ≡ Plain → IfSome (fresh_in c r) (IsFresh h last)
 fresh_none h last (command.GetAt key label) r plain = tt
 fresh_none h last c r plain = subst (λ (o : Option ℕ). IfSome o (IsFresh h last)) (sym (ap number_of_kind plain)) tt
 
-pub session_numbers : (e : Evidence) (last tables : ℕ) (client : Client) (cs : List Command) (rs : List Reply) → IsSession e last tables client cs rs → NeverFall e.history last cs rs
-session_numbers e last tables client [] [] s = tt
-session_numbers e last tables client [] (r ∷ rs) s = tt
-session_numbers e last tables client (c ∷ cs) [] s = tt
-session_numbers e last tables client (c ∷ cs) (r ∷ rs) (p, allowed, rest) = (
-  allowed_gives _ (refusal_of client c) r _ (refusal_plain client c) (row_fresh e last tables client p c r) (fresh_none e.history last c r) allowed,
-  session_numbers e (last_after last c r) (tables_after tables r) (after_reply p client c r) cs rs rest,
+pub session_numbers : (e : Evidence) (progress : Progress) (client : Client) (cs : List Command) (rs : List Reply) → IsSession e progress client cs rs → NeverFall e.history progress.last cs rs
+session_numbers e progress client [] [] s = tt
+session_numbers e progress client [] (r ∷ rs) s = tt
+session_numbers e progress client (c ∷ cs) [] s = tt
+session_numbers e progress client (c ∷ cs) (r ∷ rs) (p, allowed, rest) = (
+  allowed_gives _ (refusal_of client c) r _ (refusal_plain client c) (row_fresh e progress client p c r) (fresh_none e.history progress.last c r) allowed,
+  session_numbers e (progress_after progress c r) (after_reply p client c r) cs rs rest,
 )
 
 -- ---- entries
@@ -154,14 +159,14 @@ rolls_asked : (h : List Entry) (last : ℕ) (txn : Txn) (n : ℕ) → RollsBackA
 rolls_asked h last (Prepared p) n (closed, (batch, undone)) = ((_, undone, inr (batch, refl)), ((_, closed, inl refl), tt))
 rolls_asked h last _ n l = absurd l
 
-row_asked : (e : Evidence) (last tables : ℕ) (client : Client) (p : ℕ) (c : Command) (r : Reply) → Row e last tables client p c r → AreAsked e.history last client.txn c (acknowledged r)
-row_asked e last tables client p (command.Put key value) (reply.Put n) k = ((entry.Write (change.Put key value ∷ []), k.1, subst (λ (t : Txn). AsksLog t (command.Put key value) (entry.Write (change.Put key value ∷ []))) (sym k.0) refl), tt)
-row_asked e last tables client p (command.Del key) (reply.Del n) k = ((entry.Write (change.Del key ∷ []), k.1, subst (λ (t : Txn). AsksLog t (command.Del key) (entry.Write (change.Del key ∷ []))) (sym k.0) refl), tt)
-row_asked e last tables client p command.Prepare (reply.Prepared n) k = prepares_asked e.history last client.txn n k
-row_asked e last tables client p command.Commit (reply.Committed n) k = commits_asked e.history last client.txn n k
-row_asked e last tables client p command.Rollback (reply.RolledBack n) k = rolls_asked e.history last client.txn n k
-row_asked e last tables client p c reply.Held k = tt
-row_asked e last tables client p c r k = first_of (search rules, cc)
+row_asked : (e : Evidence) (progress : Progress) (client : Client) (p : ℕ) (c : Command) (r : Reply) → Row e progress client p c r → AreAsked e.history progress.last client.txn c (acknowledged r)
+row_asked e progress client p (command.Put key value) (reply.Put n) k = ((entry.Write (change.Put key value ∷ []), k.1, subst (λ (t : Txn). AsksLog t (command.Put key value) (entry.Write (change.Put key value ∷ []))) (sym k.0) refl), tt)
+row_asked e progress client p (command.Del key) (reply.Del n) k = ((entry.Write (change.Del key ∷ []), k.1, subst (λ (t : Txn). AsksLog t (command.Del key) (entry.Write (change.Del key ∷ []))) (sym k.0) refl), tt)
+row_asked e progress client p command.Prepare (reply.Prepared n) k = prepares_asked e.history progress.last client.txn n k
+row_asked e progress client p command.Commit (reply.Committed n) k = commits_asked e.history progress.last client.txn n k
+row_asked e progress client p command.Rollback (reply.RolledBack n) k = rolls_asked e.history progress.last client.txn n k
+row_asked e progress client p c reply.Held k = tt
+row_asked e progress client p c r k = first_of (search rules, cc)
 
 asked_none : (h : List Entry) (last : ℕ) (txn : Txn) (c : Command) (r : Reply) → kind r ≡ Plain → AreAsked h last txn c (acknowledged r)
 asked_none h last txn c r plain = subst (AreAsked h last txn c) (sym (ap numbers_logged plain)) tt
@@ -172,15 +177,15 @@ took_by_row Idle row a = a
 took_by_row (Open name batch) row a = absurd cc
 took_by_row (Prepared p) row a = absurd cc
 
-allowed_takes : (e : Evidence) (last tables : ℕ) (client : Client) (p : ℕ) (c : Command) (r : Reply) → Allows e last tables client p c r → Takes e.history last p c r
-allowed_takes e last tables client p (command.Take name) reply.Took a = took_by_row client.txn _ a
-allowed_takes e last tables client p c r a = tt
+allowed_takes : (e : Evidence) (progress : Progress) (client : Client) (p : ℕ) (c : Command) (r : Reply) → Allows e progress client p c r → Takes e.history progress.last p c r
+allowed_takes e progress client p (command.Take name) reply.Took a = took_by_row client.txn _ a
+allowed_takes e progress client p c r a = tt
 
-pub session_logged : (e : Evidence) (last tables : ℕ) (client : Client) (cs : List Command) (rs : List Reply) → IsSession e last tables client cs rs → AreLogged e.history last client cs rs
-session_logged e last tables client [] [] s = tt
-session_logged e last tables client [] (r ∷ rs) s = tt
-session_logged e last tables client (c ∷ cs) [] s = tt
-session_logged e last tables client (c ∷ cs) (r ∷ rs) (p, allowed, rest) = (
-  allowed_gives _ (refusal_of client c) r _ (refusal_plain client c) (row_asked e last tables client p c r) (asked_none e.history last client.txn c r) allowed,
-  (p, allowed_takes e last tables client p c r allowed, session_logged e (last_after last c r) (tables_after tables r) (after_reply p client c r) cs rs rest),
+pub session_logged : (e : Evidence) (progress : Progress) (client : Client) (cs : List Command) (rs : List Reply) → IsSession e progress client cs rs → AreLogged e.history progress.last client cs rs
+session_logged e progress client [] [] s = tt
+session_logged e progress client [] (r ∷ rs) s = tt
+session_logged e progress client (c ∷ cs) [] s = tt
+session_logged e progress client (c ∷ cs) (r ∷ rs) (p, allowed, rest) = (
+  allowed_gives _ (refusal_of client c) r _ (refusal_plain client c) (row_asked e progress client p c r) (asked_none e.history progress.last client.txn c r) allowed,
+  (p, allowed_takes e progress client p c r allowed, session_logged e (progress_after progress c r) (after_reply p client c r) cs rs rest),
 )

@@ -1,15 +1,17 @@
 -- What a command is answered over a store, and what it leaves of the store and of the client.
-use Rattle.std.specs.Prelude.{◌≡◌, ◌⊎◌, ℕ, ◌+◌, Bool, true, nat_lt, List, [], ◌∷◌, ◌++◌, length, unwrap_or, if◌then◌else◌}
+use Rattle.std.specs.Prelude.{◌≡◌, ◌⊎◌, ℕ, ◌+◌, Bool, true, nat_lt, List, [], ◌∷◌, ◌++◌, length, Option, Some, None, unwrap_or, if◌then◌else◌}
+use Rattle.std.specs.FinMap as map
 use Rattle.wp_model.specs.declared.entry.Entry.{Entry}
 use Rattle.wp_model.specs.declared.version.Version.{Version}
 use Rattle.wp_model.specs.Flushed.{InstalledEdit}
 use Rattle.wp_model.specs.History.{named}
+use Rattle.wp_model.specs.LockTables.{Labels}
 use Rattle.wp_text.specs.declared.script.Command.{Command}
 use Rattle.wp_text.specs.declared.script.Command.TheVariants as command
 use Rattle.wp_text.specs.declared.reply.Reply.{Reply}
 use Rattle.wp_text.specs.declared.reply.Reply.TheVariants as reply
 use Rattle.wp_session.specs.declared.plan.Plan.{Plan}
-use Rattle.wp_session.specs.declared.plan.Plan.TheVariants.{Say, Log, RollBack, Flush, Compact}
+use Rattle.wp_session.specs.declared.plan.Plan.TheVariants.{Say, Log, RollBack, Flush, Compact, Tell, Hear}
 use Rattle.wp_session.specs.Client.{Client, numbers_of}
 use Rattle.wp_session.specs.After.{after_reply}
 use Rattle.wp_session.specs.Kind.{is_logged, is_fault, is_installed, is_tables_fault}
@@ -23,6 +25,7 @@ pub record Store : Type 0 where
   pub limit : ℕ  -- the greatest number of an entry
   pub installed : InstalledEdit  -- the last edit of the tables
   pub halted : Bool  -- the manifest's device or the tables' has failed
+  pub board : Labels  -- what was told last under each label
 
 -- ---- the reply
 
@@ -47,12 +50,19 @@ compacted store snapshots =
     if nat_lt store.installed.tables 2 then reply.Nothing
     else reply.Compacted (length store.history) (length (retained store.history snapshots store.installed))
 
+-- what is heard of a label with this number, or with none
+abbrev pub heard : ℕ → Option ℕ → List ℕ → Reply
+heard published (Some told) label = reply.Heard published
+heard published None label = reply.Silent label
+
 abbrev pub reply_to : Store → Client → Plan → Reply
 reply_to store client (Say answer) = answer
 reply_to store client (Log entry answer) = logged store (length (asked_of (Log entry answer))) answer
 reply_to store client (RollBack p batch answer) = logged store (length (asked_of (RollBack p batch answer))) answer
 reply_to store client Flush = unless_halted store (flushed (length store.history) (unflushed store.history store.installed))
 reply_to store client Compact = unless_halted store (compacted store (numbers_of client.snapshots))
+reply_to store client (Tell label) = reply.Told (length store.history)
+reply_to store client (Hear label) = heard (length store.history) (map.get store.board label) label
 
 -- the reply that is due where no device fails
 abbrev pub due : Store → Client → Command → Reply
@@ -82,12 +92,18 @@ edit_of store client other = store.installed
 abbrev pub installed_edit : Store → Client → Command → Reply → InstalledEdit
 installed_edit store client command answer = if is_installed answer then edit_of store client (plan store.history client command) else store.installed
 
+-- the board once the reply is given: what was told takes the place of what the label had
+abbrev pub board_after : Labels → Command → Reply → Labels
+board_after board (command.Tell label) (reply.Told n) = map.insert board label n
+board_after board command answer = board
+
 abbrev pub store_after : Store → Client → Command → Reply → Store
 store_after store client command answer = record store {
   history = store.history ++ logged_entries store client command answer;
   stopped = if is_fault answer then true else store.stopped;
   installed = installed_edit store client command answer;
   halted = if is_tables_fault answer then true else store.halted;
+  board = board_after store.board command answer;
 }
 
 -- the prepare that a command takes

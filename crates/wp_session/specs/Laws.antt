@@ -15,6 +15,7 @@ use Rattle.wp_session.specs.declared.client.Txn.TheVariants.{Idle, Open, Prepare
 use Rattle.wp_session.specs.Client.{Client, new_client, number_of}
 use Rattle.wp_session.specs.After.{labels_after, after_reply}
 use Rattle.wp_session.specs.Kind.{acknowledged, fresh_in, last_after}
+use Rattle.wp_session.specs.Progress.{Progress}
 use Rattle.wp_session.specs.Replies.{Claim, Evidence, IsKnown, IsFresh, IsLoggedAt, WasUndecided}
 use Rattle.wp_session.specs.Moments.{AreDueFrom}
 use Rattle.wp_session.specs.Session.{IsSession}
@@ -23,17 +24,17 @@ use Rattle.wp_session.specs.Session.{IsSession}
 
 -- A session stays one as the history grows, and as more is known of the others.
 abbrev pub SessionGrows : Type 0
-SessionGrows = (evidence : Evidence) (more : List Entry) (later : Claim → Bool) (last tables : ℕ) (client : Client) (commands : List Command) (answers : List Reply)
+SessionGrows = (evidence : Evidence) (more : List Entry) (later : Claim → Bool) (progress : Progress) (client : Client) (commands : List Command) (answers : List Reply)
     → ((claim : Claim) → IsKnown evidence claim → later claim ≡ true)
-    → IsSession evidence last tables client commands answers
-    → IsSession (record evidence { history = evidence.history ++ more; known = later }) last tables client commands answers
+    → IsSession evidence progress client commands answers
+    → IsSession (record evidence { history = evidence.history ++ more; known = later }) progress client commands answers
 
 -- Replies that are due at moments of the history, one after another, are a session, where what is known of the others
 -- fits the devices at these moments.
 abbrev pub DueIsSession : Type 0
-DueIsSession = (evidence : Evidence) (last from tables : ℕ) (commands : List Command) (answers : List Reply)
-    → last ≤ from → AreDueFrom evidence from tables new_client commands answers
-    → IsSession evidence last tables new_client commands answers
+DueIsSession = (evidence : Evidence) (from : ℕ) (progress : Progress) (commands : List Command) (answers : List Reply)
+    → progress.last ≤ from → AreDueFrom evidence from progress new_client commands answers
+    → IsSession evidence progress new_client commands answers
 
 -- ---- reads
 
@@ -52,9 +53,9 @@ AreReads history last snapshots commands answers = Unit {0}
 
 -- The reads of a session are values of the history.
 abbrev pub ReadsAreValues : Type 0
-ReadsAreValues = (evidence : Evidence) (last tables : ℕ) (client : Client) (commands : List Command) (answers : List Reply)
-    → IsSession evidence last tables client commands answers
-    → AreReads evidence.history last client.snapshots commands answers
+ReadsAreValues = (evidence : Evidence) (progress : Progress) (client : Client) (commands : List Command) (answers : List Reply)
+    → IsSession evidence progress client commands answers
+    → AreReads evidence.history progress.last client.snapshots commands answers
 
 -- ---- numbers
 
@@ -64,9 +65,9 @@ NeverFall history last (first ∷ commands) (answer ∷ answers) = IfSome (fresh
 NeverFall history last commands answers = Unit {0}
 
 abbrev pub FreshNumbersNeverFall : Type 0
-FreshNumbersNeverFall = (evidence : Evidence) (last tables : ℕ) (client : Client) (commands : List Command) (answers : List Reply)
-    → IsSession evidence last tables client commands answers
-    → NeverFall evidence.history last commands answers
+FreshNumbersNeverFall = (evidence : Evidence) (progress : Progress) (client : Client) (commands : List Command) (answers : List Reply)
+    → IsSession evidence progress client commands answers
+    → NeverFall evidence.history progress.last commands answers
 
 -- ---- entries
 
@@ -96,6 +97,6 @@ AreLogged history last client (first ∷ commands) (answer ∷ answers) = AreAsk
 AreLogged history last client commands answers = Unit {0}
 
 abbrev pub AcknowledgedAreLogged : Type 0
-AcknowledgedAreLogged = (evidence : Evidence) (last tables : ℕ) (client : Client) (commands : List Command) (answers : List Reply)
-    → IsSession evidence last tables client commands answers
-    → AreLogged evidence.history last client commands answers
+AcknowledgedAreLogged = (evidence : Evidence) (progress : Progress) (client : Client) (commands : List Command) (answers : List Reply)
+    → IsSession evidence progress client commands answers
+    → AreLogged evidence.history progress.last client commands answers

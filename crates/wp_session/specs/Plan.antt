@@ -1,10 +1,11 @@
 -- What a command comes to where nobody else changes the store: exactly one reply, or the entries that the log is asked to
--- take and the reply that acknowledges them, or a change of the tables.
+-- take and the reply that acknowledges them, or a change of the tables, or the board.
 use Rattle.std.specs.Prelude.{ℕ, ◌+◌, List, [], ◌∷◌, length, Option, Some, None, unwrap_or}
 use Rattle.wp_model.specs.declared.change.Change.{Change}
 use Rattle.wp_model.specs.declared.change.Change.TheVariants as change
 use Rattle.wp_model.specs.declared.entry.Entry.{Entry}
 use Rattle.wp_model.specs.declared.entry.Entry.TheVariants as entry
+use Rattle.wp_model.specs.declared.holder.Holder.TheVariants as holder
 use Rattle.wp_model.specs.Batch.{key_of, change_to}
 use Rattle.wp_model.specs.History.{name_at, batch_at, named, holder_of, value_at}
 use Rattle.wp_model.specs.Legal.{prior}
@@ -16,7 +17,7 @@ use Rattle.wp_session.specs.declared.client.LabelledSnapshot.{LabelledSnapshot}
 use Rattle.wp_session.specs.declared.client.Txn.{Txn}
 use Rattle.wp_session.specs.declared.client.Txn.TheVariants.{Idle, Open, Prepared}
 use Rattle.wp_session.specs.declared.plan.Plan.{Plan}
-use Rattle.wp_session.specs.declared.plan.Plan.TheVariants.{Say, Log, RollBack, Flush, Compact}
+use Rattle.wp_session.specs.declared.plan.Plan.TheVariants.{Say, Log, RollBack, Flush, Compact, Tell, Hear}
 use Rattle.wp_session.specs.Client.{Client, own_batch, number_of}
 use Rattle.wp_session.specs.Replies.{refuses_change, unless_idle, unless_prepared, unless_labelled, refuses_label}
 
@@ -34,7 +35,7 @@ refused_or (Some refusal) plan = Say refusal
 -- busy, where an undecided prepare holds the key
 abbrev pub busy_or : List Entry → Option ℕ → Plan → Plan
 busy_or history None plan = plan
-busy_or history (Some p) plan = Say (reply.Busy (name_at history p))
+busy_or history (Some p) plan = Say (reply.Busy (holder.Txn (name_at history p)))
 
 abbrev pub unless_busy : List Entry → List ℕ → Plan → Plan
 unless_busy history key plan = busy_or history (holder_of history key) plan
@@ -124,6 +125,8 @@ plan history client command.Leave = leave_plan client.txn
 plan history client (command.Take name) = take_plan history client.txn name
 plan history client command.Flush = Flush
 plan history client command.Compact = Compact
+plan history client (command.Tell label) = Tell label
+plan history client (command.Hear label) = Hear label
 
 -- the entries that it asks the log to take, as one record
 abbrev pub asked_of : Plan → List Entry

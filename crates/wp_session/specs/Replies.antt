@@ -1,11 +1,13 @@
 -- The table of replies: each reply is given only where its row says so, over a history, with what is known of the other
 -- clients. Each row stays true as the history grows, and as more is known of the others.
-use Rattle.std.specs.Prelude.{◌≡◌, ◌⊎◌, ℕ, ◌+◌, ◌-◌, ◌<◌, ◌≤◌, ◌==◌, Bool, true, nat_le, List, [], ◌∷◌, length, take, Option, Some, None, is_some, if◌then◌else◌}
+use Rattle.std.specs.Prelude.{◌≡◌, ◌⊎◌, ℕ, ◌+◌, ◌-◌, ◌<◌, ◌≤◌, ◌==◌, Bool, true, false, nat_le, List, [], ◌∷◌, length, take, Option, Some, None, is_some, if◌then◌else◌}
 use Rattle.std.specs.List.{list_any}
 use Rattle.wp_model.specs.declared.change.Change.{Change}
 use Rattle.wp_model.specs.declared.change.Change.TheVariants as change
 use Rattle.wp_model.specs.declared.entry.Entry.{Entry}
 use Rattle.wp_model.specs.declared.entry.Entry.TheVariants as entry
+use Rattle.wp_model.specs.declared.holder.Holder.{Holder}
+use Rattle.wp_model.specs.declared.holder.Holder.TheVariants as holder
 use Rattle.wp_model.specs.Batch.{change_to}
 use Rattle.wp_model.specs.Flushed.{InstalledEdit, later_versions}
 use Rattle.wp_model.specs.History.{entry_at, name_at, batch_at, is_undecided, is_changed, named, value_at}
@@ -18,6 +20,7 @@ use Rattle.wp_session.specs.declared.client.LabelledSnapshot.{LabelledSnapshot}
 use Rattle.wp_session.specs.declared.client.Txn.{Txn}
 use Rattle.wp_session.specs.declared.client.Txn.TheVariants.{Idle, Open, Prepared}
 use Rattle.wp_session.specs.Client.{Client, number_of, numbers_of, own_batch, has_no_room}
+use Rattle.wp_session.specs.Progress.{Progress, knows_label}
 use Rattle.wp_session.specs.Tables.{unflushed, after_flush, after_compaction}
 
 -- ---- what is known of the others
@@ -25,7 +28,9 @@ use Rattle.wp_session.specs.Tables.{unflushed, after_flush, after_compaction}
 -- what a row may say of the other clients, of the log and of the tables
 pub data Claim : Type 0 where
   HasName : List ℕ → Claim  -- another client was answered `begun` or `took` for the name
-  HasKey : List ℕ → List ℕ → Claim  -- another client's transaction of this name has the key in its batch
+  HasKey : List ℕ → List ℕ → Claim  -- the transaction of this name has the key: a client was answered `held` in it for the key, or it was undecided at opening
+  WritesKey : List ℕ → List ℕ → Claim  -- another client, of this name, came to write the key at once
+  WasTold : List ℕ → ℕ → Claim  -- a client was answered `told` for the label, with a number of at most this
   LogFailed : ℕ → Claim  -- the log failed, and so many entries are all of the history
   WasFlushed : ℕ → Claim  -- this was the flushed number at opening, or a client was answered `flushed` with it
   TablesFailed : Claim  -- a client was answered `fault tables`
@@ -94,6 +99,8 @@ refusal_of client command.Leave = unless_prepared client.txn
 refusal_of client (command.Take name) = unless_idle client.txn
 refusal_of client command.Flush = None
 refusal_of client command.Compact = None
+refusal_of client (command.Tell label) = None
+refusal_of client (command.Hear label) = None
 
 -- ---- what a row says of the history
 
@@ -113,9 +120,12 @@ pub record WasUndecided (history : List Entry) (last : ℕ) (name : List ℕ) (p
   pub undecided : is_undecided (take at history) p ≡ true
   pub named : name_at (take at history) p ≡ name
 
--- the transaction of that name has the key in its batch: it was undecided, or it is another client's
-abbrev pub IsBusy : Evidence → ℕ → List ℕ → List ℕ → Type 0
-IsBusy evidence last key name = ((p : ℕ) × (was : WasUndecided evidence.history last name p) × (is_changed (batch_at (take was.at evidence.history) p) key ≡ true)) ⊎ IsKnown evidence (HasKey name key)
+-- the transaction has the key in its batch, and was undecided or is another client's; or the other client writes the key
+abbrev pub IsBusy : Evidence → ℕ → List ℕ → Holder → Type 0
+IsBusy evidence last key (holder.Txn name) =
+    ((p : ℕ) × (was : WasUndecided evidence.history last name p) × (is_changed (batch_at (take was.at evidence.history) p) key ≡ true))
+    ⊎ (IsKnown evidence (HasName name) × IsKnown evidence (HasKey name key))
+IsBusy evidence last key (holder.Client name) = IsKnown evidence (WritesKey name key)
 
 -- the name was that of an undecided prepare, or it is another client's
 abbrev pub IsNameTaken : Evidence → ℕ → List ℕ → Type 0
@@ -219,45 +229,48 @@ IsHaltedAt evidence flushed = IsKnown evidence (WasFlushed flushed) × IsKnown e
 
 -- ---- the rows
 
--- A row for each command and reply. Last is the greatest fresh number so far, tables is how many tables the client knows
--- of, and `took` gives the prepare with the number p. Of `held`, `freed`, `begun`, `dropped` and `left` the client's state
--- alone decides.
-abbrev pub Row : Evidence → ℕ → ℕ → Client → ℕ → Command → Reply → Type 0
-Row evidence last tables client p command (reply.Full published most) = (1 ≤ needed client.txn command) × IsFresh evidence.history last published × (most ≡ evidence.limit) × (evidence.limit < published + needed client.txn command)
-Row evidence last tables client p command reply.FaultLog = AsksFor client.txn command evidence.failed.entries
-Row evidence last tables client p command (reply.Stopped n) = (1 ≤ needed client.txn command) × IsFresh evidence.history last n × IsKnown evidence (LogFailed n)
-Row evidence last tables client p (command.Put key value) (reply.Put n) = (client.txn ≡ Idle) × IsLoggedAt evidence.history last n (entry.Write (change.Put key value ∷ []))
-Row evidence last tables client p (command.Put key value) reply.Held = TxnIsOpen client.txn
-Row evidence last tables client p (command.Put key value) (reply.Busy name) = IsBusy evidence last key name
-Row evidence last tables client p (command.Del key) (reply.Del n) = (client.txn ≡ Idle) × IsLoggedAt evidence.history last n (entry.Write (change.Del key ∷ []))
-Row evidence last tables client p (command.Del key) reply.Held = TxnIsOpen client.txn
-Row evidence last tables client p (command.Del key) (reply.Busy name) = IsBusy evidence last key name
-Row evidence last tables client p (command.Get key) (reply.Got value n) = OwnSays evidence.history client.txn key None × IsFresh evidence.history last n × (value_at evidence.history key n ≡ Some value)
-Row evidence last tables client p (command.Get key) (reply.Missing n) = OwnSays evidence.history client.txn key None × IsFresh evidence.history last n × (value_at evidence.history key n ≡ None)
-Row evidence last tables client p (command.Get key) (reply.GotOwn value) = OwnSays evidence.history client.txn key (Some (Some value))
-Row evidence last tables client p (command.Get key) reply.MissingOwn = OwnSays evidence.history client.txn key (Some None)
-Row evidence last tables client p (command.GetAt key label) (reply.Got value n) = IsSnapshot evidence.history client label n × (value_at evidence.history key n ≡ Some value)
-Row evidence last tables client p (command.GetAt key label) (reply.Missing n) = IsSnapshot evidence.history client label n × (value_at evidence.history key n ≡ None)
-Row evidence last tables client p (command.Snap label) (reply.Snapped n) = IsFresh evidence.history last n
-Row evidence last tables client p (command.Free label) reply.Freed = Unit {0}
-Row evidence last tables client p (command.Begin name) reply.Begun = Unit {0}
-Row evidence last tables client p (command.Begin name) (reply.Taken other) = (other ≡ name) × IsNameTaken evidence last name
-Row evidence last tables client p command.Prepare (reply.Prepared n) = PreparesAt evidence.history last client.txn n
-Row evidence last tables client p command.Commit (reply.Committed n) = CommitsAt evidence.history last client.txn n
-Row evidence last tables client p command.Rollback reply.Dropped = TxnIsOpen client.txn
-Row evidence last tables client p command.Rollback (reply.RolledBack n) = RollsBackAt evidence.history last client.txn n
-Row evidence last tables client p command.Leave reply.Left = Unit {0}
-Row evidence last tables client p (command.Take name) reply.Took = WasUndecided evidence.history last name p
-Row evidence last tables client p (command.Take name) (reply.Unknown other n) = (other ≡ name) × IsFresh evidence.history last n × (named (take n evidence.history) name ≡ None)
-Row evidence last tables client p command.Flush (reply.Flushed n versions) = IsFresh evidence.history last n × (1 ≤ versions) × IsFlushCount evidence n versions
-Row evidence last tables client p command.Flush reply.Nothing = HasNothingToFlush evidence last
-Row evidence last tables client p command.Flush (reply.Halted flushed) = IsHaltedAt evidence flushed
-Row evidence last tables client p command.Flush reply.FaultTables = FailsFlush evidence last
-Row evidence last tables client p command.Compact (reply.Compacted n versions) = IsFresh evidence.history last n × IsCompactionCount evidence.history n versions
-Row evidence last tables client p command.Compact reply.Nothing = HasNothingToMerge evidence tables
-Row evidence last tables client p command.Compact (reply.Halted flushed) = IsHaltedAt evidence flushed
-Row evidence last tables client p command.Compact reply.FaultTables = FailsCompaction evidence last client
-Row evidence last tables client p command answer = ⊥
+-- A row for each command and reply, by what the client knows then; `took` gives the prepare with the number p. Of `held`,
+-- `freed`, `begun`, `dropped` and `left` the client's state alone decides.
+abbrev pub Row : Evidence → Progress → Client → ℕ → Command → Reply → Type 0
+Row evidence progress client p command (reply.Full published most) = (1 ≤ needed client.txn command) × IsFresh evidence.history progress.last published × (most ≡ evidence.limit) × (evidence.limit < published + needed client.txn command)
+Row evidence progress client p command reply.FaultLog = AsksFor client.txn command evidence.failed.entries
+Row evidence progress client p command (reply.Stopped n) = (1 ≤ needed client.txn command) × IsFresh evidence.history progress.last n × IsKnown evidence (LogFailed n)
+Row evidence progress client p (command.Put key value) (reply.Put n) = (client.txn ≡ Idle) × IsLoggedAt evidence.history progress.last n (entry.Write (change.Put key value ∷ []))
+Row evidence progress client p (command.Put key value) reply.Held = TxnIsOpen client.txn
+Row evidence progress client p (command.Put key value) (reply.Busy holder) = IsBusy evidence progress.last key holder
+Row evidence progress client p (command.Del key) (reply.Del n) = (client.txn ≡ Idle) × IsLoggedAt evidence.history progress.last n (entry.Write (change.Del key ∷ []))
+Row evidence progress client p (command.Del key) reply.Held = TxnIsOpen client.txn
+Row evidence progress client p (command.Del key) (reply.Busy holder) = IsBusy evidence progress.last key holder
+Row evidence progress client p (command.Get key) (reply.Got value n) = OwnSays evidence.history client.txn key None × IsFresh evidence.history progress.last n × (value_at evidence.history key n ≡ Some value)
+Row evidence progress client p (command.Get key) (reply.Missing n) = OwnSays evidence.history client.txn key None × IsFresh evidence.history progress.last n × (value_at evidence.history key n ≡ None)
+Row evidence progress client p (command.Get key) (reply.GotOwn value) = OwnSays evidence.history client.txn key (Some (Some value))
+Row evidence progress client p (command.Get key) reply.MissingOwn = OwnSays evidence.history client.txn key (Some None)
+Row evidence progress client p (command.GetAt key label) (reply.Got value n) = IsSnapshot evidence.history client label n × (value_at evidence.history key n ≡ Some value)
+Row evidence progress client p (command.GetAt key label) (reply.Missing n) = IsSnapshot evidence.history client label n × (value_at evidence.history key n ≡ None)
+Row evidence progress client p (command.Snap label) (reply.Snapped n) = IsFresh evidence.history progress.last n
+Row evidence progress client p (command.Free label) reply.Freed = Unit {0}
+Row evidence progress client p (command.Begin name) reply.Begun = Unit {0}
+Row evidence progress client p (command.Begin name) (reply.Taken other) = (other ≡ name) × IsNameTaken evidence progress.last name
+Row evidence progress client p command.Prepare (reply.Prepared n) = PreparesAt evidence.history progress.last client.txn n
+Row evidence progress client p command.Commit (reply.Committed n) = CommitsAt evidence.history progress.last client.txn n
+Row evidence progress client p command.Rollback reply.Dropped = TxnIsOpen client.txn
+Row evidence progress client p command.Rollback (reply.RolledBack n) = RollsBackAt evidence.history progress.last client.txn n
+Row evidence progress client p command.Leave reply.Left = Unit {0}
+Row evidence progress client p (command.Take name) reply.Took = WasUndecided evidence.history progress.last name p
+Row evidence progress client p (command.Take name) (reply.Unknown other n) = (other ≡ name) × IsFresh evidence.history progress.last n × (named (take n evidence.history) name ≡ None)
+Row evidence progress client p (command.Take name) (reply.InUse other) = (other ≡ name) × IsKnown evidence (HasName name)
+Row evidence progress client p command.Flush (reply.Flushed n versions) = IsFresh evidence.history progress.last n × (1 ≤ versions) × IsFlushCount evidence n versions
+Row evidence progress client p command.Flush reply.Nothing = HasNothingToFlush evidence progress.last
+Row evidence progress client p command.Flush (reply.Halted flushed) = IsHaltedAt evidence flushed
+Row evidence progress client p command.Flush reply.FaultTables = FailsFlush evidence progress.last
+Row evidence progress client p command.Compact (reply.Compacted n versions) = IsFresh evidence.history progress.last n × IsCompactionCount evidence.history n versions
+Row evidence progress client p command.Compact reply.Nothing = HasNothingToMerge evidence progress.tables
+Row evidence progress client p command.Compact (reply.Halted flushed) = IsHaltedAt evidence flushed
+Row evidence progress client p command.Compact reply.FaultTables = FailsCompaction evidence progress.last client
+Row evidence progress client p (command.Tell label) (reply.Told n) = IsFresh evidence.history progress.last n
+Row evidence progress client p (command.Hear label) (reply.Heard n) = IsFresh evidence.history progress.last n × IsKnown evidence (WasTold label n)
+Row evidence progress client p (command.Hear label) (reply.Silent other) = (other ≡ label) × (knows_label progress.labels label ≡ false)
+Row evidence progress client p command answer = ⊥
 
 -- the reply is the refusal, where there is one
 abbrev pub UnlessRefused : Option Reply → Reply → Type 0 → Type 0
@@ -266,5 +279,5 @@ UnlessRefused (Some refusal) answer row = answer ≡ refusal
 
 -- `state`, `toomany`, `taken S` and `unknown S` come exactly where the client's state and labels say so; else the row
 -- has the last word.
-abbrev pub Allows : Evidence → ℕ → ℕ → Client → ℕ → Command → Reply → Type 0
-Allows evidence last tables client p command answer = UnlessRefused (refusal_of client command) answer (Row evidence last tables client p command answer)
+abbrev pub Allows : Evidence → Progress → Client → ℕ → Command → Reply → Type 0
+Allows evidence progress client p command answer = UnlessRefused (refusal_of client command) answer (Row evidence progress client p command answer)

@@ -8,7 +8,7 @@ ghost use Rattle.wp_session.specs.Plan as plans;
 use crate::client::{Client, Txn};
 use std::alloc::{AllocError, Global};
 use wp_history::History;
-use wp_model::{Batch, Change, Entry, Key, MOST_KEYS, Name, Seq, Value};
+use wp_model::{Batch, Change, Entry, Holder, Key, MOST_KEYS, Name, Seq, Value};
 use wp_text::{Command, Reply};
 
 /// What a command comes to.
@@ -24,8 +24,11 @@ pub enum Plan {
     /// The versions that stand in memory are to be in one table more, where the tables take an edit.
     Flush,
     /// All tables are to be one, where the tables take an edit. It needs no version that neither a snapshot of the client
-    /// nor the newest state shows.
     Compact,
+    /// The label is to have the number published.
+    Tell(Name),
+    /// The number published is heard, where something was told under the label.
+    Hear(Name),
 }
 
 /// The number of the next entry.
@@ -48,7 +51,10 @@ fn busy_or(
     ensures { IfOk result (λ made. made ≡ plans.busy_or history.now.entries holder plan) }
 {
     match holder {
-        Some(p) => Ok(Plan::Say(Reply::Busy(history.name_at(p).copy(alloc)?))),
+        Some(p) => {
+            let holder = Holder::Txn(history.name_at(p).copy(alloc)?);
+            Ok(Plan::Say(Reply::Busy(holder)))
+        }
         None => Ok(plan),
     }
 }
@@ -306,5 +312,7 @@ pub fn plan_of(
         Command::Take(name) => take_plan(alloc, history, txn, name),
         Command::Flush => Ok(Plan::Flush),
         Command::Compact => Ok(Plan::Compact),
+        Command::Tell(label) => Ok(Plan::Tell(label.copy(alloc)?)),
+        Command::Hear(label) => Ok(Plan::Hear(label.copy(alloc)?)),
     }
 }

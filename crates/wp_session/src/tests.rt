@@ -56,6 +56,7 @@ fn reply_in(plan: Plan) -> Result<Reply, Fail> {
         Plan::Log(_entry, reply) => Ok(reply),
         Plan::RollBack(_p, _batch, reply) => Ok(reply),
         Plan::Flush | Plan::Compact => Err("the tables are asked")?,
+        Plan::Tell(_label) | Plan::Hear(_label) => Err("the board is asked")?,
     }
 }
 

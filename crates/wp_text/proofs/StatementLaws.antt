@@ -44,6 +44,8 @@ words_again (statement.Command command.Leave) = refl
 words_again (statement.Command (command.Take name)) = tested (is_name name) name (λ w. statement.Command (command.Take w))
 words_again (statement.Command command.Flush) = refl
 words_again (statement.Command command.Compact) = refl
+words_again (statement.Command (command.Tell name)) = tested (is_name name) name (λ w. statement.Command (command.Tell w))
+words_again (statement.Command (command.Hear name)) = tested (is_name name) name (λ w. statement.Command (command.Hear w))
 
 pub in_range_again : (s : Statement) → is_in_range s ≡ true → statement_of (statement_words s) ≡ Ok (Some s)
 in_range_again s range = words_again s ∙ ap (λ (b : Bool). cond b (Ok (Some s)) (Err BadWord)) range
@@ -184,6 +186,8 @@ after_keyword keyword.Leave words = alone_read (keyword_text keyword.Leave) comm
 after_keyword keyword.Take words = one_word_read MOST_NAME_BYTES (keyword_text keyword.Take) (λ w. statement.Command (command.Take w)) (λ w. (refl, refl)) words
 after_keyword keyword.Flush words = alone_read (keyword_text keyword.Flush) command.Flush (refl, refl) words
 after_keyword keyword.Compact words = alone_read (keyword_text keyword.Compact) command.Compact (refl, refl) words
+after_keyword keyword.Tell words = one_word_read MOST_NAME_BYTES (keyword_text keyword.Tell) (λ w. statement.Command (command.Tell w)) (λ w. (refl, refl)) words
+after_keyword keyword.Hear words = one_word_read MOST_NAME_BYTES (keyword_text keyword.Hear) (λ w. statement.Command (command.Hear w)) (λ w. (refl, refl)) words
 
 -- ---- all words of a line
 

@@ -51,6 +51,8 @@ command_words command.Leave = codes "leave" ∷ []
 command_words (command.Take name) = codes "take" ∷ name ∷ []
 command_words command.Flush = codes "flush" ∷ []
 command_words command.Compact = codes "compact" ∷ []
+command_words (command.Tell name) = codes "tell" ∷ name ∷ []
+command_words (command.Hear name) = codes "hear" ∷ name ∷ []
 
 -- the words that a statement is written with
 abbrev pub statement_words : Statement → List (List ℕ)
@@ -73,6 +75,8 @@ is_command_in_range command.Leave = true
 is_command_in_range (command.Take name) = is_name name
 is_command_in_range command.Flush = true
 is_command_in_range command.Compact = true
+is_command_in_range (command.Tell name) = is_name name
+is_command_in_range (command.Hear name) = is_name name
 
 abbrev pub is_in_range : Statement → Bool
 is_in_range (statement.Client name) = is_name name

@@ -5,6 +5,8 @@ use Rattle.wp_model.specs.declared.change.Change.{Change}
 use Rattle.wp_model.specs.declared.change.Change.TheVariants as change
 use Rattle.wp_model.specs.declared.entry.Entry.{Entry}
 use Rattle.wp_model.specs.declared.entry.Entry.TheVariants as entry
+use Rattle.wp_model.specs.declared.holder.Holder.{Holder}
+use Rattle.wp_model.specs.declared.holder.Holder.TheVariants as holder
 use Rattle.wp_text.specs.declared.reply.Reply.{Reply}
 use Rattle.wp_text.specs.declared.reply.Reply.TheVariants as reply
 
@@ -21,6 +23,11 @@ abbrev pub client_line : List ℕ → List ℕ
 client_line name = codes "client " ++ name ++ line_end
 
 -- ---- replies
+
+-- who holds a key
+abbrev pub holder_words : Holder → List ℕ
+holder_words (holder.Txn name) = codes "txn " ++ name
+holder_words (holder.Client name) = codes "client " ++ name
 
 abbrev pub reply_words : Reply → List ℕ
 reply_words (reply.Put n) = codes "put " ++ numbered n
@@ -39,12 +46,16 @@ reply_words reply.Dropped = codes "dropped"
 reply_words (reply.RolledBack n) = codes "rollback " ++ numbered n
 reply_words reply.Left = codes "left"
 reply_words reply.Took = codes "took"
+reply_words (reply.Told n) = codes "told " ++ numbered n
+reply_words (reply.Heard n) = codes "heard " ++ numbered n
 reply_words reply.State = codes "state"
 reply_words (reply.Taken name) = codes "taken " ++ name
 reply_words reply.TooMany = codes "toomany"
-reply_words (reply.Busy name) = codes "busy txn " ++ name
+reply_words (reply.Busy holder) = codes "busy " ++ holder_words holder
 reply_words (reply.Unknown name at) = codes "unknown " ++ name ++ codes " " ++ numbered at
+reply_words (reply.InUse name) = codes "inuse " ++ name
 reply_words (reply.UnknownSnapshot name) = codes "unknown " ++ name
+reply_words (reply.Silent label) = codes "silent " ++ label
 reply_words (reply.Full published limit) = codes "full " ++ decimal published ++ codes " " ++ decimal limit
 reply_words reply.FaultLog = codes "fault log"
 reply_words (reply.Stopped published) = codes "stopped " ++ decimal published

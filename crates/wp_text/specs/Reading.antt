@@ -45,6 +45,8 @@ keyword_text keyword.Leave = codes "leave"
 keyword_text keyword.Take = codes "take"
 keyword_text keyword.Flush = codes "flush"
 keyword_text keyword.Compact = codes "compact"
+keyword_text keyword.Tell = codes "tell"
+keyword_text keyword.Hear = codes "hear"
 
 unfoldable pub keyword_named : List ℕ → Option Keyword
 keyword_named word = find (λ keyword. bytes_eq (keyword_text keyword) word) KEYWORDS
@@ -99,6 +101,12 @@ statement_with keyword.Take words = do
   Ok (statement.Command (command.Take name))
 statement_with keyword.Flush words = alone command.Flush words
 statement_with keyword.Compact words = alone command.Compact words
+statement_with keyword.Tell words = do
+  name ← one_word MOST_NAME_BYTES words
+  Ok (statement.Command (command.Tell name))
+statement_with keyword.Hear words = do
+  name ← one_word MOST_NAME_BYTES words
+  Ok (statement.Command (command.Hear name))
 
 -- the same where the first word names a keyword
 unfoldable pub statement_named : Option Keyword → List (List ℕ) → Result (Option Statement) Why

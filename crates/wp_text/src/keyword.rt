@@ -18,9 +18,11 @@ pub enum Keyword {
     Take,
     Flush,
     Compact,
+    Tell,
+    Hear,
 }
 
-const KEYWORDS: [Keyword; 14] = [
+const KEYWORDS: [Keyword; 16] = [
     Keyword::Client,
     Keyword::Put,
     Keyword::Del,
@@ -35,6 +37,8 @@ const KEYWORDS: [Keyword; 14] = [
     Keyword::Take,
     Keyword::Flush,
     Keyword::Compact,
+    Keyword::Tell,
+    Keyword::Hear,
 ];
 
 impl Keyword {
@@ -56,6 +60,8 @@ impl Keyword {
             Keyword::Take => b"take",
             Keyword::Flush => b"flush",
             Keyword::Compact => b"compact",
+            Keyword::Tell => b"tell",
+            Keyword::Hear => b"hear",
         }
     }
 

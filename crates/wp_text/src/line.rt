@@ -105,6 +105,8 @@ fn statement_with(alloc: Global, keyword: Keyword, words: &[&[u8]]) -> Result<St
         Keyword::Take => Statement::Command(Command::Take(one_word(alloc, words)?)),
         Keyword::Flush => alone(words, Command::Flush)?,
         Keyword::Compact => alone(words, Command::Compact)?,
+        Keyword::Tell => Statement::Command(Command::Tell(one_word(alloc, words)?)),
+        Keyword::Hear => Statement::Command(Command::Hear(one_word(alloc, words)?)),
     })
 }
 

@@ -3,7 +3,7 @@ ghost use Rattle.wp_text.specs.Lines as text;
 
 use crate::reply::Reply;
 use std::alloc::{AllocError, Global};
-use wp_model::{Batch, Change, Entry, Name, Seq, Word};
+use wp_model::{Batch, Change, Entry, Holder, Name, Seq, Word};
 
 fn push_number(out: &mut Vec<u8>, n: Seq) -> Result<(), AllocError>
     ensures { OnOk result (out.new.items ≡ out.old.items ++ decimal n) }
@@ -57,6 +57,15 @@ pub fn client_line(out: &mut Vec<u8>, name: &Name) -> Result<(), AllocError>
     out.extend_from_slice(b"\n")
 }
 
+fn push_holder(out: &mut Vec<u8>, holder: &Holder) -> Result<(), AllocError>
+    ensures { OnOk result (out.new.items ≡ out.old.items ++ text.holder_words holder.now) }
+{
+    match holder {
+        Holder::Txn(name) => push_with_word(out, b"txn ", name),
+        Holder::Client(name) => push_with_word(out, b"client ", name),
+    }
+}
+
 fn push_reply(out: &mut Vec<u8>, reply: &Reply) -> Result<(), AllocError>
     ensures { OnOk result (out.new.items ≡ out.old.items ++ text.reply_words reply.now) }
 {
@@ -80,12 +89,19 @@ fn push_reply(out: &mut Vec<u8>, reply: &Reply) -> Result<(), AllocError>
         Reply::RolledBack(n) => push_with_number(out, b"rollback @", *n),
         Reply::Left => out.extend_from_slice(b"left"),
         Reply::Took => out.extend_from_slice(b"took"),
+        Reply::Told(n) => push_with_number(out, b"told @", *n),
+        Reply::Heard(n) => push_with_number(out, b"heard @", *n),
         Reply::State => out.extend_from_slice(b"state"),
         Reply::Taken(name) => push_with_word(out, b"taken ", name),
         Reply::TooMany => out.extend_from_slice(b"toomany"),
-        Reply::Busy(name) => push_with_word(out, b"busy txn ", name),
+        Reply::Busy(holder) => {
+            out.extend_from_slice(b"busy ")?;
+            push_holder(out, holder)
+        }
         Reply::Unknown { name, at } => push_word_at(out, b"unknown ", name, *at),
+        Reply::InUse(name) => push_with_word(out, b"inuse ", name),
         Reply::UnknownSnapshot(name) => push_with_word(out, b"unknown ", name),
+        Reply::Silent(label) => push_with_word(out, b"silent ", label),
         Reply::Full { published, limit } => push_two_numbers(out, b"full ", *published, *limit),
         Reply::FaultLog => out.extend_from_slice(b"fault log"),
         Reply::Stopped(n) => push_with_number(out, b"stopped ", *n),

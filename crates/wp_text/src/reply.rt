@@ -1,4 +1,4 @@
-use wp_model::{Name, Seq, Value};
+use wp_model::{Holder, Name, Seq, Value};
 
 /// What a client is answered for one command. Each number is that of an entry of the one history, 0 before the first.
 #[derive(Debug, Drop)]
@@ -35,18 +35,26 @@ pub enum Reply {
     Left,
     /// The prepared transaction is the client's.
     Took,
+    /// The number published, which is under the label from now on.
+    Told(Seq),
+    /// The number published, which is no less than what was told last under the label.
+    Heard(Seq),
     /// The command has no place in the state of the client's session.
     State,
     /// The name, of a transaction or a snapshot, is in use.
     Taken(Name),
     /// The batch has no room for another key, or there is none for another snapshot.
     TooMany,
-    /// The transaction of this name holds the key.
-    Busy(Name),
+    /// Another transaction, or another client's direct write, holds the key.
+    Busy(Holder),
     /// At this number no prepared transaction has the name.
     Unknown { name: Name, at: Seq },
+    /// A client has the transaction of this name.
+    InUse(Name),
     /// The client has no snapshot of this label.
     UnknownSnapshot(Name),
+    /// Nothing was told under the label.
+    Silent(Name),
     /// A number that the command needs would pass the limit: the number published, and the limit.
     Full { published: Seq, limit: Seq },
     /// The log failed while it took the entry. It takes no more in this run.

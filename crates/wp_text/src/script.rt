@@ -33,6 +33,10 @@ pub enum Command {
     Flush,
     /// Merge all tables into one, without the versions that no reader needs.
     Compact,
+    /// Tell the number published, under this label.
+    Tell(Name),
+    /// See no less than was told last under this label.
+    Hear(Name),
 }
 
 /// The commands of one client, in order.

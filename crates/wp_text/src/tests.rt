@@ -1,7 +1,7 @@
 use super::*;
 use std::alloc::Global;
 use std::test::*;
-use wp_model::{Batch, Change, Entry, Word};
+use wp_model::{Batch, Change, Entry, Holder, Word};
 
 const SHORT_SCRIPTS: [(&[u8], usize, Why); 17] = [
     (b"client a\nput k 1\x01\n", 2, Why::BadByte),
@@ -51,13 +51,14 @@ fn the_first_fault_is_named(rt: HostRuntime) {
     }
 }
 
-const WRONG_COMMANDS: [(&str, Why); 36] = [
+const WRONG_COMMANDS: [(&str, Why); 40] = [
     ("del", Why::BadCommand),
     ("get", Why::BadCommand),
     ("snap", Why::BadCommand),
     ("free", Why::BadCommand),
     ("begin", Why::BadCommand),
     ("take", Why::BadCommand),
+    ("tell", Why::BadCommand),
     ("put", Why::BadCommand),
     ("put k v w", Why::BadCommand),
     ("del k l", Why::BadCommand),
@@ -70,6 +71,7 @@ const WRONG_COMMANDS: [(&str, Why); 36] = [
     ("free s t", Why::BadCommand),
     ("begin s t", Why::BadCommand),
     ("take s t", Why::BadCommand),
+    ("hear s t", Why::BadCommand),
     ("prepare x", Why::BadCommand),
     ("commit x", Why::BadCommand),
     ("rollback x", Why::BadCommand),
@@ -103,6 +105,8 @@ const WRONG_COMMANDS: [(&str, Why); 36] = [
     ("free 123456789012345678901234567890123", Why::BadWord),
     ("begin 123456789012345678901234567890123", Why::BadWord),
     ("take 123456789012345678901234567890123", Why::BadWord),
+    ("tell 123456789012345678901234567890123", Why::BadWord),
+    ("hear 123456789012345678901234567890123", Why::BadWord),
 ];
 
 #[test]
@@ -183,9 +187,11 @@ leave
 take t12
 flush
 compact
+tell l15
+hear l16
 ";
 
-const COMMANDS_READ: [(&str, &[u8], &[u8]); 14] = [
+const COMMANDS_READ: [(&str, &[u8], &[u8]); 16] = [
     ("put", b"k1", b"v1"),
     ("del", b"k2", b""),
     ("get", b"k3", b""),
@@ -200,6 +206,8 @@ const COMMANDS_READ: [(&str, &[u8], &[u8]); 14] = [
     ("take", b"t12", b""),
     ("flush", b"", b""),
     ("compact", b"", b""),
+    ("tell", b"l15", b""),
+    ("hear", b"l16", b""),
 ];
 
 fn parts_of(command: &Command) -> (&str, &[u8], &[u8]) {
@@ -218,6 +226,8 @@ fn parts_of(command: &Command) -> (&str, &[u8], &[u8]) {
         Command::Take(name) => ("take", name.bytes(), b""),
         Command::Flush => ("flush", b"", b""),
         Command::Compact => ("compact", b"", b""),
+        Command::Tell(label) => ("tell", label.bytes(), b""),
+        Command::Hear(label) => ("hear", label.bytes(), b""),
     }
 }
 
@@ -304,6 +314,8 @@ fn replies_have_their_lines(rt: HostRuntime) -> Result<(), Fail> {
         (Reply::RolledBack(6), "rollback @6\n"),
         (Reply::Left, "left\n"),
         (Reply::Took, "took\n"),
+        (Reply::Told(0), "told @0\n"),
+        (Reply::Heard(9), "heard @9\n"),
         (Reply::Flushed { at: 7, versions: 2 }, "flushed @7 2\n"),
         (Reply::Compacted { at: 8, versions: 0 }, "compacted @8 0\n"),
         (Reply::Nothing, "nothing\n"),
@@ -324,7 +336,11 @@ fn refusals_have_their_lines(rt: HostRuntime) -> Result<(), Fail> {
         (Reply::State, "state\n"),
         (Reply::Taken(word(alloc, "t")?), "taken t\n"),
         (Reply::TooMany, "toomany\n"),
-        (Reply::Busy(word(alloc, "t")?), "busy txn t\n"),
+        (Reply::Busy(Holder::Txn(word(alloc, "t")?)), "busy txn t\n"),
+        (
+            Reply::Busy(Holder::Client(word(alloc, "c")?)),
+            "busy client c\n",
+        ),
         (
             Reply::Unknown {
                 name: word(alloc, "u")?,
@@ -332,7 +348,9 @@ fn refusals_have_their_lines(rt: HostRuntime) -> Result<(), Fail> {
             },
             "unknown u @7\n",
         ),
+        (Reply::InUse(word(alloc, "t")?), "inuse t\n"),
         (Reply::UnknownSnapshot(word(alloc, "s")?), "unknown s\n"),
+        (Reply::Silent(word(alloc, "l")?), "silent l\n"),
         (
             Reply::Full {
                 published: 8,

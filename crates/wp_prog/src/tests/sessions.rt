@@ -21,7 +21,7 @@ pub(super) struct Worked {
 }
 
 /// Scripts on new stores.
-const WORKED: [Worked; 10] = [
+const WORKED: [Worked; 11] = [
     Worked {
         words: NO_CACHE,
         steps: &[
@@ -191,6 +191,17 @@ const WORKED: [Worked; 10] = [
         steps: &[("begin t", "begun"), ("commit", "commit @1")],
         history: &["1 write", "end 1 0"],
     },
+    Worked {
+        words: RUN,
+        steps: &[
+            ("hear l", "silent l"),
+            ("tell l", "told @0"),
+            ("put k 1", "put @1"),
+            ("hear l", "heard @1"),
+            ("get k", "get 1 @1"),
+        ],
+        history: &["1 write put k 1", "end 1 0"],
+    },
 ];
 
 fn push_line(text: &mut Vec<u8>, line: &str) -> Result<(), AllocError> {
@@ -254,7 +265,7 @@ fn sessions_are_answered_as_worked(rt: HostRuntime) -> Result<(), Fail> {
 }
 
 /// Clients one after another, and their transcript.
-const SUCCEEDING: [(&str, &str); 2] = [
+const SUCCEEDING: [(&str, &str); 3] = [
     (
         "client a\nbegin t\nput k 1\nprepare\nclient b\nput k 2\ntake t\ncommit\nget k\n",
         "client a\nbegun\nheld\nprepare @1\nclient b\nbusy txn t\ntook\ncommit @2\nget 1 @2\nhistory\n1 prepare t put k 1\n2 commit 1\nend 2 0\n",
@@ -262,6 +273,10 @@ const SUCCEEDING: [(&str, &str); 2] = [
     (
         "client a\nbegin t\nput k 1\nclient b\nput k 2\n",
         "client a\nbegun\nheld\nclient b\nput @1\nhistory\n1 write put k 2\nend 1 0\n",
+    ),
+    (
+        "client a\nput k 1\ntell l\nclient b\nhear m\nhear l\n",
+        "client a\nput @1\ntold @1\nclient b\nsilent m\nheard @1\nhistory\n1 write put k 1\nend 1 0\n",
     ),
 ];
 

@@ -1,12 +1,13 @@
 use Rattle.std.proofs.Common.{rules, ◌≡◌, refl}
-use Rattle.wp_run.proofs.Failing.{not_stopped, not_halted, log_stops, log_halts_none}
-use Rattle.wp_session.specs.declared.plan.Plan.TheVariants.{Say, Log, RollBack}
+use Rattle.wp_run.proofs.Failing.{not_stopped, not_halted, log_stops, log_halts_none, compaction_halts}
+use Rattle.wp_session.specs.declared.plan.Plan.TheVariants.{Say, Log, RollBack, Compact, Hear}
+use Rattle.wp_session.specs.Client.{numbers_of}
 use Rattle.wp_session.specs.Plan.{plan}
-use Rattle.wp_run.specs.Answering.{IsLogAnswer}
+use Rattle.wp_run.specs.Answering.{IsLogAnswer, Compacts}
 use Rattle.wp_run.specs.Later.{store_of}
 use Rattle.wp_session.proofs.PlanLemmas.{plan_logs, plan_rolls_back}
 use Rattle.wp_session.proofs.SaidLemmas.{plan_fits}
-use Rattle.wp_run.proofs.StepLemmas.{log_asks, rollback_asks, logged_steps, logged_fits, said_steps, if_answered, on_answered}
+use Rattle.wp_run.proofs.StepLemmas.{log_asks, rollback_asks, logged_steps, logged_fits, said_steps, hear_steps, if_answered, on_answered}
 use Rattle.wp_run.proofs.client.answer.Goals as goal
 
 pub log_for-requires : goal.log_for-requires
@@ -82,3 +83,13 @@ pub returns-in_ok-take-in-Say-clause-steps : goal.returns-in_ok-take-in-Say-clau
 returns-in_ok-take-in-Say-clause-steps g c =
     let planned : plan c.args.engine.now.entries c.args.client.now c.args.command.now ≡ Say c.in-Say.reply = search rules in
     said_steps (store_of c.args.engine.now) _ _ _ _ planned (rw (← c.history-in-Say.ensures.entries) c.in_ok-take-in-Say.ensures) c.history.ensures.few
+
+pub returns-in-Compact-clause-halted : goal.returns-in-Compact-clause-halted
+returns-in-Compact-clause-halted g c =
+    let planned : plan c.args.engine.now.entries c.args.client.now c.args.command.now ≡ Compact = search rules in
+    if_answered _ (λ r. Compacts c.args.engine.now (numbers_of c.args.client.now.snapshots) r c.compact.new.engine) _ c.compact.ensures.answered (λ answer made. compaction_halts c.args.engine.now c.compact.new.engine c.args.client.now c.args.command.now answer planned made)
+
+pub returns-in-Hear-clause-steps : goal.returns-in-Hear-clause-steps
+returns-in-Hear-clause-steps g c =
+    let planned : plan c.args.engine.now.entries c.args.client.now c.args.command.now ≡ Hear c.in-Hear.label = search rules in
+    hear_steps (store_of c.args.engine.now) c.args.client.now c.args.command.now c.in-Hear.label c.hear.result planned c.history.ensures.few c.hear.ensures

@@ -63,7 +63,7 @@ returns-clause-compacted g c =
     let two : 2 ≤ length inside.store.tables = search rules in
     let same : c.behind-self.inside.flushed ≡ inside.set.manifest.edit.flushed = search rules in
     rw (c.error_of.ensures, same, ← c.self.view_is) (
-      not_installed call c.reserve.new.self tables _ two c.in-Err.why c.in-Err.ensures.installs.1.refused,
+      not_installed call c.reserve.new.self tables inside.board.labels _ two c.in-Err.why c.in-Err.ensures.installs.1.refused,
       λ none. let same = c.compact.ensures.uncalled (c.in_ok-kept.ensures ∙ none) in (same.1, same.0),
     )
 

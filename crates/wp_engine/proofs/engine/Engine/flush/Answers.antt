@@ -76,7 +76,7 @@ returns-clause-flushed g c =
     let some = some_versions inside.wal.id inside.history.entries inside.set inside.store whole c.in_ok-versions.versions merged (sym c.is_flushed.ensures ∙ c.if-is_flushed.false) in
     let count = count_is inside.wal.id inside.history.entries inside.set inside.store whole c.in_ok-versions.versions merged legal in
     let same : c.behind-self.inside.flushed ≡ inside.set.manifest.edit.flushed = search rules in
-    rw (c.error_of.ensures, same, ← c.self.view_is) (not_installed call c.freeze.new.store c.freeze.ensures.tables _ (rw (← count) some) c.in-Err.why c.in-Err.ensures.installs.1.refused)
+    rw (c.error_of.ensures, same, ← c.self.view_is) (not_installed call c.freeze.new.store c.freeze.ensures.tables inside.board.labels _ (rw (← count) some) c.in-Err.why c.in-Err.ensures.installs.1.refused)
 
 pub returns-in-Ok-clause-keeps : goal.returns-in-Ok-clause-keeps
 returns-in-Ok-clause-keeps g c =
