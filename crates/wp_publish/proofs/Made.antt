@@ -137,13 +137,13 @@ logged p so s u same t d held is m =
     (step.actor ∙ ((λ i. record s.knows { held = held_with (held i) (writes (record (table i) { logged = true; log = (table i).log ++ (table i).pending })) }) ∙ ap (λ (x : WriteTable). record s.knows { held = writes x ∷ [] }) (sym is)))
 
 pub closed : (p : Place) (so : World → Type 0) (s u : SeatState) → (u.table ≡ s.table) × (u.by ≡ s.by) × (u.turns ≡ s.turns) → (t d : WriteTable) → s.knows.held ≡ writes t ∷ [] → d ≡ record t { closed = true; failed = t.pending } → Moved p (λ w. close_log ∷ []) so s.knows u.knows
-    → u ≡ holding d (as_failed s)
+    → u ≡ holding d (as_failed d.failed s)
 closed p so s u same t d held is m =
     let step = made p close_log so s.knows u.knows close_ends m in
     let table : step.world.writes ≡ t = writes_are p s.knows step.world step.before t (first_held s.knows (writes t) [] held) in
-    let failed : Actor = (as_failed s).knows in
-    becomes s u (record failed { held = writes d ∷ [] }) same
-    (step.actor ∙ ((λ i. record failed { held = held_with (held i) (writes (record (table i) { closed = true; failed = (table i).pending })) }) ∙ ap (λ (x : WriteTable). record failed { held = writes x ∷ [] }) (sym is)))
+    let Failed : WriteTable → Actor = λ x. record (as_failed x.failed s).knows { held = writes x ∷ [] } in
+    becomes s u (Failed d) same
+    (step.actor ∙ ((λ i. record (as_failed (table i).pending s).knows { held = held_with (held i) (writes (record (table i) { closed = true; failed = (table i).pending })) }) ∙ ap Failed (sym is)))
 
 -- ---- versions
 

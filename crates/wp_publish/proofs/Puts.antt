@@ -50,9 +50,9 @@ module _ {D : Type 0} (z : SharedState D) (s new : SeatState) (log left : LogSta
   }
 
   -- where the log call failed
-  pub failed_put : (t : SeatState) (d : WriteTable) → t ≡ holding d (as_failed s) → GoesOn is_guarded (writes left.table ∷ []) t.turns t new → left.table.history ≡ log.table.history → left.table.closed ≡ true → IsNotPut z s log true (failing s.knows.participant) new left
-  failed_put t d is k history closed =
-      not_put true (failing s.knows.participant)
+  pub failed_put : (t : SeatState) (d : WriteTable) (entries : List Entry) → t ≡ holding d (as_failed entries s) → GoesOn is_guarded (writes left.table ∷ []) t.turns t new → left.table.history ≡ log.table.history → left.table.closed ≡ true → IsNotPut z s log true (failing entries s.knows.participant) new left
+  failed_put t d entries is k history closed =
+      not_put true (failing entries s.knows.participant)
       (record {
         same = k.same ∙ ap (λ (x : SeatState). record x { knows = record x.knows { held = writes left.table ∷ []; notes = new.knows.notes }; turns = x.turns }) is;
         noted = λ fact other there. k.noted fact other (subst (λ (x : SeatState). IsIn fact x.knows.notes) (sym is) there);
@@ -89,7 +89,7 @@ module _ {D : Type 0} (z : SharedState D) (s t new : SeatState) (log mid left : 
   pub puts_before : (entries : List Entry) (answer : Result (Unit {0}) WriteError) → Puts z t mid entries answer new left → Puts z s log entries answer new left
   puts_before entries (Ok done) p = put_before entries p
   puts_before entries (Err Memory) p = not_put_before (λ x. x) false p
-  puts_before entries (Err LogFault) p = (not_put_before failing true p.0, subst (λ (n : ℕ). Rose n left.wal.faults) faults p.1)
+  puts_before entries (Err LogFault) p = (not_put_before (failing entries) true p.0, subst (λ (n : ℕ). Rose n left.wal.faults) faults p.1)
 
 -- ---- entries were put
 

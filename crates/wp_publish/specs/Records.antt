@@ -80,12 +80,12 @@ pub record IsNotPut {D : Type 0} (z : SharedState D) (old : SeatState) (log : Lo
   pub knows : new.knows ≡ record old.knows { participant = after; held = writes left.table ∷ []; notes = new.knows.notes }
   pub notes : (fact : Fact) → guarded_by fact ≡ None → IsIn fact old.knows.notes → IsIn fact new.knows.notes
 
--- the participant, to which a log call failed
-abbrev pub failing : Participant → Participant
-failing p = record p { past = p.past ++ log_failed ∷ [] }
+-- the participant, to which the log call for these entries failed
+abbrev pub failing : List Entry → Participant → Participant
+failing entries p = record p { past = p.past ++ log_failed entries ∷ [] }
 
 -- what a call answers that puts these entries behind the history, and what it leaves
 abbrev pub Puts : {D : Type 0} → SharedState D → SeatState → LogState → List Entry → Result (Unit {0}) WriteError → SeatState → LogState → Type 0
 Puts z old log entries (Ok done) new left = IsPut z old log entries new left
 Puts z old log entries (Err Memory) new left = IsNotPut z old log false old.knows.participant new left
-Puts z old log entries (Err LogFault) new left = IsNotPut z old log true (failing old.knows.participant) new left × Rose log.wal.faults left.wal.faults
+Puts z old log entries (Err LogFault) new left = IsNotPut z old log true (failing entries old.knows.participant) new left × Rose log.wal.faults left.wal.faults

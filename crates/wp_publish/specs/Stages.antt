@@ -71,9 +71,9 @@ may_end history entry fact = is_guarded fact || is_about (transaction_of history
 abbrev pub holding : WriteTable → SeatState → SeatState
 holding t s = record s { knows = record s.knows { held = writes t ∷ [] } }
 
--- the seat, to which a log call failed
-abbrev pub as_failed : SeatState → SeatState
-as_failed s = record s { knows = remembers s.knows log_failed }
+-- the seat, to which the log call for these entries failed
+abbrev pub as_failed : List Entry → SeatState → SeatState
+as_failed entries s = record s { knows = remembers s.knows (log_failed entries) }
 
 -- the seat, which put the entry behind this history
 abbrev pub as_published : List Entry → Entry → SeatState → SeatState

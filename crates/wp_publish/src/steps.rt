@@ -67,7 +67,7 @@ pub(crate) fn log_pending<D: Disk + Drop>(store: &Shared<D>, seat: &mut Seat<D>,
 pub(crate) fn close_log<D: Disk + Drop>(store: &Shared<D>, seat: &mut Seat<D>, log: &Log<D>)
     requires seat { seat.old.table ≡ store.now.table }
     requires held { (t : WriteTable) × (seat.old.knows.held ≡ writes t ∷ []) × IsUnlogged t × (log.now.table ≡ record t { closed = true; failed = t.pending }) }
-    ensures { seat.new ≡ holding log.now.table (as_failed seat.old) }
+    ensures { seat.new ≡ holding log.now.table (as_failed log.now.table.failed seat.old) }
 {
     store.make::<Brand>(seat);
 }

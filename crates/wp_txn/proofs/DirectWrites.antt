@@ -210,13 +210,13 @@ module _ {D : Type 0} (z : SharedState D) (old mid left new : SeatState) (change
         ),
       )
 
-  refused : (why : TxnError) → Refuses z mid left 1 mid.knows.participant mid.knows.participant why → Refuses z old new 1 (writing_direct key was) (wrote_direct key was) why
+  refused : (why : TxnError) → Refuses z mid left 1 (λ asked. asked ≡ Write (change ∷ []) ∷ []) mid.knows.participant mid.knows.participant why → Refuses z old new 1 (λ asked. asked ≡ Write (change ∷ []) ∷ []) (writing_direct key was) (wrote_direct key was) why
   refused why c =
       refused_within z old mid left new 1 (writing_direct key was) (wrote_direct key was) held.goes_on.same_by held.goes_on.participant same_seen
       (λ goes. given Turnless (λ x. x) (λ fact turnless. turnless) (λ x seen. refl) goes)
-      (λ events goes. given Turnless (remembering events) (λ fact turnless. turnless) (λ x seen. refl) goes) why c
+      (λ events goes. given Turnless (remembering events) (λ fact turnless. turnless) (λ x seen. refl) goes) (λ asked. asked ≡ Write (change ∷ []) ∷ []) (λ asked. asked ≡ Write (change ∷ []) ∷ []) (λ asked is. is) why c
 
-  pub not_written : (why : TxnError) → Refuses z mid left 1 mid.knows.participant mid.knows.participant why → WritesDirect z old change (Err why) new
+  pub not_written : (why : TxnError) → Refuses z mid left 1 (λ asked. asked ≡ Write (change ∷ []) ∷ []) mid.knows.participant mid.knows.participant why → WritesDirect z old change (Err why) new
   not_written Memory c = inr (refused Memory c)
   not_written (Stopped n) c = refused (Stopped n) c
   not_written (NumbersFull published limit) c = refused (NumbersFull published limit) c
@@ -235,11 +235,11 @@ module _ {D : Type 0} (z : SharedState D) (old mid left new : SeatState) (change
 -- behind a record the seat is free, and has the direct write that it had
 pub free_after : {D : Type 0} (z : SharedState D) (mid left : SeatState) (entries : List Entry) (facts : ℕ → List Fact) (answer : Result ℕ TxnError) → Records z mid entries facts answer left → IsFree z.table left
 free_after z mid left entries facts (Ok n) r = r.1.1.put.goes_on.free
-free_after z mid left entries facts (Err why) r = refused_free z mid left (length entries) why r
+free_after z mid left entries facts (Err why) r = refused_free z mid left (length entries) (λ asked. asked ≡ entries) why r
 
 pub direct_after : {D : Type 0} (z : SharedState D) (mid left : SeatState) (entries : List Entry) (facts : ℕ → List Fact) (answer : Result ℕ TxnError) → Records z mid entries facts answer left → left.knows.participant.direct ≡ mid.knows.participant.direct
 direct_after z mid left entries facts (Ok n) r = ap (λ (p : Participant). p.direct) r.1.1.put.goes_on.participant
-direct_after z mid left entries facts (Err why) r = (refused_still z mid left (length entries) why r).direct
+direct_after z mid left entries facts (Err why) r = (refused_still z mid left (length entries) (λ asked. asked ≡ entries) why r).direct
 
 -- where the key was not held nothing was written
 pub not_held : {D : Type 0} (z : SharedState D) (old new : SeatState) (change : Change) (why : TxnError) → HoldsDirect z old (key_of change) (Err why) new → WritesDirect z old change (Err why) new

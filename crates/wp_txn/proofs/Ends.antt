@@ -80,16 +80,16 @@ module _ {D : Type 0} (z : SharedState D) (old start mid new : SeatState) (name 
   has_until there = ap (λ (p : Participant). is_some (finite.get p.transactions name)) until_then.participant ∙ there
 
 -- a refusal behind such a beginning
-pub refused_from : {D : Type 0} (z : SharedState D) (old start new : SeatState) (needed : ℕ) (begins : Continues z old start old.knows.participant) (why : TxnError)
-    → Refuses z start new needed start.knows.participant start.knows.participant why → Refuses z old new needed old.knows.participant old.knows.participant why
-refused_from z old start new needed begins why c =
+pub refused_from : {D : Type 0} (z : SharedState D) (old start new : SeatState) (needed : ℕ) (Asks More : List Entry → Type 0) (wider : (entries : List Entry) → Asks entries → More entries) (begins : Continues z old start old.knows.participant) (why : TxnError)
+    → Refuses z start new needed Asks start.knows.participant start.knows.participant why → Refuses z old new needed More old.knows.participant old.knows.participant why
+refused_from z old start new needed Asks More wider begins why c =
     let Turnless : Fact → Type 0 = λ fact. guarded_by fact ≡ None in let it = old.knows.participant in
     refused_within z old start new new needed it it begins.same_by begins.participant refl
     (λ goes. chain Turnless Turnless Turnless z old start new it start.knows.participant it (λ fact stays. stays) (λ fact stays. stays) begins goes (ap (λ (p : Participant). record p { seen = new.knows.participant.seen }) begins.participant))
     (λ events goes.
     chain Turnless Turnless Turnless z old start new it (remembering events start.knows.participant) (remembering events it) (λ fact stays. stays) (λ fact stays. stays) begins goes
     (ap (λ (p : Participant). record (remembering events p) { seen = new.knows.participant.seen }) begins.participant))
-    why c
+    Asks More wider why c
 
 -- what was noted of a transaction outlasts a record that is of none
 pub noted_until : {D : Type 0} (z : SharedState D) (old mid : SeatState) (batch : List Change) (facts : ℕ → List Fact) (n : ℕ) (fact : Fact) → Records z old (Write batch ∷ []) facts (Ok n) mid → guarded_by fact ≡ None → IsIn fact old.knows.notes
@@ -162,9 +162,9 @@ prepares z old new txn n h r =
 
 -- ---- a refusal
 
-pub refuses_open : {D : Type 0} (z : SharedState D) (old new : SeatState) (txn : OpenState) (why : TxnError) → HasOpen old txn.name txn.batch → Refuses z old new 1 old.knows.participant old.knows.participant why → RefusesOpen z old txn txn why new
-refuses_open z old new txn why h c = (refl, open_still old new (refused_still z old new 1 why c) txn.name txn.batch h, c)
+pub refuses_open : {D : Type 0} (z : SharedState D) (old new : SeatState) (txn : OpenState) (entry : Entry) (why : TxnError) → HasOpen old txn.name txn.batch → Refuses z old new 1 (λ asked. asked ≡ entry ∷ []) old.knows.participant old.knows.participant why → RefusesOpen z old txn entry txn why new
+refuses_open z old new txn entry why h c = (refl, open_still old new (refused_still z old new 1 (λ asked. asked ≡ entry ∷ []) why c) txn.name txn.batch h, c)
 
-pub refuses_prepared : {D : Type 0} (z : SharedState D) (old new : SeatState) (txn : PreparedState) (needed : ℕ) (why : TxnError) → HasPrepared old txn.name txn.number txn.batch
-    → Refuses z old new needed old.knows.participant old.knows.participant why → RefusesPrepared z old txn needed txn why new
-refuses_prepared z old new txn needed why h c = (refl, prepared_still old new (refused_still z old new needed why c) txn.name txn.number txn.batch h, c)
+pub refuses_prepared : {D : Type 0} (z : SharedState D) (old new : SeatState) (txn : PreparedState) (needed : ℕ) (Asks : PreparedState → List Entry → Type 0) (why : TxnError) → HasPrepared old txn.name txn.number txn.batch
+    → Refuses z old new needed (Asks txn) old.knows.participant old.knows.participant why → RefusesPrepared z old txn needed Asks txn why new
+refuses_prepared z old new txn needed Asks why h c = (refl, prepared_still old new (refused_still z old new needed (Asks txn) why c) txn.name txn.number txn.batch h, c)

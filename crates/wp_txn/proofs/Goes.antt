@@ -73,17 +73,17 @@ module _ {D : Type 0} (z : SharedState D) (old mid left new : SeatState) (needed
   same_length : length left.knows.participant.seen ≡ length new.knows.participant.seen
   same_length = ap (λ (h : List Entry). length h) (sym same)
 
-  pub refused_within : (why : TxnError) → Refuses z mid left needed mid.knows.participant mid.knows.participant why → Refuses z old new needed found after why
-  refused_within Memory c = plain c
-  refused_within (Stopped n) c = (c.0 ∙ same_length, found_in true c.1, more (stopped n ∷ []) c.2)
-  refused_within (NumbersFull published limit) c = (c.0 ∙ same_length, c.1, c.2, found_in false c.3, plain c.4)
-  refused_within LogFault c = (subst (λ (n : ℕ). n + needed ≤ z.limit) same_length c.0, found_in false c.1, more (log_failed ∷ []) c.2)
-  refused_within (Taken name) c = c
-  refused_within (Busy holder) c = c
-  refused_within TooMany c = c
-  refused_within Silent c = c
-  refused_within (Unknown name at) c = c
-  refused_within (InUse name) c = c
+  pub refused_within : (Asks More : List Entry → Type 0) → ((entries : List Entry) → Asks entries → More entries) → (why : TxnError) → Refuses z mid left needed Asks mid.knows.participant mid.knows.participant why → Refuses z old new needed More found after why
+  refused_within Asks More wider Memory c = plain c
+  refused_within Asks More wider (Stopped n) c = (c.0 ∙ same_length, found_in true c.1, more (stopped n ∷ []) c.2)
+  refused_within Asks More wider (NumbersFull published limit) c = (c.0 ∙ same_length, c.1, c.2, found_in false c.3, plain c.4)
+  refused_within Asks More wider LogFault c = (subst (λ (n : ℕ). n + needed ≤ z.limit) same_length c.0, found_in false c.1, (c.2.0, wider c.2.0 c.2.1, more (log_failed c.2.0 ∷ []) c.2.2))
+  refused_within Asks More wider (Taken name) c = c
+  refused_within Asks More wider (Busy holder) c = c
+  refused_within Asks More wider TooMany c = c
+  refused_within Asks More wider Silent c = c
+  refused_within Asks More wider (Unknown name at) c = c
+  refused_within Asks More wider (InUse name) c = c
 
 -- ---- a refusal leaves transactions as they were
 
@@ -97,29 +97,29 @@ pub record HasStill (old new : SeatState) : Type 0 where
 pub still : {D : Type 0} (z : SharedState D) (old new : SeatState) (p : Participant) → p.transactions ≡ old.knows.participant.transactions → p.direct ≡ old.knows.participant.direct → Continues z old new p → HasStill old new
 still z old new p same direct goes = record { transactions = ap (λ (x : Participant). x.transactions) goes.participant ∙ same; direct = ap (λ (x : Participant). x.direct) goes.participant ∙ direct; seen = goes.seen; notes = goes.notes }
 
-pub refused_still : {D : Type 0} (z : SharedState D) (old new : SeatState) (needed : ℕ) (why : TxnError) → Refuses z old new needed old.knows.participant old.knows.participant why → HasStill old new
-refused_still z old new needed Memory c = still z old new old.knows.participant refl refl c
-refused_still z old new needed (Stopped n) c = still z old new (remembering (stopped n ∷ []) old.knows.participant) refl refl c.2
-refused_still z old new needed (NumbersFull published limit) c = still z old new old.knows.participant refl refl c.4
-refused_still z old new needed LogFault c = still z old new (failing old.knows.participant) refl refl c.2
-refused_still z old new needed (Taken name) c = absurd c
-refused_still z old new needed (Busy holder) c = absurd c
-refused_still z old new needed TooMany c = absurd c
-refused_still z old new needed Silent c = absurd c
-refused_still z old new needed (Unknown name at) c = absurd c
-refused_still z old new needed (InUse name) c = absurd c
+pub refused_still : {D : Type 0} (z : SharedState D) (old new : SeatState) (needed : ℕ) (Asks : List Entry → Type 0) (why : TxnError) → Refuses z old new needed Asks old.knows.participant old.knows.participant why → HasStill old new
+refused_still z old new needed Asks Memory c = still z old new old.knows.participant refl refl c
+refused_still z old new needed Asks (Stopped n) c = still z old new (remembering (stopped n ∷ []) old.knows.participant) refl refl c.2
+refused_still z old new needed Asks (NumbersFull published limit) c = still z old new old.knows.participant refl refl c.4
+refused_still z old new needed Asks LogFault c = still z old new (failing c.2.0 old.knows.participant) refl refl c.2.2
+refused_still z old new needed Asks (Taken name) c = absurd c
+refused_still z old new needed Asks (Busy holder) c = absurd c
+refused_still z old new needed Asks TooMany c = absurd c
+refused_still z old new needed Asks Silent c = absurd c
+refused_still z old new needed Asks (Unknown name at) c = absurd c
+refused_still z old new needed Asks (InUse name) c = absurd c
 
-pub refused_free : {D : Type 0} (z : SharedState D) (old new : SeatState) (needed : ℕ) (why : TxnError) → Refuses z old new needed old.knows.participant old.knows.participant why → IsFree z.table new
-refused_free z old new needed Memory c = c.free
-refused_free z old new needed (Stopped n) c = c.2.free
-refused_free z old new needed (NumbersFull published limit) c = c.4.free
-refused_free z old new needed LogFault c = c.2.free
-refused_free z old new needed (Taken name) c = absurd c
-refused_free z old new needed (Busy holder) c = absurd c
-refused_free z old new needed TooMany c = absurd c
-refused_free z old new needed Silent c = absurd c
-refused_free z old new needed (Unknown name at) c = absurd c
-refused_free z old new needed (InUse name) c = absurd c
+pub refused_free : {D : Type 0} (z : SharedState D) (old new : SeatState) (needed : ℕ) (Asks : List Entry → Type 0) (why : TxnError) → Refuses z old new needed Asks old.knows.participant old.knows.participant why → IsFree z.table new
+refused_free z old new needed Asks Memory c = c.free
+refused_free z old new needed Asks (Stopped n) c = c.2.free
+refused_free z old new needed Asks (NumbersFull published limit) c = c.4.free
+refused_free z old new needed Asks LogFault c = c.2.2.free
+refused_free z old new needed Asks (Taken name) c = absurd c
+refused_free z old new needed Asks (Busy holder) c = absurd c
+refused_free z old new needed Asks TooMany c = absurd c
+refused_free z old new needed Asks Silent c = absurd c
+refused_free z old new needed Asks (Unknown name at) c = absurd c
+refused_free z old new needed Asks (InUse name) c = absurd c
 
 module _ (old new : SeatState) (k : HasStill old new) (name : List ℕ) where
   pub open_still : (batch : List Change) → HasOpen old name batch → HasOpen new name batch

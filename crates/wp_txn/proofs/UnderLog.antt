@@ -114,8 +114,8 @@ module _ {D : Type 0} (z : SharedState D) (old s : SeatState) (log : LogState) (
       words = record { bound = takes.holds.words.bound; words = takes.holds.words.words; noted = takes.holds.words.noted; are_published = takes.holds.words.are_published };
     })
 
-    pub stopped_back : (needed : ℕ) → log.table.closed ≡ true → GivesWrite z t new → Refuses z old new needed was was (Stopped n)
-    stopped_back needed closed gives =
+    pub stopped_back : (needed : ℕ) (Asks : List Entry → Type 0) → log.table.closed ≡ true → GivesWrite z t new → Refuses z old new needed Asks was was (Stopped n)
+    stopped_back needed Asks closed gives =
         let seen_there : t.knows.participant.seen ≡ history = ap (λ (x : SeatState). x.knows.participant.seen) found ∙ takes.holds.seen in
         let seen : new.knows.participant.seen ≡ history = ap (λ (a : Actor). a.participant.seen) gives.knows ∙ seen_there in (
           number ∙ ap (λ (es : List Entry). length es) (sym seen),
@@ -154,9 +154,9 @@ module _ {D : Type 0} (z : SharedState D) (old s : SeatState) (log : LogState) (
       stands = saw.there;
     }
 
-    pub full_back : (new : SeatState) (needed limit : ℕ) → log.table.closed ≡ false → published ≡ length t.knows.participant.seen → limit ≡ z.limit → limit < published + needed → GivesWrite z t new
-        → Refuses z old new needed was was (NumbersFull published limit)
-    full_back new needed limit running number is over gives =
+    pub full_back : (new : SeatState) (needed limit : ℕ) (Asks : List Entry → Type 0) → log.table.closed ≡ false → published ≡ length t.knows.participant.seen → limit ≡ z.limit → limit < published + needed → GivesWrite z t new
+        → Refuses z old new needed Asks was was (NumbersFull published limit)
+    full_back new needed limit Asks running number is over gives =
         let seen : new.knows.participant.seen ≡ t.knows.participant.seen = ap (λ (a : Actor). a.participant.seen) gives.knows in (
           number ∙ ap (λ (es : List Entry). length es) (sym seen),
           is,
@@ -213,10 +213,10 @@ module _ {D : Type 0} (z : SharedState D) (old s t new : SeatState) (log left : 
       )
   recorded (Err write_error.Memory) p = (not_put_back false (λ (x : Participant). x) (λ es x. refl) p).1
   recorded (Err write_error.LogFault) p =
-      let back = not_put_back true failing (λ es x. refl) p.0 in (
+      let back = not_put_back true (failing entries) (λ es x. refl) p.0 in (
         subst (λ (es : List Entry). length es + length entries ≤ z.limit) (sym back.0) o.within,
         found_then z old s log o.takes new.knows.participant.seen false back.0 o.running,
-        back.1,
+        (entries, refl, back.1),
       )
 
 -- what is so of a fact is so of each that is it

@@ -52,7 +52,7 @@ pub record HasRecorded {D : Type 0} (z : SharedState D) (old new : SeatState) (h
 abbrev pub Records : {D : Type 0} → SharedState D → SeatState → List Entry → (ℕ → List Fact) → Result ℕ TxnError → SeatState → Type 0
 Records z old entries facts (Ok n) new =
     (n ≡ length new.knows.participant.seen) × ((history : List Entry) × HasRecorded z old new history entries) × ((fact : Fact) → IsIn fact (facts n) → IsIn fact new.knows.notes)
-Records z old entries facts (Err why) new = Refuses z old new (length entries) old.knows.participant old.knows.participant why
+Records z old entries facts (Err why) new = Refuses z old new (length entries) (λ asked. asked ≡ entries) old.knows.participant old.knows.participant why
 
 -- these are what the keys of the batch had once the seat had seen so many entries, the prepare's number at least
 abbrev pub HadPrior : SeatState → ℕ → List Change → List Change → Type 0

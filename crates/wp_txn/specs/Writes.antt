@@ -37,18 +37,19 @@ pub record HasPut {D : Type 0} (Stays : Fact → Type 0) (z : SharedState D) (ol
 abbrev pub HasPutThese : {D : Type 0} → (Fact → Type 0) → SharedState D → SeatState → SeatState → Participant → Participant → List Entry → Type 0
 HasPutThese Stays z old new found after entries = (history : List Entry) × HasPut Stays z old new found after history entries
 
--- Why a call put no entries there, of which it needs so many. It was the first participant as it found the log, and is the second
--- one but for what it remembers of that.
-abbrev pub Refuses : {D : Type 0} → SharedState D → SeatState → SeatState → ℕ → Participant → Participant → TxnError → Type 0
-Refuses z old new needed found after Memory = Continues z old new after
-Refuses z old new needed found after (Stopped n) =
+-- Why a call put no entries there, of which it needs so many, and asks for such. It was the first participant as it found the log,
+-- and is the second one but for what it remembers of that.
+abbrev pub Refuses : {D : Type 0} → SharedState D → SeatState → SeatState → ℕ → (List Entry → Type 0) → Participant → Participant → TxnError → Type 0
+Refuses z old new needed Asks found after Memory = Continues z old new after
+Refuses z old new needed Asks found after (Stopped n) =
     (n ≡ length new.knows.participant.seen) × FoundLog z old.by found new.knows.participant.seen true × Continues z old new (remembering (stopped n ∷ []) after)
-Refuses z old new needed found after (NumbersFull published limit) =
+Refuses z old new needed Asks found after (NumbersFull published limit) =
     (published ≡ length new.knows.participant.seen) × (limit ≡ z.limit) × (limit < published + needed)
     × FoundLog z old.by found new.knows.participant.seen false × Continues z old new after
-Refuses z old new needed found after LogFault =
-    (length new.knows.participant.seen + needed ≤ z.limit) × FoundLog z old.by found new.knows.participant.seen false × Continues z old new (failing after)
-Refuses z old new needed found after other = ⊥
+Refuses z old new needed Asks found after LogFault =
+    (length new.knows.participant.seen + needed ≤ z.limit) × FoundLog z old.by found new.knows.participant.seen false
+    × ((entries : List Entry) × Asks entries × Continues z old new (failing entries after))
+Refuses z old new needed Asks found after other = ⊥
 
 -- ---- a direct write
 
@@ -66,7 +67,7 @@ WritesDirect z old change (Ok n) new =
     × HasPutThese (λ fact. guarded_by fact ≡ None) z old new (writing_direct (key_of change) old.knows.participant) (wrote_direct (key_of change) old.knows.participant) (Write (change ∷ []) ∷ [])
 WritesDirect z old change (Err (Busy holder)) new = Finds z old new (Some (key_of change)) holder
 WritesDirect z old change (Err Memory) new = Keeps z old new ⊎ Continues z old new (wrote_direct (key_of change) old.knows.participant)
-WritesDirect z old change (Err why) new = Refuses z old new 1 (writing_direct (key_of change) old.knows.participant) (wrote_direct (key_of change) old.knows.participant) why
+WritesDirect z old change (Err why) new = Refuses z old new 1 (λ entries. entries ≡ Write (change ∷ []) ∷ []) (writing_direct (key_of change) old.knows.participant) (wrote_direct (key_of change) old.knows.participant) why
 
 -- ---- a transaction
 
@@ -96,8 +97,15 @@ RollsBack z old txn n new =
     × HasLeft z new txn.number
 
 -- it is refused, and the transaction is as it was
-abbrev pub RefusesOpen : {D : Type 0} → SharedState D → SeatState → OpenState → OpenState → TxnError → SeatState → Type 0
-RefusesOpen z old txn left why new = (left ≡ txn) × HasOpen new txn.name txn.batch × Refuses z old new 1 old.knows.participant old.knows.participant why
+abbrev pub RefusesOpen : {D : Type 0} → SharedState D → SeatState → OpenState → Entry → OpenState → TxnError → SeatState → Type 0
+RefusesOpen z old txn entry left why new = (left ≡ txn) × HasOpen new txn.name txn.batch × Refuses z old new 1 (λ entries. entries ≡ entry ∷ []) old.knows.participant old.knows.participant why
 
-abbrev pub RefusesPrepared : {D : Type 0} → SharedState D → SeatState → PreparedState → ℕ → PreparedState → TxnError → SeatState → Type 0
-RefusesPrepared z old txn needed left why new = (left ≡ txn) × HasPrepared new txn.name txn.number txn.batch × Refuses z old new needed old.knows.participant old.knows.participant why
+-- the entries that a commit asks for, and a rollback
+abbrev pub AsksCommit : PreparedState → List Entry → Type 0
+AsksCommit txn entries = entries ≡ Commit txn.number ∷ []
+
+abbrev pub AsksRollback : PreparedState → List Entry → Type 0
+AsksRollback txn entries = (restored : List Change) × (entries ≡ Undo txn.number restored ∷ Close txn.number ∷ [])
+
+abbrev pub RefusesPrepared : {D : Type 0} → SharedState D → SeatState → PreparedState → ℕ → (PreparedState → List Entry → Type 0) → PreparedState → TxnError → SeatState → Type 0
+RefusesPrepared z old txn needed Asks left why new = (left ≡ txn) × HasPrepared new txn.name txn.number txn.batch × Refuses z old new needed (Asks txn) old.knows.participant old.knows.participant why

@@ -8,7 +8,7 @@ ghost use Rattle.wp_core.specs.Views.{unprepared};
 ghost use Rattle.wp_shared.specs.Seats.{IsFree};
 ghost use Rattle.wp_txn.specs.Recording.{Frees};
 ghost use Rattle.wp_txn.specs.Txn.{HasPrepared};
-ghost use Rattle.wp_txn.specs.Writes.{Commits, RefusesPrepared};
+ghost use Rattle.wp_txn.specs.Writes.{Commits, AsksCommit, RefusesPrepared};
 
 use crate::error::Refused;
 use crate::locking::free;
@@ -55,7 +55,7 @@ pub fn commit<D: Disk + Drop, R: Wait>(
     requires free { IsFree store.now.table seat.old }
     requires prepared { HasPrepared seat.old txn.name txn.number txn.batch }
     ensures ok { IfOk result (λ n. Commits store.now seat.old txn n seat.new) }
-    ensures refused { IfErr result (λ r. RefusesPrepared store.now seat.old txn 1 r.txn r.why seat.new) }
+    ensures refused { IfErr result (λ r. RefusesPrepared store.now seat.old txn 1 AsksCommit r.txn r.why seat.new) }
 {
     match record_commit(store, rt, alloc, seat, &txn) {
         Ok(number) => {

@@ -2,6 +2,7 @@
 ghost use Rattle.std.specs.Prelude.{◌≡◌, IfOk, IfErr};
 ghost use Rattle.wp_shared.specs.Seats.{IsFree};
 ghost use Rattle.wp_txn.specs.Txn.{HasOpen};
+ghost use Rattle.wp_model.specs.declared.entry.Entry.TheVariants.{Write, Prepare};
 ghost use Rattle.wp_txn.specs.Writes.{Prepares, CommitsNow, RefusesOpen};
 
 use crate::error::Refused;
@@ -26,7 +27,7 @@ pub fn prepare<D: Disk + Drop, R: Wait>(
     requires free { IsFree store.now.table seat.old }
     requires open { HasOpen seat.old txn.name txn.batch }
     ensures ok { IfOk result (λ r. Prepares store.now seat.old txn r.0 r.1 seat.new) }
-    ensures refused { IfErr result (λ r. RefusesOpen store.now seat.old txn r.txn r.why seat.new) }
+    ensures refused { IfErr result (λ r. RefusesOpen store.now seat.old txn (Prepare txn.name txn.batch) r.txn r.why seat.new) }
 {
     match record_prepare(store, rt, alloc, seat, &txn) {
         Ok(number) => {
@@ -53,7 +54,7 @@ pub fn commit_now<D: Disk + Drop, R: Wait>(
     requires free { IsFree store.now.table seat.old }
     requires open { HasOpen seat.old txn.name txn.batch }
     ensures ok { IfOk result (λ n. CommitsNow store.now seat.old txn n seat.new) }
-    ensures refused { IfErr result (λ r. RefusesOpen store.now seat.old txn r.txn r.why seat.new) }
+    ensures refused { IfErr result (λ r. RefusesOpen store.now seat.old txn (Write txn.batch) r.txn r.why seat.new) }
 {
     txn.batch.changes();
     match record_write(store, rt, alloc, seat, &txn.batch) {

@@ -1,11 +1,12 @@
-use Rattle.std.proofs.Common.{refl, sym, subst, ap, ◌∙◌}
+use Rattle.std.proofs.Common.{true, List, refl, sym, subst, ap, ◌∙◌}
+use Rattle.wp_model.specs.declared.entry.Entry.{Entry}
 use Rattle.wp_outside.specs.Faults.{Rose}
 use Rattle.wp_core.specs.Tables.{WriteTable}
 use Rattle.wp_core.specs.Views.{versions_nowhere, number_not_in_heap}
 use Rattle.wp_rule.specs.Knows.{Noted}
 use Rattle.wp_guarded.specs.Log.{LogState}
 use Rattle.wp_shared.specs.Seats.{SeatState}
-use Rattle.wp_publish.specs.Records.{failing}
+use Rattle.wp_publish.specs.Records.{IsNotPut, failing}
 use Rattle.wp_publish.proofs.Holding.{holds_as, memory_still, heap_still}
 use Rattle.wp_publish.proofs.Puts.{failed_put}
 use Rattle.wp_publish.proofs.putting.append.Goals as goal
@@ -25,7 +26,7 @@ close_log-requires-clause-held g c = (c.args.log.now.table, c.requires.holds.hel
 
 pub take_back-requires-clause-holds : goal.take_back-requires-clause-holds
 take_back-requires-clause-holds g c =
-    holds_as c.args.store.now c.args.seat.now c.close_log.new.seat c.args.log.now c.append.new.self c.requires.holds (failing c.args.seat.now.knows.participant) refl c.close_log.ensures c.append.ensures.first (ap (λ (t : WriteTable). t.history) c.in_default.ensures.err)
+    holds_as c.args.store.now c.args.seat.now c.close_log.new.seat c.args.log.now c.append.new.self c.requires.holds (failing c.append.new.self.table.failed c.args.seat.now.knows.participant) refl c.close_log.ensures c.append.ensures.first (ap (λ (t : WriteTable). t.history) c.in_default.ensures.err)
 
 pub take_back-requires-clause-memory : goal.take_back-requires-clause-memory
 take_back-requires-clause-memory g c =
@@ -37,9 +38,11 @@ take_back-requires-clause-heap g c =
     (ap (λ (t : WriteTable). t.pending) c.in_default.ensures.err) c.requires.heap
 
 pub returns-in_default : goal.returns-in_default
-returns-in_default g c = (
-  failed_put c.args.store.now c.args.seat.now c.take_back.new.seat c.args.log.now c.take_back.new.log c.take_back.ensures.holds c.close_log.new.seat c.append.new.self.table c.close_log.ensures c.take_back.ensures.seat
-      (ap (λ (x : LogState). x.table.history) c.take_back.ensures.log ∙ ap (λ (t : WriteTable). t.history) c.in_default.ensures.err)
-      (ap (λ (x : LogState). x.table.closed) c.take_back.ensures.log ∙ ap (λ (t : WriteTable). t.closed) c.in_default.ensures.err),
-  subst (λ (x : LogState). Rose c.args.log.now.wal.faults x.wal.faults) (sym c.take_back.ensures.log) c.in_default.ensures.cause,
-)
+returns-in_default g c =
+    let failed = ap (λ (t : WriteTable). t.failed) c.in_default.ensures.err in (
+      subst (λ (entries : List Entry). IsNotPut c.args.store.now c.args.seat.now c.args.log.now true (failing entries c.args.seat.now.knows.participant) c.take_back.new.seat c.take_back.new.log) failed
+          (failed_put c.args.store.now c.args.seat.now c.take_back.new.seat c.args.log.now c.take_back.new.log c.take_back.ensures.holds c.close_log.new.seat c.append.new.self.table c.append.new.self.table.failed c.close_log.ensures c.take_back.ensures.seat
+          (ap (λ (x : LogState). x.table.history) c.take_back.ensures.log ∙ ap (λ (t : WriteTable). t.history) c.in_default.ensures.err)
+          (ap (λ (x : LogState). x.table.closed) c.take_back.ensures.log ∙ ap (λ (t : WriteTable). t.closed) c.in_default.ensures.err)),
+      subst (λ (x : LogState). Rose c.args.log.now.wal.faults x.wal.faults) (sym c.take_back.ensures.log) c.in_default.ensures.cause,
+    )

@@ -1,6 +1,7 @@
 use Rattle.std.proofs.Common.{[], ◌∷◌, inl, refl}
 use Rattle.wp_model.specs.declared.entry.Entry.TheVariants.{Commit}
 use Rattle.wp_core.specs.Views.{unprepared}
+use Rattle.wp_txn.specs.Writes.{AsksCommit}
 use Rattle.wp_txn.proofs.Ends.{ended, has_until, there_before, commit_is_of, commit_decides, refuses_prepared}
 use Rattle.wp_txn.proofs.GoesOn.{stays}
 use Rattle.wp_txn.proofs.deciding.commit.Goals as goal
@@ -29,4 +30,4 @@ returns-in-Ok-clause-ok g c =
     )
 
 pub returns-in-Err-clause-refused : goal.returns-in-Err-clause-refused
-returns-in-Err-clause-refused g c = refuses_prepared c.args.store.now c.args.seat.now c.record_commit.new.seat c.args.txn 1 c.in-Err.why c.requires.prepared (c.in-Err.ensures {u = tt})
+returns-in-Err-clause-refused g c = refuses_prepared c.args.store.now c.args.seat.now c.record_commit.new.seat c.args.txn 1 AsksCommit c.in-Err.why c.requires.prepared (c.in-Err.ensures {u = tt})

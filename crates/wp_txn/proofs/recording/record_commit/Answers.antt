@@ -1,4 +1,4 @@
-use Rattle.std.proofs.Common.{ℕ, [], ◌∷◌, length, refl, subst, sym, ap, ◌∙◌, Err, arith}
+use Rattle.std.proofs.Common.{◌≡◌, ℕ, [], ◌∷◌, length, refl, subst, sym, ap, ◌∙◌, Err, arith}
 use Rattle.std.specs.Prelude.{Result}
 use Rattle.std.proofs.lemmas.Result.{err_from_is_err_and}
 use Rattle.wp_model.specs.declared.entry.Entry.TheVariants.{Commit}
@@ -12,7 +12,7 @@ use Rattle.wp_txn.proofs.recording.record_commit.Goals as goal
 
 pub returns-in_err-log : goal.returns-in_err-log
 returns-in_err-log g c = let p = err_from_is_err_and c.from_residual.result c.from_residual.ensures.1 in
-    subst (λ (r : Result ℕ TxnError). Records c.args.store.now c.args.seat.now (Commit c.args.txn.now.number ∷ []) (λ n. unprepared c.args.txn.now.name ∷ []) r c.open_log.new.seat) (sym (p.1 ∙ ap Err p.2)) c.in_err-log.ensures.refused
+    subst (λ (r : Result ℕ TxnError). Records c.args.store.now c.args.seat.now (Commit c.args.txn.now.number ∷ []) (λ n. unprepared c.args.txn.now.name ∷ []) r c.open_log.new.seat) (sym (p.1 ∙ ap Err p.2)) (c.in_err-log.ensures.refused (λ asked. asked ≡ Commit c.args.txn.now.number ∷ []))
 
 pub put_commit-outcome-requires-clause-may : goal.put_commit-outcome-requires-clause-may
 put_commit-outcome-requires-clause-may g c =

@@ -1,4 +1,4 @@
-use Rattle.std.proofs.Common.{ℕ, [], ◌∷◌, length, refl, subst, sym, ap, ◌∙◌, Err, arith}
+use Rattle.std.proofs.Common.{◌≡◌, ℕ, [], ◌∷◌, length, refl, subst, sym, ap, ◌∙◌, Err, arith}
 use Rattle.std.specs.Prelude.{Result}
 use Rattle.std.proofs.lemmas.Result.{err_from_is_err_and}
 use Rattle.wp_model.specs.declared.entry.Entry.TheVariants.{Prepare}
@@ -12,7 +12,7 @@ use Rattle.wp_txn.proofs.recording.record_prepare.Goals as goal
 
 pub returns-in_err-log : goal.returns-in_err-log
 returns-in_err-log g c = let p = err_from_is_err_and c.from_residual.result c.from_residual.ensures.1 in
-    subst (λ (r : Result ℕ TxnError). Records c.args.store.now c.args.seat.now (Prepare c.args.txn.now.name c.args.txn.now.batch ∷ []) (λ n. undecided_at c.args.txn.now.name n ∷ []) r c.open_log.new.seat) (sym (p.1 ∙ ap Err p.2)) c.in_err-log.ensures.refused
+    subst (λ (r : Result ℕ TxnError). Records c.args.store.now c.args.seat.now (Prepare c.args.txn.now.name c.args.txn.now.batch ∷ []) (λ n. undecided_at c.args.txn.now.name n ∷ []) r c.open_log.new.seat) (sym (p.1 ∙ ap Err p.2)) (c.in_err-log.ensures.refused (λ asked. asked ≡ Prepare c.args.txn.now.name c.args.txn.now.batch ∷ []))
 
 pub put_prepare-outcome-requires-clause-may : goal.put_prepare-outcome-requires-clause-may
 put_prepare-outcome-requires-clause-may g c =

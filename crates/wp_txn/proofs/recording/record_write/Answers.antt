@@ -1,4 +1,4 @@
-use Rattle.std.proofs.Common.{ℕ, [], ◌∷◌, subst, sym, ap, ◌∙◌, Err}
+use Rattle.std.proofs.Common.{◌≡◌, ℕ, [], ◌∷◌, subst, sym, ap, ◌∙◌, Err}
 use Rattle.std.specs.Prelude.{Result}
 use Rattle.std.proofs.lemmas.Result.{err_from_is_err_and}
 use Rattle.wp_model.specs.declared.entry.Entry.TheVariants.{Write}
@@ -9,7 +9,7 @@ use Rattle.wp_txn.proofs.recording.record_write.Goals as goal
 
 pub returns-in_err-log : goal.returns-in_err-log
 returns-in_err-log g c = let p = err_from_is_err_and c.from_residual.result c.from_residual.ensures.1 in
-    subst (λ (r : Result ℕ TxnError). Records c.args.store.now c.args.seat.now (Write c.args.batch.now ∷ []) (λ n. []) r c.open_log.new.seat) (sym (p.1 ∙ ap Err p.2)) c.in_err-log.ensures.refused
+    subst (λ (r : Result ℕ TxnError). Records c.args.store.now c.args.seat.now (Write c.args.batch.now ∷ []) (λ n. []) r c.open_log.new.seat) (sym (p.1 ∙ ap Err p.2)) (c.in_err-log.ensures.refused (λ asked. asked ≡ Write c.args.batch.now ∷ []))
 
 pub write-outcome-requires-clause-may : goal.write-outcome-requires-clause-may
 write-outcome-requires-clause-may g c = c.requires.may _ _ c.in_ok-log.ensures.ok

@@ -1,12 +1,14 @@
-use Rattle.std.proofs.Common.{[], ◌∷◌, inl, refl}
+use Rattle.std.proofs.Common.{◌≡◌, [], ◌∷◌, inl, refl}
+use Rattle.wp_model.specs.declared.entry.Entry.TheVariants.{Undo, Close}
 use Rattle.wp_core.specs.Views.{unprepared}
+use Rattle.wp_txn.specs.Writes.{AsksRollback}
 use Rattle.wp_txn.proofs.Ends.{refuses_prepared, refused_from}
 use Rattle.wp_txn.proofs.RollsBack.{prepared_since, rolled_back_decides, rolled_back}
 use Rattle.wp_txn.specs.declared.error.TxnError.TheVariants.{Memory}
 use Rattle.wp_txn.proofs.undoing.rollback.Goals as goal
 
 pub returns-in_default-clause-refused : goal.returns-in_default-clause-refused
-returns-in_default-clause-refused g c = refuses_prepared c.args.store.now c.args.seat.now c.prior_now.new.seat c.args.txn 2 Memory c.requires.prepared c.prior_now.ensures.seat
+returns-in_default-clause-refused g c = refuses_prepared c.args.store.now c.args.seat.now c.prior_now.new.seat c.args.txn 2 AsksRollback Memory c.requires.prepared c.prior_now.ensures.seat
 
 pub record_rollback-requires-clause-prepared : goal.record_rollback-requires-clause-prepared
 record_rollback-requires-clause-prepared g c = let x = c.args.txn in prepared_since c.args.store.now c.args.seat.now c.prior_now.new.seat x.name x.number x.batch c.prior_now.ensures.seat c.requires.prepared
@@ -29,4 +31,6 @@ returns-in-Ok-record_rollback-clause-ok g c =
 pub returns-clause-refused : goal.returns-clause-refused
 returns-clause-refused g c =
     let z = c.args.store.now in let s = c.args.seat.now in let new = c.record_rollback.new.seat in let why = c.in-Err.why in
-    refuses_prepared z s new c.args.txn 2 why c.requires.prepared (refused_from z s c.prior_now.new.seat new 2 c.prior_now.ensures.seat why (c.in-Err.ensures {u = tt}))
+    let x = c.args.txn in let found = c.in-Ok.prior in
+    refuses_prepared z s new x 2 AsksRollback why c.requires.prepared
+    (refused_from z s c.prior_now.new.seat new 2 (λ asked. asked ≡ Undo x.number found ∷ Close x.number ∷ []) (AsksRollback x) (λ asked is. (found, is)) c.prior_now.ensures.seat why (c.in-Err.ensures {u = tt}))
