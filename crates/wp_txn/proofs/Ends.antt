@@ -152,7 +152,7 @@ prepares z old new txn n h r =
         transaction = h.transaction;
         has = ap (λ (p : Participant). finite.get p.transactions txn.name) put.goes_on.participant ∙ h.has;
         batch_is = h.batch_is;
-        keys = λ key changed. h.keys key ∙ changed;
+        keys = h.keys;
         noted = r.2 (undecided_at txn.name n) (inl refl);
         seen = (let e = r.0 in omega (arith, e));
         stands = ap (λ (es : List Entry). entry_at es n) seen ∙ ap (entry_at (history ++ Prepare txn.name txn.batch ∷ [])) last ∙ entry_at_next history (Prepare txn.name txn.batch);

@@ -3,10 +3,11 @@ use Rattle.std.proofs.Common.{◌≡◌, ℕ, ◌≤◌, true, false, true≢fal
 use Rattle.std.specs.Prelude.{unwrap_or}
 use Rattle.std.specs.FinSet as set
 use Rattle.std.specs.FinMap as finite
+use Rattle.std.specs.Cmp.{both_ways}
 use Rattle.std.proofs.lemmas.Slice.Eq.{bytes_eq-Decides}
 use Rattle.wp_model.specs.LockTables.{LockTables}
 use Rattle.wp_model.specs.Batch.{is_batch}
-use Rattle.wp_model.specs.History.{named, batch_at}
+use Rattle.wp_model.specs.History.{prepared_batch, named, is_changed}
 use Rattle.wp_model.specs.declared.change.Change.{Change}
 use Rattle.wp_model.specs.declared.entry.Entry.{Entry}
 use Rattle.wp_model.specs.declared.holder.Holder.{Holder}
@@ -22,14 +23,15 @@ use Rattle.wp_core.specs.Turns.{locks_turn}
 use Rattle.wp_core.specs.Changes.{keys_of_holder, with_name, without_transaction}
 use Rattle.wp_core.specs.Conditions.{HasTransaction}
 use Rattle.wp_core.specs.Effects.{done}
+use Rattle.wp_core.specs.Entries.{batch_of_name}
 use Rattle.wp_core.specs.Notes.{ends}
 use Rattle.wp_core.specs.Sound.Actors.{StartsWith}
 use Rattle.wp_core.specs.Sound.Locks.{IsOwner, owner_of}
 use Rattle.wp_core.proofs.AllParticipants.{mine}
-use Rattle.wp_core.proofs.Keyed.{at_inserted}
 use Rattle.wp_core.proofs.HistoryGrows.{none_is}
+use Rattle.wp_core.proofs.KeepsNameTaken.{held_in_set, in_set_if_held}
 use Rattle.wp_rule.specs.Words.{Place, IsAt}
-use Rattle.wp_rule.specs.Moves.{MayMake, MayStep, Moved, first_of, actor_after, world_after, taking_name}
+use Rattle.wp_rule.specs.Moves.{MayMake, MayStep, Moved, first_of, actor_after, taking_name}
 use Rattle.wp_rule.specs.Accounts.{IsHolderIn, account_of}
 use Rattle.wp_rule.specs.Knows.{Noted}
 use Rattle.wp_rule.proofs.Forgets.{EndsNothing, forgets_nothing, load_ends, note_ends}
@@ -41,6 +43,7 @@ use Rattle.wp_shared.specs.Seats.{SeatState}
 use Rattle.wp_shared.proofs.OneStep.{stepped, becomes}
 use Rattle.wp_txn.specs.Actors.{no_changes, transaction_in, with_claimed, with_found, with_locked, with_batch, giving_up, with_taken, with_told, with_heard}
 use Rattle.wp_txn.specs.Turns.{seat_of, IsApartFrom, IsWithout, TakesPrepare}
+use Rattle.wp_txn.specs.Txn.{HasPrepared}
 
 -- ---- steps that end no note
 
@@ -169,9 +172,13 @@ pub may_free : (p : Place) (a : Actor) (t : LockTables) (name : List ℕ) → is
     → MayMake p a (λ w. free_transaction name ∷ [])
 may_free p a t name there held noted = known_made p a (free_transaction name) tt (record { table = t; held = held; so_is = ((transaction_in a.participant name, has_its a name there), noted) })
 
-pub may_leave : (p : Place) (a : Actor) (t : LockTables) (name : List ℕ) (number : ℕ) → is_some (finite.get a.participant.transactions name) ≡ true → IsIn (locks t) a.held → IsIn (undecided_at name number) a.notes
-    → MayMake p a (λ w. leave_name name ∷ [])
-may_leave p a t name number there held noted = known_made p a (leave_name name) tt (record { table = t; held = held; so_is = ((transaction_in a.participant name, has_its a name there), (number, noted)) })
+pub may_leave : (p : Place) (s : SeatState) (t : LockTables) (name : List ℕ) (number : ℕ) (batch : List Change) → HasPrepared s name number batch → IsIn (locks t) s.knows.held → MayMake p s.knows (λ w. leave_name name ∷ [])
+may_leave p s t name number batch h held =
+    known_made p s.knows (leave_name name) tt (record {
+      table = t;
+      held = held;
+      so_is = (h.transaction, h.has, (number, h.noted, h.seen, λ key locked. ap (λ (o : Option Entry). is_changed (prepared_batch o) key) h.stands ∙ sym (h.keys key) ∙ locked));
+    })
 
 pub is_live : (p : Place) (a : Actor) (w : World) (t : LockTables) (name : List ℕ) → IsAt p a w → is_some (finite.get a.participant.transactions name) ≡ true → IsIn (locks t) a.held → is_some (finite.get t.names name) ≡ true
 is_live p a w t name k there held =
@@ -251,20 +258,19 @@ module _ (p : Place) (so : World → Type 0) (s new : SeatState) (same : (new.ta
   took_it u had none m =
       let w = m.world in let k = m.before in let h : List Entry = w.writes.history in let q : ℕ = unwrap_or (named h name) 0 in
       let are : w.locks ≡ t = locks_are p s.knows w t k held in
-      let there : is_some (named h name) ≡ true = (at_sound p s.knows w k).locks.names_left name (ap (λ (l : LockTables). finite.get l.names name) (locks_are p s.knows w u k had) ∙ none) in
+      let sound = (at_sound p s.knows w k).locks in
+      let left : finite.get w.locks.names name ≡ Some None = ap (λ (l : LockTables). finite.get l.names name) (locks_are p s.knows w u k had) ∙ none in
+      let there : is_some (named h name) ≡ true = sound.names_left name left in
       let is : new.knows ≡ with_taken w.locks h name s.knows = all_made p (taking_name name) so s.knows new.knows m (load_ends, (take_ends name q, (note_ends (undecided_at name q), tt))) in
-      let x : Transaction = record { batch = batch_at h q; locked = keys_of_holder w.locks (Txn name) } in
-      let has : HasTransaction new.knows name x = ap (λ (a : Actor). finite.get a.participant.transactions name) is ∙ at_inserted s.knows.participant.transactions name x name refl in
-      let later : World = world_after (taking_name name w) w p.by s.knows in
       record {
         history = h;
         seat = becomes s new (with_taken t h name s.knows) same (is ∙ ap (λ (l : LockTables). with_taken l h name s.knows) are);
         seen = seen_is p s.knows w k;
         named_there = there;
-        keys = λ key changed.
+        keys = λ key.
             ap (λ (l : LockTables). set.contains (keys_of_holder l (Txn name)) key) (sym are)
-            ∙ (at_sound p new.knows later m.after).locks.keys_known key name (undecided_of p s.knows w k name q key (there_is (named h name) 0 there) changed) p.by 0 (owner_of new.knows.participant)
-            (mine owner_of later.actors p.by new.knows new.knows m.after.there refl) x has;
+            ∙ both_ways (set.contains (keys_of_holder w.locks (Txn name)) key) (is_changed (batch_of_name h name) key) (λ locked. sound.keys_left key name left (held_in_set w.locks name key locked))
+            (λ changed. in_set_if_held w.locks name key (undecided_of p s.knows w k name q key (there_is (named h name) 0 there) changed));
         same = λ d holds. (has_writes p s.knows w k (λ e. e.history ≡ d.history) (record { table = d; held = holds; so_is = refl })).1;
       }
 

@@ -158,11 +158,11 @@ module _ {D : Type 0} (z : SharedState D) (old new : SeatState) (log : LogState)
     owns_end : (before : List Entry) (entry : Entry) → entry_at before number ≡ Some (Prepare name batch) → transaction_of before entry ≡ Some (name_at before number)
         → ((key : List ℕ) → is_changed (changes_under before entry) key ≡ true → is_changed batch key ≡ true) → OwnsEntry new.knows before entry
     owns_end before entry there is keys = record {
-      keys = λ key changed. inr (name, h.transaction, still_has, h.keys key (keys key changed));
+      keys = λ key changed. inr (name, h.transaction, still_has, h.keys key ∙ keys key changed);
       transaction = λ other e. (
         h.transaction,
         subst (λ (n : List ℕ). HasTransaction new.knows n h.transaction) (sym (ap prepared_name there) ∙ same_some (name_at before number) other (sym is ∙ e)) still_has,
-        λ key changed. h.keys key (keys key changed),
+        λ key changed. h.keys key ∙ keys key changed,
       );
     }
 

@@ -275,7 +275,7 @@ module _ {D : Type 0} (z : SharedState D) (old : SeatState) (free : IsFree z.tab
                   transaction = x;
                   has = ap (λ (y : Participant). finite.get y.transactions name) goes.participant ∙ at_inserted old.knows.participant.transactions name x name refl;
                   batch_is = batch_is;
-                  keys = λ key changed. c.keys key (ap (λ (changes : List Change). is_changed changes key) batch_is ∙ changed);
+                  keys = λ key. c.keys key ∙ ap (λ (changes : List Change). is_changed changes key) batch_is;
                   noted = gave_log.notes (undecided_at name number) refl (gave.notes (undecided_at name number)
                       (subst (λ (y : SeatState). IsIn (undecided_at name number) y.knows.notes) (sym is) (inl (ap (undecided_at name) number_is))));
                   seen = subst (λ (entries : List Entry). number ≤ length entries) (sym seen) (undecided_within h number f.0).1;

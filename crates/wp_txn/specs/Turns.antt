@@ -1,10 +1,11 @@
 -- A seat while it holds turns, and what the steps that it makes then leave of it.
-use Rattle.std.specs.Prelude.{◌≡◌, ℕ, Bool, true, false, List, [], ◌∷◌, Some, None, is_some, unwrap_or}
+use Rattle.std.specs.Prelude.{◌≡◌, ℕ, Bool, true, false, List, [], ◌∷◌, Some, None, is_some}
 use Rattle.std.specs.FinSet as set
 use Rattle.wp_model.specs.declared.entry.Entry.{Entry}
 use Rattle.wp_model.specs.declared.holder.Holder.TheVariants.{Txn}
-use Rattle.wp_model.specs.History.{named, batch_at, is_changed}
+use Rattle.wp_model.specs.History.{named, is_changed}
 use Rattle.wp_model.specs.LockTables.{LockTables}
+use Rattle.wp_core.specs.Entries.{batch_of_name}
 use Rattle.wp_core.specs.Lists.{IsIn}
 use Rattle.wp_core.specs.Tables.{WriteTable, writes, locks}
 use Rattle.wp_core.specs.Turns.{write_turn, locks_turn}
@@ -97,12 +98,12 @@ pub record IsWithoutDirect (old new : SeatState) (t : LockTables) : Type 0 where
   pub seat : new ≡ seat_of old (record (ending_direct t old.knows) { notes = new.knows.notes })
   pub notes : (fact : Fact) → IsNoDirect fact → IsIn fact old.knows.notes → IsIn fact new.knows.notes
 
--- The seat saw the history, and took the undecided prepare of the name; the tables held the keys of its batch for it. A history that
+-- The seat saw the history, and took the undecided prepare of the name; the tables held just the keys of its batch for it. A history that
 -- the seat holds is that one.
 pub record TakesPrepare (old : SeatState) (t : LockTables) (name : List ℕ) (new : SeatState) : Type 0 where
   pub history : List Entry
   pub seat : new ≡ seat_of old (with_taken t history name old.knows)
   pub seen : StartsWith history old.knows.participant.seen
   pub named_there : is_some (named history name) ≡ true
-  pub keys : (key : List ℕ) → is_changed (batch_at history (unwrap_or (named history name) 0)) key ≡ true → set.contains (keys_of_holder t (Txn name)) key ≡ true
+  pub keys : (key : List ℕ) → set.contains (keys_of_holder t (Txn name)) key ≡ is_changed (batch_of_name history name) key
   pub same : (d : WriteTable) → IsIn (writes d) old.knows.held → history ≡ d.history

@@ -1,5 +1,5 @@
 -- The transactions of a seat, open and prepared.
-use Rattle.std.specs.Prelude.{◌≡◌, ℕ, ◌≤◌, true, List, length, Some}
+use Rattle.std.specs.Prelude.{◌≡◌, ℕ, ◌≤◌, List, length, Some}
 use Rattle.std.specs.FinSet as set
 use Rattle.std.specs.FinMap as finite
 use Rattle.wp_model.specs.declared.change.Change.{Change}
@@ -28,13 +28,13 @@ pub record HasOpen (s : SeatState) (name : List ℕ) (batch : List Change) : Typ
   pub keys : (key : List ℕ) → set.contains transaction.locked key ≡ is_changed batch key
   pub noted : IsIn (unprepared name) s.knows.notes
 
--- The seat has a transaction of this name with these changes, which locked each key that they change. It is the undecided prepare
+-- The seat has a transaction of this name with these changes, which locked just the keys that they change. It is the undecided prepare
 -- with this number, which the seat has seen with just these changes.
 pub record HasPrepared (s : SeatState) (name : List ℕ) (number : ℕ) (batch : List Change) : Type 0 where
   pub transaction : Transaction
   pub has : finite.get s.knows.participant.transactions name ≡ Some transaction
   pub batch_is : transaction.batch ≡ batch
-  pub keys : (key : List ℕ) → is_changed batch key ≡ true → set.contains transaction.locked key ≡ true
+  pub keys : (key : List ℕ) → set.contains transaction.locked key ≡ is_changed batch key
   pub noted : IsIn (undecided_at name number) s.knows.notes
   pub seen : number ≤ length s.knows.participant.seen
   pub stands : entry_at s.knows.participant.seen number ≡ Some (Prepare name batch)

@@ -29,14 +29,9 @@ pub fn leave<D: Disk + Drop, R: Wait>(
     requires prepared { HasPrepared seat.old txn.name txn.number txn.batch }
     ensures { GivesUp store.now seat.old seat.new txn.name }
 {
-    let PreparedTxn {
-        name,
-        number,
-        batch: _batch,
-    } = txn;
     let mut tables = take_locks(store, rt, seat);
-    leave_name(store, seat, &tables, &name, number);
-    tables.leave_name(&name);
+    leave_name(store, seat, &tables, &txn);
+    tables.leave_name(&txn.name);
     give_locks(store, seat, tables);
 }
 

@@ -15,7 +15,9 @@ ghost use Rattle.wp_core.specs.Tables.{writes, locks};
 ghost use Rattle.wp_core.specs.Views.{unprepared, undecided_at};
 ghost use Rattle.wp_txn.specs.Actors.{transaction_in, noting, with_claimed, with_found, with_locked, with_direct, with_stopped, with_batch, with_told, with_heard};
 ghost use Rattle.wp_txn.specs.Turns.{seat_of, HoldsLocks, IsWithout, IsWithoutDirect, TakesPrepare};
+ghost use Rattle.wp_txn.specs.Txn.{HasPrepared};
 
+use crate::txn::PreparedTxn;
 use std::marker::Brand;
 use wp_guarded::Log;
 use wp_locks::Locks;
@@ -136,16 +138,14 @@ pub(crate) fn leave_name<D: Disk + Drop>(
     store: &Shared<D>,
     seat: &mut Seat<D>,
     tables: &Locks,
-    name: &Name,
-    number: Seq,
+    txn: &PreparedTxn,
 )
     requires seat { HoldsLocks store.now seat.old tables.now }
-    requires has { is_some (finite.get seat.old.knows.participant.transactions name.now) ≡ true }
-    requires noted { IsIn (undecided_at name.now number) seat.old.knows.notes }
-    ensures seat { IsWithout seat.old seat.new (with_name tables.now name.now None) name.now }
-    ensures live { is_some (finite.get tables.now.names name.now) ≡ true }
+    requires prepared { HasPrepared seat.old txn.now.name txn.now.number txn.now.batch }
+    ensures seat { IsWithout seat.old seat.new (with_name tables.now txn.now.name None) txn.now.name }
+    ensures live { is_some (finite.get tables.now.names txn.now.name) ≡ true }
 {
-    store.make_about::<Brand, Name>(seat, name);
+    store.make_about::<Brand, Name>(seat, &txn.name);
 }
 
 /// The seat took the undecided prepare of this name, which nobody had. It still holds the tables as they were before.
