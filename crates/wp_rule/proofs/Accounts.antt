@@ -55,7 +55,7 @@ module _ (w : World) (by : ℕ) (a : Actor) (at : get_elem? w.actors by ≡ some
 
   by_name : (key : Option (List ℕ)) (name : List ℕ) → finite.get a.participant.transactions name ≡ None → (o : Option (Option (List ℕ))) → finite.get w.locks.names name ≡ o → is_some o ≡ true → Accounts w by a key (Txn name) (account_by (length w.writes.history) o)
   by_name key name none None is live = absurd cc
-  by_name key name none (Some None) is live = (refl, s.locks.names_left name is)
+  by_name key name none (Some None) is live = (refl, is)
   by_name key name none (Some (Some client)) is live =
       let n = s.locks.names_had name client is in record {
         at = n.at;

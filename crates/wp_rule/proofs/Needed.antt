@@ -1,9 +1,10 @@
 -- What a seat knows by its view is what the machine's steps need.
-use Rattle.std.proofs.Common.{◌≡◌, ◌≢◌, inl, inr, ⊎_elim, ℕ, suc, ◌≤◌, ◌<◌, Bool, true, false, true≢false, ◌||◌, List, [], ◌∷◌, length, length-append, sym, subst, ap, ◌∙◌, Option, Some, None, is_some, arith, refl}
+use Rattle.std.proofs.Common.{◌≡◌, ◌≢◌, inl, inr, ⊎_elim, ℕ, suc, ◌≤◌, ◌<◌, Bool, true, false, true≢false, ◌||◌, List, [], ◌∷◌, length, length-append, sym, subst, ap, ◌∙◌, Option, Some, None, is_some, unwrap_or, arith, refl}
 use Rattle.std.specs.FinSet as set
 use Rattle.std.specs.FinMap as finite
 use Rattle.std.proofs.lemmas.Bool.{false_from_ne_true}
 use Rattle.std.proofs.lemmas.Slice.Eq.{bytes_eq-Decides}
+use Rattle.wp_model.specs.declared.change.Change.{Change}
 use Rattle.wp_model.specs.declared.entry.Entry.{Entry}
 use Rattle.wp_model.specs.declared.holder.Holder.TheVariants.{Txn, Client}
 use Rattle.wp_model.specs.Decision.{decision_of, version_in}
@@ -22,17 +23,17 @@ use Rattle.wp_core.specs.Cache.{cache_place, cached, pair_at}
 use Rattle.wp_core.specs.Tables.{Content, WriteTable, StoreTable, Installed, writes, prepared, snapshots, store, locks, installed}
 use Rattle.wp_core.specs.Views.{Fact, passed, in_old_commits, apart, words_stay, versions_in_memory, versions_nowhere, number_in_heap, number_not_in_heap, undecided_at, prior_values, unprepared, direct_free, tables_stay, live_listed, nothing_flushed, frozen_stay, delayed_flag_stays, old_flag_stays}
 use Rattle.wp_core.specs.World.{Transaction, Actor, World}
-use Rattle.wp_core.specs.Entries.{next_of, extended}
+use Rattle.wp_core.specs.Entries.{next_of, batch_of_name, extended}
 use Rattle.wp_core.specs.Conditions.{IsHeldFor, MayPublish, MayLook, MayBeEvicted, MayGive}
 use Rattle.wp_core.specs.Reading.{Registration}
 use Rattle.wp_core.specs.Sound.Locks.{IsOwner, owner_of}
 use Rattle.wp_core.specs.Sound.Prepared.{IsInOldCommits}
 use Rattle.wp_core.specs.Sound.Snapshots.{has_versions, has_versions_at, view_of}
-use Rattle.wp_core.specs.Steps.{Step, load_published, register, begin_reading, load, end_reading, make_pending, log_pending, close_log, find_log_closed, drop_pending, add_prepared, take_pending_prepared, add_delayed_commit, take_out, register_again, release, add_old_commit, add_versions, take_versions, move_versions, replace_versions, install, halt, find_flushed, claim_name, take_name, leave_name, free_transaction, lock_key, free_key, lock_direct, free_direct, find_holder, tell, hear, set_batch, note, set_client, store_published, store_max_evicted, store_word, store_delayed_flag, store_old_flag, take_turn, give_turn, make_note, make_seat, learn, join_seat}
+use Rattle.wp_core.specs.Steps.{Step, load_published, register, begin_reading, load, end_reading, make_pending, log_pending, close_log, find_log_closed, drop_pending, add_prepared, take_pending_prepared, add_delayed_commit, take_out, register_again, release, add_old_commit, add_versions, take_versions, move_versions, replace_versions, install, halt, find_edit, claim_name, take_name, leave_name, free_transaction, lock_key, free_key, lock_direct, free_direct, find_holder, tell, hear, set_batch, note, set_client, store_published, store_max_evicted, store_word, store_delayed_flag, store_old_flag, take_turn, give_turn, make_note, make_seat, learn, join_seat}
 use Rattle.wp_core.specs.Needs.{Needs}
 use Rattle.wp_core.specs.Sound.Views.{IsGuarded, IsClearing, IsApart, IsInMemory, IsNowhere, IsSo}
 use Rattle.wp_core.specs.IsSound.{IsSound}
-use Rattle.wp_model.proofs.Entries.{entry_at_old, entry_at_past, slice_get_next, prepared_within}
+use Rattle.wp_model.proofs.Entries.{entry_at_old, batch_at_old, entry_at_past, slice_get_next, prepared_within}
 use Rattle.wp_model.proofs.Found.{found_holder, found_named}
 use Rattle.wp_core.proofs.AllParticipants.{mine}
 use Rattle.wp_core.proofs.HistoryGrows.{none_is}
@@ -164,6 +165,13 @@ module _ (p : Place) (a : Actor) (w : World) (k : IsAt p a w) where
       let f = found_named w.writes.history name q is in
       sound.locks.prepared_keys q key f.0 changed ∙ ap (λ (z : List ℕ). Some (Txn z)) ((bytes_eq-Decides (name_at w.writes.history q) name).0 f.1)
 
+  -- what the batch of the prepare with the name changed it changes now
+  batch_now : (name : List ℕ) (q : ℕ) (key : List ℕ) → named w.writes.history name ≡ Some q → q ≤ length a.participant.seen → is_changed (batch_at a.participant.seen q) key ≡ true → is_changed (batch_of_name w.writes.history name) key ≡ true
+  batch_now name q key is low changed =
+      let s = seen_is p a w k in
+      let same : batch_at w.writes.history q ≡ batch_at a.participant.seen q = ap (λ (h : List Entry). batch_at h q) s.1 ∙ batch_at_old a.participant.seen s.0 q low in
+      ap (λ (o : Option ℕ). is_changed (batch_at w.writes.history (unwrap_or o 0)) key) is ∙ ap (λ (batch : List Change). is_changed batch key) same ∙ changed
+
   -- ---- the next number
 
   pub next_entry : (pending : List Entry) → entry_at (extended w.writes.history pending) (suc (length w.writes.history)) ≡ next_of pending
@@ -292,10 +300,10 @@ module _ (p : Place) (a : Actor) (w : World) (k : IsAt p a w) where
   needed (add_old_commit s q) n = let h = has_snapshots _ n in let c = h.1.2 in (h.0, h.1.0, old_up h.1.1, (c.0, decided_now q c.0 c.1, c.2, c.3))
   needed (add_versions memory) n = let h = has_writes _ n in let g = has_store _ h.1 in (h.0, g.0, g.1)
   needed (take_versions memory) n = let h = has_writes _ n in let g = has_store _ h.1 in (h.0, g.0, g.1)
-  needed find_flushed n = (has_installed (λ e. Unit {0}) n).0
+  needed find_edit n = (has_installed (λ e. Unit {0}) n).0
   needed (claim_name name) n = let h = has_locks _ n in (h.0, h.1.0, h.1.1)
   needed (take_name name q) n = let h = has_writes _ n in let g = has_locks _ h.1 in (g.0, g.1.0, g.1.1)
-  needed (leave_name name) n = let h = has_locks _ n in let s = is_so (undecided_at name h.1.1.0) h.1.1.1 in (h.0, h.1.0, ap is_some s.1)
+  needed (leave_name name) n = let h = has_locks _ n in let c = h.1.2 in let s = is_so (undecided_at name c.0) c.1 in (h.0, (h.1.0, h.1.1, λ key locked. batch_now name c.0 key s.1 c.2 (c.3 key locked)), ap is_some s.1)
   needed (free_transaction name) n = let h = has_locks _ n in (h.0, h.1.0, (is_so (unprepared name) h.1.1).1)
   needed (lock_key name x key) n = let h = has_locks _ n in (h.0, h.1.0, h.1.1)
   needed (free_key name x key) n = let h = has_locks _ n in (h.0, h.1.0, h.1.1, (is_so (unprepared name) h.1.2).1)

@@ -14,7 +14,7 @@ use Rattle.wp_core.specs.World.{Actor, Participant, World, new_participant}
 use Rattle.wp_core.specs.World as world
 use Rattle.wp_core.specs.Sound.Actors.{seen_of, own_of, learned_of, held_of, role_of, participants_of, IsParticipantAt, total_participants, times}
 use Rattle.wp_core.specs.Sound.Locks.{Owner, owner_of, IsNameOf, IsDirectOf, AreLocked}
-use Rattle.wp_core.specs.Sound.Pasts.{past_of, HasDone, IsPast, is_log_fault, is_tables_fault, IsAccounted, WasLocked, WasInstalled, OtherCompacts, AreHolders, IsBoard, AreFaults, AreEdits}
+use Rattle.wp_core.specs.Sound.Pasts.{past_of, HasDone, IsPast, is_log_fault, is_tables_fault, IsAccounted, WasLocked, WasInstalled, OtherDid, OtherInstalls, OtherCompacts, AreHolders, IsBoard, AreFaults, AreEdits}
 use Rattle.wp_core.specs.Sound.Reader.{reader_of}
 use Rattle.wp_core.specs.Sound.Snapshots.{registered_of, view_of}
 use Rattle.wp_core.specs.Sound.Views.{noter_of}
@@ -120,6 +120,7 @@ module _ (w : World) (a : Actor) (others : List Actor) (is : w.actors ≡ a ∷ 
     };
     names_had = λ name client h. name_down name client (k.names_had name client h);
     names_left = k.names_left;
+    keys_left = k.keys_left;
     keys_live = k.keys_live;
     keys_known = λ key name h j i o there. k.keys_known key name h j i o (up owner_of j i o there);
     keys_direct = λ key client h. direct_down key client (k.keys_direct key client h);
@@ -149,16 +150,28 @@ module _ (w : World) (a : Actor) (others : List Actor) (is : w.actors ≡ a ∷ 
     tables = total_down (total (λ (e : Event). one_if (is_tables_fault e))) past_of (λ client seen. refl) ∙ k.tables;
     not_logged = k.not_logged;
     stopped = λ n q. k.stopped n (past_up _ q);
+    failed = λ entries q. k.failed entries (past_up _ q);
+    found_halted = λ n tables due q. k.found_halted n tables due (past_up _ q);
   }
 
   installed_down : (n : ℕ) → WasInstalled w.first_edit (participants past_of w) n → WasInstalled w.first_edit (participants past_of v) n
-  installed_down n k = ⊎_elim (λ e. inl e) (λ q. inr (q.0, past_down _ q.1)) k
+  installed_down n k = ⊎_elim (λ e. inl e) (λ q. inr (q.0, q.1, past_down _ q.2)) k
+
+  other_down : (j i : ℕ) (e : Event) → OtherDid (participants past_of w) j i e → OtherDid (participants past_of v) j i e
+  other_down j i e o = (o.0, o.1, o.2, done_down o.0 o.1 e o.3)
+
+  compacts_down : (j i : ℕ) → OtherCompacts (participants past_of w) j i → OtherCompacts (participants past_of v) j i
+  compacts_down j i o = (o.0, other_down j i _ o.1)
 
   edits_down : AreEdits w.first_edit w.installed (participants past_of v)
   edits_down = let k = s.edits in record {
     last = installed_down w.installed.last.flushed k.last;
-    found = λ n q. installed_down n (k.found n (past_up _ q));
-    tables = λ j i past there. ⊎_elim (λ le. inl le) (λ (o : OtherCompacts (participants past_of w) j i). inr (o.0, o.1, o.2, o.3, o.4, done_down o.0 o.1 _ o.5)) (k.tables j i past (up past_of j i past there));
+    found = λ n tables due halted q. installed_down n (k.found n tables due halted (past_up _ q));
+    few = λ j i n tables due halted d less. compacts_down j i (k.few j i n tables due halted (done_up j i _ d) less);
+    edit = λ j i past there. ⊎_elim (λ same. inl same) (λ (o : OtherInstalls (participants past_of w) j i). inr (o.0, o.1, other_down j i _ o.2)) (k.edit j i past (up past_of j i past there));
+    tables = λ j i past there. ⊎_elim (λ le. inl le) (λ (o : OtherCompacts (participants past_of w) j i). inr (compacts_down j i o)) (k.tables j i past (up past_of j i past there));
+    failed = λ last edit q. k.failed last edit (past_up _ q);
+    none_failed = k.none_failed;
   }
 
   pub only_first : ((turn : Turn) → turn_holder w.holders turn ≡ None) → a.live ≡ true → a.made ≡ length a.joined → IsSound v

@@ -33,7 +33,7 @@ use Rattle.wp_core.specs.Sound.Prepared.{IsInOldCommits}
 use Rattle.wp_core.specs.Sound.Snapshots.{has_versions_at}
 use Rattle.wp_core.specs.Sound.Store.{NoneFlushed}
 use Rattle.wp_core.specs.Sound.Views.{IsApart, IsInMemory, IsNowhere, Owns}
-use Rattle.wp_core.specs.Steps.{Step, load_published, register, begin_reading, load, end_reading, store_published, store_max_evicted, store_word, store_delayed_flag, store_old_flag, give_turn, make_pending, log_pending, close_log, find_log_closed, drop_pending, add_prepared, take_pending_prepared, add_delayed_commit, take_out, register_again, release, add_old_commit, add_versions, take_versions, move_versions, replace_versions, install, halt, find_flushed, claim_name, take_name, leave_name, free_transaction, lock_key, free_key, lock_direct, free_direct, tell, hear, set_batch, note, set_client}
+use Rattle.wp_core.specs.Steps.{Step, load_published, register, begin_reading, load, end_reading, store_published, store_max_evicted, store_word, store_delayed_flag, store_old_flag, give_turn, make_pending, log_pending, close_log, find_log_closed, drop_pending, add_prepared, take_pending_prepared, add_delayed_commit, take_out, register_again, release, add_old_commit, add_versions, take_versions, move_versions, replace_versions, install, halt, find_edit, claim_name, take_name, leave_name, free_transaction, lock_key, free_key, lock_direct, free_direct, tell, hear, set_batch, note, set_client}
 use Rattle.wp_rule.specs.Words.{Place}
 
 -- the view has a table of this kind, of which this is so
@@ -118,6 +118,10 @@ pub record KnowsPublish (a : Actor) (d : WriteTable) (entry : Entry) (others : L
   pub number : IsPrepare entry → Noted a number_in_heap
   pub pair : (pair : CommitPair) → pair_by (suc (length d.history)) entry ≡ Some pair → (max : ℕ) × (words : List ℕ) × Noted a (words_stay max words) × (cached words pair.number ≡ Some pair.decision)
 
+-- the transaction may be left: it was noted as undecided, and it has locked no key but those of its batch
+abbrev pub KnowsLeft : Actor → List ℕ → Transaction → Type 0
+KnowsLeft a name x = (q : ℕ) × Noted a (undecided_at name q) × (q ≤ length a.participant.seen) × ((key : List ℕ) → set.contains x.locked key ≡ true → is_changed (batch_at a.participant.seen q) key ≡ true)
+
 -- ---- maintenance
 
 -- Versions may move from memory to tables: none comes or goes, those in memory above the flushed number stay there, and in
@@ -185,10 +189,10 @@ Knows p a (replace_versions tables floor) = Holding a store (λ t. Holding a ins
 Knows p a (install edit compacts) = Holding a installed (λ e. KnowsInstalled a e edit compacts)
 Knows p a (halt None) = Holding a installed (λ e. e.halted ≡ false)
 Knows p a (halt (Some edit)) = Holding a installed (λ e. (e.halted ≡ false) × IsEditCovered a.participant.seen edit)
-Knows p a find_flushed = Holding a installed (λ e. Unit {0})
+Knows p a find_edit = Holding a installed (λ e. Unit {0})
 Knows p a (claim_name name) = Holding a locks (λ t. (finite.get t.names name ≡ None) × (a.live ≡ true))
 Knows p a (take_name name q) = Holding a writes (λ d. Holding a locks (λ t. (finite.get t.names name ≡ Some None) × (named d.history name ≡ Some q)))
-Knows p a (leave_name name) = Holding a locks (λ t. ((x : Transaction) × HasTransaction a name x) × ((q : ℕ) × Noted a (undecided_at name q)))
+Knows p a (leave_name name) = Holding a locks (λ t. (x : Transaction) × HasTransaction a name x × KnowsLeft a name x)
 Knows p a (free_transaction name) = Holding a locks (λ t. ((x : Transaction) × HasTransaction a name x) × Noted a (unprepared name))
 Knows p a (lock_key name x key) = Holding a locks (λ t. HasTransaction a name x × (finite.get t.keys key ≡ None))
 Knows p a (free_key name x key) = Holding a locks (λ t. HasTransaction a name x × (set.contains x.locked key ≡ true) × Noted a (unprepared name))
