@@ -43,10 +43,10 @@ module _ (l : LockTables) (name : List ℕ) where
   in_set k = contains-from_list nat_list_cmp_total (filter (is_held_by l (Txn name)) (finite.keys l.keys)) k
       ∙ any-filter_same (eq_by_cmp key_cmp k) (is_held_by l (Txn name)) (is_held_by l (Txn name) k) (λ q same. ap (is_held_by l (Txn name)) (sym (same_word k q same))) (finite.keys l.keys)
 
-  pub held_in_set : (k : List ℕ) → words.contains (keys_of_holder l (Txn name)) k ≡ true → finite.get l.keys k ≡ Some (Txn name)
+  held_in_set : (k : List ℕ) → words.contains (keys_of_holder l (Txn name)) k ≡ true → finite.get l.keys k ≡ Some (Txn name)
   held_in_set k h = held_by name (finite.get l.keys k) (both (is_held_by l (Txn name) k) (list_any (eq_by_cmp key_cmp k) (finite.keys l.keys)) (sym (in_set k) ∙ h)).0
 
-  pub in_set_if_held : (k : List ℕ) → finite.get l.keys k ≡ Some (Txn name) → words.contains (keys_of_holder l (Txn name)) k ≡ true
+  in_set_if_held : (k : List ℕ) → finite.get l.keys k ≡ Some (Txn name) → words.contains (keys_of_holder l (Txn name)) k ≡ true
   in_set_if_held k h =
       let one : is_held_by l (Txn name) k ≡ true = ap (λ (o : Option Holder). option_map_or (is_same (Txn name)) o false) h ∙ (bytes_eq-Decides name name).1 refl in
       let there : list_any (eq_by_cmp key_cmp k) (finite.keys l.keys) ≡ true = sym (contains_key-keys l.keys k) ∙ ap is_some h in

@@ -7,7 +7,7 @@ use Rattle.std.specs.Cmp.{both_ways}
 use Rattle.std.proofs.lemmas.Slice.Eq.{bytes_eq-Decides}
 use Rattle.wp_model.specs.LockTables.{LockTables}
 use Rattle.wp_model.specs.Batch.{is_batch}
-use Rattle.wp_model.specs.History.{prepared_batch, named, is_changed}
+use Rattle.wp_model.specs.History.{prepared_batch, named, batch_at, is_changed}
 use Rattle.wp_model.specs.declared.change.Change.{Change}
 use Rattle.wp_model.specs.declared.entry.Entry.{Entry}
 use Rattle.wp_model.specs.declared.holder.Holder.{Holder}
@@ -29,9 +29,9 @@ use Rattle.wp_core.specs.Sound.Actors.{StartsWith}
 use Rattle.wp_core.specs.Sound.Locks.{IsOwner, owner_of}
 use Rattle.wp_core.proofs.AllParticipants.{mine}
 use Rattle.wp_core.proofs.HistoryGrows.{none_is}
-use Rattle.wp_core.proofs.KeepsNameTaken.{held_in_set, in_set_if_held}
+use Rattle.wp_core.proofs.Keyed.{at_inserted}
 use Rattle.wp_rule.specs.Words.{Place, IsAt}
-use Rattle.wp_rule.specs.Moves.{MayMake, MayStep, Moved, first_of, actor_after, taking_name}
+use Rattle.wp_rule.specs.Moves.{MayMake, MayStep, Moved, first_of, actor_after, world_after, taking_name}
 use Rattle.wp_rule.specs.Accounts.{IsHolderIn, account_of}
 use Rattle.wp_rule.specs.Knows.{Noted}
 use Rattle.wp_rule.proofs.Forgets.{EndsNothing, forgets_nothing, load_ends, note_ends}
@@ -262,6 +262,11 @@ module _ (p : Place) (so : World → Type 0) (s new : SeatState) (same : (new.ta
       let left : finite.get w.locks.names name ≡ Some None = ap (λ (l : LockTables). finite.get l.names name) (locks_are p s.knows w u k had) ∙ none in
       let there : is_some (named h name) ≡ true = sound.names_left name left in
       let is : new.knows ≡ with_taken w.locks h name s.knows = all_made p (taking_name name) so s.knows new.knows m (load_ends, (take_ends name q, (note_ends (undecided_at name q), tt))) in
+      let x : Transaction = record { batch = batch_at h q; locked = keys_of_holder w.locks (Txn name) } in
+      let has : HasTransaction new.knows name x = ap (λ (a : Actor). finite.get a.participant.transactions name) is ∙ at_inserted s.knows.participant.transactions name x name refl in
+      let later : World = world_after (taking_name name w) w p.by s.knows in
+      let sound_later = (at_sound p new.knows later m.after).locks in
+      let own = mine owner_of later.actors p.by new.knows new.knows m.after.there refl in
       record {
         history = h;
         seat = becomes s new (with_taken t h name s.knows) same (is ∙ ap (λ (l : LockTables). with_taken l h name s.knows) are);
@@ -269,8 +274,8 @@ module _ (p : Place) (so : World → Type 0) (s new : SeatState) (same : (new.ta
         named_there = there;
         keys = λ key.
             ap (λ (l : LockTables). set.contains (keys_of_holder l (Txn name)) key) (sym are)
-            ∙ both_ways (set.contains (keys_of_holder w.locks (Txn name)) key) (is_changed (batch_of_name h name) key) (λ locked. sound.keys_left key name left (held_in_set w.locks name key locked))
-            (λ changed. in_set_if_held w.locks name key (undecided_of p s.knows w k name q key (there_is (named h name) 0 there) changed));
+            ∙ both_ways (set.contains (keys_of_holder w.locks (Txn name)) key) (is_changed (batch_of_name h name) key) (λ locked. sound.keys_left key name left ((sound_later.had p.by 0 (owner_of new.knows.participant) own).keys name x key has locked))
+            (λ changed. sound_later.keys_known key name (undecided_of p s.knows w k name q key (there_is (named h name) 0 there) changed) p.by 0 (owner_of new.knows.participant) own x has);
         same = λ d holds. (has_writes p s.knows w k (λ e. e.history ≡ d.history) (record { table = d; held = holds; so_is = refl })).1;
       }
 
