@@ -1,5 +1,5 @@
 //! Whether a holder that an actor found is there, and accounted for.
-ghost use Rattle.std.specs.Prelude.{◌≡◌, ◌≢◌, ◌↔◌, ◌⊎◌, ℕ, List, Option, Some, None, true, map, IfOk, IfSome};
+ghost use Rattle.std.specs.Prelude.{◌≡◌, ◌≢◌, ◌↔◌, ◌⊎◌, ℕ, List, Option, Some, None, true, map, IfSome};
 ghost use Rattle.wp_model.specs.declared.holder.Holder.TheVariants.{Client};
 ghost use Rattle.wp_core.specs.World.{Actor};
 ghost use Rattle.wp_core.specs.Views.{prepare_at};
@@ -12,9 +12,7 @@ ghost use Rattle.wp_core.specs.Sound.Actors.{participants_of};
 ghost use Rattle.wp_core.specs.Sound.Locks.{Owner, owner_of};
 ghost use Rattle.wp_machine.specs.Parts.{account_of};
 
-use crate::read::history_of;
 use crate::transactions::owns;
-use std::alloc::AllocError;
 use wp_machine::{Account, Actor, Participant, Turn, World};
 use wp_model::{Holder, Key, Name, Seq};
 
@@ -101,17 +99,14 @@ fn is_other(world: &World, by: usize, key: &Option<Key>, holder: &Holder) -> boo
     false
 }
 
-/// Whether the holder is a transaction that is undecided after so many entries, which are all.
-fn is_undecided(world: &World, holder: &Holder, n: Seq) -> Result<bool, AllocError>
-    ensures { IfOk result (λ yes. (by : ℕ) (a : Actor) (key : Option (List ℕ)) → yes ≡ true → Accounts world.now by a key holder.now (prepare_at n)) }
+/// Whether the holder is a transaction that nobody has, and so many entries are all.
+fn is_left(world: &World, holder: &Holder, n: Seq) -> bool
+    ensures { (by : ℕ) (a : Actor) (key : Option (List ℕ)) → result ≡ true → Accounts world.now by a key holder.now (prepare_at n) }
 {
-    let Holder::Txn(name) = holder else {
-        return Ok(false);
-    };
-    let Some(history) = history_of(&world.writes.history, world.alloc)? else {
-        return Ok(false);
-    };
-    Ok(history.published() == n && history.named(name).is_some())
+    match holder {
+        Holder::Txn(name) => world.writes.published() == n && world.locks.is_left(name),
+        Holder::Client(_) => false,
+    }
 }
 
 fn accounts(
@@ -121,16 +116,13 @@ fn accounts(
     key: &Option<Key>,
     holder: &Holder,
     account: Account,
-) -> Result<bool, AllocError>
-    ensures { IfOk result (λ yes. yes ≡ true → Accounts world.now by actor.now key.now holder.now (account_of account)) }
+) -> bool
+    ensures { result ≡ true → Accounts world.now by actor.now key.now holder.now (account_of account) }
 {
     match account {
-        Account::Own => Ok(is_self(&actor.participant, key, holder)),
-        Account::Another => Ok(is_other(world, by, key, holder)),
-        Account::PrepareAt(n) => {
-            let yes = is_undecided(world, holder, n)?;
-            Ok(yes)
-        }
+        Account::Own => is_self(&actor.participant, key, holder),
+        Account::Another => is_other(world, by, key, holder),
+        Account::PrepareAt(n) => is_left(world, holder, n),
     }
 }
 
@@ -142,11 +134,11 @@ pub(crate) fn may_find(
     key: &Option<Key>,
     holder: &Holder,
     account: Account,
-) -> Result<bool, AllocError>
-    ensures { IfOk result (λ yes. yes ≡ true → Needs world.now by actor.now (step.find_holder key.now holder.now (account_of account))) }
+) -> bool
+    ensures { result ≡ true → Needs world.now by actor.now (step.find_holder key.now holder.now (account_of account)) }
 {
     if world.holders.of(Turn::Locks) != Some(by) || !is_holder(world, key, holder) {
-        return Ok(false);
+        return false;
     }
     accounts(world, by, actor, key, holder, account)
 }

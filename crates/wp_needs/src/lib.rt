@@ -47,7 +47,7 @@ fn tables(world: &World, by: usize, actor: &Actor, kind: &TablesStep) -> Result<
     match kind {
         TablesStep::Install(edit, compacts) => may_install(world, by, edit, *compacts),
         TablesStep::Halt(edit) => may_halt(world, by, edit),
-        TablesStep::FindFlushed => Ok(false),
+        TablesStep::FindEdit => Ok(false),
     }
 }
 
@@ -58,7 +58,7 @@ pub fn offers(world: &World, by: usize, actor: &Actor, kind: &Kind) -> Result<bo
     match kind {
         Kind::Own(OwnStep::Note(fact)) => may_note(world, by, actor, fact),
         Kind::Locks(LocksStep::FindHolder(key, holder, account)) => {
-            may_find(world, by, actor, key, holder, *account)
+            Ok(may_find(world, by, actor, key, holder, *account))
         }
         Kind::Store(kind) => store(world, by, actor, kind),
         Kind::Tables(kind) => tables(world, by, actor, kind),

@@ -6,5 +6,5 @@ returns-in-Own c =
     let self = rw (ap (λ a. a.participant) c.actor.view_is) at c.is_self.ensures in
     rw c.in-Own.is self
 
-pub returns-in_ok-yes-in-PrepareAt : goal.returns-in_ok-yes-in-PrepareAt
-returns-in_ok-yes-in-PrepareAt c = rw c.in-PrepareAt.is (c.in_ok-yes-in-PrepareAt.ensures c.args.by c.args.actor.now c.args.key.now)
+pub returns-in-PrepareAt : goal.returns-in-PrepareAt
+returns-in-PrepareAt c = rw c.in-PrepareAt.is (c.is_left.ensures c.args.by c.args.actor.now c.args.key.now)
