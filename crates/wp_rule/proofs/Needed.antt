@@ -136,7 +136,7 @@ module _ (p : Place) (a : Actor) (w : World) (k : IsAt p a w) where
   gives snapshots_turn n = let h = has_snapshots _ n in (h.0, λ none. is_so (old_flag_stays 0) (h.1 none))
   gives store_turn n = has_store (λ t. Unit {0}) n
   gives locks_turn n = has_locks (λ t. Unit {0}) n
-  gives tables_turn n = let h = has_installed (λ e. KnowsTables a e.last) n in (h.0, is_so nothing_flushed h.1.0, (is_so (tables_stay w.installed.last.versions h.1.1.0) h.1.1.1).0)
+  gives tables_turn n = let h = has_installed (λ e. KnowsTables a e.last) n in (h.0, (is_so nothing_flushed h.1.0, (is_so (tables_stay w.installed.last.versions h.1.1.0) h.1.1.1).0))
 
   -- ---- names and keys
 

@@ -157,6 +157,9 @@ module _ (w : World) (a : Actor) (others : List Actor) (is : w.actors ≡ a ∷ 
   installed_down : (n : ℕ) → WasInstalled w.first_edit (participants past_of w) n → WasInstalled w.first_edit (participants past_of v) n
   installed_down n k = ⊎_elim (λ e. inl e) (λ q. inr (q.0, q.1, past_down _ q.2)) k
 
+  installed_up : (n : ℕ) → WasInstalled w.first_edit (participants past_of v) n → WasInstalled w.first_edit (participants past_of w) n
+  installed_up n k = ⊎_elim (λ e. inl e) (λ q. inr (q.0, q.1, past_up _ q.2)) k
+
   other_down : (j i : ℕ) (e : Event) → OtherDid (participants past_of w) j i e → OtherDid (participants past_of v) j i e
   other_down j i e o = (o.0, o.1, o.2, done_down o.0 o.1 e o.3)
 
@@ -166,6 +169,7 @@ module _ (w : World) (a : Actor) (others : List Actor) (is : w.actors ≡ a ∷ 
   edits_down : AreEdits w.first_edit w.installed (participants past_of v)
   edits_down = let k = s.edits in record {
     last = installed_down w.installed.last.flushed k.last;
+    rises = λ n q. k.rises n (installed_up n q);
     found = λ n tables due halted q. installed_down n (k.found n tables due halted (past_up _ q));
     few = λ j i n tables due halted d less. compacts_down j i (k.few j i n tables due halted (done_up j i _ d) less);
     edit = λ j i past there. ⊎_elim (λ same. inl same) (λ (o : OtherInstalls (participants past_of w) j i). inr (o.0, o.1, other_down j i _ o.2)) (k.edit j i past (up past_of j i past there));

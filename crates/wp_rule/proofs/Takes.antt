@@ -1,11 +1,11 @@
 -- What a seat leaves that takes a turn and notes what the turn guards.
-use Rattle.std.proofs.Common.{◌≡◌, inl, inr, ℕ, true, List, [], ◌∷◌, map, length, set, refl, subst, ap, ◌∙◌, Some, None}
+use Rattle.std.proofs.Common.{◌≡◌, inl, inr, ℕ, true, List, [], ◌∷◌, map, reverse, length, set, refl, subst, ap, ◌∙◌, Some, None}
 use mathlib.Core.Option.{some}
 use lib.ListN.{get_elem?}
 use Rattle.wp_core.specs.Turns.{Turn, write_turn, prepared_turn, snapshots_turn, store_turn, locks_turn, tables_turn, turn_holder, with_holder, Holds}
 use Rattle.wp_core.specs.Tables.{Content, turn_of}
 use Rattle.wp_model.specs.declared.version.Version.{Version}
-use Rattle.wp_core.specs.Views.{Fact, tables_stay, delayed_flag_stays, old_flag_stays}
+use Rattle.wp_core.specs.Views.{Fact, tables_stay, nothing_flushed, delayed_flag_stays, old_flag_stays}
 use Rattle.wp_core.specs.World.{Actor, World, content_of}
 use Rattle.wp_core.specs.Conditions.{MayGive}
 use Rattle.wp_core.specs.Steps.{take_turn, note}
@@ -57,7 +57,7 @@ taking_is_met w by a s live prepared_turn free = ((free, live), ((live, holds_no
 taking_is_met w by a s live snapshots_turn free = ((free, live), ((live, holds_now w by snapshots_turn, refl), tt))
 taking_is_met w by a s live store_turn free = ((free, live), tt)
 taking_is_met w by a s live locks_turn free = ((free, live), tt)
-taking_is_met w by a s live tables_turn free = ((free, live), ((live, holds_now w by tables_turn, (s.settled free).0), ((live, holds_now w by tables_turn, (refl, refl)), tt)))
+taking_is_met w by a s live tables_turn free = ((free, live), ((live, holds_now w by tables_turn, (refl, refl)), ((live, holds_now w by tables_turn, (s.settled free).0), tt)))
 
 abbrev noted : Actor → Fact → Actor
 noted a fact = record a { notes = fact ∷ a.notes }
@@ -80,7 +80,9 @@ module _ (w : World) (by : ℕ) (a : Actor) where
   actor_taken snapshots_turn = both_kept snapshots_turn _ _
   actor_taken store_turn = ap (λ b. holding b (content_of w store_turn)) (ends_none store_turn)
   actor_taken locks_turn = ap (λ b. holding b (content_of w locks_turn)) (ends_none locks_turn)
-  actor_taken tables_turn = both_kept tables_turn _ _
+  actor_taken tables_turn =
+      ap (λ b. noted (forgets w.writes.history (length w.cache) (note nothing_flushed) b) nothing_flushed) (both_kept tables_turn _ (tables_stay w.store.tables w.store.floor))
+      ∙ ap (λ b. noted b nothing_flushed) (forgets_nothing w.writes.history (length w.cache) (note nothing_flushed) (noted (holding a (content_of w tables_turn)) (tables_stay w.store.tables w.store.floor)) (note_ends nothing_flushed))
 
   abbrev world_with : Turn → List Actor → World
   world_with turn actors = record w { holders = with_holder w.holders turn (Some by); actors = actors }
@@ -95,7 +97,7 @@ module _ (w : World) (by : ℕ) (a : Actor) where
   world_taken snapshots_turn = put_twice snapshots_turn _ _ _ (actor_taken snapshots_turn)
   world_taken store_turn = ap (λ b. world_with store_turn (set w.actors by b)) (actor_taken store_turn)
   world_taken locks_turn = ap (λ b. world_with locks_turn (set w.actors by b)) (actor_taken locks_turn)
-  world_taken tables_turn = put_twice tables_turn _ _ _ (actor_taken tables_turn)
+  world_taken tables_turn = ap (world_with tables_turn) (set_twice (set w.actors by _) by _ _) ∙ put_twice tables_turn _ _ _ (actor_taken tables_turn)
 
   notes_are_quiet : (facts : List Fact) → AreQuiet (map note facts)
   notes_are_quiet [] = tt
@@ -112,4 +114,4 @@ module _ (w : World) (by : ℕ) (a : Actor) where
 
   pub taking_reached : (turn : Turn) → get_elem? w.actors by ≡ some a → Reaches w → AreMet (taking turn w) w by a → Reaches (world_after (taking turn w) w by a)
   taking_reached turn at reached met =
-      quiet_reached (map note (facts_at turn w)) (world_after_step w by a (take_turn turn)) by (actor_after_step w a (take_turn turn)) (there_taken turn at) (reached_next w by a (take_turn turn) at reached met.0) (notes_are_quiet (facts_at turn w)) met.1
+      quiet_reached (map note (reverse (facts_at turn w))) (world_after_step w by a (take_turn turn)) by (actor_after_step w a (take_turn turn)) (there_taken turn at) (reached_next w by a (take_turn turn) at reached met.0) (notes_are_quiet (reverse (facts_at turn w))) met.1

@@ -1,5 +1,5 @@
 -- What each kind of atomic step tells the seat that makes it.
-use Rattle.std.specs.Prelude.{◌≡◌, ◌≢◌, ◌⊎◌, ℕ, List, [], ◌∷◌, ◌++◌, map, slice_index, Option, None}
+use Rattle.std.specs.Prelude.{◌≡◌, ◌≢◌, ◌⊎◌, ℕ, List, [], ◌∷◌, ◌++◌, map, reverse, slice_index, Option, None}
 use Rattle.atomic_table.specs.Table.{Me, Step, rest}
 use Rattle.wp_core.specs.Turns.{Turn, write_turn, prepared_turn, snapshots_turn, tables_turn, turn_holder}
 use Rattle.wp_core.specs.Changes.{turn_index}
@@ -16,7 +16,8 @@ use Rattle.wp_rule.specs.Shows.{IsPart}
 
 -- ---- a turn that was found free
 
--- what it guards besides its table: bound and words, a flag, or which versions are in tables, and that no flushed one is in memory
+-- What it guards besides its table: bound and words, a flag, or which versions are in tables, and that no flushed one is in memory.
+-- What is noted last stands first.
 abbrev pub facts_at : Turn → World → List Fact
 facts_at write_turn w = words_stay w.max_evicted w.cache ∷ []
 facts_at prepared_turn w = delayed_flag_stays w.delayed_flag ∷ []
@@ -26,7 +27,7 @@ facts_at other w = []
 
 -- it is taken, and these are noted
 abbrev pub taking : Turn → World → List machine.Step
-taking turn w = take_turn turn ∷ map note (facts_at turn w)
+taking turn w = take_turn turn ∷ map note (reverse (facts_at turn w))
 
 -- the actor then: it has the table, and has noted these
 abbrev pub with_turn : Turn → World → Actor → Actor
