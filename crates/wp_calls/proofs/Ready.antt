@@ -28,7 +28,7 @@ use Rattle.wp_txn.specs.Calls.{Changes, TakesPrepared, Tells, Hears, locking, wi
 use Rattle.wp_txn.specs.Turns.{IsApartFrom}
 use Rattle.wp_txn.specs.Txn.{OpenState, PreparedState, HasOpen, HasPrepared}
 use Rattle.wp_txn.specs.Writes.{HasPut, Refuses, WritesDirect, Commits, RefusesOpen, RefusesPrepared}
-use Rattle.wp_calls.specs.Ready.{IsReady, GoesOn, IsWriter, WritesOn}
+use Rattle.wp_calls.specs.Ready.{IsReady, GoesOn}
 
 -- ---- versions
 
@@ -303,17 +303,3 @@ module _ {D : Type 0} (z : SharedState D) (old : SeatState) (b : Option OpenStat
           joined = ap (λ (a : Actor). a.joined) rest;
         } in
         with_version new _ goes refl refl refl w (if_stays _ _ w (λ n v. versions_stay new.knows.participant.seen seen n grown v) has)
-
--- a writer is a client that has nothing
-as_client : {D : Type 0} (z : SharedState D) (s : SeatState) → IsWriter z s → IsReady z s None None None None
-as_client z s w = record { free = w.free; direct = w.direct; has_begun = tt; has_prepared = tt; one_of_them = inl refl; registered = tt; has_version = tt }
-
-as_writer : {D : Type 0} (z : SharedState D) (old s : SeatState) (w : Option ℕ) → GoesOn z old s None None None w → WritesOn z old s
-as_writer z old s w g = record { writer = record { free = g.ready.free; direct = g.ready.direct }; same_by = g.same_by; made = g.made; joined = g.joined }
-
-pub writes_on : {D : Type 0} (z : SharedState D) (old new : SeatState) (change : Change) (answer : Result ℕ TxnError) → IsWriter z old → WritesDirect z old change answer new → WritesOn z old new
-writes_on z old new change (Ok n) w c = as_writer z old new (Some n) (has_written z old None None None None (as_client z old w) new change n c)
-writes_on z old new change (Err why) w c = as_writer z old new None (not_written z old None None None None (as_client z old w) new change why c)
-
-pub writer_on : {D : Type 0} (z : SharedState D) (r s t : SeatState) → WritesOn z r s → WritesOn z s t → WritesOn z r t
-writer_on z r s t g h = record { writer = h.writer; same_by = h.same_by ∙ g.same_by; made = h.made ∙ g.made; joined = h.joined ∙ g.joined }

@@ -23,15 +23,3 @@ pub record GoesOn {D : Type 0} (z : SharedState D) (old s : SeatState) (begun : 
   pub same_by : s.by ≡ old.by
   pub made : s.knows.made ≡ old.knows.made
   pub joined : s.knows.joined ≡ old.knows.joined
-
--- a free seat that writes nothing directly
-pub record IsWriter {D : Type 0} (z : SharedState D) (s : SeatState) : Type 0 where
-  pub free : IsFree z.table s
-  pub direct : s.knows.participant.direct ≡ None
-
--- it is that again, in its old place, and made and took in no other
-pub record WritesOn {D : Type 0} (z : SharedState D) (old s : SeatState) : Type 0 where
-  pub writer : IsWriter z s
-  pub same_by : s.by ≡ old.by
-  pub made : s.knows.made ≡ old.knows.made
-  pub joined : s.knows.joined ≡ old.knows.joined

@@ -30,6 +30,4 @@ mod scripts;
 #[cfg(test)]
 mod stores;
 #[cfg(test)]
-mod threads;
-#[cfg(test)]
 mod transactions;

@@ -1,5 +1,5 @@
-use Rattle.wp_calls.specs.Ready.{WritesOn}
-use Rattle.wp_calls.proofs.threads.write_often.Given as goal
+use Rattle.wp_waiting.specs.Writers.{WritesOn}
+use Rattle.wp_waiting.proofs.writers.write_often.Given as goal
 
 -- the seat wrote so far
 abbrev pub invariant-loop : goal.invariant-loop
