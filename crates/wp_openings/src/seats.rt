@@ -19,7 +19,13 @@ fn shared(alloc: Global) -> Result<(Shared<MemDisk>, Seat<MemDisk>), Fail>
     ensures free { IfOk result (λ r. IsFree r.0.table r.1) }
     ensures first { IfOk result (λ r. (r.1.by ≡ 0) × (r.1.knows.joined ≡ []) × (r.1.knows.made ≡ 0)) }
 {
-    match Shared::new(alloc, Name::read(alloc, b"a")?, opened(alloc, devices(alloc, LOG, MANIFEST, TABLE)?)?, 0, 1000) {
+    match Shared::new(
+        alloc,
+        Name::read(alloc, b"a")?,
+        opened(alloc, devices(alloc, LOG, MANIFEST, TABLE)?)?,
+        0,
+        1000,
+    ) {
         Ok(made) => Ok(made),
         Err(_) => Err(Fail::from("no memory for the store")),
     }

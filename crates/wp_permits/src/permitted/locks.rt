@@ -39,11 +39,7 @@ fn are_of(history: &History, keys: &[Key], p: Seq) -> bool
 }
 
 /// An undecided prepare has the name, and changes each key that the transaction locked.
-fn may_be_left(
-    world: &World,
-    transaction: &Transaction,
-    name: &Name,
-) -> Result<bool, AllocError>
+fn may_be_left(world: &World, transaction: &Transaction, name: &Name) -> Result<bool, AllocError>
     ensures { IfOk result (λ yes. yes ≡ true → MayBeLeft world.now.writes.history name.now transaction.now) }
 {
     let Some(history) = history_of(world)? else {
