@@ -43,11 +43,11 @@ installed_in (Some (installed t)) d = t
 installed_in other d = d
 
 -- a log at rest, or one whose append has failed
-stored_as : {id : ℕ} {history failed : List Entry} (closed : Bool) {was : Bool} → was ≡ closed → (moments : List Moment) → (was ≡ true → IfKnown moments (LeavesHistoryOrNext id history failed)) → (was ≡ false → IfKnown moments (LeavesHistory id history))
+stored_as : (id : ℕ) (history failed : List Entry) (was closed : Bool) → was ≡ closed → (moments : List Moment) → (was ≡ true → IfKnown moments (LeavesHistoryOrNext id history failed)) → (was ≡ false → IfKnown moments (LeavesHistory id history))
     → IfKnown moments (LeavesHistoryOrNext id history failed)
-stored_as true is moments left rests = left is
-stored_as false is [] left rests = tt
-stored_as false is (m ∷ past) left rests = λ image at. let k = rests is image at in (inl k.0, k.1)
+stored_as id history failed was true is moments left rests = left is
+stored_as id history failed was false is [] left rests = tt
+stored_as id history failed was false is (m ∷ past) left rests = λ image at. let k = rests is image at in (inl k.0, k.1)
 
 module _ {D : Type 0} (z : SharedState D) (first : SeatState) (others : List SeatState) (parts : Turn → Part D) (log : LogState) (edits : EditsState) (o : IsOneStore z.first) (none_joined : first.knows.joined ≡ []) (l : Leaves content (tells z.first) z.first (place_at z 0) (all_joined first.knows others) parts) (is_log : parts write_turn ≡ part.Write log) (is_edits : parts tables_turn ≡ part.Tables edits) (k : IsLog log) (e : IsEdits edits) (stored : log.wal.closed ≡ false → IfKnown log.wal.moments (LeavesHistory log.wal.id log.table.log)) where
   -- the world with the first seat alone
@@ -99,7 +99,7 @@ module _ {D : Type 0} (z : SharedState D) (first : SeatState) (others : List Sea
 
   stored_left : IfKnown log.wal.moments (LeavesHistoryOrNext o.wal.id w.writes.history w.writes.failed)
   stored_left = subst (λ (x : ℕ × List Entry × List Entry). IfKnown log.wal.moments (LeavesHistoryOrNext x.0 x.1 x.2)) (λ i. (log_id i, (ap (λ (t : WriteTable). t.log) same_writes ∙ log_is) i, ap (λ (t : WriteTable). t.failed) same_writes i))
-      (stored_as log.wal.closed refl log.wal.moments (k.stores.left) stored)
+      (stored_as log.wal.id log.table.log log.table.failed log.wal.closed log.wal.closed refl log.wal.moments (k.stores.left) stored)
 
   opens_left : (log_image manifest_image tables_image : List ℕ) → images log.wal.moments log_image → images edits.set.manifest.log.moments manifest_image → images edits.set.moments tables_image
       → OpensAsLeft o.wal.id w.writes w.installed log_image manifest_image tables_image

@@ -3,7 +3,7 @@ use Rattle.std.proofs.Common.{◌≡◌, ◌≢◌, inl, inr, ℕ, ne_eqb, List,
 use Rattle.wp_core.specs.Lists.{IsIn}
 use Rattle.wp_core.specs.Turns.{Turn, write_turn, prepared_turn, snapshots_turn, store_turn, locks_turn, tables_turn}
 use Rattle.wp_core.specs.Tables.{Content, writes, prepared, snapshots, store, locks, installed, turn_of}
-use Rattle.wp_core.specs.Views.{nothing_flushed, delayed_flag_stays, old_flag_stays}
+use Rattle.wp_core.specs.Views.{tables_stay, nothing_flushed, delayed_flag_stays, old_flag_stays}
 use Rattle.wp_core.specs.World.{Actor, content_of}
 use Rattle.wp_core.specs.Changes.{turn_index}
 use Rattle.wp_core.specs.Steps.{give_turn}
@@ -101,7 +101,7 @@ module _ {D : Type 0} (z : SharedState D) (old new : SeatState) (value : Part D)
   still_known snapshots_turn ne k = record { table = k.table; held = still_there (snapshots k.table) snapshots_turn refl ne k.held; so_is = λ none. g.notes (old_flag_stays 0) (k.so_is none) (ne_eqb 2 (turn_index gone) ne) }
   still_known store_turn ne k = record { table = k.table; held = still_there (store k.table) store_turn refl ne k.held; so_is = tt }
   still_known locks_turn ne k = record { table = k.table; held = still_there (locks k.table) locks_turn refl ne k.held; so_is = tt }
-  still_known tables_turn ne k = record { table = k.table; held = still_there (installed k.table) tables_turn refl ne k.held; so_is = g.notes nothing_flushed k.so_is (ne_eqb 5 (turn_index gone) ne) }
+  still_known tables_turn ne k = record { table = k.table; held = still_there (installed k.table) tables_turn refl ne k.held; so_is = let apart = ne_eqb 5 (turn_index gone) ne in let n = k.so_is in (g.notes nothing_flushed n.0 apart, (n.1.0, g.notes (tables_stay k.table.last.versions n.1.0) n.1.1 apart)) }
 
   still_held : (turn : Turn) (hs : List (Turn × Part D)) → gone ≡ turn → Others turn hs → AllHeld z old hs → AllHeld z new hs
   still_held turn [] is ne k = tt
