@@ -1,7 +1,8 @@
 -- What an actor has.
-use Rattle.std.proofs.Common.{◌≡◌, true, List, [], ◌∷◌, ap, sym, ◌∙◌, ℕ, Option, Some, None, option_map, length, refl, zero, suc, take, drop, ◌++◌, ◌≤◌, ◌<◌, arith}
+use Rattle.std.proofs.Common.{◌≡◌, true, List, [], ◌∷◌, ap, sym, ◌∙◌, ℕ, Option, Some, None, option_map, unwrap_or, length, refl, zero, suc, take, drop, ◌++◌, ◌≤◌, ◌<◌, arith}
 use Rattle.std.specs.Option.{is_some}
 use Rattle.std.proofs.Common.{inl, inr}
+use Rattle.std.specs.FinSet as set
 use Rattle.std.specs.FinMap as finite
 use Rattle.wp_core.specs.World.{World, Actor, Transaction}
 use Rattle.std.specs.List.{slice_get}
@@ -11,15 +12,19 @@ use Rattle.wp_core.specs.Steps.{store_published, store_word, begin_reading, rele
 use Rattle.wp_machine.specs.Machine.{published_step, released_step}
 use Rattle.wp_judge.specs.Words.{CommitPair, numbers_of}
 use Rattle.wp_model.specs.declared.change.Change.{Change}
-use Rattle.wp_model.specs.History.{is_changed}
+use Rattle.wp_model.specs.History.{batch_at, named, holder_of, is_changed}
+use Rattle.wp_model.proofs.Found.{found_holder}
 use Rattle.wp_core.specs.Cache.{pair_at, cache_place}
 use Rattle.wp_core.specs.Conditions.{IsHeldFor, MayBeEvicted}
 use Rattle.wp_core.specs.Entries.{changes_under, transaction_of, pending_pair}
 use Rattle.wp_core.specs.Reading.{Registration}
 use Rattle.wp_core.specs.Lists.{IsIn}
 use Rattle.wp_core.specs.Sound.Snapshots.{has_versions_at}
+use Rattle.wp_needs.specs.Each.{Each}
 use Rattle.wp_needs.specs.Offered.{IsOffered}
-use Rattle.wp_permits.specs.Permits.{MayFollow, IsOwner, IsOwned, IsEntitled, IsMade}
+use Rattle.wp_machine.proofs.NameMaps.{set_of}
+use Rattle.wp_needs.proofs.LiveNumbers.{each_locked}
+use Rattle.wp_permits.specs.Permits.{MayFollow, IsOwner, IsOwned, IsEntitled, IsMade, MayBeLeft}
 
 pub owned : (a : Actor) (name : List ℕ) → is_some (finite.get a.participant.transactions name) ≡ true → IsOwned a name
 owned a name there = by (finite.get a.participant.transactions name) refl there
@@ -27,6 +32,15 @@ owned a name there = by (finite.get a.participant.transactions name) refl there
     by : (o : Option Transaction) → finite.get a.participant.transactions name ≡ o → is_some o ≡ true → IsOwned a name
     by None is there = absurd cc
     by (Some t) is there = record { transaction = t; there = is }
+
+-- each key that the transaction locked is one of the prepare with the name
+pub left : (history : List Entry) (name : List ℕ) (t : Transaction) (keys : List (List ℕ)) (p : ℕ) → set_of keys ≡ t.locked → named history name ≡ Some p → Each (λ key. holder_of history key ≡ Some p) keys → MayBeLeft history name t
+left history name t keys p locked is each = record {
+  prepared = ap is_some is;
+  keys = λ key has.
+      let held = each_locked (λ key. holder_of history key ≡ Some p) keys each key (ap (λ s. set.contains s key) locked ∙ has) in
+      ap (λ (o : Option ℕ). is_changed (batch_at history (unwrap_or o 0)) key) is ∙ (found_holder history key p held).1;
+}
 
 -- the first of the pending entries
 pub publishes : (w : World) (by : ℕ) (a : Actor) (entry : Entry) → Some entry ≡ slice_get w.writes.pending 0 → Holds w.holders write_turn by → w.writes.logged ≡ true → IsEntitled w a entry → IsMade w entry → IsOffered w by a (published_step w.writes.pending)

@@ -1,19 +1,19 @@
 -- When the test of a step may say yes.
-use Rattle.std.specs.Prelude.{◌≡◌, ℕ, suc, ◌≤◌, ◌<◌, true, List, [], ◌∷◌, ◌++◌, Option, Some}
+use Rattle.std.specs.Prelude.{◌≡◌, ℕ, suc, ◌≤◌, ◌<◌, true, List, [], ◌∷◌, ◌++◌, Option, Some, is_some}
 use Rattle.wp_model.specs.declared.entry.Entry.{Entry}
 use Rattle.wp_model.specs.Legal.{IsLegal, IsLegalNext}
 use Rattle.wp_model.specs.Snapshots.{Snapshots, is_old_commit}
 use Rattle.wp_core.specs.World.{World, Actor, Transaction, published}
 use Rattle.wp_core.specs.Conditions.{HasTransaction, IsHeldFor, IsOwn, IsPrepare}
 use Rattle.wp_core.specs.Cache.{cached}
-use Rattle.wp_core.specs.Entries.{changes_under, pair_by}
+use Rattle.wp_core.specs.Entries.{batch_of_name, changes_under, pair_by}
 use Rattle.std.specs.FinSet as set
 use Rattle.std.specs.FinMap as finite
 use Rattle.wp_judge.specs.Words.{CommitPair}
 use Rattle.wp_model.specs.declared.change.Change.{Change}
 use Rattle.wp_model.specs.declared.holder.Holder.TheVariants.{Txn}
 use Rattle.wp_model.specs.Decision.{version_in}
-use Rattle.wp_model.specs.History.{is_changed}
+use Rattle.wp_model.specs.History.{named, is_changed}
 use Rattle.wp_model.specs.Versions.{version_at}
 
 -- the entry may follow, and with it the history is legal
@@ -43,6 +43,11 @@ pub record IsOwner (w : World) (a : Actor) (name : List ℕ) (changes : List Cha
   pub transaction : Transaction
   pub there : HasTransaction a name transaction
   pub keys : (key : List ℕ) → is_changed changes key ≡ true → IsLocked w transaction name key
+
+-- an undecided prepare has the name, and changes each key that the transaction locked
+pub record MayBeLeft (history : List Entry) (name : List ℕ) (t : Transaction) : Type 0 where
+  pub prepared : is_some (named history name) ≡ true
+  pub keys : (key : List ℕ) → set.contains t.locked key ≡ true → is_changed (batch_of_name history name) key ≡ true
 
 -- the entry may come next, its keys are held for the actor, and the transaction that it is of is the actor's
 pub record IsEntitled (w : World) (a : Actor) (entry : Entry) : Type 0 where

@@ -49,7 +49,7 @@ fn tables(world: &World, by: usize, kind: &TablesStep) -> bool
     ensures { result ≡ true → (a : Actor) → IsOffered world.now by a (tables_step kind.now) }
 {
     match kind {
-        TablesStep::FindFlushed => world.holders.holds(Turn::Tables, by),
+        TablesStep::FindEdit => world.holders.holds(Turn::Tables, by),
         TablesStep::Install(_, _) | TablesStep::Halt(_) => false,
     }
 }

@@ -1,27 +1,20 @@
 //! Whether a step with the locks turn may be made.
-ghost use Rattle.std.specs.Prelude.{◌≡◌, true, Some, None, IfOk, IfSome, is_some, option_map};
+ghost use Rattle.std.specs.Prelude.{◌≡◌, true, Some, None, IfOk, IfSome, option_map};
 ghost use Rattle.std.specs.FinMap as finite;
 ghost use Rattle.wp_core.specs.World.{Actor};
 ghost use Rattle.wp_core.specs.Steps as step;
-ghost use Rattle.wp_model.specs.History.{named};
+ghost use Rattle.wp_model.specs.History.{named, holder_of};
 ghost use Rattle.wp_machine.specs.Machine.{locks_step};
+ghost use Rattle.wp_needs.specs.Each.{Each};
 ghost use Rattle.wp_needs.specs.Offered.{IsOffered};
+ghost use Rattle.wp_permits.specs.Permits.{MayBeLeft};
 
 use crate::permitted::history::history_of;
 use crate::permitted::publishing::{has_locked, has_transaction};
 use std::alloc::AllocError;
-use wp_machine::{Actor, LocksStep, Turn, World};
+use wp_history::History;
+use wp_machine::{Actor, LocksStep, Transaction, Turn, World};
 use wp_model::{Key, Name, Seq};
-
-/// The name is live, and no actor has it.
-fn is_left(world: &World, name: &Name) -> bool
-    ensures { result ≡ true → finite.get world.now.locks.names name.now ≡ Some None }
-{
-    match world.locks.name(name) {
-        Some(client) => client.is_none(),
-        None => false,
-    }
-}
 
 /// The name is that of the undecided prepare with this number.
 fn is_named(world: &World, name: &Name, p: Seq) -> Result<bool, AllocError>
@@ -33,14 +26,29 @@ fn is_named(world: &World, name: &Name, p: Seq) -> Result<bool, AllocError>
     Ok(history.named(name) == Some(p))
 }
 
-/// An undecided prepare has the name.
-fn is_prepared(world: &World, name: &Name) -> Result<bool, AllocError>
-    ensures { IfOk result (λ yes. yes ≡ true → is_some (named world.now.writes.history name.now) ≡ true) }
+/// The undecided prepare with that number holds each of the keys.
+fn are_of(history: &History, keys: &[Key], p: Seq) -> bool
+    ensures { result ≡ true → Each (λ key. holder_of history.now.entries key ≡ Some p) keys.now }
+{
+    for key in keys {
+        if history.holder_of(key) != Some(p) {
+            return false;
+        }
+    }
+    true
+}
+
+/// An undecided prepare has the name, and changes each key that the transaction locked.
+fn may_be_left(world: &World, transaction: &Transaction, name: &Name) -> Result<bool, AllocError>
+    ensures { IfOk result (λ yes. yes ≡ true → MayBeLeft world.now.writes.history name.now transaction.now) }
 {
     let Some(history) = history_of(world)? else {
         return Ok(false);
     };
-    Ok(history.named(name).is_some())
+    match history.named(name) {
+        Some(p) => Ok(are_of(&history, &transaction.locked, p)),
+        None => Ok(false),
+    }
 }
 
 /// No undecided prepare has the name.
@@ -56,7 +64,7 @@ fn is_unprepared(world: &World, name: &Name) -> Result<bool, AllocError>
 fn may_take_name(world: &World, by: usize, name: &Name, p: Seq) -> Result<bool, AllocError>
     ensures { IfOk result (λ yes. yes ≡ true → (a : Actor) → IsOffered world.now by a (Some (step.take_name name.now p))) }
 {
-    if !world.holders.holds(Turn::Locks, by) || !is_left(world, name) {
+    if !world.holders.holds(Turn::Locks, by) || !world.locks.is_left(name) {
         return Ok(false);
     }
     let named = is_named(world, name, p)?;
@@ -66,11 +74,14 @@ fn may_take_name(world: &World, by: usize, name: &Name, p: Seq) -> Result<bool, 
 fn may_leave_name(world: &World, by: usize, actor: &Actor, name: &Name) -> Result<bool, AllocError>
     ensures { IfOk result (λ yes. yes ≡ true → IsOffered world.now by actor.now (Some (step.leave_name name.now))) }
 {
-    if !world.holders.holds(Turn::Locks, by) || !has_transaction(actor, name) {
+    let Some(transaction) = actor.participant.transaction(name) else {
+        return Ok(false);
+    };
+    if !world.holders.holds(Turn::Locks, by) {
         return Ok(false);
     }
-    let prepared = is_prepared(world, name)?;
-    Ok(prepared)
+    let left = may_be_left(world, transaction, name)?;
+    Ok(left)
 }
 
 fn may_free_transaction(
