@@ -56,6 +56,8 @@ pub(super) enum Locking {
     TakeName(Seq),
     LeaveName,
     LockKey,
+    /// The transaction locks the key of the direct write.
+    LockOtherKey,
     FreeKey,
     FreeTransaction,
     LockDirect,
@@ -92,6 +94,7 @@ fn locks_step(alloc: Global, locking: Locking) -> Result<LocksStep, Fail> {
         Locking::TakeName(p) => Ok(LocksStep::TakeName(name(alloc)?, p)),
         Locking::LeaveName => Ok(LocksStep::LeaveName(name(alloc)?)),
         Locking::LockKey => Ok(LocksStep::LockKey(name(alloc)?, key(alloc)?)),
+        Locking::LockOtherKey => Ok(LocksStep::LockKey(name(alloc)?, direct_key(alloc)?)),
         Locking::FreeKey => Ok(LocksStep::FreeKey(name(alloc)?, key(alloc)?)),
         Locking::FreeTransaction => Ok(LocksStep::FreeTransaction(name(alloc)?)),
         Locking::LockDirect => Ok(LocksStep::LockDirect(direct_key(alloc)?)),

@@ -74,10 +74,20 @@ const FLAG_BEFORE_TURN: &[Line] = &[
     Line::Permitted(GIVE),
 ];
 
+const LEAVE: Act = Act::Lock(Locking::LeaveName);
+
+/// The prepared transaction locks a key that its batch does not change.
+const LEFT_WITH_MORE_KEYS: &[Line] = &[
+    Line::Play(&[PEND_PREPARE, PUBLISH_PREPARE, &[Act::Take(Turn::Locks)]]),
+    Line::Permitted(LEAVE),
+    Line::Play(&[&[Act::Lock(Locking::LockOtherKey)]]),
+    Line::Refused(LEAVE),
+];
+
 /// No actor has the number 1.
 const NOBODY_ELSE: &[Line] = &[Line::RefusedTo(1, Act::LoadPublished)];
 
-const SCRIPTS: [Script; 8] = [
+const SCRIPTS: [Script; 9] = [
     ("a turn that is held is not taken", HELD_TURN),
     ("a key that is held is not locked", HELD_KEY),
     ("a word waits for the bound", WORD_BEFORE_BOUND),
@@ -88,6 +98,10 @@ const SCRIPTS: [Script; 8] = [
         TAKEN_OUT_BEFORE_PUBLISHED,
     ),
     ("a flag goes down before its turn", FLAG_BEFORE_TURN),
+    (
+        "a transaction is left with no key but its batch's",
+        LEFT_WITH_MORE_KEYS,
+    ),
     ("nobody else steps", NOBODY_ELSE),
 ];
 
