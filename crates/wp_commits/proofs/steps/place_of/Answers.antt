@@ -1,4 +1,4 @@
-use Rattle.std.proofs.Common.{ℕ, ◌<◌, ◌%◌, mod-lt, sym, subst}
+use Rattle.std.proofs.Common.{ℕ, ◌≤◌, ◌<◌, ◌%◌, mod-lt, sym, subst}
 use Rattle.wp_commits.proofs.steps.place_of.Goals as goal
 
 pub returns-clause-within : goal.returns-clause-within
