@@ -1,18 +1,30 @@
-//! Whether versions cover a history.
-ghost use Rattle.std.specs.Prelude.{◌≡◌, ◌++◌, Some, true, length, IfOk};
+//! Whether versions are an edit's, or cover a history.
+ghost use Rattle.std.specs.Prelude.{◌≡◌, ◌↔◌, ◌++◌, Some, true, length, IfOk};
 ghost use Rattle.std.specs.Option.{option_copied};
 ghost use Rattle.wp_model.specs.Covered.{IsCovered};
+ghost use Rattle.wp_core.specs.Sound.Store.{IsOfEdit};
 ghost use Rattle.wp_core.specs.Tables.{live_numbers, up_to};
 ghost use Rattle.wp_model.specs.Flushed.{InstalledEdit, later_versions, IsEditCovered};
 
 use crate::live::numbers;
 use crate::order::in_order;
-use crate::versions::{joined, up_to};
+use crate::versions::{are_equal, joined, none_flushed, up_to};
 use std::alloc::{AllocError, Global};
 use wp_cover::covers;
 use wp_history::History;
-use wp_machine::{InstalledEdit, Snapshots, versions_of_next};
+use wp_machine::{InstalledEdit, Snapshots, World, versions_of_next};
 use wp_model::{Entry, Seq, Version};
+
+/// Whether the store has just the last edit's tables, and no flushed version is in memory.
+pub fn has_last_tables(world: &World) -> bool
+    ensures { (result ≡ true) ↔ IsOfEdit world.now.store world.now.installed.last }
+{
+    let last = &world.installed.last;
+    if !none_flushed(&world.store.memory, last.flushed) {
+        return false;
+    }
+    are_equal(world.store.tables(), &last.versions)
+}
 
 fn are_covered(
     history: &History,

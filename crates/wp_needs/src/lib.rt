@@ -26,6 +26,7 @@ mod versions;
 use crate::finding::may_find;
 use crate::moves::{may_halt, may_install, may_move_versions, may_replace_versions};
 use crate::note::may_note;
+pub use edits::has_last_tables;
 use std::alloc::AllocError;
 use wp_machine::{Actor, Kind, LocksStep, OwnStep, StoreStep, TablesStep, World};
 

@@ -17,7 +17,6 @@ use Rattle.wp_model.specs.Snapshots.{Snapshot, is_old_commit}
 use Rattle.wp_model.specs.Batch.{key_cmp}
 use Rattle.wp_core.specs.Tables.{NoneDelayed, NoOldCommits}
 use Rattle.wp_core.specs.Sound.Prepared.{IsInOldCommits}
-use Rattle.wp_core.specs.Sound.Store.{NoneFlushed}
 use Rattle.wp_needs.specs.Each.{Each}
 use Rattle.wp_permits.specs.Permits.{IsKeptAt}
 
@@ -117,15 +116,6 @@ first_or_none [] o e = rw e (λ p. set.contains-from_list_nat [] p)
 first_or_none (x ∷ xs) o e = rw e (first_in_set x xs)
 
 -- ---- versions
-
-pub none_flushed : (memory : List Version) (flushed : ℕ) → Each (λ v. flushed < v.number) memory → NoneFlushed memory flushed
-none_flushed [] flushed above key p low = refl
-none_flushed (v ∷ vs) flushed above key p low = by (bytes_eq v.key key) (nat_eq v.number p) refl (none_flushed vs flushed above.1 key p low)
-  where
-    by : (a b : Bool) → nat_eq v.number p ≡ b → version_at vs key p ≡ None → cond (a && b) (Some v.value) (version_at vs key p) ≡ None
-    by true true is others = let same = eqb-true v.number p is in absurd (omega (arith, same, above.0, low))
-    by true false is others = others
-    by false b is others = others
 
 pub none_numbered : (memory : List Version) (n : ℕ) → Each (λ v. v.number ≢ n) memory → (key : List ℕ) → version_at memory key n ≡ None
 none_numbered [] n apart key = refl

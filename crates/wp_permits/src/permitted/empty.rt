@@ -4,7 +4,6 @@ ghost use Rattle.std.specs.FinSet as set;
 ghost use Rattle.wp_model.specs.Snapshots.{is_old_commit};
 ghost use Rattle.wp_model.specs.Versions.{version_at};
 ghost use Rattle.wp_core.specs.Tables.{NoneDelayed, NoOldCommits};
-ghost use Rattle.wp_core.specs.Sound.Store.{NoneFlushed};
 ghost use Rattle.wp_needs.specs.Each.{Each};
 
 use wp_machine::{PreparedTables, Snapshot, Snapshots};
@@ -87,25 +86,6 @@ pub(super) fn has_no_old_commits(snapshots: &Snapshots) -> bool
     ensures { (result ≡ true) ↔ NoOldCommits snapshots.now }
 {
     kept_under(&snapshots.live, snapshots).is_none()
-}
-
-fn are_above(memory: &[Version], flushed: Seq) -> bool
-    ensures { result ≡ true → Each (λ v. flushed < v.number) memory.now }
-{
-    for version in memory {
-        if version.number <= flushed {
-            return false;
-        }
-    }
-    true
-}
-
-/// No flushed version is in memory.
-#[tactic(auto, using(crate::proofs::Searches::none_flushed))]
-pub(super) fn none_flushed(memory: &[Version], flushed: Seq) -> bool
-    ensures { result ≡ true → NoneFlushed memory.now flushed }
-{
-    are_above(memory, flushed)
 }
 
 fn are_not(memory: &[Version], n: Seq) -> bool

@@ -1,14 +1,14 @@
 //! Whether a turn may be taken or given.
 ghost use Rattle.std.specs.Prelude.{◌≡◌, true};
 ghost use Rattle.wp_core.specs.Conditions.{MayGive};
-ghost use Rattle.wp_core.specs.Sound.Store.{IsOfEdit};
 ghost use Rattle.wp_core.specs.Tables.{NoneDelayed, NoOldCommits};
 ghost use Rattle.wp_machine.specs.Parts.{turn_of};
 ghost use Rattle.wp_machine.specs.Machine.{turn_step};
 ghost use Rattle.wp_needs.specs.Offered.{IsOffered};
 
-use crate::permitted::empty::{has_no_old_commits, none_delayed, none_flushed};
+use crate::permitted::empty::{has_no_old_commits, none_delayed};
 use wp_machine::{Actor, Turn, TurnStep, World};
+use wp_needs::has_last_tables;
 
 /// With nothing delayed the flag is down.
 fn delayed_flag_is_right(world: &World) -> bool
@@ -28,14 +28,6 @@ fn old_flag_is_right(world: &World) -> bool
         return true;
     }
     !has_no_old_commits(&world.snapshots)
-}
-
-/// The store has just the last edit's tables, and no flushed version is in memory.
-fn has_last_tables(world: &World) -> bool
-    ensures { result ≡ true → IsOfEdit world.now.store world.now.installed.last }
-{
-    let last = &world.installed.last;
-    none_flushed(&world.store.memory, last.flushed) && world.store.tables == last.versions
 }
 
 fn may_give(world: &World, turn: Turn) -> bool
