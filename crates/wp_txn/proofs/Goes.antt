@@ -20,7 +20,7 @@ use Rattle.wp_txn.specs.declared.error.TxnError.{TxnError}
 use Rattle.wp_txn.specs.declared.error.TxnError.TheVariants.{Memory, Taken, Busy, TooMany, Silent, Unknown, InUse, NumbersFull, LogFault, Stopped}
 use Rattle.wp_txn.specs.Calls.{remembering}
 use Rattle.wp_txn.specs.Txn.{HasOpen, HasPrepared}
-use Rattle.wp_txn.specs.Writes.{HasPut, Refuses}
+use Rattle.wp_txn.specs.Writes.{HasPut, HadFault, Refuses}
 
 pub starts_through : (a b c : List Entry) → StartsWith c b → StartsWith b a → StartsWith c a
 starts_through a b c later sooner = (sooner.0 ++ later.0, later.1 ∙ ap (λ (es : List Entry). es ++ later.0) sooner.1 ∙ append_assoc a sooner.0 later.0)
@@ -77,7 +77,7 @@ module _ {D : Type 0} (z : SharedState D) (old mid left new : SeatState) (needed
   refused_within Asks More wider Memory c = plain c
   refused_within Asks More wider (Stopped n) c = (c.0 ∙ same_length, found_in true c.1, more (stopped n ∷ []) c.2)
   refused_within Asks More wider (NumbersFull published limit) c = (c.0 ∙ same_length, c.1, c.2, found_in false c.3, plain c.4)
-  refused_within Asks More wider LogFault c = (subst (λ (n : ℕ). n + needed ≤ z.limit) same_length c.0, found_in false c.1, (c.2.0, wider c.2.0 c.2.1, more (log_failed c.2.0 ∷ []) c.2.2))
+  refused_within Asks More wider LogFault c = (subst (λ (n : ℕ). n + needed ≤ z.limit) same_length c.0, found_in false c.1, (c.2.0, wider c.2.0 c.2.1, more (log_failed c.2.0 ∷ []) c.2.2), subst (HadFault z) (sym same) c.3)
   refused_within Asks More wider (Taken name) c = c
   refused_within Asks More wider (Busy holder) c = c
   refused_within Asks More wider TooMany c = c

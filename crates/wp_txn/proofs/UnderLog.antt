@@ -217,6 +217,17 @@ module _ {D : Type 0} (z : SharedState D) (old s t new : SeatState) (log left : 
         subst (λ (es : List Entry). length es + length entries ≤ z.limit) (sym back.0) o.within,
         found_then z old s log o.takes new.knows.participant.seen false back.0 o.running,
         (entries, refl, back.1),
+        record {
+          before = log;
+          left = left;
+          of_store = o.takes.holds.of_store;
+          still_of_store = p.0.holds.of_store;
+          history_is = sym back.0;
+          history_left = p.0.history ∙ sym back.0;
+          running = o.running;
+          closed = p.0.closed_is;
+          rose = p.1;
+        },
       )
 
 -- what is so of a fact is so of each that is it

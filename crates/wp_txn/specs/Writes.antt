@@ -11,6 +11,9 @@ use Rattle.wp_core.specs.Sound.Views.{guarded_by}
 use Rattle.wp_core.specs.Views.{Fact, locked, stopped}
 use Rattle.wp_core.specs.World.{Participant}
 use Rattle.wp_commits.specs.Gone.{HasLeft}
+use Rattle.wp_guarded.specs.Log.{LogState}
+use Rattle.wp_guarded.specs.Parts.{log_first}
+use Rattle.wp_outside.specs.Faults.{Rose}
 use Rattle.wp_publish.specs.Writing.{FoundLog}
 use Rattle.wp_publish.specs.Records.{numbers_behind, failing}
 use Rattle.wp_shared.specs.Calls.{ContinuesWith, Continues}
@@ -37,6 +40,18 @@ pub record HasPut {D : Type 0} (Stays : Fact → Type 0) (z : SharedState D) (ol
 abbrev pub HasPutThese : {D : Type 0} → (Fact → Type 0) → SharedState D → SeatState → SeatState → Participant → Participant → List Entry → Type 0
 HasPutThese Stays z old new found after entries = (history : List Entry) × HasPut Stays z old new found after history entries
 
+-- A log of the store with this history was running, and a call to its device failed: the device's count rose, and the log is closed.
+pub record HadFault {D : Type 0} (z : SharedState D) (history : List Entry) : Type 0 where
+  pub before : LogState
+  pub left : LogState
+  pub of_store : log_first z.first ≡ Some before.first
+  pub still_of_store : log_first z.first ≡ Some left.first
+  pub history_is : before.table.history ≡ history
+  pub history_left : left.table.history ≡ history
+  pub running : before.table.closed ≡ false
+  pub closed : left.table.closed ≡ true
+  pub rose : Rose before.wal.faults left.wal.faults
+
 -- Why a call put no entries there, of which it needs so many, and asks for such. It was the first participant as it found the log,
 -- and is the second one but for what it remembers of that.
 abbrev pub Refuses : {D : Type 0} → SharedState D → SeatState → SeatState → ℕ → (List Entry → Type 0) → Participant → Participant → TxnError → Type 0
@@ -48,7 +63,7 @@ Refuses z old new needed Asks found after (NumbersFull published limit) =
     × FoundLog z old.by found new.knows.participant.seen false × Continues z old new after
 Refuses z old new needed Asks found after LogFault =
     (length new.knows.participant.seen + needed ≤ z.limit) × FoundLog z old.by found new.knows.participant.seen false
-    × ((entries : List Entry) × Asks entries × Continues z old new (failing entries after))
+    × ((entries : List Entry) × Asks entries × Continues z old new (failing entries after)) × HadFault z new.knows.participant.seen
 Refuses z old new needed Asks found after other = ⊥
 
 -- ---- a direct write
