@@ -85,6 +85,19 @@ module _ {D : Type 0} (z : SharedState D) (old mid left new : SeatState) (needed
   refused_within Asks More wider (Unknown name at) c = c
   refused_within Asks More wider (InUse name) c = c
 
+-- what is refused whatever is asked for
+pub refused_for : {D : Type 0} (z : SharedState D) (old new : SeatState) (needed : ℕ) (Asks : List Entry → Type 0) (found after : Participant) (why : TxnError) → Refuses z old new needed (λ asked. ⊥) found after why → Refuses z old new needed Asks found after why
+refused_for z old new needed Asks found after Memory c = c
+refused_for z old new needed Asks found after (Stopped n) c = c
+refused_for z old new needed Asks found after (NumbersFull published limit) c = c
+refused_for z old new needed Asks found after LogFault c = absurd c.2.1
+refused_for z old new needed Asks found after (Taken name) c = c
+refused_for z old new needed Asks found after (Busy holder) c = c
+refused_for z old new needed Asks found after TooMany c = c
+refused_for z old new needed Asks found after Silent c = c
+refused_for z old new needed Asks found after (Unknown name at) c = c
+refused_for z old new needed Asks found after (InUse name) c = c
+
 -- ---- a refusal leaves transactions as they were
 
 -- the seat has the transactions that it had, and knows of them what it knew

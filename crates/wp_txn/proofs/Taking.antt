@@ -23,6 +23,7 @@ use Rattle.wp_core.specs.Steps.{give_turn}
 use Rattle.wp_core.specs.Sound.Actors.{StartsWith}
 use Rattle.wp_core.proofs.HistoryGrows.{none_is}
 use Rattle.wp_core.proofs.Keyed.{at_inserted}
+use Rattle.wp_rule.specs.Accounts.{account_of}
 use Rattle.wp_rule.specs.Words.{Place, IsAt}
 use Rattle.wp_rule.specs.Moves.{MayStep}
 use Rattle.wp_rule.proofs.Knows.{at_sound}
@@ -138,7 +139,7 @@ module _ {D : Type 0} (z : SharedState D) (old : SeatState) (free : IsFree z.tab
     locks_after name (Ok done) u r c =
         locks_kept (with_taken t c.2.history name both) r u (under_both (with_taken t c.2.history name) r c.2.seat) free.live (inl (ap locks (sym (c.0 ∙ ap (λ (client : List ℕ). with_name t name (Some client)) same_client))))
     locks_after name (Err (Unknown other at)) u r c = locks_kept (sees c.3.0 both) r u (under_both (sees c.3.0) r c.3.4) free.live (inl (ap locks (sym c.2)))
-    locks_after name (Err (InUse other)) u r c = locks_kept (with_found None (Txn name) c.1.2.0 both) r u (under_both (with_found None (Txn name) c.1.2.0) r c.1.2.1) free.live (inl (ap locks (sym c.1.1)))
+    locks_after name (Err (InUse other)) u r c = locks_kept (with_found t c.1.2.0 None (Txn name) both) r u (under_both (with_found t c.1.2.0 None (Txn name)) r c.1.2.1) free.live (inl (ap locks (sym c.1.1)))
     locks_after name (Err Memory) u r c = absurd c
     locks_after name (Err (Taken other)) u r c = absurd c
     locks_after name (Err (Busy holder)) u r c = absurd c
@@ -162,7 +163,7 @@ module _ {D : Type 0} (z : SharedState D) (old : SeatState) (free : IsFree z.tab
       pub log_after : (name : List ℕ) (answer : Result (Unit {0}) TxnError) (u : LockTables) → TakesUnder t s2 name answer u r → HoldsLog z s4 log
       log_after name (Ok done) u c = log_kept (with_taken t c.2.history name both) (under_both (with_taken t c.2.history name) r c.2.seat) (inl refl)
       log_after name (Err (Unknown other at)) u c = log_kept (sees c.3.0 both) (under_both (sees c.3.0) r c.3.4) (inl refl)
-      log_after name (Err (InUse other)) u c = log_kept (with_found None (Txn name) c.1.2.0 both) (under_both (with_found None (Txn name) c.1.2.0) r c.1.2.1) (inl refl)
+      log_after name (Err (InUse other)) u c = log_kept (with_found t c.1.2.0 None (Txn name) both) (under_both (with_found t c.1.2.0 None (Txn name)) r c.1.2.1) (inl refl)
       log_after name (Err Memory) u c = absurd c
       log_after name (Err (Taken other)) u c = absurd c
       log_after name (Err (Busy holder)) u c = absurd c

@@ -31,7 +31,12 @@ pub fn leave<D: Disk + Drop, R: Wait>(
 {
     let mut tables = take_locks(store, rt, seat);
     leave_name(store, seat, &tables, &txn);
-    tables.leave_name(&txn.name);
+    let PreparedTxn {
+        name,
+        number: _number,
+        batch: _batch,
+    } = txn;
+    tables.leave_name(&name);
     give_locks(store, seat, tables);
 }
 

@@ -1,6 +1,5 @@
 //! A record of entries, from the taking of the write turn to its giving.
-ghost use Rattle.std.specs.Prelude.{◌≡◌, ◌≤◌, false, ℕ, List, [], ◌∷◌, length, Some, IfOk, IfErr};
-ghost use Rattle.wp_model.specs.declared.entry.Entry.{Entry};
+ghost use Rattle.std.specs.Prelude.{◌≡◌, ◌≤◌, false, [], ◌∷◌, length, Some, IfOk, IfErr};
 ghost use Rattle.wp_model.specs.declared.entry.Entry.TheVariants.{Write, Prepare, Commit, Undo, Close};
 ghost use Rattle.wp_model.specs.History.{named};
 ghost use Rattle.wp_core.specs.Views.{undecided_at, unprepared};
@@ -34,7 +33,7 @@ fn open_log<D: Disk + Drop, R: Wait>(
     requires free { IsFree store.now.table seat.old }
     requires needed { needed ≤ 2 }
     ensures ok { IfOk result (λ log. OpensLog store.now seat.old seat.new log needed) }
-    ensures refused { IfErr result (λ why. (Asks : List Entry → Type 0) → Refuses store.now seat.old seat.new needed Asks seat.old.knows.participant seat.old.knows.participant why) }
+    ensures refused { IfErr result (Refuses store.now seat.old seat.new needed (λ asked. ⊥) seat.old.knows.participant seat.old.knows.participant) }
 {
     let log = take_write(store, rt, seat);
     if log.is_closed() {

@@ -1,13 +1,17 @@
 use Rattle.std.proofs.Common.{◌≡◌, ℕ, List, Some, None, is_some, sym, ap, subst, ◌∙◌}
 use Rattle.std.specs.FinMap as finite
 use Rattle.wp_model.specs.History.{named}
+use Rattle.wp_model.specs.LockTables.{LockTables}
 use Rattle.wp_model.specs.declared.entry.Entry.{Entry}
+use Rattle.wp_model.specs.declared.holder.Holder.TheVariants.{Txn}
 use Rattle.wp_locks.specs.Locks.{RefusesTake}
 use Rattle.wp_locks.specs.declared.error.LockError.{LockError}
 use Rattle.wp_core.specs.Lists.{IsIn}
 use Rattle.wp_core.specs.Tables.{locks}
 use Rattle.wp_core.specs.World.{Actor}
 use Rattle.wp_shared.proofs.OneStep.{becomes}
+use Rattle.wp_txn.specs.Actors.{with_found}
+use Rattle.wp_txn.specs.Turns.{seat_of}
 use Rattle.wp_txn.proofs.Taking.{not_named, refused_unknown, refused_used}
 use Rattle.wp_txn.proofs.prepared.take_under.Goals as goal
 
@@ -38,4 +42,12 @@ returns-in-InUse g c =
     let t = c.args.tables.now in let r = c.in-Err.ensures {u = tt} in
     let f = refused_used (finite.get t.names c.args.asked) c.args.asked c.in-InUse.asked (subst (λ (why : LockError). RefusesTake (finite.get t.names c.args.asked) c.args.asked why) c.in-InUse.is r.0) in
     let has : finite.get t.names c.args.name.now ≡ Some (Some f.0.0) = ap (λ (name : List ℕ). finite.get t.names name) (sym c.requires.names.0) ∙ f.0.1 in
-    (f.1 ∙ c.requires.names.0, (ap is_some has, r.2, c.find_name.ensures), (f.0.0, has))
+    (
+      f.1 ∙ c.requires.names.0,
+      (
+        ap is_some has,
+        r.2,
+        subst (λ (l : LockTables). (x : ℕ) × (c.find_name.new.seat ≡ seat_of c.args.seat.now (with_found l x None (Txn c.args.name.now) c.args.seat.now.knows))) r.2 c.find_name.ensures,
+      ),
+      (f.0.0, has),
+    )

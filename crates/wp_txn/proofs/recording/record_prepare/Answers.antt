@@ -7,12 +7,13 @@ use Rattle.wp_txn.specs.declared.error.TxnError.{TxnError}
 use Rattle.wp_txn.specs.Recording.{Records, answer_of}
 use Rattle.wp_txn.specs.Txn.{OpenState, HasOpen}
 use Rattle.wp_txn.proofs.MayPut.{may_prepare}
+use Rattle.wp_txn.proofs.Goes.{refused_for}
 use Rattle.wp_txn.proofs.UnderLog.{recorded, holds_then, about_one}
 use Rattle.wp_txn.proofs.recording.record_prepare.Goals as goal
 
 pub returns-in_err-log : goal.returns-in_err-log
 returns-in_err-log g c = let p = err_from_is_err_and c.from_residual.result c.from_residual.ensures.1 in
-    subst (λ (r : Result ℕ TxnError). Records c.args.store.now c.args.seat.now (Prepare c.args.txn.now.name c.args.txn.now.batch ∷ []) (λ n. undecided_at c.args.txn.now.name n ∷ []) r c.open_log.new.seat) (sym (p.1 ∙ ap Err p.2)) (c.in_err-log.ensures.refused (λ asked. asked ≡ Prepare c.args.txn.now.name c.args.txn.now.batch ∷ []))
+    subst (λ (r : Result ℕ TxnError). Records c.args.store.now c.args.seat.now (Prepare c.args.txn.now.name c.args.txn.now.batch ∷ []) (λ n. undecided_at c.args.txn.now.name n ∷ []) r c.open_log.new.seat) (sym (p.1 ∙ ap Err p.2)) (refused_for _ _ _ _ (λ asked. asked ≡ Prepare c.args.txn.now.name c.args.txn.now.batch ∷ []) _ _ _ c.in_err-log.ensures.refused)
 
 pub put_prepare-outcome-requires-clause-may : goal.put_prepare-outcome-requires-clause-may
 put_prepare-outcome-requires-clause-may g c =

@@ -1,4 +1,5 @@
-use Rattle.std.proofs.Common.{ℕ, [], ◌∷◌, length, refl, subst, sym, arith}
+use Rattle.std.proofs.Common.{◌≡◌, ℕ, [], ◌∷◌, length, refl, subst, sym, ap, ◌∙◌, Err, arith}
+use Rattle.std.proofs.lemmas.Result.{err_from_is_err_and}
 use Rattle.std.specs.Prelude.{Result}
 use Rattle.wp_model.specs.declared.entry.Entry.TheVariants.{Undo, Close}
 use Rattle.wp_core.specs.Views.{unprepared}
@@ -7,8 +8,14 @@ use Rattle.wp_txn.specs.Recording.{Records, HadPrior, answer_of}
 use Rattle.wp_txn.specs.Txn.{PreparedState, HasPrepared}
 use Rattle.wp_txn.proofs.MayPut.{may_roll_back, named_still}
 use Rattle.wp_txn.proofs.RollsBack.{restores}
+use Rattle.wp_txn.proofs.Goes.{refused_for}
 use Rattle.wp_txn.proofs.UnderLog.{recorded, holds_then, about_one}
 use Rattle.wp_txn.proofs.recording.record_rollback.Goals as goal
+
+pub returns-in_err-log : goal.returns-in_err-log
+returns-in_err-log g c = let p = err_from_is_err_and c.from_residual.result c.from_residual.ensures.1 in let q = c.args.txn.now.number in
+    subst (λ (r : Result ℕ TxnError). Records c.args.store.now c.args.seat.now (Undo q c.args.prior.now ∷ Close q ∷ []) (λ n. unprepared c.args.txn.now.name ∷ []) r c.open_log.new.seat) (sym (p.1 ∙ ap Err p.2))
+    (refused_for _ _ _ _ (λ asked. asked ≡ Undo q c.args.prior.now ∷ Close q ∷ []) _ _ _ c.in_err-log.ensures.refused)
 
 pub put_rollback-outcome-requires-clause-may : goal.put_rollback-outcome-requires-clause-may
 put_rollback-outcome-requires-clause-may g c =

@@ -4,12 +4,13 @@ use Rattle.std.proofs.lemmas.Result.{err_from_is_err_and}
 use Rattle.wp_model.specs.declared.entry.Entry.TheVariants.{Write}
 use Rattle.wp_txn.specs.declared.error.TxnError.{TxnError}
 use Rattle.wp_txn.specs.Recording.{Records}
+use Rattle.wp_txn.proofs.Goes.{refused_for}
 use Rattle.wp_txn.proofs.UnderLog.{recorded, holds_then, noting_none}
 use Rattle.wp_txn.proofs.recording.record_write.Goals as goal
 
 pub returns-in_err-log : goal.returns-in_err-log
 returns-in_err-log g c = let p = err_from_is_err_and c.from_residual.result c.from_residual.ensures.1 in
-    subst (λ (r : Result ℕ TxnError). Records c.args.store.now c.args.seat.now (Write c.args.batch.now ∷ []) (λ n. []) r c.open_log.new.seat) (sym (p.1 ∙ ap Err p.2)) (c.in_err-log.ensures.refused (λ asked. asked ≡ Write c.args.batch.now ∷ []))
+    subst (λ (r : Result ℕ TxnError). Records c.args.store.now c.args.seat.now (Write c.args.batch.now ∷ []) (λ n. []) r c.open_log.new.seat) (sym (p.1 ∙ ap Err p.2)) (refused_for _ _ _ _ (λ asked. asked ≡ Write c.args.batch.now ∷ []) _ _ _ c.in_err-log.ensures.refused)
 
 pub write-outcome-requires-clause-may : goal.write-outcome-requires-clause-may
 write-outcome-requires-clause-may g c = c.requires.may _ _ c.in_ok-log.ensures.ok

@@ -1,12 +1,19 @@
-use Rattle.std.proofs.Common.{ap, is_some}
+use Rattle.std.proofs.Common.{sym, subst, ap, is_some, None}
+use Rattle.wp_core.specs.Changes.{with_name}
+use Rattle.wp_txn.specs.Turns.{IsWithout}
+use Rattle.wp_txn.specs.Txn.{PreparedState, HasPrepared}
 use Rattle.wp_txn.proofs.Made.{may_leave, is_live, left_it}
 use Rattle.wp_txn.proofs.steps.leave_name.Goals as goal
 
 pub make_about-requires-clause-may : goal.make_about-requires-clause-may
-make_about-requires-clause-may g c = may_leave _ _ c.args.tables.now c.args.txn.now.name c.args.txn.now.number c.args.txn.now.batch c.requires.prepared c.requires.seat.held
+make_about-requires-clause-may g c =
+    let x = c.txn.inside in
+    may_leave _ _ c.args.tables.now x.name x.number x.batch (subst (λ (t : PreparedState). HasPrepared c.args.seat.now t.name t.number t.batch) (sym c.txn.view_is) c.requires.prepared) c.requires.seat.held
 
 pub returns-clause-seat : goal.returns-clause-seat
-returns-clause-seat g c = left_it _ _ _ _ c.make_about.ensures.same c.args.tables.now c.args.txn.now.name c.requires.seat.held c.make_about.ensures.moved
+returns-clause-seat g c =
+    subst (λ (t : PreparedState). IsWithout c.args.seat.now c.make_about.new.seat (with_name c.args.tables.now t.name None) t.name) c.txn.view_is
+    (left_it _ _ _ _ c.make_about.ensures.same c.args.tables.now c.txn.inside.name c.requires.seat.held c.make_about.ensures.moved)
 
 pub returns-clause-live : goal.returns-clause-live
 returns-clause-live g c = is_live _ _ _ c.args.tables.now c.args.txn.now.name c.make_about.ensures.moved.before (ap is_some c.requires.prepared.has) c.requires.seat.held
