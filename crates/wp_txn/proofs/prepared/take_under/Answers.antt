@@ -41,8 +41,7 @@ pub returns-in-InUse : goal.returns-in-InUse
 returns-in-InUse g c =
     let t = c.args.tables.now in let r = c.in-Err.ensures {u = tt} in
     let f = refused_used (finite.get t.names c.args.asked) c.args.asked c.in-InUse.asked (subst (λ (why : LockError). RefusesTake (finite.get t.names c.args.asked) c.args.asked why) c.in-InUse.is r.0) in
-    let has : finite.get t.names c.args.name.now ≡ Some (Some f.0.0) = ap (λ (name : List ℕ). finite.get t.names name) (sym c.requires.names.0) ∙ f.0.1 in
-    (
+    let has : finite.get t.names c.args.name.now ≡ Some (Some f.0.0) = ap (λ (name : List ℕ). finite.get t.names name) (sym c.requires.names.0) ∙ f.0.1 in (
       f.1 ∙ c.requires.names.0,
       (
         ap is_some has,
