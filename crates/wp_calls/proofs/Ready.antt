@@ -243,15 +243,18 @@ module _ {D : Type 0} (z : SharedState D) (old : SeatState) (b : Option OpenStat
     refused needed Asks found after (Unknown other at) t r d c = absurd c
     refused needed Asks found after (InUse other) t r d c = absurd c
 
+    abbrev asks_write : Change → List Entry → Type 0
+    asks_write change entries = entries ≡ Write (change ∷ []) ∷ []
+
     pub has_written : (change : Change) (n : ℕ) → WritesDirect z old change (Ok n) new → GoesOn z old new b p o (Some n)
     has_written change n c = let put = c.1.1 in with_version new _ put.goes_on refl refl refl (Some n) (last_version new.knows.participant.seen c.1.0 (Write (change ∷ [])) n c.0 put.seen refl)
 
     pub not_written : (change : Change) (why : TxnError) → WritesDirect z old change (Err why) new → GoesOn z old new b p o v
     not_written change (Busy holder) c = goes_on new _ c.goes_on refl refl refl
     not_written change Memory c = ⊎_elim (λ none. keeps new none) (λ freed. goes_on new _ freed refl refl refl) c
-    not_written change (Stopped n) c = refused 1 _ _ _ (Stopped n) refl refl refl c
-    not_written change (NumbersFull published limit) c = refused 1 _ _ _ (NumbersFull published limit) refl refl refl c
-    not_written change LogFault c = refused 1 _ _ _ LogFault refl refl refl c
+    not_written change (Stopped n) c = refused 1 (asks_write change) _ _ (Stopped n) refl refl refl c
+    not_written change (NumbersFull published limit) c = refused 1 (asks_write change) _ _ (NumbersFull published limit) refl refl refl c
+    not_written change LogFault c = refused 1 (asks_write change) _ _ LogFault refl refl refl c
     not_written change (Taken other) c = absurd c
     not_written change TooMany c = absurd c
     not_written change Silent c = absurd c
@@ -259,7 +262,7 @@ module _ {D : Type 0} (z : SharedState D) (old : SeatState) (b : Option OpenStat
     not_written change (InUse other) c = absurd c
 
     pub open_refused : (txn left : OpenState) (entry : Entry) (why : TxnError) → b ≡ Some txn → RefusesOpen z old txn entry left why new → GoesOn z old new (Some left) p o v
-    open_refused txn left entry why is c = still txn left is c.0 (refused 1 _ _ _ why refl refl refl c.2)
+    open_refused txn left entry why is c = still txn left is c.0 (refused 1 (λ entries. entries ≡ entry ∷ []) _ _ why refl refl refl c.2)
 
     -- the prepared transaction is decided, by these entries
     decided : (txn : PreparedState) (history entries : List Entry) → p ≡ Some txn → HasPut (IsApartFrom txn.name) z old new old.knows.participant (without_transaction txn.name old.knows.participant) history entries → GoesOn z old new b None o v
@@ -271,7 +274,7 @@ module _ {D : Type 0} (z : SharedState D) (old : SeatState) (b : Option OpenStat
     has_committed txn n is c = decided txn _ _ is c.0.1.1
 
     pub prepared_refused : (txn left : PreparedState) (needed : ℕ) (Asks : PreparedState → List Entry → Type 0) (why : TxnError) → p ≡ Some txn → RefusesPrepared z old txn needed Asks left why new → GoesOn z old new b (Some left) o v
-    prepared_refused txn left needed Asks why is c = as_these new b (Some left) o v refl (is ∙ ap (λ (t : PreparedState). Some t) (sym c.0)) refl refl (refused needed _ _ _ why refl refl refl c.2)
+    prepared_refused txn left needed Asks why is c = as_these new b (Some left) o v refl (is ∙ ap (λ (t : PreparedState). Some t) (sym c.0)) refl refl (refused needed (Asks txn) _ _ why refl refl refl c.2)
 
     -- ---- snapshots and versions
 
