@@ -8,4 +8,4 @@ pub returns-clause-without : goal.returns-clause-without
 returns-clause-without g c = freed_it _ _ _ _ c.make_about.ensures.same c.args.tables.now c.args.name.now c.requires.seat.held c.make_about.ensures.moved
 
 pub returns-clause-stands : goal.returns-clause-stands
-returns-clause-stands g c = stands_after _ _ _ _ _ c.make_about.ensures.same.1 c.make_about.ensures.moved
+returns-clause-stands g c = stands_after c.args.store.now c.args.seat.now c.make_about.new.seat _ _ c.make_about.ensures.same.1 c.make_about.ensures.moved

@@ -19,4 +19,4 @@ pub returns-clause-live : goal.returns-clause-live
 returns-clause-live g c = is_live _ _ _ c.args.tables.now c.args.txn.now.name c.make_about.ensures.moved.before (ap is_some c.requires.prepared.has) c.requires.seat.held
 
 pub returns-clause-stands : goal.returns-clause-stands
-returns-clause-stands g c = stands_after _ _ _ _ _ c.make_about.ensures.same.1 c.make_about.ensures.moved
+returns-clause-stands g c = stands_after c.args.store.now c.args.seat.now c.make_about.new.seat _ _ c.make_about.ensures.same.1 c.make_about.ensures.moved
