@@ -21,7 +21,7 @@ use Rattle.wp_core.specs.Views.{Fact, passed, in_old_commits, apart, words_stay,
 use Rattle.wp_core.specs.World.{Actor, Participant, World}
 use Rattle.wp_core.specs.Sound.Views.{guarded_by}
 use Rattle.wp_core.proofs.HistoryGrows.{none_is}
-use Rattle.wp_core.proofs.Keyed.{at_inserted}
+use Rattle.wp_core.proofs.Keyed.{at_inserted, at_removed}
 use Rattle.wp_core.proofs.Tests.{some_none}
 use Rattle.wp_rule.specs.Knows.{Noted}
 use Rattle.wp_rule.specs.Moves.{MayMake, Moved, actor_after}

@@ -23,6 +23,7 @@ use Rattle.wp_core.proofs.Keyed.{at_inserted}
 use Rattle.wp_core.proofs.Tests.{some_none}
 use Rattle.wp_rule.specs.Accounts.{IsHolderIn, account_of}
 use Rattle.wp_rule.proofs.Knows.{at_sound}
+use Rattle.wp_rule.specs.Words.{IsAt}
 use Rattle.wp_guarded.specs.declared.part.Part.{Part}
 use Rattle.wp_guarded.specs.declared.part.Part.TheVariants as part
 use Rattle.wp_guarded.specs.Parts.{content}
