@@ -1,5 +1,6 @@
 -- What an install makes of the tables, and what one leaves that is refused.
-use Rattle.std.proofs.Common.{◌≡◌, ◌⊎◌, inl, inr, ℕ, suc, Bool, true, false, List, [], ◌∷◌, ◌++◌, length, min, Option, Some, None, refl, sym, ap, ◌∙◌, subst, arith}
+use Rattle.std.proofs.Common.{◌≡◌, ◌⊎◌, inl, inr, ℕ, suc, Bool, true, false, List, [], ◌∷◌, ◌++◌, length, min, ◌<◌, Option, Some, None, refl, sym, ap, ◌∙◌, subst, arith}
+use Rattle.std.specs.List.{list_all}
 use Rattle.std.specs.Option.{option_or}
 use Rattle.wp_model.specs.declared.version.Version.{Version}
 use Rattle.wp_model.specs.Flushed.{InstalledEdit}
@@ -16,6 +17,7 @@ use Rattle.wp_merge.proofs.Sorted.{at_sorted, in_order_sorted, in_order_same}
 use Rattle.wp_open.specs.Opens.{installed_of}
 use Rattle.wp_open.proofs.Later.{at_append}
 use Rattle.wp_store.specs.Store.{with_newest}
+use Rattle.wp_table.specs.Table.{is_flushed}
 use Rattle.wp_tableset.specs.Changes.{compacted_parts, one_part, NextInstalled, NextRefused, LosesNoTable}
 use Rattle.wp_tableset.specs.Device.{KeepsFronts}
 use Rattle.wp_tableset.specs.Set.{TableSetState, StoresTables}
@@ -25,6 +27,7 @@ use Rattle.wp_tableset.proofs.SetLemmas.{none_left}
 use Rattle.wp_guarded.specs.declared.edits.FailedInstall.{FailedInstall}
 use Rattle.wp_guarded.specs.Edits.{edits_state, asked_for, failed_edit, IsEdits}
 use Rattle.wp_guarded.specs.Installs.{with_table, in_one_table, HasHalted, IsRefused}
+use Rattle.wp_guarded.proofs.FlushedVersions.{both_flushed}
 use Rattle.wp_guarded.proofs.LogLemmas.{rose_since}
 use Rattle.wp_guarded.proofs.StockLemmas.{at_parts}
 
@@ -57,6 +60,13 @@ is_with_table edit next versions parts = λ i. record { flushed = next.flushed; 
 
 pub is_in_one_table : (edit next : Edit) (versions : List Version) (parts : List (List Version)) → AreInOrder versions → next.flushed ≡ edit.flushed → installed_of next (compacted_parts versions) ≡ in_one_table versions (installed_of edit parts)
 is_in_one_table edit next versions parts ordered same = λ i. record { flushed = same i; versions = one_sorted versions ordered i; tables = one_counted versions i }
+
+-- no version of its tables has a number above the flushed one
+pub front_flushed : (old flushed : ℕ) (versions : List Version) (parts : List (List Version)) → old < flushed → list_all (is_flushed flushed) versions ≡ true → list_all (is_flushed old) (sorted_of (joined parts)) ≡ true → list_all (is_flushed flushed) (sorted_of (joined (versions ∷ parts))) ≡ true
+front_flushed old flushed versions parts later now before = rw (front_sorted versions parts) (both_flushed old flushed versions (sorted_of (joined parts)) (omega (arith, later)) now before)
+
+pub one_flushed : (flushed : ℕ) (versions : List Version) → AreInOrder versions → list_all (is_flushed flushed) versions ≡ true → list_all (is_flushed flushed) (sorted_of (joined (compacted_parts versions))) ≡ true
+one_flushed flushed versions ordered now = rw (one_sorted versions ordered) now
 
 -- ---- an edit that is not asked for
 
@@ -104,12 +114,13 @@ module _ (set first : TableSetState) (parts : List (List Version)) (failed : Opt
   -- ---- the edit is installed
 
   module _ (next : Edit) (after : List (List Version) → List (List Version)) (installed : NextInstalled set new next after) (open_ : new.manifest.log.closed ≡ false) (now : List (List Version)) (is : now ≡ after parts) where
-    pub installed_edits : IsEdits (edits_state new first now failed)
-    installed_edits = record {
+    pub installed_edits : list_all (is_flushed next.flushed) (sorted_of (joined (after parts))) ≡ true → IsEdits (edits_state new first now failed)
+    installed_edits flushed = record {
       edits = k.edits ++ next ∷ [];
       next = no_edit;
       next_parts = [];
       stores = subst (λ (ps : List (List Version)). StoresTables new (k.edits ++ next ∷ []) no_edit ps []) (sym is) (installed.stores k.edits parts stored);
+      flushed = rw (installed.last, is) flushed;
       none_failed = λ _. open_asked new.manifest.log.closed failed now open_;
       failed = λ closed. absurd cc;
       running = λ _. open_;
@@ -131,16 +142,20 @@ module _ (set first : TableSetState) (parts : List (List Version)) (failed : Opt
   -- ---- it is refused
 
   module _ (next : Edit) (after : List (List Version) → List (List Version)) (f : FailedInstall) (asked : asked_for f parts ≡ installed_of next (after parts)) where
+    same_open : new.manifest ≡ set.manifest → new.manifest.log.closed ≡ false
+    same_open same = ap (λ (m : ManifestState). m.log.closed) same ∙ open_before
+
     -- the manifest was not called for it
-    still_open : new.manifest.log.closed ≡ false → StoresTables new k.edits no_edit parts [] → (new.halted ≡ true → Rose first.manifest.log.faults new.manifest.log.faults ⊎ Rose first.faults new.faults) → IsEdits (edits_state new first parts (Some f))
-    still_open open_ stores cause = record {
+    still_open : new.manifest ≡ set.manifest → StoresTables new k.edits no_edit parts [] → (new.halted ≡ true → Rose first.manifest.log.faults new.manifest.log.faults ⊎ Rose first.faults new.faults) → IsEdits (edits_state new first parts (Some f))
+    still_open same stores cause = record {
       edits = k.edits;
       next = no_edit;
       next_parts = [];
       stores = stores;
-      none_failed = λ _. open_asked new.manifest.log.closed (Some f) parts open_;
-      failed = λ closed. absurd cc;
-      running = λ _. open_;
+      flushed = rw (ap (λ (m : ManifestState). m.edit) same) k.flushed;
+      none_failed = λ open_. open_asked new.manifest.log.closed (Some f) parts open_;
+      failed = λ closed. let open_ = same_open same in absurd cc;
+      running = λ _. same_open same;
       id = keeps.id ∙ k.id;
       later = omega (arith, k.later, keeps.later);
       manifest_later = omega (arith, k.manifest_later, keeps.manifest_later);
@@ -149,20 +164,18 @@ module _ (set first : TableSetState) (parts : List (List Version)) (failed : Opt
       durable = durable;
     }
 
-    same_open : new.manifest ≡ set.manifest → new.manifest.log.closed ≡ false
-    same_open same = ap (λ (m : ManifestState). m.log.closed) same ∙ open_before
-
     pub refused_edits : (why : TableSetError) → NextRefused set new next after why → IsEdits (edits_state new first parts (Some f))
     refused_edits Memory refused =
         let halted : new.halted ≡ set.halted = ap (λ (s : TableSetState). s.halted) refused.0 in
-        still_open (same_open (ap (λ (s : TableSetState). s.manifest) refused.0)) (refused.1 k.edits parts stored) (λ stopped. absurd cc)
+        still_open (ap (λ (s : TableSetState). s.manifest) refused.0) (refused.1 k.edits parts stored) (λ stopped. absurd cc)
     refused_edits Fault refused = elim refused.2 [
-      | inl stopped ↦ still_open (same_open stopped.manifest) (stopped.stores k.edits parts stored) (λ _. inr (rose_since first.faults set.faults new.faults k.later stopped.rose))
+      | inl stopped ↦ still_open stopped.manifest (stopped.stores k.edits parts stored) (λ _. inr (rose_since first.faults set.faults new.faults k.later stopped.rose))
       | inr stopped ↦ record {
         edits = k.edits;
         next = next;
         next_parts = after parts;
         stores = stopped.stores k.edits parts stored;
+        flushed = rw stopped.last k.flushed;
         none_failed = λ open_. open_asked new.manifest.log.closed (Some f) parts open_;
         failed = λ closed. rw closed (ap Some asked);
         running = λ runs. let halted = refused.1 in absurd cc;

@@ -1,5 +1,6 @@
 pub mod LogLemmas
 pub mod StockLemmas
+pub mod FlushedVersions
 pub mod EditsLemmas
 pub mod InstallLemmas
 pub mod LaterVersions

@@ -5,6 +5,7 @@ ghost use Rattle.std.specs.List.{list_all};
 ghost use Rattle.std.specs.Option.{option_map};
 ghost use Rattle.wp_outside.specs.Disk.{images};
 ghost use Rattle.wp_manifest.specs.Edit.{Edit, no_edit};
+ghost use Rattle.wp_merge.specs.Merge.{joined, sorted_of};
 ghost use Rattle.wp_store.specs.Store.{with_newest};
 ghost use Rattle.wp_table.specs.Table.{is_flushed, is_numbered};
 ghost use Rattle.wp_tableset.specs.Changes.{one_part};
@@ -79,6 +80,7 @@ impl<D: Disk> Edits<D> {
     /// The set as an opening gives it, with what the tables of its last edit have, the newest first.
     pub fn new(set: TableSet<D>, tables: Vec<TableVersions>) -> Edits<D>
         requires stores { (edits : List Edit) × StoresTables set edits no_edit tables.items [] }
+        requires flushed { list_all (is_flushed set.manifest.edit.flushed) (sorted_of (joined tables.items)) ≡ true }
         requires running { set.halted ≡ false }
         ensures { result ≡ edits_state set set tables.items None }
     {
@@ -100,7 +102,8 @@ impl<D: Disk> Edits<D> {
 
     /// The number up to which entries were flushed.
     pub fn flushed(&self) -> Seq
-        ensures { result ≡ self.now.table.last.flushed }
+        ensures number { result ≡ self.now.table.last.flushed }
+        ensures tables { list_all (is_flushed result) self.now.table.last.versions ≡ true }
     {
         self.set.edit().flushed
     }

@@ -3,7 +3,7 @@ use Rattle.wp_model.specs.declared.version.Version.{Version}
 use Rattle.wp_tableset.specs.Changes.{compacted_edit, compacted_parts}
 use Rattle.wp_store.specs.Store.{with_newest}
 use Rattle.wp_store.specs.declared.gone.Gone.TheVariants as gone
-use Rattle.wp_guarded.proofs.InstallLemmas.{alone, is_in_one_table, installed_edits, installed_table, refused_edits, refused_table}
+use Rattle.wp_guarded.proofs.InstallLemmas.{alone, is_in_one_table, installed_edits, installed_table, one_flushed, refused_edits, refused_table}
 use Rattle.wp_guarded.proofs.edits.Edits.compact.Goals as goal
 
 pub invariant_of-self-in-Ok : goal.invariant_of-self-in-Ok
@@ -15,6 +15,7 @@ invariant_of-self-in-Ok g c =
     let now : c.put_alone.new.tables.items ≡ compacted_parts versions = c.put_alone.ensures ∙ ap (λ (o : Option (List Version)). with_newest o []) c.in-Ok.ensures.table ∙ alone versions in
     installed_edits inside.set inside.first.value inside.tables.items inside.failed c.self.invariant running c.compact.new.self c.compact.ensures.keeps
     (compacted_edit inside.set versions call.0) (λ _. compacted_parts versions) call.1.installed (c.is_halted.ensures.running call.1.installed.running) c.put_alone.new.tables.items now
+    (one_flushed inside.set.manifest.edit.flushed versions c.as_slice.ensures.in_order (rw (← c.self.view_is) at c.requires.flushed))
 
 pub returns-in-Ok-clause-installed : goal.returns-in-Ok-clause-installed
 returns-in-Ok-clause-installed g c =

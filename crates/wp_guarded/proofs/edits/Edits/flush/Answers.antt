@@ -2,7 +2,7 @@ use Rattle.std.proofs.Common.{◌≡◌, ◌∷◌, List, refl, ap, ◌∙◌, r
 use Rattle.wp_model.specs.declared.version.Version.{Version}
 use Rattle.wp_tableset.specs.Changes.{flushed_edit}
 use Rattle.wp_store.specs.declared.gone.Gone.TheVariants as gone
-use Rattle.wp_guarded.proofs.InstallLemmas.{is_with_table, installed_edits, installed_table, refused_edits, refused_table}
+use Rattle.wp_guarded.proofs.InstallLemmas.{front_flushed, is_with_table, installed_edits, installed_table, refused_edits, refused_table}
 use Rattle.wp_guarded.proofs.edits.Edits.flush.Goals as goal
 
 pub invariant_of-self-in-Ok : goal.invariant_of-self-in-Ok
@@ -14,6 +14,7 @@ invariant_of-self-in-Ok g c =
     let now : c.insert.new.self.items ≡ versions ∷ inside.tables.items = search rules in
     installed_edits inside.set inside.first.value inside.tables.items inside.failed c.self.invariant running c.flush.new.self c.flush.ensures.keeps
     (flushed_edit inside.set versions c.args.flushed call.0) (λ parts. versions ∷ parts) call.1.installed (c.is_halted.ensures.running call.1.installed.running) c.insert.new.self.items now
+    (front_flushed inside.set.manifest.edit.flushed c.args.flushed versions inside.tables.items (rw (← c.self.view_is) at c.requires.later) c.requires.flushed c.self.invariant.flushed)
 
 pub returns-in-Ok-clause-installed : goal.returns-in-Ok-clause-installed
 returns-in-Ok-clause-installed g c =
