@@ -1,7 +1,6 @@
 -- What is so of the versions in memory and in tables.
 use Rattle.std.proofs.Common.{◌≡◌, inl, inr, ℕ, ◌≤◌, ◌==◌, ◌&&◌, nat_le, nat_lt, not, Bool, true, false, cond, Less, Equal, Greater, List, [], ◌∷◌, ◌++◌, length, map, filter, Option, Some, None, refl, sym, ap, ◌∙◌, eqb-true, arith}
 use Rattle.std.proofs.lemmas.Bool.{and_parts, cases_lt, lt-ltb, le-ltb, lt-leb, le-leb}
-use Rattle.std.proofs.lemmas.List.Concat.{flat_map-cons}
 use Rattle.std.specs.List.{list_all}
 use Rattle.std.specs.declared.cmp.Ordering.{Ordering}
 use Rattle.std.specs.Option.{option_or}
@@ -113,13 +112,15 @@ removed n memory frozen key p =
 
 none_joined : (parts : List (List Version)) → list_all (λ part. length part == 0) parts ≡ true → joined parts ≡ []
 none_joined [] all = refl
-none_joined ([] ∷ parts) all = flat_map-cons (λ (s : List Version). s) [] parts ∙ none_joined parts all
-none_joined ((v ∷ part) ∷ parts) all = absurd cc
+none_joined ([] ∷ parts) all = none_joined parts all
+none_joined ((v ∷ part) ∷ parts) all =
+    let none = (and_parts (length (v ∷ part) == 0) (list_all (λ others. length others == 0) parts) all).0 in
+    absurd (omega (arith, eqb-true (length (v ∷ part)) 0 none))
 
 some_joined : (parts : List (List Version)) → list_all (λ part. length part == 0) parts ≡ false → 1 ≤ length (joined parts)
 some_joined [] some = absurd cc
-some_joined ([] ∷ parts) some = rw (flat_map-cons (λ (s : List Version). s) [] parts) (some_joined parts some)
-some_joined ((v ∷ part) ∷ parts) some = rw (flat_map-cons (λ (s : List Version). s) (v ∷ part) parts) (omega arith)
+some_joined ([] ∷ parts) some = some_joined parts some
+some_joined ((v ∷ part) ∷ parts) some = let counted : 1 ≤ length (v ∷ (part ++ joined parts)) = omega arith in counted
 
 some_sorted : (versions : List Version) → 1 ≤ length versions → 1 ≤ length (sorted_of versions)
 some_sorted [] some = absurd (omega (arith, some))
@@ -142,11 +143,17 @@ something_in_memory memory frozen some = some_sorted (joined (memory ∷ frozen)
 
 -- ---- what was flushed goes
 
--- parts without a version are missed nowhere
-some_parts : (parts : List (List Version)) (key : List ℕ) (p : ℕ) → first_at (filter (λ part. nat_lt 0 (length part)) parts) key p ≡ first_at parts key p
-some_parts [] key p = refl
-some_parts ([] ∷ parts) key p = some_parts parts key p
-some_parts ((v ∷ part) ∷ parts) key p = ap (option_or (version_at (v ∷ part) key p)) (some_parts parts key p)
+-- the parts that have a version
+abbrev filled : List (List Version) → List (List Version)
+filled parts = filter (λ part. nat_lt 0 (length part)) parts
+
+-- ... miss no version of the others
+at_filled : (parts : List (List Version)) (key : List ℕ) (p : ℕ) → first_at (filled parts) key p ≡ first_at parts key p
+at_filled [] key p = refl
+at_filled ([] ∷ parts) key p = at_filled parts key p
+at_filled ((v ∷ part) ∷ parts) key p =
+    let some : nat_lt 0 (length (v ∷ part)) ≡ true = lt-ltb 0 (length (v ∷ part)) (omega arith) in
+    ap (λ (b : Bool). first_at (cond b ((v ∷ part) ∷ filled parts) (filled parts)) key p) some ∙ ap (option_or (version_at (v ∷ part) key p)) (at_filled parts key p)
 
 up_to_or_above : (n p : ℕ) (x : Found) → cond (nat_lt n p) x None ≡ cond (nat_le p n) None x
 up_to_or_above n p x = elim (cases_lt n p) [
@@ -157,7 +164,7 @@ up_to_or_above n p x = elim (cases_lt n p) [
 pub settled : (n : ℕ) (memory : List Version) (frozen : List (List Version)) (key : List ℕ) (p : ℕ) → version_at (sorted_of (joined (above n memory ∷ parts_above n frozen))) key p ≡ cond (nat_le p n) None (version_at (sorted_of (joined (memory ∷ frozen))) key p)
 settled n memory frozen key p =
     at_parts (above n memory ∷ parts_above n frozen) key p
-    ∙ ap (option_or (version_at (above n memory) key p)) (some_parts (map (above n) frozen) key p)
+    ∙ ap (option_or (version_at (above n memory) key p)) (at_filled (map (above n) frozen) key p)
     ∙ first_left (nat_lt n) key p (memory ∷ frozen)
     ∙ up_to_or_above n p (first_at (memory ∷ frozen) key p)
     ∙ ap (cond (nat_le p n) None) (sym (at_parts (memory ∷ frozen) key p))

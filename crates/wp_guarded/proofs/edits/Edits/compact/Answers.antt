@@ -1,4 +1,4 @@
-use Rattle.std.proofs.Common.{◌≡◌, List, [], Option, refl, ap, ◌∙◌}
+use Rattle.std.proofs.Common.{◌≡◌, List, [], Option, refl, ap, ◌∙◌, rules}
 use Rattle.wp_model.specs.declared.version.Version.{Version}
 use Rattle.wp_tableset.specs.Changes.{compacted_edit, compacted_parts}
 use Rattle.wp_store.specs.Store.{with_newest}
@@ -35,8 +35,9 @@ invariant_of-self-in-Err g c =
     let versions = c.args.versions.now in
     let running = rw (← c.self.view_is) at c.requires.running in
     let call = c.in-Err.ensures.installs in
+    let same : c.behind-self.inside.flushed ≡ inside.set.manifest.edit.flushed = search rules in
     rw c.reserve.ensures.items (refused_edits inside.set inside.first.value inside.tables.items inside.failed c.self.invariant running c.compact.new.self c.compact.ensures.keeps
-    (compacted_edit inside.set versions call.0) (λ _. compacted_parts versions) _ (rw (c.of.ensures, c.edit.ensures.edit) refl) c.in-Err.field-0 call.1.refused)
+    (compacted_edit inside.set versions call.0) (λ _. compacted_parts versions) _ (rw (c.of.ensures, same) refl) c.in-Err.why call.1.refused)
 
 pub returns-in-Err-clause-refused : goal.returns-in-Err-clause-refused
 returns-in-Err-clause-refused g c =
@@ -44,6 +45,7 @@ returns-in-Err-clause-refused g c =
     let versions = c.args.versions.now in
     let running = rw (← c.self.view_is) at c.requires.running in
     let call = c.in-Err.ensures.installs in
+    let same : c.behind-self.inside.flushed ≡ inside.set.manifest.edit.flushed = search rules in
     let next = compacted_edit inside.set versions call.0 in
     rw (← c.self.view_is, c.reserve.ensures.items) (refused_table inside.set inside.first.value inside.tables.items inside.failed c.self.invariant running c.compact.new.self c.compact.ensures.keeps
-    next (λ _. compacted_parts versions) _ (rw (c.of.ensures, c.edit.ensures.edit) refl) _ (is_in_one_table inside.set.manifest.edit next versions inside.tables.items c.as_slice.ensures.in_order refl) c.in-Err.field-0 call.1.refused)
+    next (λ _. compacted_parts versions) _ (rw (c.of.ensures, same) refl) _ (is_in_one_table inside.set.manifest.edit next versions inside.tables.items c.as_slice.ensures.in_order refl) c.in-Err.why call.1.refused)

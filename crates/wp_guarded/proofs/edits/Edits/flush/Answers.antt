@@ -34,7 +34,7 @@ invariant_of-self-in-Err g c =
     let running = rw (← c.self.view_is) at c.requires.running in
     let call = c.in-Err.ensures.installs in
     rw c.reserve.ensures.items (refused_edits inside.set inside.first.value inside.tables.items inside.failed c.self.invariant running c.flush.new.self c.flush.ensures.keeps
-    (flushed_edit inside.set versions c.args.flushed call.0) (λ parts. versions ∷ parts) (record { flushed = c.args.flushed; gone = gone.Frozen; versions = c.of-2.result }) (rw c.of-2.ensures refl) c.in-Err.field-0 call.1.refused)
+    (flushed_edit inside.set versions c.args.flushed call.0) (λ parts. versions ∷ parts) (record { flushed = c.args.flushed; gone = gone.Frozen; versions = c.of-in-Err.result }) (rw c.of-in-Err.ensures refl) c.in-Err.why call.1.refused)
 
 pub returns-in-Err-clause-refused : goal.returns-in-Err-clause-refused
 returns-in-Err-clause-refused g c =
@@ -44,4 +44,4 @@ returns-in-Err-clause-refused g c =
     let call = c.in-Err.ensures.installs in
     let next = flushed_edit inside.set versions c.args.flushed call.0 in
     rw (← c.self.view_is, c.reserve.ensures.items) (refused_table inside.set inside.first.value inside.tables.items inside.failed c.self.invariant running c.flush.new.self c.flush.ensures.keeps
-    next (λ parts. versions ∷ parts) (record { flushed = c.args.flushed; gone = gone.Frozen; versions = c.of-2.result }) (rw c.of-2.ensures refl) _ (is_with_table inside.set.manifest.edit next versions inside.tables.items) c.in-Err.field-0 call.1.refused)
+    next (λ parts. versions ∷ parts) (record { flushed = c.args.flushed; gone = gone.Frozen; versions = c.of-in-Err.result }) (rw c.of-in-Err.ensures refl) _ (is_with_table inside.set.manifest.edit next versions inside.tables.items) c.in-Err.why call.1.refused)
