@@ -2,7 +2,6 @@ use Rattle.std.proofs.Common.{◌≡◌, List, [], Option, refl, ap, ◌∙◌, 
 use Rattle.wp_model.specs.declared.version.Version.{Version}
 use Rattle.wp_tableset.specs.Changes.{compacted_edit, compacted_parts}
 use Rattle.wp_store.specs.Store.{with_newest}
-use Rattle.wp_store.specs.declared.gone.Gone.TheVariants as gone
 use Rattle.wp_guarded.proofs.InstallLemmas.{alone, is_in_one_table, installed_edits, installed_table, one_flushed, refused_edits, refused_table}
 use Rattle.wp_guarded.proofs.edits.Edits.compact.Goals as goal
 

@@ -1,5 +1,4 @@
-use Rattle.std.proofs.Common.{◌≡◌, ◌∷◌, List, refl, ap, ◌∙◌, rules}
-use Rattle.wp_model.specs.declared.version.Version.{Version}
+use Rattle.std.proofs.Common.{◌≡◌, ◌∷◌, refl, rules}
 use Rattle.wp_tableset.specs.Changes.{flushed_edit}
 use Rattle.wp_store.specs.declared.gone.Gone.TheVariants as gone
 use Rattle.wp_guarded.proofs.InstallLemmas.{front_flushed, is_with_table, installed_edits, installed_table, refused_edits, refused_table}
