@@ -17,6 +17,7 @@ mod log;
 mod opening;
 mod part;
 mod stock;
+mod table_versions;
 
 pub use edits::Edits;
 pub use log::Log;
