@@ -255,11 +255,11 @@ module _ {D : Type 0} (z : SharedState D) (old : SeatState) (b : Option OpenStat
     not_written change (Stopped n) c = refused 1 (asks_write change) _ _ (Stopped n) refl refl refl c.0
     not_written change (NumbersFull published limit) c = refused 1 (asks_write change) _ _ (NumbersFull published limit) refl refl refl c.0
     not_written change LogFault c = refused 1 (asks_write change) _ _ LogFault refl refl refl c.0
-    not_written change (Taken other) c = absurd c
-    not_written change TooMany c = absurd c
-    not_written change Silent c = absurd c
-    not_written change (Unknown other at) c = absurd c
-    not_written change (InUse other) c = absurd c
+    not_written change (Taken other) c = absurd c.0
+    not_written change TooMany c = absurd c.0
+    not_written change Silent c = absurd c.0
+    not_written change (Unknown other at) c = absurd c.0
+    not_written change (InUse other) c = absurd c.0
 
     pub open_refused : (txn left : OpenState) (entry : Entry) (why : TxnError) → b ≡ Some txn → RefusesOpen z old txn entry left why new → GoesOn z old new (Some left) p o v
     open_refused txn left entry why is c = still txn left is c.0 (refused 1 (λ entries. entries ≡ entry ∷ []) _ _ why refl refl refl c.2)

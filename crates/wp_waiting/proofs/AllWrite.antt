@@ -30,11 +30,11 @@ module _ {D : Type 0} (z : SharedState D) where
   writes_on old new change (Err (Stopped n)) w c = goes_on _ old new _ w.direct c.0.2
   writes_on old new change (Err (NumbersFull published limit)) w c = goes_on _ old new _ w.direct c.0.4
   writes_on old new change (Err LogFault) w c = goes_on _ old new _ w.direct c.0.2.2
-  writes_on old new change (Err (Taken other)) w c = absurd c
-  writes_on old new change (Err TooMany) w c = absurd c
-  writes_on old new change (Err Silent) w c = absurd c
-  writes_on old new change (Err (Unknown other at)) w c = absurd c
-  writes_on old new change (Err (InUse other)) w c = absurd c
+  writes_on old new change (Err (Taken other)) w c = absurd c.0
+  writes_on old new change (Err TooMany) w c = absurd c.0
+  writes_on old new change (Err Silent) w c = absurd c.0
+  writes_on old new change (Err (Unknown other at)) w c = absurd c.0
+  writes_on old new change (Err (InUse other)) w c = absurd c.0
 
   pub still : (s : SeatState) → IsWriter z s → WritesOn z s s
   still s w = record { writer = w; same_by = refl; made = refl; joined = refl }
