@@ -8,7 +8,8 @@ use Rattle.wp_text.specs.declared.reply.Reply.{Reply}
 use Rattle.wp_session.specs.Client.{Client, new_client}
 use Rattle.wp_session.specs.Due.{Store, store_after, client_after}
 use Rattle.wp_session.specs.Kind.{is_fault, is_tables_fault}
-use Rattle.wp_run.specs.Failed.{FaultAsks, store_left, OneFaultAsks}
+use Rattle.wp_session.specs.Asked.{FaultAsks}
+use Rattle.wp_run.specs.Failed.{store_left, OneFaultAsks}
 use Rattle.wp_run.specs.Runs.{Answered, IsStep, Runs, AllRun, IsRunSoFar, AllRunSoFar, replies_of}
 use Rattle.wp_run.proofs.Stores.{IsLaterStore, step_later, runs_later, all_later}
 

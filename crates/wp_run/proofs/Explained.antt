@@ -16,11 +16,12 @@ use Rattle.wp_session.specs.Kind.{acknowledged, is_fault, is_stopped, is_tables_
 use Rattle.wp_session.specs.Laws.{DueIsSession}
 use Rattle.wp_session.specs.Known.{StoredState}
 use Rattle.wp_session.specs.Replies.{Failed}
-use Rattle.wp_session.specs.Current.{RunsAlone}
+use Rattle.wp_session.specs.Current.{RunsAlone, opened_store}
 use Rattle.wp_engine.specs.Stored.{fault_count}
-use Rattle.wp_run.specs.Failed.{AsksLog, AsksTables, FaultAsks, OneFaultAsks}
+use Rattle.wp_session.specs.Asked.{AsksLog, AsksEdit, FaultAsks}
+use Rattle.wp_run.specs.Failed.{OneFaultAsks}
 use Rattle.wp_run.specs.Runs.{Runs, AllRun}
-use Rattle.wp_run.specs.Transcript.{stored_in, dialogues, IsExact, all_replies, Explains, opened_store}
+use Rattle.wp_session.specs.Explains.{stored_in, dialogues, IsExact, all_replies, Explains}
 use Rattle.wp_run.proofs.Stores.{IsLaterStore, step_later, runs_later, all_later}
 use Rattle.wp_run.proofs.Asked.{log_fails_once, tables_fail_once, each_asks}
 use Rattle.wp_run.proofs.Board.{none_told}
@@ -129,20 +130,20 @@ its_own is_failed Asks s part answers (inl own) = own
 its_own is_failed Asks s part answers (inr other) = absurd other
 
 exact_of : (limit : ℕ) (found : StoredState) (failed : Failed) (new : Store) (parts : List Part) (sessions : List (List Reply)) → AllRun (opened_store limit found) parts sessions new → (new.stopped ≡ true → OneFaultAsks is_fault (AsksLog failed.entries) (opened_store limit found) parts sessions)
-    → (new.halted ≡ true → OneFaultAsks is_tables_fault (AsksTables failed.edit) (opened_store limit found) parts sessions) → IsExact limit found (stored_in new) failed parts sessions
+    → (new.halted ≡ true → OneFaultAsks is_tables_fault (AsksEdit failed.edit) (opened_store limit found) parts sessions) → IsExact limit found (stored_in new) failed parts sessions
 exact_of limit found failed new (p ∷ []) (answers ∷ []) (mid, (last, run), rest) stopped halted = (
   mid,
   alone (opened_store limit found) mid new_client last p.commands answers run,
   ap stored_in rest,
   λ up. its_own is_fault (AsksLog failed.entries) (opened_store limit found) p answers (stopped (rw rest up)),
-  λ up. its_own is_tables_fault (AsksTables failed.edit) (opened_store limit found) p answers (halted (rw rest up)),
+  λ up. its_own is_tables_fault (AsksEdit failed.edit) (opened_store limit found) p answers (halted (rw rest up)),
 )
 exact_of limit found failed new parts sessions h stopped halted = tt
 
 -- what the clients are answered one after another, from a store as it was opened
 pub explained : DueIsSession → (limit : ℕ) (found : StoredState) (failed : Failed) (new : Store) (parts : List Part) (sessions : List (List Reply)) → found.edit.flushed ≤ length found.history → AllRun (opened_store limit found) parts sessions new → (new.stopped ≡ true → OneFaultAsks is_fault (AsksLog failed.entries) (opened_store limit found) parts sessions)
-    → (new.halted ≡ true → OneFaultAsks is_tables_fault (AsksTables failed.edit) (opened_store limit found) parts sessions) → IsLegal new.history
-    → Explains limit (record { log = fault_count new.stopped; tables = fault_count new.halted }) parts found (stored_in new) failed sessions
+    → (new.halted ≡ true → OneFaultAsks is_tables_fault (AsksEdit failed.edit) (opened_store limit found) parts sessions) → IsLegal new.history
+    → Explains limit (record { log = fault_count new.stopped; tables = fault_count new.halted }) parts parts found (stored_in new) failed sessions
 explained law limit found failed new parts sessions low h stopped halted legal =
     let total = all_totals (opened_store limit found) new parts sessions h in
     let say = all_say (opened_store limit found) new parts sessions h in
@@ -150,7 +151,7 @@ explained law limit found failed new parts sessions low h stopped halted legal =
       legal = legal;
       begins = (all_later (opened_store limit found) new parts sessions h).grows;
       answered = are_sessions law failed new (opened_store limit found) limit found [] parts sessions (omega arith) refl h (none_said (opened_store limit found)) (none_told (dialogues parts sessions) (length found.history))
-          (each_asks is_fault (AsksLog failed.entries) _ log_fails_once (opened_store limit found) new parts sessions h stopped) (each_asks is_tables_fault (AsksTables failed.edit) _ tables_fail_once (opened_store limit found) new parts sessions h halted);
+          (each_asks is_fault (AsksLog failed.entries) _ log_fails_once (opened_store limit found) new parts sessions h stopped) (each_asks is_tables_fault (AsksEdit failed.edit) _ tables_fail_once (opened_store limit found) new parts sessions h halted);
       paired = λ n after within. rw total.numbers (count_once n (length found.history + 1) total.count (omega arith) (omega (arith, total.longer)));
       log_failed = omega (arith, total.failed);
       stopped = λ t. rw (total.stopped t) (omega arith);

@@ -21,7 +21,8 @@ use Rattle.wp_engine.specs.Engine.{EngineState}
 use Rattle.wp_engine.specs.Stored.{fault_count, IsOrOneMore, CrashLeaves, CrashOpens, AllOpen, LeavesEdit}
 use Rattle.wp_engine.specs.Maintenance.{IsNotInstalled, IsFlushResult, IsCompactResult}
 use Rattle.wp_run.specs.Answering.{IsRefusalOfTables, IsLogAnswer, IsFlushAnswer, IsCompactionAnswer, Flushes, Compacts, Tells}
-use Rattle.wp_run.specs.Failed.{AsksLog, AsksTables, FaultAsks, OneFaultAsks, LeavesEntries, IfFailed, IfStopped, IfHalted}
+use Rattle.wp_session.specs.Asked.{AsksLog, AsksTables, FaultAsks}
+use Rattle.wp_run.specs.Failed.{OneFaultAsks, LeavesEntries, IfFailed, IfStopped, IfHalted}
 use Rattle.wp_run.specs.Later.{Later, store_of}
 use Rattle.wp_run.specs.Runs.{Answered, Runs, AllRunSoFar, replies_of}
 use Rattle.wp_run.proofs.Asked.{asks_front, asks_last, one_front, one_last}

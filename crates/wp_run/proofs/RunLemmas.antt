@@ -10,10 +10,12 @@ use Rattle.wp_text.specs.declared.reply.Reply.{Reply}
 use Rattle.wp_session.specs.Client.{Client, new_client}
 use Rattle.wp_session.specs.Due.{Store}
 use Rattle.wp_engine.specs.Engine.{EngineState}
-use Rattle.wp_run.specs.Failed.{FaultAsks, OneFaultAsks}
+use Rattle.wp_session.specs.Asked.{FaultAsks}
+use Rattle.wp_run.specs.Failed.{OneFaultAsks}
 use Rattle.wp_run.specs.Later.{store_of}
 use Rattle.wp_run.specs.Runs.{Answered, IsStep, Runs, AllRun, IsRunSoFar, AllRunSoFar, replies_of, are_whole}
-use Rattle.wp_run.specs.Serving.{AreFirstParts, HasRun}
+use Rattle.wp_run.specs.Serving.{HasRun}
+use Rattle.wp_session.specs.Explains.{AreFirstParts}
 use Rattle.wp_run.proofs.Asked.{asks_first, left_so_far, left_whole}
 use Rattle.wp_run.proofs.Failing.{not_stopped, not_halted}
 

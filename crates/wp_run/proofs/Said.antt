@@ -14,7 +14,7 @@ use Rattle.wp_session.specs.Kind.{is_flushed, is_compacted, is_installed, is_tab
 use Rattle.wp_session.specs.Tables.{after_flush, after_compaction}
 use Rattle.wp_session.specs.Due.{Store}
 use Rattle.wp_run.specs.Runs.{no_edit, flushed, compacted, IsStep, Runs, AllRun}
-use Rattle.wp_run.specs.Transcript.{all_replies}
+use Rattle.wp_session.specs.Explains.{all_replies}
 use Rattle.wp_run.proofs.Stores.{step_later, longer_by}
 
 pub any_front : {A : Type 0} (p : A → Bool) (xs ys : List A) → list_any p xs ≡ true → list_any p (xs ++ ys) ≡ true

@@ -16,13 +16,14 @@ use Rattle.wp_session.specs.Due.{Store, IsReply, logged_entries, client_after}
 use Rattle.wp_session.specs.Kind.{is_fault, is_flushed, is_installed, is_compacted, is_tables_fault}
 use Rattle.wp_session.specs.Plan.{plan, asked_of}
 use Rattle.wp_session.specs.Progress.{Progress, progress_after}
-use Rattle.wp_session.specs.Known.{StoredState, Dialogue, answers_in, is_said, evidence_of}
+use Rattle.wp_session.specs.Known.{StoredState, Dialogue, answers_in, is_said, evidence_of, known_at_first}
 use Rattle.wp_session.specs.Laws.{DueIsSession}
 use Rattle.wp_session.specs.Moments.{Devices, store_at, IsDueFrom, AreDueFrom}
 use Rattle.wp_session.specs.Replies.{WasFlushed, Failed}
 use Rattle.wp_run.specs.Runs.{IsStep, Runs, AllRun}
-use Rattle.wp_run.specs.Failed.{AsksLog, AsksTables}
-use Rattle.wp_run.specs.Transcript.{stored_in, dialogue, dialogues, judged_by, known_at_first, AreSessions, opened_store}
+use Rattle.wp_session.specs.Asked.{AsksLog, AsksEdit}
+use Rattle.wp_session.specs.Current.{opened_store}
+use Rattle.wp_session.specs.Explains.{stored_in, dialogue, dialogues, judged_by, AreSessions}
 use Rattle.wp_run.proofs.Stores.{later_trans, step_later, runs_later, all_later, longer_by}
 use Rattle.wp_run.proofs.Asked.{from_step, left_whole, tables_fail_once, AskOnly, AllAskOnly}
 use Rattle.wp_run.proofs.Board.{AreTold, AreThere, ComesAmong, first_among, rest_among, own_among, step_told, step_there, runs_told}
@@ -64,7 +65,7 @@ knows h limit found progress so_far all others s said among counted told there =
 
 -- a command's reply in every later history
 pub answered : (left : StoredState) (failed : Failed) (limit : ℕ) (found : StoredState) (progress : Progress) (all others : List Dialogue) (old new : Store) (was now : Client) (c : Command) (answer : Reply) → IsStep old was c answer new now
-    → ((more : List Entry) × (left.history ≡ new.history ++ more)) → (old.stopped ≡ true → left.history ≡ old.history) → old.limit ≡ limit → Knows left.history found progress all others old → (is_fault answer ≡ true → AsksLog failed.entries old was c) → (is_tables_fault answer ≡ true → AsksTables failed.edit old was c × (old.installed ≡ left.edit))
+    → ((more : List Entry) × (left.history ≡ new.history ++ more)) → (old.stopped ≡ true → left.history ≡ old.history) → old.limit ≡ limit → Knows left.history found progress all others old → (is_fault answer ≡ true → AsksLog failed.entries old was c) → (is_tables_fault answer ≡ true → AsksEdit failed.edit old was c × (old.installed ≡ left.edit))
     → (given : IsDueFrom (evidence_of left limit failed found all others) (length old.history) progress was c answer) × (client_after (take given.before left.history) was c answer ≡ now) × (given.after ≡ length new.history)
 answered left failed limit found progress all others old new was now c answer step grows ended limited known asks asks_edit =
     let h = left.history in
@@ -102,7 +103,7 @@ answered left failed limit found progress all others old new was now c answer st
         asked = λ f. asks f ∙ ap (λ (xs : List Entry). asked_of (plan xs was c)) (sym front);
         asked_edit = λ f.
             let edit = asks_edit f in
-            (subst (λ (s : Store). AsksTables failed.edit s was c) (sym same) edit.0, edit.1);
+            (subst (λ (s : Store). AsksEdit failed.edit s was c) (sym same) edit.0, edit.1);
       },
       ap (λ (g : List Entry). client_after g was c answer) front ∙ sym step.client,
       refl,
@@ -119,7 +120,7 @@ fault_installs_none other f = absurd cc
 pub are_due : (left : StoredState) (failed : Failed) (limit : ℕ) (found : StoredState) (progress : Progress) (all others : List Dialogue) (old new : Store) (was now walked : Client) (commands : List Command) (so_far answers : List Reply)
     → Runs old was commands answers new now → ((more : List Entry) × (left.history ≡ new.history ++ more)) → (new.stopped ≡ true → left.history ≡ new.history) → (new.halted ≡ true → left.edit ≡ new.installed) → old.limit ≡ limit
     → AreSaid (opened_store limit found) so_far old → Among (so_far ++ answers) all → (progress.tables ≤ old.installed.tables) ⊎ (list_any is_compacted (answers_in others) ≡ true) → AreTold all old.board (length old.history) → AreThere old.board progress.labels → ComesAmong all walked commands answers
-    → AskOnly is_fault (AsksLog failed.entries) old was commands answers → AskOnly is_tables_fault (AsksTables failed.edit) old was commands answers
+    → AskOnly is_fault (AsksLog failed.entries) old was commands answers → AskOnly is_tables_fault (AsksEdit failed.edit) old was commands answers
     → AreDueFrom (evidence_of left limit failed found all others) (length old.history) progress was commands answers
 are_due left failed limit found progress all others old new was now walked [] so_far [] run grows ended settled limited said among counted told there comes asks asks_edit = tt
 are_due left failed limit found progress all others old new was now walked [] so_far (a ∷ answers) run grows ended settled limited said among counted told there comes asks asks_edit = absurd run
@@ -132,7 +133,7 @@ are_due left failed limit found progress all others old new was now walked (c �
     (later.grows.0 ++ grows.0, grows.1 ∙ ap (λ (xs : List Entry). xs ++ grows.0) later.grows.1 ∙ append_assoc mid.history later.grows.0 grows.0) in
     let before : Among so_far all = record { each = λ p is. among.each p (any_front p so_far (a ∷ answers) is) } in
     let both = later_trans old mid new first later in
-    let ask_edit : is_tables_fault a ≡ true → AsksTables failed.edit old was c × (old.installed ≡ left.edit) = λ f.
+    let ask_edit : is_tables_fault a ≡ true → AsksEdit failed.edit old was c × (old.installed ≡ left.edit) = λ f.
     let up = tables_fail_once.fails old mid was next c a step f in
     let kept : mid.installed ≡ old.installed = ap (λ (s : Store). s.installed) step.store ∙ rw (fault_installs_none a f) refl in
     (asks_edit.0 f, sym (settled (later.halted up) ∙ later.settled up ∙ kept)) in
@@ -146,7 +147,7 @@ are_due left failed limit found progress all others old new was now walked (c �
     let more_told = step_told all old mid was next walked c a step (first_among all walked c commands a answers comes) told in
     let more_there = step_there old mid was next c a progress.labels step there in
     let others_ask = from_step (λ s x. AskOnly is_fault (AsksLog failed.entries) s x commands answers) old mid was next c a step asks.1 in
-    let others_edit = from_step (λ s x. AskOnly is_tables_fault (AsksTables failed.edit) s x commands answers) old mid was next c a step asks_edit.1 in
+    let others_edit = from_step (λ s x. AskOnly is_tables_fault (AsksEdit failed.edit) s x commands answers) old mid was next c a step asks_edit.1 in
     let more = are_due left failed limit found after all others mid new next now (after_reply 0 walked c a) commands (so_far ++ a ∷ []) answers rest grows ended settled (first.limited ∙ limited) more_said more_among more_counted more_told more_there (rest_among all walked c commands a answers comes) others_ask others_edit in (
       here.0,
       subst (λ (n : ℕ). AreDueFrom evidence n after (client_after (take here.0.before left.history) was c a) commands answers) (sym here.2)
@@ -173,8 +174,8 @@ one_more before own = answers_append before (own ∷ []) ∙ ap (λ (xs : List R
 
 pub are_sessions : DueIsSession → (failed : Failed) (final old : Store) (limit : ℕ) (found : StoredState) (before : List Dialogue) (parts : List Part) (sessions : List (List Reply))
     → length found.history ≤ length old.history → old.limit ≡ limit → AllRun old parts sessions final → AreSaid (opened_store limit found) (answers_in before) old → AreTold (before ++ dialogues parts sessions) old.board (length old.history)
-    → AllAskOnly is_fault (AsksLog failed.entries) old parts sessions → AllAskOnly is_tables_fault (AsksTables failed.edit) old parts sessions
-    → AreSessions (stored_in final) limit failed found before parts sessions
+    → AllAskOnly is_fault (AsksLog failed.entries) old parts sessions → AllAskOnly is_tables_fault (AsksEdit failed.edit) old parts sessions
+    → AreSessions (stored_in final) limit failed found before parts parts sessions
 are_sessions law failed final old limit found before [] [] le limited h said told asks asks_edit = tt
 are_sessions law failed final old limit found before [] (a ∷ sessions) le limited h said told asks asks_edit = absurd h
 are_sessions law failed final old limit found before (p ∷ parts) [] le limited h said told asks asks_edit = absurd h
@@ -197,5 +198,5 @@ are_sessions law failed final old limit found before (p ∷ parts) (a ∷ sessio
       law (judged_by (stored_in final) limit failed found before own others) (length old.history) (known_at_first found) p.commands a le due,
       are_sessions law failed final mid limit found (before ++ own ∷ []) parts sessions (omega (arith, le, longer)) (first.limited ∙ limited) rest more_said more_told
           (subst (λ (s : Store). AllAskOnly is_fault (AsksLog failed.entries) s parts sessions) (left_whole old mid new_client last p.commands a run) asks.1)
-          (subst (λ (s : Store). AllAskOnly is_tables_fault (AsksTables failed.edit) s parts sessions) (left_whole old mid new_client last p.commands a run) asks_edit.1),
+          (subst (λ (s : Store). AllAskOnly is_tables_fault (AsksEdit failed.edit) s parts sessions) (left_whole old mid new_client last p.commands a run) asks_edit.1),
     )

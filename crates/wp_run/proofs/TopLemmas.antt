@@ -3,7 +3,7 @@ use Rattle.std.specs.Prelude.{Result, Ok, Err, IfOk, OnErr}
 use Rattle.std.specs.FinMap as map
 use Rattle.std.specs.Global.{Vec}
 use Rattle.std.specs.declared.alloc.AllocError.{AllocError}
-use Rattle.std.proofs.Common.{◌≡◌, ℕ, ◌≤◌, Bool, true, false, List, length, refl, sym, subst, inl, inr, arith}
+use Rattle.std.proofs.Common.{◌≡◌, ℕ, ◌≤◌, Bool, true, false, List, length, Some, refl, sym, subst, inl, inr, arith}
 use Rattle.wp_model.specs.declared.entry.Entry.{Entry}
 use Rattle.wp_model.specs.Flushed.{InstalledEdit}
 use Rattle.wp_model.specs.Legal.{IsLegal}
@@ -33,13 +33,15 @@ use Rattle.wp_engine.specs.Stored.{fault_count}
 use Rattle.wp_engine.specs.Engine.{EngineState}
 use Rattle.wp_run.specs.declared.status.Status.{Status}
 use Rattle.wp_run.specs.declared.status.Status.TheVariants as status
-use Rattle.wp_run.specs.Failed.{AsksLog, AsksTables, OneFaultAsks, IfStopped, IfHalted}
+use Rattle.wp_session.specs.Asked.{AsksLog, AsksEdit}
+use Rattle.wp_run.specs.Failed.{OneFaultAsks, IfStopped, IfHalted}
 use Rattle.wp_run.specs.Later.{store_of}
 use Rattle.wp_run.specs.Run.{Call, IsChosen, IsUnread, IsReadAs, IsServed, Ends}
 use Rattle.wp_run.specs.Runs.{replies_of, AllRun}
 use Rattle.wp_run.specs.Serving.{Serving, HasStored, AnswersScript, BreaksOff, IsUnopened, Serves, IsTextOf, HasRun, IsWritten, HasEnded, Finishes}
 use Rattle.wp_run.specs.Status.{IsStatusOf}
-use Rattle.wp_run.specs.Transcript.{Faults, stored_in, Explains, opened_store}
+use Rattle.wp_session.specs.Current.{opened_store}
+use Rattle.wp_session.specs.Explains.{Faults, stored_in, Explains}
 use Rattle.wp_run.specs.Use.{SinkUse, IsDurable, AreUncalled, left_of}
 use Rattle.wp_run.proofs.Explained.{explained}
 use Rattle.wp_run.proofs.Failing.{HasFailedTo, has_failed, HasFailedEdit, has_failed_edit}
@@ -87,7 +89,7 @@ pub record HaveFailedTo (new : EngineState) (AskedLog : List Entry → Type 0) (
   pub tables : HasFailedEdit new AskedTables
 
 abbrev failed_in : {new : EngineState} {A : List Entry → Type 0} {B : InstalledEdit → Type 0} → HaveFailedTo new A B → Failed
-failed_in failed = record { entries = failed.log.entries; edit = failed.tables.edit }
+failed_in failed = record { entries = failed.log.entries; edit = Some failed.tables.edit }
 
 failed_to : (old : EngineState) (s : Serving) (end : Status) → IsOpened old s → (h : Finished old s end) → (A : List Entry → Type 0) (B : InstalledEdit → Type 0) → IfStopped old h.new A → IfHalted old h.new B → HaveFailedTo h.new A B
 failed_to old s end opened h A B stopped halted = record {
@@ -118,13 +120,13 @@ begins_with : (state : EngineState) (s : Serving) → IsOpened state s → store
 begins_with state s opened = rw (opened.running, opened.limit, opened.unhalted, opened.untold) refl
 
 explains : DueIsSession → (old : EngineState) (s : Serving) (new : EngineState) (parts : List Part) (replies : List (List Reply)) (failed : Failed) → IsOpened old s → IsLegal new.entries → AllRun (store_of old) parts replies (store_of new)
-    → (new.stopped ≡ true → OneFaultAsks is_fault (AsksLog failed.entries) (store_of old) parts replies) → (new.halted ≡ true → OneFaultAsks is_tables_fault (AsksTables failed.edit) (store_of old) parts replies)
-    → Explains s.limit (faults_in new) parts (stored_in (store_of old)) (stored_in (store_of new)) failed replies
+    → (new.stopped ≡ true → OneFaultAsks is_fault (AsksLog failed.entries) (store_of old) parts replies) → (new.halted ≡ true → OneFaultAsks is_tables_fault (AsksEdit failed.edit) (store_of old) parts replies)
+    → Explains s.limit (faults_in new) parts parts (stored_in (store_of old)) (stored_in (store_of new)) failed replies
 explains law old s new parts replies failed opened legal run stopped halted =
     let first = begins_with old s opened in
     explained law s.limit (stored_in (store_of old)) failed (store_of new) parts replies opened.within (subst (λ (t : Store). AllRun t parts replies (store_of new)) first run)
     (λ up. subst (λ (t : Store). OneFaultAsks is_fault (AsksLog failed.entries) t parts replies) first (stopped up))
-    (λ up. subst (λ (t : Store). OneFaultAsks is_tables_fault (AsksTables failed.edit) t parts replies) first (halted up)) legal
+    (λ up. subst (λ (t : Store). OneFaultAsks is_tables_fault (AsksEdit failed.edit) t parts replies) first (halted up)) legal
 
 breaks_off : DueIsSession → (old : EngineState) (s : Serving) (end : Status) → IsOpened old s → (h : Finished old s end) → HasRun old h.new s.script → BreaksOff s
 breaks_off law old s end opened h (sessions, ran) =

@@ -7,35 +7,20 @@ use Rattle.wp_text.specs.declared.script.Command.{Command}
 use Rattle.wp_text.specs.declared.script.Part.{Part}
 use Rattle.wp_text.specs.declared.reply.Reply.{Reply}
 use Rattle.wp_session.specs.Client.{Client, new_client}
-use Rattle.wp_session.specs.Due.{Store, edit_of, store_after, client_after}
-use Rattle.wp_session.specs.Plan.{plan, asked_of}
+use Rattle.wp_session.specs.Asked.{FaultAsks}
+use Rattle.wp_session.specs.Due.{Store, store_after, client_after}
 use Rattle.wp_wal.specs.Wal.{LeavesHistoryOrNext}
 use Rattle.wp_engine.specs.Engine.{EngineState}
 use Rattle.wp_engine.specs.Stored.{LeavesEdit}
 
 -- ---- what was asked for
 
--- the command asks the log for these entries
-abbrev pub AsksLog : List Entry → Store → Client → Command → Type 0
-AsksLog entries store client command = entries ≡ asked_of (plan store.history client command)
-
--- it asks the tables for this edit
-abbrev pub AsksTables : InstalledEdit → Store → Client → Command → Type 0
-AsksTables edit store client command = edit ≡ edit_of store client (plan store.history client command)
-
--- one of a client's commands was answered by such a fault, and asked so
-abbrev pub FaultAsks : (is_failed : Reply → Bool) (Asks : Store → Client → Command → Type 0) → Store → Client → List Command → List Reply → Type 0
-FaultAsks is_failed Asks store client (first ∷ commands) (answer ∷ answers) =
-    ((is_failed answer ≡ true) × Asks store client first)
-    ⊎ FaultAsks is_failed Asks (store_after store client first answer) (client_after store.history client first answer) commands answers
-FaultAsks is_failed Asks store client commands answers = ⊥
-
 -- the store once the replies are given
 abbrev pub store_left : Store → Client → List Command → List Reply → Store
 store_left store client (first ∷ commands) (answer ∷ answers) = store_left (store_after store client first answer) (client_after store.history client first answer) commands answers
 store_left store client commands answers = store
 
--- one of all clients' commands was
+-- one of all clients' commands was answered by such a fault, and asked so
 abbrev pub OneFaultAsks : (is_failed : Reply → Bool) (Asks : Store → Client → Command → Type 0) → Store → List Part → List (List Reply) → Type 0
 OneFaultAsks is_failed Asks store (part ∷ parts) (answers ∷ others) =
     FaultAsks is_failed Asks store new_client part.commands answers

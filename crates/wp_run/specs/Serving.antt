@@ -1,5 +1,5 @@
 -- How a script was served over a store.
-use Rattle.std.specs.Prelude.{◌≡◌, ◌⊎◌, ℕ, ◌≤◌, Bool, true, false, List, [], ◌∷◌, ◌++◌}
+use Rattle.std.specs.Prelude.{◌≡◌, ◌⊎◌, ℕ, ◌≤◌, Bool, true, false, List, [], unwrap_or}
 use Rattle.std.specs.Io.KnownBytes.{Appends}
 use Rattle.wp_model.specs.declared.entry.Entry.{Entry}
 use Rattle.wp_model.specs.Legal.{IsLegal}
@@ -8,7 +8,6 @@ use Rattle.wp_outside.specs.Faults.{Rose}
 use Rattle.wp_outside.specs.Sink.{AppendsPrefix}
 use Rattle.wp_gatelog.specs.Spelling.{IsUnmade}
 use Rattle.wp_gatelog.specs.Opening.{SurvivesThrough}
-use Rattle.wp_text.specs.declared.script.Command.{Command}
 use Rattle.wp_text.specs.declared.script.Part.{Part}
 use Rattle.wp_text.specs.declared.reply.Reply.{Reply}
 use Rattle.wp_session.specs.Kind.{is_fault, is_tables_fault}
@@ -24,10 +23,12 @@ use Rattle.wp_engine.specs.Engine.{EngineState}
 use Rattle.wp_engine.specs.Stored.{fault_count, CrashLeaves, CrashOpens, AllOpen}
 use Rattle.wp_run.specs.declared.status.Status.{Status}
 use Rattle.wp_run.specs.declared.status.Status.TheVariants as status
-use Rattle.wp_run.specs.Failed.{AsksLog, AsksTables, OneFaultAsks, IfStopped, IfHalted}
+use Rattle.wp_session.specs.Asked.{AsksLog, AsksTables}
+use Rattle.wp_run.specs.Failed.{OneFaultAsks, IfStopped, IfHalted}
 use Rattle.wp_run.specs.Later.{Later, store_of}
 use Rattle.wp_run.specs.Runs.{Answered, AllRunSoFar, are_whole, replies_of}
-use Rattle.wp_run.specs.Transcript.{Faults, Explains, IsTranscript, text_of}
+use Rattle.wp_run.specs.Transcript.{IsTranscript, text_of}
+use Rattle.wp_session.specs.Explains.{Faults, AreFirstParts, Explains}
 use Rattle.wp_run.specs.Use.{DisksUse, Device, SinkUse}
 
 -- ---- a served script
@@ -49,7 +50,7 @@ pub record HasStored (s : Serving) (faults : Faults) (found left : StoredState) 
   pub spelled : IfKnown s.disks.log.before (λ m. IsLogOf id found.history m.reads)
   pub opened : AllKnown s.disks.log.before s.disks.manifest.before s.disks.tables.before (OpensTo id found.history found.edit)
   pub stored : IfKnown s.disks.log.after (LeavesHistoryOrNext id left.history failed.entries)
-  pub opens : CrashOpens faults.log faults.tables id left.history left.edit failed.edit s.disks.log.after s.disks.manifest.after s.disks.tables.after
+  pub opens : CrashOpens faults.log faults.tables id left.history left.edit (unwrap_or failed.edit left.edit) s.disks.log.after s.disks.manifest.after s.disks.tables.after
   pub unfailed : faults.log ≡ 0 → failed.entries ≡ []
   pub once : faults.log ≤ 1
   pub cause : 1 ≤ faults.log → Rose s.disks.log.faults_before s.disks.log.faults_after
@@ -65,17 +66,6 @@ pub record AnswersScript (s : Serving) (faults : Faults) (text : List ℕ) : Typ
   pub store : HasStored s faults found left failed
   pub transcript : IsTranscript s.limit faults s.script found left failed text
 
--- the client's first commands
-abbrev pub IsFirstPart : Part → Part → Type 0
-IsFirstPart part first = (first.client ≡ part.client) × (rest : List Command) × (part.commands ≡ first.commands ++ rest)
-
--- each client's first commands
-abbrev pub AreFirstParts : List Part → List Part → Type 0
-AreFirstParts [] [] = Unit {0}
-AreFirstParts [] (first ∷ firsts) = ⊥
-AreFirstParts (part ∷ parts) [] = ⊥
-AreFirstParts (part ∷ parts) (first ∷ firsts) = IsFirstPart part first × AreFirstParts parts firsts
-
 -- Memory was wanting once the store was open. The first commands of each client had their replies, and these explain what
 -- is left: each entry is that of one of them.
 pub record BreaksOff (s : Serving) : Type 0 where
@@ -87,7 +77,7 @@ pub record BreaksOff (s : Serving) : Type 0 where
   pub run : List Part
   pub first : AreFirstParts s.script run
   pub replies : List (List Reply)
-  pub explained : Explains s.limit faults run found left failed replies
+  pub explained : Explains s.limit faults run run found left failed replies
 
 -- The store was not opened, for this reason. Where the devices are known and open to a history, the reason is none of theirs.
 pub record IsUnopened (s : Serving) (why : OpenError) : Type 0 where

@@ -1,6 +1,6 @@
 -- The rows of the table stay true as the history grows, and as more is known of the other clients.
 use Rattle.std.proofs.Common.{◌≡◌, ℕ, zero, suc, ◌-◌, ◌≤◌, Bool, true, List, [], ◌∷◌, ◌++◌, length, take, Option, Some, None, refl, sym, ap, ◌∙◌, subst, arith, length-append, inl, inr}
-use Rattle.std.specs.Prelude.{slice_get}
+use Rattle.std.specs.Prelude.{slice_get, IfSome}
 use Rattle.std.proofs.lemmas.List.{take-append-le}
 use Rattle.wp_model.specs.declared.entry.Entry.{Entry}
 use Rattle.wp_model.specs.declared.holder.Holder.{Holder}
@@ -114,7 +114,7 @@ flush_fails_more e more later last f = record {
   at = f.at;
   fresh = fresh_more e.history more last f.at f.fresh;
   some = front_more (λ h. 1 ≤ length (unflushed h e.installed)) e.history more f.at f.fresh.1 f.some;
-  edit = front_more (λ h. e.failed.edit ≡ after_flush h e.installed) e.history more f.at f.fresh.1 f.edit;
+  edit = front_more (λ h. IfSome e.failed.edit (λ edit. edit ≡ after_flush h e.installed)) e.history more f.at f.fresh.1 f.edit;
 }
 
 compaction_fails_more : (e : Evidence) (more : List Entry) (later : Claim → Bool) (last : ℕ) (client : Client) → FailsCompaction e last client → FailsCompaction (grown e more later) last client
@@ -124,7 +124,7 @@ compaction_fails_more e more later last client f = record {
   two = f.two;
   snapshots = f.snapshots;
   own = f.own;
-  edit = front_more (λ h. e.failed.edit ≡ after_compaction h f.snapshots e.installed) e.history more f.at f.fresh.1 f.edit;
+  edit = front_more (λ h. IfSome e.failed.edit (λ edit. edit ≡ after_compaction h f.snapshots e.installed)) e.history more f.at f.fresh.1 f.edit;
 }
 
 -- ---- the client

@@ -15,12 +15,17 @@ use Rattle.wp_session.specs.declared.client.Txn.TheVariants.{Idle, Open}
 use Rattle.wp_session.specs.Client.{Client, new_client}
 use Rattle.wp_session.specs.After.{after_reply}
 use Rattle.wp_session.specs.Kind.{is_flushed, is_compacted, is_tables_fault}
+use Rattle.wp_session.specs.Progress.{Progress}
 use Rattle.wp_session.specs.Replies.{Claim, HasName, HasKey, WritesKey, WasTold, LogFailed, WasFlushed, TablesFailed, OtherCompacted, Failed, Evidence}
 
 -- what a store has on its devices: a history, and the last edit of the tables
 pub record StoredState : Type 0 where
   pub history : List Entry
   pub edit : InstalledEdit
+
+-- what a client knows as its session begins
+abbrev pub known_at_first : StoredState → Progress
+known_at_first found = record { last = length found.history; tables = found.edit.tables; labels = [] }
 
 -- a client with its commands, and the replies to the first of these
 pub record Dialogue : Type 0 where

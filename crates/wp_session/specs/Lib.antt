@@ -10,6 +10,8 @@ pub mod Tables
 pub mod Due
 pub mod Moments
 pub mod Current
+pub mod Asked
+pub mod Explains
 pub mod Room
 pub mod Next
 pub mod Laws

@@ -51,7 +51,7 @@ pub record IsDueFrom (evidence : Evidence) (from : ℕ) (progress : Progress) (c
   -- what the log failed to take is what the command asked for
   pub asked : is_fault answer ≡ true → evidence.failed.entries ≡ asked_of (plan (take before evidence.history) client command)
   -- likewise the tables, which have the last edit then
-  pub asked_edit : is_tables_fault answer ≡ true → (evidence.failed.edit ≡ edit_of (store_at evidence devices before) client (plan (take before evidence.history) client command)) × (devices.installed ≡ evidence.installed)
+  pub asked_edit : is_tables_fault answer ≡ true → IfSome evidence.failed.edit (λ edit. edit ≡ edit_of (store_at evidence devices before) client (plan (take before evidence.history) client command)) × (devices.installed ≡ evidence.installed)
 
 abbrev pub AreDueFrom : Evidence → ℕ → Progress → Client → List Command → List Reply → Type 0
 AreDueFrom evidence from progress client [] [] = Unit {0}

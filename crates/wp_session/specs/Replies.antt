@@ -1,6 +1,6 @@
 -- The table of replies: each reply is given only where its row says so, over a history, with what is known of the other
 -- clients. Each row stays true as the history grows, and as more is known of the others.
-use Rattle.std.specs.Prelude.{◌≡◌, ◌⊎◌, ℕ, ◌+◌, ◌-◌, ◌<◌, ◌≤◌, ◌==◌, Bool, true, false, nat_le, List, [], ◌∷◌, length, take, Option, Some, None, is_some, if◌then◌else◌}
+use Rattle.std.specs.Prelude.{◌≡◌, ◌⊎◌, ℕ, ◌+◌, ◌-◌, ◌<◌, ◌≤◌, ◌==◌, Bool, true, false, nat_le, List, [], ◌∷◌, length, take, Option, Some, None, is_some, IfSome, if◌then◌else◌}
 use Rattle.std.specs.List.{list_any}
 use Rattle.wp_model.specs.declared.change.Change.{Change}
 use Rattle.wp_model.specs.declared.change.Change.TheVariants as change
@@ -39,7 +39,7 @@ pub data Claim : Type 0 where
 -- what the devices failed to take
 pub record Failed : Type 0 where
   pub entries : List Entry  -- of one record, for the log
-  pub edit : InstalledEdit  -- for the manifest's device and the tables'
+  pub edit : Option InstalledEdit  -- for the manifest's device and the tables'; none where one failed before the manifest was called
 
 -- what a reply is judged by
 pub record Evidence : Type 0 where
@@ -212,7 +212,7 @@ pub record FailsFlush (evidence : Evidence) (last : ℕ) : Type 0 where
   pub at : ℕ
   pub fresh : IsFresh evidence.history last at
   pub some : 1 ≤ length (unflushed (take at evidence.history) evidence.installed)
-  pub edit : evidence.failed.edit ≡ after_flush (take at evidence.history) evidence.installed
+  pub edit : IfSome evidence.failed.edit (λ edit. edit ≡ after_flush (take at evidence.history) evidence.installed)
 
 -- It is a compaction's: of what readers needed then, with the client's snapshots or more of them.
 pub record FailsCompaction (evidence : Evidence) (last : ℕ) (client : Client) : Type 0 where
@@ -221,7 +221,7 @@ pub record FailsCompaction (evidence : Evidence) (last : ℕ) (client : Client) 
   pub two : 2 ≤ evidence.installed.tables
   pub snapshots : List ℕ
   pub own : (n : ℕ) → list_any (λ m. m == n) (numbers_of client.snapshots) ≡ true → list_any (λ m. m == n) snapshots ≡ true
-  pub edit : evidence.failed.edit ≡ after_compaction (take at evidence.history) snapshots evidence.installed
+  pub edit : IfSome evidence.failed.edit (λ edit. edit ≡ after_compaction (take at evidence.history) snapshots evidence.installed)
 
 -- the manifest's device or the tables' failed, and the number was the flushed one
 abbrev pub IsHaltedAt : Evidence → ℕ → Type 0

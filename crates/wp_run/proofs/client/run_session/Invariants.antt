@@ -1,7 +1,8 @@
 use Rattle.std.proofs.Common.{◌≡◌, ◌≤◌, length, take, vec_capacity}
 use Rattle.wp_session.specs.Client.{ClientFits, new_client}
 use Rattle.wp_session.specs.Kind.{is_fault, is_tables_fault}
-use Rattle.wp_run.specs.Failed.{AsksLog, AsksTables, FaultAsks, IfStopped, IfHalted}
+use Rattle.wp_session.specs.Asked.{AsksLog, AsksTables, FaultAsks}
+use Rattle.wp_run.specs.Failed.{IfStopped, IfHalted}
 use Rattle.wp_run.specs.Later.{Later, store_of}
 use Rattle.wp_run.specs.Runs.{Runs}
 use Rattle.wp_run.proofs.client.run_session.Given as goal

@@ -1,6 +1,7 @@
 use Rattle.std.proofs.Common.{arith}
 use Rattle.wp_session.specs.Kind.{is_fault, is_tables_fault}
-use Rattle.wp_run.specs.Failed.{AsksLog, AsksTables, LeavesEntries}
+use Rattle.wp_session.specs.Asked.{AsksLog, AsksTables}
+use Rattle.wp_run.specs.Failed.{LeavesEntries}
 use Rattle.wp_engine.specs.Stored.{LeavesEdit}
 use Rattle.wp_run.proofs.Failing.{stopped_in, halted_in, entries_stay, edit_stays, all_fail_on}
 use Rattle.wp_run.proofs.LaterLemmas.{later_trans}

@@ -1,6 +1,7 @@
 use Rattle.std.proofs.Common.{◌≡◌, ◌≤◌, length, take, vec_capacity}
 use Rattle.wp_session.specs.Kind.{is_fault, is_tables_fault}
-use Rattle.wp_run.specs.Failed.{AsksLog, AsksTables, OneFaultAsks, IfStopped, IfHalted}
+use Rattle.wp_session.specs.Asked.{AsksLog, AsksTables}
+use Rattle.wp_run.specs.Failed.{OneFaultAsks, IfStopped, IfHalted}
 use Rattle.wp_run.specs.Later.{Later, store_of}
 use Rattle.wp_run.specs.Runs.{AllRunSoFar, replies_of}
 use Rattle.wp_run.proofs.clients.run_all.Given as goal
