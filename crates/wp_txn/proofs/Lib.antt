@@ -1,7 +1,7 @@
 mod Made
 mod Freed
 mod GoesOn
-mod Goes
+pub mod Goes
 mod Adding
 mod Taking
 mod OneName
