@@ -50,33 +50,29 @@ Finds z old e = HeldTables z old.by old.knows.participant.past old.knows.partici
 
 -- ---- refusals
 
+-- Each outcome says of which participant the seat goes on as, where `Goes` says so; and these are the tables that were found.
+
 -- a device had failed before, when this was the flushed number
-pub record IsStopped {D : Type 0} (z : SharedState D) (old new : SeatState) (flushed : ℕ) : Type 0 where
-  pub edits : Installed
-  pub found : Finds z old edits
-  pub halted : edits.halted ≡ true
-  pub flushed_is : flushed ≡ edits.last.flushed
-  pub goes_on : Continues z old new (finding edits old.knows.participant)
+pub record IsStopped (Goes : Participant → Type 0) (old : SeatState) (e : Installed) (flushed : ℕ) : Type 0 where
+  pub halted : e.halted ≡ true
+  pub flushed_is : flushed ≡ e.last.flushed
+  pub goes_on : Goes (finding e old.knows.participant)
 
 -- no device had failed, and there was nothing to do
-pub record HasNothing {D : Type 0} (z : SharedState D) (old new : SeatState) (Idle : InstalledEdit → Type 0) : Type 0 where
-  pub edits : Installed
-  pub found : Finds z old edits
-  pub running : edits.halted ≡ false
-  pub idle : Idle edits.last
-  pub goes_on : Continues z old new (finding edits old.knows.participant)
+pub record HasNothing (Goes : Participant → Type 0) (old : SeatState) (e : Installed) (Idle : InstalledEdit → Type 0) : Type 0 where
+  pub running : e.halted ≡ false
+  pub idle : Idle e.last
+  pub goes_on : Goes (finding e old.knows.participant)
 
 -- A device failed, where there was something to do. The last edit stays; a later opening may find the one that was to be
 -- installed, where the manifest was called for it.
-pub record HasFailed {D : Type 0} (z : SharedState D) (old new : SeatState) (Idle : InstalledEdit → Type 0) (IsNext : InstalledEdit → InstalledEdit → Type 0) : Type 0 where
-  pub edits : Installed
-  pub found : Finds z old edits
-  pub running : edits.halted ≡ false
-  pub busy : Idle edits.last → ⊥
+pub record HasFailed {D : Type 0} (Goes : Participant → Type 0) (z : SharedState D) (old new : SeatState) (e : Installed) (Idle : InstalledEdit → Type 0) (IsNext : InstalledEdit → Type 0) : Type 0 where
+  pub running : e.halted ≡ false
+  pub busy : Idle e.last → ⊥
   pub asked : Option InstalledEdit
-  pub next : IfSome asked (IsNext edits.last)
-  pub left : HeldTables z old.by new.knows.participant.past old.knows.participant.seen (with_failed edits asked)
-  pub goes_on : Continues z old new (failing old.knows.participant)
+  pub next : IfSome asked IsNext
+  pub left : HeldTables z old.by new.knows.participant.past old.knows.participant.seen (with_failed e asked)
+  pub goes_on : Goes (failing old.knows.participant)
 
 -- ---- a flush
 
@@ -85,21 +81,23 @@ abbrev pub NoneInMemory : List Entry → InstalledEdit → Type 0
 NoneInMemory seen edit = (n : ℕ) → unflushed (take n seen) edit ≡ []
 
 -- All that stood in memory is in one table more, up to the number that was published then; the seat has seen so far.
-pub record HasFlushed {D : Type 0} (z : SharedState D) (old new : SeatState) (done : Done) : Type 0 where
-  pub edits : Installed
-  pub found : Finds z old edits
-  pub running : edits.halted ≡ false
+pub record HasFlushed (Goes : Participant → Type 0) (old new : SeatState) (e : Installed) (done : Done) : Type 0 where
+  pub running : e.halted ≡ false
   pub at : done.at ≡ length new.knows.participant.seen
   pub some : 1 ≤ done.versions
-  pub versions : done.versions ≡ length (unflushed new.knows.participant.seen edits.last)
-  pub goes_on : Continues z old new (installing (after_flush new.knows.participant.seen edits.last) false old.knows.participant)
+  pub versions : done.versions ≡ length (unflushed new.knows.participant.seen e.last)
+  pub goes_on : Goes (installing (after_flush new.knows.participant.seen e.last) false old.knows.participant)
 
+abbrev pub FlushesFrom : {D : Type 0} → (Participant → Type 0) → SharedState D → SeatState → Installed → Result Done MaintError → SeatState → Type 0
+FlushesFrom Goes z old e (Ok done) new = HasFlushed Goes old new e done
+FlushesFrom Goes z old e (Err Memory) new = Goes old.knows.participant
+FlushesFrom Goes z old e (Err Nothing) new = HasNothing Goes old e (NoneInMemory new.knows.participant.seen)
+FlushesFrom Goes z old e (Err TableFault) new = HasFailed Goes z old new e (NoneInMemory new.knows.participant.seen) (λ edit. edit ≡ after_flush new.knows.participant.seen e.last)
+FlushesFrom Goes z old e (Err (TablesStopped flushed)) new = IsStopped Goes old e flushed
+
+-- what a flush answers and leaves, where the tables were so as it found them
 abbrev pub Flushes : {D : Type 0} → SharedState D → SeatState → Result Done MaintError → SeatState → Type 0
-Flushes z old (Ok done) new = HasFlushed z old new done
-Flushes z old (Err Memory) new = Continues z old new old.knows.participant
-Flushes z old (Err Nothing) new = HasNothing z old new (NoneInMemory new.knows.participant.seen)
-Flushes z old (Err TableFault) new = HasFailed z old new (NoneInMemory new.knows.participant.seen) (λ last edit. edit ≡ after_flush new.knows.participant.seen last)
-Flushes z old (Err (TablesStopped flushed)) new = IsStopped z old new flushed
+Flushes z old result new = (e : Installed) × Finds z old e × FlushesFrom (Continues z old new) z old e result new
 
 -- ---- a compaction
 
@@ -118,26 +116,29 @@ pub record HasPinned {D : Type 0} (z : SharedState D) (old new : SeatState) (flo
   pub later : StartsWith (take floor new.knows.participant.seen) old.knows.participant.seen
 
 -- of the tables' versions those stay that a reader at the floor needs, or at a number that was live
-pub record HasCompacted {D : Type 0} (z : SharedState D) (old new : SeatState) (done : Done) : Type 0 where
-  pub edits : Installed
-  pub found : Finds z old edits
-  pub running : edits.halted ≡ false
-  pub several : FewTables edits.last → ⊥
+pub record HasCompacted {D : Type 0} (Goes : Participant → Type 0) (z : SharedState D) (old new : SeatState) (e : Installed) (done : Done) : Type 0 where
+  pub running : e.halted ≡ false
+  pub several : FewTables e.last → ⊥
   pub live : List ℕ
   pub pinned : HasPinned z old new done.at live
-  pub versions : done.versions ≡ length (retained (take done.at new.knows.participant.seen) live edits.last)
-  pub goes_on : Continues z old new (installing (after_compaction (take done.at new.knows.participant.seen) live edits.last) true old.knows.participant)
+  pub versions : done.versions ≡ length (retained (take done.at new.knows.participant.seen) live e.last)
+  pub goes_on : Goes (installing (after_compaction (take done.at new.knows.participant.seen) live e.last) true old.knows.participant)
 
--- the edit is that of a compaction at a floor with these live numbers
+-- the edit is that of a compaction of these tables at a floor with these live numbers
 pub record IsCompactionOf {D : Type 0} (z : SharedState D) (old new : SeatState) (last edit : InstalledEdit) : Type 0 where
   pub floor : ℕ
   pub live : List ℕ
   pub pinned : HasPinned z old new floor live
   pub edit_is : edit ≡ after_compaction (take floor new.knows.participant.seen) live last
 
+abbrev pub CompactsFrom : {D : Type 0} → (Participant → Type 0) → SharedState D → SeatState → Installed → Result Done MaintError → SeatState → Type 0
+CompactsFrom Goes z old e (Ok done) new = HasCompacted Goes z old new e done
+CompactsFrom Goes z old e (Err Memory) new = Goes old.knows.participant
+CompactsFrom Goes z old e (Err Nothing) new = HasNothing Goes old e FewTables
+CompactsFrom Goes z old e (Err TableFault) new = HasFailed Goes z old new e FewTables (IsCompactionOf z old new e.last)
+CompactsFrom Goes z old e (Err (TablesStopped flushed)) new = IsStopped Goes old e flushed
+
+-- what a compaction answers and leaves, where the tables were so as it found them; for want of memory it may have found none
 abbrev pub Compacts : {D : Type 0} → SharedState D → SeatState → Result Done MaintError → SeatState → Type 0
-Compacts z old (Ok done) new = HasCompacted z old new done
 Compacts z old (Err Memory) new = Continues z old new old.knows.participant
-Compacts z old (Err Nothing) new = HasNothing z old new FewTables
-Compacts z old (Err TableFault) new = HasFailed z old new FewTables (IsCompactionOf z old new)
-Compacts z old (Err (TablesStopped flushed)) new = IsStopped z old new flushed
+Compacts z old result new = (e : Installed) × Finds z old e × CompactsFrom (Continues z old new) z old e result new

@@ -15,10 +15,14 @@
 //! Once a device of the tables has failed, no other call of it is made, until the store is opened anew.
 #![tactic(auto)]
 
+mod below;
 mod compacting;
 mod done;
 mod error;
 mod flushing;
+mod frozen;
+mod steps;
+mod turns;
 
 pub use compacting::compact;
 pub use done::Done;
