@@ -1,30 +1,25 @@
 -- What a flush says of its seat, once the edit was installed or refused.
-use Rattle.std.proofs.Common.{◌≡◌, inl, inr, ℕ, ◌≤◌, Bool, true, false, List, [], ◌∷◌, ◌++◌, length, refl, sym, subst, ap, ◌∙◌, Option, Some, None, arith}
+use Rattle.std.proofs.Common.{◌≡◌, inl, ℕ, false, List, [], ◌∷◌, length, refl, sym, subst, ap, ◌∙◌, arith}
 use Rattle.std.specs.Prelude.{Err, IfSome}
 use Rattle.wp_model.specs.declared.entry.Entry.{Entry}
 use Rattle.wp_model.specs.declared.version.Version.{Version}
 use Rattle.wp_model.specs.Flushed.{InstalledEdit}
-use Rattle.wp_merge.specs.Merge.{sorted_of}
 use Rattle.wp_session.specs.Tables.{unflushed, after_flush}
-use Rattle.wp_core.specs.Effects.{with_failed}
 use Rattle.wp_core.specs.Lists.{IsIn}
 use Rattle.wp_core.specs.Sound.Actors.{StartsWith}
 use Rattle.wp_core.specs.Tables.{Installed, installed}
 use Rattle.wp_core.specs.Views.{tables_stay, nothing_flushed, frozen_stay}
-use Rattle.wp_core.specs.World.{Participant, World}
 use Rattle.wp_rule.specs.Knows.{Noted}
 use Rattle.wp_rule.specs.Words.{IsAt}
 use Rattle.wp_guarded.specs.Edits.{EditsState}
 use Rattle.wp_shared.specs.Seats.{SharedState, SeatState, place_at}
 use Rattle.wp_commits.specs.Notes.{GoesOn}
-use Rattle.wp_maint.specs.declared.done.Done.{Done}
 use Rattle.wp_maint.specs.declared.error.MaintError.{MaintError}
 use Rattle.wp_maint.specs.declared.error.MaintError.TheVariants.{Memory, Nothing, TableFault, TablesStopped}
 use Rattle.wp_maint.specs.declared.frozen.Frozen.{Frozen}
 use Rattle.wp_maint.specs.Calls.{installing, failing, HasFlushed, FlushesFrom}
-use Rattle.wp_maint.specs.Edits.{with_table}
-use Rattle.wp_maint.specs.Flush.{HasFrozen, HasInstalled, HasBroken, NotInstalled, MayPut}
-use Rattle.wp_maint.specs.Holding.{no_fact, is_of_flushed, is_of_tables, being, GoesOnAs, HoldsEdits, IsSettled}
+use Rattle.wp_maint.specs.Flush.{HasFrozen, HasInstalled, NotInstalled, MayPut}
+use Rattle.wp_maint.specs.Holding.{no_fact, is_of_flushed, is_of_tables, being, GoesOnAs, IsSettled}
 use Rattle.wp_maint.proofs.Installed.{same_edit}
 use Rattle.wp_maint.proofs.Memory.{some_in_memory}
 use Rattle.wp_maint.proofs.Onward.{starts_same, none_free, flushed_free, tables_free, goes_as, goes_still}

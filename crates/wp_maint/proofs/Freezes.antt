@@ -1,12 +1,11 @@
 -- What is frozen, and what the seat then knows of it.
-use Rattle.std.proofs.Common.{◌≡◌, inl, inr, ℕ, ◌<◌, ◌≤◌, Bool, true, false, List, [], ◌∷◌, ◌++◌, length, map, Option, Some, None, refl, sym, subst, ap, ◌∙◌, arith}
+use Rattle.std.proofs.Common.{◌≡◌, inl, inr, ℕ, ◌≤◌, Bool, false, List, [], ◌∷◌, length, Option, Some, None, refl, sym, subst, ap, ◌∙◌, arith}
 use Rattle.std.specs.Prelude.{Result, Ok, Err, IfOk}
-use Rattle.std.specs.Arc.{arc_value}
 use Rattle.wp_model.specs.declared.entry.Entry.{Entry}
 use Rattle.wp_model.specs.declared.version.Version.{Version}
-use Rattle.wp_model.specs.Flushed.{InstalledEdit, IsEditCovered, later_versions}
+use Rattle.wp_model.specs.Flushed.{IsEditCovered, later_versions}
 use Rattle.wp_model.specs.Legal.{IsLegal}
-use Rattle.wp_model.specs.Versions.{AreInOrder, version_at}
+use Rattle.wp_model.specs.Versions.{version_at}
 use Rattle.wp_merge.specs.Merge.{joined, sorted_of}
 use Rattle.wp_merge.proofs.Sorted.{in_order_sorted}
 use Rattle.wp_session.specs.Tables.{unflushed, after_flush}
@@ -18,7 +17,6 @@ use Rattle.wp_core.specs.Tables.{Content, WriteTable, StoreTable, Installed, wri
 use Rattle.wp_core.specs.Turns.{write_turn, store_turn}
 use Rattle.wp_core.specs.Views.{Fact, tables_stay, nothing_flushed, frozen_stay}
 use Rattle.wp_core.specs.World.{Actor, World}
-use Rattle.wp_rule.specs.Knows.{Noted}
 use Rattle.wp_rule.proofs.Knows.{at_sound, noted_is}
 use Rattle.wp_guarded.specs.Stock.{StockState, store_table}
 use Rattle.wp_shared.specs.Seats.{SharedState, SeatState, Stands, place_at}
@@ -26,7 +24,7 @@ use Rattle.wp_commits.specs.Notes.{noting, GoesOn}
 use Rattle.wp_commits.proofs.Goes.{then, wider}
 use Rattle.wp_commits.proofs.Held.{writes_are}
 use Rattle.wp_maint.specs.declared.frozen.Frozen.{Frozen}
-use Rattle.wp_maint.specs.Flush.{HasCopied, IsCopied, HasFrozen, Freezes}
+use Rattle.wp_maint.specs.Flush.{HasCopied, HasFrozen, Freezes}
 use Rattle.wp_maint.specs.Calls.{NoneInMemory}
 use Rattle.wp_maint.specs.Holding.{no_fact, is_under, seeing, IsSettled}
 use Rattle.wp_maint.proofs.Memory.{memory_is, all_numbered, all_flushed, count_is, rises, flush_covered, none_in_memory, sorted_none}

@@ -1,8 +1,7 @@
 -- The edit of a flush, and the table that takes the place of what was frozen.
-use Rattle.std.proofs.Common.{◌≡◌, ◌⊎◌, inl, inr, ℕ, suc, ◌+◌, ◌<◌, ◌≤◌, nat_le, ◌==◌, ◌&&◌, Bool, true, false, cond, ne_eqb, List, [], ◌∷◌, ◌++◌, length, map, Option, Some, None, refl, sym, subst, ap, ◌∙◌, arith}
+use Rattle.std.proofs.Common.{◌≡◌, ◌⊎◌, inl, inr, ℕ, suc, ◌<◌, ◌≤◌, nat_le, ◌==◌, ◌&&◌, Bool, true, false, cond, ne_eqb, List, [], ◌∷◌, ◌++◌, Option, Some, None, refl, sym, subst, ap, ◌∙◌, arith}
 use Rattle.std.proofs.lemmas.Bool.{cases_lt, and_parts, le-leb, leb-true}
 use Rattle.std.specs.Prelude.{IfSome}
-use Rattle.std.specs.Arc.{arc_value}
 use Rattle.std.specs.List.{list_all}
 use Rattle.std.specs.Option.{option_or}
 use Rattle.std.specs.Str.{bytes_eq}
@@ -10,16 +9,15 @@ use Rattle.wp_model.specs.declared.entry.Entry.{Entry}
 use Rattle.wp_model.specs.declared.version.Version.{Version}
 use Rattle.wp_model.specs.Flushed.{InstalledEdit, IsEditCovered}
 use Rattle.wp_model.specs.Versions.{version_at}
-use Rattle.wp_merge.specs.Merge.{joined, sorted_of}
+use Rattle.wp_merge.specs.Merge.{sorted_of}
 use Rattle.wp_merge.proofs.Sorted.{in_order_sorted, at_sorted, in_order_same}
 use Rattle.wp_open.proofs.Later.{at_append}
 use Rattle.wp_session.specs.Tables.{unflushed, after_flush}
 use Rattle.wp_table.specs.Table.{is_flushed}
-use Rattle.wp_core.specs.Effects.{with_failed}
 use Rattle.wp_core.specs.Lists.{IsIn}
 use Rattle.wp_core.specs.Sound.Store.{NoneFlushed}
-use Rattle.wp_core.specs.Tables.{Content, StoreTable, Installed, store, installed}
-use Rattle.wp_core.specs.Views.{Fact, tables_stay, nothing_flushed, frozen_stay}
+use Rattle.wp_core.specs.Tables.{StoreTable, Installed, store, installed}
+use Rattle.wp_core.specs.Views.{Fact, tables_stay, frozen_stay}
 use Rattle.wp_core.specs.World.{Participant, Actor, World}
 use Rattle.wp_core.proofs.Tests.{none_some}
 use Rattle.wp_rule.specs.Knows.{Noted, KnowsMoved, KnowsInstalled}
@@ -28,9 +26,9 @@ use Rattle.wp_guarded.specs.Edits.{EditsState}
 use Rattle.wp_shared.specs.Seats.{SharedState, SeatState, Stands, place_at}
 use Rattle.wp_commits.specs.Notes.{GoesOn}
 use Rattle.wp_maint.specs.declared.frozen.Frozen.{Frozen}
-use Rattle.wp_maint.specs.Edits.{with_table, HasHalted}
+use Rattle.wp_maint.specs.Edits.{with_table}
 use Rattle.wp_maint.specs.Flush.{HasFrozen, MayPut}
-use Rattle.wp_maint.specs.Holding.{being, HoldsEdits, IsSettled}
+use Rattle.wp_maint.specs.Holding.{being, HoldsEdits}
 use Rattle.wp_maint.proofs.TakesTurns.{stores_are}
 use Rattle.wp_maint.proofs.Versions.{Found}
 

@@ -1,5 +1,5 @@
 -- What stands in memory, where no flushed version does and nothing is pending: the history's versions above the flushed number.
-use Rattle.std.proofs.Common.{◌≡◌, ◌⊎◌, inl, inr, ℕ, ◌<◌, ◌≤◌, ◌^◌, Bool, true, false, List, [], ◌∷◌, ◌++◌, length, take, drop, Option, Some, None, refl, sym, subst, ap, ◌∙◌, arith}
+use Rattle.std.proofs.Common.{◌≡◌, ◌⊎◌, inl, inr, ℕ, ◌<◌, ◌≤◌, true, List, [], ◌∷◌, ◌++◌, length, take, drop, Option, Some, None, refl, sym, subst, ap, ◌∙◌, arith}
 use Rattle.std.proofs.lemmas.Bool.{cases_lt}
 use Rattle.std.proofs.lemmas.List.{take-append-drop}
 use Rattle.std.specs.List.{list_all}
@@ -22,7 +22,6 @@ use Rattle.wp_table.specs.Table as table
 use Rattle.wp_core.specs.Entries.{next_of}
 use Rattle.wp_core.specs.IsSound.{IsSound}
 use Rattle.wp_core.specs.Sound.Store.{NoneFlushed}
-use Rattle.wp_core.specs.Tables.{StoreTable}
 use Rattle.wp_core.specs.World.{World}
 use Rattle.wp_core.proofs.HistoryGrows.{none_is}
 use Rattle.wp_core.proofs.PendingVersions.{covers_same}

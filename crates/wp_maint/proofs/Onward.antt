@@ -1,30 +1,28 @@
 -- A seat that goes on, from one stage to the next.
-use Rattle.std.proofs.Common.{◌≡◌, inl, inr, ℕ, Bool, true, false, List, [], ◌∷◌, ◌++◌, append_assoc, append-nil, length, refl, sym, subst, ap, ◌∙◌, Option, Some, None}
+use Rattle.std.proofs.Common.{◌≡◌, ℕ, Bool, false, List, [], ◌∷◌, ◌++◌, append_assoc, append-nil, length, refl, sym, subst, ap, ◌∙◌, Option, Some, None}
 use Rattle.std.specs.Prelude.{Result, Ok, Err, IfSome}
 use Rattle.wp_model.specs.declared.entry.Entry.{Entry}
-use Rattle.wp_model.specs.Flushed.{InstalledEdit}
 use Rattle.wp_session.specs.Tables.{unflushed, after_flush}
-use Rattle.wp_core.specs.Lists.{IsIn}
 use Rattle.wp_core.specs.Notes.{gives_guard}
 use Rattle.wp_core.specs.Sound.Actors.{StartsWith}
 use Rattle.wp_core.specs.Sound.Views.{guarded_by}
 use Rattle.wp_core.specs.Steps.{give_turn}
-use Rattle.wp_core.specs.Tables.{Content, Installed, installed}
+use Rattle.wp_core.specs.Tables.{Content, Installed}
 use Rattle.wp_core.specs.Turns.{Turn}
 use Rattle.wp_core.specs.Views.{Fact, Event, tables_stay, nothing_flushed, frozen_stay}
 use Rattle.wp_core.specs.Views as event
-use Rattle.wp_core.specs.World.{Participant, Actor, World}
+use Rattle.wp_core.specs.World.{Participant, Actor}
 use Rattle.wp_core.proofs.Tests.{none_some}
 use Rattle.wp_rule.specs.Knows.{Noted}
 use Rattle.wp_rule.specs.Words.{IsAt}
 use Rattle.wp_guarded.specs.Edits.{EditsState}
 use Rattle.wp_shared.specs.Calls.{Continues}
-use Rattle.wp_shared.specs.Seats.{SharedState, SeatState, IsFree, Stands, place_at}
+use Rattle.wp_shared.specs.Seats.{SharedState, SeatState, IsFree, place_at}
 use Rattle.wp_commits.specs.Notes.{GoesOn}
 use Rattle.wp_maint.specs.declared.done.Done.{Done}
 use Rattle.wp_maint.specs.declared.error.MaintError.{MaintError}
 use Rattle.wp_maint.specs.declared.error.MaintError.TheVariants.{Memory, Nothing, TableFault, TablesStopped}
-use Rattle.wp_maint.specs.Calls.{HeldTables, HasFlushed, HasNothing, HasFailed, IsStopped, FlushesFrom, NoneInMemory}
+use Rattle.wp_maint.specs.Calls.{HeldTables, FlushesFrom, NoneInMemory}
 use Rattle.wp_maint.specs.Holding.{no_fact, is_under, is_of_flushed, is_of_tables, seeing, being, GoesOnAs, HoldsEdits}
 
 -- ---- what was seen

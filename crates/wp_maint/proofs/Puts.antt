@@ -1,8 +1,7 @@
 -- The table is put in place of what is frozen.
-use Rattle.std.proofs.Common.{◌≡◌, inl, inr, ℕ, Bool, true, false, true≢false, List, [], ◌∷◌, length, refl, sym, subst, ap, ◌∙◌}
+use Rattle.std.proofs.Common.{◌≡◌, false, List, [], ◌∷◌, refl, subst, ap, ◌∙◌}
 use Rattle.wp_model.specs.declared.version.Version.{Version}
 use Rattle.wp_core.specs.Changes.{held_without}
-use Rattle.wp_core.specs.Lists.{IsIn}
 use Rattle.wp_core.specs.Tables.{Content, StoreTable, Installed, store, installed}
 use Rattle.wp_core.specs.Turns.{store_turn}
 use Rattle.wp_core.specs.Views.{Fact, tables_stay, nothing_flushed}

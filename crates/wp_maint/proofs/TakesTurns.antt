@@ -1,5 +1,5 @@
 -- The turns that maintenance takes and gives, with the values behind them.
-use Rattle.std.proofs.Common.{◌≡◌, inl, inr, ℕ, true, false, List, [], ◌∷◌, ◌++◌, append-nil, length, refl, sym, subst, ap, ◌∙◌, Some}
+use Rattle.std.proofs.Common.{◌≡◌, inl, inr, ℕ, false, List, [], ◌∷◌, ◌++◌, append-nil, refl, sym, subst, ap, ◌∙◌, Some}
 use Rattle.wp_model.specs.declared.entry.Entry.{Entry}
 use Rattle.wp_core.specs.Changes.{sees, held_without}
 use Rattle.wp_core.specs.Lists.{IsIn}
@@ -8,7 +8,7 @@ use Rattle.wp_core.specs.Sound.Actors.{StartsWith}
 use Rattle.wp_core.specs.Sound.Views.{guarded_by}
 use Rattle.wp_core.specs.Steps.{give_turn}
 use Rattle.wp_core.specs.Tables.{Content, WriteTable, StoreTable, Installed, writes, store, installed, turn_of}
-use Rattle.wp_core.specs.Turns.{Turn, write_turn, store_turn, tables_turn}
+use Rattle.wp_core.specs.Turns.{write_turn, store_turn, tables_turn}
 use Rattle.wp_core.specs.Views.{Fact, passed, words_stay, nothing_flushed}
 use Rattle.wp_core.specs.World.{Actor, World}
 use Rattle.wp_core.proofs.Tests.{same_some}

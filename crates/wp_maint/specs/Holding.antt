@@ -7,7 +7,7 @@ use Rattle.wp_core.specs.Sound.Actors.{StartsWith}
 use Rattle.wp_core.specs.Sound.Views.{guarded_by}
 use Rattle.wp_core.specs.Steps.{give_turn}
 use Rattle.wp_core.specs.Tables.{Installed, installed}
-use Rattle.wp_core.specs.Turns.{Turn, write_turn, tables_turn}
+use Rattle.wp_core.specs.Turns.{Turn, tables_turn}
 use Rattle.wp_core.specs.Views.{Fact, tables_stay, nothing_flushed, frozen_stay}
 use Rattle.wp_core.specs.World.{Actor, Participant}
 use Rattle.wp_rule.specs.Knows.{Noted}

@@ -1,4 +1,4 @@
-use Rattle.std.proofs.Common.{◌≡◌, ◌∷◌, [], ◌++◌, List, refl, sym, subst, ap}
+use Rattle.std.proofs.Common.{◌∷◌, [], ◌++◌, refl, sym, ap}
 use Rattle.wp_core.specs.Tables.{installed}
 use Rattle.wp_core.specs.Turns.{tables_turn}
 use Rattle.wp_core.specs.Views.{nothing_flushed}

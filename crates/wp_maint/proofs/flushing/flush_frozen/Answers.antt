@@ -1,4 +1,4 @@
-use Rattle.std.proofs.Common.{◌≡◌, List, length, ap}
+use Rattle.std.proofs.Common.{List, length, ap}
 use Rattle.std.specs.Arc.{arc_value}
 use Rattle.wp_model.specs.declared.version.Version.{Version}
 use Rattle.wp_maint.proofs.Flushed.{may_put, has_flushed, gone_still, not_flushed}

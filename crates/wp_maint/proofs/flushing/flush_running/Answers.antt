@@ -1,4 +1,4 @@
-use Rattle.std.proofs.Common.{◌≡◌, ◌∷◌, [], List, refl, sym, subst, ap}
+use Rattle.std.proofs.Common.{◌∷◌, [], List, refl, sym, subst, ap}
 use Rattle.wp_model.specs.declared.entry.Entry.{Entry}
 use Rattle.wp_core.specs.Turns.{write_turn}
 use Rattle.wp_core.specs.Views.{nothing_flushed, found_flushed}

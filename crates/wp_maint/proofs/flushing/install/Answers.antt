@@ -1,4 +1,4 @@
-use Rattle.std.proofs.Common.{◌∷◌, [], false, refl, sym, subst, ap, ◌∙◌}
+use Rattle.std.proofs.Common.{◌∷◌, [], false, sym, subst, ap, ◌∙◌}
 use Rattle.wp_model.specs.Flushed.{InstalledEdit}
 use Rattle.wp_session.specs.Tables.{after_flush}
 use Rattle.wp_core.specs.Tables.{Installed, installed}

@@ -1,4 +1,4 @@
-use Rattle.std.proofs.Common.{◌≡◌, ◌∷◌, [], List, map, refl, sym, subst, ap, ◌∙◌}
+use Rattle.std.proofs.Common.{List, map, refl, ap, ◌∙◌}
 use Rattle.std.specs.Arc.{arc_value}
 use Rattle.wp_model.specs.declared.version.Version.{Version}
 use Rattle.wp_merge.specs.Merge.{joined, sorted_of}
@@ -23,7 +23,7 @@ move_versions-requires-clause-gone g c =
     let s = c.args.seat.now in let u = c.take_stock-stock.new.seat in let e = c.args.edits.now.table in let t = store_table c.take_stock-stock.result in let k = c.take_stock-stock.ensures in
     let held = held_taken s u u u t t e c.requires.holds.held k.goes in
     none_flushed c.args.store.now s e c.args.frozen (arc_value c.args.table) c.requires.may u k.stands.0 k.stands.1 (λ fact there. k.goes.noted fact refl there) t held (store_table c.settle.new.stock) c.settle.ensures.memory
-        (joined (map arc_value c.args.frozen.tables.items)) (c.settle.ensures.tables ∙ ap (λ (l : List (List Version)). sorted_of (joined l)) c.with_first-tables.ensures) c.requires.may.tables
+    (joined (map arc_value c.args.frozen.tables.items)) (c.settle.ensures.tables ∙ ap (λ (l : List (List Version)). sorted_of (joined l)) c.with_first-tables.ensures) c.requires.may.tables
 
 pub give_stock-requires-clause-turns : goal.give_stock-requires-clause-turns
 give_stock-requires-clause-turns g c =
@@ -43,5 +43,5 @@ returns-clause-settled g c =
     let held = held_taken s u u u t t e c.requires.holds.held k.goes in
     let turns = turns_taken s u v v t n e c.requires.holds.held k.goes c.move_versions.ensures.goes in
     put_settled s u v c.give_stock.new.seat t n e c.requires.holds.held k.goes c.move_versions.ensures.goes (c.give_stock.ensures _ turns) c.move_versions.ensures.flushed c.move_versions.ensures.named
-        (tables_named c.args.store.now s e c.args.frozen (arc_value c.args.table) c.requires.may u k.stands.0 k.stands.1 (λ fact there. k.goes.noted fact refl there) t held n c.settle.ensures.memory
-            (joined (map arc_value c.args.frozen.tables.items)) (c.settle.ensures.tables ∙ ap (λ (l : List (List Version)). sorted_of (joined l)) c.with_first-tables.ensures) c.requires.may.tables)
+    (tables_named c.args.store.now s e c.args.frozen (arc_value c.args.table) c.requires.may u k.stands.0 k.stands.1 (λ fact there. k.goes.noted fact refl there) t held n c.settle.ensures.memory
+    (joined (map arc_value c.args.frozen.tables.items)) (c.settle.ensures.tables ∙ ap (λ (l : List (List Version)). sorted_of (joined l)) c.with_first-tables.ensures) c.requires.may.tables)

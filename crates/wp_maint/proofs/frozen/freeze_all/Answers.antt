@@ -1,6 +1,6 @@
-use Rattle.std.proofs.Common.{◌∙◌, ◌∷◌}
+use Rattle.std.proofs.Common.{◌∙◌}
 use Rattle.wp_guarded.specs.Stock.{store_table}
-use Rattle.wp_maint.proofs.Freezes.{held_two, seen_two, place_two, settled_two, stock_held, turns_three, table_three, log_held, turns_four, table_four, goes_five, grown_five, frozen_five}
+use Rattle.wp_maint.proofs.Freezes.{held_two, seen_two, place_two, settled_two, turns_three, turns_four, goes_five, grown_five, frozen_five}
 use Rattle.wp_maint.proofs.frozen.freeze_all.Goals as goal
 
 pub freeze_in-frozen-requires-clause-seat : goal.freeze_in-frozen-requires-clause-seat

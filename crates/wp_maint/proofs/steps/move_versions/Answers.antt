@@ -1,5 +1,3 @@
-use Rattle.std.proofs.Common.{ap}
-use Rattle.wp_core.specs.Tables.{StoreTable}
 use Rattle.wp_guarded.specs.Stock.{store_table}
 use Rattle.wp_maint.proofs.Made.{may_move, was_moved, noted_moved}
 use Rattle.wp_maint.proofs.steps.move_versions.Goals as goal
