@@ -1,5 +1,7 @@
 -- What is so of the versions in memory and in tables.
-use Rattle.std.proofs.Common.{◌≡◌, ◌≢◌, ℕ, ◌==◌, ◌&&◌, not, Bool, true, false, cond, List, [], ◌∷◌, ◌++◌, map, Option, Some, None, refl, sym, ap, ◌∙◌, true≢false, eq-eqb, ne_eqb, eqb-true}
+use Rattle.std.proofs.Common.{◌≡◌, ◌≢◌, ℕ, ◌≤◌, ◌==◌, ◌&&◌, not, Bool, true, false, cond, List, [], ◌∷◌, ◌++◌, length, map, Option, Some, None, refl, sym, ap, ◌∙◌, true≢false, eq-eqb, ne_eqb, eqb-true, arith}
+use Rattle.std.proofs.lemmas.Bool.{and_parts}
+use Rattle.std.specs.List.{list_all}
 use Rattle.std.specs.Option.{option_or}
 use Rattle.std.specs.Str.{bytes_eq}
 use Rattle.wp_model.specs.declared.change.Change.{Change}
@@ -11,7 +13,7 @@ use Rattle.wp_model.specs.Versions.{version_at}
 use Rattle.wp_memtable.specs.Memtable.{HasChanges, without_number}
 use Rattle.wp_merge.specs.Merge.{AreMerged, first_at, joined, sorted_of}
 use Rattle.wp_merge.proofs.Merged.{or_none}
-use Rattle.wp_merge.proofs.Sorted.{at_sorted, in_order_sorted, merged_sorted}
+use Rattle.wp_merge.proofs.Sorted.{at_sorted, in_order_sorted, merged_sorted, own_value}
 use Rattle.wp_open.proofs.Later.{at_append}
 use Rattle.wp_core.specs.Entries.{HasVersionsAt}
 use Rattle.wp_guarded.specs.Stock.{HasNoneAt}
@@ -44,6 +46,25 @@ both_merged memory frozen tables = record {
       ∙ ap (option_or (first_at (memory ∷ frozen) key p)) (at_parts tables key p)
       ∙ sym (first_of_both (memory ∷ frozen) tables key p);
 }
+
+-- ---- whether something is there
+
+pub nothing_there : (parts : List (List Version)) → list_all (λ part. length part == 0) parts ≡ true → sorted_of (joined parts) ≡ []
+nothing_there [] all = refl
+nothing_there ([] ∷ parts) all = nothing_there parts all
+nothing_there ((v ∷ part) ∷ parts) all =
+    let first = and_parts (length (v ∷ part) == 0) (list_all (λ others. length others == 0) parts) all in
+    absurd (omega (arith, eqb-true (length (v ∷ part)) 0 first.0))
+
+found_long : (versions : List Version) (key : List ℕ) (p : ℕ) (value : Option (List ℕ)) → version_at versions key p ≡ Some value → 1 ≤ length versions
+found_long [] key p value there = absurd cc
+found_long (v ∷ versions) key p value there = omega arith
+
+pub something_there : (parts : List (List Version)) → list_all (λ part. length part == 0) parts ≡ false → 1 ≤ length (sorted_of (joined parts))
+something_there [] all = absurd cc
+something_there ([] ∷ parts) all = something_there parts all
+something_there ((v ∷ part) ∷ parts) all =
+    found_long (sorted_of (v ∷ (part ++ joined parts))) v.key v.number v.value (at_sorted (v ∷ (part ++ joined parts)) v.key v.number ∙ own_value v (part ++ joined parts))
 
 -- ---- an entry's versions come
 

@@ -1,9 +1,10 @@
 //! What the store turn guards: the versions in memory and in tables.
-ghost use Rattle.std.specs.Prelude.{◌≡◌, Some, None, map, IfOk, OnOk, OnErr};
+ghost use Rattle.std.specs.Prelude.{◌≡◌, ◌≤◌, ◌<◌, true, false, [], Some, None, length, map, vec_capacity, IfOk, OnOk, OnErr};
+ghost use Rattle.std.specs.Arc.{arc_value};
 ghost use Rattle.wp_model.specs.declared.entry.Entry.{Entry};
 ghost use Rattle.wp_model.specs.Legal.{changes_in};
 ghost use Rattle.wp_memtable.specs.Memtable.{HasChanges, without_number};
-ghost use Rattle.wp_merge.specs.Merge.{sorted_of};
+ghost use Rattle.wp_merge.specs.Merge.{joined, sorted_of};
 ghost use Rattle.wp_store.specs.Store.{newest_of};
 ghost use Rattle.wp_core.specs.Entries.{HasVersionsAt};
 ghost use Rattle.wp_core.specs.Tables.{all_in};
@@ -11,9 +12,11 @@ ghost use Rattle.wp_guarded.specs.Stock.{store_table, HasNoneAt};
 
 use std::alloc::AllocError;
 use std::marker::Model;
+use std::sync::Arc;
 use wp_core::HoldsVersions;
 use wp_model::{Batch, Key, Seq, Versions};
 use wp_store::Store;
+use wp_table::Table;
 
 /// The versions in memory and in tables, and the floor. Clauses see the parts of the store and the floor; in the machine, what
 /// is frozen is in memory still.
@@ -68,6 +71,40 @@ impl Stock {
         ensures none { HasVersionsAt None n (store_table self.old).memory (store_table self.new).memory }
     {
         self.store.remove_unflushed(n);
+    }
+
+    /// Whether no version is in memory.
+    pub fn is_flushed(&self) -> bool
+        ensures none { result ≡ true → (store_table self.now).memory ≡ [] }
+        ensures some { result ≡ false → 1 ≤ length (store_table self.now).memory }
+    {
+        self.store.is_flushed()
+    }
+
+    /// All versions in memory, which are frozen from now on, as far as they were not before: in the machine nothing changes.
+    pub fn freeze(&mut self) -> Result<Versions, AllocError>
+        ensures versions { IfOk result (λ versions. versions ≡ (store_table self.old).memory) }
+        ensures same { store_table self.new ≡ store_table self.old }
+    {
+        self.store.freeze()?;
+        self.store.in_memory()
+    }
+
+    /// The tables, the newest first, in memory that has room for one more.
+    pub fn copy_tables(&self) -> Result<Vec<Arc<Table>>, AllocError>
+        ensures tables { IfOk result (λ tables. sorted_of (joined (map arc_value tables.items)) ≡ (store_table self.now).tables) }
+        ensures room { IfOk result (λ tables. length tables.items < vec_capacity tables) }
+    {
+        let mut tables = self.store.copy_tables()?;
+        tables.reserve(1)?;
+        Ok(tables)
+    }
+
+    /// All versions in tables.
+    pub fn in_tables(&self) -> Result<Versions, AllocError>
+        ensures { IfOk result (λ versions. versions ≡ (store_table self.now).tables) }
+    {
+        self.store.in_tables()
     }
 
     /// The newest `n` versions of the key, in memory and in tables.
