@@ -17,6 +17,7 @@ use Rattle.wp_core.specs.Tables.{Content, WriteTable, StoreTable, Installed, wri
 use Rattle.wp_core.specs.Turns.{write_turn, store_turn}
 use Rattle.wp_core.specs.Views.{Fact, tables_stay, nothing_flushed, frozen_stay}
 use Rattle.wp_core.specs.World.{Actor, World}
+use Rattle.wp_rule.specs.Knows.{KnowsTables}
 use Rattle.wp_rule.proofs.Knows.{at_sound, noted_is}
 use Rattle.wp_guarded.specs.Stock.{StockState, store_table}
 use Rattle.wp_shared.specs.Seats.{SharedState, SeatState, Stands, place_at}
@@ -26,12 +27,13 @@ use Rattle.wp_commits.proofs.Held.{writes_are}
 use Rattle.wp_maint.specs.declared.frozen.Frozen.{Frozen}
 use Rattle.wp_maint.specs.Flush.{HasCopied, HasFrozen, Freezes}
 use Rattle.wp_maint.specs.Calls.{NoneInMemory}
-use Rattle.wp_maint.specs.Holding.{no_fact, is_under, seeing, IsSettled}
+use Rattle.wp_maint.specs.Holding.{no_fact, is_under, seeing}
 use Rattle.wp_maint.proofs.Memory.{memory_is, all_numbered, all_flushed, count_is, rises, flush_covered, none_in_memory, sorted_none}
+use Rattle.wp_maint.proofs.Onward.{settled_on}
 use Rattle.wp_maint.proofs.TakesTurns.{installed_are, stores_are}
 
 module _ {D : Type 0} (z : SharedState D) (s : SeatState) (d : WriteTable) (stock : StockState) (e : Installed) (held : s.knows.held ≡ store (store_table stock) ∷ writes d ∷ installed e ∷ [])
-    (none : d.pending ≡ []) (seen : s.knows.participant.seen ≡ d.history) (settled : IsSettled s.knows e) (w : World) (stands : Stands z s w) where
+    (none : d.pending ≡ []) (seen : s.knows.participant.seen ≡ d.history) (settled : KnowsTables s.knows e.last) (w : World) (stands : Stands z s w) where
   abbrev t : StoreTable
   t = store_table stock
 
@@ -59,12 +61,12 @@ module _ {D : Type 0} (z : SharedState D) (s : SeatState) (d : WriteTable) (stoc
   -- all in memory is what the history has above the flushed number
   pub frozen_is : t.memory ≡ sorted_of (unflushed s.knows.participant.seen e.last)
   frozen_is =
-      memory_is w sound (ap (λ (x : WriteTable). x.pending) writes_here ∙ none) (noted_is (place_at z s.by) s.knows w nothing_flushed stands settled.gone).is_so t.memory (in_order_sorted (joined (stock.parts.memory ∷ stock.parts.frozen))) (ap (λ (x : StoreTable). x.memory) store_here)
+      memory_is w sound (ap (λ (x : WriteTable). x.pending) writes_here ∙ none) (noted_is (place_at z s.by) s.knows w nothing_flushed stands settled.0).is_so t.memory (in_order_sorted (joined (stock.parts.memory ∷ stock.parts.frozen))) (ap (λ (x : StoreTable). x.memory) store_here)
       ∙ (λ i. sorted_of (later_versions (history_is i) (installed_here i).last.flushed))
 
   -- and the versions in tables are the last edit's
   pub tables_are : t.tables ≡ e.last.versions
-  tables_are = ap (λ (x : StoreTable). x.tables) (sym store_here) ∙ (noted_is (place_at z s.by) s.knows w (tables_stay e.last.versions settled.floor) stands settled.named).is_so.0
+  tables_are = ap (λ (x : StoreTable). x.tables) (sym store_here) ∙ (noted_is (place_at z s.by) s.knows w (tables_stay e.last.versions settled.1.0) stands settled.1.1).is_so.0
 
   pub none_frozen : t.memory ≡ [] → Freezes s.knows e None
   none_frozen empty = none_in_memory s.knows.participant.seen seen_legal e.last seen_covered (sorted_none (unflushed s.knows.participant.seen e.last) (sym frozen_is ∙ empty))
@@ -126,8 +128,9 @@ module _ (s0 s1 s2 : SeatState) (d : WriteTable) (t : StoreTable) (e : Installed
   pub place_two : (s2.table ≡ s0.table) × (s2.knows.live ≡ s0.knows.live)
   place_two = (ap (λ (x : SeatState). x.table) b.same ∙ ap (λ (x : SeatState). x.table) a.same, ap (λ (x : SeatState). x.knows.live) b.same ∙ ap (λ (x : SeatState). x.knows.live) a.same)
 
-  pub settled_two : IsSettled s0.knows e → IsSettled s2.knows e
-  settled_two k = record { gone = b.noted nothing_flushed refl (a.noted nothing_flushed refl k.gone); floor = k.floor; named = b.noted (tables_stay e.last.versions k.floor) refl (a.noted (tables_stay e.last.versions k.floor) refl k.named) }
+  pub settled_two : KnowsTables s0.knows e.last → KnowsTables s2.knows e.last
+  settled_two k =
+      settled_on s1 s2 no_fact (store t ∷ s1.knows.held) (3 ∷ s1.turns) refl (λ versions floor. refl) b e.last (settled_on (seeing d.history s0) s1 no_fact (writes d ∷ s0.knows.held) (0 ∷ s0.turns) refl (λ versions floor. refl) a e.last k)
 
   module _ (s3 s4 : SeatState) (c : GoesOn no_fact s2.knows.held s2.turns s2 s3) where
     held_three : s3.knows.held ≡ store t ∷ writes d ∷ installed e ∷ []

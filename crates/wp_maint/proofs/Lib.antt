@@ -1,5 +1,6 @@
 pub mod TakesTurns
 pub mod Made
+pub mod Found
 pub mod Versions
 pub mod Memory
 pub mod Freezes

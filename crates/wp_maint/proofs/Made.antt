@@ -1,5 +1,5 @@
 -- The steps of maintenance: that they may be made, and what they leave of the seat.
-use Rattle.std.proofs.Common.{◌≡◌, inl, inr, ℕ, Bool, false, true≢false, List, [], ◌∷◌, length, refl, sym, subst, ap, ◌∙◌, Option, Some, None}
+use Rattle.std.proofs.Common.{◌≡◌, inl, inr, ℕ, Bool, true, false, true≢false, List, [], ◌∷◌, append-nil, length, refl, sym, subst, ap, ◌∙◌, Option, Some, None}
 use Rattle.std.specs.Prelude.{IfSome}
 use Rattle.wp_model.specs.declared.entry.Entry.{Entry}
 use Rattle.wp_model.specs.declared.version.Version.{Version}
@@ -9,11 +9,13 @@ use Rattle.wp_core.specs.Effects.{with_failed}
 use Rattle.wp_core.specs.Lists.{IsIn}
 use Rattle.wp_core.specs.Notes.{ends}
 use Rattle.wp_core.specs.Sound.Store.{NoneFlushed}
-use Rattle.wp_core.specs.Steps.{Step, install, halt, find_flushed, move_versions, note}
+use Rattle.wp_core.specs.Steps.{Step, install, halt, find_edit, move_versions, note}
 use Rattle.wp_core.specs.Tables.{Content, StoreTable, Installed, store, installed}
 use Rattle.wp_core.specs.Turns.{tables_turn}
-use Rattle.wp_core.specs.Views.{Fact, tables_stay, nothing_flushed, frozen_stay}
-use Rattle.wp_core.specs.World.{Actor, World}
+use Rattle.wp_core.specs.Sound.Pasts.{tables_due}
+use Rattle.wp_core.specs.Views.{Event, Fact, tables_failed, found_edit, tables_stay, nothing_flushed, frozen_stay}
+use Rattle.wp_core.specs.Views as event
+use Rattle.wp_core.specs.World.{Participant, Actor, World}
 use Rattle.wp_rule.specs.Knows.{Noted, KnowsMoved, KnowsInstalled}
 use Rattle.wp_rule.specs.Moves.{MayMake, Moved, Outlasts, actor_after, world_after}
 use Rattle.wp_rule.specs.Words.{Place, IsAt}
@@ -28,8 +30,10 @@ use Rattle.wp_shared.proofs.OneStep.{made, becomes}
 use Rattle.wp_commits.specs.Notes.{GoesOn}
 use Rattle.wp_commits.proofs.Goes.{goes_with}
 use Rattle.wp_commits.proofs.Turns.{note_ends_none}
-use Rattle.wp_maint.specs.Calls.{finding, installing, failing}
+use Rattle.wp_maint.specs.Calls.{remembering}
+use Rattle.wp_maint.specs.Finding.{Remembers}
 use Rattle.wp_maint.specs.Holding.{no_fact, is_of_flushed, is_of_tables, being}
+use Rattle.wp_maint.proofs.Found.{failed_last}
 
 abbrev installed_in : Installed → Content → Installed
 installed_in t (installed d) = d
@@ -63,18 +67,25 @@ stands_after z steps so s u by m =
 
 -- ---- what was found
 
-find_ends : EndsNothing find_flushed
+find_ends : EndsNothing find_edit
 find_ends = record { guard = λ turn. refl; place = λ words place. refl; words = refl; delayed_flag = refl; old_flag = refl; pending = refl; adds = refl; takes = refl; prepared = refl; unprepared = refl; transaction = λ history name. refl; direct = refl; moves = refl; replaces = refl; installing = refl }
 
-pub may_find : (p : Place) (a : Actor) (t : Installed) → IsIn (installed t) a.held → MayMake p a (λ w. find_flushed ∷ [])
-may_find p a t held = known_made p a find_flushed tt (record { table = t; held = held; so_is = tt })
+pub may_find : (p : Place) (a : Actor) (t : Installed) → IsIn (installed t) a.held → MayMake p a (λ w. find_edit ∷ [])
+may_find p a t held = known_made p a find_edit tt (record { table = t; held = held; so_is = tt })
 
-pub found : (p : Place) (so : World → Type 0) (s u : SeatState) → (u.table ≡ s.table) × (u.by ≡ s.by) × (u.turns ≡ s.turns) → (t : Installed) → IsIn (installed t) s.knows.held → Moved p (λ w. find_flushed ∷ []) so s.knows u.knows
-    → u ≡ being (finding t s.knows.participant) s
-found p so s u same t held m =
-    let step = made p find_flushed so s.knows u.knows find_ends m in
-    let table : step.world.installed ≡ t = ap (installed_in t) (held_is p s.knows step.world (installed t) step.before held).1 in
-    becomes s u (record s.knows { participant = finding t s.knows.participant }) same (step.actor ∙ ap (λ (x : Installed). record s.knows { participant = finding x s.knows.participant }) table)
+pub found : {D : Type 0} (z : SharedState D) (so : World → Type 0) (s u : SeatState) → (u.table ≡ s.table) × (u.by ≡ s.by) × (u.turns ≡ s.turns) → (t : Installed) → IsIn (installed t) s.knows.held → Moved (place_at z s.by) (λ w. find_edit ∷ []) so s.knows u.knows
+    → Remembers z s t u
+found z so s u same t held m =
+    let step = made (place_at z s.by) find_edit so s.knows u.knows find_ends m in
+    let p : Participant = s.knows.participant in
+    let table : step.world.installed ≡ t = ap (installed_in t) (held_is (place_at z s.by) s.knows step.world (installed t) step.before held).1 in
+    record {
+      found = record { world = step.world; actor = s.knows; there = step.before; held = held; past_is = refl; seen_is = ([], sym (append-nil p.seen)) };
+      is = becomes s u (record s.knows { participant = remembering (find_of step.world.first_edit t p ∷ []) p }) same (step.actor ∙ ap (λ (x : Installed). record s.knows { participant = remembering (find_of step.world.first_edit x p ∷ []) p }) table);
+    }
+  where
+    find_of : InstalledEdit → Installed → Participant → Event
+    find_of first x p = found_edit x.last.flushed x.last.tables (tables_due first p.past) x.halted
 
 -- ---- an edit
 
@@ -96,21 +107,23 @@ module _ (p : Place) (so : World → Type 0) (s u : SeatState) (same : (u.table 
   table_is w k = ap (installed_in t) (held_is p s.knows w (installed t) k (first_held s.knows (installed t) [] held)).1
 
   pub was_installed : (compacts : Bool) → e ≡ record t { last = e.last } → Moved p (λ w. install e.last compacts ∷ []) so s.knows u.knows
-      → GoesOn is_of_flushed (installed e ∷ []) s.turns (being (installing e.last compacts s.knows.participant) s) u
+      → GoesOn is_of_flushed (installed e ∷ []) s.turns (being (remembering (event.installed e.last compacts ∷ []) s.knows.participant) s) u
   was_installed compacts is m =
       let w = m.world in
       let left : held_with s.knows.held (installed (record w.installed { last = e.last })) ≡ installed e ∷ [] =
       (λ i. held_with (held i) (installed (record (table_is w m.before i) { last = e.last }))) ∙ ap (λ (x : Installed). installed x ∷ []) (sym is) in
-      goes_from p so s u same (λ v. install e.last compacts ∷ []) m (record s.knows { participant = installing e.last compacts s.knows.participant }) is_of_flushed (installed e ∷ []) refl refl left
+      goes_from p so s u same (λ v. install e.last compacts ∷ []) m (record s.knows { participant = remembering (event.installed e.last compacts ∷ []) s.knows.participant }) is_of_flushed (installed e ∷ []) refl refl left
       (λ fact other. ((λ x. x), install_ends w.writes.history (length w.cache) e.last compacts fact other, tt))
 
   pub was_halted : e ≡ with_failed t e.failed → Moved p (λ w. halt e.failed ∷ []) so s.knows u.knows
-      → GoesOn no_fact (installed e ∷ []) s.turns (being (failing s.knows.participant) s) u
+      → GoesOn no_fact (installed e ∷ []) s.turns (being (remembering (tables_failed e.last e.failed ∷ []) s.knows.participant) s) u
   was_halted is m =
       let w = m.world in
       let left : held_with s.knows.held (installed (with_failed w.installed e.failed)) ≡ installed e ∷ [] =
       (λ i. held_with (held i) (installed (with_failed (table_is w m.before i) e.failed))) ∙ ap (λ (x : Installed). installed x ∷ []) (sym is) in
-      goes_from p so s u same (λ v. halt e.failed ∷ []) m (record s.knows { participant = failing s.knows.participant }) no_fact (installed e ∷ []) refl refl left
+      let last : w.installed.last ≡ e.last = ap (λ (x : Installed). x.last) (table_is w m.before) ∙ (sym (failed_last t e.failed) ∙ ap (λ (x : Installed). x.last) (sym is)) in
+      goes_from p so s u same (λ v. halt e.failed ∷ []) m (record s.knows { participant = remembering (tables_failed e.last e.failed ∷ []) s.knows.participant }) no_fact (installed e ∷ []) refl
+      (ap (λ (l : InstalledEdit). let b = actor_after (halt e.failed ∷ []) w p.by s.knows in record b { participant = remembering (tables_failed l e.failed ∷ []) s.knows.participant }) last) left
       (λ fact other. ((λ x. x), halt_ends w.writes.history (length w.cache) e.failed fact, tt))
     where
       halt_ends : (history : List Entry) (words : ℕ) (edit : Option InstalledEdit) (fact : Fact) → ends history words (halt edit) fact ≡ false

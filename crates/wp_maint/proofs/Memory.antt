@@ -33,7 +33,7 @@ use Rattle.wp_maint.proofs.Versions.{Found, empty_list, all_found, length_sorted
 
 -- ---- in a sound world
 
-module _ (w : World) (sound : IsSound w) (none : w.writes.pending ≡ []) (gone : NoneFlushed w.store.memory w.installed.last.flushed) where
+module _ (w : World) (sound : IsSound w) where
   abbrev history : List Entry
   history = w.writes.history
 
@@ -44,27 +44,32 @@ module _ (w : World) (sound : IsSound w) (none : w.writes.pending ≡ []) (gone 
   of_history key p value within there =
       sound.versions.covered.part key p value (up_to_within (length history) (w.store.memory ++ w.store.tables) key p within ∙ at_append w.store.memory w.store.tables key p ∙ ap (λ (o : Found). option_or o (version_at w.store.tables key p)) there)
 
-  above_is : (key : List ℕ) (p : ℕ) (o : Found) → flushed < p → p ≤ length history → entry_version history p key ≡ o → version_at w.store.memory key p ≡ o
-  above_is key p (Some value) above within is = sound.versions.in_memory key p value above is
-  above_is key p None above within is = none_is (version_at w.store.memory key p) (λ v there. none_some (entry_version history p key) v is (of_history key p v within there))
+  above_by : (key : List ℕ) (p : ℕ) (o : Found) → flushed < p → p ≤ length history → entry_version history p key ≡ o → version_at w.store.memory key p ≡ o
+  above_by key p (Some value) above within is = sound.versions.in_memory key p value above is
+  above_by key p None above within is = none_is (version_at w.store.memory key p) (λ v there. none_some (entry_version history p key) v is (of_history key p v within there))
 
-  past_none : (key : List ℕ) (p : ℕ) → length history < p → version_at w.store.memory key p ≡ None
-  past_none key p past =
-      none_is (version_at w.store.memory key p) (λ v there. none_some (version_in (next_of w.writes.pending) key) v (ap (λ (es : List Entry). version_in (next_of es) key) none) (sound.versions.next key p v past there).1)
+  -- above the flushed number the history's versions are in memory
+  pub above_is : (key : List ℕ) (p : ℕ) → flushed < p → p ≤ length history → version_at w.store.memory key p ≡ version_at (later_versions history flushed) key p
+  above_is key p above within = above_by key p (entry_version history p key) above within refl ∙ sym (later_each history flushed key p sound.history.legal above)
 
-  memory_at : (key : List ℕ) (p : ℕ) → version_at w.store.memory key p ≡ version_at (later_versions history flushed) key p
-  memory_at key p = elim (cases_lt flushed p) [
-    | inr low ↦ gone key p low ∙ sym (later_none history flushed key p low)
-    | inl above ↦ elim (cases_lt (length history) p) [
-      | inr within ↦ above_is key p (entry_version history p key) above within refl ∙ sym (later_each history flushed key p sound.history.legal above)
-      | inl past ↦ past_none key p past ∙ sym (later_past history flushed key p sound.history.legal sound.versions.last.flushed past)
+  module _ (none : w.writes.pending ≡ []) (gone : NoneFlushed w.store.memory w.installed.last.flushed) where
+    past_none : (key : List ℕ) (p : ℕ) → length history < p → version_at w.store.memory key p ≡ None
+    past_none key p past =
+        none_is (version_at w.store.memory key p) (λ v there. none_some (version_in (next_of w.writes.pending) key) v (ap (λ (es : List Entry). version_in (next_of es) key) none) (sound.versions.next key p v past there).1)
+
+    memory_at : (key : List ℕ) (p : ℕ) → version_at w.store.memory key p ≡ version_at (later_versions history flushed) key p
+    memory_at key p = elim (cases_lt flushed p) [
+      | inr low ↦ gone key p low ∙ sym (later_none history flushed key p low)
+      | inl above ↦ elim (cases_lt (length history) p) [
+        | inr within ↦ above_is key p above within
+        | inl past ↦ past_none key p past ∙ sym (later_past history flushed key p sound.history.legal sound.versions.last.flushed past)
+      ]
     ]
-  ]
 
-  pub memory_is : (memory : List Version) → AreInOrder memory → w.store.memory ≡ memory → memory ≡ sorted_of (later_versions history flushed)
-  memory_is memory ordered is =
-      in_order_same memory (sorted_of (later_versions history flushed)) ordered (in_order_sorted (later_versions history flushed))
-      (λ key p. ap (λ (m : List Version). version_at m key p) (sym is) ∙ memory_at key p ∙ sym (at_sorted (later_versions history flushed) key p))
+    pub memory_is : (memory : List Version) → AreInOrder memory → w.store.memory ≡ memory → memory ≡ sorted_of (later_versions history flushed)
+    memory_is memory ordered is =
+        in_order_same memory (sorted_of (later_versions history flushed)) ordered (in_order_sorted (later_versions history flushed))
+        (λ key p. ap (λ (m : List Version). version_at m key p) (sym is) ∙ memory_at key p ∙ sym (at_sorted (later_versions history flushed) key p))
 
 -- ---- what is written of it
 

@@ -5,11 +5,11 @@ use Rattle.wp_core.specs.Changes.{held_without}
 use Rattle.wp_core.specs.Tables.{Content, StoreTable, Installed, store, installed}
 use Rattle.wp_core.specs.Turns.{store_turn}
 use Rattle.wp_core.specs.Views.{Fact, tables_stay, nothing_flushed}
-use Rattle.wp_rule.specs.Knows.{Noted}
+use Rattle.wp_rule.specs.Knows.{Noted, KnowsTables}
 use Rattle.wp_shared.specs.Seats.{SeatState}
 use Rattle.wp_commits.specs.Notes.{GoesOn}
 use Rattle.wp_commits.proofs.Goes.{then, wider}
-use Rattle.wp_maint.specs.Holding.{no_fact, is_of_tables, IsSettled}
+use Rattle.wp_maint.specs.Holding.{no_fact, is_of_tables}
 
 fewer : (fact : Fact) → is_of_tables fact ≡ false → no_fact fact ≡ false
 fewer fact other = refl
@@ -32,9 +32,6 @@ module _ (s t u v : SeatState) (before now : StoreTable) (e : Installed) (held :
           let two = then is_of_tables s t u (store before ∷ s.knows.held) (store now ∷ installed e ∷ []) (3 ∷ s.turns) t.turns one second in
           then is_of_tables s u v (store now ∷ installed e ∷ []) (installed e ∷ []) t.turns s.turns two (wider no_fact u v v is_of_tables (installed e ∷ []) s.turns fewer gave)
 
-      pub put_settled : Noted u.knows nothing_flushed → Noted u.knows (tables_stay now.tables now.floor) → now.tables ≡ e.last.versions → IsSettled v.knows e
-      put_settled gone named is = record {
-        gone = gave.noted nothing_flushed refl gone;
-        floor = now.floor;
-        named = subst (λ (l : List Version). Noted v.knows (tables_stay l now.floor)) is (gave.noted (tables_stay now.tables now.floor) refl named);
-      }
+      pub put_settled : Noted u.knows nothing_flushed → Noted u.knows (tables_stay now.tables now.floor) → now.tables ≡ e.last.versions → KnowsTables v.knows e.last
+      put_settled gone named is =
+          (gave.noted nothing_flushed refl gone, (now.floor, subst (λ (l : List Version). Noted v.knows (tables_stay l now.floor)) is (gave.noted (tables_stay now.tables now.floor) refl named)))

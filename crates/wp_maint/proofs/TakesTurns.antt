@@ -1,6 +1,8 @@
 -- The turns that maintenance takes and gives, with the values behind them.
 use Rattle.std.proofs.Common.{◌≡◌, inl, inr, ℕ, false, List, [], ◌∷◌, ◌++◌, append-nil, refl, sym, subst, ap, ◌∙◌, Some}
 use Rattle.wp_model.specs.declared.entry.Entry.{Entry}
+use Rattle.wp_model.specs.declared.version.Version.{Version}
+use Rattle.wp_model.specs.Flushed.{InstalledEdit}
 use Rattle.wp_core.specs.Changes.{sees, held_without}
 use Rattle.wp_core.specs.Lists.{IsIn}
 use Rattle.wp_core.specs.Notes.{gives_guard}
@@ -9,11 +11,11 @@ use Rattle.wp_core.specs.Sound.Views.{guarded_by}
 use Rattle.wp_core.specs.Steps.{give_turn}
 use Rattle.wp_core.specs.Tables.{Content, WriteTable, StoreTable, Installed, writes, store, installed, turn_of}
 use Rattle.wp_core.specs.Turns.{write_turn, store_turn, tables_turn}
-use Rattle.wp_core.specs.Views.{Fact, passed, words_stay, nothing_flushed}
+use Rattle.wp_core.specs.Views.{Fact, passed, words_stay, tables_stay, nothing_flushed}
 use Rattle.wp_core.specs.World.{Actor, World}
 use Rattle.wp_core.proofs.Tests.{same_some}
-use Rattle.wp_rule.specs.Knows.{Noted}
-use Rattle.wp_rule.specs.Words.{IsAt, SawAll}
+use Rattle.wp_rule.specs.Knows.{KnowsTables}
+use Rattle.wp_rule.specs.Words.{SawAll}
 use Rattle.wp_rule.proofs.Knows.{held_is}
 use Rattle.wp_rule.proofs.Needed.{needed}
 use Rattle.wp_guarded.specs.Edits.{EditsState}
@@ -27,7 +29,6 @@ use Rattle.wp_shared.specs.Turns.{Taken, MayBeGiven, Given}
 use Rattle.wp_commits.specs.Notes.{GoesOn}
 use Rattle.wp_commits.proofs.Goes.{goes_with}
 use Rattle.wp_commits.proofs.Held.{writes_are}
-use Rattle.wp_maint.specs.Calls.{Finds}
 use Rattle.wp_maint.specs.Holding.{no_fact, is_under, seeing, HoldsEdits}
 
 abbrev installed_in : Installed → Content → Installed
@@ -63,11 +64,11 @@ module _ {D : Type 0} (z : SharedState D) (old new : SeatState) (value : Part D)
     here : installed k.world.installed ≡ installed e.table
     here = sym (same_some (installed e.table) (installed k.world.installed) (sym (ap content is) ∙ k.is))
 
-    knows_is : new.knows ≡ record old.knows { held = installed e.table ∷ []; notes = nothing_flushed ∷ old.knows.notes }
-    knows_is = k.knows ∙ (λ i. record old.knows { held = here i ∷ free.held i; notes = nothing_flushed ∷ old.knows.notes })
+    abbrev notes_now : List Fact
+    notes_now = nothing_flushed ∷ tables_stay k.world.store.tables k.world.store.floor ∷ old.knows.notes
 
-    held_now : IsIn (installed e.table) new.knows.held
-    held_now = subst (λ (a : Actor). IsIn (installed e.table) a.held) (sym knows_is) (inl refl)
+    knows_is : new.knows ≡ record old.knows { held = installed e.table ∷ []; notes = notes_now }
+    knows_is = k.knows ∙ (λ i. record old.knows { held = here i ∷ free.held i; notes = notes_now })
 
     pub edits_held : HoldsEdits z new e
     edits_held = record {
@@ -78,28 +79,22 @@ module _ {D : Type 0} (z : SharedState D) (old new : SeatState) (value : Part D)
       of_store = subst (IsAnchored z.first) is k.of_store;
     }
 
-    pub edits_gone : Noted new.knows nothing_flushed
-    edits_gone = subst (λ (a : Actor). IsIn nothing_flushed a.notes) (sym knows_is) (inl refl)
+    last_is : k.world.installed.last ≡ e.table.last
+    last_is = ap (λ (c : Content). (installed_in k.world.installed c).last) here
+
+    pub edits_settled : KnowsTables new.knows e.table.last
+    edits_settled = subst (λ (a : Actor). KnowsTables a e.table.last) (sym knows_is)
+        (inl refl, (k.world.store.floor, inr (inl (ap (λ (versions : List Version). tables_stay versions k.world.store.floor) (k.ready.1 ∙ ap (λ (edit : InstalledEdit). edit.versions) last_is)))))
 
     pub took_edits : GoesOn no_fact (installed e.table ∷ []) (5 ∷ []) old new
     took_edits = record {
-      same = goes_with old new (installed e.table ∷ []) (5 ∷ []) (nothing_flushed ∷ old.knows.notes) same.0 same.1 (same.2 ∙ ap (λ (l : List ℕ). 5 ∷ l) free.turns) knows_is;
-      noted = λ fact other there. subst (λ (a : Actor). IsIn fact a.notes) (sym knows_is) (inr there);
-    }
-
-    pub edits_found : Finds z old e.table
-    edits_found = record {
-      world = k.stands.0;
-      actor = new.knows;
-      there = subst (λ (by : ℕ). IsAt (place_at z by) new.knows k.stands.0) same.1 k.stands.1;
-      held = held_now;
-      past_is = ap (λ (a : Actor). a.participant.past) knows_is;
-      seen_is = ([], ap (λ (a : Actor). a.participant.seen) knows_is ∙ sym (append-nil old.knows.participant.seen));
+      same = goes_with old new (installed e.table ∷ []) (5 ∷ []) notes_now same.0 same.1 (same.2 ∙ ap (λ (l : List ℕ). 5 ∷ l) free.turns) knows_is;
+      noted = λ fact other there. subst (λ (a : Actor). IsIn fact a.notes) (sym knows_is) (inr (inr there));
     }
 
 module _ {D : Type 0} (z : SharedState D) (s : SeatState) (e : EditsState) (h : HoldsEdits z s e) where
-  pub may_give_edits : Noted s.knows nothing_flushed → MayBeGiven z s (part.Tables e)
-  may_give_edits gone =
+  pub may_give_edits : KnowsTables s.knows e.table.last → MayBeGiven z s (part.Tables e)
+  may_give_edits settled =
       let held : IsIn (installed e.table) s.knows.held = subst (IsIn (installed e.table)) (sym h.held) (inl refl) in record {
         table = installed e.table;
         is = refl;
@@ -107,7 +102,7 @@ module _ {D : Type 0} (z : SharedState D) (s : SeatState) (e : EditsState) (h : 
         held = held;
         others = [];
         last_taken = h.turns;
-        may = λ w k. needed (place_at z s.by) s.knows w k (give_turn tables_turn) (record { table = e.table; held = held; so_is = gone });
+        may = λ w k. needed (place_at z s.by) s.knows w k (give_turn tables_turn) (record { table = e.table; held = held; so_is = settled });
       }
 
   module _ (new : SeatState) (k : Given z s new (part.Tables e)) where

@@ -6,10 +6,10 @@ use Rattle.wp_core.specs.Notes.{gives_guard}
 use Rattle.wp_core.specs.Sound.Actors.{StartsWith}
 use Rattle.wp_core.specs.Sound.Views.{guarded_by}
 use Rattle.wp_core.specs.Steps.{give_turn}
-use Rattle.wp_core.specs.Tables.{Installed, installed}
+use Rattle.wp_core.specs.Tables.{installed}
 use Rattle.wp_core.specs.Turns.{Turn, tables_turn}
 use Rattle.wp_core.specs.Views.{Fact, tables_stay, nothing_flushed, frozen_stay}
-use Rattle.wp_core.specs.World.{Actor, Participant}
+use Rattle.wp_core.specs.World.{Participant}
 use Rattle.wp_rule.specs.Knows.{Noted}
 use Rattle.wp_guarded.specs.Edits.{EditsState}
 use Rattle.wp_guarded.specs.Parts.{set_first}
@@ -53,12 +53,6 @@ pub record HoldsEdits {D : Type 0} (z : SharedState D) (s : SeatState) (e : Edit
   pub held : s.knows.held ≡ installed e.table ∷ []
   pub turns : s.turns ≡ turn_index tables_turn ∷ []
   pub of_store : set_first z.first ≡ Some e.first
-
--- The turn may be given: no flushed version is in memory, and the versions in tables are the last edit's.
-pub record IsSettled (a : Actor) (e : Installed) : Type 0 where
-  pub gone : Noted a nothing_flushed
-  pub floor : ℕ
-  pub named : Noted a (tables_stay e.last.versions floor)
 
 -- The seat goes on as this participant, but that it may have seen more. It has noted what it had noted without a turn.
 pub record GoesOnAs (old new : SeatState) (after : Participant) : Type 0 where

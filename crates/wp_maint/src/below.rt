@@ -7,38 +7,16 @@ ghost use Rattle.std.specs.Option.{option_map};
 ghost use Rattle.wp_model.specs.Versions.{AreInOrder, version_at};
 ghost use Rattle.wp_merge.specs.Merge.{joined, sorted_of};
 ghost use Rattle.wp_table.specs.Table.{is_numbered, is_flushed};
-ghost use Rattle.wp_core.specs.Lists.{IsIn};
-ghost use Rattle.wp_core.specs.Tables.{installed};
-ghost use Rattle.wp_core.specs.Views.{tables_stay};
-ghost use Rattle.wp_rule.specs.Knows.{Noted};
 ghost use Rattle.wp_guarded.specs.Stock.{store_table};
-ghost use Rattle.wp_commits.specs.Notes.{GoesOn};
 ghost use Rattle.wp_maint.specs.Edits.{with_table, IsRefused};
-ghost use Rattle.wp_maint.specs.Holding.{no_fact};
 
 use std::alloc::{AllocError, Global};
 use std::sync::{Arc, Wait};
 use wp_guarded::{Edits, Stock};
 use wp_model::{Seq, Versions};
 use wp_outside::Disk;
-use wp_shared::{Seat, Shared};
 use wp_table::Table;
 use wp_tableset::TableSetError;
-
-/// That the versions in tables are the last edit's: what the taking of the tables turn is to note.
-pub(crate) fn note_tables<D: Disk + Drop, R: Wait>(
-    _store: &Shared<D>,
-    rt: &R,
-    _seat: &mut Seat<D>,
-    _edits: &Edits<D>,
-)
-    requires { IsIn (installed _edits.now.table) _seat.old.knows.held }
-    ensures goes { GoesOn no_fact _seat.old.knows.held _seat.old.turns _seat.old _seat.new }
-    ensures named { (floor : ℕ) × Noted _seat.new.knows (tables_stay _edits.now.table.last.versions floor) }
-{
-    for _ in rt.forever() {}
-    unreachable!()
-}
 
 /// `Edits::flush`: installs an edit with a table of these versions more, the newest.
 pub(crate) fn flush_edits<D: Disk, R: Wait>(

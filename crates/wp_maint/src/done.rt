@@ -1,9 +1,9 @@
 use wp_model::Seq;
 
-/// What a flush or a compaction made.
+/// What a flush made.
 #[derive(Clone, Copy, Debug, PartialEq, Eq)]
 pub struct Done {
-    /// The published number up to which it goes: all that was in memory, or the floor of what is live.
+    /// The published number up to which it goes.
     pub at: Seq,
     /// How many versions the new table has.
     pub versions: u64,

@@ -1,15 +1,15 @@
 //! A flush of what stands in memory.
-ghost use Rattle.std.specs.Prelude.{◌≡◌, ◌<◌, [], ◌∷◌, false, length, map, vec_capacity, IfOk, IfErr};
+ghost use Rattle.std.specs.Prelude.{◌≡◌, ◌<◌, [], ◌∷◌, false, length, map, vec_capacity, IfOk, IfErr, OnOk};
 ghost use Rattle.std.specs.Arc.{arc_value};
 ghost use Rattle.wp_session.specs.Tables.{after_flush};
 ghost use Rattle.wp_core.specs.Tables.{installed};
-ghost use Rattle.wp_rule.specs.Knows.{Noted};
-ghost use Rattle.wp_core.specs.Views.{nothing_flushed};
+ghost use Rattle.wp_rule.specs.Knows.{KnowsTables};
 ghost use Rattle.wp_shared.specs.Seats.{IsFree};
 ghost use Rattle.wp_commits.specs.Notes.{GoesOn};
 ghost use Rattle.wp_maint.specs.Calls.{Flushes, FlushesFrom};
-ghost use Rattle.wp_maint.specs.Flush.{HasFrozen, HasInstalled, NotInstalled, MayPut};
-ghost use Rattle.wp_maint.specs.Holding.{is_of_tables, GoesOnAs, HoldsEdits, IsSettled};
+ghost use Rattle.wp_maint.specs.Flush.{HasFrozen, MayPut};
+ghost use Rattle.wp_maint.specs.Installs.{HasInstalled, NotInstalled};
+ghost use Rattle.wp_maint.specs.Holding.{is_of_tables, GoesOnAs, HoldsEdits};
 
 use crate::below;
 use crate::done::Done;
@@ -34,10 +34,11 @@ fn install<D: Disk + Drop, R: Wait>(
     frozen: &Frozen,
 ) -> Result<Arc<Table>, MaintError>
     requires holds { HoldsEdits store.now seat.old edits.old }
-    requires settled { IsSettled seat.old.knows edits.old.table }
+    requires settled { KnowsTables seat.old.knows edits.old.table.last }
     requires running { edits.old.table.halted ≡ false }
     requires frozen { HasFrozen seat.old.knows edits.old.table frozen.now }
-    ensures ok { IfOk result (λ table. HasInstalled store.now seat.old edits.old (after_flush seat.old.knows.participant.seen edits.old.table.last) frozen.now (arc_value table) seat.new edits.new) }
+    ensures table { IfOk result (λ table. arc_value table ≡ frozen.now.versions) }
+    ensures installed { OnOk result (HasInstalled store.now seat.old edits.old (after_flush seat.old.knows.participant.seen edits.old.table.last) false seat.new edits.new) }
     ensures refused { IfErr result (λ why. NotInstalled store.now seat.old edits.old (after_flush seat.old.knows.participant.seen edits.old.table.last) why seat.new edits.new) }
 {
     match below::flush_edits(rt, edits, &frozen.versions, frozen.at) {
@@ -75,7 +76,7 @@ fn put_table<D: Disk + Drop, R: Wait>(
     requires holds { HoldsEdits store.now seat.old edits.now }
     requires may { MayPut seat.old.knows edits.now.table frozen (arc_value table) }
     ensures goes { GoesOn is_of_tables (installed edits.now.table ∷ []) seat.old.turns seat.old seat.new }
-    ensures settled { IsSettled seat.new.knows edits.now.table }
+    ensures settled { KnowsTables seat.new.knows edits.now.table.last }
 {
     let Frozen { at, tables, .. } = frozen;
     let tables = with_first(tables, table);
@@ -94,11 +95,11 @@ fn flush_frozen<D: Disk + Drop, R: Wait>(
     frozen: Frozen,
 ) -> Result<Done, MaintError>
     requires holds { HoldsEdits store.now seat.old edits.old }
-    requires settled { IsSettled seat.old.knows edits.old.table }
+    requires settled { KnowsTables seat.old.knows edits.old.table.last }
     requires running { edits.old.table.halted ≡ false }
     requires frozen { HasFrozen seat.old.knows edits.old.table frozen }
     ensures holds { HoldsEdits store.now seat.new edits.new }
-    ensures gone { Noted seat.new.knows nothing_flushed }
+    ensures settled { KnowsTables seat.new.knows edits.new.table.last }
     ensures says { FlushesFrom (GoesOnAs seat.old seat.new) store.now seat.old edits.old.table result seat.new }
 {
     let done = Done {
@@ -123,17 +124,17 @@ fn flush_running<D: Disk + Drop, R: Wait>(
     edits: &mut Edits<D>,
 ) -> Result<Done, MaintError>
     requires holds { HoldsEdits store.now seat.old edits.old }
-    requires settled { IsSettled seat.old.knows edits.old.table }
+    requires settled { KnowsTables seat.old.knows edits.old.table.last }
     requires running { edits.old.table.halted ≡ false }
     ensures holds { HoldsEdits store.now seat.new edits.new }
-    ensures gone { Noted seat.new.knows nothing_flushed }
+    ensures settled { KnowsTables seat.new.knows edits.new.table.last }
     ensures says { FlushesFrom (GoesOnAs seat.old seat.new) store.now seat.old edits.old.table result seat.new }
 {
     let Ok(found) = freeze_all(store, rt, alloc, seat, edits) else {
         return Err(MaintError::Memory);
     };
     let Some(frozen) = found else {
-        find_edits(store, seat, edits);
+        find_edits(store, seat);
         return Err(MaintError::Nothing);
     };
     flush_frozen(store, rt, seat, edits, frozen)
@@ -148,13 +149,13 @@ fn flush_in<D: Disk + Drop, R: Wait>(
     edits: &mut Edits<D>,
 ) -> Result<Done, MaintError>
     requires holds { HoldsEdits store.now seat.old edits.old }
-    requires settled { IsSettled seat.old.knows edits.old.table }
+    requires settled { KnowsTables seat.old.knows edits.old.table.last }
     ensures holds { HoldsEdits store.now seat.new edits.new }
-    ensures gone { Noted seat.new.knows nothing_flushed }
+    ensures settled { KnowsTables seat.new.knows edits.new.table.last }
     ensures says { FlushesFrom (GoesOnAs seat.old seat.new) store.now seat.old edits.old.table result seat.new }
 {
     if edits.is_halted() {
-        find_edits(store, seat, edits);
+        find_edits(store, seat);
         return Err(MaintError::TablesStopped(edits.flushed()));
     }
     flush_running(store, rt, alloc, seat, edits)
@@ -172,7 +173,6 @@ pub fn flush<D: Disk + Drop, R: Wait>(
     ensures { Flushes store.now seat.old result seat.new }
 {
     let mut edits = take_edits(store, rt, seat);
-    below::note_tables(store, rt, seat, &edits);
     let result = flush_in(store, rt, alloc, seat, &mut edits);
     give_edits(store, seat, edits);
     result

@@ -5,11 +5,12 @@ ghost use Rattle.wp_core.specs.Tables.{installed, writes};
 ghost use Rattle.wp_core.specs.Tables as table;
 ghost use Rattle.wp_core.specs.Turns.{write_turn};
 ghost use Rattle.wp_core.specs.World.{World};
+ghost use Rattle.wp_rule.specs.Knows.{KnowsTables};
 ghost use Rattle.wp_guarded.specs.Stock.{store_table};
 ghost use Rattle.wp_shared.specs.Seats.{Stands};
 ghost use Rattle.wp_commits.specs.Notes.{GoesOn};
 ghost use Rattle.wp_maint.specs.Flush.{Freezes, IsCopied};
-ghost use Rattle.wp_maint.specs.Holding.{no_fact, is_under, seeing, HoldsEdits, IsSettled};
+ghost use Rattle.wp_maint.specs.Holding.{no_fact, is_under, seeing, HoldsEdits};
 
 use crate::below;
 use crate::steps::note_frozen;
@@ -69,7 +70,7 @@ fn freeze_in<D: Disk + Drop, R: Wait>(
     requires held { seat.old.knows.held ≡ table.store (store_table stock.old) ∷ writes log.now.table ∷ installed edits.now.table ∷ [] }
     requires pending { log.now.table.pending ≡ [] }
     requires seen { seat.old.knows.participant.seen ≡ log.now.table.history }
-    requires settled { IsSettled seat.old.knows edits.now.table }
+    requires settled { KnowsTables seat.old.knows edits.now.table.last }
     requires stands { (w : World) × Stands store.now seat.old w }
     ensures goes { GoesOn no_fact seat.old.knows.held seat.old.turns seat.old seat.new }
     ensures same { store_table stock.new ≡ store_table stock.old }
@@ -92,7 +93,7 @@ pub(crate) fn freeze_all<D: Disk + Drop, R: Wait>(
     edits: &Edits<D>,
 ) -> Result<Option<Frozen>, AllocError>
     requires holds { HoldsEdits store.now seat.old edits.now }
-    requires settled { IsSettled seat.old.knows edits.now.table }
+    requires settled { KnowsTables seat.old.knows edits.now.table.last }
     ensures goes { GoesOn (is_under write_turn) (installed edits.now.table ∷ []) seat.old.turns (seeing seat.new.knows.participant.seen seat.old) seat.new }
     ensures grown { StartsWith seat.new.knows.participant.seen seat.old.knows.participant.seen }
     ensures frozen { IfOk result (λ frozen. Freezes seat.new.knows edits.now.table frozen) }

@@ -7,63 +7,72 @@ ghost use Rattle.wp_core.specs.Lists.{IsIn};
 ghost use Rattle.wp_core.specs.Sound.Store.{NoneFlushed};
 ghost use Rattle.wp_core.specs.Tables.{StoreTable, Installed, installed};
 ghost use Rattle.wp_core.specs.Tables as table;
-ghost use Rattle.wp_core.specs.Views.{tables_stay, nothing_flushed, frozen_stay};
+ghost use Rattle.wp_core.specs.Views.{tables_failed, tables_stay, nothing_flushed, frozen_stay};
+ghost use Rattle.wp_core.specs.Views as event;
 ghost use Rattle.wp_core.specs.World.{World};
 ghost use Rattle.wp_rule.specs.Knows.{Noted, KnowsMoved, KnowsInstalled};
-ghost use Rattle.wp_rule.specs.Moves.{MayMake, Moved};
 ghost use Rattle.wp_guarded.specs.Stock.{store_table};
-ghost use Rattle.wp_shared.specs.Clients.{KeepClient};
-ghost use Rattle.wp_shared.specs.Seats.{Stands, place_at};
+ghost use Rattle.wp_shared.specs.Seats.{Stands};
 ghost use Rattle.wp_commits.specs.Notes.{noting, GoesOn};
-ghost use Rattle.wp_maint.specs.Calls.{finding, installing, failing};
+ghost use Rattle.wp_maint.specs.Calls.{remembering};
 ghost use Rattle.wp_maint.specs.Holding.{no_fact, is_of_flushed, is_of_tables, being};
+ghost use Rattle.wp_maint.specs.Finding.{Changes, Remembers};
 
 use crate::frozen::Frozen;
 use std::marker::Brand;
 use wp_guarded::{Edits, Stock};
-use wp_model::Seq;
 use wp_outside::Disk;
-use wp_rule::Moves;
 use wp_shared::{Seat, Shared};
 
-/// Makes steps about these, which a caller picks by `Brand`: it is told them for that alone.
-fn make_about<D: Disk + Drop, J: Moves, A>(store: &Shared<D>, seat: &mut Seat<D>, about: &A) -> Seq
-    requires seat { (seat.old.table ≡ store.now.table) × (J.place ≡ place_at store.now seat.old.by) }
-    requires may { MayMake J.place seat.old.knows J.steps }
-    requires client { (w : World) → KeepClient (J.steps w) }
-    ensures same { (seat.new.table ≡ seat.old.table) × (seat.new.by ≡ seat.old.by) × (seat.new.turns ≡ seat.old.turns) }
-    ensures moved { Moved J.place J.steps (λ w. result ≡ length w.writes.history) seat.old.knows seat.new.knows }
-{
-    store.make::<J>(seat)
-}
-
 /// The seat remembers how it found the tables.
-pub(crate) fn find_edits<D: Disk + Drop>(store: &Shared<D>, seat: &mut Seat<D>, edits: &Edits<D>)
+pub(crate) fn find_edits<D: Disk + Drop>(store: &Shared<D>, seat: &mut Seat<D>)
     requires seat { seat.old.table ≡ store.now.table }
-    requires held { IsIn (installed edits.now.table) seat.old.knows.held }
-    ensures { seat.new ≡ being (finding edits.now.table seat.old.knows.participant) seat.old }
+    requires held { (t : Installed) × IsIn (installed t) seat.old.knows.held }
+    ensures { (t : Installed) → IsIn (installed t) seat.old.knows.held → Remembers store.now seat.old t seat.new }
 {
-    make_about::<D, Brand, Edits<D>>(store, seat, edits);
+    store.make::<Brand>(seat);
 }
 
 /// The edit of a flush was installed.
-pub(crate) fn install_flush<D: Disk + Drop>(store: &Shared<D>, seat: &mut Seat<D>, edits: &Edits<D>)
+fn remember_flush<D: Disk + Drop>(store: &Shared<D>, seat: &mut Seat<D>, edits: &Edits<D>)
     requires seat { seat.old.table ≡ store.now.table }
     requires held { (t : Installed) × (seat.old.knows.held ≡ installed t ∷ []) × (edits.now.table ≡ record t { last = edits.now.table.last }) × KnowsInstalled seat.old.knows t edits.now.table.last false }
-    ensures { GoesOn is_of_flushed (installed edits.now.table ∷ []) seat.old.turns (being (installing edits.now.table.last false seat.old.knows.participant) seat.old) seat.new }
+    ensures { GoesOn is_of_flushed (installed edits.now.table ∷ []) seat.old.turns (being (remembering (event.installed edits.now.table.last false ∷ []) seat.old.knows.participant) seat.old) seat.new }
 {
-    make_about::<D, Brand, Edits<D>>(store, seat, edits);
+    store.make_about::<Brand, Edits<D>>(seat, edits);
 }
 
 /// A device of the tables failed.
+fn remember_fault<D: Disk + Drop>(store: &Shared<D>, seat: &mut Seat<D>, edits: &Edits<D>)
+    requires seat { seat.old.table ≡ store.now.table }
+    requires held { (t : Installed) × (seat.old.knows.held ≡ installed t ∷ []) × (edits.now.table ≡ with_failed t edits.now.table.failed) × (t.halted ≡ false) }
+    requires covered { IfSome edits.now.table.failed (IsEditCovered seat.old.knows.participant.seen) }
+    ensures goes { GoesOn no_fact (installed edits.now.table ∷ []) seat.old.turns (being (remembering (tables_failed edits.now.table.last edits.now.table.failed ∷ []) seat.old.knows.participant) seat.old) seat.new }
+    ensures stands { (w : World) × Stands store.now seat.new w }
+{
+    store.make_about::<Brand, Edits<D>>(seat, edits);
+}
+
+/// The edit of a flush was installed, where the tables were found so.
+pub(crate) fn install_flush<D: Disk + Drop>(store: &Shared<D>, seat: &mut Seat<D>, edits: &Edits<D>)
+    requires seat { seat.old.table ≡ store.now.table }
+    requires held { (t : Installed) × (seat.old.knows.held ≡ installed t ∷ []) × (edits.now.table ≡ record t { last = edits.now.table.last }) × KnowsInstalled seat.old.knows t edits.now.table.last false }
+    ensures { (t : Installed) → seat.old.knows.held ≡ installed t ∷ [] → Changes store.now seat.old t edits.now.table (event.installed edits.now.table.last false) is_of_flushed seat.new }
+{
+    find_edits(store, seat);
+    remember_flush(store, seat, edits);
+}
+
+/// A device of the tables failed, where they were found so.
 pub(crate) fn halt<D: Disk + Drop>(store: &Shared<D>, seat: &mut Seat<D>, edits: &Edits<D>)
     requires seat { seat.old.table ≡ store.now.table }
     requires held { (t : Installed) × (seat.old.knows.held ≡ installed t ∷ []) × (edits.now.table ≡ with_failed t edits.now.table.failed) × (t.halted ≡ false) }
     requires covered { IfSome edits.now.table.failed (IsEditCovered seat.old.knows.participant.seen) }
-    ensures goes { GoesOn no_fact (installed edits.now.table ∷ []) seat.old.turns (being (failing seat.old.knows.participant) seat.old) seat.new }
+    ensures changes { (t : Installed) → seat.old.knows.held ≡ installed t ∷ [] → Changes store.now seat.old t edits.now.table (tables_failed edits.now.table.last edits.now.table.failed) no_fact seat.new }
     ensures stands { (w : World) × Stands store.now seat.new w }
 {
-    make_about::<D, Brand, Edits<D>>(store, seat, edits);
+    find_edits(store, seat);
+    remember_fault(store, seat, edits);
 }
 
 /// Notes that what is frozen stays in memory.
@@ -80,7 +89,7 @@ pub(crate) fn note_frozen<D: Disk + Drop>(
     requires are { (key : List ℕ) (q : ℕ) → q ≤ frozen.now.at → version_at (store_table stock.now).memory key q ≡ version_at frozen.now.versions key q }
     ensures { seat.new ≡ noting (frozen_stay frozen.now.at frozen.now.versions) seat.old }
 {
-    make_about::<D, Brand, Frozen>(store, seat, frozen);
+    store.make_about::<Brand, Frozen>(seat, frozen);
 }
 
 /// The versions in memory and in tables became these.
@@ -98,5 +107,5 @@ pub(crate) fn move_versions<D: Disk + Drop>(
     ensures flushed { Noted seat.new.knows nothing_flushed }
     ensures named { Noted seat.new.knows (tables_stay (store_table stock.now).tables (store_table stock.now).floor) }
 {
-    make_about::<D, Brand, Stock>(store, seat, stock);
+    store.make_about::<Brand, Stock>(seat, stock);
 }

@@ -6,14 +6,12 @@ ghost use Rattle.wp_core.specs.Sound.Actors.{StartsWith};
 ghost use Rattle.wp_core.specs.Tables.{writes, installed};
 ghost use Rattle.wp_core.specs.Tables as table;
 ghost use Rattle.wp_core.specs.Turns.{write_turn, store_turn, tables_turn};
-ghost use Rattle.wp_core.specs.Views.{nothing_flushed};
 ghost use Rattle.wp_core.specs.World.{World};
-ghost use Rattle.wp_rule.specs.Knows.{Noted};
+ghost use Rattle.wp_rule.specs.Knows.{KnowsTables};
 ghost use Rattle.wp_guarded.specs.Parts.{log_first};
 ghost use Rattle.wp_guarded.specs.Stock.{store_table};
 ghost use Rattle.wp_shared.specs.Seats.{IsFree, Stands};
 ghost use Rattle.wp_commits.specs.Notes.{GoesOn};
-ghost use Rattle.wp_maint.specs.Calls.{Finds};
 ghost use Rattle.wp_maint.specs.Holding.{no_fact, is_under, seeing, HoldsEdits};
 
 use std::sync::Wait;
@@ -22,7 +20,7 @@ use wp_outside::Disk;
 use wp_rule::Turn;
 use wp_shared::{Held, Seat, Shared};
 
-/// Waits for the tables turn, and takes it with the tables.
+/// Waits for the tables turn, and takes it with the tables, which are the store's, as it was noted.
 pub(crate) fn take_edits<D: Disk + Drop, R: Wait>(
     store: &Shared<D>,
     rt: &R,
@@ -30,9 +28,8 @@ pub(crate) fn take_edits<D: Disk + Drop, R: Wait>(
 ) -> Edits<D>
     requires { IsFree store.now.table seat.old }
     ensures holds { HoldsEdits store.now seat.new result }
-    ensures gone { Noted seat.new.knows nothing_flushed }
+    ensures settled { KnowsTables seat.new.knows result.table.last }
     ensures goes { GoesOn no_fact (installed result.table ∷ []) (5 ∷ []) seat.old seat.new }
-    ensures found { Finds store.now seat.old result.table }
 {
     store.take(rt, seat, Turn::Tables).into_edits()
 }
@@ -40,7 +37,7 @@ pub(crate) fn take_edits<D: Disk + Drop, R: Wait>(
 /// Gives the tables turn with the tables.
 pub(crate) fn give_edits<D: Disk + Drop>(store: &Shared<D>, seat: &mut Seat<D>, edits: Edits<D>)
     requires holds { HoldsEdits store.now seat.old edits }
-    requires gone { Noted seat.old.knows nothing_flushed }
+    requires settled { KnowsTables seat.old.knows edits.table.last }
     ensures free { IsFree store.now.table seat.new }
     ensures goes { GoesOn (is_under tables_turn) [] [] seat.old seat.new }
 {

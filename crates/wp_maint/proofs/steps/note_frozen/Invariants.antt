@@ -5,4 +5,4 @@ use Rattle.wp_shared.specs.Seats.{place_at}
 use Rattle.wp_maint.proofs.steps.note_frozen.Given as goal
 
 abbrev pub ghosts-make_about : goal.ghosts-make_about
-ghosts-make_about g a = record { place = place_at a.store.now a.seat.now.by; steps = λ w. note (frozen_stay a.about.now.at a.about.now.versions) ∷ [] }
+ghosts-make_about g a = record { place = place_at a.self.now a.seat.now.by; steps = λ w. note (frozen_stay a.about.now.at a.about.now.versions) ∷ [] }

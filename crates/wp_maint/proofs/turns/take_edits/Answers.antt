@@ -1,4 +1,4 @@
-use Rattle.wp_maint.proofs.TakesTurns.{edits_there, edits_held, edits_gone, took_edits, edits_found}
+use Rattle.wp_maint.proofs.TakesTurns.{edits_there, edits_held, edits_settled, took_edits}
 use Rattle.wp_maint.proofs.turns.take_edits.Goals as goal
 
 pub into_edits-requires : goal.into_edits-requires
@@ -8,7 +8,6 @@ pub returns : goal.returns
 returns g c =
     let z = c.args.store.now in let s = c.args.seat.now in let t = c.take.new.seat in let p = c.take.result.part in let k = c.take.ensures.taken in let e = c.into_edits.result in record {
       holds = edits_held z s t p k e c.into_edits.ensures c.requires c.take.ensures.same;
-      gone = edits_gone z s t p k e c.into_edits.ensures c.requires c.take.ensures.same;
+      settled = edits_settled z s t p k e c.into_edits.ensures c.requires c.take.ensures.same;
       goes = took_edits z s t p k e c.into_edits.ensures c.requires c.take.ensures.same;
-      found = edits_found z s t p k e c.into_edits.ensures c.requires c.take.ensures.same;
     }
