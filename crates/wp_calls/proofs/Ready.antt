@@ -252,9 +252,9 @@ module _ {D : Type 0} (z : SharedState D) (old : SeatState) (b : Option OpenStat
     pub not_written : (change : Change) (why : TxnError) → WritesDirect z old change (Err why) new → GoesOn z old new b p o v
     not_written change (Busy holder) c = goes_on new _ c.goes_on refl refl refl
     not_written change Memory c = ⊎_elim (λ none. keeps new none) (λ freed. goes_on new _ freed refl refl refl) c
-    not_written change (Stopped n) c = refused 1 (asks_write change) _ _ (Stopped n) refl refl refl c
-    not_written change (NumbersFull published limit) c = refused 1 (asks_write change) _ _ (NumbersFull published limit) refl refl refl c
-    not_written change LogFault c = refused 1 (asks_write change) _ _ LogFault refl refl refl c
+    not_written change (Stopped n) c = refused 1 (asks_write change) _ _ (Stopped n) refl refl refl c.0
+    not_written change (NumbersFull published limit) c = refused 1 (asks_write change) _ _ (NumbersFull published limit) refl refl refl c.0
+    not_written change LogFault c = refused 1 (asks_write change) _ _ LogFault refl refl refl c.0
     not_written change (Taken other) c = absurd c
     not_written change TooMany c = absurd c
     not_written change Silent c = absurd c
@@ -273,8 +273,8 @@ module _ {D : Type 0} (z : SharedState D) (old : SeatState) (b : Option OpenStat
     pub has_committed : (txn : PreparedState) (n : ℕ) → p ≡ Some txn → Commits z old txn n new → GoesOn z old new b None o v
     has_committed txn n is c = decided txn _ _ is c.0.1.1
 
-    pub prepared_refused : (txn left : PreparedState) (needed : ℕ) (Asks : PreparedState → List Entry → Type 0) (why : TxnError) → p ≡ Some txn → RefusesPrepared z old txn needed Asks left why new → GoesOn z old new b (Some left) o v
-    prepared_refused txn left needed Asks why is c = as_these new b (Some left) o v refl (is ∙ ap (λ (t : PreparedState). Some t) (sym c.0)) refl refl (refused needed (Asks txn) _ _ why refl refl refl c.2)
+    pub prepared_refused : (txn left : PreparedState) (needed : ℕ) (Asks : List Entry → PreparedState → List Entry → Type 0) (why : TxnError) → p ≡ Some txn → RefusesPrepared z old txn needed Asks left why new → GoesOn z old new b (Some left) o v
+    prepared_refused txn left needed Asks why is c = as_these new b (Some left) o v refl (is ∙ ap (λ (t : PreparedState). Some t) (sym c.0)) refl refl (refused needed (Asks new.knows.participant.seen txn) _ _ why refl refl refl c.2)
 
     -- ---- snapshots and versions
 

@@ -1,18 +1,16 @@
 -- What is so of the tables on their devices.
-use Rattle.std.proofs.Common.{◌≡◌, inl, inr, ℕ, Bool, true, false, List, [], ◌∷◌, ◌++◌, None, refl, arith}
+use Rattle.std.proofs.Common.{◌≡◌, inl, inr, ℕ, Bool, true, false, List, [], ◌∷◌, ◌++◌, None, refl}
 use Rattle.std.proofs.lemmas.Bool.{cases_Bool}
 use Rattle.wp_model.specs.declared.version.Version.{Version}
 use Rattle.wp_model.specs.Flushed.{InstalledEdit}
 use Rattle.wp_outside.specs.Disk.{images}
 use Rattle.wp_gatelog.proofs.SurvivalLemmas.{rest_spells}
-use Rattle.wp_manifest.specs.Edit.{Edit, no_edit}
 use Rattle.wp_manifest.specs.Spelling.{MAGIC, IsManifestOf}
 use Rattle.wp_manifest.proofs.EditLemmas.{last-push}
 use Rattle.wp_open.specs.Opens.{installed_of}
 use Rattle.wp_table.specs.File.{HasTables}
-use Rattle.wp_tableset.specs.Set.{TableSetState, StoresTables}
 use Rattle.wp_core.specs.Images.{MayName}
-use Rattle.wp_guarded.specs.Edits.{EditsState, edits_state, failed_edit, IsNamed, IsEdits}
+use Rattle.wp_guarded.specs.Edits.{EditsState, failed_edit, IsNamed, IsEdits}
 use Rattle.wp_guarded.proofs.LogLemmas.{known_image}
 
 -- ---- as it is opened
@@ -20,23 +18,6 @@ use Rattle.wp_guarded.proofs.LogLemmas.{known_image}
 pub none_asked : (closed : Bool) (parts : List (List Version)) → failed_edit closed None parts ≡ None
 none_asked true parts = refl
 none_asked false parts = refl
-
-pub opened_edits : (set : TableSetState) (parts : List (List Version)) (edits : List Edit) → StoresTables set edits no_edit parts [] → set.halted ≡ false → set.manifest.log.closed ≡ false → IsEdits (edits_state set set parts None)
-opened_edits set parts edits stores running open_ = record {
-  edits = edits;
-  next = no_edit;
-  next_parts = [];
-  stores = stores;
-  none_failed = λ _. none_asked set.manifest.log.closed parts;
-  failed = λ closed. absurd cc;
-  running = λ _. open_;
-  id = refl;
-  later = omega arith;
-  manifest_later = omega arith;
-  cause = λ halted. absurd cc;
-  fronts = λ front. ([], refl, tt);
-  durable = λ id records. ([], refl, tt);
-}
 
 -- ---- what a crash leaves
 

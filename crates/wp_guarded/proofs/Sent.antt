@@ -3,14 +3,13 @@ use denote.RattleType.{RattleType}
 use denote.Enum.Declared as E
 use denote.Param.Send.{IsSend, view_send, recorded_send, struct_send, enum_send, plain_send, sendable}
 use denote.Struct.Declared.{shape}
-use Rattle.std.proofs.Crossing.{crosses, Vec-send, Arc-send}
+use Rattle.std.proofs.Crossing.{crosses, Vec-send}
 use Rattle.std.proofs.alloc.Global.TheSendSync as heap
 use Rattle.wp_outside.specs.declared.disk.Disk.{Ghosts}
 use Rattle.wp_model.proofs.entry.Entry.TheSendSync as entry
 use Rattle.wp_history.proofs.history.History.TheSendSync as history
 use Rattle.wp_wal.proofs.wal.Wal.TheSendSync as wal
 use Rattle.wp_store.proofs.gone.Gone.TheSendSync as gone
-use Rattle.wp_table.proofs.table.Table.TheSendSync as table
 use Rattle.wp_tableset.proofs.set.TableSet.TheSendSync as set
 use Rattle.wp_prepared.proofs.prepared.Prepared.TheSendSync as prepared
 use Rattle.wp_snaps.proofs.snaps.Snaps.TheSendSync as snaps
@@ -21,6 +20,8 @@ use Rattle.wp_guarded.specs.contracts.log.Log.TheInside as LogInside
 use Rattle.wp_guarded.specs.contracts.edits.Edits as Edits
 use Rattle.wp_guarded.specs.contracts.edits.Edits.TheInside as EditsInside
 use Rattle.wp_guarded.specs.contracts.edits.FailedInstall as FailedInstall
+use Rattle.wp_guarded.specs.contracts.table_versions.TableVersions as TableVersions
+use Rattle.wp_guarded.specs.contracts.table_versions.TableVersions.TheInside as VersionsInside
 use Rattle.wp_guarded.specs.contracts.part.Part as Part
 
 pub log_send : (D : RattleType) (g : Ghosts D.Denot) → IsSend D → IsSend (Log.the_row D g)
@@ -33,11 +34,16 @@ failed_send : IsSend FailedInstall.the_row
 failed_send =
     recorded_send (FailedInstall.the_field).row _ _ (FailedInstall.the_type).to_one (struct_send (shape FailedInstall.the_type) (plain_send _ _ _ _ _, (gone.the_field_send, (search crosses, tt))))
 
+versions_send : IsSend TableVersions.the_row
+versions_send =
+    view_send VersionsInside.the_row _ _ _ _
+    (recorded_send (VersionsInside.the_field).row _ _ (VersionsInside.the_type).to_one (struct_send (shape VersionsInside.the_type) (search crosses, tt)))
+
 pub edits_send : (D : RattleType) (g : Ghosts D.Denot) → IsSend D → IsSend (Edits.the_row D g)
 edits_send D g d =
     view_send (EditsInside.the_row D g) _ _ _ _
     (recorded_send (EditsInside.the_field D g).row _ _ (EditsInside.the_type D g).to_one
-    (struct_send (shape (EditsInside.the_type D g)) (set.the_send D g d, (Vec-send _ (Arc-send _ table.the_send table.the_sync), (search (sendable, failed_send), (search crosses, tt))))))
+    (struct_send (shape (EditsInside.the_type D g)) (set.the_send D g d, (Vec-send _ versions_send, (search (sendable, failed_send), (search crosses, tt))))))
 
 pub part_send : (D : RattleType) (g : Ghosts D.Denot) → IsSend D → IsSend (Part.the_row D g)
 part_send D g d =

@@ -1,5 +1,6 @@
 -- The value behind the tables turn: the tables of the store on their two devices.
 use Rattle.std.specs.Prelude.{◌≡◌, ◌⊎◌, ℕ, ◌≤◌, Bool, true, false, List, ◌∷◌, length, Option, Some, None}
+use Rattle.std.specs.List.{list_all}
 use Rattle.wp_model.specs.declared.version.Version.{Version}
 use Rattle.wp_model.specs.Flushed.{InstalledEdit}
 use Rattle.wp_outside.specs.Disk.{images}
@@ -12,6 +13,7 @@ use Rattle.wp_open.specs.Opens.{installed_of}
 use Rattle.wp_store.specs.declared.gone.Gone.{Gone}
 use Rattle.wp_store.specs.declared.gone.Gone.TheVariants as gone
 use Rattle.wp_table.specs.File.{HasTables}
+use Rattle.wp_table.specs.Table.{is_flushed}
 use Rattle.wp_tableset.specs.Changes.{compacted_parts}
 use Rattle.wp_tableset.specs.Device.{KeepsFronts}
 use Rattle.wp_tableset.specs.Set.{TableSetState, StoresTables}
@@ -67,13 +69,15 @@ pub record HasTablesOf (s : EditsState) (image : List ℕ) (installed : Installe
 
 -- ---- what is so of it
 
--- The set stores its edits, and the tables of the last one; once an install has failed, those of its edit too. It has the
--- id that it was opened with. No fault was forgotten since then, and what was for good then is so still.
+-- The set stores its edits, and the tables of the last one; once an install has failed, those of its edit too. No version of
+-- the last one's tables has a number above the flushed one. The set has the id that it was opened with. No fault was forgotten
+-- since then, and what was for good then is so still.
 pub record IsEdits (s : EditsState) : Type 0 where
   pub edits : List Edit
   pub next : Edit
   pub next_parts : List (List Version)
   pub stores : StoresTables s.set edits next s.parts next_parts
+  pub flushed : list_all (is_flushed s.table.last.flushed) s.table.last.versions ≡ true
   pub none_failed : s.set.manifest.log.closed ≡ false → s.table.failed ≡ None
   pub failed : s.set.manifest.log.closed ≡ true → s.table.failed ≡ Some (installed_of next next_parts)
   pub running : s.table.halted ≡ false → s.set.manifest.log.closed ≡ false

@@ -1,5 +1,6 @@
 pub mod Log
 pub mod Stock
 pub mod Edits
+pub mod Installs
 pub mod Parts
 pub mod Opening

@@ -7,7 +7,8 @@
 //!
 //! A `Log` and `Edits` also keep what their devices have: whatever a crash leaves of them is as the table says, and since they
 //! were opened no fault was forgotten and nothing acknowledged was lost. A record is made pending with all the memory that its
-//! log and its history will need, since neither may be refused once an append has begun.
+//! log and its history will need, since neither may be refused once an append has begun. An install takes its memory before the
+//! manifest is called, and what moves flushed versions from memory to tables takes none.
 //!
 //! `guard` puts the parts of an opened store behind the turns, which are then an opening world of the machine.
 #![tactic(auto)]
@@ -17,6 +18,7 @@ mod log;
 mod opening;
 mod part;
 mod stock;
+mod table_versions;
 
 pub use edits::Edits;
 pub use log::Log;

@@ -14,6 +14,7 @@ use crate::edits::Edits;
 use crate::log::Log;
 use crate::part::Part;
 use crate::stock::Stock;
+use crate::table_versions::TableVersions;
 use std::alloc::{AllocError, Global};
 use std::sync::Arc;
 use wp_history::History;
@@ -30,20 +31,31 @@ use wp_tableset::TableSet;
 struct Room<D: Disk> {
     prepared: Prepared,
     locks: Locks,
-    tables: Vec<Arc<Table>>,
+    tables: Vec<TableVersions>,
     slots: Vec<Part<D>>,
+}
+
+/// What each of the tables has, for clauses.
+fn versions_of(alloc: Global, tables: &[Arc<Table>]) -> Result<Vec<TableVersions>, AllocError>
+    ensures { IfOk result (λ versions. versions.items ≡ map arc_value tables.now) }
+{
+    let mut versions = Vec::with_capacity(alloc, tables.len())?;
+    for table in tables {
+        versions.push(TableVersions::of(table))?;
+    }
+    Ok(versions)
 }
 
 /// Takes all the memory that they need.
 fn room_for<D: Disk>(alloc: Global, parts: &Parts<D>) -> Result<Room<D>, AllocError>
     ensures prepared { IfOk result (λ room. AreDelayed parts.now.history.entries room.prepared) }
     ensures locks { IfOk result (λ room. AreOpened parts.now.history.entries room.locks) }
-    ensures tables { IfOk result (λ room. map arc_value room.tables.items ≡ parts.now.store.tables) }
+    ensures tables { IfOk result (λ room. room.tables.items ≡ parts.now.store.tables) }
     ensures slots { IfOk result (λ room. (room.slots.items ≡ []) × (vec_len room.slots + 6 ≤ vec_capacity room.slots)) }
 {
     let prepared = Prepared::delaying(alloc, parts.history.undecided())?;
     let locks = Locks::left_by(&parts.history, alloc)?;
-    let tables = parts.store.copy_tables()?;
+    let tables = versions_of(alloc, &parts.store.copy_tables()?)?;
     let slots = Vec::with_capacity(alloc, 6)?;
     Ok(Room {
         prepared,
@@ -59,7 +71,7 @@ fn fill<D: Disk>(alloc: Global, parts: Parts<D>, room: Room<D>) -> Vec<Part<D>>
         × PartsOpened asked log manifest tables parts.wal parts.history.entries parts.manifest (D.moments parts.tables) parts.store }
     requires prepared { AreDelayed parts.history.entries room.prepared }
     requires locks { AreOpened parts.history.entries room.locks }
-    requires tables { map arc_value room.tables.items ≡ parts.store.tables }
+    requires tables { room.tables.items ≡ parts.store.tables }
     requires slots { (room.slots.items ≡ []) × (vec_len room.slots + 6 ≤ vec_capacity room.slots) }
     ensures slots { result.items ≡ slots_of parts.wal parts.history.entries parts.store (running_set parts.manifest (D.moments parts.tables) (D.faults parts.tables)) room.prepared room.locks }
     ensures founds { (client : List ℕ) (cells flag : ℕ) → 1 ≤ cells → IsFlagOf parts.history.entries flag
@@ -75,12 +87,12 @@ fn fill<D: Disk>(alloc: Global, parts: Parts<D>, room: Room<D>) -> Vec<Part<D>>
     let Room {
         prepared,
         locks,
-        tables: copies,
+        tables: versions,
         mut slots,
     } = room;
     let floor = history.published();
     let log = Log::new(alloc, wal, history);
-    let edits = Edits::new(TableSet::new(alloc, manifest, tables), copies);
+    let edits = Edits::new(TableSet::new(alloc, manifest, tables), versions);
     log.told();
     edits.told();
     slots.push(Part::Write(log)).unwrap();

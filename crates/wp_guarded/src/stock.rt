@@ -1,8 +1,9 @@
 //! What the store turn guards: the versions in memory and in tables.
-ghost use Rattle.std.specs.Prelude.{◌≡◌, ◌≤◌, ◌<◌, true, false, [], Some, None, length, map, vec_capacity, IfOk, OnOk, OnErr};
+ghost use Rattle.std.specs.Prelude.{◌≡◌, ◌≤◌, ◌<◌, ℕ, nat_le, true, false, List, [], length, vec_capacity, Some, None, map, IfOk, OnOk, OnErr, if◌then◌else◌};
 ghost use Rattle.std.specs.Arc.{arc_value};
 ghost use Rattle.wp_model.specs.declared.entry.Entry.{Entry};
 ghost use Rattle.wp_model.specs.Legal.{changes_in};
+ghost use Rattle.wp_model.specs.Versions.{version_at};
 ghost use Rattle.wp_memtable.specs.Memtable.{HasChanges, without_number};
 ghost use Rattle.wp_merge.specs.Merge.{joined, sorted_of};
 ghost use Rattle.wp_store.specs.Store.{newest_of};
@@ -73,6 +74,13 @@ impl Stock {
         self.store.remove_unflushed(n);
     }
 
+    /// The newest `n` versions of the key, in memory and in tables.
+    pub fn collect(&self, key: &Key, n: usize) -> Result<Versions, AllocError>
+        ensures { IfOk result (λ found. found ≡ newest_of n key.now (sorted_of (all_in (store_table self.now)))) }
+    {
+        self.store.collect(key, n)
+    }
+
     /// Whether no version is in memory.
     pub fn is_flushed(&self) -> bool
         ensures none { result ≡ true → (store_table self.now).memory ≡ [] }
@@ -81,13 +89,20 @@ impl Stock {
         self.store.is_flushed()
     }
 
-    /// All versions in memory, which are frozen from now on, as far as they were not before: in the machine nothing changes.
+    /// All versions in memory, which are frozen from now on. Readers find them as before, where memory was wanting too.
     pub fn freeze(&mut self) -> Result<Versions, AllocError>
         ensures versions { IfOk result (λ versions. versions ≡ (store_table self.old).memory) }
         ensures same { store_table self.new ≡ store_table self.old }
     {
         self.store.freeze()?;
-        self.store.in_memory()
+        self.store.in_frozen()
+    }
+
+    /// All versions in tables.
+    pub fn in_tables(&self) -> Result<Versions, AllocError>
+        ensures { IfOk result (λ versions. versions ≡ (store_table self.now).tables) }
+    {
+        self.store.in_tables()
     }
 
     /// The tables, the newest first, in memory that has room for one more.
@@ -100,17 +115,23 @@ impl Stock {
         Ok(tables)
     }
 
-    /// All versions in tables.
-    pub fn in_tables(&self) -> Result<Versions, AllocError>
-        ensures { IfOk result (λ versions. versions ≡ (store_table self.now).tables) }
+    /// Takes each version with a number up to `flushed` out of memory, and puts these tables, the newest first, in place of all.
+    /// It takes no memory.
+    pub fn settle(&mut self, flushed: Seq, tables: Vec<Arc<Table>>)
+        ensures memory { (key : List ℕ) (p : ℕ) → version_at (store_table self.new).memory key p ≡ (if nat_le p flushed then None else version_at (store_table self.old).memory key p) }
+        ensures tables { (store_table self.new).tables ≡ sorted_of (joined (map arc_value tables.items)) }
+        ensures floor { self.new.floor ≡ self.old.floor }
     {
-        self.store.in_tables()
+        self.store.remove_flushed(flushed);
+        self.store.put_tables(tables);
     }
 
-    /// The newest `n` versions of the key, in memory and in tables.
-    pub fn collect(&self, key: &Key, n: usize) -> Result<Versions, AllocError>
-        ensures { IfOk result (λ found. found ≡ newest_of n key.now (sorted_of (all_in (store_table self.now)))) }
+    /// Puts these tables, the newest first, in place of all. A reader at each number from `floor` on finds all that it needs. It
+    /// takes no memory.
+    pub fn replace(&mut self, tables: Vec<Arc<Table>>, floor: Seq)
+        ensures { store_table self.new ≡ record (store_table self.old) { tables = sorted_of (joined (map arc_value tables.items)); floor = floor } }
     {
-        self.store.collect(key, n)
+        self.store.put_tables(tables);
+        self.floor = floor;
     }
 }

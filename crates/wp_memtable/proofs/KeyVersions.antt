@@ -1,11 +1,11 @@
 -- The versions of one key, the newest first.
-use Rattle.std.proofs.Common.{◌≡◌, ℕ, zero, suc, ◌+◌, ◌-◌, ◌<◌, ◌≤◌, Bool, true, false, cond, not, ◌||◌, ◌==◌, Less, List, [], ◌∷◌, length, get_or, nat_lt, nat_eq, filter, Option, Some, None, is_some, IsSome, IfSome, Bor, Result, Ok, Err, OnErr, IsOk, inl, inr, refl, sym, ap, ◌∙◌, subst, arith}
+use Rattle.std.proofs.Common.{◌≡◌, ℕ, zero, suc, ◌+◌, ◌-◌, ◌<◌, ◌≤◌, Bool, true, false, cond, not, ◌||◌, ◌==◌, Less, List, [], ◌∷◌, length, get_or, take, nat_lt, nat_eq, filter, Option, Some, None, is_some, IsSome, IfSome, Bor, Result, Ok, Err, OnErr, IsOk, inl, inr, refl, sym, ap, ◌∙◌, subst, arith}
 use Rattle.std.specs.Prelude.{insert, remove}
 use Rattle.std.specs.List.{AllByRecursion, prefix_len}
 use Rattle.std.specs.List.Sorted.{IsStrictlySortedBy}
 use Rattle.std.specs.Map.{lookup, keys_of}
 use Rattle.std.specs.Cmp.{nat_eq_equiv}
-use Rattle.std.proofs.lemmas.Bool.{cases_eq, cases_order, ltb-true, ltb-false, lt-ltb, eq-eqb, eqb-true, ne_eqb, false≢true}
+use Rattle.std.proofs.lemmas.Bool.{cases_eq, cases_order, ltb-true, ltb-false, lt-ltb, le-ltb, eq-eqb, eqb-true, ne_eqb, false≢true}
 use Rattle.std.proofs.lemmas.Map.{NonePasses, lookup-none, lookup-insert}
 use Rattle.std.proofs.lemmas.Map.Entries.{lookup-filter-keys}
 use Rattle.std.proofs.lemmas.List.Kept.{IsStrictlySortedBy-filter}
@@ -35,6 +35,10 @@ cond_map false x xs = refl
 keys-filter : (p : ℕ → Bool) (es : Numbered) → filter p (keys_of es) ≡ keys_of (filter (λ e. p e.0) es)
 keys-filter p [] = refl
 keys-filter p (e ∷ es) = ap (λ (ks : List ℕ). cond (p e.0) (e.0 ∷ ks) ks) (keys-filter p es) ∙ cond_map (p e.0) e (filter (λ x. p x.0) es)
+
+-- those whose numbers pass a test are in order
+newest-filter : (p : ℕ → Bool) (es ns : Numbered) → AreNewestFirst es → ns ≡ filter (λ e. p e.0) es → AreNewestFirst ns
+newest-filter p es ns h is = subst AreNewestFirst (sym is) (subst (IsStrictlySortedBy newest_cmp) (keys-filter p es) (IsStrictlySortedBy-filter newest_cmp p (keys_of es) h))
 
 module _ (n : ℕ) where
   abbrev pub newer : ℕ × Option (List ℕ) → Bool
@@ -87,7 +91,28 @@ module _ (n : ℕ) where
   changes_in es i (Some x) h place some is apart = sym (kept_all es x.now h (λ within same. apart (ap (λ (y : ℕ × Option (List ℕ)). y.0) is ∙ ap (λ j. (get_or es j x.now).0) place ∙ same)))
 
   pub newest-removed : (es ns : Numbered) → AreNewestFirst es → ns ≡ filter other es → AreNewestFirst ns
-  newest-removed es ns h is = subst AreNewestFirst (sym is) (subst (IsStrictlySortedBy newest_cmp) (keys-filter (λ k. not (k == n)) es) (IsStrictlySortedBy-filter newest_cmp (λ k. not (k == n)) (keys_of es) h))
+  newest-removed = newest-filter (λ k. not (k == n))
+
+  -- ---- the newer ones stay
+
+  none_newer : (x : ℕ) (es : Numbered) → x ≤ n → AreBelow x es → filter newer es ≡ []
+  none_newer x [] low below = refl
+  none_newer x (e ∷ es) low below =
+      let smaller : e.0 < x = ranked e.0 x Less (sym below.0) in
+      rw (le-ltb n e.0 (omega arith)) (none_newer x es low below.1)
+
+  pub kept_newer : (es : Numbered) → AreNewestFirst es → take (prefix_len newer es) es ≡ filter newer es
+  kept_newer [] h = refl
+  kept_newer (e ∷ es) h = by (newer e) refl (kept_newer es (newest_parts e es h).1)
+    where
+      by : (b : Bool) → newer e ≡ b → take (prefix_len newer es) es ≡ filter newer es → take (cond b (1 + prefix_len newer es) 0) (e ∷ es) ≡ cond b (e ∷ filter newer es) (filter newer es)
+      by true is rest =
+          let one : 1 + prefix_len newer es ≡ suc (prefix_len newer es) = omega arith in
+          rw one (ap (λ (ys : Numbered). e ∷ ys) rest)
+      by false is rest = sym (none_newer e.0 es (ltb-false n e.0 is) (newest_parts e es h).0)
+
+  pub newest-newer : (es ns : Numbered) → AreNewestFirst es → ns ≡ filter newer es → AreNewestFirst ns
+  newest-newer = newest-filter (nat_lt n)
 
   -- after n was taken out none has it
   pub none_is : (es : Numbered) → NonePasses (nat_eq n) (filter other es)

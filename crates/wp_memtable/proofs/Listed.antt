@@ -27,7 +27,7 @@ use Rattle.wp_model.specs.declared.version.Version.{Version}
 use Rattle.wp_model.specs.Versions.{AreInOrder, version_at}
 use Rattle.wp_model.proofs.VersionLists.{IsBefore, in_order_nil, in_order_cons, or_cond}
 use Rattle.wp_memtable.specs.KeyVersions.{Numbered, RoomyVersions, newest_cmp, AreNewestFirst}
-use Rattle.wp_memtable.specs.Memtable.{Places, HavePlaces, under, versions_in, AllNewestFirst, AreWellOrdered, without_number, numbered_of, place_at}
+use Rattle.wp_memtable.specs.Memtable.{Places, HavePlaces, under, versions_in, AllNewestFirst, AreWellOrdered, numbered_of, place_at}
 
 -- ---- keys and numbers, tested the other way round
 
@@ -252,52 +252,52 @@ have_places_more old new changes i n c within is before others here key some =
       | inr same ↦ ap (λ k. place_at new k n) (sym same) ∙ here
     ]
 
--- ---- a number taken out everywhere
+-- ---- numbers taken out everywhere
 
--- what is left of a key's versions without n, and whether any
-abbrev pub Removes : ℕ → RoomyVersions → Bool → RoomyVersions → Type 0
-Removes n v b w = (w.versions ≡ filter (λ e. not (e.0 == n)) v.versions) × AreNewestFirst w.versions × (b ≡ nat_lt 0 (length w.versions))
+module _ (stays : ℕ → Bool) where
+  -- what is left of a key's versions, those whose numbers stay, and whether any
+  abbrev pub Removes : RoomyVersions → Bool → RoomyVersions → Type 0
+  Removes v b w = (w.versions ≡ filter (λ e. stays e.0) v.versions) × AreNewestFirst w.versions × (b ≡ nat_lt 0 (length w.versions))
 
-without_under : (n : ℕ) (k : List ℕ) (ps : Numbered) → under k (filter (λ e. not (e.0 == n)) ps) ≡ without_number n (under k ps)
-without_under n k [] = refl
-without_under n k (p ∷ ps) = by (not (p.0 == n)) (without_under n k ps)
-  where
-    by : (b : Bool) → under k (filter (λ e. not (e.0 == n)) ps) ≡ without_number n (under k ps) → under k (cond b (p ∷ filter (λ e. not (e.0 == n)) ps) (filter (λ e. not (e.0 == n)) ps)) ≡ cond b (record { key = k; number = p.0; value = p.1 } ∷ without_number n (under k ps)) (without_number n (under k ps))
-    by true rest = ap (λ (vs : List Version). record { key = k; number = p.0; value = p.1 } ∷ vs) rest
-    by false rest = rest
+  abbrev pub staying : List Version → List Version
+  staying versions = filter (λ v. stays v.number) versions
 
-pub record Retained (n : ℕ) (es kept : Places) : Type 0 where
-  pub versions : versions_in kept ≡ without_number n (versions_in es)
-  pub newest_first : AllNewestFirst kept
+  staying_under : (k : List ℕ) (ps : Numbered) → under k (filter (λ e. stays e.0) ps) ≡ staying (under k ps)
+  staying_under k [] = refl
+  staying_under k (p ∷ ps) = by (stays p.0) (staying_under k ps)
+    where
+      by : (b : Bool) → under k (filter (λ e. stays e.0) ps) ≡ staying (under k ps) → under k (cond b (p ∷ filter (λ e. stays e.0) ps) (filter (λ e. stays e.0) ps)) ≡ cond b (record { key = k; number = p.0; value = p.1 } ∷ staying (under k ps)) (staying (under k ps))
+      by true rest = ap (λ (vs : List Version). record { key = k; number = p.0; value = p.1 } ∷ vs) rest
+      by false rest = rest
 
-none_left : (ps : Numbered) → false ≡ nat_lt 0 (length ps) → ps ≡ []
-none_left [] h = refl
-none_left (p ∷ ps) h = absurd (omega (arith, ltb-false 0 (length (p ∷ ps)) (sym h)))
+  pub record Retained (es kept : Places) : Type 0 where
+    pub versions : versions_in kept ≡ staying (versions_in es)
+    pub newest_first : AllNewestFirst kept
 
-retained_cons : (n : ℕ) (e : List ℕ × RoomyVersions) (es rest kept : Places) (b : Bool) (w : RoomyVersions) → Removes n e.1 b w → Retained n es rest → kept ≡ cond b ((e.0, w) ∷ rest) rest → Retained n (e ∷ es) kept
-retained_cons n e es rest kept b w call after is = by b call.2 is
-  where
-    front : under e.0 w.versions ≡ without_number n (under e.0 e.1.versions)
-    front = ap (under e.0) call.0 ∙ without_under n e.0 e.1.versions
+  none_left : (ps : Numbered) → false ≡ nat_lt 0 (length ps) → ps ≡ []
+  none_left [] h = refl
+  none_left (p ∷ ps) h = absurd (omega (arith, ltb-false 0 (length (p ∷ ps)) (sym h)))
 
-    split : without_number n (versions_in (e ∷ es)) ≡ without_number n (under e.0 e.1.versions) ++ without_number n (versions_in es)
-    split = filter-append (λ v. not (v.number == n)) (under e.0 e.1.versions) (versions_in es)
+  retained_cons : (e : List ℕ × RoomyVersions) (es rest kept : Places) (b : Bool) (w : RoomyVersions) → Removes e.1 b w → Retained es rest → kept ≡ cond b ((e.0, w) ∷ rest) rest → Retained (e ∷ es) kept
+  retained_cons e es rest kept b w call after is = by b call.2 is
+    where
+      front : under e.0 w.versions ≡ staying (under e.0 e.1.versions)
+      front = ap (under e.0) call.0 ∙ staying_under e.0 e.1.versions
 
-    by : (b : Bool) → b ≡ nat_lt 0 (length w.versions) → kept ≡ cond b ((e.0, w) ∷ rest) rest → Retained n (e ∷ es) kept
-    by true some h = record { versions = ap versions_in h ∙ (λ i. front i ++ after.versions i) ∙ sym split; newest_first = subst AllNewestFirst (sym h) (call.1, after.newest_first) }
-    by false none h =
-        let gone : without_number n (under e.0 e.1.versions) ≡ [] = sym front ∙ ap (under e.0) (none_left w.versions none) in
-        record { versions = ap versions_in h ∙ after.versions ∙ sym (split ∙ ap (λ (vs : List Version). vs ++ without_number n (versions_in es)) gone); newest_first = subst AllNewestFirst (sym h) after.newest_first }
+      split : staying (versions_in (e ∷ es)) ≡ staying (under e.0 e.1.versions) ++ staying (versions_in es)
+      split = filter-append (λ v. stays v.number) (under e.0 e.1.versions) (versions_in es)
 
-pub retained : {F : Type 0} (T : F → List ℕ → RoomyVersions → Bool → RoomyVersions → F → Type 0) (n : ℕ) (f : F) → ((k : List ℕ) (v : RoomyVersions) (b : Bool) (w : RoomyVersions) (f' : F) → T f k v b w f' → (f' ≡ f) × Removes n v b w) → (es kept : Places) → RetainsPairs T f es kept → Retained n es kept
-retained T n f calls [] kept h = record { versions = ap versions_in h; newest_first = subst AllNewestFirst (sym h) tt }
-retained T n f calls (e ∷ es) kept (b, w, f', rest, t, others, is) =
-    let call = calls e.0 e.1 b w f' t in
-    retained_cons n e es rest kept b w call.1 (retained T n f calls es rest (subst (λ g. RetainsPairs T g es rest) call.0 others)) is
+      by : (b : Bool) → b ≡ nat_lt 0 (length w.versions) → kept ≡ cond b ((e.0, w) ∷ rest) rest → Retained (e ∷ es) kept
+      by true some h = record { versions = ap versions_in h ∙ (λ i. front i ++ after.versions i) ∙ sym split; newest_first = subst AllNewestFirst (sym h) (call.1, after.newest_first) }
+      by false none h =
+          let gone : staying (under e.0 e.1.versions) ≡ [] = sym front ∙ ap (under e.0) (none_left w.versions none) in
+          record { versions = ap versions_in h ∙ after.versions ∙ sym (split ∙ ap (λ (vs : List Version). vs ++ staying (versions_in es)) gone); newest_first = subst AllNewestFirst (sym h) after.newest_first }
 
-not-not : (b : Bool) → not (not b) ≡ b
-not-not true = refl
-not-not false = refl
+  pub retained : {F : Type 0} (T : F → List ℕ → RoomyVersions → Bool → RoomyVersions → F → Type 0) (f : F) → ((k : List ℕ) (v : RoomyVersions) (b : Bool) (w : RoomyVersions) (f' : F) → T f k v b w f' → (f' ≡ f) × Removes v b w) → (es kept : Places) → RetainsPairs T f es kept → Retained es kept
+  retained T f calls [] kept h = record { versions = ap versions_in h; newest_first = subst AllNewestFirst (sym h) tt }
+  retained T f calls (e ∷ es) kept (b, w, f', rest, t, others, is) =
+      let call = calls e.0 e.1 b w f' t in
+      retained_cons e es rest kept b w call.1 (retained T f calls es rest (subst (λ g. RetainsPairs T g es rest) call.0 others)) is
 
-pub length-without : (n : ℕ) (vs : List Version) → length (without_number n vs) ≤ length vs
-length-without n vs = omega (arith, length-filter_both (λ (v : Version). not (v.number == n)) (λ (v : Version). v.number == n) (λ v. sym (not-not (v.number == n))) vs)
+  pub length-staying : (vs : List Version) → length (staying vs) ≤ length vs
+  length-staying vs = omega (arith, length-filter_both (λ (v : Version). stays v.number) (λ (v : Version). not (stays v.number)) (λ v. refl) vs)

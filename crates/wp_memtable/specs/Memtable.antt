@@ -1,5 +1,5 @@
 -- The versions in memory: each key with its own.
-use Rattle.std.specs.Prelude.{◌≡◌, ℕ, Bool, true, false, ◌==◌, not, List, [], ◌∷◌, ◌++◌, is_some, if◌then◌else◌, map, filter}
+use Rattle.std.specs.Prelude.{◌≡◌, ℕ, Bool, true, false, ◌==◌, not, nat_lt, List, [], ◌∷◌, ◌++◌, is_some, if◌then◌else◌, map, filter}
 use Rattle.std.specs.Option.{option_or, option_map_or}
 use Rattle.std.specs.Str.{bytes_eq}
 use Rattle.std.specs.List.Sorted.{IsStrictlySortedBy}
@@ -19,6 +19,10 @@ pub record HasChanges (n : ℕ) (changes : List Change) (old new : List Version)
 -- the versions but those of the number n
 abbrev pub without_number : ℕ → List Version → List Version
 without_number n versions = filter (λ v. not (v.number == n)) versions
+
+-- the versions with numbers above n
+abbrev pub above : ℕ → List Version → List Version
+above n versions = filter (λ v. nat_lt n v.number) versions
 
 -- the versions of the key, without it
 abbrev pub numbered_of : List ℕ → List Version → Numbered

@@ -100,6 +100,15 @@ impl KeyVersions {
         }
     }
 
+    /// Takes the versions up to `n` out.
+    pub fn remove_up_to(&mut self, n: Seq)
+        ensures versions { self.new.versions ≡ filter (λ e. nat_lt n e.0) self.old.versions }
+        ensures newest_first { AreNewestFirst self.new.versions }
+    {
+        let newer = newer_than(&self.newest_first, n);
+        self.newest_first.truncate(newer);
+    }
+
     pub fn iter(&self) -> Iter<'_, (Seq, Option<Value>)>
         ensures rest { deque_iter_rest result ≡ self.now.versions }
         ensures newest_first { AreNewestFirst self.now.versions }

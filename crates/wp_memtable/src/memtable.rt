@@ -1,6 +1,6 @@
 ghost use Rattle.std.specs.Prelude.{◌≡◌, ◌++◌, ◌<◌, ◌^◌, [], length, IfOk, OnOk, OnErr};
 ghost use Rattle.wp_model.specs.Versions.{AreInOrder};
-ghost use Rattle.wp_memtable.specs.Memtable.{HasChanges, without_number, numbered_of, under, versions_in};
+ghost use Rattle.wp_memtable.specs.Memtable.{HasChanges, without_number, above, numbered_of, under, versions_in};
 
 use crate::found::Found;
 use crate::key_versions::KeyVersions;
@@ -94,6 +94,17 @@ impl Memtable {
     {
         self.places.retain(|_, versions| {
             versions.remove(n);
+            versions.len() > 0
+        });
+        self.count = count_of(&self.places);
+    }
+
+    /// Takes out each version with a number up to `n`, in a time that grows with the number of keys and of later versions.
+    pub fn remove_up_to(&mut self, n: Seq)
+        ensures { self.new ≡ above n self.old }
+    {
+        self.places.retain(|_, versions| {
+            versions.remove_up_to(n);
             versions.len() > 0
         });
         self.count = count_of(&self.places);

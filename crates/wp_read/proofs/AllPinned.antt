@@ -142,10 +142,10 @@ pub numbers_again : (numbers : List ℕ) → numbers_of (map again numbers) ≡ 
 numbers_again [] = refl
 numbers_again (n ∷ numbers) = ap (λ (ns : List ℕ). n ∷ ns) (numbers_again numbers)
 
-module _ {D : Type 0} (z : SharedState D) (by : ℕ) (floor : Registration) (m : Snapshots) (taken : IsTakenAt z by floor m) where
+module _ {D : Type 0} (z : SharedState D) (old : SeatState) (history : List Entry) (floor : Registration) (m : Snapshots) (taken : IsTakenAt z old history floor m) where
   counted_here : (q : ℕ) (x : snaps.Snapshot) → finite.get m q ≡ Some x → (1 ≤ x.registrations) × (q ≤ floor.number)
   counted_here q x e =
-      let k = (at_sound (place_at z by) taken.actor taken.world taken.there).registrations.live q x (ap (λ (y : Snapshots). finite.get y q) taken.live ∙ e) in
+      let k = (at_sound (place_at z old.by) taken.actor taken.world taken.there).registrations.live q x (ap (λ (y : Snapshots). finite.get y q) taken.live ∙ e) in
       (k.0, subst (λ (n : ℕ). q ≤ n) (sym taken.number) k.1)
 
   pub taken_counted : AreCounted m
@@ -189,8 +189,8 @@ module _ (s0 s1 s2 : SeatState) (m1 : Snapshots) (others : List Content) (floor 
   pub pin_listed : IsIn (live_listed floor.number (numbers_of live)) s2.knows.notes
   pin_listed = subst (λ (ns : List ℕ). IsIn (live_listed floor.number ns) s2.knows.notes) (sym (ap numbers_of made ∙ numbers_again numbers)) (again_noted s1 s2 floor.number numbers m1 others is)
 
-pub is_pinned : {D : Type 0} (z : SharedState D) (by : ℕ) (floor : Registration) (m : Snapshots) (numbers : List ℕ) (live : List Registration) → IsTakenAt z by floor m → live ≡ map again numbers → AreLive m numbers → IsPinned z by floor live
-is_pinned z by floor m numbers live taken made are =
+pub is_pinned : {D : Type 0} (z : SharedState D) (old : SeatState) (history : List Entry) (floor : Registration) (m : Snapshots) (numbers : List ℕ) (live : List Registration) → IsTakenAt z old history floor m → live ≡ map again numbers → AreLive m numbers → IsPinned z old history floor live
+is_pinned z old history floor m numbers live taken made are =
     let same : numbers_of live ≡ numbers = ap numbers_of made ∙ numbers_again numbers in record {
       before = m;
       taken = taken;
@@ -199,5 +199,5 @@ is_pinned z by floor m numbers live taken made are =
     }
 
 -- the floor is taken back
-pub unpinned : {D : Type 0} (z : SharedState D) (by : ℕ) (floor : Registration) (m m1 m' : Snapshots) → IsTakenAt z by floor m → m1 ≡ with_registered m floor.number → m' ≡ with_released m1 floor.number → m' ≡ m
-unpinned z by floor m m1 m' taken entered back = back ∙ (ap (λ (x : Snapshots). with_released x floor.number) entered ∙ registered_and_released m floor.number (taken_counted z by floor m taken floor.number))
+pub unpinned : {D : Type 0} (z : SharedState D) (old : SeatState) (history : List Entry) (floor : Registration) (m m1 m' : Snapshots) → IsTakenAt z old history floor m → m1 ≡ with_registered m floor.number → m' ≡ with_released m1 floor.number → m' ≡ m
+unpinned z old history floor m m1 m' taken entered back = back ∙ (ap (λ (x : Snapshots). with_released x floor.number) entered ∙ registered_and_released m floor.number (taken_counted z old history floor m taken floor.number))

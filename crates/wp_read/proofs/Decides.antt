@@ -1,16 +1,42 @@
--- A reading has fewer loads left after each.
-use Rattle.std.proofs.Common.{◌≡◌, ℕ, ◌+◌, ◌<◌, sym, subst, ap, Option, Some, None, arith}
+-- What a version's number decides, and that a reading has fewer loads left after each.
+use Rattle.std.proofs.Common.{◌≡◌, ℕ, ◌+◌, ◌<◌, Bool, true, false, sym, subst, ap, ◌∙◌, Option, Some, None, arith}
+use Rattle.std.specs.Prelude.{nat_lt, if◌then◌else◌}
+use Rattle.std.proofs.lemmas.Bool.{lt-ltb}
 use Rattle.wp_judge.specs.declared.observed.Observed.{Observed}
 use Rattle.wp_judge.specs.declared.observed.Load as loads
 use Rattle.wp_judge.specs.declared.observed.Load.TheVariants.{FirstWord, FirstMax, DelayedFlag, InPrepared, SecondWord, SecondMax, OldFlag, IsOldCommit}
-use Rattle.wp_judge.specs.declared.observed.Asked.TheVariants.{Load}
-use Rattle.wp_judge.specs.Order.{ask}
+use Rattle.wp_judge.specs.declared.observed.Asked.{Asked}
+use Rattle.wp_judge.specs.declared.observed.Asked.TheVariants.{Load, Answer}
+use Rattle.wp_judge.specs.Order.{ask, ask_first_word}
 use Rattle.wp_core.specs.Changes.{loaded}
 use Rattle.wp_core.specs.Lists.{IsIn}
+use Rattle.wp_core.specs.Reading.{Registration}
 use Rattle.wp_core.specs.World.{World}
 use Rattle.wp_core.proofs.ReaderOrder.{At, asked}
 use Rattle.wp_shared.specs.Seats.{SharedState, SeatState}
-use Rattle.wp_read.specs.Reads.{noting, KeepsNotes, Loads}
+use Rattle.wp_read.specs.Reads.{noting, KeepsNotes, Loads, IsOf}
+
+-- ---- a version above the snapshot
+
+module _ (p : ℕ) (snapshot : Registration) (r : Observed) (is : IsOf p snapshot r) (over : snapshot.number < p) where
+  invisible : ask r ≡ Answer false
+  invisible = ap (λ b. if b then Answer false else (if nat_lt r.version r.smallest then Answer true else ask_first_word r r.first_word)) (lt-ltb r.snapshot r.version over_here)
+    where
+      over_here : r.snapshot < r.version
+      over_here = let v = is.0 in let s : r.snapshot ≡ snapshot.number = ap (λ (x : Registration). x.number) is.1 in omega arith
+
+  pub above_is_invisible : (visible : Bool) → ask r ≡ Answer visible → visible ≡ false
+  above_is_invisible visible e = same_answer visible false (sym e ∙ invisible)
+    where
+      same_answer : (a b : Bool) → Answer a ≡ Answer b → a ≡ b
+      same_answer a b same = cc
+
+  -- no load decides it
+  pub above_has_no_load : (which : loads.Load) → ask r ≡ Load which → ⊥
+  above_has_no_load which e = apart which false (sym e ∙ invisible)
+    where
+      apart : (x : loads.Load) (a : Bool) → Load x ≡ Answer a → ⊥
+      apart x a same = cc
 
 -- ---- how many loads are left
 

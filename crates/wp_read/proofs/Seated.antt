@@ -107,12 +107,15 @@ module _ {D : Type 0} (z : SharedState D) (s t : SeatState) (n : ℕ) (least : O
     pub number_seen : r.number ≡ length t.knows.participant.seen
     number_seen = ap (λ (x : Registration). x.number) is ∙ (k.number_is ∙ ap length (sym seen_after))
 
-    pub was_taken : MatchOption least (NonePrepared tables) (IsSmallest tables) → IsTakenAt z s.by r m
+    pub was_taken : MatchOption least (NonePrepared tables) (IsSmallest tables) → IsTakenAt z s t.knows.participant.seen r m
     was_taken found = record {
       world = k.world;
       actor = s.knows;
       there = k.there;
+      participant = refl;
+      held = subst (IsIn (snapshots m)) (sym held) (inl refl);
       live = snapshots_are;
+      history_is = sym seen_after;
       number = ap (λ (x : Registration). x.number) is ∙ k.number_is;
       smallest = by least is found;
     }

@@ -3,20 +3,39 @@ use Rattle.std.proofs.Common.{◌≡◌, ℕ, List, ◌++◌, subst, ap, ◌∙�
 use Rattle.std.specs.Prelude.{Result, Ok, Err, IfOk, OnErr}
 use Rattle.wp_model.specs.PreparedTables.{PreparedTables}
 use Rattle.wp_model.specs.Snapshots.{Snapshots}
+use Rattle.wp_model.specs.declared.entry.Entry.{Entry}
 use Rattle.wp_core.specs.Reading.{Registration}
 use Rattle.wp_core.specs.Turns.{prepared_turn, snapshots_turn}
 use Rattle.wp_core.specs.World.{Participant}
 use Rattle.wp_guarded.specs.declared.part.Part.TheVariants as part
+use Rattle.wp_rule.specs.Words.{IsAt}
 use Rattle.wp_shared.specs.Calls.{Continues}
-use Rattle.wp_shared.specs.Seats.{SharedState, SeatState}
+use Rattle.wp_shared.specs.Seats.{SharedState, SeatState, place_at}
 use Rattle.wp_shared.specs.Turns.{Taken}
-use Rattle.wp_read.specs.Registers.{IsTaken, IsTakenAt}
+use Rattle.wp_read.specs.Registers.{IsTaken, IsTakenAt, IsPinned}
 use Rattle.wp_read.proofs.Seated.{taken_participant}
 
--- it was taken with these live snapshots
-pub taken_at : {D E : Type 0} (z : SharedState D) (m : Snapshots) (by by' : ℕ) (result : Result Registration E) → by ≡ by' → IfOk result (λ r. IsTakenAt z by r m) → IfOk result (λ r. IsTaken z by' r)
-taken_at z m by by' (Ok r) same k = (m, subst (λ (n : ℕ). IsTakenAt z n r m) same k)
-taken_at z m by by' (Err error) same k = k
+-- a part of the call takes it: the call began with the same participant, and the seat has seen no more in the end
+module _ {D : Type 0} (z : SharedState D) (old mid : SeatState) (history seen : List Entry) (by : mid.by ≡ old.by) (same : mid.knows.participant ≡ old.knows.participant) (all : history ≡ seen) where
+  pub taken_since : (r : Registration) (m : Snapshots) → IsTakenAt z mid history r m → IsTakenAt z old seen r m
+  taken_since r m k = record {
+    world = k.world;
+    actor = k.actor;
+    there = subst (λ (n : ℕ). IsAt (place_at z n) k.actor k.world) by k.there;
+    participant = k.participant ∙ same;
+    held = k.held;
+    live = k.live;
+    history_is = k.history_is ∙ all;
+    number = k.number;
+    smallest = k.smallest;
+  }
+
+  pub taken_at : {E : Type 0} (m : Snapshots) (result : Result Registration E) → IfOk result (λ r. IsTakenAt z mid history r m) → IfOk result (λ r. IsTaken z old seen r)
+  taken_at m (Ok r) k = (m, taken_since r m k)
+  taken_at m (Err error) k = k
+
+  pub pinned_since : (floor : Registration) (live : List Registration) → IsPinned z mid history floor live → IsPinned z old seen floor live
+  pinned_since floor live k = record { before = k.before; taken = taken_since floor k.before k.taken; are_again = k.are_again; are_live = k.are_live }
 
 -- these are the registrations that an answer adds
 module _ {D E A : Type 0} (z : SharedState D) (s0 s1 s2 t : SeatState) (rs : List Registration) (result : Result A E) (adds : A → List Registration) {m : Snapshots} {tables : PreparedTables} (took1 : Taken z prepared_turn s0 s1 (part.Prepared tables)) (took2 : Taken z snapshots_turn s1 s2 (part.Snapshots m))

@@ -86,19 +86,23 @@ pub record ChangesSnapshots (old new : SeatState) (after : Participant) (m : Sna
 
 -- ---- calls
 
--- The snapshot was taken in a world of the store, in which these were the live snapshots: its number is the one that was
--- published, and its smallest is the least prepared number, or the next number where none was prepared.
-pub record IsTakenAt {D : Type 0} (z : SharedState D) (by : ℕ) (snapshot : Registration) (m : Snapshots) : Type 0 where
+-- The snapshot was taken in a world of the store with this history, while the seat held the snapshots turn with these live
+-- snapshots, and had done no more than before the call. Its number is the one that was published, and its smallest is the least
+-- prepared number, or the next number where none was prepared.
+pub record IsTakenAt {D : Type 0} (z : SharedState D) (old : SeatState) (history : List Entry) (snapshot : Registration) (m : Snapshots) : Type 0 where
   pub world : World
   pub actor : Actor
-  pub there : IsAt (place_at z by) actor world
+  pub there : IsAt (place_at z old.by) actor world
+  pub participant : actor.participant ≡ old.knows.participant
+  pub held : IsIn (snapshots m) actor.held
   pub live : world.snapshots ≡ m
+  pub history_is : world.writes.history ≡ history
   pub number : snapshot.number ≡ published world
   pub smallest : (NonePrepared world.prepared × (snapshot.smallest ≡ suc snapshot.number)) ⊎ IsSmallest world.prepared snapshot.smallest
 
--- the snapshot was taken in a world of the store
-abbrev pub IsTaken : {D : Type 0} → SharedState D → ℕ → Registration → Type 0
-IsTaken z by snapshot = (m : Snapshots) × IsTakenAt z by snapshot m
+-- the snapshot was taken in a world of the store with this history
+abbrev pub IsTaken : {D : Type 0} → SharedState D → SeatState → List Entry → Registration → Type 0
+IsTaken z old history snapshot = (m : Snapshots) × IsTakenAt z old history snapshot m
 
 -- ---- all that is live
 
@@ -142,10 +146,10 @@ pinned s floor numbers m others = record s {
   };
 }
 
--- All that was live was registered once more, in one world of the store: the floor is the snapshot that was taken then, and the
--- others have just the numbers that were live before, ascending, each once.
-pub record IsPinned {D : Type 0} (z : SharedState D) (by : ℕ) (floor : Registration) (live : List Registration) : Type 0 where
+-- All that was live was registered once more, in one world of the store with this history: the floor is the snapshot that was
+-- taken then, and the others have just the numbers that were live before, ascending, each once.
+pub record IsPinned {D : Type 0} (z : SharedState D) (old : SeatState) (history : List Entry) (floor : Registration) (live : List Registration) : Type 0 where
   pub before : Snapshots
-  pub taken : IsTakenAt z by floor before
+  pub taken : IsTakenAt z old history floor before
   pub are_again : live ≡ map again (numbers_of live)
   pub are_live : AreLive before (numbers_of live)

@@ -1,5 +1,5 @@
 //! Whether a version is visible at a snapshot.
-ghost use Rattle.std.specs.Prelude.{◌≡◌, ◌≤◌, true};
+ghost use Rattle.std.specs.Prelude.{◌≡◌, ◌≤◌, ◌<◌, true, false};
 ghost use Rattle.wp_core.specs.Lists.{IsIn};
 ghost use Rattle.wp_core.specs.Sound.Reader.{IsRight};
 ghost use Rattle.wp_core.specs.Sound.Snapshots.{has_versions_at};
@@ -167,6 +167,7 @@ pub fn visible<D: Disk + Drop, R: Wait>(
     ensures continues { Continues store.now seat.old seat.new seat.old.knows.participant }
     ensures same { seat.new.knows.participant ≡ seat.old.knows.participant }
     ensures right { IsRight seat.old.knows.participant.seen p snapshot.now.number result }
+    ensures above { snapshot.now.number < p → result ≡ false }
 {
     match decide_free(store, seat, p, snapshot) {
         Free::Decided(visible) => visible,

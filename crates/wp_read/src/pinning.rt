@@ -113,7 +113,7 @@ fn pin_in<D: Disk + Drop>(
     ensures changes { ChangesSnapshots seat.old seat.new (record seat.old.knows.participant { registered = seat.new.knows.participant.registered }) snaps.new (table.prepared tables.now ∷ []) }
     ensures registered { IfOk result (λ p. seat.new.knows.participant.registered ≡ seat.old.knows.participant.registered ++ p.floor ∷ p.live.items) }
     ensures number { IfOk result (λ p. p.floor.number ≡ length seat.new.knows.participant.seen) }
-    ensures pinned { IfOk result (λ p. IsPinned store.now seat.old.by p.floor p.live.items) }
+    ensures pinned { IfOk result (λ p. IsPinned store.now seat.old seat.new.knows.participant.seen p.floor p.live.items) }
     ensures listed { IfOk result (λ p. IsIn (live_listed p.floor.number (numbers_of p.live.items)) seat.new.knows.notes) }
     ensures refused { OnErr result (seat.new.knows.participant.registered ≡ seat.old.knows.participant.registered) }
     ensures kept { NoOldCommits snaps.new → NoOldCommits snaps.old }
@@ -143,7 +143,7 @@ pub fn pin_all<D: Disk + Drop, R: Wait>(
     requires { IsFree store.now.table seat.old }
     ensures registered { IfOk result (λ p. Continues store.now seat.old seat.new (record seat.old.knows.participant { registered = seat.old.knows.participant.registered ++ p.floor ∷ p.live.items })) }
     ensures number { IfOk result (λ p. p.floor.number ≡ length seat.new.knows.participant.seen) }
-    ensures pinned { IfOk result (λ p. IsPinned store.now seat.old.by p.floor p.live.items) }
+    ensures pinned { IfOk result (λ p. IsPinned store.now seat.old seat.new.knows.participant.seen p.floor p.live.items) }
     ensures listed { IfOk result (λ p. IsIn (live_listed p.floor.number (numbers_of p.live.items)) seat.new.knows.notes) }
     ensures refused { OnErr result (Continues store.now seat.old seat.new seat.old.knows.participant) }
 {

@@ -62,7 +62,7 @@ pub fn register_in<D: Disk + Drop>(
     ensures changes { ChangesSnapshots seat.old seat.new (record seat.old.knows.participant { registered = seat.new.knows.participant.registered }) snaps.new (table.prepared tables.now ∷ []) }
     ensures registered { IfOk result (λ s. seat.new.knows.participant.registered ≡ seat.old.knows.participant.registered ++ s ∷ []) }
     ensures number { IfOk result (λ s. s.number ≡ length seat.new.knows.participant.seen) }
-    ensures taken { IfOk result (λ s. IsTakenAt store.now seat.old.by s snaps.old) }
+    ensures taken { IfOk result (λ s. IsTakenAt store.now seat.old seat.new.knows.participant.seen s snaps.old) }
     ensures entered { IfOk result (λ s. snaps.new ≡ with_registered snaps.old s.number) }
     ensures refused { OnErr result (seat.new.knows.participant.registered ≡ seat.old.knows.participant.registered) }
     ensures kept { NoOldCommits snaps.new → NoOldCommits snaps.old }
@@ -87,7 +87,7 @@ pub fn snapshot<D: Disk + Drop, R: Wait>(
     requires { IsFree store.now.table seat.old }
     ensures registered { IfOk result (λ s. Continues store.now seat.old seat.new (record seat.old.knows.participant { registered = seat.old.knows.participant.registered ++ s ∷ [] })) }
     ensures number { IfOk result (λ s. s.number ≡ length seat.new.knows.participant.seen) }
-    ensures taken { IfOk result (λ s. IsTaken store.now seat.old.by s) }
+    ensures taken { IfOk result (λ s. IsTaken store.now seat.old seat.new.knows.participant.seen s) }
     ensures refused { OnErr result (Continues store.now seat.old seat.new seat.old.knows.participant) }
 {
     let tables = take_tables(store, rt, seat);

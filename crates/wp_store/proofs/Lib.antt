@@ -1,3 +1,4 @@
+pub mod Flushed
 pub mod OneMerge
 pub mod Fronts
 pub mod NewestOfKey

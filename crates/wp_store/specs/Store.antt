@@ -1,8 +1,9 @@
 -- A store: the versions in memory, in frozen parts and in tables.
-use Rattle.std.specs.Prelude.{ℕ, Bool, ◌==◌, List, [], ◌∷◌, ◌++◌, length, take, filter, Option, Some, None}
+use Rattle.std.specs.Prelude.{ℕ, Bool, ◌==◌, nat_lt, List, [], ◌∷◌, ◌++◌, length, take, map, filter, Option, Some, None}
 use Rattle.std.specs.List.{list_all}
 use Rattle.std.specs.Str.{bytes_eq}
 use Rattle.wp_model.specs.declared.version.Version.{Version}
+use Rattle.wp_memtable.specs.Memtable.{above}
 use Rattle.wp_store.specs.declared.gone.Gone.{Gone}
 use Rattle.wp_store.specs.declared.gone.Gone.TheVariants as gone
 
@@ -30,6 +31,10 @@ of_key key versions = filter (λ v. bytes_eq v.key key) versions
 -- the newest n versions of the key
 abbrev pub newest_of : ℕ → List ℕ → List Version → List Version
 newest_of n key versions = take n (of_key key versions)
+
+-- of each part the versions with numbers above n, where there are any
+abbrev pub parts_above : ℕ → List (List Version) → List (List Version)
+parts_above n parts = filter (λ part. nat_lt 0 (length part)) (map (above n) parts)
 
 -- the table, if there is one, before the others
 abbrev pub with_newest : Option (List Version) → List (List Version) → List (List Version)

@@ -3,9 +3,9 @@ ghost use Rattle.std.specs.Arc.{arc_value};
 ghost use Rattle.std.specs.List.{list_all};
 ghost use Rattle.std.specs.Option.{option_map};
 ghost use Rattle.wp_model.specs.declared.version.Version.{Version};
-ghost use Rattle.wp_memtable.specs.Memtable.{HasChanges, without_number};
+ghost use Rattle.wp_memtable.specs.Memtable.{HasChanges, without_number, above};
 ghost use Rattle.wp_merge.specs.Merge.{AreMerged};
-ghost use Rattle.wp_store.specs.Store.{parts_of, is_flushed, newest_of, replaced};
+ghost use Rattle.wp_store.specs.Store.{parts_of, is_flushed, parts_above, newest_of, replaced};
 
 use crate::gone::Gone;
 use crate::newest::newest_in_memory;
@@ -97,6 +97,18 @@ impl Store {
         remove_from_all(&mut self.frozen, n);
     }
 
+    /// Takes each version with a number up to `n` out of memory and of the frozen parts, and drops the parts that have none
+    /// then.
+    pub fn remove_flushed(&mut self, n: Seq)
+        ensures { self.new ≡ record self.old { memory = above n self.old.memory; frozen = parts_above n self.old.frozen } }
+    {
+        self.memory.remove_up_to(n);
+        self.frozen.retain_mut(|part| {
+            part.remove_up_to(n);
+            part.count() > 0
+        });
+    }
+
     /// The newest `n` versions of the key, of all parts merged. It goes to each part for this key alone, and copies at
     /// most `n` versions there.
     pub fn collect(&self, key: &Key, n: usize) -> Result<Versions, AllocError>
@@ -172,6 +184,13 @@ impl Store {
         if let Some(table) = table {
             self.tables.push_front(table).unwrap();
         }
+    }
+
+    /// Puts these tables, the newest first, in place of all tables, in the memory that they have.
+    pub fn put_tables(&mut self, tables: Vec<Arc<Table>>)
+        ensures { self.new ≡ record self.old { tables = map arc_value tables.items; room = self.new.room } }
+    {
+        self.tables = VecDeque::from_vec(tables);
     }
 
     /// Whether no version is in memory or in a frozen part, so that a flush has nothing to write.

@@ -1,5 +1,5 @@
 -- A change that comes to an open transaction.
-use Rattle.std.proofs.Common.{◌≡◌, ℕ, Bool, true, false, true≢false, cond, ◌||◌, List, [], ◌∷◌, refl, sym, subst, ap, ◌∙◌, Option, Some, is_some}
+use Rattle.std.proofs.Common.{◌≡◌, ℕ, Bool, true, false, true≢false, cond, ◌||◌, List, [], ◌∷◌, refl, sym, subst, ap, ◌∙◌, Option, Some, None, is_some}
 use Rattle.std.specs.Prelude.{unwrap_or, Result, Ok, Err}
 use Rattle.std.specs.FinSet as set
 use Rattle.std.specs.FinMap as finite
@@ -37,7 +37,7 @@ use Rattle.wp_txn.specs.Txn.{OpenState, HasOpen}
 use Rattle.wp_txn.specs.Under.{LocksKey}
 use Rattle.wp_txn.proofs.Freed.{either_turned}
 use Rattle.wp_txn.proofs.Goes.{still, open_still}
-use Rattle.wp_txn.proofs.GoesOn.{Turnless, back, under, held_back, nothing_done, finds}
+use Rattle.wp_txn.proofs.GoesOn.{Turnless, locks_found, back, under, held_back, nothing_done, finds}
 
 -- ---- which keys a batch changes with one change more
 
@@ -154,12 +154,14 @@ not_own holder name other same = true≢false (sym ((bytes_eq-Decides name name)
 module _ {D : Type 0} (z : SharedState D) (old : SeatState) (free : IsFree z.table old) (txn : OpenState) (key : List ℕ) where
   pub key_held : (t u : LockTables) (s r new : SeatState) (w : World) (answer : Result (Unit {0}) TxnError) → s ≡ with_locks t old → Stands z old w → w.locks ≡ t → is_changed txn.batch key ≡ false
       → LocksKey t s txn.name key answer u r → GaveLocks r new → HoldsKey z old txn key answer new
-  key_held t u s r new w (Ok done) took stands are none c gave =
-      subst (λ (b : Bool). Continues z old new (locking b txn.name key old.knows.participant)) (sym none)
-      (back z old free Turnless t (with_locked t txn.name key (with_locks t old).knows) r new (under z old free t s took (with_locked t txn.name key) r c.1) gave
-      (held_back z old free t (with_key t key (Txn txn.name))) free.live refl refl ([], sym (append-nil old.knows.participant.seen)) (λ fact kept there. there))
+  key_held t u s r new w (Ok done) took stands are none c gave = (
+    subst (λ (b : Bool). Continues z old new (locking b txn.name key old.knows.participant)) (sym none)
+        (back z old free Turnless t (with_locked t txn.name key (with_locks t old).knows) r new (under z old free t s took (with_locked t txn.name key) r c.1) gave
+        (held_back z old free t (with_key t key (Txn txn.name))) free.live refl refl ([], sym (append-nil old.knows.participant.seen)) (λ fact kept there. there)),
+    λ unchanged. locks_found z old w t (λ l. finite.get l.keys key ≡ None) stands are c.2,
+  )
   key_held t u s r new w (Err (Busy holder)) took stands are none c gave =
-      (none, not_own holder txn.name c.1, finds z old free t s took new w (Some key) holder r c.3.0 stands are c.0 c.3.1 gave)
+      (none, not_own holder txn.name c.1, finds z old free t s took new w (Some key) holder r c.3.0 stands are c.0 c.3.1 c.3.2 gave)
   key_held t u s r new w (Err Memory) took stands are none c gave = nothing_done z old free t s took new r c.1 gave
   key_held t u s r new w (Err (Taken other)) took stands are none c gave = c
   key_held t u s r new w (Err TooMany) took stands are none c gave = c

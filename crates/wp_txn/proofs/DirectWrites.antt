@@ -21,7 +21,7 @@ use Rattle.wp_core.specs.Views.{Fact, passed, in_old_commits, apart, words_stay,
 use Rattle.wp_core.specs.World.{Actor, Participant, World}
 use Rattle.wp_core.specs.Sound.Views.{guarded_by}
 use Rattle.wp_core.proofs.HistoryGrows.{none_is}
-use Rattle.wp_core.proofs.Keyed.{at_inserted}
+use Rattle.wp_core.proofs.Keyed.{at_inserted, at_removed}
 use Rattle.wp_core.proofs.Tests.{some_none}
 use Rattle.wp_rule.specs.Knows.{Noted}
 use Rattle.wp_rule.specs.Moves.{MayMake, Moved, actor_after}
@@ -43,7 +43,7 @@ use Rattle.wp_txn.specs.Recording.{Records, HasDirect, HoldsDirect, EndsDirect, 
 use Rattle.wp_txn.specs.Turns.{with_locks, HoldsLocks, GaveLocks, is_of_direct, IsNoDirect, IsWithoutDirect}
 use Rattle.wp_txn.specs.Under.{LocksDirect}
 use Rattle.wp_txn.specs.Writes.{Refuses, WritesDirect, wrote_direct, writing_direct}
-use Rattle.wp_txn.proofs.GoesOn.{Turnless, back, under, held_back, nothing_done, finds, noted_back, still_holds}
+use Rattle.wp_txn.proofs.GoesOn.{Turnless, locks_found, locks_left, back, under, held_back, nothing_done, finds, noted_back, still_holds}
 use Rattle.wp_txn.proofs.Goes.{chain, put_within, refused_within, refused_still, refused_free}
 use Rattle.wp_txn.proofs.Made.{all_made, locks_are, but_notes}
 
@@ -53,7 +53,7 @@ lock_ends : (key : List ℕ) → EndsNothing (lock_direct key)
 lock_ends key = record { guard = λ turn. refl; place = λ words place. refl; words = refl; delayed_flag = refl; old_flag = refl; pending = refl; adds = refl; takes = refl; prepared = refl; unprepared = refl; transaction = λ history name. refl; direct = refl; moves = refl; replaces = refl; installing = refl }
 
 -- a direct write locks what nobody holds
-none_there : (o : Option Holder) (client : List ℕ) → is_free_for o (Client client) ≡ true → o ≡ None
+pub none_there : (o : Option Holder) (client : List ℕ) → is_free_for o (Client client) ≡ true → o ≡ None
 none_there None client free = refl
 none_there (Some (Txn name)) client free = absurd cc
 none_there (Some (Client other)) client free = absurd cc
@@ -121,10 +121,11 @@ module _ {D : Type 0} (z : SharedState D) (old : SeatState) (free : IsFree z.tab
       let b : Actor = with_direct t key (with_locks t old).knows in let is = under z old free t s took (with_direct t key) r c.1 in
       record {
         goes_on = back z old free Turnless t b r new is gave (held_back z old free t (with_key t key (Client old.knows.participant.client))) free.live refl refl ([], sym (append-nil old.knows.participant.seen)) (λ fact kept there. inr there);
+        found = locks_found z old w t (λ l. finite.get l.keys key ≡ None) stands are c.2;
         noted = noted_back z old free t b r new (direct_free key) is gave (inl refl);
         first = none_noted w stands;
       }
-  direct_held t u s r new w (Err (Busy holder)) took stands are c gave = finds z old free t s took new w (Some key) holder r c.3.0 stands are c.0 c.3.1 gave
+  direct_held t u s r new w (Err (Busy holder)) took stands are c gave = finds z old free t s took new w (Some key) holder r c.3.0 stands are c.0 c.3.1 c.3.2 gave
   direct_held t u s r new w (Err Memory) took stands are c gave = nothing_done z old free t s took new r c.1 gave
   direct_held t u s r new w (Err (Taken other)) took stands are c gave = c
   direct_held t u s r new w (Err TooMany) took stands are c gave = c
@@ -143,12 +144,13 @@ module _ {D : Type 0} (z : SharedState D) (old : SeatState) (free : IsFree z.tab
   pub ended_holds : (m : LockTables) → m ≡ without_key t key → HoldsLocks z r m
   ended_holds m is = still_holds z old free t s took ending r m without.seat free.live (inl (ap locks (sym is)))
 
-  pub ended_direct : (new : SeatState) → GaveLocks r new → EndsDirect z old new
-  ended_direct new gave =
+  pub ended_direct : (new : SeatState) (m : LockTables) → m ≡ without_key t key → (w : World) × Stands z r w → GaveLocks r new → EndsDirect z old new key
+  ended_direct new m same_tables stands gave =
       let is = under z old free t s took ending r without.seat in record {
         goes_on = back z old free IsNoDirect t (ending (with_locks t old).knows) r new is gave (held_back z old free t (without_key t key)) free.live refl refl ([], sym (append-nil old.knows.participant.seen))
             (λ fact stays there. without.notes fact stays (subst (λ (x : SeatState). IsIn fact x.knows.notes) (sym took) there));
         same = ap (λ (a : Actor). a.participant) gave.knows ∙ ap (λ (x : SeatState). x.knows.participant) is;
+        freed = locks_left z r new m (λ l. finite.get l.keys key ≡ None) stands (ended_holds m same_tables).held gave (ap (λ (l : LockTables). finite.get l.keys key) same_tables ∙ at_removed t.keys key key refl);
       }
 
 -- ---- the whole call
@@ -164,7 +166,7 @@ none_about (prior_values name p batch) = refl
 none_about (unprepared name) = refl
 none_about other = refl
 
-module _ {D : Type 0} (z : SharedState D) (old mid left new : SeatState) (change : Change) (none : old.knows.participant.direct ≡ None) (held : HasDirect z old mid (key_of change)) (ended : EndsDirect z left new) where
+module _ {D : Type 0} (z : SharedState D) (old mid left new : SeatState) (change : Change) (none : old.knows.participant.direct ≡ None) (held : HasDirect z old mid (key_of change)) (ended : EndsDirect z left new (key_of change)) where
   abbrev key : List ℕ
   key = key_of change
 
@@ -208,19 +210,20 @@ module _ {D : Type 0} (z : SharedState D) (old mid left new : SeatState) (change
           put_within _ Turnless z old mid left new (writing_direct key was) (wrote_direct key was) history (Write (change ∷ []) ∷ []) held.goes_on.same_by held.goes_on.seen held.goes_on.participant put same_seen
               (given _ (λ x. record x { own = x.own ++ numbers_behind (length history) (Write (change ∷ []) ∷ []) }) (λ fact turnless. (turnless, none_about fact)) (λ x seen. refl) put.goes_on),
         ),
+        (held.found, ended.freed),
       )
 
   refused : (why : TxnError) → Refuses z mid left 1 (λ asked. asked ≡ Write (change ∷ []) ∷ []) mid.knows.participant mid.knows.participant why → Refuses z old new 1 (λ asked. asked ≡ Write (change ∷ []) ∷ []) (writing_direct key was) (wrote_direct key was) why
   refused why c =
       refused_within z old mid left new 1 (writing_direct key was) (wrote_direct key was) held.goes_on.same_by held.goes_on.participant same_seen
       (λ goes. given Turnless (λ x. x) (λ fact turnless. turnless) (λ x seen. refl) goes)
-      (λ events goes. given Turnless (remembering events) (λ fact turnless. turnless) (λ x seen. refl) goes) (λ asked. asked ≡ Write (change ∷ []) ∷ []) (λ asked. asked ≡ Write (change ∷ []) ∷ []) (λ asked is. is) why c
+      (λ events goes. given Turnless (remembering events) (λ fact turnless. turnless) (λ x seen. refl) goes) (λ asked. asked ≡ Write (change ∷ []) ∷ []) (λ asked. asked ≡ Write (change ∷ []) ∷ []) (λ asked is legal. is) why c
 
   pub not_written : (why : TxnError) → Refuses z mid left 1 (λ asked. asked ≡ Write (change ∷ []) ∷ []) mid.knows.participant mid.knows.participant why → WritesDirect z old change (Err why) new
   not_written Memory c = inr (refused Memory c)
-  not_written (Stopped n) c = refused (Stopped n) c
-  not_written (NumbersFull published limit) c = refused (NumbersFull published limit) c
-  not_written LogFault c = refused LogFault c
+  not_written (Stopped n) c = (refused (Stopped n) c, (held.found, ended.freed))
+  not_written (NumbersFull published limit) c = (refused (NumbersFull published limit) c, (held.found, ended.freed))
+  not_written LogFault c = (refused LogFault c, (held.found, ended.freed))
   not_written (Taken name) c = absurd c
   not_written (Busy holder) c = absurd c
   not_written TooMany c = absurd c

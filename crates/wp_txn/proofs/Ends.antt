@@ -4,6 +4,7 @@ use Rattle.std.specs.Prelude.{Ok}
 use Rattle.std.specs.FinMap as finite
 use Rattle.wp_model.specs.Decision.{decision_of}
 use Rattle.wp_model.specs.History.{entry_at, name_at, prepared_name}
+use Rattle.wp_model.specs.Legal.{IsLegal}
 use Rattle.wp_model.specs.declared.change.Change.{Change}
 use Rattle.wp_model.specs.declared.entry.Entry.{Entry}
 use Rattle.wp_model.specs.declared.entry.Entry.TheVariants.{Write, Prepare, Commit}
@@ -73,14 +74,14 @@ module _ {D : Type 0} (z : SharedState D) (old start mid new : SeatState) (name 
   number_still frees = r.0 ∙ ap (λ (es : List Entry). length es) (sym (same_seen frees))
 
   pub ended : Frees z mid new name → Ends z old name entries n new
-  ended frees = (number_still frees, (r.1.0, put_and_freed frees))
+  ended frees = (number_still frees, (r.1.0, put_and_freed frees), frees.freed)
 
   -- it has the transaction until then
   pub has_until : is_some (finite.get it.transactions name) ≡ true → is_some (finite.get mid.knows.participant.transactions name) ≡ true
   has_until there = ap (λ (p : Participant). is_some (finite.get p.transactions name)) until_then.participant ∙ there
 
 -- a refusal behind such a beginning
-pub refused_from : {D : Type 0} (z : SharedState D) (old start new : SeatState) (needed : ℕ) (Asks More : List Entry → Type 0) (wider : (entries : List Entry) → Asks entries → More entries) (begins : Continues z old start old.knows.participant) (why : TxnError)
+pub refused_from : {D : Type 0} (z : SharedState D) (old start new : SeatState) (needed : ℕ) (Asks More : List Entry → Type 0) (wider : (entries : List Entry) → Asks entries → IsLegal (new.knows.participant.seen ++ entries) → More entries) (begins : Continues z old start old.knows.participant) (why : TxnError)
     → Refuses z start new needed Asks start.knows.participant start.knows.participant why → Refuses z old new needed More old.knows.participant old.knows.participant why
 refused_from z old start new needed Asks More wider begins why c =
     let Turnless : Fact → Type 0 = λ fact. guarded_by fact ≡ None in let it = old.knows.participant in
@@ -102,6 +103,7 @@ freed_then z old mid new name frees goes same = record {
   gives_up = chain (IsApartFrom name) (IsApartFrom name) (λ fact. guarded_by fact ≡ None) z old mid new (without_transaction name old.knows.participant) mid.knows.participant (without_transaction name old.knows.participant)
       (λ fact apart. apart) (λ fact apart. apart.0) frees.gives_up goes (ap (λ (p : Participant). record p { seen = new.knows.participant.seen }) frees.same);
   same = same ∙ frees.same;
+  freed = let k = frees.freed in record { world = k.world; actor = k.actor; there = subst (λ (n : ℕ). IsAt (place_at z n) k.actor k.world) (sym goes.same_by) k.there; participant = k.participant ∙ sym same; so_is = k.so_is };
 }
 
 -- no prepared table has the number, where the seat has seen no more since
@@ -165,6 +167,6 @@ prepares z old new txn n h r =
 pub refuses_open : {D : Type 0} (z : SharedState D) (old new : SeatState) (txn : OpenState) (entry : Entry) (why : TxnError) → HasOpen old txn.name txn.batch → Refuses z old new 1 (λ asked. asked ≡ entry ∷ []) old.knows.participant old.knows.participant why → RefusesOpen z old txn entry txn why new
 refuses_open z old new txn entry why h c = (refl, open_still old new (refused_still z old new 1 (λ asked. asked ≡ entry ∷ []) why c) txn.name txn.batch h, c)
 
-pub refuses_prepared : {D : Type 0} (z : SharedState D) (old new : SeatState) (txn : PreparedState) (needed : ℕ) (Asks : PreparedState → List Entry → Type 0) (why : TxnError) → HasPrepared old txn.name txn.number txn.batch
-    → Refuses z old new needed (Asks txn) old.knows.participant old.knows.participant why → RefusesPrepared z old txn needed Asks txn why new
-refuses_prepared z old new txn needed Asks why h c = (refl, prepared_still old new (refused_still z old new needed (Asks txn) why c) txn.name txn.number txn.batch h, c)
+pub refuses_prepared : {D : Type 0} (z : SharedState D) (old new : SeatState) (txn : PreparedState) (needed : ℕ) (Asks : List Entry → PreparedState → List Entry → Type 0) (why : TxnError) → HasPrepared old txn.name txn.number txn.batch
+    → Refuses z old new needed (Asks new.knows.participant.seen txn) old.knows.participant old.knows.participant why → RefusesPrepared z old txn needed Asks txn why new
+refuses_prepared z old new txn needed Asks why h c = (refl, prepared_still old new (refused_still z old new needed (Asks new.knows.participant.seen txn) why c) txn.name txn.number txn.batch h, c)

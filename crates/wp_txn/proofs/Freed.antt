@@ -1,5 +1,5 @@
 -- The tables once a transaction's name is free, with each of its keys.
-use Rattle.std.proofs.Common.{◌≡◌, ℕ, Bool, true, false, cond, not, List, refl, sym, ap, ◌∙◌, Option, Some, None}
+use Rattle.std.proofs.Common.{◌≡◌, ℕ, Bool, true, false, true≢false, cond, not, List, refl, sym, ap, ◌∙◌, Option, Some, None}
 use Rattle.std.specs.FinMap as finite
 use Rattle.std.specs.FinMap.{nat_cmp-IsAntisymmetric, slice_cmp-IsAntisymmetric}
 use Rattle.std.specs.Option.{option_map_or}
@@ -13,6 +13,8 @@ use Rattle.wp_model.specs.declared.holder.Holder.{Holder}
 use Rattle.wp_model.specs.declared.holder.Holder.TheVariants.{Txn, Client}
 use Rattle.wp_locks.specs.Locks.{but, FreesAllOf}
 use Rattle.wp_core.specs.Changes.{is_held_by, without_transaction}
+use Rattle.wp_core.proofs.Keyed.{at_removed, txn_is}
+use Rattle.wp_txn.specs.Calls.{IsFreeName}
 
 pub either_turned : (a b : List ℕ) → bytes_eq a b ≡ bytes_eq b a
 either_turned a b = by (bytes_eq a b) refl (bytes_eq b a) refl
@@ -39,3 +41,19 @@ freed_tables t l m name named freed same =
     freed q ∙ ap (λ (ks : Keys). but (Txn name) (finite.get ks q)) (ap (λ (x : LockTables). x.keys) named) ∙ but_is name (finite.get t.keys q)
     ∙ sym (finite.get-retain_keys t.keys held q (λ x e. ap held (sym (exact_bytes q x e))))) in
     same ∙ ap (λ (x : LockTables). record x { keys = m.keys }) named ∙ ap (λ (ks : Keys). record t { names = finite.remove t.names name; keys = ks }) keys
+
+-- it holds no key any more
+no_key : (name : List ℕ) (o : Option Holder) → but (Txn name) o ≡ Some (Txn name) → ⊥
+no_key name None e = absurd cc
+no_key name (Some (Client client)) e = absurd cc
+no_key name (Some (Txn other)) e = by (bytes_eq other name) refl e
+  where
+    by : (t : Bool) → bytes_eq other name ≡ t → cond t None (Some (Txn other)) ≡ Some (Txn name) → ⊥
+    by true same f = absurd cc
+    by false apart f = true≢false (sym ((bytes_eq-Decides other name).1 (txn_is other name f)) ∙ apart)
+
+pub free_name : (t l m : LockTables) (name : List ℕ) → l ≡ record t { names = finite.remove t.names name } → FreesAllOf (Txn name) l.keys m.keys → m ≡ record l { keys = m.keys } → IsFreeName name m
+free_name t l m name named freed same = (
+  ap (λ (x : LockTables). finite.get x.names name) (same ∙ ap (λ (x : LockTables). record x { keys = m.keys }) named) ∙ at_removed t.names name name refl,
+  λ key e. no_key name (finite.get l.keys key) (sym (freed key) ∙ e),
+)

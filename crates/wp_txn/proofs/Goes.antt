@@ -2,6 +2,7 @@
 use Rattle.std.proofs.Common.{◌≡◌, ℕ, ◌+◌, ◌≤◌, Bool, true, false, List, [], ◌∷◌, ◌++◌, length, refl, sym, subst, ap, ◌∙◌, append_assoc, None, arith}
 use Rattle.std.specs.FinMap as finite
 use Rattle.wp_model.specs.History.{entry_at}
+use Rattle.wp_model.specs.Legal.{IsLegal}
 use Rattle.wp_model.specs.declared.change.Change.{Change}
 use Rattle.wp_model.specs.declared.entry.Entry.{Entry}
 use Rattle.wp_model.proofs.Entries.{entry_at_old}
@@ -73,11 +74,17 @@ module _ {D : Type 0} (z : SharedState D) (old mid left new : SeatState) (needed
   same_length : length left.knows.participant.seen ≡ length new.knows.participant.seen
   same_length = ap (λ (h : List Entry). length h) (sym same)
 
-  pub refused_within : (Asks More : List Entry → Type 0) → ((entries : List Entry) → Asks entries → More entries) → (why : TxnError) → Refuses z mid left needed Asks mid.knows.participant mid.knows.participant why → Refuses z old new needed More found after why
+  pub refused_within : (Asks More : List Entry → Type 0) → ((entries : List Entry) → Asks entries → IsLegal (new.knows.participant.seen ++ entries) → More entries) → (why : TxnError) → Refuses z mid left needed Asks mid.knows.participant mid.knows.participant why → Refuses z old new needed More found after why
   refused_within Asks More wider Memory c = plain c
   refused_within Asks More wider (Stopped n) c = (c.0 ∙ same_length, found_in true c.1, more (stopped n ∷ []) c.2)
   refused_within Asks More wider (NumbersFull published limit) c = (c.0 ∙ same_length, c.1, c.2, found_in false c.3, plain c.4)
-  refused_within Asks More wider LogFault c = (subst (λ (n : ℕ). n + needed ≤ z.limit) same_length c.0, found_in false c.1, (c.2.0, wider c.2.0 c.2.1, more (log_failed c.2.0 ∷ []) c.2.2), subst (HadFault z) (sym same) c.3)
+  refused_within Asks More wider LogFault c =
+      let legal = subst (λ (h : List Entry). IsLegal (h ++ c.2.0)) (sym same) c.2.3 in (
+        subst (λ (n : ℕ). n + needed ≤ z.limit) same_length c.0,
+        found_in false c.1,
+        (c.2.0, wider c.2.0 c.2.1 legal, more (log_failed c.2.0 ∷ []) c.2.2, legal),
+        subst (HadFault z) (sym same) c.3,
+      )
   refused_within Asks More wider (Taken name) c = c
   refused_within Asks More wider (Busy holder) c = c
   refused_within Asks More wider TooMany c = c

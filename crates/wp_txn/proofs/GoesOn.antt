@@ -1,6 +1,6 @@
 -- A seat that took the locks turn, made its steps, and gave the turn goes on.
 use Rattle.std.proofs.Common.{◌≡◌, inl, inr, ℕ, ◌≤◌, true, true≢false, List, [], ◌∷◌, length, refl, sym, subst, ap, ◌∙◌, append-nil, Option, Some, None, is_some}
-use Rattle.std.specs.Prelude.{Result, Ok, Err}
+use Rattle.std.specs.Prelude.{Result, Ok, Err, OnOk}
 use Rattle.std.specs.FinSet as set
 use Rattle.std.specs.FinMap as finite
 use Rattle.wp_model.specs.Batch.{key_cmp}
@@ -23,6 +23,7 @@ use Rattle.wp_core.proofs.Keyed.{at_inserted}
 use Rattle.wp_core.proofs.Tests.{some_none}
 use Rattle.wp_rule.specs.Accounts.{IsHolderIn, account_of}
 use Rattle.wp_rule.proofs.Knows.{at_sound}
+use Rattle.wp_rule.specs.Words.{IsAt}
 use Rattle.wp_guarded.specs.declared.part.Part.{Part}
 use Rattle.wp_guarded.specs.declared.part.Part.TheVariants as part
 use Rattle.wp_guarded.specs.Parts.{content}
@@ -31,13 +32,13 @@ use Rattle.wp_shared.specs.Calls.{ContinuesWith, Continues}
 use Rattle.wp_txn.specs.declared.error.TxnError.{TxnError}
 use Rattle.wp_txn.specs.declared.error.TxnError.TheVariants.{Memory, Taken, Busy, TooMany, Silent, Unknown, InUse, NumbersFull, LogFault, Stopped}
 use Rattle.wp_txn.specs.Actors.{no_changes, with_claimed, with_found, with_told, with_heard, giving_up}
-use Rattle.wp_txn.specs.Calls.{remembering, with_transaction, Keeps, Finds, GivesUp, Begins, Tells, Hears}
+use Rattle.wp_txn.specs.Calls.{remembering, with_transaction, Keeps, LocksWere, IsFreeName, Finds, GivesUp, Begins, Tells, Hears}
 use Rattle.wp_txn.specs.Recording.{Frees}
 use Rattle.wp_txn.specs.Turns.{seat_of, with_locks, HoldsLocks, GaveLocks, IsApartFrom, IsWithout}
 use Rattle.wp_txn.specs.Txn.{HasOpen}
 use Rattle.wp_txn.specs.Under.{Claims, TellsUnder, HearsUnder}
 use Rattle.wp_txn.proofs.Freed.{freed_tables}
-use Rattle.wp_txn.proofs.Made.{not_had}
+use Rattle.wp_txn.proofs.Made.{locks_are, not_had}
 
 same_locks : (l r : LockTables) → Some (locks l) ≡ Some (locks r) → l ≡ r
 same_locks l r e = cc
@@ -54,6 +55,21 @@ Turnless fact = guarded_by fact ≡ None
 
 participant_back : (s new : SeatState) → GaveLocks s new → new.knows.participant ≡ s.knows.participant
 participant_back s new gave = ap (λ (x : Actor). x.participant) gave.knows
+
+-- ---- what the tables held
+
+pub locks_found : {D : Type 0} (z : SharedState D) (old : SeatState) (w : World) (t : LockTables) (So : LockTables → Type 0) → Stands z old w → w.locks ≡ t → So t → LocksWere z old So
+locks_found z old w t So stands are so = record { world = w; actor = old.knows; there = stands; participant = refl; so_is = subst So (sym are) so }
+
+-- the seat held them so as it gave the turn
+pub locks_left : {D : Type 0} (z : SharedState D) (r new : SeatState) (m : LockTables) (So : LockTables → Type 0) → (w : World) × Stands z r w → IsIn (locks m) r.knows.held → GaveLocks r new → So m → LocksWere z new So
+locks_left z r new m So stands held gave so = record {
+  world = stands.0;
+  actor = r.knows;
+  there = subst (λ (n : ℕ). IsAt (place_at z n) r.knows stands.0) (sym gave.same_by) stands.1;
+  participant = sym (participant_back r new gave);
+  so_is = subst So (sym (locks_are (place_at z r.by) r.knows stands.0 m stands.1 held)) so;
+}
 
 -- it has no transaction of a name that was not live
 pub not_live : {D : Type 0} (z : SharedState D) (old : SeatState) (w : World) (t : LockTables) (name : List ℕ) → Stands z old w → w.locks ≡ t → finite.get t.names name ≡ None → finite.get old.knows.participant.transactions name ≡ None
@@ -123,6 +139,10 @@ module _ {D : Type 0} (z : SharedState D) (old : SeatState) (free : IsFree z.tab
           turns = ap (λ (x : SeatState). x.turns) is;
         }
 
+    -- its transaction is gone, and it holds these tables
+    pub under_turn : (u : LockTables) (name : List ℕ) (r : SeatState) → IsWithout s r u name → IsIn (locks u) r.knows.held
+    under_turn u name r without_it = subst (λ (x : SeatState). IsIn (locks u) x.knows.held) (sym (under (λ a. record (giving_up u name a) { notes = r.knows.notes }) r without_it.seat)) (inl refl)
+
     -- it holds the tables without its transaction
     pub freed_holds : (name : List ℕ) (l m : LockTables) (r : SeatState) → IsWithout s r (without_transaction t name) name → l ≡ record t { names = finite.remove t.names name } → FreesAllOf (Txn name) l.keys m.keys → m ≡ record l { keys = m.keys }
         → HoldsLocks z r m
@@ -141,13 +161,15 @@ module _ {D : Type 0} (z : SharedState D) (old : SeatState) (free : IsFree z.tab
           record { free = goes.free; same_by = goes.same_by; seen = goes.seen; participant = goes.participant; notes = goes.notes; made = goes.made; joined = goes.joined }
 
       -- it found a holder
-      pub finds : (w : World) (key : Option (List ℕ)) (holder : Holder) (r : SeatState) (published : ℕ) → Stands z old w → w.locks ≡ t → IsHolderIn t key holder → r ≡ seat_of s (with_found t published key holder s.knows) → GaveLocks r new
+      pub finds : (w : World) (key : Option (List ℕ)) (holder : Holder) (r : SeatState) (published : ℕ) → Stands z old w → w.locks ≡ t → IsHolderIn t key holder
+          → length s.knows.participant.seen ≤ published → r ≡ seat_of s (with_found t published key holder s.knows) → GaveLocks r new
           → Finds z old new key holder
-      finds w key holder r published stands are is e gave = record {
+      finds w key holder r published stands are is low e gave = record {
         world = w;
         stood = stands;
         holds = subst (λ (l : LockTables). IsHolderIn l key holder) (sym are) is;
         published = published;
+        reached = subst (λ (x : SeatState). length x.knows.participant.seen ≤ published) took low;
         goes_on = subst (λ (l : LockTables). Continues z old new (remembering (found key holder (length old.knows.participant.seen) (account_of old.knows.participant l published key holder) ∷ []) old.knows.participant)) (sym are)
             (back Turnless t (with_found t published key holder (with_locks t old).knows) r new (under (with_found t published key holder) r e) gave (held_same t) free.live refl refl ([], sym (append-nil old.knows.participant.seen)) (λ fact kept there. there));
       }
@@ -170,7 +192,7 @@ module _ {D : Type 0} (z : SharedState D) (old : SeatState) (free : IsFree z.tab
           )
 
       pub not_begun : (w : World) (name : List ℕ) (why : TxnError) (u : LockTables) (r : SeatState) → Stands z old w → w.locks ≡ t → Claims t s name (Err why) u r → GaveLocks r new → Begins z old name (Err why) new
-      not_begun w name (Taken other) u r stands are c gave = (c.0, finds w None (Txn name) r c.1.2.0 stands are (name, refl, c.1.0) c.1.2.1 gave)
+      not_begun w name (Taken other) u r stands are c gave = (c.0, finds w None (Txn name) r c.1.2.0 stands are (name, refl, c.1.0) c.1.2.1 c.1.2.2 gave)
       not_begun w name Memory u r stands are c gave = nothing_done r c.1 gave
       not_begun w name (Busy holder) u r stands are c gave = c
       not_begun w name TooMany u r stands are c gave = c
@@ -188,16 +210,17 @@ module _ {D : Type 0} (z : SharedState D) (old : SeatState) (free : IsFree z.tab
           (λ fact apart there. without_it.notes fact apart (subst (λ (x : SeatState). IsIn fact x.knows.notes) (sym took) there)) in
           goes
 
-      pub freed : (name : List ℕ) (u : LockTables) (r : SeatState) → IsWithout s r u name → GaveLocks r new → Frees z old new name
-      freed name u r without_it gave = record {
+      pub freed : (name : List ℕ) (u m : LockTables) (r : SeatState) → IsWithout s r u name → (w : World) × Stands z r w → IsIn (locks m) r.knows.held → IsFreeName name m → GaveLocks r new → Frees z old new name
+      freed name u m r without_it stands held is_free gave = record {
         gives_up = given_up name u r without_it gave;
         same = participant_back r new gave ∙ ap (λ (x : SeatState). x.knows.participant) (under (λ a. record (giving_up u name a) { notes = r.knows.notes }) r without_it.seat);
+        freed = locks_left z r new m (IsFreeName name) stands held gave is_free;
       }
 
       -- ---- the board
 
-      pub told_back : (label : List ℕ) (answer : Result ℕ TxnError) (u : LockTables) (r : SeatState) → TellsUnder t s label answer u r → GaveLocks r new → Tells z old label answer new
-      told_back label (Ok n) u r c gave =
+      pub told_back : (label : List ℕ) (answer : Result ℕ TxnError) (u : LockTables) (r : SeatState) → TellsUnder t s label answer u r → OnOk answer ((w : World) × Stands z r w) → GaveLocks r new → Tells z old label answer new
+      told_back label (Ok n) u r c stands gave =
           let h : List Entry = c.1.0 in let f : Actor → Actor = λ a. with_told t label (sees h a) in
           let goes : Continues z old new (remembering (told label (length h) ∷ []) (record old.knows.participant { seen = h })) =
           back Turnless t (f (with_locks t old).knows) r new (under f r c.1.3) gave (held_back t (with_label t label (length h))) free.live refl refl (subst (λ (x : SeatState). StartsWith h x.knows.participant.seen) took c.1.1) (λ fact kept there. there) in
@@ -212,25 +235,32 @@ module _ {D : Type 0} (z : SharedState D) (old : SeatState) (free : IsFree z.tab
               made = goes.made;
               joined = goes.joined;
             },
+            locks_left z r new (with_label t label (length h)) (λ l. finite.get l.labels label ≡ Some n) stands (subst (λ (x : SeatState). IsIn (locks (with_label t label (length h))) x.knows.held) (sym (under f r c.1.3)) (inl refl)) gave
+                (at_inserted t.labels label (length h) label refl ∙ ap (λ (m : ℕ). Some m) (sym c.1.2)),
           )
-      told_back label (Err Memory) u r c gave = saw r c.1.0 c.1.2 c.1.1 gave
-      told_back label (Err (Taken other)) u r c gave = c
-      told_back label (Err (Busy holder)) u r c gave = c
-      told_back label (Err TooMany) u r c gave = c
-      told_back label (Err Silent) u r c gave = c
-      told_back label (Err (Unknown other at)) u r c gave = c
-      told_back label (Err (InUse other)) u r c gave = c
-      told_back label (Err (NumbersFull published limit)) u r c gave = c
-      told_back label (Err LogFault) u r c gave = c
-      told_back label (Err (Stopped n)) u r c gave = c
+      told_back label (Err Memory) u r c stands gave = saw r c.1.0 c.1.2 c.1.1 gave
+      told_back label (Err (Taken other)) u r c stands gave = c
+      told_back label (Err (Busy holder)) u r c stands gave = c
+      told_back label (Err TooMany) u r c stands gave = c
+      told_back label (Err Silent) u r c stands gave = c
+      told_back label (Err (Unknown other at)) u r c stands gave = c
+      told_back label (Err (InUse other)) u r c stands gave = c
+      told_back label (Err (NumbersFull published limit)) u r c stands gave = c
+      told_back label (Err LogFault) u r c stands gave = c
+      told_back label (Err (Stopped n)) u r c stands gave = c
 
       pub heard_back : (w : World) (label : List ℕ) (answer : Result ℕ TxnError) (r : SeatState) → Stands z old w → w.locks ≡ t → HearsUnder t s label answer r → GaveLocks r new → Hears z old label answer new
       heard_back w label (Ok n) r stands are c gave =
           let h : List Entry = c.1 in let f : Actor → Actor = with_heard h label c.0 in
-          let goes = back Turnless t (f (with_locks t old).knows) r new (under f r c.5) gave (held_same t) free.live refl refl (subst (λ (x : SeatState). StartsWith h x.knows.participant.seen) took c.3) (λ fact kept there. there) in
-          let seen : new.knows.participant.seen ≡ h = ap (λ (x : Participant). x.seen) (participant_back r new gave) ∙ ap (λ (x : SeatState). x.knows.participant.seen) (under f r c.5) in (
-            c.4 ∙ ap (λ (entries : List Entry). length entries) (sym seen),
-            (c.0, subst (λ (k : ℕ). c.0 ≤ k) (sym c.4) c.2, record { free = goes.free; same_by = goes.same_by; seen = goes.seen; participant = goes.participant; notes = goes.notes; made = goes.made; joined = goes.joined }),
+          let goes = back Turnless t (f (with_locks t old).knows) r new (under f r c.6) gave (held_same t) free.live refl refl (subst (λ (x : SeatState). StartsWith h x.knows.participant.seen) took c.4) (λ fact kept there. there) in
+          let seen : new.knows.participant.seen ≡ h = ap (λ (x : Participant). x.seen) (participant_back r new gave) ∙ ap (λ (x : SeatState). x.knows.participant.seen) (under f r c.6) in (
+            c.5 ∙ ap (λ (entries : List Entry). length entries) (sym seen),
+            (
+              c.0,
+              subst (λ (k : ℕ). c.0 ≤ k) (sym c.5) c.3,
+              record { free = goes.free; same_by = goes.same_by; seen = goes.seen; participant = goes.participant; notes = goes.notes; made = goes.made; joined = goes.joined },
+              locks_found z old w t (λ l. finite.get l.labels label ≡ Some c.0) stands are c.2,
+            ),
           )
       heard_back w label (Err Silent) r stands are c gave =
           let none : finite.get w.locks.labels label ≡ None = ap (λ (l : LockTables). finite.get l.labels label) are ∙ c.0 in

@@ -30,6 +30,7 @@ use Rattle.wp_core.specs.Sound.Locks.{IsOwner, owner_of}
 use Rattle.wp_core.proofs.AllParticipants.{mine}
 use Rattle.wp_core.proofs.HistoryGrows.{none_is}
 use Rattle.wp_core.proofs.Keyed.{at_inserted}
+use Rattle.wp_core.proofs.KeepsSeen.{shorter}
 use Rattle.wp_rule.specs.Words.{Place, IsAt}
 use Rattle.wp_rule.specs.Moves.{MayMake, MayStep, Moved, first_of, actor_after, world_after, taking_name}
 use Rattle.wp_rule.specs.Accounts.{IsHolderIn, account_of}
@@ -39,7 +40,7 @@ use Rattle.wp_rule.proofs.Knows.{at_sound, seen_is}
 use Rattle.wp_rule.proofs.MayBeMade.{known_made, finds_holder}
 use Rattle.wp_rule.proofs.Needed.{has_locks, has_writes, needed, undecided_of}
 use Rattle.wp_rule.proofs.Outlasting.{outlasts}
-use Rattle.wp_shared.specs.Seats.{SeatState}
+use Rattle.wp_shared.specs.Seats.{SharedState, SeatState, Stands, place_at}
 use Rattle.wp_shared.proofs.OneStep.{stepped, becomes}
 use Rattle.wp_txn.specs.Actors.{no_changes, transaction_in, with_claimed, with_found, with_locked, with_batch, giving_up, with_taken, with_told, with_heard}
 use Rattle.wp_txn.specs.Turns.{seat_of, IsApartFrom, IsWithout, TakesPrepare}
@@ -85,6 +86,10 @@ tell_ends label = record { guard = λ turn. refl; place = λ words place. refl; 
 hear_ends : (label : List ℕ) (n : ℕ) → EndsNothing (hear label n)
 hear_ends label n = record { guard = λ turn. refl; place = λ words place. refl; words = refl; delayed_flag = refl; old_flag = refl; pending = refl; adds = refl; takes = refl; prepared = refl; unprepared = refl; transaction = λ history name. refl; direct = refl; moves = refl; replaces = refl; installing = refl }
 
+-- the seat stands in the world that the steps led to
+pub stands_after : {D : Type 0} (z : SharedState D) (old new : SeatState) (steps : World → List Step) (so : World → Type 0) → new.by ≡ old.by → Moved (place_at z old.by) steps so old.knows new.knows → (w : World) × Stands z new w
+stands_after z old new steps so by m = let last = world_after (steps m.world) m.world old.by old.knows in (last, subst (λ (n : ℕ). IsAt (place_at z n) new.knows last) (sym by) m.after)
+
 -- ---- what is there
 
 there_is : {X : Type 0} (o : Option X) (x : X) → is_some o ≡ true → o ≡ Some (unwrap_or o x)
@@ -121,11 +126,11 @@ may_find p a t key holder held is = finds_holder p a key holder (record { table 
 
 pub holder_found : (p : Place) (so : World → Type 0) (s new : SeatState) (t : LockTables) (key : Option (List ℕ)) (holder : Holder) → IsIn (locks t) s.knows.held → (new.table ≡ s.table) × (new.by ≡ s.by) × (new.turns ≡ s.turns)
     → Moved p (λ w. find_holder key holder (account_of s.knows.participant w.locks (length w.writes.history) key holder) ∷ []) so s.knows new.knows
-    → (published : ℕ) × (new ≡ seat_of s (with_found t published key holder s.knows))
+    → (published : ℕ) × (length s.knows.participant.seen ≤ published) × (new ≡ seat_of s (with_found t published key holder s.knows))
 holder_found p so s new t key holder held same m =
     let w = m.world in let n : ℕ = length w.writes.history in
     let made = all_made p (λ v. find_holder key holder (account_of s.knows.participant v.locks (length v.writes.history) key holder) ∷ []) so s.knows new.knows m (find_ends key holder (account_of s.knows.participant w.locks n key holder), tt) in
-    (n, becomes s new (with_found t n key holder s.knows) same (made ∙ ap (λ (l : LockTables). with_found l n key holder s.knows) (locks_are p s.knows w t m.before held)))
+    (n, shorter w.writes.history s.knows.participant.seen (seen_is p s.knows w m.before), becomes s new (with_found t n key holder s.knows) same (made ∙ ap (λ (l : LockTables). with_found l n key holder s.knows) (locks_are p s.knows w t m.before held)))
 
 -- ---- keys and batches
 
@@ -159,6 +164,11 @@ pub key_locked : (p : Place) (so : World → Type 0) (a b : Actor) (t : LockTabl
 key_locked p so a b t name key m held =
     all_made p (λ w. lock_key name (transaction_in a.participant name) key ∷ []) so a b m (lock_ends name (transaction_in a.participant name) key, tt)
     ∙ ap (λ (l : LockTables). with_locked l name key a) (locks_are p a m.world t m.before held)
+
+-- nobody held it
+pub key_was_free : (p : Place) (so : World → Type 0) (a b : Actor) (t : LockTables) (name key : List ℕ) → Moved p (λ w. lock_key name (transaction_in a.participant name) key ∷ []) so a b → IsIn (locks t) a.held
+    → finite.get t.keys key ≡ None
+key_was_free p so a b t name key m held = ap (λ (l : LockTables). finite.get l.keys key) (sym (locks_are p a m.world t m.before held)) ∙ m.met.0.2
 
 pub may_set : (p : Place) (a : Actor) (name : List ℕ) (batch : List Change) → is_some (finite.get a.participant.transactions name) ≡ true → is_batch batch ≡ true → MayMake p a (λ w. set_batch name (transaction_in a.participant name) batch ∷ [])
 may_set p a name batch there ok = known_made p a (set_batch name (transaction_in a.participant name) batch) tt (has_its a name there, ok)

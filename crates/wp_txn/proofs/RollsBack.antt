@@ -13,6 +13,7 @@ use Rattle.wp_core.specs.Lists.{IsIn}
 use Rattle.wp_core.specs.Reading.{Registration}
 use Rattle.wp_core.specs.Views.{Fact}
 use Rattle.wp_core.specs.World.{Participant}
+use Rattle.wp_core.specs.Sound.Actors.{StartsWith}
 use Rattle.wp_core.proofs.HistoryGrows.{named_stays}
 use Rattle.wp_core.proofs.HistoryLaws.{next_decides_prepare}
 use Rattle.wp_core.proofs.KeepsSeen.{shorter}
@@ -25,7 +26,7 @@ use Rattle.wp_txn.specs.Calls.{without_transaction}
 use Rattle.wp_txn.specs.Recording.{OpensLog, Records, HadPrior, IsPriorSince, Frees}
 use Rattle.wp_txn.specs.Turns.{IsApartFrom}
 use Rattle.wp_txn.specs.Txn.{HasPrepared}
-use Rattle.wp_txn.specs.Writes.{HasPut, RollsBack}
+use Rattle.wp_txn.specs.Writes.{HasPut, RollsBack, AsksRollback}
 use Rattle.wp_txn.proofs.Ends.{put_and_freed, number_still, name_before, stands_before}
 use Rattle.wp_txn.proofs.Goes.{chain, still, prepared_still}
 use Rattle.wp_txn.proofs.GoesOn.{Turnless}
@@ -143,6 +144,17 @@ module _ {D : Type 0} (z : SharedState D) (old new : SeatState) (log : LogState)
       ∙ ap (λ (es : List Entry). prior es (batch_at history number)) (sym (ap (take n) o.takes.grown.1 ∙ take-append-le n seen o.takes.grown.0 high))
       ∙ law history number n (legal_now z old new log needed o) (undecided_still z old new log needed o name number batch h) had.1 (omega (arith, long, high))
 
+-- what is asked for behind a history restores what the keys have there
+pub asks_prior : {D : Type 0} (z : SharedState D) (old new : SeatState) (name : List ℕ) (number : ℕ) (batch restored : List Change) (asked : List Entry) → HasPrepared old name number batch
+    → StartsWith new.knows.participant.seen old.knows.participant.seen → asked ≡ Undo number restored ∷ Close number ∷ [] → IsLegal (new.knows.participant.seen ++ asked)
+    → AsksRollback new.knows.participant.seen (record { name = name; number = number; batch = batch }) asked
+asks_prior z old new name number batch restored asked h grown is legal =
+    let history = new.knows.participant.seen in
+    let k = after_front history (Undo number restored) (Close number ∷ []) (subst (λ (es : List Entry). IsLegal (history ++ es)) is legal) in
+    is
+    ∙ ap (λ (b : List Change). Undo number b ∷ Close number ∷ [])
+    (k.restores_prior ∙ ap (prior history) (ap prepared_batch (stands_before z old new name number batch h history grown)))
+
 -- ---- the transaction is rolled back
 
 -- it is as it was, behind what left the seat as it was
@@ -170,4 +182,5 @@ module _ {D : Type 0} (z : SharedState D) (old start mid : SeatState) (name : Li
         number_still z old start mid new name entries facts n begins r rollback_is_of frees,
         (before_it, subst Put restored_is (put_and_freed z old start mid new name entries facts n begins r rollback_is_of frees)),
         gone,
+        frees.freed,
       )

@@ -14,7 +14,7 @@ use Rattle.wp_model.proofs.Found.{found_named}
 use Rattle.wp_locks.specs.Locks.{RefusesTake}
 use Rattle.wp_locks.specs.declared.error.LockError.TheVariants as why
 use Rattle.wp_core.specs.Lists.{IsIn}
-use Rattle.wp_core.specs.Tables.{Content, writes, locks}
+use Rattle.wp_core.specs.Tables.{Content, WriteTable, writes, locks}
 use Rattle.wp_core.specs.Turns.{write_turn, locks_turn}
 use Rattle.wp_core.specs.Views.{Fact, found, undecided_at}
 use Rattle.wp_core.specs.World.{Transaction, Participant, Actor, World}
@@ -28,6 +28,7 @@ use Rattle.wp_rule.specs.Words.{Place, IsAt}
 use Rattle.wp_rule.specs.Moves.{MayStep}
 use Rattle.wp_rule.proofs.Knows.{at_sound}
 use Rattle.wp_rule.proofs.Needed.{needed}
+use Rattle.wp_commits.proofs.Held.{writes_are}
 use Rattle.wp_guarded.specs.Log.{LogState}
 use Rattle.wp_shared.specs.Seats.{SharedState, SeatState, IsFree, Stands, place_at}
 use Rattle.wp_shared.specs.Calls.{Continues}
@@ -139,7 +140,7 @@ module _ {D : Type 0} (z : SharedState D) (old : SeatState) (free : IsFree z.tab
     locks_after name (Ok done) u r c =
         locks_kept (with_taken t c.2.history name both) r u (under_both (with_taken t c.2.history name) r c.2.seat) free.live (inl (ap locks (sym (c.0 ∙ ap (λ (client : List ℕ). with_name t name (Some client)) same_client))))
     locks_after name (Err (Unknown other at)) u r c = locks_kept (sees c.3.0 both) r u (under_both (sees c.3.0) r c.3.4) free.live (inl (ap locks (sym c.2)))
-    locks_after name (Err (InUse other)) u r c = locks_kept (with_found t c.1.2.0 None (Txn name) both) r u (under_both (with_found t c.1.2.0 None (Txn name)) r c.1.2.1) free.live (inl (ap locks (sym c.1.1)))
+    locks_after name (Err (InUse other)) u r c = locks_kept (with_found t c.1.2.0 None (Txn name) both) r u (under_both (with_found t c.1.2.0 None (Txn name)) r c.1.2.2) free.live (inl (ap locks (sym c.1.1)))
     locks_after name (Err Memory) u r c = absurd c
     locks_after name (Err (Taken other)) u r c = absurd c
     locks_after name (Err (Busy holder)) u r c = absurd c
@@ -163,7 +164,7 @@ module _ {D : Type 0} (z : SharedState D) (old : SeatState) (free : IsFree z.tab
       pub log_after : (name : List ℕ) (answer : Result (Unit {0}) TxnError) (u : LockTables) → TakesUnder t s2 name answer u r → HoldsLog z s4 log
       log_after name (Ok done) u c = log_kept (with_taken t c.2.history name both) (under_both (with_taken t c.2.history name) r c.2.seat) (inl refl)
       log_after name (Err (Unknown other at)) u c = log_kept (sees c.3.0 both) (under_both (sees c.3.0) r c.3.4) (inl refl)
-      log_after name (Err (InUse other)) u c = log_kept (with_found t c.1.2.0 None (Txn name) both) (under_both (with_found t c.1.2.0 None (Txn name)) r c.1.2.1) (inl refl)
+      log_after name (Err (InUse other)) u c = log_kept (with_found t c.1.2.0 None (Txn name) both) (under_both (with_found t c.1.2.0 None (Txn name)) r c.1.2.2) (inl refl)
       log_after name (Err Memory) u c = absurd c
       log_after name (Err (Taken other)) u c = absurd c
       log_after name (Err (Busy holder)) u c = absurd c
@@ -206,6 +207,13 @@ module _ {D : Type 0} (z : SharedState D) (old : SeatState) (free : IsFree z.tab
 
         -- ---- a refusal
 
+        log_held : IsIn (writes log.table) s2.knows.held
+        log_held = subst (λ (x : SeatState). IsIn (writes log.table) x.knows.held) (sym took_it) (inr (subst (λ (a : Actor). IsIn (writes log.table) a.held) (sym took_log.knows) (inl refl)))
+
+        -- so many entries are published while the seat holds the log
+        published_then : (w : World) → Stands z s w → length w.writes.history ≡ length log.table.history
+        published_then w stands = ap (λ (d : WriteTable). length d.history) (writes_are (place_at z s.by) s.knows w stands log.table (subst (λ (a : Actor). IsIn (writes log.table) a.held) (sym took_log.knows) (inl refl)))
+
         stood_then : (w : World) → Stands z s w → StoodWithLog z old w
         stood_then w stands = record {
           actor = s.knows;
@@ -224,7 +232,7 @@ module _ {D : Type 0} (z : SharedState D) (old : SeatState) (free : IsFree z.tab
               c.3.3 ∙ ap (λ (entries : List Entry). length entries) (sym seen),
               ap (λ (entries : List Entry). named entries name) seen ∙ c.3.2,
               record { free = goes.free; same_by = goes.same_by; seen = goes.seen; participant = goes.participant; notes = goes.notes; made = goes.made; joined = goes.joined },
-              (w, stood_then w stands, ap (λ (l : LockTables). finite.get l.names name) are ∙ c.1),
+              (w, stood_then w stands, ap (λ (l : LockTables). finite.get l.names name) are ∙ c.1, published_then w stands ∙ ap (λ (es : List Entry). length es) (sym (c.3.5 log.table log_held)) ∙ sym c.3.3),
             )
         not_taken w name (InUse other) u stands are c = (
           c.0,
@@ -233,8 +241,9 @@ module _ {D : Type 0} (z : SharedState D) (old : SeatState) (free : IsFree z.tab
             stood = stood_then w stands;
             holds = (name, refl, ap (λ (l : LockTables). is_some (finite.get l.names name)) are ∙ c.1.0);
             published = c.1.2.0;
+            reached = subst (λ (seen : List Entry). length seen ≤ c.1.2.0) was_seen c.1.2.1;
             goes_on = subst (λ (l : LockTables). Continues z old new (remembering (found None (Txn name) (length old.knows.participant.seen) (account_of old.knows.participant l c.1.2.0 None (Txn name)) ∷ []) old.knows.participant)) (sym are)
-                (both_back (with_found t c.1.2.0 None (Txn name) both) (under_both (with_found t c.1.2.0 None (Txn name)) r c.1.2.1) same_held free.live refl refl ([], sym (append-nil old.knows.participant.seen)) (λ fact there. there));
+                (both_back (with_found t c.1.2.0 None (Txn name) both) (under_both (with_found t c.1.2.0 None (Txn name)) r c.1.2.2) same_held free.live refl refl ([], sym (append-nil old.knows.participant.seen)) (λ fact there. there));
           },
           (c.2.0, ap (λ (l : LockTables). finite.get l.names name) are ∙ c.2.1),
         )
@@ -252,7 +261,7 @@ module _ {D : Type 0} (z : SharedState D) (old : SeatState) (free : IsFree z.tab
         module _ (name : List ℕ) (c : TakesPrepare s2 t name r) where
           -- the history that it saw is the log's
           of_log : c.history ≡ log.table.history
-          of_log = c.same log.table (subst (λ (x : SeatState). IsIn (writes log.table) x.knows.held) (sym took_it) (inr (subst (λ (a : Actor). IsIn (writes log.table) a.held) (sym took_log.knows) (inl refl))))
+          of_log = c.same log.table log_held
 
           pub not_none : IsPrepareOf log.table.history name None → ⊥
           not_none none = true≢false (sym c.named_there ∙ ap (λ (h : List Entry). is_some (named h name)) of_log ∙ ap is_some none)
@@ -270,6 +279,13 @@ module _ {D : Type 0} (z : SharedState D) (old : SeatState) (free : IsFree z.tab
               let f = found_named h name number named_is in
               record {
                 name_is = refl;
+                nobodys = record {
+                  world = w;
+                  actor = s.knows;
+                  there = subst (λ (by : ℕ). IsAt (place_at z by) s.knows w) took_log.same_by stands;
+                  participant = ap (λ (a : Actor). a.participant) took_log.knows;
+                  so_is = ap (λ (l : LockTables). finite.get l.names name) are ∙ left;
+                };
                 not_had = ap (λ (a : Actor). finite.get a.participant.transactions name) (sym took_log.knows) ∙ not_had (place_at z s.by) s.knows w t name stands are (λ client has. none_left client (sym left ∙ has));
                 number_is = ap (λ (entries : List Entry). named entries name) seen ∙ named_is;
                 has = record {

@@ -216,7 +216,7 @@ module _ {D : Type 0} (z : SharedState D) (old s t new : SeatState) (log left : 
       let back = not_put_back true (failing entries) (λ es x. refl) p.0 in (
         subst (λ (es : List Entry). length es + length entries ≤ z.limit) (sym back.0) o.within,
         found_then z old s log o.takes new.knows.participant.seen false back.0 o.running,
-        (entries, refl, back.1),
+        (entries, refl, back.1, subst (λ (h : List Entry). IsLegal (h ++ entries)) (sym back.0) legal),
         record {
           before = log;
           left = left;

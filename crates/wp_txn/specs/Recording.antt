@@ -1,5 +1,6 @@
 -- How a call puts a record of entries into the history, and what it does beside that.
 use Rattle.std.specs.Prelude.{◌≡◌, ℕ, ◌+◌, ◌≤◌, ◌<◌, ◌^◌, false, List, ◌++◌, length, take, Some, None, Result, Ok, Err}
+use Rattle.std.specs.FinMap as finite
 use Rattle.wp_model.specs.declared.entry.Entry.{Entry}
 use Rattle.wp_model.specs.Legal.{IsLegal, prior}
 use Rattle.wp_model.specs.declared.change.Change.{Change}
@@ -16,7 +17,7 @@ use Rattle.wp_shared.specs.Calls.{ContinuesWith, Continues}
 use Rattle.wp_shared.specs.Seats.{SharedState, SeatState, Stands}
 use Rattle.wp_txn.specs.declared.error.TxnError.{TxnError}
 use Rattle.wp_txn.specs.declared.error.TxnError.TheVariants.{Memory, Busy, LogFault}
-use Rattle.wp_txn.specs.Calls.{Keeps, Finds, GivesUp, without_transaction}
+use Rattle.wp_txn.specs.Calls.{Keeps, Finds, GivesUp, LocksWere, IsFreeName, without_transaction}
 use Rattle.wp_txn.specs.Turns.{IsNoDirect}
 use Rattle.wp_txn.specs.Writes.{HasPut, Refuses, writing_direct}
 
@@ -62,10 +63,11 @@ HadPrior s number batch found = (n : ℕ) × (number ≤ n) × (n ≤ length s.k
 abbrev pub IsPriorSince : SeatState → SeatState → List Change → List Change → Type 0
 IsPriorSince old new batch found = HadPrior new (length old.knows.participant.seen) batch found
 
--- a transaction of this name is gone from the seat, which has seen no more
+-- a transaction of this name is gone from the seat, which has seen no more, and its name and keys are free
 pub record Frees {D : Type 0} (z : SharedState D) (old new : SeatState) (name : List ℕ) : Type 0 where
   pub gives_up : GivesUp z old new name
   pub same : new.knows.participant ≡ without_transaction name old.knows.participant
+  pub freed : LocksWere z new (IsFreeName name)
 
 -- ---- a direct write
 
@@ -73,9 +75,11 @@ pub record Frees {D : Type 0} (z : SharedState D) (old new : SeatState) (name : 
 abbrev pub without_direct : Participant → Participant
 without_direct p = record p { direct = None }
 
--- The key is locked for the seat's direct write, and noted as that of no undecided prepare. Before that it had noted no such fact.
+-- The key, which nobody held, is locked for the seat's direct write, and noted as that of no undecided prepare. Before that it had
+-- noted no such fact.
 pub record HasDirect {D : Type 0} (z : SharedState D) (old new : SeatState) (key : List ℕ) : Type 0 where
   pub goes_on : Continues z old new (writing_direct key old.knows.participant)
+  pub found : LocksWere z old (λ t. finite.get t.keys key ≡ None)
   pub noted : IsIn (direct_free key) new.knows.notes
   pub first : (other : List ℕ) → IsIn (direct_free other) old.knows.notes → ⊥
 
@@ -85,7 +89,8 @@ HoldsDirect z old key (Err (Busy holder)) new = Finds z old new (Some key) holde
 HoldsDirect z old key (Err Memory) new = Keeps z old new
 HoldsDirect z old key (Err other) new = ⊥
 
--- the direct write is over; the seat has seen no more
-pub record EndsDirect {D : Type 0} (z : SharedState D) (old new : SeatState) : Type 0 where
+-- the direct write of the key is over, and nobody holds it; the seat has seen no more
+pub record EndsDirect {D : Type 0} (z : SharedState D) (old new : SeatState) (key : List ℕ) : Type 0 where
   pub goes_on : ContinuesWith IsNoDirect z old new (without_direct old.knows.participant)
   pub same : new.knows.participant ≡ without_direct old.knows.participant
+  pub freed : LocksWere z new (λ t. finite.get t.keys key ≡ None)

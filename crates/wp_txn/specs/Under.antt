@@ -10,6 +10,8 @@ use Rattle.wp_model.specs.declared.holder.Holder.TheVariants.{Txn, Client}
 use Rattle.wp_model.specs.Holder.{is_same_txn}
 use Rattle.wp_locks.specs.Locks.{is_free_for}
 use Rattle.wp_core.specs.Changes.{sees, with_name, with_key, with_label}
+use Rattle.wp_core.specs.Lists.{IsIn}
+use Rattle.wp_core.specs.Tables.{WriteTable, writes}
 use Rattle.wp_core.specs.Sound.Actors.{StartsWith}
 use Rattle.wp_shared.specs.Seats.{SeatState}
 use Rattle.wp_txn.specs.declared.error.TxnError.{TxnError}
@@ -17,9 +19,11 @@ use Rattle.wp_txn.specs.declared.error.TxnError.TheVariants.{Memory, Taken, Busy
 use Rattle.wp_txn.specs.Actors.{with_claimed, with_found, with_locked, with_direct, with_told, with_heard}
 use Rattle.wp_txn.specs.Turns.{seat_of, TakesPrepare}
 
--- the name is live, and the seat found that
+-- the name is live, and the seat found that, when no fewer entries were published than it had seen
 abbrev pub FindsName : LockTables → SeatState → List ℕ → LockTables → SeatState → Type 0
-FindsName old s name new t = (is_some (finite.get old.names name) ≡ true) × (new ≡ old) × ((published : ℕ) × (t ≡ seat_of s (with_found old published None (Txn name) s.knows)))
+FindsName old s name new t =
+    (is_some (finite.get old.names name) ≡ true) × (new ≡ old)
+    × ((published : ℕ) × (length s.knows.participant.seen ≤ published) × (t ≡ seat_of s (with_found old published None (Txn name) s.knows)))
 
 abbrev pub Claims : LockTables → SeatState → List ℕ → Result (Unit {0}) TxnError → LockTables → SeatState → Type 0
 Claims old s name (Ok done) new t = (new ≡ with_name old name (Some s.knows.participant.client)) × (t ≡ seat_of s (with_claimed old name s.knows)) × (finite.get old.names name ≡ None)
@@ -31,25 +35,28 @@ Claims old s name (Err other) new t = ⊥
 abbrev pub LocksFor : LockTables → SeatState → List ℕ → Holder → Result (Unit {0}) TxnError → LockTables → SeatState → Type 0
 LocksFor old s key holder (Ok done) new t = (is_free_for (finite.get old.keys key) holder ≡ true) × (new ≡ with_key old key holder) × (t ≡ s)
 LocksFor old s key holder (Err (Busy other)) new t =
-    (finite.get old.keys key ≡ Some other) × (is_same_txn other holder ≡ false) × (new ≡ old) × ((published : ℕ) × (t ≡ seat_of s (with_found old published (Some key) other s.knows)))
+    (finite.get old.keys key ≡ Some other) × (is_same_txn other holder ≡ false) × (new ≡ old)
+    × ((published : ℕ) × (length s.knows.participant.seen ≤ published) × (t ≡ seat_of s (with_found old published (Some key) other s.knows)))
 LocksFor old s key holder (Err Memory) new t = (new ≡ old) × (t ≡ s)
 LocksFor old s key holder (Err other) new t = ⊥
 
 abbrev pub LocksKey : LockTables → SeatState → List ℕ → List ℕ → Result (Unit {0}) TxnError → LockTables → SeatState → Type 0
-LocksKey old s name key (Ok done) new t = (new ≡ with_key old key (Txn name)) × (t ≡ seat_of s (with_locked old name key s.knows))
+LocksKey old s name key (Ok done) new t = (new ≡ with_key old key (Txn name)) × (t ≡ seat_of s (with_locked old name key s.knows)) × (finite.get old.keys key ≡ None)
 LocksKey old s name key (Err (Busy holder)) new t =
-    (finite.get old.keys key ≡ Some holder) × (is_same_txn holder (Txn name) ≡ false) × (new ≡ old) × ((published : ℕ) × (t ≡ seat_of s (with_found old published (Some key) holder s.knows)))
+    (finite.get old.keys key ≡ Some holder) × (is_same_txn holder (Txn name) ≡ false) × (new ≡ old)
+    × ((published : ℕ) × (length s.knows.participant.seen ≤ published) × (t ≡ seat_of s (with_found old published (Some key) holder s.knows)))
 LocksKey old s name key (Err Memory) new t = (new ≡ old) × (t ≡ s)
 LocksKey old s name key (Err other) new t = ⊥
 
 abbrev pub LocksDirect : LockTables → SeatState → List ℕ → Result (Unit {0}) TxnError → LockTables → SeatState → Type 0
-LocksDirect old s key (Ok done) new t = (new ≡ with_key old key (Client s.knows.participant.client)) × (t ≡ seat_of s (with_direct old key s.knows))
+LocksDirect old s key (Ok done) new t = (new ≡ with_key old key (Client s.knows.participant.client)) × (t ≡ seat_of s (with_direct old key s.knows)) × (finite.get old.keys key ≡ None)
 LocksDirect old s key (Err why) new t = LocksFor old s key (Client s.knows.participant.client) (Err why) new t
 
 abbrev pub TakesUnder : LockTables → SeatState → List ℕ → Result (Unit {0}) TxnError → LockTables → SeatState → Type 0
 TakesUnder old s name (Ok done) new t = (new ≡ with_name old name (Some s.knows.participant.client)) × (finite.get old.names name ≡ Some None) × TakesPrepare s old name t
 TakesUnder old s name (Err (Unknown other at)) new t =
-    (other ≡ name) × (finite.get old.names name ≡ None) × (new ≡ old) × ((history : List Entry) × StartsWith history s.knows.participant.seen × (named history name ≡ None) × (at ≡ length history) × (t ≡ seat_of s (sees history s.knows)))
+    (other ≡ name) × (finite.get old.names name ≡ None) × (new ≡ old) × ((history : List Entry) × StartsWith history s.knows.participant.seen × (named history name ≡ None) × (at ≡ length history) × (t ≡ seat_of s (sees history s.knows))
+    × ((d : WriteTable) → IsIn (writes d) s.knows.held → history ≡ d.history))
 TakesUnder old s name (Err (InUse other)) new t = (other ≡ name) × FindsName old s name new t × ((client : List ℕ) × (finite.get old.names name ≡ Some (Some client)))
 TakesUnder old s name (Err other) new t = ⊥
 
@@ -61,7 +68,7 @@ TellsUnder old s label (Err other) new t = ⊥
 
 abbrev pub HearsUnder : LockTables → SeatState → List ℕ → Result ℕ TxnError → SeatState → Type 0
 HearsUnder old s label (Ok n) t =
-    (m : ℕ) × (history : List Entry) × (m ≤ length history) × StartsWith history s.knows.participant.seen × (n ≡ length history) × (t ≡ seat_of s (with_heard history label m s.knows))
+    (m : ℕ) × (history : List Entry) × (finite.get old.labels label ≡ Some m) × (m ≤ length history) × StartsWith history s.knows.participant.seen × (n ≡ length history) × (t ≡ seat_of s (with_heard history label m s.knows))
 HearsUnder old s label (Err Silent) t = (finite.get old.labels label ≡ None) × (t ≡ s)
 HearsUnder old s label (Err other) t = ⊥
 

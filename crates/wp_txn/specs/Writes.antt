@@ -1,11 +1,12 @@
 -- What the calls answer that make entries, and what they leave of the seat.
 use Rattle.std.specs.Prelude.{◌≡◌, ◌⊎◌, ℕ, ◌+◌, ◌<◌, ◌≤◌, true, false, List, [], ◌∷◌, ◌++◌, length, Some, None, Result, Ok, Err}
+use Rattle.std.specs.FinMap as finite
 use Rattle.wp_model.specs.declared.change.Change.{Change}
 use Rattle.wp_model.specs.declared.entry.Entry.{Entry}
 use Rattle.wp_model.specs.declared.entry.Entry.TheVariants.{Write, Prepare, Commit, Undo, Close}
 use Rattle.wp_model.specs.declared.holder.Holder.TheVariants.{Client}
 use Rattle.wp_model.specs.Batch.{key_of}
-use Rattle.wp_model.specs.Legal.{prior}
+use Rattle.wp_model.specs.Legal.{IsLegal, prior}
 use Rattle.wp_core.specs.Sound.Actors.{StartsWith}
 use Rattle.wp_core.specs.Sound.Views.{guarded_by}
 use Rattle.wp_core.specs.Views.{Fact, locked, stopped}
@@ -20,7 +21,7 @@ use Rattle.wp_shared.specs.Calls.{ContinuesWith, Continues}
 use Rattle.wp_shared.specs.Seats.{SharedState, SeatState}
 use Rattle.wp_txn.specs.declared.error.TxnError.{TxnError}
 use Rattle.wp_txn.specs.declared.error.TxnError.TheVariants.{Memory, Busy, NumbersFull, LogFault, Stopped}
-use Rattle.wp_txn.specs.Calls.{Keeps, Finds, remembering, without_transaction}
+use Rattle.wp_txn.specs.Calls.{Keeps, Finds, LocksWere, IsFreeName, remembering, without_transaction}
 use Rattle.wp_txn.specs.Turns.{IsApartFrom}
 use Rattle.wp_txn.specs.Txn.{OpenState, PreparedState, HasOpen, HasPrepared}
 
@@ -53,7 +54,7 @@ pub record HadFault {D : Type 0} (z : SharedState D) (history : List Entry) : Ty
   pub rose : Rose before.wal.faults left.wal.faults
 
 -- Why a call put no entries there, of which it needs so many, and asks for such. It was the first participant as it found the log,
--- and is the second one but for what it remembers of that.
+-- and is the second one but for what it remembers of that. What a log that failed was asked to take might have come next.
 abbrev pub Refuses : {D : Type 0} → SharedState D → SeatState → SeatState → ℕ → (List Entry → Type 0) → Participant → Participant → TxnError → Type 0
 Refuses z old new needed Asks found after Memory = Continues z old new after
 Refuses z old new needed Asks found after (Stopped n) =
@@ -63,7 +64,7 @@ Refuses z old new needed Asks found after (NumbersFull published limit) =
     × FoundLog z old.by found new.knows.participant.seen false × Continues z old new after
 Refuses z old new needed Asks found after LogFault =
     (length new.knows.participant.seen + needed ≤ z.limit) × FoundLog z old.by found new.knows.participant.seen false
-    × ((entries : List Entry) × Asks entries × Continues z old new (failing entries after)) × HadFault z new.knows.participant.seen
+    × ((entries : List Entry) × Asks entries × Continues z old new (failing entries after) × IsLegal (new.knows.participant.seen ++ entries)) × HadFault z new.knows.participant.seen
 Refuses z old new needed Asks found after other = ⊥
 
 -- ---- a direct write
@@ -76,13 +77,20 @@ wrote_direct key p = remembering (locked key (Client p.client) ∷ []) p
 abbrev pub writing_direct : List ℕ → Participant → Participant
 writing_direct key p = record (wrote_direct key p) { direct = Some key }
 
+-- nobody held the key as the call found it, and nobody holds it as it left it
+abbrev pub KeyIsFree : {D : Type 0} → SharedState D → SeatState → SeatState → List ℕ → Type 0
+KeyIsFree z old new key = LocksWere z old (λ t. finite.get t.keys key ≡ None) × LocksWere z new (λ t. finite.get t.keys key ≡ None)
+
 abbrev pub WritesDirect : {D : Type 0} → SharedState D → SeatState → Change → Result ℕ TxnError → SeatState → Type 0
 WritesDirect z old change (Ok n) new =
     (n ≡ length new.knows.participant.seen)
     × HasPutThese (λ fact. guarded_by fact ≡ None) z old new (writing_direct (key_of change) old.knows.participant) (wrote_direct (key_of change) old.knows.participant) (Write (change ∷ []) ∷ [])
+    × KeyIsFree z old new (key_of change)
 WritesDirect z old change (Err (Busy holder)) new = Finds z old new (Some (key_of change)) holder
 WritesDirect z old change (Err Memory) new = Keeps z old new ⊎ Continues z old new (wrote_direct (key_of change) old.knows.participant)
-WritesDirect z old change (Err why) new = Refuses z old new 1 (λ entries. entries ≡ Write (change ∷ []) ∷ []) (writing_direct (key_of change) old.knows.participant) (wrote_direct (key_of change) old.knows.participant) why
+WritesDirect z old change (Err why) new =
+    Refuses z old new 1 (λ entries. entries ≡ Write (change ∷ []) ∷ []) (writing_direct (key_of change) old.knows.participant) (wrote_direct (key_of change) old.knows.participant) why
+    × KeyIsFree z old new (key_of change)
 
 -- ---- a transaction
 
@@ -91,10 +99,11 @@ Prepares z old txn prepared n new =
     (n ≡ length new.knows.participant.seen) × (prepared ≡ record { name = txn.name; number = n; batch = txn.batch }) × HasPrepared new txn.name n txn.batch
     × HasPutThese (IsApartFrom txn.name) z old new old.knows.participant old.knows.participant (Prepare txn.name txn.batch ∷ [])
 
--- these entries end the transaction of that name, which the seat has no more
+-- These entries end the transaction of that name, which the seat has no more. Its name and its keys are free again.
 abbrev pub Ends : {D : Type 0} → SharedState D → SeatState → List ℕ → List Entry → ℕ → SeatState → Type 0
 Ends z old name entries n new =
     (n ≡ length new.knows.participant.seen) × HasPutThese (IsApartFrom name) z old new old.knows.participant (without_transaction name old.knows.participant) entries
+    × LocksWere z new (IsFreeName name)
 
 abbrev pub CommitsNow : {D : Type 0} → SharedState D → SeatState → OpenState → ℕ → SeatState → Type 0
 CommitsNow z old txn n new = Ends z old txn.name (Write txn.batch ∷ []) n new
@@ -103,24 +112,25 @@ CommitsNow z old txn n new = Ends z old txn.name (Write txn.batch ∷ []) n new
 abbrev pub Commits : {D : Type 0} → SharedState D → SeatState → PreparedState → ℕ → SeatState → Type 0
 Commits z old txn n new = Ends z old txn.name (Commit txn.number ∷ []) n new × HasLeft z new txn.number
 
--- what the keys had in the history that it was put behind, and then the end of the prepare
+-- What the keys had in the history that it was put behind, and then the end of the prepare. The name and the keys are free again.
 abbrev pub RollsBack : {D : Type 0} → SharedState D → SeatState → PreparedState → ℕ → SeatState → Type 0
 RollsBack z old txn n new =
     (n ≡ length new.knows.participant.seen)
     × ((history : List Entry)
     × HasPut (IsApartFrom txn.name) z old new old.knows.participant (without_transaction txn.name old.knows.participant) history (Undo txn.number (prior history txn.batch) ∷ Close txn.number ∷ []))
     × HasLeft z new txn.number
+    × LocksWere z new (IsFreeName txn.name)
 
 -- it is refused, and the transaction is as it was
 abbrev pub RefusesOpen : {D : Type 0} → SharedState D → SeatState → OpenState → Entry → OpenState → TxnError → SeatState → Type 0
 RefusesOpen z old txn entry left why new = (left ≡ txn) × HasOpen new txn.name txn.batch × Refuses z old new 1 (λ entries. entries ≡ entry ∷ []) old.knows.participant old.knows.participant why
 
--- the entries that a commit asks for, and a rollback
-abbrev pub AsksCommit : PreparedState → List Entry → Type 0
-AsksCommit txn entries = entries ≡ Commit txn.number ∷ []
+-- the entries that a commit asks for behind this history, and a rollback
+abbrev pub AsksCommit : List Entry → PreparedState → List Entry → Type 0
+AsksCommit history txn entries = entries ≡ Commit txn.number ∷ []
 
-abbrev pub AsksRollback : PreparedState → List Entry → Type 0
-AsksRollback txn entries = (restored : List Change) × (entries ≡ Undo txn.number restored ∷ Close txn.number ∷ [])
+abbrev pub AsksRollback : List Entry → PreparedState → List Entry → Type 0
+AsksRollback history txn entries = entries ≡ Undo txn.number (prior history txn.batch) ∷ Close txn.number ∷ []
 
-abbrev pub RefusesPrepared : {D : Type 0} → SharedState D → SeatState → PreparedState → ℕ → (PreparedState → List Entry → Type 0) → PreparedState → TxnError → SeatState → Type 0
-RefusesPrepared z old txn needed Asks left why new = (left ≡ txn) × HasPrepared new txn.name txn.number txn.batch × Refuses z old new needed (Asks txn) old.knows.participant old.knows.participant why
+abbrev pub RefusesPrepared : {D : Type 0} → SharedState D → SeatState → PreparedState → ℕ → (List Entry → PreparedState → List Entry → Type 0) → PreparedState → TxnError → SeatState → Type 0
+RefusesPrepared z old txn needed Asks left why new = (left ≡ txn) × HasPrepared new txn.name txn.number txn.batch × Refuses z old new needed (Asks new.knows.participant.seen txn) old.knows.participant old.knows.participant why

@@ -1,6 +1,7 @@
 //! The board: labels, each with the number that was told last under it.
-ghost use Rattle.std.specs.Prelude.{◌≡◌};
-ghost use Rattle.wp_shared.specs.Seats.{IsFree};
+ghost use Rattle.std.specs.Prelude.{◌≡◌, OnOk};
+ghost use Rattle.wp_core.specs.World.{World};
+ghost use Rattle.wp_shared.specs.Seats.{IsFree, Stands};
 ghost use Rattle.wp_txn.specs.Calls.{Tells, Hears};
 ghost use Rattle.wp_txn.specs.Turns.{HoldsLocks};
 ghost use Rattle.wp_txn.specs.Under.{TellsUnder, HearsUnder};
@@ -25,7 +26,8 @@ fn tell_under<D: Disk + Drop>(
 ) -> Result<Seq, TxnError>
     requires seat { HoldsLocks store.now seat.old tables.old }
     requires label { told ≡ label.now }
-    ensures { TellsUnder tables.old seat.old label.now result tables.new seat.new }
+    ensures answered { TellsUnder tables.old seat.old label.now result tables.new seat.new }
+    ensures stands { OnOk result ((w : World) × Stands store.now seat.new w) }
 {
     let published = store.published(seat);
     tables.tell(told, published)?;

@@ -60,7 +60,7 @@ fn hold<D: Disk + Drop, R: Wait>(
 fn give_back<D: Disk + Drop, R: Wait>(store: &Shared<D>, rt: &R, seat: &mut Seat<D>, key: &Key)
     requires free { IsFree store.now.table seat.old }
     requires has { seat.old.knows.participant.direct ≡ Some key.now }
-    ensures { EndsDirect store.now seat.old seat.new }
+    ensures { EndsDirect store.now seat.old seat.new key.now }
 {
     let mut tables = take_locks(store, rt, seat);
     free_direct(store, seat, &tables, key);

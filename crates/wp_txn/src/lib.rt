@@ -17,7 +17,8 @@
 //!
 //! A transaction is a value that has to be spent: it is handed to the call that ends it, and comes back where that is refused. The
 //! calls wait for turns, and else for the log's device alone. `abandon`, `leave` and `hear` take no memory; all others may be
-//! refused for want of it, and then leave the transaction as it was, and the seat but for what it has seen.
+//! refused for want of it, and then leave the transaction as it was, and the seat but for what it has seen. A direct write may
+//! then also have locked its key and freed it again, which the seat remembers.
 #![tactic(auto)]
 
 mod board;

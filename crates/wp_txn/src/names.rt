@@ -1,7 +1,7 @@
 //! Open transactions begin with a name, and end with it.
 ghost use Rattle.std.specs.Prelude.{◌≡◌};
 ghost use Rattle.wp_shared.specs.Seats.{IsFree};
-ghost use Rattle.wp_txn.specs.Calls.{Begins, GivesUp};
+ghost use Rattle.wp_txn.specs.Calls.{Begins, GivesUp, LocksWere, IsFreeName};
 ghost use Rattle.wp_txn.specs.Txn.{HasOpen};
 ghost use Rattle.wp_txn.specs.Under.{Claims};
 ghost use Rattle.wp_txn.specs.Turns.{HoldsLocks};
@@ -72,7 +72,8 @@ pub fn begin<D: Disk + Drop, R: Wait>(
 pub fn abandon<D: Disk + Drop, R: Wait>(store: &Shared<D>, rt: &R, seat: &mut Seat<D>, txn: OpenTxn)
     requires free { IsFree store.now.table seat.old }
     requires open { HasOpen seat.old txn.name txn.batch }
-    ensures { GivesUp store.now seat.old seat.new txn.name }
+    ensures gives_up { GivesUp store.now seat.old seat.new txn.name }
+    ensures freed { LocksWere store.now seat.new (IsFreeName txn.name) }
 {
     let OpenTxn {
         name,

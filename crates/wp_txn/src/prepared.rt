@@ -1,7 +1,8 @@
 //! Prepared transactions that change hands.
-ghost use Rattle.std.specs.Prelude.{◌≡◌, IfOk};
+ghost use Rattle.std.specs.Prelude.{◌≡◌, Some, None, IfOk};
+ghost use Rattle.std.specs.FinMap as finite;
 ghost use Rattle.wp_shared.specs.Seats.{IsFree};
-ghost use Rattle.wp_txn.specs.Calls.{GivesUp, TakesPrepared};
+ghost use Rattle.wp_txn.specs.Calls.{GivesUp, LocksWere, TakesPrepared};
 ghost use Rattle.wp_txn.specs.Turns.{HoldsLocks};
 ghost use Rattle.wp_txn.specs.Txn.{HasPrepared};
 ghost use Rattle.wp_txn.specs.Under.{IsPrepareOf, TakesUnder};
@@ -27,7 +28,8 @@ pub fn leave<D: Disk + Drop, R: Wait>(
 )
     requires free { IsFree store.now.table seat.old }
     requires prepared { HasPrepared seat.old txn.name txn.number txn.batch }
-    ensures { GivesUp store.now seat.old seat.new txn.name }
+    ensures gives_up { GivesUp store.now seat.old seat.new txn.name }
+    ensures left { LocksWere store.now seat.new (λ t. finite.get t.names txn.name ≡ Some None) }
 {
     let mut tables = take_locks(store, rt, seat);
     leave_name(store, seat, &tables, &txn);

@@ -13,6 +13,8 @@ ghost use Rattle.wp_core.specs.Lists.{IsIn};
 ghost use Rattle.wp_core.specs.Sound.Actors.{StartsWith};
 ghost use Rattle.wp_core.specs.Tables.{writes, locks};
 ghost use Rattle.wp_core.specs.Views.{unprepared, undecided_at};
+ghost use Rattle.wp_core.specs.World.{World};
+ghost use Rattle.wp_shared.specs.Seats.{Stands};
 ghost use Rattle.wp_txn.specs.Actors.{transaction_in, noting, with_claimed, with_found, with_locked, with_direct, with_stopped, with_batch, with_told, with_heard};
 ghost use Rattle.wp_txn.specs.Turns.{seat_of, HoldsLocks, IsWithout, IsWithoutDirect, TakesPrepare};
 ghost use Rattle.wp_txn.specs.Txn.{HasPrepared};
@@ -43,7 +45,7 @@ pub(crate) fn find_name<D: Disk + Drop>(
 )
     requires seat { HoldsLocks store.now seat.old tables.now }
     requires live { is_some (finite.get tables.now.names name.now) ≡ true }
-    ensures { (published : ℕ) × (seat.new ≡ seat_of seat.old (with_found tables.now published None (Txn name.now) seat.old.knows)) }
+    ensures { (published : ℕ) × (length seat.old.knows.participant.seen ≤ published) × (seat.new ≡ seat_of seat.old (with_found tables.now published None (Txn name.now) seat.old.knows)) }
 {
     store.make_about::<Brand, Name>(seat, name);
 }
@@ -58,7 +60,7 @@ pub(crate) fn find_holder<D: Disk + Drop>(
 )
     requires seat { HoldsLocks store.now seat.old tables.now }
     requires holds { finite.get tables.now.keys key.now ≡ Some holder.now }
-    ensures { (published : ℕ) × (seat.new ≡ seat_of seat.old (with_found tables.now published (Some key.now) holder.now seat.old.knows)) }
+    ensures { (published : ℕ) × (length seat.old.knows.participant.seen ≤ published) × (seat.new ≡ seat_of seat.old (with_found tables.now published (Some key.now) holder.now seat.old.knows)) }
 {
     store.make_about::<Brand, (&Key, &Holder)>(seat, &(key, holder));
 }
@@ -74,7 +76,8 @@ pub(crate) fn lock_key<D: Disk + Drop>(
     requires has { is_some (finite.get seat.old.knows.participant.transactions name.now) ≡ true }
     requires unlocked { set.contains (transaction_in seat.old.knows.participant name.now).locked key.now ≡ false }
     requires free { (t : LockTables) × IsIn (locks t) seat.old.knows.held × (is_free_for (finite.get t.keys key.now) (Txn name.now) ≡ true) }
-    ensures { (t : LockTables) → IsIn (locks t) seat.old.knows.held → seat.new ≡ seat_of seat.old (with_locked t name.now key.now seat.old.knows) }
+    ensures locked { (t : LockTables) → IsIn (locks t) seat.old.knows.held → seat.new ≡ seat_of seat.old (with_locked t name.now key.now seat.old.knows) }
+    ensures nobodys { (t : LockTables) → IsIn (locks t) seat.old.knows.held → finite.get t.keys key.now ≡ None }
 {
     store.make_about::<Brand, (&Name, &Key)>(seat, &(name, key));
 }
@@ -98,7 +101,8 @@ pub(crate) fn free_direct<D: Disk + Drop>(
 )
     requires seat { HoldsLocks store.now seat.old tables.now }
     requires has { seat.old.knows.participant.direct ≡ Some key.now }
-    ensures { IsWithoutDirect seat.old seat.new (without_key tables.now key.now) }
+    ensures without { IsWithoutDirect seat.old seat.new (without_key tables.now key.now) }
+    ensures stands { (w : World) × Stands store.now seat.new w }
 {
     store.make_about::<Brand, Key>(seat, key);
 }
@@ -128,7 +132,8 @@ pub(crate) fn free_transaction<D: Disk + Drop>(
     requires seat { HoldsLocks store.now seat.old tables.now }
     requires has { is_some (finite.get seat.old.knows.participant.transactions name.now) ≡ true }
     requires noted { IsIn (unprepared name.now) seat.old.knows.notes }
-    ensures { IsWithout seat.old seat.new (without_transaction tables.now name.now) name.now }
+    ensures without { IsWithout seat.old seat.new (without_transaction tables.now name.now) name.now }
+    ensures stands { (w : World) × Stands store.now seat.new w }
 {
     store.make_about::<Brand, Name>(seat, name);
 }
@@ -144,6 +149,7 @@ pub(crate) fn leave_name<D: Disk + Drop>(
     requires prepared { HasPrepared seat.old txn.now.name txn.now.number txn.now.batch }
     ensures seat { IsWithout seat.old seat.new (with_name tables.now txn.now.name None) txn.now.name }
     ensures live { is_some (finite.get tables.now.names txn.now.name) ≡ true }
+    ensures stands { (w : World) × Stands store.now seat.new w }
 {
     store.make_about::<Brand, Name>(seat, &txn.name);
 }
@@ -161,7 +167,8 @@ pub(crate) fn take_name<D: Disk + Drop>(store: &Shared<D>, seat: &mut Seat<D>, n
 pub(crate) fn tell_label<D: Disk + Drop>(store: &Shared<D>, seat: &mut Seat<D>, label: &Name)
     requires seat { seat.old.table ≡ store.now.table }
     requires held { (t : LockTables) × IsIn (locks t) seat.old.knows.held }
-    ensures { (t : LockTables) → IsIn (locks t) seat.old.knows.held → seat.new ≡ seat_of seat.old (with_told t label.now seat.old.knows) }
+    ensures told { (t : LockTables) → IsIn (locks t) seat.old.knows.held → seat.new ≡ seat_of seat.old (with_told t label.now seat.old.knows) }
+    ensures stands { (w : World) × Stands store.now seat.new w }
 {
     store.make_about::<Brand, Name>(seat, label);
 }

@@ -27,9 +27,9 @@ module _ {D : Type 0} (z : SharedState D) where
   writes_on old new change (Ok n) w c = goes_on _ old new _ w.direct c.1.1.goes_on
   writes_on old new change (Err (Busy holder)) w c = goes_on _ old new _ w.direct c.goes_on
   writes_on old new change (Err Memory) w c = ⊎_elim (λ none. goes_on _ old new _ w.direct none) (λ freed. goes_on _ old new _ w.direct freed) c
-  writes_on old new change (Err (Stopped n)) w c = goes_on _ old new _ w.direct c.2
-  writes_on old new change (Err (NumbersFull published limit)) w c = goes_on _ old new _ w.direct c.4
-  writes_on old new change (Err LogFault) w c = goes_on _ old new _ w.direct c.2.2
+  writes_on old new change (Err (Stopped n)) w c = goes_on _ old new _ w.direct c.0.2
+  writes_on old new change (Err (NumbersFull published limit)) w c = goes_on _ old new _ w.direct c.0.4
+  writes_on old new change (Err LogFault) w c = goes_on _ old new _ w.direct c.0.2.2
   writes_on old new change (Err (Taken other)) w c = absurd c
   writes_on old new change (Err TooMany) w c = absurd c
   writes_on old new change (Err Silent) w c = absurd c

@@ -1,6 +1,7 @@
 use Rattle.std.proofs.Common.{arith, rules}
 use Rattle.wp_guarded.specs.Parts.{Tells}
 use Rattle.wp_guarded.specs.declared.part.Part.TheVariants as part
+use Rattle.wp_guarded.proofs.FlushedVersions.{tables_flushed}
 use Rattle.wp_guarded.proofs.OpeningLemmas.{rests, founds}
 use Rattle.wp_guarded.proofs.opening.fill.Goals as goal
 
@@ -10,6 +11,12 @@ new-edits-requires-clause-stores g c =
     let parts = c.args.parts in
     let at_rest = rests o.0 o.1 o.2 o.3 parts.wal parts.history.entries parts.manifest _ parts.store o.4 in
     (o.4.installed.edits, rw c.requires.tables (c.new.ensures.stores o.4.installed.edits parts.store.tables o.4.installed.stores at_rest))
+
+pub new-edits-requires-clause-flushed : goal.new-edits-requires-clause-flushed
+new-edits-requires-clause-flushed g c =
+    let o = c.requires.opened in
+    let parts = c.args.parts in
+    rw (c.new.ensures.set, c.requires.tables) (tables_flushed parts.wal.id parts.manifest.edit.flushed parts.store.tables o.4.are)
 
 pub unwrap-requires : goal.unwrap-requires
 unwrap-requires g c = c.push.ensures.succeeds (omega (arith, c.requires.slots.1))

@@ -1,17 +1,18 @@
-use Rattle.std.proofs.Common.{◌≡◌, ℕ, [], ◌∷◌, map, sym, subst, ap, ◌∙◌}
+use Rattle.std.proofs.Common.{◌≡◌, ℕ, [], ◌∷◌, map, refl, sym, subst, ap, ◌∙◌}
 use Rattle.wp_model.specs.Snapshots.{Snapshots}
 use Rattle.wp_core.specs.Changes.{with_released}
 use Rattle.wp_core.specs.Tables.{prepared, snapshots, NoOldCommits}
 use Rattle.wp_read.specs.Registers.{AreCounted, AreLive, MayPin, again, pinned, with_each}
-use Rattle.wp_read.proofs.AllPinned.{taken_counted, taken_may_pin, pin_changes, pin_registered, pin_listed, is_pinned, unpinned}
+use Rattle.wp_read.proofs.AllPinned.{taken_counted, taken_may_pin, pin_changes, pin_registered, pin_listed, is_pinned, unpinned, again_seen}
 use Rattle.wp_read.proofs.Counts.{counted_more, kept_each}
 use Rattle.wp_read.proofs.Seated.{changes_on}
+use Rattle.wp_read.proofs.Taking.{pinned_since}
 use Rattle.wp_read.proofs.pinning.pin_in.Goals as goal
 
 pub enter_each-requires : goal.enter_each-requires
 enter_each-requires g c =
     let m = c.args.snaps.now in let floor = c.in_ok-floor.floor in let k = c.in_ok-floor.ensures in
-    subst AreCounted (sym k.entered) (counted_more m floor.number (taken_counted c.args.store.now c.args.seat.now.by floor m k.taken))
+    subst AreCounted (sym k.entered) (counted_more m floor.number (taken_counted c.args.store.now c.args.seat.now c.register_in.new.seat.knows.participant.seen floor m k.taken))
 
 pub register_again-requires-clause-held : goal.register_again-requires-clause-held
 register_again-requires-clause-held g c =
@@ -21,7 +22,7 @@ register_again-requires-clause-held g c =
       prepared c.args.tables.now ∷ [],
       c.register_in.ensures.changes.held,
       subst (λ (n : ℕ). MayPin s1.knows.participant.seen c.register_in.new.snaps n numbers) (sym c.number.ensures)
-          (taken_may_pin c.args.store.now c.args.seat.now.by floor m k.taken s1.knows.participant.seen numbers c.register_in.new.snaps k.number (subst (AreLive m) (sym c.deref-in-Ok.ensures.value) c.in_ok-numbers.ensures) k.entered),
+          (taken_may_pin c.args.store.now c.args.seat.now s1.knows.participant.seen floor m k.taken s1.knows.participant.seen numbers c.register_in.new.snaps k.number (subst (AreLive m) (sym c.deref-in-Ok.ensures.value) c.in_ok-numbers.ensures) k.entered),
     )
 
 pub release_last-requires-clause-last : goal.release_last-requires-clause-last
@@ -59,7 +60,8 @@ returns-in-Ok-clause-pinned g c =
     let deref : c.deref.result.now ≡ numbers = c.deref.ensures.value ∙ sym c.deref-in-Ok.ensures.value in
     let made : live ≡ map again numbers = c.in-Ok.ensures.live ∙ ap (map again) deref in
     let is : s2 ≡ pinned s1 floor.number numbers m1 others = subst (λ (n : ℕ). s2 ≡ pinned s1 n numbers m1 others) c.number.ensures (c.register_again.ensures m1 others c.register_in.ensures.changes.held) in
-    is_pinned z s0.by floor m numbers live c.in_ok-floor.ensures.taken made (subst (AreLive m) (sym c.deref-in-Ok.ensures.value) c.in_ok-numbers.ensures)
+    pinned_since z s0 s0 s1.knows.participant.seen s2.knows.participant.seen refl refl (sym (again_seen s1 s2 floor.number numbers m1 others is)) floor live
+    (is_pinned z s0 s1.knows.participant.seen floor m numbers live c.in_ok-floor.ensures.taken made (subst (AreLive m) (sym c.deref-in-Ok.ensures.value) c.in_ok-numbers.ensures))
 
 pub returns-in-Ok-clause-listed : goal.returns-in-Ok-clause-listed
 returns-in-Ok-clause-listed g c =
@@ -84,4 +86,4 @@ pub returns-clause-kept : goal.returns-clause-kept
 returns-clause-kept g c none =
     let m = c.args.snaps.now in let m1 = c.register_in.new.snaps in let floor = c.in_ok-floor.floor in
     let back = c.release_last.ensures.released ∙ ap (λ (x : Snapshots). with_released x floor.number) c.in-Err.ensures.err in
-    subst NoOldCommits (unpinned c.args.store.now c.args.seat.now.by floor m m1 c.release_last.new.snaps c.in_ok-floor.ensures.taken c.in_ok-floor.ensures.entered back) none
+    subst NoOldCommits (unpinned c.args.store.now c.args.seat.now c.register_in.new.seat.knows.participant.seen floor m m1 c.release_last.new.snaps c.in_ok-floor.ensures.taken c.in_ok-floor.ensures.entered back) none

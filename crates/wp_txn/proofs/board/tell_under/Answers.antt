@@ -9,8 +9,8 @@ use Rattle.wp_txn.specs.declared.error.TxnError.{TxnError}
 use Rattle.wp_txn.specs.Under.{TellsUnder}
 use Rattle.wp_txn.proofs.board.tell_under.Goals as goal
 
-pub returns-in_err-tell : goal.returns-in_err-tell
-returns-in_err-tell g c = let p = err_from_is_err_and c.from_residual.result c.from_residual.ensures.1 in let s = c.published-published.ensures in
+pub returns-in_err-tell-clause-answered : goal.returns-in_err-tell-clause-answered
+returns-in_err-tell-clause-answered g c = let p = err_from_is_err_and c.from_residual.result c.from_residual.ensures.1 in let s = c.published-published.ensures in
     subst (λ (r : Result ℕ TxnError). TellsUnder c.args.tables.now c.args.seat.now c.args.label.now r c.tell.new.self c.published-published.new.seat) (sym (p.1 ∙ ap Err p.2))
     ((c.in_err-tell.ensures {u = tt}).err, (c.published-published.new.seat.knows.participant.seen, s.seen.0, becomes c.args.seat.now c.published-published.new.seat _ s.same s.rest))
 

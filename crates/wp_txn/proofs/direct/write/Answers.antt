@@ -4,7 +4,7 @@ use Rattle.wp_model.specs.declared.change.Change.{Change}
 use Rattle.wp_model.specs.declared.entry.Entry.TheVariants.{Write}
 use Rattle.wp_core.specs.World.{Participant}
 use Rattle.wp_publish.specs.Records.{MayPut}
-use Rattle.wp_txn.specs.Recording.{Records, HasDirect}
+use Rattle.wp_txn.specs.Recording.{Records, HasDirect, EndsDirect}
 use Rattle.wp_txn.proofs.MayPut.{may_write_direct}
 use Rattle.wp_txn.proofs.DirectWrites.{free_after, direct_after, written}
 use Rattle.wp_txn.proofs.direct.write.Goals as goal
@@ -32,5 +32,5 @@ pub returns : goal.returns
 returns g c =
     let held = c.in_ok-hold.ensures {u = tt} in let is = c.in_ok-batch.ensures {u = tt} in let mid = c.hold.new.seat in let left = c.record_write-outcome.new.seat in
     let key_is = first_key c.args.change c.index-changes-0.result c.key-key.result.now c.changes.result.now c.in_ok-batch.batch c.changes.ensures.value is c.index-changes-0.is c.key-key.ensures in
-    written c.args.store.now c.args.seat.now mid left c.give_back.new.seat c.args.change c.requires.none (subst (λ (key : List ℕ). HasDirect c.args.store.now c.args.seat.now mid key) key_is held) c.give_back.ensures c.record_write-outcome.result
+    written c.args.store.now c.args.seat.now mid left c.give_back.new.seat c.args.change c.requires.none (subst (λ (key : List ℕ). HasDirect c.args.store.now c.args.seat.now mid key) key_is held) (subst (λ (key : List ℕ). EndsDirect c.args.store.now left c.give_back.new.seat key) key_is c.give_back.ensures) c.record_write-outcome.result
     (subst (λ (b : List Change). Records c.args.store.now mid (Write b ∷ []) (λ n. []) c.record_write-outcome.result left) is c.record_write-outcome.ensures)

@@ -1,4 +1,4 @@
-use Rattle.std.proofs.Common.{◌≡◌, ℕ, List, Some, None, is_some, sym, ap, subst, ◌∙◌}
+use Rattle.std.proofs.Common.{◌≡◌, ℕ, ◌≤◌, List, length, Some, None, is_some, sym, ap, subst, ◌∙◌}
 use Rattle.std.specs.FinMap as finite
 use Rattle.wp_model.specs.History.{named}
 use Rattle.wp_model.specs.LockTables.{LockTables}
@@ -7,8 +7,9 @@ use Rattle.wp_model.specs.declared.holder.Holder.TheVariants.{Txn}
 use Rattle.wp_locks.specs.Locks.{RefusesTake}
 use Rattle.wp_locks.specs.declared.error.LockError.{LockError}
 use Rattle.wp_core.specs.Lists.{IsIn}
-use Rattle.wp_core.specs.Tables.{locks}
+use Rattle.wp_core.specs.Tables.{WriteTable, writes, locks}
 use Rattle.wp_core.specs.World.{Actor}
+use Rattle.wp_commits.proofs.Held.{writes_are}
 use Rattle.wp_shared.proofs.OneStep.{becomes}
 use Rattle.wp_txn.specs.Actors.{with_found}
 use Rattle.wp_txn.specs.Turns.{seat_of}
@@ -34,6 +35,7 @@ returns-in-Unknown g c =
         ap (λ (h : List Entry). named h c.args.name.now) (sym seen.stands.seen) ∙ not_named _ new.knows seen.stands.world t c.args.name.now seen.stands.there held none,
         seen.seen.1,
         becomes c.args.seat.now new _ seen.same seen.rest,
+        λ d there. sym seen.stands.seen ∙ ap (λ (x : WriteTable). x.history) (writes_are _ new.knows seen.stands.world seen.stands.there d (subst (λ (a : Actor). IsIn (writes d) a.held) (sym seen.rest) there)),
       ),
     )
 
@@ -46,7 +48,7 @@ returns-in-InUse g c =
       (
         ap is_some has,
         r.2,
-        subst (λ (l : LockTables). (x : ℕ) × (c.find_name.new.seat ≡ seat_of c.args.seat.now (with_found l x None (Txn c.args.name.now) c.args.seat.now.knows))) r.2 c.find_name.ensures,
+        subst (λ (l : LockTables). (x : ℕ) × (length c.args.seat.now.knows.participant.seen ≤ x) × (c.find_name.new.seat ≡ seat_of c.args.seat.now (with_found l x None (Txn c.args.name.now) c.args.seat.now.knows))) r.2 c.find_name.ensures,
       ),
       (f.0.0, has),
     )

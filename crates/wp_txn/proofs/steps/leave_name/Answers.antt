@@ -2,7 +2,7 @@ use Rattle.std.proofs.Common.{sym, subst, ap, is_some, None}
 use Rattle.wp_core.specs.Changes.{with_name}
 use Rattle.wp_txn.specs.Turns.{IsWithout}
 use Rattle.wp_txn.specs.Txn.{PreparedState, HasPrepared}
-use Rattle.wp_txn.proofs.Made.{may_leave, is_live, left_it}
+use Rattle.wp_txn.proofs.Made.{stands_after, may_leave, is_live, left_it}
 use Rattle.wp_txn.proofs.steps.leave_name.Goals as goal
 
 pub make_about-requires-clause-may : goal.make_about-requires-clause-may
@@ -17,3 +17,6 @@ returns-clause-seat g c =
 
 pub returns-clause-live : goal.returns-clause-live
 returns-clause-live g c = is_live _ _ _ c.args.tables.now c.args.txn.now.name c.make_about.ensures.moved.before (ap is_some c.requires.prepared.has) c.requires.seat.held
+
+pub returns-clause-stands : goal.returns-clause-stands
+returns-clause-stands g c = stands_after c.args.store.now c.args.seat.now c.make_about.new.seat _ _ c.make_about.ensures.same.1 c.make_about.ensures.moved

@@ -1,9 +1,11 @@
-use Rattle.std.proofs.Common.{◌≡◌, [], ◌∷◌, inl, refl}
+use Rattle.std.proofs.Common.{◌≡◌, List, [], ◌∷◌, inl, refl}
+use Rattle.wp_model.specs.declared.entry.Entry.{Entry}
 use Rattle.wp_model.specs.declared.entry.Entry.TheVariants.{Undo, Close}
 use Rattle.wp_core.specs.Views.{unprepared}
 use Rattle.wp_txn.specs.Writes.{AsksRollback}
 use Rattle.wp_txn.proofs.Ends.{refuses_prepared, refused_from}
-use Rattle.wp_txn.proofs.RollsBack.{prepared_since, rolled_back_decides, rolled_back}
+use Rattle.wp_txn.proofs.Goes.{refused_still}
+use Rattle.wp_txn.proofs.RollsBack.{prepared_since, asks_prior, rolled_back_decides, rolled_back}
 use Rattle.wp_txn.specs.declared.error.TxnError.TheVariants.{Memory}
 use Rattle.wp_txn.proofs.undoing.rollback.Goals as goal
 
@@ -32,5 +34,9 @@ pub returns-clause-refused : goal.returns-clause-refused
 returns-clause-refused g c =
     let z = c.args.store.now in let s = c.args.seat.now in let new = c.record_rollback.new.seat in let why = c.in-Err.why in
     let x = c.args.txn in let found = c.in-Ok.prior in
+    let Asks : List Entry → Type 0 = λ asked. asked ≡ Undo x.number found ∷ Close x.number ∷ [] in
+    let Any : List Entry → Type 0 = λ asked. Unit {0} in
+    let still = refused_still z s new 2 Any why (refused_from z s c.prior_now.new.seat new 2 Asks Any (λ asked is legal. tt) c.prior_now.ensures.seat why (c.in-Err.ensures {u = tt})) in
     refuses_prepared z s new x 2 AsksRollback why c.requires.prepared
-    (refused_from z s c.prior_now.new.seat new 2 (λ asked. asked ≡ Undo x.number found ∷ Close x.number ∷ []) (AsksRollback x) (λ asked is. (found, is)) c.prior_now.ensures.seat why (c.in-Err.ensures {u = tt}))
+    (refused_from z s c.prior_now.new.seat new 2 Asks (AsksRollback new.knows.participant.seen x) (λ asked is legal. asks_prior z s new x.name x.number x.batch found asked c.requires.prepared still.seen is legal) c.prior_now.ensures.seat why
+    (c.in-Err.ensures {u = tt}))

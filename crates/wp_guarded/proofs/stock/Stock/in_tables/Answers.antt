@@ -7,5 +7,5 @@ use Rattle.wp_guarded.proofs.stock.Stock.in_tables.Goals as goal
 
 pub returns : goal.returns
 returns c =
-    let s = c.self.inside.store in
-    rw (← c.self.view_is) (IfOk-weaker c.in_tables.result (λ (all : List Version). AreMerged s.tables all) (λ (all : List Version). all ≡ sorted_of (joined s.tables)) (λ all merged. merged_is_sorted s.tables all merged) c.in_tables.ensures)
+    let tables = c.self.inside.store.tables in
+    rw (← c.self.view_is) (IfOk-weaker c.in_tables.result (λ (all : List Version). AreMerged tables all) (λ (all : List Version). all ≡ sorted_of (joined tables)) (λ all merged. merged_is_sorted tables all merged) c.in_tables.ensures)
