@@ -26,7 +26,7 @@ use Rattle.wp_guarded.specs.Edits.{EditsState}
 use Rattle.wp_shared.specs.Seats.{SharedState, SeatState, Stands, place_at}
 use Rattle.wp_commits.specs.Notes.{GoesOn}
 use Rattle.wp_maint.specs.declared.frozen.Frozen.{Frozen}
-use Rattle.wp_maint.specs.Edits.{with_table}
+use Rattle.wp_guarded.specs.Installs.{with_table}
 use Rattle.wp_maint.specs.Flush.{HasFrozen, MayPut}
 use Rattle.wp_maint.specs.Holding.{being, HoldsEdits}
 use Rattle.wp_maint.proofs.TakesTurns.{stores_are}

@@ -11,13 +11,11 @@ ghost use Rattle.wp_maint.specs.Flush.{HasFrozen, MayPut};
 ghost use Rattle.wp_maint.specs.Installs.{HasInstalled, NotInstalled};
 ghost use Rattle.wp_maint.specs.Holding.{is_of_tables, GoesOnAs, HoldsEdits};
 
-use crate::below;
 use crate::done::Done;
 use crate::error::MaintError;
 use crate::frozen::{Frozen, freeze_all};
 use crate::steps::{find_edits, halt, install_flush, move_versions};
 use crate::turns::{give_edits, give_stock, take_edits, take_stock};
-use std::alloc::Global;
 use std::sync::{Arc, Wait};
 use wp_guarded::Edits;
 use wp_outside::Disk;
@@ -26,9 +24,8 @@ use wp_table::Table;
 use wp_tableset::TableSetError;
 
 /// Writes what is frozen to a table, and installs the edit that names it.
-fn install<D: Disk + Drop, R: Wait>(
+fn install<D: Disk + Drop>(
     store: &Shared<D>,
-    rt: &R,
     seat: &mut Seat<D>,
     edits: &mut Edits<D>,
     frozen: &Frozen,
@@ -41,7 +38,7 @@ fn install<D: Disk + Drop, R: Wait>(
     ensures installed { OnOk result (HasInstalled store.now seat.old edits.old (after_flush seat.old.knows.participant.seen edits.old.table.last) false seat.new edits.new) }
     ensures refused { IfErr result (λ why. NotInstalled store.now seat.old edits.old (after_flush seat.old.knows.participant.seen edits.old.table.last) why seat.new edits.new) }
 {
-    match below::flush_edits(rt, edits, &frozen.versions, frozen.at) {
+    match edits.flush(&frozen.versions, frozen.at) {
         Ok(table) => {
             install_flush(store, seat, edits);
             Ok(table)
@@ -81,7 +78,7 @@ fn put_table<D: Disk + Drop, R: Wait>(
     let Frozen { at, tables, .. } = frozen;
     let tables = with_first(tables, table);
     let mut stock = take_stock(store, rt, seat);
-    below::settle(rt, &mut stock, at, tables);
+    stock.settle(at, tables);
     move_versions(store, seat, edits, &stock);
     give_stock(store, seat, stock);
 }
@@ -106,7 +103,7 @@ fn flush_frozen<D: Disk + Drop, R: Wait>(
         at: frozen.at,
         versions: frozen.versions.as_slice().len() as u64,
     };
-    match install(store, rt, seat, edits, &frozen) {
+    match install(store, seat, edits, &frozen) {
         Ok(table) => {
             put_table(store, rt, seat, edits, frozen, table);
             Ok(done)
@@ -119,7 +116,6 @@ fn flush_frozen<D: Disk + Drop, R: Wait>(
 fn flush_running<D: Disk + Drop, R: Wait>(
     store: &Shared<D>,
     rt: &R,
-    alloc: Global,
     seat: &mut Seat<D>,
     edits: &mut Edits<D>,
 ) -> Result<Done, MaintError>
@@ -130,7 +126,7 @@ fn flush_running<D: Disk + Drop, R: Wait>(
     ensures settled { KnowsTables seat.new.knows edits.new.table.last }
     ensures says { FlushesFrom (GoesOnAs seat.old seat.new) store.now seat.old edits.old.table result seat.new }
 {
-    let Ok(found) = freeze_all(store, rt, alloc, seat, edits) else {
+    let Ok(found) = freeze_all(store, rt, seat, edits) else {
         return Err(MaintError::Memory);
     };
     let Some(frozen) = found else {
@@ -144,7 +140,6 @@ fn flush_running<D: Disk + Drop, R: Wait>(
 fn flush_in<D: Disk + Drop, R: Wait>(
     store: &Shared<D>,
     rt: &R,
-    alloc: Global,
     seat: &mut Seat<D>,
     edits: &mut Edits<D>,
 ) -> Result<Done, MaintError>
@@ -158,7 +153,7 @@ fn flush_in<D: Disk + Drop, R: Wait>(
         find_edits(store, seat);
         return Err(MaintError::TablesStopped(edits.flushed()));
     }
-    flush_running(store, rt, alloc, seat, edits)
+    flush_running(store, rt, seat, edits)
 }
 
 /// Writes all that stands in memory to one table more, the newest. Nothing is answered where no version stands there. Want of
@@ -166,14 +161,13 @@ fn flush_in<D: Disk + Drop, R: Wait>(
 pub fn flush<D: Disk + Drop, R: Wait>(
     store: &Shared<D>,
     rt: &R,
-    alloc: Global,
     seat: &mut Seat<D>,
 ) -> Result<Done, MaintError>
     requires { IsFree store.now.table seat.old }
     ensures { Flushes store.now seat.old result seat.new }
 {
     let mut edits = take_edits(store, rt, seat);
-    let result = flush_in(store, rt, alloc, seat, &mut edits);
+    let result = flush_in(store, rt, seat, &mut edits);
     give_edits(store, seat, edits);
     result
 }

@@ -12,10 +12,9 @@ ghost use Rattle.wp_commits.specs.Notes.{GoesOn};
 ghost use Rattle.wp_maint.specs.Flush.{Freezes, IsCopied};
 ghost use Rattle.wp_maint.specs.Holding.{no_fact, is_under, seeing, HoldsEdits};
 
-use crate::below;
 use crate::steps::note_frozen;
 use crate::turns::{give_log, give_stock, take_log, take_stock};
-use std::alloc::{AllocError, Global};
+use std::alloc::AllocError;
 use std::sync::{Arc, Wait};
 use wp_guarded::{Edits, Log, Stock};
 use wp_model::{Seq, Versions};
@@ -35,20 +34,15 @@ pub(crate) struct Frozen {
 }
 
 /// Freezes what stands in memory, if something does.
-fn freeze<R: Wait>(
-    rt: &R,
-    alloc: Global,
-    stock: &mut Stock,
-    at: Seq,
-) -> Result<Option<Frozen>, AllocError>
+fn freeze(stock: &mut Stock, at: Seq) -> Result<Option<Frozen>, AllocError>
     ensures copied { IfOk result (λ frozen. IsCopied (store_table stock.old) at frozen) }
     ensures same { store_table stock.new ≡ store_table stock.old }
 {
-    if below::is_flushed(rt, stock) {
+    if stock.is_flushed() {
         return Ok(None);
     }
-    let versions = below::freeze(rt, stock)?;
-    let tables = below::copy_tables(rt, alloc, stock)?;
+    let versions = stock.freeze()?;
+    let tables = stock.copy_tables()?;
     Ok(Some(Frozen {
         at,
         versions,
@@ -57,10 +51,8 @@ fn freeze<R: Wait>(
 }
 
 /// Freezes what stands in memory, under the write turn and the store turn.
-fn freeze_in<D: Disk + Drop, R: Wait>(
+fn freeze_in<D: Disk + Drop>(
     store: &Shared<D>,
-    rt: &R,
-    alloc: Global,
     seat: &mut Seat<D>,
     edits: &Edits<D>,
     log: &Log<D>,
@@ -76,7 +68,7 @@ fn freeze_in<D: Disk + Drop, R: Wait>(
     ensures same { store_table stock.new ≡ store_table stock.old }
     ensures frozen { IfOk result (λ frozen. Freezes seat.new.knows edits.now.table frozen) }
 {
-    let Some(frozen) = freeze(rt, alloc, stock, log.published())? else {
+    let Some(frozen) = freeze(stock, log.published())? else {
         return Ok(None);
     };
     note_frozen(store, seat, edits, stock, &frozen);
@@ -88,7 +80,6 @@ fn freeze_in<D: Disk + Drop, R: Wait>(
 pub(crate) fn freeze_all<D: Disk + Drop, R: Wait>(
     store: &Shared<D>,
     rt: &R,
-    alloc: Global,
     seat: &mut Seat<D>,
     edits: &Edits<D>,
 ) -> Result<Option<Frozen>, AllocError>
@@ -100,7 +91,7 @@ pub(crate) fn freeze_all<D: Disk + Drop, R: Wait>(
 {
     let log = take_log(store, rt, seat);
     let mut stock = take_stock(store, rt, seat);
-    let frozen = freeze_in(store, rt, alloc, seat, edits, &log, &mut stock);
+    let frozen = freeze_in(store, seat, edits, &log, &mut stock);
     give_stock(store, seat, stock);
     give_log(store, seat, log);
     frozen

@@ -9,7 +9,6 @@
 //! Once a device of the tables has failed, no other call of it is made, until the store is opened anew.
 #![tactic(auto)]
 
-mod below;
 mod done;
 mod error;
 mod flushing;

@@ -19,4 +19,4 @@ returns-then-is_halted-clause-settled g c =
 pub returns-then-is_halted-clause-says : goal.returns-then-is_halted-clause-says
 returns-then-is_halted-clause-says g c =
     let z = c.args.store.now in let s = c.args.seat.now in let e = c.args.edits.now.table in let k = c.find_edits.ensures e (held_first s e c.requires.holds.held) in
-    found_halted z s s c.find_edits.new.seat e (same_seat s) k (sym c.is_halted.ensures ∙ c.if-is_halted.true) c.flushed.result c.flushed.ensures
+    found_halted z s s c.find_edits.new.seat e (same_seat s) k (sym c.is_halted.ensures ∙ c.if-is_halted.true) c.flushed.result c.flushed.ensures.number

@@ -5,7 +5,7 @@ use Rattle.wp_core.specs.Tables.{Installed}
 use Rattle.wp_core.specs.Views.{tables_failed}
 use Rattle.wp_core.specs.Views as event
 use Rattle.wp_rule.specs.Knows.{KnowsInstalled}
-use Rattle.wp_maint.specs.Edits.{with_table, IsRefused}
+use Rattle.wp_guarded.specs.Installs.{with_table, IsRefused}
 use Rattle.wp_maint.specs.Finding.{Changes}
 use Rattle.wp_maint.specs.Holding.{no_fact, is_of_flushed}
 use Rattle.wp_maint.proofs.Found.{failed_last}
@@ -24,18 +24,18 @@ install_flush-requires-clause-held g c =
 pub halt-requires-clause-held : goal.halt-requires-clause-held
 halt-requires-clause-held g c =
     let t = c.args.edits.now.table in let f = c.args.frozen.now in
-    let k = subst (IsRefused t c.flush_edits.new.edits.table (with_table f.versions f.at t.last)) c.in-Err-Fault.field-0-is c.in-Err-Fault.ensures.refused in
+    let k = subst (IsRefused t c.flush.new.self.table (with_table f.versions f.at t.last)) c.in-Err-Fault.field-0-is c.in-Err-Fault.ensures.refused in
     (t, c.requires.holds.held, k.0, c.requires.running)
 
 pub halt-requires-clause-covered : goal.halt-requires-clause-covered
 halt-requires-clause-covered g c =
     let t = c.args.edits.now.table in let f = c.args.frozen.now in
-    let k = subst (IsRefused t c.flush_edits.new.edits.table (with_table f.versions f.at t.last)) c.in-Err-Fault.field-0-is c.in-Err-Fault.ensures.refused in
-    asked_covered c.args.seat.now.knows.participant.seen (with_table f.versions f.at t.last) c.flush_edits.new.edits.table.failed (knows_flush c.args.seat.now.knows t f c.requires.frozen c.requires.running).covered k.1
+    let k = subst (IsRefused t c.flush.new.self.table (with_table f.versions f.at t.last)) c.in-Err-Fault.field-0-is c.in-Err-Fault.ensures.refused in
+    asked_covered c.args.seat.now.knows.participant.seen (with_table f.versions f.at t.last) c.flush.new.self.table.failed (knows_flush c.args.seat.now.knows t f c.requires.frozen c.requires.running).covered k.1
 
 pub returns-in-Ok-clause-installed : goal.returns-in-Ok-clause-installed
 returns-in-Ok-clause-installed g c =
-    let z = c.args.store.now in let s = c.args.seat.now in let u = c.install_flush.new.seat in let e = c.args.edits.now in let left = c.flush_edits.new.edits in let f = c.args.frozen.now in
+    let z = c.args.store.now in let s = c.args.seat.now in let u = c.install_flush.new.seat in let e = c.args.edits.now in let left = c.flush.new.self in let f = c.args.frozen.now in
     let same = same_edit s.knows e.table f c.requires.frozen in let is = c.in-Ok.ensures.installed in let last = ap (λ (x : Installed). x.last) is in record {
       table = is ∙ ap (λ (l : InstalledEdit). record e.table { last = l }) same;
       holds = still_holds z s u e left _ is_of_flushed c.requires.holds (c.install_flush.ensures e.table c.requires.holds.held).goes c.in-Ok.ensures.first;
@@ -44,7 +44,7 @@ returns-in-Ok-clause-installed g c =
 
 pub returns-in-Err-Fault-clause-refused : goal.returns-in-Err-Fault-clause-refused
 returns-in-Err-Fault-clause-refused g c =
-    let z = c.args.store.now in let s = c.args.seat.now in let u = c.halt.new.seat in let e = c.args.edits.now in let left = c.flush_edits.new.edits in let f = c.args.frozen.now in
+    let z = c.args.store.now in let s = c.args.seat.now in let u = c.halt.new.seat in let e = c.args.edits.now in let left = c.flush.new.self in let f = c.args.frozen.now in
     let k = subst (IsRefused e.table left.table (with_table f.versions f.at e.table.last)) c.in-Err-Fault.field-0-is c.in-Err-Fault.ensures.refused in
     let changes = c.halt.ensures.changes e.table c.requires.holds.held in
     let next = after_flush s.knows.participant.seen e.table.last in record {
