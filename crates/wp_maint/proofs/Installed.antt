@@ -1,0 +1,158 @@
+-- The edit of a flush, and the table that takes the place of what was frozen.
+use Rattle.std.proofs.Common.{◌≡◌, ◌⊎◌, inl, inr, ℕ, suc, ◌<◌, ◌≤◌, nat_le, ◌==◌, ◌&&◌, Bool, true, false, cond, ne_eqb, List, [], ◌∷◌, ◌++◌, Option, Some, None, refl, sym, subst, ap, ◌∙◌, arith}
+use Rattle.std.proofs.lemmas.Bool.{cases_lt, and_parts, le-leb, leb-true}
+use Rattle.std.specs.Prelude.{IfSome}
+use Rattle.std.specs.List.{list_all}
+use Rattle.std.specs.Option.{option_or}
+use Rattle.std.specs.Str.{bytes_eq}
+use Rattle.wp_model.specs.declared.entry.Entry.{Entry}
+use Rattle.wp_model.specs.declared.version.Version.{Version}
+use Rattle.wp_model.specs.Flushed.{InstalledEdit, IsEditCovered}
+use Rattle.wp_model.specs.Versions.{version_at}
+use Rattle.wp_merge.specs.Merge.{sorted_of}
+use Rattle.wp_merge.proofs.Sorted.{in_order_sorted, at_sorted, in_order_same}
+use Rattle.wp_open.proofs.Later.{at_append}
+use Rattle.wp_session.specs.Tables.{unflushed, after_flush}
+use Rattle.wp_table.specs.Table.{is_flushed}
+use Rattle.wp_core.specs.Lists.{IsIn}
+use Rattle.wp_core.specs.Sound.Store.{NoneFlushed}
+use Rattle.wp_core.specs.Tables.{StoreTable, Installed, store, installed}
+use Rattle.wp_core.specs.Views.{Fact, tables_stay, frozen_stay}
+use Rattle.wp_core.specs.World.{Participant, Actor, World}
+use Rattle.wp_core.proofs.Tests.{none_some}
+use Rattle.wp_rule.specs.Knows.{Noted, KnowsMoved, KnowsInstalled}
+use Rattle.wp_rule.proofs.Knows.{noted_is}
+use Rattle.wp_guarded.specs.Edits.{EditsState}
+use Rattle.wp_shared.specs.Seats.{SharedState, SeatState, Stands, place_at}
+use Rattle.wp_commits.specs.Notes.{GoesOn}
+use Rattle.wp_maint.specs.declared.frozen.Frozen.{Frozen}
+use Rattle.wp_guarded.specs.Installs.{with_table}
+use Rattle.wp_maint.specs.Flush.{HasFrozen, MayPut}
+use Rattle.wp_maint.specs.Holding.{being, HoldsEdits}
+use Rattle.wp_maint.proofs.TakesTurns.{stores_are}
+use Rattle.wp_maint.proofs.Versions.{Found}
+
+-- ---- the edit
+
+-- lists that are found alike sort alike
+same_sorted : (xs ys : List Version) → ((key : List ℕ) (p : ℕ) → version_at xs key p ≡ version_at ys key p) → sorted_of xs ≡ sorted_of ys
+same_sorted xs ys same = in_order_same (sorted_of xs) (sorted_of ys) (in_order_sorted xs) (in_order_sorted ys) (λ key p. at_sorted xs key p ∙ same key p ∙ sym (at_sorted ys key p))
+
+pub same_edit : (a : Actor) (t : Installed) (f : Frozen) → HasFrozen a t f → with_table f.versions f.at t.last ≡ after_flush a.participant.seen t.last
+same_edit a t f k =
+    let later = unflushed a.participant.seen t.last in
+    let list : sorted_of (f.versions ++ t.last.versions) ≡ sorted_of (later ++ t.last.versions) = same_sorted (f.versions ++ t.last.versions) (later ++ t.last.versions) (λ key p.
+    at_append f.versions t.last.versions key p
+    ∙ ap (λ (o : Found). option_or o (version_at t.last.versions key p)) (ap (λ (l : List Version). version_at l key p) k.versions ∙ at_sorted later key p)
+    ∙ sym (at_append later t.last.versions key p)) in
+    λ i. record { flushed = k.at i; versions = list i; tables = suc t.last.tables }
+
+pub knows_flush : (a : Actor) (t : Installed) (f : Frozen) → HasFrozen a t f → t.halted ≡ false → KnowsInstalled a t (with_table f.versions f.at t.last) false
+knows_flush a t f k running = record {
+  running = running;
+  covered = subst (IsEditCovered a.participant.seen) (sym (same_edit a t f k)) k.covered;
+  rises = let l = k.later in omega (arith, l);
+  one_more = λ _. omega arith;
+  keeps = λ compacts. absurd cc;
+}
+
+pub asked_covered : (seen : List Entry) (edit : InstalledEdit) (failed : Option InstalledEdit) → IsEditCovered seen edit → (failed ≡ None) ⊎ (failed ≡ Some edit) → IfSome failed (IsEditCovered seen)
+asked_covered seen edit failed covered (inl none) = subst (λ (o : Option InstalledEdit). IfSome o (IsEditCovered seen)) (sym none) tt
+asked_covered seen edit failed covered (inr some) = subst (λ (o : Option InstalledEdit). IfSome o (IsEditCovered seen)) (sym some) covered
+
+pub asked_is : (edit next : InstalledEdit) (failed : Option InstalledEdit) → edit ≡ next → (failed ≡ None) ⊎ (failed ≡ Some edit) → IfSome failed (λ e. e ≡ next)
+asked_is edit next failed is (inl none) = subst (λ (o : Option InstalledEdit). IfSome o (λ e. e ≡ next)) (sym none) tt
+asked_is edit next failed is (inr some) = subst (λ (o : Option InstalledEdit). IfSome o (λ e. e ≡ next)) (sym some) is
+
+pub still_holds : {D : Type 0} (z : SharedState D) (s u : SeatState) (e left : EditsState) (p : Participant) (test : Fact → Bool) → HoldsEdits z s e → GoesOn test (installed left.table ∷ []) s.turns (being p s) u → left.first ≡ e.first → HoldsEdits z u left
+still_holds z s u e left p test h k first = record {
+  same_table = ap (λ (x : SeatState). x.table) k.same ∙ h.same_table;
+  live = ap (λ (x : SeatState). x.knows.live) k.same ∙ h.live;
+  held = ap (λ (x : SeatState). x.knows.held) k.same;
+  turns = ap (λ (x : SeatState). x.turns) k.same ∙ h.turns;
+  of_store = h.of_store ∙ ap Some (sym first);
+}
+
+-- ---- the table
+
+below_is : (n : ℕ) (versions : List Version) → list_all (is_flushed n) versions ≡ true → (key : List ℕ) (p : ℕ) → n < p → version_at versions key p ≡ None
+below_is n [] all key p above = refl
+below_is n (v ∷ versions) all key p above =
+    let parts = and_parts (is_flushed n v) (list_all (is_flushed n) versions) all in
+    let low : v.number ≤ n = leb-true v.number n parts.0 in
+    let other : (v.number == p) ≡ false = ne_eqb v.number p (λ same. absurd (omega (arith, same, low, above))) in
+    rw (other, below_is n versions parts.1 key p above) (past (bytes_eq v.key key))
+  where
+    past : (b : Bool) → let nothing : Found = None in cond (b && false) (Some v.value) nothing ≡ nothing
+    past true = refl
+    past false = refl
+
+or_same : (a b : Found) → a ≡ None → option_or a b ≡ b
+or_same a b none = ap (λ (o : Found). option_or o b) none
+
+module _ {D : Type 0} (z : SharedState D) (s : SeatState) (e : Installed) (f : Frozen) (versions : List Version) (may : MayPut s.knows e f versions) (u : SeatState) (w : World) (stands : Stands z u w)
+    (notes : (fact : Fact) → Noted s.knows fact → Noted u.knows fact) (t : StoreTable) (held : u.knows.held ≡ store t ∷ installed e ∷ [])
+    (now : StoreTable) (memory : (key : List ℕ) (p : ℕ) → version_at now.memory key p ≡ cond (nat_le p f.at) None (version_at t.memory key p)) (tables : List Version) (tables_is : now.tables ≡ sorted_of (versions ++ tables)) (before : sorted_of tables ≡ may.before) where
+  here : w.store ≡ t
+  here = stores_are z u w t stands (subst (IsIn (store t)) (sym held) (inl refl))
+
+  frozen_at : (key : List ℕ) (q : ℕ) → q ≤ f.at → version_at t.memory key q ≡ version_at f.versions key q
+  frozen_at key q low = ap (λ (x : StoreTable). version_at x.memory key q) (sym here) ∙ (noted_is (place_at z u.by) u.knows w (frozen_stay f.at f.versions) stands (notes (frozen_stay f.at f.versions) may.frozen)).is_so.1 key q low
+
+  tables_then : t.tables ≡ may.before
+  tables_then = ap (λ (x : StoreTable). x.tables) (sym here) ∙ (noted_is (place_at z u.by) u.knows w (tables_stay may.before may.floor) stands (notes (tables_stay may.before may.floor) may.named)).is_so.0
+
+  gone_below : (key : List ℕ) (q : ℕ) → q ≤ f.at → version_at now.memory key q ≡ None
+  gone_below key q low = memory key q ∙ ap (λ (b : Bool). cond b None (version_at t.memory key q)) (le-leb q f.at low)
+
+  same_above : (key : List ℕ) (q : ℕ) → f.at < q → version_at now.memory key q ≡ version_at t.memory key q
+  same_above key q above = memory key q ∙ ap (λ (b : Bool). cond b None (version_at t.memory key q)) (not_low q above)
+    where
+      not_low : (q : ℕ) → f.at < q → nat_le q f.at ≡ false
+      not_low q above = grind (arith, above)
+
+  now_at : (key : List ℕ) (q : ℕ) → version_at now.tables key q ≡ option_or (version_at f.versions key q) (version_at t.tables key q)
+  now_at key q =
+      ap (λ (l : List Version). version_at l key q) tables_is
+      ∙ at_sorted (versions ++ tables) key q
+      ∙ at_append versions tables key q
+      ∙ ap (λ (l : List Version). option_or (version_at l key q) (version_at tables key q)) may.versions_are
+      ∙ ap (option_or (version_at f.versions key q)) (sym (at_sorted tables key q) ∙ ap (λ (l : List Version). version_at l key q) (before ∙ sym tables_then))
+
+  pub knows_moved : KnowsMoved t e.last.flushed now.memory now.tables
+  knows_moved = record {
+    same = λ key q. at_append now.memory now.tables key q ∙ elim (cases_lt f.at q) [
+      | inr low ↦
+          or_same (version_at now.memory key q) (version_at now.tables key q) (gone_below key q low)
+          ∙ now_at key q
+          ∙ ap (λ (o : Found). option_or o (version_at t.tables key q)) (sym (frozen_at key q low))
+          ∙ sym (at_append t.memory t.tables key q)
+      | inl above ↦
+          ap (λ (o : Found). option_or o (version_at now.tables key q)) (same_above key q above)
+          ∙ ap (option_or (version_at t.memory key q)) (now_at key q ∙ or_same (version_at f.versions key q) (version_at t.tables key q) (below_is f.at f.versions may.low key q above))
+          ∙ sym (at_append t.memory t.tables key q)
+    ];
+    above = λ key q above. same_above key q (let l = may.flushed in omega (arith, l, above));
+    below = λ key q value there. below_by key q value (version_at f.versions key q) refl (sym (now_at key q) ∙ there);
+  }
+    where
+      below_by : (key : List ℕ) (q : ℕ) (value : Option (List ℕ)) (o : Found) → version_at f.versions key q ≡ o → option_or (version_at f.versions key q) (version_at t.tables key q) ≡ Some value
+          → (version_at t.tables key q ≡ Some value) ⊎ ((q ≤ e.last.flushed) × (version_at t.memory key q ≡ Some value))
+      below_by key q value None is there = inl (sym (or_same (version_at f.versions key q) (version_at t.tables key q) is) ∙ there)
+      below_by key q value (Some v) is there = elim (cases_lt f.at q) [
+        | inl above ↦ absurd (none_some (version_at f.versions key q) v (below_is f.at f.versions may.low key q above) is)
+        | inr low ↦ inr ((let l = may.flushed in omega (arith, l, low)), frozen_at key q low ∙ is ∙ sym (ap (λ (x : Found). option_or x (version_at t.tables key q)) is) ∙ there)
+      ]
+
+  pub none_flushed : NoneFlushed now.memory e.last.flushed
+  none_flushed key p low = gone_below key p (let l = may.flushed in omega (arith, l, low))
+
+  pub tables_named : now.tables ≡ e.last.versions
+  tables_named =
+      tables_is
+      ∙ same_sorted (versions ++ tables) (f.versions ++ may.before) (λ key p.
+      at_append versions tables key p
+      ∙ ap (λ (l : List Version). option_or (version_at l key p) (version_at tables key p)) may.versions_are
+      ∙ ap (option_or (version_at f.versions key p)) (sym (at_sorted tables key p) ∙ ap (λ (l : List Version). version_at l key p) before)
+      ∙ sym (at_append f.versions may.before key p))
+      ∙ sym may.last

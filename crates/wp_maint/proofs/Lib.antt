@@ -1,0 +1,10 @@
+pub mod TakesTurns
+pub mod Made
+pub mod Found
+pub mod Versions
+pub mod Memory
+pub mod Freezes
+pub mod Installed
+pub mod Puts
+pub mod Onward
+pub mod Flushed

@@ -1,0 +1,208 @@
+-- A seat that goes on, from one stage to the next.
+use Rattle.std.proofs.Common.{◌≡◌, ℕ, Bool, false, true, List, [], ◌∷◌, ◌++◌, append_assoc, append-nil, length, refl, sym, subst, ap, ◌∙◌, Option, Some, None}
+use Rattle.std.specs.Prelude.{Result, Ok, Err, IfSome}
+use Rattle.wp_model.specs.declared.entry.Entry.{Entry}
+use Rattle.wp_model.specs.declared.version.Version.{Version}
+use Rattle.wp_model.specs.Flushed.{InstalledEdit}
+use Rattle.wp_session.specs.Tables.{unflushed, after_flush}
+use Rattle.wp_core.specs.Notes.{gives_guard}
+use Rattle.wp_core.specs.Sound.Actors.{StartsWith}
+use Rattle.wp_core.specs.Sound.Views.{guarded_by}
+use Rattle.wp_core.specs.Steps.{give_turn}
+use Rattle.wp_core.specs.Tables.{Content, Installed}
+use Rattle.wp_core.specs.Turns.{Turn}
+use Rattle.wp_core.specs.Sound.Pasts.{tables_due}
+use Rattle.wp_core.specs.Views.{Fact, Event, tables_failed, found_edit, tables_stay, nothing_flushed, frozen_stay}
+use Rattle.wp_core.specs.Views as event
+use Rattle.wp_core.specs.World.{Participant, Actor}
+use Rattle.wp_core.proofs.Tests.{none_some}
+use Rattle.wp_rule.specs.Knows.{Noted, KnowsTables}
+use Rattle.wp_rule.specs.Words.{IsAt}
+use Rattle.wp_guarded.specs.Edits.{EditsState}
+use Rattle.wp_shared.specs.Calls.{Continues}
+use Rattle.wp_shared.specs.Seats.{SharedState, SeatState, IsFree, place_at}
+use Rattle.wp_commits.specs.Notes.{GoesOn}
+use Rattle.wp_maint.specs.declared.done.Done.{Done}
+use Rattle.wp_maint.specs.declared.error.MaintError.{MaintError}
+use Rattle.wp_maint.specs.declared.error.MaintError.TheVariants.{Memory, Nothing, TableFault, TablesStopped}
+use Rattle.wp_maint.specs.Calls.{HeldTables, Finds, FlushesFrom, NoneInMemory, found_by, remembering}
+use Rattle.wp_maint.specs.Finding.{Remembers}
+use Rattle.wp_maint.specs.Holding.{no_fact, is_under, is_of_flushed, is_of_tables, seeing, being, GoesOnAs, HoldsEdits}
+
+-- ---- what was seen
+
+pub starts_on : (one two three : List Entry) → StartsWith two one → StartsWith three two → StartsWith three one
+starts_on one two three first second = (first.0 ++ second.0, second.1 ∙ ap (λ (h : List Entry). h ++ second.0) first.1 ∙ append_assoc one first.0 second.0)
+
+pub starts_same : (one : List Entry) → StartsWith one one
+starts_same one = ([], sym (append-nil one))
+
+-- ---- which facts stay
+
+some_guard : (fact : Fact) (turn : Turn) → guarded_by fact ≡ Some turn → guarded_by fact ≡ None → ⊥
+some_guard fact turn some none = none_some (guarded_by fact) turn none some
+
+pub none_free : (fact : Fact) → guarded_by fact ≡ None → no_fact fact ≡ false
+none_free fact e = refl
+
+pub under_free : (turn : Turn) (fact : Fact) → guarded_by fact ≡ None → is_under turn fact ≡ false
+under_free turn fact e = ap (λ (g : Option Turn). gives_guard g (give_turn turn)) e
+
+pub flushed_free : (fact : Fact) → guarded_by fact ≡ None → is_of_flushed fact ≡ false
+flushed_free nothing_flushed e = absurd cc
+flushed_free other e = refl
+
+pub tables_free : (fact : Fact) → guarded_by fact ≡ None → is_of_tables fact ≡ false
+tables_free (tables_stay versions floor) e = absurd cc
+tables_free (frozen_stay n versions) e = absurd cc
+tables_free nothing_flushed e = absurd cc
+tables_free other e = refl
+
+-- ---- stages
+
+pub goes_as : (old base new : SeatState) (test : Fact → Bool) (held : List Content) (turns : List ℕ) → GoesOn test held turns base new → base.table ≡ old.table → base.by ≡ old.by → base.knows ≡ record old.knows { participant = base.knows.participant; learned = base.knows.learned }
+    → StartsWith base.knows.participant.seen old.knows.participant.seen → ((fact : Fact) → guarded_by fact ≡ None → test fact ≡ false) → GoesOnAs old new base.knows.participant
+goes_as old base new test held turns k table by knows starts free =
+    let participant : new.knows.participant ≡ base.knows.participant = ap (λ (x : SeatState). x.knows.participant) k.same in record {
+      same_table = ap (λ (x : SeatState). x.table) k.same ∙ table;
+      same_by = ap (λ (x : SeatState). x.by) k.same ∙ by;
+      live = ap (λ (x : SeatState). x.knows.live) k.same ∙ ap (λ (a : Actor). a.live) knows;
+      seen = subst (λ (p : Participant). StartsWith p.seen old.knows.participant.seen) (sym participant) starts;
+      participant = participant ∙ ap (λ (h : List Entry). record base.knows.participant { seen = h }) (sym (ap (λ (p : Participant). p.seen) participant));
+      notes = λ fact guard there. k.noted fact (free fact guard) (subst (λ (a : Actor). Noted a fact) (sym knows) there);
+      made = ap (λ (x : SeatState). x.knows.made) k.same ∙ ap (λ (a : Actor). a.made) knows;
+      joined = ap (λ (x : SeatState). x.knows.joined) k.same ∙ ap (λ (a : Actor). a.joined) knows;
+    }
+
+module _ (s t u : SeatState) (p : Participant) (first : GoesOnAs s t p) where
+  pub goes_more : (events : List Event) → GoesOnAs t u (remembering events t.knows.participant) → GoesOnAs s u (remembering events p)
+  goes_more events second = record {
+    same_table = second.same_table ∙ first.same_table;
+    same_by = second.same_by ∙ first.same_by;
+    live = second.live ∙ first.live;
+    seen = starts_on s.knows.participant.seen t.knows.participant.seen u.knows.participant.seen first.seen second.seen;
+    participant = second.participant ∙ ap (λ (x : Participant). record x { past = x.past ++ events; seen = u.knows.participant.seen }) first.participant;
+    notes = λ fact guard there. second.notes fact guard (first.notes fact guard there);
+    made = second.made ∙ first.made;
+    joined = second.joined ∙ first.joined;
+  }
+
+  pub goes_still : GoesOnAs t u t.knows.participant → GoesOnAs s u p
+  goes_still second = record {
+    same_table = second.same_table ∙ first.same_table;
+    same_by = second.same_by ∙ first.same_by;
+    live = second.live ∙ first.live;
+    seen = starts_on s.knows.participant.seen t.knows.participant.seen u.knows.participant.seen first.seen second.seen;
+    participant = second.participant ∙ ap (λ (x : Participant). record x { seen = u.knows.participant.seen }) first.participant;
+    notes = λ fact guard there. second.notes fact guard (first.notes fact guard there);
+    made = second.made ∙ first.made;
+    joined = second.joined ∙ first.joined;
+  }
+
+-- it has seen this history, and is as it was but for that
+pub goes_seeing : (old new : SeatState) (h : List Entry) (test : Fact → Bool) (held : List Content) (turns : List ℕ) → GoesOn test held turns (seeing h old) new → StartsWith h old.knows.participant.seen → ((fact : Fact) → guarded_by fact ≡ None → test fact ≡ false) → GoesOnAs old new old.knows.participant
+goes_seeing old new h test held turns k starts free =
+    let g = goes_as old (seeing h old) new test held turns k refl refl refl starts free in
+    record { same_table = g.same_table; same_by = g.same_by; live = g.live; seen = g.seen; participant = g.participant; notes = g.notes; made = g.made; joined = g.joined }
+
+pub same_seat : (s : SeatState) → GoesOnAs s s s.knows.participant
+same_seat s = record { same_table = refl; same_by = refl; live = refl; seen = starts_same s.knows.participant.seen; participant = refl; notes = λ fact guard there. there; made = refl; joined = refl }
+
+-- it remembers these events more, and is as it was but for that
+module _ {D : Type 0} (z : SharedState D) (s u : SeatState) (events : List Event) (is : u ≡ being (remembering events s.knows.participant) s) where
+  pub goes_being : GoesOnAs s u (remembering events s.knows.participant)
+  goes_being = subst (λ (x : SeatState). GoesOnAs s x (remembering events s.knows.participant)) (sym is) (record {
+    same_table = refl;
+    same_by = refl;
+    live = refl;
+    seen = starts_same s.knows.participant.seen;
+    participant = refl;
+    notes = λ fact guard there. there;
+    made = refl;
+    joined = refl;
+  })
+
+  pub holds_being : (e : EditsState) → HoldsEdits z s e → HoldsEdits z u e
+  holds_being e h = subst (λ (x : SeatState). HoldsEdits z x e) (sym is) (record { same_table = h.same_table; live = h.live; held = h.held; turns = h.turns; of_store = h.of_store })
+
+  pub settled_being : (edit : InstalledEdit) → KnowsTables s.knows edit → KnowsTables u.knows edit
+  settled_being edit k = subst (λ (x : SeatState). KnowsTables x.knows edit) (sym is) k
+
+-- which versions are in tables, and that no flushed one is in memory, is noted still
+pub settled_on : (s u : SeatState) (test : Fact → Bool) (held : List Content) (turns : List ℕ) → test nothing_flushed ≡ false → ((versions : List Version) (floor : ℕ) → test (tables_stay versions floor) ≡ false) → GoesOn test held turns s u
+    → (edit : InstalledEdit) → KnowsTables s.knows edit → KnowsTables u.knows edit
+settled_on s u test held turns gone named k edit settled =
+    (k.noted nothing_flushed gone settled.0, (settled.1.0, k.noted (tables_stay edit.versions settled.1.0) (named edit.versions settled.1.0) settled.1.1))
+
+-- the turn was given
+pub as_continues : {D : Type 0} (z : SharedState D) (s u : SeatState) (p : Participant) → GoesOnAs s u p → IsFree z.table u → Continues z s u p
+as_continues z s u p k free = record { free = free; same_by = k.same_by; seen = k.seen; participant = k.participant; notes = k.notes; made = k.made; joined = k.joined }
+
+-- ---- what a flush says, of a seat before and of one behind
+
+module _ {D : Type 0} (First Last : Participant → Type 0) (z : SharedState D) (s t u v : SeatState) (e : Installed) (by : t.by ≡ s.by) (same_past : t.knows.participant.past ≡ s.knows.participant.past) (starts : StartsWith t.knows.participant.seen s.knows.participant.seen) (past : u.knows.participant.past ≡ v.knows.participant.past)
+    (more : (events : List Event) → First (remembering events t.knows.participant) → Last (remembering events s.knows.participant)) (still : First t.knows.participant → Last s.knows.participant) where
+  holds_so : (left : Installed) → HeldTables z t.by u.knows.participant.past t.knows.participant.seen left → HeldTables z s.by v.knows.participant.past s.knows.participant.seen left
+  holds_so left k = record {
+    world = k.world;
+    actor = k.actor;
+    there = subst (λ (b : ℕ). IsAt (place_at z b) k.actor k.world) by k.there;
+    held = k.held;
+    past_is = k.past_is ∙ past;
+    seen_is = starts_on s.knows.participant.seen t.knows.participant.seen k.actor.participant.seen starts k.seen_is;
+  }
+
+  abbrev found_so : Finds z t e → Finds z s e
+  found_so k = record {
+    world = k.world;
+    actor = k.actor;
+    there = subst (λ (b : ℕ). IsAt (place_at z b) k.actor k.world) by k.there;
+    held = k.held;
+    past_is = k.past_is ∙ same_past;
+    seen_is = starts_on s.knows.participant.seen t.knows.participant.seen k.actor.participant.seen starts k.seen_is;
+  }
+
+  -- what is remembered of the tables that were found, and then of these events
+  remembers_so : (k : Finds z t e) (events : List Event) → First (remembering (found_by z t e k ∷ events) t.knows.participant) → Last (remembering (found_by z s e (found_so k) ∷ events) s.knows.participant)
+  remembers_so k events first =
+      subst (λ (past : List Event). Last (remembering (found_edit e.last.flushed e.last.tables (tables_due k.world.first_edit past) e.halted ∷ events) s.knows.participant)) same_past (more (found_by z t e k ∷ events) first)
+
+  pub flushes_so : u.knows.participant.seen ≡ v.knows.participant.seen → (result : Result Done MaintError) → FlushesFrom First z t e result u → FlushesFrom Last z s e result v
+  flushes_so seen (Ok done) k = record {
+    found = found_so k.found;
+    running = k.running;
+    at = k.at ∙ ap (λ (h : List Entry). length h) seen;
+    some = k.some;
+    versions = k.versions ∙ ap (λ (h : List Entry). length (unflushed h e.last)) seen;
+    goes_on = remembers_so k.found (event.installed (after_flush v.knows.participant.seen e.last) false ∷ [])
+        (subst (λ (h : List Entry). First (remembering (found_by z t e k.found ∷ event.installed (after_flush h e.last) false ∷ []) t.knows.participant)) seen k.goes_on);
+  }
+  flushes_so seen (Err Memory) k = still k
+  flushes_so seen (Err Nothing) k = record { found = found_so k.found; running = k.running; idle = subst (λ (h : List Entry). NoneInMemory h e.last) seen k.idle; goes_on = remembers_so k.found [] k.goes_on }
+  flushes_so seen (Err TableFault) k = record {
+    found = found_so k.found;
+    running = k.running;
+    busy = λ idle. k.busy (subst (λ (h : List Entry). NoneInMemory h e.last) (sym seen) idle);
+    asked = k.asked;
+    next = subst (λ (h : List Entry). IfSome k.asked (λ edit. edit ≡ after_flush h e.last)) seen k.next;
+    left = holds_so _ k.left;
+    goes_on = remembers_so k.found (tables_failed e.last k.asked ∷ []) k.goes_on;
+  }
+  flushes_so seen (Err (TablesStopped flushed)) k = record { found = found_so k.found; halted = k.halted; flushed_is = k.flushed_is; goes_on = remembers_so k.found [] k.goes_on }
+
+-- ---- there is nothing to do
+
+module _ {D : Type 0} (z : SharedState D) (s u v : SeatState) (e : Installed) (first : GoesOnAs s u s.knows.participant) (k : Remembers z u e v) where
+  past_still : u.knows.participant.past ≡ s.knows.participant.past
+  past_still = ap (λ (p : Participant). p.past) first.participant
+
+  found_then : GoesOnAs u v (remembering (found_by z u e k.found ∷ []) u.knows.participant)
+  found_then = goes_being z u v (found_by z u e k.found ∷ []) k.is
+
+  pub found_nothing : e.halted ≡ false → NoneInMemory u.knows.participant.seen e.last → FlushesFrom (GoesOnAs s v) z s e (Err Nothing) v
+  found_nothing running none = flushes_so (GoesOnAs u v) (GoesOnAs s v) z s u v v e first.same_by past_still first.seen refl (goes_more s u v s.knows.participant first) (goes_still s u v s.knows.participant first) refl (Err Nothing)
+      (record { found = k.found; running = running; idle = subst (λ (x : SeatState). NoneInMemory x.knows.participant.seen e.last) (sym k.is) none; goes_on = found_then })
+
+  pub found_halted : e.halted ≡ true → (n : ℕ) → n ≡ e.last.flushed → FlushesFrom (GoesOnAs s v) z s e (Err (TablesStopped n)) v
+  found_halted halted n is = flushes_so (GoesOnAs u v) (GoesOnAs s v) z s u v v e first.same_by past_still first.seen refl (goes_more s u v s.knows.participant first) (goes_still s u v s.knows.participant first) refl (Err (TablesStopped n))
+      (record { found = k.found; halted = halted; flushed_is = is; goes_on = found_then })

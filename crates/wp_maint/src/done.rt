@@ -1,0 +1,10 @@
+use wp_model::Seq;
+
+/// What a flush made.
+#[derive(Clone, Copy, Debug, PartialEq, Eq)]
+pub struct Done {
+    /// The published number up to which it goes.
+    pub at: Seq,
+    /// How many versions the new table has.
+    pub versions: u64,
+}

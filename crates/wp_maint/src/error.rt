@@ -1,0 +1,25 @@
+ghost use Rattle.std.specs.Prelude.{◌≡◌};
+ghost use Rattle.wp_maint.specs.declared.error.MaintError.TheVariants.{Memory};
+
+use std::alloc::AllocError;
+use wp_model::Seq;
+
+/// Why a flush made nothing.
+#[derive(Clone, Copy, Debug, PartialEq, Eq)]
+pub enum MaintError {
+    Memory,
+    /// No version stands in memory.
+    Nothing,
+    /// The manifest's device or the tables' failed. None of them will be called again.
+    TableFault,
+    /// One of them failed before. The last edit flushed the entries up to this number.
+    TablesStopped(Seq),
+}
+
+impl From<AllocError> for MaintError {
+    ghost from_gives = { λ _ e. e ≡ Memory };
+
+    fn from(_e: AllocError) -> MaintError {
+        MaintError::Memory
+    }
+}

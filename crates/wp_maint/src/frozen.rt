@@ -1,0 +1,98 @@
+//! What stands in memory is frozen, for a flush to write.
+ghost use Rattle.std.specs.Prelude.{◌≡◌, [], ◌∷◌, true, IfOk};
+ghost use Rattle.wp_core.specs.Sound.Actors.{StartsWith};
+ghost use Rattle.wp_core.specs.Tables.{installed, writes};
+ghost use Rattle.wp_core.specs.Tables as table;
+ghost use Rattle.wp_core.specs.Turns.{write_turn};
+ghost use Rattle.wp_core.specs.World.{World};
+ghost use Rattle.wp_rule.specs.Knows.{KnowsTables};
+ghost use Rattle.wp_guarded.specs.Stock.{store_table};
+ghost use Rattle.wp_shared.specs.Seats.{Stands};
+ghost use Rattle.wp_commits.specs.Notes.{GoesOn};
+ghost use Rattle.wp_maint.specs.Flush.{Freezes, IsCopied};
+ghost use Rattle.wp_maint.specs.Holding.{no_fact, is_under, seeing, HoldsEdits};
+
+use crate::steps::note_frozen;
+use crate::turns::{give_log, give_stock, take_log, take_stock};
+use std::alloc::AllocError;
+use std::sync::{Arc, Wait};
+use wp_guarded::{Edits, Log, Stock};
+use wp_model::{Seq, Versions};
+use wp_outside::Disk;
+use wp_shared::{Seat, Shared};
+use wp_table::Table;
+
+/// What a flush writes.
+#[derive(Drop)]
+pub(crate) struct Frozen {
+    /// The published number.
+    pub at: Seq,
+    /// All versions in memory.
+    pub versions: Versions,
+    /// The tables, the newest first, with room for one more.
+    pub tables: Vec<Arc<Table>>,
+}
+
+/// Freezes what stands in memory, if something does.
+fn freeze(stock: &mut Stock, at: Seq) -> Result<Option<Frozen>, AllocError>
+    ensures copied { IfOk result (λ frozen. IsCopied (store_table stock.old) at frozen) }
+    ensures same { store_table stock.new ≡ store_table stock.old }
+{
+    if stock.is_flushed() {
+        return Ok(None);
+    }
+    let versions = stock.freeze()?;
+    let tables = stock.copy_tables()?;
+    Ok(Some(Frozen {
+        at,
+        versions,
+        tables,
+    }))
+}
+
+/// Freezes what stands in memory, under the write turn and the store turn.
+fn freeze_in<D: Disk + Drop>(
+    store: &Shared<D>,
+    seat: &mut Seat<D>,
+    edits: &Edits<D>,
+    log: &Log<D>,
+    stock: &mut Stock,
+) -> Result<Option<Frozen>, AllocError>
+    requires seat { (seat.old.table ≡ store.now.table) × (seat.old.knows.live ≡ true) }
+    requires held { seat.old.knows.held ≡ table.store (store_table stock.old) ∷ writes log.now.table ∷ installed edits.now.table ∷ [] }
+    requires pending { log.now.table.pending ≡ [] }
+    requires seen { seat.old.knows.participant.seen ≡ log.now.table.history }
+    requires settled { KnowsTables seat.old.knows edits.now.table.last }
+    requires stands { (w : World) × Stands store.now seat.old w }
+    ensures goes { GoesOn no_fact seat.old.knows.held seat.old.turns seat.old seat.new }
+    ensures same { store_table stock.new ≡ store_table stock.old }
+    ensures frozen { IfOk result (λ frozen. Freezes seat.new.knows edits.now.table frozen) }
+{
+    let Some(frozen) = freeze(stock, log.published())? else {
+        return Ok(None);
+    };
+    note_frozen(store, seat, edits, stock, &frozen);
+    Ok(Some(frozen))
+}
+
+/// Freezes what stands in memory: that is all that the history has above the flushed number, up to the published one. The seat
+/// has seen so far.
+pub(crate) fn freeze_all<D: Disk + Drop, R: Wait>(
+    store: &Shared<D>,
+    rt: &R,
+    seat: &mut Seat<D>,
+    edits: &Edits<D>,
+) -> Result<Option<Frozen>, AllocError>
+    requires holds { HoldsEdits store.now seat.old edits.now }
+    requires settled { KnowsTables seat.old.knows edits.now.table.last }
+    ensures goes { GoesOn (is_under write_turn) (installed edits.now.table ∷ []) seat.old.turns (seeing seat.new.knows.participant.seen seat.old) seat.new }
+    ensures grown { StartsWith seat.new.knows.participant.seen seat.old.knows.participant.seen }
+    ensures frozen { IfOk result (λ frozen. Freezes seat.new.knows edits.now.table frozen) }
+{
+    let log = take_log(store, rt, seat);
+    let mut stock = take_stock(store, rt, seat);
+    let frozen = freeze_in(store, seat, edits, &log, &mut stock);
+    give_stock(store, seat, stock);
+    give_log(store, seat, log);
+    frozen
+}

@@ -1,0 +1,111 @@
+//! The steps of the machine that maintenance makes, each as what it leaves of the seat.
+ghost use Rattle.std.specs.Prelude.{◌≡◌, ◌≤◌, ℕ, true, false, List, [], ◌∷◌, length, IfSome};
+ghost use Rattle.wp_model.specs.Flushed.{IsEditCovered};
+ghost use Rattle.wp_model.specs.Versions.{version_at};
+ghost use Rattle.wp_core.specs.Effects.{with_failed};
+ghost use Rattle.wp_core.specs.Lists.{IsIn};
+ghost use Rattle.wp_core.specs.Sound.Store.{NoneFlushed};
+ghost use Rattle.wp_core.specs.Tables.{StoreTable, Installed, installed};
+ghost use Rattle.wp_core.specs.Tables as table;
+ghost use Rattle.wp_core.specs.Views.{tables_failed, tables_stay, nothing_flushed, frozen_stay};
+ghost use Rattle.wp_core.specs.Views as event;
+ghost use Rattle.wp_core.specs.World.{World};
+ghost use Rattle.wp_rule.specs.Knows.{Noted, KnowsMoved, KnowsInstalled};
+ghost use Rattle.wp_guarded.specs.Stock.{store_table};
+ghost use Rattle.wp_shared.specs.Seats.{Stands};
+ghost use Rattle.wp_commits.specs.Notes.{noting, GoesOn};
+ghost use Rattle.wp_maint.specs.Calls.{remembering};
+ghost use Rattle.wp_maint.specs.Holding.{no_fact, is_of_flushed, is_of_tables, being};
+ghost use Rattle.wp_maint.specs.Finding.{Changes, Remembers};
+
+use crate::frozen::Frozen;
+use std::marker::Brand;
+use wp_guarded::{Edits, Stock};
+use wp_outside::Disk;
+use wp_shared::{Seat, Shared};
+
+/// The seat remembers how it found the tables.
+pub(crate) fn find_edits<D: Disk + Drop>(store: &Shared<D>, seat: &mut Seat<D>)
+    requires seat { seat.old.table ≡ store.now.table }
+    requires held { (t : Installed) × IsIn (installed t) seat.old.knows.held }
+    ensures { (t : Installed) → IsIn (installed t) seat.old.knows.held → Remembers store.now seat.old t seat.new }
+{
+    store.make::<Brand>(seat);
+}
+
+/// The edit of a flush was installed.
+fn remember_flush<D: Disk + Drop>(store: &Shared<D>, seat: &mut Seat<D>, edits: &Edits<D>)
+    requires seat { seat.old.table ≡ store.now.table }
+    requires held { (t : Installed) × (seat.old.knows.held ≡ installed t ∷ []) × (edits.now.table ≡ record t { last = edits.now.table.last }) × KnowsInstalled seat.old.knows t edits.now.table.last false }
+    ensures { GoesOn is_of_flushed (installed edits.now.table ∷ []) seat.old.turns (being (remembering (event.installed edits.now.table.last false ∷ []) seat.old.knows.participant) seat.old) seat.new }
+{
+    store.make_about::<Brand, Edits<D>>(seat, edits);
+}
+
+/// A device of the tables failed.
+fn remember_fault<D: Disk + Drop>(store: &Shared<D>, seat: &mut Seat<D>, edits: &Edits<D>)
+    requires seat { seat.old.table ≡ store.now.table }
+    requires held { (t : Installed) × (seat.old.knows.held ≡ installed t ∷ []) × (edits.now.table ≡ with_failed t edits.now.table.failed) × (t.halted ≡ false) }
+    requires covered { IfSome edits.now.table.failed (IsEditCovered seat.old.knows.participant.seen) }
+    ensures goes { GoesOn no_fact (installed edits.now.table ∷ []) seat.old.turns (being (remembering (tables_failed edits.now.table.last edits.now.table.failed ∷ []) seat.old.knows.participant) seat.old) seat.new }
+    ensures stands { (w : World) × Stands store.now seat.new w }
+{
+    store.make_about::<Brand, Edits<D>>(seat, edits);
+}
+
+/// The edit of a flush was installed, where the tables were found so.
+pub(crate) fn install_flush<D: Disk + Drop>(store: &Shared<D>, seat: &mut Seat<D>, edits: &Edits<D>)
+    requires seat { seat.old.table ≡ store.now.table }
+    requires held { (t : Installed) × (seat.old.knows.held ≡ installed t ∷ []) × (edits.now.table ≡ record t { last = edits.now.table.last }) × KnowsInstalled seat.old.knows t edits.now.table.last false }
+    ensures { (t : Installed) → seat.old.knows.held ≡ installed t ∷ [] → Changes store.now seat.old t edits.now.table (event.installed edits.now.table.last false) is_of_flushed seat.new }
+{
+    find_edits(store, seat);
+    remember_flush(store, seat, edits);
+}
+
+/// A device of the tables failed, where they were found so.
+pub(crate) fn halt<D: Disk + Drop>(store: &Shared<D>, seat: &mut Seat<D>, edits: &Edits<D>)
+    requires seat { seat.old.table ≡ store.now.table }
+    requires held { (t : Installed) × (seat.old.knows.held ≡ installed t ∷ []) × (edits.now.table ≡ with_failed t edits.now.table.failed) × (t.halted ≡ false) }
+    requires covered { IfSome edits.now.table.failed (IsEditCovered seat.old.knows.participant.seen) }
+    ensures changes { (t : Installed) → seat.old.knows.held ≡ installed t ∷ [] → Changes store.now seat.old t edits.now.table (tables_failed edits.now.table.last edits.now.table.failed) no_fact seat.new }
+    ensures stands { (w : World) × Stands store.now seat.new w }
+{
+    find_edits(store, seat);
+    remember_fault(store, seat, edits);
+}
+
+/// Notes that what is frozen stays in memory.
+pub(crate) fn note_frozen<D: Disk + Drop>(
+    store: &Shared<D>,
+    seat: &mut Seat<D>,
+    edits: &Edits<D>,
+    stock: &Stock,
+    frozen: &Frozen,
+)
+    requires seat { (seat.old.table ≡ store.now.table) × (seat.old.knows.live ≡ true) }
+    requires held { IsIn (installed edits.now.table) seat.old.knows.held × IsIn (table.store (store_table stock.now)) seat.old.knows.held }
+    requires seen { frozen.now.at ≤ length seat.old.knows.participant.seen }
+    requires are { (key : List ℕ) (q : ℕ) → q ≤ frozen.now.at → version_at (store_table stock.now).memory key q ≡ version_at frozen.now.versions key q }
+    ensures { seat.new ≡ noting (frozen_stay frozen.now.at frozen.now.versions) seat.old }
+{
+    store.make_about::<Brand, Frozen>(seat, frozen);
+}
+
+/// The versions in memory and in tables became these.
+pub(crate) fn move_versions<D: Disk + Drop>(
+    store: &Shared<D>,
+    seat: &mut Seat<D>,
+    edits: &Edits<D>,
+    stock: &Stock,
+)
+    requires seat { seat.old.table ≡ store.now.table }
+    requires held { (t : StoreTable) × (seat.old.knows.held ≡ table.store t ∷ installed edits.now.table ∷ []) × ((store_table stock.now).floor ≡ t.floor)
+        × KnowsMoved t edits.now.table.last.flushed (store_table stock.now).memory (store_table stock.now).tables }
+    requires gone { NoneFlushed (store_table stock.now).memory edits.now.table.last.flushed }
+    ensures goes { GoesOn is_of_tables (table.store (store_table stock.now) ∷ installed edits.now.table ∷ []) seat.old.turns seat.old seat.new }
+    ensures flushed { Noted seat.new.knows nothing_flushed }
+    ensures named { Noted seat.new.knows (tables_stay (store_table stock.now).tables (store_table stock.now).floor) }
+{
+    store.make_about::<Brand, Stock>(seat, stock);
+}
