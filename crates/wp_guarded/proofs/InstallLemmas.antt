@@ -5,12 +5,14 @@ use Rattle.std.specs.Option.{option_or}
 use Rattle.wp_model.specs.declared.version.Version.{Version}
 use Rattle.wp_model.specs.Flushed.{InstalledEdit}
 use Rattle.wp_model.specs.Versions.{AreInOrder, version_at}
+use Rattle.wp_outside.specs.Disk.{IfKnown, Passes}
 use Rattle.wp_outside.specs.Faults.{Rose}
 use Rattle.wp_gatelog.specs.Durability.{LosesNoRecord}
+use Rattle.wp_gatelog.specs.Moments.{Leaves}
 use Rattle.wp_gatelog.proofs.DurabilityLemmas.{preserves_on}
 use Rattle.wp_manifest.specs.Edit.{Edit, no_edit}
-use Rattle.wp_manifest.specs.Manifest.{ManifestState}
-use Rattle.wp_manifest.specs.Spelling.{MAGIC}
+use Rattle.wp_manifest.specs.Manifest.{ManifestState, StoresEdits}
+use Rattle.wp_manifest.specs.Spelling.{MAGIC, last_edit, IsManifestOrNext}
 use Rattle.wp_merge.specs.Merge.{first_at, joined, sorted_of}
 use Rattle.wp_merge.proofs.Merged.{or_none}
 use Rattle.wp_merge.proofs.Sorted.{at_sorted, in_order_sorted, in_order_same}
@@ -20,13 +22,13 @@ use Rattle.wp_store.specs.Store.{with_newest}
 use Rattle.wp_table.specs.Table.{is_flushed}
 use Rattle.wp_tableset.specs.Changes.{compacted_parts, one_part, NextInstalled, NextRefused, LosesNoTable}
 use Rattle.wp_tableset.specs.Device.{KeepsFronts}
-use Rattle.wp_tableset.specs.Set.{TableSetState, StoresTables}
+use Rattle.wp_tableset.specs.Set.{TableSetState, LeavesTables, StoresTables}
 use Rattle.wp_tableset.specs.declared.error.TableSetError.{TableSetError}
 use Rattle.wp_tableset.specs.declared.error.TableSetError.TheVariants.{Memory, Fault, Halted}
 use Rattle.wp_tableset.proofs.SetLemmas.{none_left}
 use Rattle.wp_guarded.specs.declared.edits.FailedInstall.{FailedInstall}
-use Rattle.wp_guarded.specs.Edits.{edits_state, asked_for, failed_edit, IsEdits}
-use Rattle.wp_guarded.specs.Installs.{with_table, in_one_table, HasHalted, IsRefused}
+use Rattle.wp_guarded.specs.Edits.{EditsState, edits_state, asked_for, failed_edit, IsEdits}
+use Rattle.wp_guarded.specs.Installs.{with_table, in_one_table, HadCause, HasHalted, IsRefused, SurvivesInstall}
 use Rattle.wp_guarded.proofs.FlushedVersions.{both_flushed}
 use Rattle.wp_guarded.proofs.LogLemmas.{rose_since}
 use Rattle.wp_guarded.proofs.StockLemmas.{at_parts}
@@ -110,6 +112,25 @@ module _ (set first : TableSetState) (parts : List (List Version)) (failed : Opt
 
   durable : LosesNoRecord MAGIC first.manifest.log.moments new.manifest.log.moments
   durable id records = preserves_on _ first.manifest.log.moments set.manifest.log.moments new.manifest.log.moments (k.durable id records) (keeps.durable k.edits k.next k.stores.manifest id records)
+
+  -- ---- while it is being installed
+
+  pub survives : (next : Edit) (after : List (List Version) → List (List Version)) (edit : InstalledEdit) (now : EditsState) → edit ≡ installed_of next (after parts) → now.set ≡ new
+      → ((edits : List Edit) → StoresEdits set.manifest edits no_edit → set.manifest.log.closed ≡ false → Passes (Leaves (IsManifestOrNext set.manifest.log.id edits next)) set.manifest.log.moments new.manifest.log.moments)
+      → ((edits : List Edit) (ps : List (List Version)) → StoresTables set edits no_edit ps [] → (new.manifest.log.moments ≡ set.manifest.log.moments) ⊎ IfKnown new.moments (LeavesTables set.manifest.log.id next (after ps)))
+      → SurvivesInstall (edits_state set first parts failed) now edit
+  survives next after edit now made same passed there =
+      let last : set.manifest.edit ≡ last_edit k.edits = k.stores.manifest.last in
+      rw same record {
+        edits = k.edits;
+        next = next;
+        next_parts = after parts;
+        last_is = ap (λ (e : Edit). installed_of e parts) last;
+        next_is = made;
+        manifest = passed k.edits stored.manifest open_before;
+        tables = subst (λ (e : Edit). Passes (LeavesTables set.manifest.log.id e parts) set.moments new.moments) last (keeps.tables k.edits k.next parts k.next_parts k.stores);
+        next_tables = there k.edits parts stored;
+      }
 
   -- ---- the edit is installed
 
@@ -204,6 +225,29 @@ module _ (set first : TableSetState) (parts : List (List Version)) (failed : Opt
         | inr stopped ↦ halted_by new.manifest.log.closed refl stopped.last refused.1
       ]
       refused_table Halted refused = let halted = refused.0 in absurd cc
+
+-- an install that called no device
+pub nothing_called : (set first : TableSetState) (parts : List (List Version)) (failed : Option FailedInstall) → IsEdits (edits_state set first parts failed) → (next : Edit) (after : List (List Version) → List (List Version)) (edit : InstalledEdit) (now : EditsState)
+    → edit ≡ installed_of next (after parts) → now.set ≡ set → SurvivesInstall (edits_state set first parts failed) now edit
+nothing_called set first parts failed k next after edit now made same = rw same record {
+  edits = k.edits;
+  next = next;
+  next_parts = after parts;
+  last_is = ap (λ (e : Edit). installed_of e parts) k.stores.manifest.last;
+  next_is = made;
+  manifest = ([], refl, tt);
+  tables = ([], refl, tt);
+  next_tables = inl refl;
+}
+
+-- a device that failed was called just then
+pub refused_cause : (old new : TableSetState) (next : Edit) (after : List (List Version) → List (List Version)) (why : TableSetError) → NextRefused old new next after why → HadCause old new why
+refused_cause old new next after Memory refused = tt
+refused_cause old new next after Fault refused = elim refused.2 [
+  | inl stopped ↦ inr stopped.rose
+  | inr stopped ↦ inl stopped.rose
+]
+refused_cause old new next after Halted refused = tt
 
 -- ---- the table in place of all
 

@@ -1,5 +1,5 @@
 //! What the tables turn guards: the tables on their two devices.
-ghost use Rattle.std.specs.Prelude.{◌≡◌, ◌≤◌, ◌<◌, ◌^◌, true, false, [], None, List, length, vec_capacity, IfOk, IfErr, OnOk};
+ghost use Rattle.std.specs.Prelude.{◌≡◌, ◌≤◌, ◌<◌, ◌^◌, true, false, [], ◌∷◌, None, List, length, vec_capacity, IfOk, IfErr, OnOk};
 ghost use Rattle.std.specs.Arc.{arc_value};
 ghost use Rattle.std.specs.List.{list_all};
 ghost use Rattle.std.specs.Option.{option_map};
@@ -8,11 +8,11 @@ ghost use Rattle.wp_manifest.specs.Edit.{Edit, no_edit};
 ghost use Rattle.wp_merge.specs.Merge.{joined, sorted_of};
 ghost use Rattle.wp_store.specs.Store.{with_newest};
 ghost use Rattle.wp_table.specs.Table.{is_flushed, is_numbered};
-ghost use Rattle.wp_tableset.specs.Changes.{one_part};
+ghost use Rattle.wp_tableset.specs.Changes.{compacted_parts, one_part};
 ghost use Rattle.wp_tableset.specs.Set.{StoresTables};
 ghost use Rattle.wp_core.specs.Images.{ManifestTells, TablesTell};
 ghost use Rattle.wp_guarded.specs.Edits.{IsEdits, IsNamed, HasTablesOf, edits_state};
-ghost use Rattle.wp_guarded.specs.Installs.{with_table, in_one_table, IsRefused};
+ghost use Rattle.wp_guarded.specs.Installs.{with_table, in_one_table, HadCause, IsRefused, SurvivesInstall};
 
 use crate::table_versions::TableVersions;
 use std::marker::Model;
@@ -126,7 +126,10 @@ impl<D: Disk> Edits<D> {
         requires fits { flushed < 2 ^ 32 }
         ensures table { IfOk result (λ table. arc_value table ≡ versions.now) }
         ensures installed { OnOk result (self.new.table ≡ record self.old.table { last = with_table versions.now flushed self.old.table.last }) }
+        ensures parts { OnOk result (self.new.parts ≡ versions.now ∷ self.old.parts) }
         ensures refused { IfErr result (IsRefused self.old.table self.new.table (with_table versions.now flushed self.old.table.last)) }
+        ensures cause { IfErr result (HadCause self.old.set self.new.set) }
+        ensures survives { SurvivesInstall self.old self.new (with_table versions.now flushed self.old.table.last) }
         ensures first { self.new.first ≡ self.old.first }
     {
         self.tables.reserve(1)?;
@@ -155,7 +158,10 @@ impl<D: Disk> Edits<D> {
         requires flushed { list_all (is_flushed self.old.table.last.flushed) versions.now ≡ true }
         ensures table { IfOk result (λ table. option_map arc_value table ≡ one_part versions.now) }
         ensures installed { OnOk result (self.new.table ≡ record self.old.table { last = in_one_table versions.now self.old.table.last }) }
+        ensures parts { OnOk result (self.new.parts ≡ compacted_parts versions.now) }
         ensures refused { IfErr result (IsRefused self.old.table self.new.table (in_one_table versions.now self.old.table.last)) }
+        ensures cause { IfErr result (HadCause self.old.set self.new.set) }
+        ensures survives { SurvivesInstall self.old self.new (in_one_table versions.now self.old.table.last) }
         ensures uncalled { versions.now ≡ [] → (self.new.set.moments ≡ self.old.set.moments) × (self.new.set.faults ≡ self.old.set.faults) }
         ensures first { self.new.first ≡ self.old.first }
     {

@@ -104,12 +104,12 @@ first_alone w s a at all free =
 
 module _ {S : Type 0} (content : S → Option Content) (tells : List S → S → Type 0) where
   pub leaves : (z z' : SharedWords S) (id : ℕ) (a : Actor) (words : List ℕ) (slots : List S) (parts : Turn → S) → z ≡ z' → id ≡ 0 → a.held ≡ [] → a.made ≡ length a.joined
-      → Final (Seen (Shows content (tells z.first) z.first z.opened z.cells) id a) words slots → ((turn : Turn) → get_elem? slots (turn_index turn) ≡ some (parts turn)) → Leaves content (tells z'.first) z'.first (place_of z' 0) a parts
+      → Final (Seen (Shows content (tells z.first) z.first z.opened z.cells) id a) words slots → ((turn : Turn) → get_elem? slots (turn_index turn) ≡ some (parts turn)) → Leaves content (tells z'.first) z'.first (place_of content z' 0) a parts
   leaves z z' id a words slots parts is first idle all f there =
       let s = f.0 in let r = f.1.0 in let w = r.world in
-      let k = at_world content (tells z.first) z.first z.opened z.cells s r 0 a (subst (λ (n : ℕ). get_elem? s.views n ≡ some a) first f.1.1) in let sound = at_sound (place_of z 0) a w k in
+      let k = at_world content (tells z.first) z.first z.opened z.cells s r 0 a (subst (λ (n : ℕ). get_elem? s.views n ≡ some a) first f.1.1) in let sound = at_sound (place_of content z 0) a w k in
       let free : (turn : Turn) → turn_holder w.holders turn ≡ None = λ turn. nobody_holds w sound a k.there all idle turn (turn_holder w.holders turn) refl in
-      subst (λ (y : SharedWords S). Leaves content (tells y.first) y.first (place_of y 0) a parts) is (record {
+      subst (λ (y : SharedWords S). Leaves content (tells y.first) y.first (place_of content y 0) a parts) is (record {
         world = w;
         before = k;
         first_edit = r.first_edit;

@@ -1,6 +1,6 @@
 -- A table that is made of the parts of an opening world shows that world.
 use Rattle.std.specs.Prelude.{All}
-use Rattle.std.proofs.Common.{◌≡◌, ℕ, suc, ◌+◌, true, List, [], ◌∷◌, ◌++◌, length, map, replicate, refl, sym, subst, ap, ◌∙◌, Option, None, arith}
+use Rattle.std.proofs.Common.{◌≡◌, ℕ, suc, ◌+◌, true, List, [], ◌∷◌, ◌++◌, length, map, replicate, refl, sym, subst, ap, ◌∙◌, Option, Some, None, arith}
 use Rattle.std.proofs.lemmas.List.{length-map}
 use mathlib.Core.Option.{some}
 use lib.ListN.{get_elem?}
@@ -12,7 +12,7 @@ use Rattle.wp_core.specs.Tables.{Content}
 use Rattle.wp_core.specs.World.{Actor, new_actor, content_of}
 use Rattle.wp_core.specs.Changes.{turn_index}
 use Rattle.wp_core.specs.Runs.{stays}
-use Rattle.wp_rule.specs.Words.{turn_words, words_of, SawAll}
+use Rattle.wp_rule.specs.Words.{turn_words, words_of, last_edit_in, last_edit_of, first_edit_of, SawAll}
 use Rattle.wp_rule.specs.Shows.{WasLast, Rests, Shows, Founds}
 
 none_held : (turn : Turn) → turn_holder all_free turn ≡ None
@@ -28,6 +28,10 @@ zeros [] all = refl
 zeros (x ∷ xs) all = λ i. all 0 0 (omega arith) i ∷ zeros xs (λ k d low. all (suc k) d (omega arith)) i
 
 module _ {S : Type 0} (content : S → Option Content) (tells : S → Type 0) where
+  -- the world begins with the last edit of the tables' value
+  began : {client : List ℕ} {opened : List Entry} {cells flag : ℕ} (slots : List S) (f : Founds content tells client opened cells flag slots) → WasLast content slots f.world.first_edit
+  began slots f = let p = f.parts tables_turn in ap (last_edit_of content) p.1 ∙ (ap last_edit_in p.2.0 ∙ ap Some f.opening.first_edit)
+
   pub founds : (client : List ℕ) (opened : List Entry) (cells flag : ℕ) (slots first : List S) (words : List ℕ) → Founds content tells client opened cells flag slots → first ≡ slots
       → words ≡ length opened ∷ length opened ∷ flag ∷ replicate (cells + 7) 0 → Shows content tells first opened cells (opening words slots (new_actor true client opened))
   founds client opened cells flag slots first words f same is =
@@ -42,7 +46,7 @@ module _ {S : Type 0} (content : S → Option Content) (tells : S → Type 0) wh
         reached = (w, o, stays);
         opened_is = f.opened_is;
         cells_are = f.cells_are;
-        first_edit = let p = f.parts tables_turn in subst (λ (xs : List S). WasLast content xs w.first_edit) (sym same) (p.0, w.installed, p.1, p.2.0, o.first_edit);
+        first_edit = ap (first_edit_of content) same ∙ began slots f;
         words = is ∙ (ap (λ n. length opened ∷ length opened ∷ flag ∷ replicate n 0) seven ∙ sym all);
         deep = length-map slots some ∙ f.deep;
         rests = λ turn. let p = f.parts turn in
@@ -51,11 +55,11 @@ module _ {S : Type 0} (content : S → Option Content) (tells : S → Type 0) wh
       }
 
   -- its first seat has seen the history that is opened
-  pub opening_seen : (client : List ℕ) (opened : List Entry) (cells flag : ℕ) (slots : List S) → Founds content tells client opened cells flag slots → SawAll (record { opened = opened; cells = cells; by = 0 }) (new_actor true client opened) (length opened)
+  pub opening_seen : (client : List ℕ) (opened : List Entry) (cells flag : ℕ) (slots : List S) → Founds content tells client opened cells flag slots → SawAll (record { opened = opened; cells = cells; first_edit = first_edit_of content slots; by = 0 }) (new_actor true client opened) (length opened)
   opening_seen client opened cells flag slots f =
       let w = f.world in let o = f.opening in let history : w.writes.history ≡ opened = o.history ∙ f.opened_is in record {
         world = w;
-        there = record { reached = (w, o, stays); opened = f.opened_is; cells = f.cells_are; there = ap (λ (actors : List Actor). get_elem? actors 0) f.actors_are };
+        there = record { reached = (w, o, stays); opened = f.opened_is; cells = f.cells_are; first_edit = began slots f; there = ap (λ (actors : List Actor). get_elem? actors 0) f.actors_are };
         number = ap (λ (h : List Entry). length h) (sym history);
         seen = history;
       }

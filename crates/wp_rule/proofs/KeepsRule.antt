@@ -19,7 +19,7 @@ use Rattle.wp_core.specs.Steps.{Step, give_turn}
 use Rattle.wp_core.specs.Runs.{Reaches}
 use Rattle.wp_core.proofs.Frames.{here}
 use Rattle.wp_core.proofs.Gives.{now_holder, other_holder, same_turn}
-use Rattle.wp_rule.specs.Words.{turn_word, words_of, turn_place, Place, IsAt}
+use Rattle.wp_rule.specs.Words.{turn_word, words_of, turn_place, first_edit_of, Place, IsAt}
 use Rattle.wp_rule.specs.Moves.{world_after_step, actor_after_step, world_after, actor_after, MayMake, MayStore, Leave}
 use Rattle.wp_rule.specs.Shows.{WasLast, IsPart, Rests, Shows}
 use Rattle.wp_rule.specs.Plays as plays
@@ -75,13 +75,13 @@ module _ {S : Type 0} (content : S → Option Content) (tells : S → Type 0) (f
   Rule = Shows content tells first opened cells
 
   abbrev place : ℕ → Place
-  place id = record { opened = opened; cells = cells; by = id }
+  place id = record { opened = opened; cells = cells; first_edit = first_edit_of content first; by = id }
 
   abbrev Home : Type 0
   Home = maybe.Option (maybe.Option S)
 
   pub at_world : (s : St) (r : Rule s) (id : ℕ) (a : Actor) → get_elem? s.views id ≡ some a → IsAt (place id) a r.world
-  at_world s r id a at = record { reached = r.reached; opened = r.opened_is; cells = r.cells_are; there = subst (λ (views : List Actor). get_elem? views id ≡ some a) r.views at }
+  at_world s r id a at = record { reached = r.reached; opened = r.opened_is; cells = r.cells_are; first_edit = r.first_edit; there = subst (λ (views : List Actor). get_elem? views id ≡ some a) r.views at }
 
   rests_again : (h : Option ℕ) (c c' : Content) (home : Home) → (h ≡ None → c' ≡ c) → Rests content tells h c home → Rests content tells h c' home
   rests_again None c c' home same r = (r.0, r.1, (r.2.0 ∙ ap Some (sym (same refl)), r.2.1))
@@ -105,7 +105,7 @@ module _ {S : Type 0} (content : S → Option Content) (tells : S → Type 0) (f
   }
 
   at_last : (s : St) (r : Rule s) (id : ℕ) (a b : Actor) (words : List ℕ) (last : World) → get_elem? s.views id ≡ some a → Reaches last → Leave id r.world words last b → IsAt (place id) b last
-  at_last s r id a b words last at reached l = let k = at_world s r id a at in record { reached = reached; opened = l.opened ∙ k.opened; cells = l.cells ∙ k.cells; there = there_after r.world last id a b words k.there l }
+  at_last s r id a b words last at reached l = let k = at_world s r id a at in record { reached = reached; opened = l.opened ∙ k.opened; cells = l.cells ∙ k.cells; first_edit = k.first_edit ∙ ap Some (sym l.first_edit); there = there_after r.world last id a b words k.there l }
 
   pub loads : (slots id i : ℕ) (m : Me S Actor) (p : Place) (steps : World → List Step) → p ≡ place id → MayMake p m.0 steps → Allows Rule slots id m i (λ n. n) (plays.loads p steps (step slots i 0 0 none) m)
   loads slots id i m p steps is may = subst (λ (q : Place). MayMake q m.0 steps → Allows Rule slots id m i (λ n. n) (plays.loads q steps (step slots i 0 0 none) m)) (sym is) (λ may' s r deep at low.
@@ -185,7 +185,7 @@ module _ {S : Type 0} (content : S → Option Content) (tells : S → Type 0) (f
               world = w;
               before = k;
               met = met;
-              after = subst (IsAt (place id) b) (sym same) (record { reached = reached; opened = k.opened; cells = k.cells; there = here w.actors id m.0 b k.there });
+              after = subst (IsAt (place id) b) (sym same) (record { reached = reached; opened = k.opened; cells = k.cells; first_edit = k.first_edit; there = here w.actors id m.0 b k.there });
               actor = sym (actor_taken w id m.0 turn);
               so_is = (free, h.2, may);
             };
@@ -238,7 +238,7 @@ module _ {S : Type 0} (content : S → Option Content) (tells : S → Type 0) (f
         subst (λ (z : List (maybe.Option S)). Rule record { words = set s.words (turn_place turn) 0; homes = z; views = set s.views id b }) (sym back)
             (turned s r id turn None b next homes reached refl (length-set s.homes (turn_index turn) (some may.value) ∙ r.deep)
             (may.value, set_here s.homes (turn_index turn) (some may.value) (omega arith), (it.is_part.0 ∙ ap Some (sym same), it.is_part.1)) (λ u ne. set_else s.homes (turn_index turn) u (some may.value) ne)),
-        (refl, record { world = w; before = k; met = (n, tt); after = record { reached = reached; opened = k.opened; cells = k.cells; there = here w.actors id m.0 b k.there }; actor = refl; so_is = tt }),
+        (refl, record { world = w; before = k; met = (n, tt); after = record { reached = reached; opened = k.opened; cells = k.cells; first_edit = k.first_edit; there = here w.actors id m.0 b k.there }; actor = refl; so_is = tt }),
       )
 
   pub unclaims : (slots id word : ℕ) (m : Me S Actor) (p : Place) (turn : Turn) → p ≡ place id → word ≡ turn_place turn → MayUnclaim content tells p turn m

@@ -1,5 +1,6 @@
 -- What a seat knows of the world behind the table.
-use Rattle.std.proofs.Common.{◌≡◌, ⊎_elim, ℕ, List, [], ◌∷◌, refl, subst}
+use Rattle.std.proofs.Common.{◌≡◌, ⊎_elim, ℕ, List, [], ◌∷◌, Option, unwrap_or, refl, sym, ap, ◌∙◌, subst}
+use Rattle.wp_model.specs.Flushed.{InstalledEdit}
 use Rattle.wp_core.specs.Lists.{IsIn}
 use Rattle.wp_core.specs.Turns.{Turn, Holders, Holds}
 use Rattle.wp_core.specs.Tables.{Content, turn_of}
@@ -12,9 +13,14 @@ use Rattle.wp_core.proofs.AllParticipants.{mine}
 use Rattle.wp_core.proofs.EachStep.{reached_is_sound}
 use Rattle.wp_core.proofs.Frames.{at_map}
 use Rattle.wp_rule.specs.Words.{Place, IsAt}
+use Rattle.wp_rule.specs.Shows.{WasLast}
 
 pub at_sound : (p : Place) (a : Actor) (w : World) → IsAt p a w → IsSound w
 at_sound p a w k = reached_is_sound w k.reached
+
+-- as words were made there was one last edit
+pub one_was_first : {S : Type 0} (content : S → Option Content) (first : List S) (one other : InstalledEdit) → WasLast content first one → WasLast content first other → one ≡ other
+one_was_first content first one other is was = ap (λ (edit : Option InstalledEdit). unwrap_or edit one) (sym is ∙ was)
 
 held_among : (holders : Holders) (contents : Turn → Content) (j : ℕ) (held : List Content) (c : Content) → IsIn c held → AreHeld holders contents j held → Holds holders (turn_of c) j × (contents (turn_of c) ≡ c)
 held_among holders contents j [] c there k = absurd there

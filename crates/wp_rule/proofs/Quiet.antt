@@ -163,6 +163,7 @@ at_next p a w step k quiet needs =
       reached = reached_next w p.by a step k.there k.reached needs;
       opened = l.opened ∙ k.opened;
       cells = l.cells ∙ k.cells;
+      first_edit = k.first_edit ∙ ap Some (sym l.first_edit);
       there = there_after w (world_after_step w p.by a step) p.by a (actor_after_step w a step) (words_of w) k.there l;
     }
 

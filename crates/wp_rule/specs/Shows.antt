@@ -8,13 +8,13 @@ use Rattle.wp_model.specs.declared.entry.Entry.{Entry}
 use Rattle.wp_core.specs.Lists.{EachAt}
 use Rattle.wp_core.specs.Turns.{Turn, turn_holder}
 use Rattle.wp_core.specs.Changes.{turn_index}
-use Rattle.wp_core.specs.Tables.{Content, Installed, installed}
+use Rattle.wp_core.specs.Tables.{Content}
 use Rattle.wp_model.specs.Flushed.{InstalledEdit}
 use Rattle.wp_core.specs.World.{Actor, World, new_actor, content_of}
 use Rattle.wp_core.specs.Runs.{IsOpening, Reaches}
 use Rattle.wp_core.specs.Sound.Actors.{IsIdle}
 use Rattle.wp_core.specs.IsSound.{IsSound}
-use Rattle.wp_rule.specs.Words.{words_of, Place, IsAt}
+use Rattle.wp_rule.specs.Words.{words_of, first_edit_of, Place, IsAt}
 
 -- the actor is not live, did nothing and has nothing, and took in nobody
 abbrev pub DidNothing : Actor → Type 0
@@ -22,7 +22,7 @@ DidNothing a = (a.live ≡ false) × IsIdle a × (a.joined ≡ [])
 
 -- as the table was made, of these values, the last edit of the tables' value was this one
 abbrev pub WasLast : {S : Type 0} → (S → Option Content) → List S → InstalledEdit → Type 0
-WasLast {S} content first edit = (x : S) × (t : Installed) × (get_elem? first 5 ≡ some x) × (content x ≡ Some (installed t)) × (t.last ≡ edit)
+WasLast content first edit = first_edit_of content first ≡ Some edit
 
 module _ {S : Type 0} (content : S → Option Content) (tells : S → Type 0) where
   -- the value stands for the table, and its devices tell what they should

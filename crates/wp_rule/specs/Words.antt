@@ -1,10 +1,13 @@
 -- The words of a world, in their order, and which world may stand behind a seat.
 use Rattle.std.specs.Prelude.{◌≡◌, ℕ, ◌+◌, List, [], ◌∷◌, ◌++◌, length, Option, Some, None}
-use mathlib.Core.Option.{some}
+use mathlib.Core.Option.{some, none}
+use mathlib.Core.Option as maybe
 use lib.ListN.{get_elem?}
 use Rattle.atomic_table.specs.Seated.{TableId}
 use Rattle.wp_model.specs.declared.entry.Entry.{Entry}
+use Rattle.wp_model.specs.Flushed.{InstalledEdit}
 use Rattle.wp_core.specs.Turns.{Turn, Holders}
+use Rattle.wp_core.specs.Tables.{Content, installed}
 use Rattle.wp_core.specs.Changes.{turn_index}
 use Rattle.wp_core.specs.World.{Actor, World}
 use Rattle.wp_core.specs.Runs.{Reaches}
@@ -35,25 +38,40 @@ pub record SharedWords (S : Type 0) : Type 0 where
   pub cells : ℕ
   pub first : List S
 
+-- the last edit, where it is the table of the tables turn
+abbrev pub last_edit_in : Option Content → Option InstalledEdit
+last_edit_in (Some (installed t)) = Some t.last
+last_edit_in other = None
+
+abbrev pub last_edit_of : {S : Type 0} → (S → Option Content) → maybe.Option S → Option InstalledEdit
+last_edit_of content none = None
+last_edit_of content (some x) = last_edit_in (content x)
+
+-- the last edit of the tables as the words were made, by the values behind the turns
+abbrev pub first_edit_of : {S : Type 0} → (S → Option Content) → List S → Option InstalledEdit
+first_edit_of content first = last_edit_of content (get_elem? first 5)
+
 -- a seat of them, by its number
 pub record Place : Type 0 where
   pub opened : List Entry
   pub cells : ℕ
+  pub first_edit : Option InstalledEdit
   pub by : ℕ
 
 -- the place of a seat with this number
-abbrev pub place_of : {S : Type 0} → SharedWords S → ℕ → Place
-place_of words by = record { opened = words.opened; cells = words.cells; by = by }
+abbrev pub place_of : {S : Type 0} → (S → Option Content) → SharedWords S → ℕ → Place
+place_of content words by = record { opened = words.opened; cells = words.cells; first_edit = first_edit_of content words.first; by = by }
 
 -- the same, by what the rule is told
-abbrev pub place_under : {S : Type 0} → Opening S → ℕ → Place
-place_under key by = record { opened = key.entries.value.entries; cells = key.cells; by = by }
+abbrev pub place_under : {S : Type 0} → (S → Option Content) → Opening S → ℕ → Place
+place_under content key by = record { opened = key.entries.value.entries; cells = key.cells; first_edit = first_edit_of content key.first.value.items; by = by }
 
 -- a reached world of these words, in which the seat's actor is this one
 pub record IsAt (p : Place) (a : Actor) (w : World) : Type 0 where
   pub reached : Reaches w
   pub opened : w.opened ≡ p.opened
   pub cells : length w.cache ≡ p.cells
+  pub first_edit : p.first_edit ≡ Some w.first_edit
   pub there : get_elem? w.actors p.by ≡ some a
 
 -- the seat's actor is this one in a world in which so many entries are published, and it has seen them all

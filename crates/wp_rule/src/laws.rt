@@ -3,6 +3,7 @@ ghost use Rattle.std.specs.FinMap as finite;
 ghost use Rattle.std.specs.Prelude.{◌≡◌, ℕ, suc, true, List, [], ◌∷◌, length, unwrap_or, Option, Some, None, MatchOption};
 ghost use Rattle.wp_model.specs.declared.entry.Entry.{Entry};
 ghost use Rattle.wp_model.specs.declared.holder.Holder.{Holder};
+ghost use Rattle.wp_model.specs.Flushed.{InstalledEdit};
 ghost use Rattle.wp_model.specs.PreparedTables.{IsSmallest, NonePrepared};
 ghost use Rattle.wp_core.specs.Lists.{IsIn};
 ghost use Rattle.wp_core.specs.Turns.{Holds};
@@ -16,11 +17,17 @@ ghost use Rattle.wp_core.specs.IsSound.{IsSound};
 ghost use Rattle.wp_rule.specs.Words.{Place, IsAt};
 ghost use Rattle.wp_rule.specs.Moves.{IsQuiet, MayMake, MayStep, Outlasts, world_after_step, actor_after_step, actor_after, taking_name};
 ghost use Rattle.wp_rule.specs.Accounts.{IsHolderIn, account_of};
+ghost use Rattle.wp_rule.specs.Shows.{WasLast};
 ghost use Rattle.wp_rule.specs.Knows.{Holding, Noted, Knows};
 
 /// The world behind a table is sound.
 pub fn worlds_are_sound()
     ensures { (p : Place) (a : Actor) (w : World) → IsAt p a w → IsSound w }
+{}
+
+/// As words were made there was one last edit of the tables, and so each world of theirs began with the same.
+pub fn one_edit_was_first<S>()
+    ensures { (content : S → Option Content) (first : List S) (one other : InstalledEdit) → WasLast content first one → WasLast content first other → one ≡ other }
 {}
 
 /// A table that the view has is the world's, and its turn is the seat's.

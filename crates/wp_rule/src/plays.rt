@@ -1,5 +1,5 @@
 //! What each atomic step tells its seat.
-ghost use Rattle.std.specs.Prelude.{List, [], false};
+ghost use Rattle.std.specs.Prelude.{List, [], None, false};
 ghost use Rattle.wp_core.specs.Turns.{Turn, write_turn};
 ghost use Rattle.wp_core.specs.World.{World, new_actor};
 ghost use Rattle.wp_core.specs.Steps.{Step};
@@ -21,7 +21,7 @@ pub trait Moves {
 }
 
 impl Moves for Brand {
-    ghost place = { record { opened = []; cells = 0; by = 0 } };
+    ghost place = { record { opened = []; cells = 0; first_edit = None; by = 0 } };
 
     ghost steps = { λ w. [] };
 }
@@ -36,7 +36,7 @@ pub(crate) trait OfTurn<S> {
 }
 
 impl<S> OfTurn<S> for Brand {
-    ghost place = { record { opened = []; cells = 0; by = 0 } };
+    ghost place = { record { opened = []; cells = 0; first_edit = None; by = 0 } };
 
     ghost turn = { write_turn };
 

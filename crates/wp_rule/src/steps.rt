@@ -24,7 +24,7 @@ pub(crate) fn load<S: HoldsPart, J: Moves>(
     seat: &mut Seat<S, Actor>,
     word: usize,
 ) -> u64
-    requires seat { (seat.old.table_id ≡ table.now.table_id) × (J.place ≡ place_under table.now.key seat.old.id) }
+    requires seat { (seat.old.table_id ≡ table.now.table_id) × (J.place ≡ place_under S.content table.now.key seat.old.id) }
     requires word { word < table.now.table_id.words }
     requires may { MayMake J.place seat.old.me.0 J.steps }
     ensures same { (seat.new.table_id ≡ seat.old.table_id) × (seat.new.id ≡ seat.old.id) × (seat.new.me.1 ≡ seat.old.me.1) }
@@ -39,7 +39,7 @@ pub(crate) fn store<S: HoldsPart, J: Moves>(
     word: usize,
     n: u64,
 )
-    requires seat { (seat.old.table_id ≡ table.now.table_id) × (J.place ≡ place_under table.now.key seat.old.id) }
+    requires seat { (seat.old.table_id ≡ table.now.table_id) × (J.place ≡ place_under S.content table.now.key seat.old.id) }
     requires word { word < table.now.table_id.words }
     requires may { MayStore J.place seat.old.me.0 J.steps word n }
     ensures same { (seat.new.table_id ≡ seat.old.table_id) × (seat.new.id ≡ seat.old.id) × (seat.new.me.1 ≡ seat.old.me.1) }
@@ -61,7 +61,7 @@ pub(crate) fn claim<S: HoldsPart, J: OfTurn<S>>(
     seat: &mut Seat<S, Actor>,
     turn: Turn,
 ) -> bool
-    requires seat { (seat.old.table_id ≡ table.now.table_id) × (J.place ≡ place_under table.now.key seat.old.id) }
+    requires seat { (seat.old.table_id ≡ table.now.table_id) × (J.place ≡ place_under S.content table.now.key seat.old.id) }
     requires turn { (J.turn ≡ turn_of turn) × (9 < table.now.table_id.words) }
     requires first { J.first ≡ table.now.key.first.value.items }
     requires live { seat.old.me.0.live ≡ true }
@@ -77,7 +77,7 @@ pub(crate) fn unclaim<S: HoldsPart, J: OfTurn<S>>(
     seat: &mut Seat<S, Actor>,
     turn: Turn,
 )
-    requires seat { (seat.old.table_id ≡ table.now.table_id) × (J.place ≡ place_under table.now.key seat.old.id) }
+    requires seat { (seat.old.table_id ≡ table.now.table_id) × (J.place ≡ place_under S.content table.now.key seat.old.id) }
     requires turn { (J.turn ≡ turn_of turn) × (9 < table.now.table_id.words) }
     requires held { MayUnclaim S.content (S.tells table.now.key.first.value.items) J.place J.turn seat.old.me }
     ensures same { (seat.new.table_id ≡ seat.old.table_id) × (seat.new.id ≡ seat.old.id) × (seat.new.me.1 ≡ rest seat.old.me.1) }

@@ -98,7 +98,7 @@ impl<S: HoldsPart + Drop> Words<S> {
         requires cells { cells ≤ 65536 }
         ensures words { IfOk result (λ r. (r.0.opened ≡ entries.value.entries) × (r.0.cells ≡ cells) × (r.0.first ≡ slots.items)) }
         ensures seat { IfOk result (λ r. (r.1.table_id ≡ r.0.table) × (r.1.id ≡ 0) × (r.1.me ≡ (new_actor true client.now entries.value.entries, []))) }
-        ensures stands { IfOk result (λ r. SawAll (place_of r.0 0) r.1.me.0 published) }
+        ensures stands { IfOk result (λ r. SawAll (place_of S.content r.0 0) r.1.me.0 published) }
         ensures refused { IfErr result (λ all. all.items ≡ slots.items) }
     {
         let Ok(words) = first_words(alloc, published, delayed_flag, cells) else {
@@ -129,7 +129,7 @@ impl<S: HoldsPart + Drop> Words<S> {
         ensures same { (seat.new.table_id ≡ seat.old.table_id) × (seat.new.id ≡ seat.old.id) }
         ensures seen { (h : List Entry) × (seat.new.me ≡ (sees h seat.old.me.0, seat.old.me.1)) × (result ≡ length h)
             × StartsWith h seat.old.me.0.participant.seen × StartsWith h seat.old.me.0.learned × IsLegal h }
-        ensures stands { SawAll (place_of self.now seat.new.id) seat.new.me.0 result }
+        ensures stands { SawAll (place_of S.content self.now seat.new.id) seat.new.me.0 result }
     {
         steps::load::<S, Brand>(&self.table.shared, seat, PUBLISHED)
     }
@@ -137,7 +137,7 @@ impl<S: HoldsPart + Drop> Words<S> {
     /// Loads the published number, and makes there the steps that the caller picks: changes of tables that the seat
     /// holds, what it registers, notes or finds, and what it reads in tables.
     pub fn make<J: Moves>(&self, seat: &mut WordSeat<S>) -> Seq
-        requires seat { (seat.old.table_id ≡ self.now.table) × (J.place ≡ place_of self.now seat.old.id) }
+        requires seat { (seat.old.table_id ≡ self.now.table) × (J.place ≡ place_of S.content self.now seat.old.id) }
         requires may { MayMake J.place seat.old.me.0 J.steps }
         ensures same { (seat.new.table_id ≡ seat.old.table_id) × (seat.new.id ≡ seat.old.id) × (seat.new.me.1 ≡ seat.old.me.1) }
         ensures moved { Moved J.place J.steps (λ w. result ≡ length w.writes.history) seat.old.me.0 seat.new.me.0 }
@@ -147,7 +147,7 @@ impl<S: HoldsPart + Drop> Words<S> {
 
     /// Loads the evicted bound, and makes there the steps that the caller picks: none, or a reader's load of it.
     pub fn load_max<J: Moves>(&self, seat: &mut WordSeat<S>) -> Seq
-        requires seat { (seat.old.table_id ≡ self.now.table) × (J.place ≡ place_of self.now seat.old.id) }
+        requires seat { (seat.old.table_id ≡ self.now.table) × (J.place ≡ place_of S.content self.now seat.old.id) }
         requires may { MayMake J.place seat.old.me.0 J.steps }
         ensures same { (seat.new.table_id ≡ seat.old.table_id) × (seat.new.id ≡ seat.old.id) × (seat.new.me.1 ≡ seat.old.me.1) }
         ensures moved { Moved J.place J.steps (λ w. result ≡ w.max_evicted) seat.old.me.0 seat.new.me.0 }
@@ -157,7 +157,7 @@ impl<S: HoldsPart + Drop> Words<S> {
 
     /// Loads a word of the cache, and makes there the steps that the caller picks: none, or a reader's load of it.
     pub fn load_word<J: Moves>(&self, seat: &mut WordSeat<S>, i: usize) -> u64
-        requires seat { (seat.old.table_id ≡ self.now.table) × (J.place ≡ place_of self.now seat.old.id) }
+        requires seat { (seat.old.table_id ≡ self.now.table) × (J.place ≡ place_of S.content self.now seat.old.id) }
         requires word { i < self.now.cells }
         requires may { MayMake J.place seat.old.me.0 J.steps }
         ensures same { (seat.new.table_id ≡ seat.old.table_id) × (seat.new.id ≡ seat.old.id) × (seat.new.me.1 ≡ seat.old.me.1) }
@@ -169,7 +169,7 @@ impl<S: HoldsPart + Drop> Words<S> {
     /// Loads the flag that is 0 only while nothing is delayed, and makes there the steps that the caller picks: none, or a
     /// reader's load of it.
     pub fn load_delayed_flag<J: Moves>(&self, seat: &mut WordSeat<S>) -> u64
-        requires seat { (seat.old.table_id ≡ self.now.table) × (J.place ≡ place_of self.now seat.old.id) }
+        requires seat { (seat.old.table_id ≡ self.now.table) × (J.place ≡ place_of S.content self.now seat.old.id) }
         requires may { MayMake J.place seat.old.me.0 J.steps }
         ensures same { (seat.new.table_id ≡ seat.old.table_id) × (seat.new.id ≡ seat.old.id) × (seat.new.me.1 ≡ seat.old.me.1) }
         ensures moved { Moved J.place J.steps (λ w. result ≡ w.delayed_flag) seat.old.me.0 seat.new.me.0 }
@@ -180,7 +180,7 @@ impl<S: HoldsPart + Drop> Words<S> {
     /// Loads the flag that is 0 only while the old commit map is empty, and makes there the steps that the caller picks: none, or
     /// a reader's load of it.
     pub fn load_old_flag<J: Moves>(&self, seat: &mut WordSeat<S>) -> u64
-        requires seat { (seat.old.table_id ≡ self.now.table) × (J.place ≡ place_of self.now seat.old.id) }
+        requires seat { (seat.old.table_id ≡ self.now.table) × (J.place ≡ place_of S.content self.now seat.old.id) }
         requires may { MayMake J.place seat.old.me.0 J.steps }
         ensures same { (seat.new.table_id ≡ seat.old.table_id) × (seat.new.id ≡ seat.old.id) × (seat.new.me.1 ≡ seat.old.me.1) }
         ensures moved { Moved J.place J.steps (λ w. result ≡ w.old_flag) seat.old.me.0 seat.new.me.0 }
@@ -192,10 +192,10 @@ impl<S: HoldsPart + Drop> Words<S> {
     /// turn's table.
     pub fn store_published(&self, seat: &mut WordSeat<S>, p: Seq)
         requires seat { seat.old.table_id ≡ self.now.table }
-        requires next { MayPublishAs (place_of self.now seat.old.id) seat.old.me.0 p }
+        requires next { MayPublishAs (place_of S.content self.now seat.old.id) seat.old.me.0 p }
         ensures same { (seat.new.table_id ≡ seat.old.table_id) × (seat.new.id ≡ seat.old.id) × (seat.new.me.1 ≡ seat.old.me.1) }
         ensures published { (t : WriteTable) (entry : Entry) (others : List Entry) → IsIn (writes t) seat.old.me.0.held → t.pending ≡ entry ∷ others
-            → Moved (place_of self.now seat.old.id) (λ w. step.store_published entry others ∷ []) (λ w. w.writes ≡ t) seat.old.me.0 seat.new.me.0 }
+            → Moved (place_of S.content self.now seat.old.id) (λ w. step.store_published entry others ∷ []) (λ w. w.writes ≡ t) seat.old.me.0 seat.new.me.0 }
     {
         steps::store::<S, Brand>(&self.table.shared, seat, PUBLISHED, p);
     }
@@ -204,9 +204,9 @@ impl<S: HoldsPart + Drop> Words<S> {
     /// notes the bound with the words of the cache.
     pub fn store_max(&self, seat: &mut WordSeat<S>, m: Seq)
         requires seat { seat.old.table_id ≡ self.now.table }
-        requires may { MayStep (place_of self.now seat.old.id) seat.old.me.0 (store_max_evicted m) }
+        requires may { MayStep (place_of S.content self.now seat.old.id) seat.old.me.0 (store_max_evicted m) }
         ensures same { (seat.new.table_id ≡ seat.old.table_id) × (seat.new.id ≡ seat.old.id) × (seat.new.me.1 ≡ seat.old.me.1) }
-        ensures moved { Moved (place_of self.now seat.old.id) (storing_max m) (λ w. Unit {0}) seat.old.me.0 seat.new.me.0 }
+        ensures moved { Moved (place_of S.content self.now seat.old.id) (storing_max m) (λ w. Unit {0}) seat.old.me.0 seat.new.me.0 }
     {
         steps::store::<S, Brand>(&self.table.shared, seat, MAX, m);
     }
@@ -215,9 +215,9 @@ impl<S: HoldsPart + Drop> Words<S> {
     pub fn store_word(&self, seat: &mut WordSeat<S>, i: usize, word: u64)
         requires seat { seat.old.table_id ≡ self.now.table }
         requires pair { (pair : CommitPair) × (word ≡ word_of pair) × (pair_of word ≡ Some pair) × (i < self.now.cells) × (i ≡ cache_place self.now.cells pair.number)
-            × MayStep (place_of self.now seat.old.id) seat.old.me.0 (step.store_word pair) }
+            × MayStep (place_of S.content self.now seat.old.id) seat.old.me.0 (step.store_word pair) }
         ensures same { (seat.new.table_id ≡ seat.old.table_id) × (seat.new.id ≡ seat.old.id) × (seat.new.me.1 ≡ seat.old.me.1) }
-        ensures moved { (pair : CommitPair) → pair_of word ≡ Some pair → Moved (place_of self.now seat.old.id) (storing_word pair) (λ w. Unit {0}) seat.old.me.0 seat.new.me.0 }
+        ensures moved { (pair : CommitPair) → pair_of word ≡ Some pair → Moved (place_of S.content self.now seat.old.id) (storing_word pair) (λ w. Unit {0}) seat.old.me.0 seat.new.me.0 }
     {
         steps::store::<S, Brand>(&self.table.shared, seat, FIRST_CELL + i, word);
     }
@@ -225,9 +225,9 @@ impl<S: HoldsPart + Drop> Words<S> {
     /// Stores the flag of what is delayed, and notes it.
     pub fn store_delayed_flag(&self, seat: &mut WordSeat<S>, value: u64)
         requires seat { seat.old.table_id ≡ self.now.table }
-        requires may { MayStep (place_of self.now seat.old.id) seat.old.me.0 (step.store_delayed_flag value) }
+        requires may { MayStep (place_of S.content self.now seat.old.id) seat.old.me.0 (step.store_delayed_flag value) }
         ensures same { (seat.new.table_id ≡ seat.old.table_id) × (seat.new.id ≡ seat.old.id) × (seat.new.me.1 ≡ seat.old.me.1) }
-        ensures moved { Moved (place_of self.now seat.old.id) (λ w. step.store_delayed_flag value ∷ note (delayed_flag_stays value) ∷ []) (λ w. Unit {0}) seat.old.me.0 seat.new.me.0 }
+        ensures moved { Moved (place_of S.content self.now seat.old.id) (λ w. step.store_delayed_flag value ∷ note (delayed_flag_stays value) ∷ []) (λ w. Unit {0}) seat.old.me.0 seat.new.me.0 }
     {
         steps::store::<S, Brand>(&self.table.shared, seat, DELAYED_FLAG, value);
     }
@@ -235,9 +235,9 @@ impl<S: HoldsPart + Drop> Words<S> {
     /// Stores the flag of the old commit map, and notes it.
     pub fn store_old_flag(&self, seat: &mut WordSeat<S>, value: u64)
         requires seat { seat.old.table_id ≡ self.now.table }
-        requires may { MayStep (place_of self.now seat.old.id) seat.old.me.0 (step.store_old_flag value) }
+        requires may { MayStep (place_of S.content self.now seat.old.id) seat.old.me.0 (step.store_old_flag value) }
         ensures same { (seat.new.table_id ≡ seat.old.table_id) × (seat.new.id ≡ seat.old.id) × (seat.new.me.1 ≡ seat.old.me.1) }
-        ensures moved { Moved (place_of self.now seat.old.id) (λ w. step.store_old_flag value ∷ note (old_flag_stays value) ∷ []) (λ w. Unit {0}) seat.old.me.0 seat.new.me.0 }
+        ensures moved { Moved (place_of S.content self.now seat.old.id) (λ w. step.store_old_flag value ∷ note (old_flag_stays value) ∷ []) (λ w. Unit {0}) seat.old.me.0 seat.new.me.0 }
     {
         steps::store::<S, Brand>(&self.table.shared, seat, OLD_FLAG, value);
     }
@@ -248,8 +248,8 @@ impl<S: HoldsPart + Drop> Words<S> {
         requires live { seat.old.me.0.live ≡ true }
         ensures same { (seat.new.table_id ≡ seat.old.table_id) × (seat.new.id ≡ seat.old.id) }
         ensures turn { MatchBool result
-            (Claimed S.content (S.tells self.now.first) (place_of self.now seat.old.id) (turn_of turn) seat.old.me seat.new.me)
-            (WasHeld S.content (S.tells self.now.first) (place_of self.now seat.old.id) (turn_of turn) seat.old.me seat.new.me) }
+            (Claimed S.content (S.tells self.now.first) (place_of S.content self.now seat.old.id) (turn_of turn) seat.old.me seat.new.me)
+            (WasHeld S.content (S.tells self.now.first) (place_of S.content self.now seat.old.id) (turn_of turn) seat.old.me seat.new.me) }
     {
         steps::claim::<S, Brand>(&self.table.shared, seat, turn)
     }
@@ -257,9 +257,9 @@ impl<S: HoldsPart + Drop> Words<S> {
     /// Gives the turn that was taken last, with the value that lies in its slot.
     pub fn unclaim(&self, seat: &mut WordSeat<S>, turn: Turn)
         requires seat { seat.old.table_id ≡ self.now.table }
-        requires turn { MayUnclaim S.content (S.tells self.now.first) (place_of self.now seat.old.id) (turn_of turn) seat.old.me }
+        requires turn { MayUnclaim S.content (S.tells self.now.first) (place_of S.content self.now seat.old.id) (turn_of turn) seat.old.me }
         ensures same { (seat.new.table_id ≡ seat.old.table_id) × (seat.new.id ≡ seat.old.id) × (seat.new.me.1 ≡ rest seat.old.me.1) }
-        ensures moved { Moved (place_of self.now seat.old.id) (λ w. give_turn (turn_of turn) ∷ []) (λ w. Unit {0}) seat.old.me.0 seat.new.me.0 }
+        ensures moved { Moved (place_of S.content self.now seat.old.id) (λ w. give_turn (turn_of turn) ∷ []) (λ w. Unit {0}) seat.old.me.0 seat.new.me.0 }
     {
         steps::unclaim::<S, Brand>(&self.table.shared, seat, turn);
     }
@@ -304,7 +304,7 @@ impl<S: HoldsPart + Drop> Words<S> {
         ensures same { (seat.new.table_id ≡ seat.old.table_id) × (seat.new.id ≡ seat.old.id) }
         ensures seen { (h : List Entry) × (seat.new.me ≡ (sees h seat.old.me.0, seat.old.me.1)) × (result ≡ length h)
             × StartsWith h note.me.0.participant.seen × StartsWith h seat.old.me.0.participant.seen × IsLegal h }
-        ensures stands { SawAll (place_of self.now seat.new.id) seat.new.me.0 result }
+        ensures stands { SawAll (place_of S.content self.now seat.new.id) seat.new.me.0 result }
     {
         self.table.shared.join_seat::<LearnJoin>(seat, note);
         self.load_published(seat)
@@ -324,7 +324,7 @@ impl<S: HoldsPart + Drop> Words<S> {
     pub fn close(self, first: WordSeat<S>) -> Parts<S>
         requires first { (first.table_id ≡ self.table) × (first.id ≡ 0) × (first.me.1 ≡ []) }
         requires all { (first.me.0.held ≡ []) × (first.me.0.made ≡ length first.me.0.joined) }
-        ensures { Leaves S.content (S.tells self.first) self.first (place_of self 0) first.me.0 (part_of result) }
+        ensures { Leaves S.content (S.tells self.first) self.first (place_of S.content self 0) first.me.0 (part_of result) }
     {
         let Words { table } = self;
         let mut closed = table.close_with(first);

@@ -17,15 +17,17 @@ use Rattle.wp_wal.proofs.AppendLemmas.{running_history}
 use Rattle.wp_manifest.specs.Edit.{Edit}
 use Rattle.wp_manifest.specs.Manifest.{ManifestState}
 use Rattle.wp_manifest.specs.Spelling.{MAGIC}
-use Rattle.wp_open.specs.Opens.{AllKnown}
+use Rattle.wp_open.specs.Opens.{AllKnown, installed_of}
 use Rattle.wp_open.specs.Parts.{PartsOpened}
 use Rattle.wp_open.specs.Refused.{of_log, IsLeft, at_tables}
 use Rattle.wp_open.specs.declared.opening.OpenError.TheVariants as open_error
 use Rattle.wp_open.proofs.Stages.{manifest_rests}
+use Rattle.wp_rule.specs.Shows.{WasLast}
+use Rattle.wp_rule.specs.Words.{first_edit_of}
 use Rattle.wp_guarded.specs.Log.{LogState, log_state}
 use Rattle.wp_guarded.specs.Edits.{EditsState, edits_state}
 use Rattle.wp_guarded.specs.Opening.{running_set, slots_of}
-use Rattle.wp_guarded.specs.Parts.{log_first, set_first}
+use Rattle.wp_guarded.specs.Parts.{content, log_first, set_first}
 use Rattle.wp_guarded.specs.declared.part.Part.{Part}
 use Rattle.wp_guarded.specs.declared.part.Part.TheVariants as part
 use Rattle.wp_shared.specs.Devices.{DevicesLeft, devices_behind}
@@ -48,6 +50,9 @@ edits_in other d = d
 module _ {D : Type 0} (slots : List (Part D)) (wal : WalState) (history : List Entry) (store : StoreParts) (set : TableSetState) (tables : PreparedTables) (names : LockTables) (are : slots ≡ slots_of wal history store set tables names) where
   pub last_slot : (x : Part D) → x ≡ slice_index_or slots 5 x → x ≡ part.Tables (edits_state set set store.tables None)
   last_slot x at = at ∙ ap (λ (xs : List (Part D)). slice_index_or xs 5 x) are
+
+  pub last_edit_is : (first : List (Part D)) → first ≡ slots → WasLast content first (installed_of set.manifest.edit store.tables)
+  last_edit_is first same = ap (first_edit_of content) (same ∙ are)
 
   pub first_slot : (others : List (Part D)) (x : Part D) → others ≡ remove slots 5 → x ≡ slice_index_or others 0 x → x ≡ part.Write (log_state wal wal history [] false [])
   first_slot others x left at = at ∙ ap (λ (xs : List (Part D)). slice_index_or xs 0 x) (left ∙ ap (λ (xs : List (Part D)). remove xs 5) are)

@@ -15,13 +15,14 @@ use Rattle.wp_open.specs.Opens.{Opens, OpensTo, AllKnown, installed_of}
 use Rattle.wp_open.specs.Parts.{PartsOpened}
 use Rattle.wp_open.specs.Refused.{IsCause, IsOutside, IsLeft}
 use Rattle.wp_open.specs.declared.opening.OpenError.{OpenError}
+use Rattle.wp_rule.specs.Shows.{WasLast}
 use Rattle.wp_guarded.specs.Opening.{running_set}
-use Rattle.wp_guarded.specs.Parts.{log_first, set_first}
+use Rattle.wp_guarded.specs.Parts.{content, log_first, set_first}
 use Rattle.wp_shared.specs.Devices.{DevicesLeft}
 use Rattle.wp_shared.specs.Seats.{SharedState}
 
 -- The store has what the devices opened to, under this id where no log was made: the values behind its turns were its log, and
--- its tables. Since then no fault was forgotten, and what was acknowledged is so still; and while it was opened a crash left the
+-- its tables, whose last edit was the manifest's. Since then no fault was forgotten, and what was acknowledged is so still; and while it was opened a crash left the
 -- log and the manifest as they were, or repaired.
 pub record IsOpenedFrom {D : Type 0} (asked : ℕ) (old : DevicesLeft) (z : SharedState D) : Type 0 where
   pub wal : WalState
@@ -31,6 +32,7 @@ pub record IsOpenedFrom {D : Type 0} (asked : ℕ) (old : DevicesLeft) (z : Shar
   pub versions : StoreParts
   pub log_is : log_first z.first ≡ Some wal
   pub set_is : set_first z.first ≡ Some (running_set edits tables tables_faults)
+  pub last_is : WasLast content z.first (installed_of edits.edit versions.tables)
   pub parts : PartsOpened asked old.log old.manifest old.tables wal z.opened edits tables versions
   pub opens : AllKnown old.log old.manifest old.tables (OpensTo wal.id z.opened (installed_of edits.edit versions.tables))
   pub log_survives : SurvivesThrough log_spelling.MAGIC asked old.log wal.moments

@@ -3,9 +3,10 @@ use Rattle.std.specs.Prelude.{◌≡◌, ℕ, true, List, [], ◌∷◌}
 use Rattle.atomic_table.specs.Seated.{TableId}
 use Rattle.wp_model.specs.declared.entry.Entry.{Entry}
 use Rattle.wp_core.specs.World.{Actor, World}
-use Rattle.wp_rule.specs.Words.{Place, IsAt}
+use Rattle.wp_rule.specs.Words.{first_edit_of, Place, IsAt}
 use Rattle.wp_guarded.specs.declared.part.Part.{Part}
 use Rattle.wp_guarded.specs.declared.part.Part.TheVariants as part
+use Rattle.wp_guarded.specs.Parts.{content}
 
 -- The store: which table it is, the history that was opened, how many words its cache has, the values behind the turns as
 -- they were handed in, and the greatest number that an entry may get.
@@ -41,7 +42,7 @@ pub record IsFree (table : TableId) (s : SeatState) : Type 0 where
 
 -- the seat's place
 abbrev pub place_at : {D : Type 0} → SharedState D → ℕ → Place
-place_at z by = record { opened = z.opened; cells = z.cells; by = by }
+place_at z by = record { opened = z.opened; cells = z.cells; first_edit = first_edit_of content z.first; by = by }
 
 -- a reached world of the store in which the seat's actor is what it knows
 abbrev pub Stands : {D : Type 0} → SharedState D → SeatState → World → Type 0

@@ -1,11 +1,13 @@
 //! A store that was opened, for clients to share.
 ghost use Rattle.std.specs.Prelude.{◌≡◌, ◌<◌, ◌≤◌, ◌^◌, [], ℕ, List, Some, true, length, IfOk, IfErr};
 ghost use Rattle.wp_outside.specs.Disk.{Moment};
+ghost use Rattle.wp_open.specs.Opens.{installed_of};
 ghost use Rattle.wp_open.specs.Parts.{PartsOpened};
 ghost use Rattle.wp_core.specs.World.{new_actor};
+ghost use Rattle.wp_rule.specs.Shows.{WasLast};
 ghost use Rattle.wp_rule.specs.Words.{SawAll};
 ghost use Rattle.wp_guarded.specs.Opening.{running_set};
-ghost use Rattle.wp_guarded.specs.Parts.{log_first, set_first};
+ghost use Rattle.wp_guarded.specs.Parts.{content, log_first, set_first};
 ghost use Rattle.wp_shared.specs.Devices.{devices_of, devices_behind};
 ghost use Rattle.wp_shared.specs.OpenedFrom.{IsOpenedFrom, IsRefusedFrom};
 ghost use Rattle.wp_shared.specs.Seats.{place_at};
@@ -65,6 +67,7 @@ impl<D: Disk + Drop> Shared<D> {
         ensures store { IfOk result (λ r. (r.0.opened ≡ parts.history.entries) × (r.0.cells ≡ 2 ^ bits) × (r.0.limit ≡ limit)) }
         ensures log { IfOk result (λ r. log_first r.0.first ≡ Some parts.wal) }
         ensures set { IfOk result (λ r. set_first r.0.first ≡ Some (running_set parts.manifest (D.moments parts.tables) (D.faults parts.tables))) }
+        ensures last_edit { IfOk result (λ r. WasLast content r.0.first (installed_of parts.manifest.edit parts.store.tables)) }
         ensures seat { IfOk result (λ r. r.1 ≡ record { table = r.0.table; by = 0; knows = new_actor true client parts.history.entries; turns = [] }) }
         ensures stands { IfOk result (λ r. SawAll (place_at r.0 0) r.1.knows (length parts.history.entries)) }
         ensures refused { IfErr result (λ disks. devices_of D.moments D.faults disks ≡ devices_behind parts.wal (running_set parts.manifest (D.moments parts.tables) (D.faults parts.tables))) }

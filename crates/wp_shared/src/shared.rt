@@ -6,6 +6,7 @@ ghost use Rattle.wp_core.specs.Changes.{sees, made_one};
 ghost use Rattle.wp_core.specs.Steps.{Step, set_client};
 ghost use Rattle.wp_core.specs.World.{World, new_actor};
 ghost use Rattle.wp_rule.specs.Words.{place_of, SawAll};
+ghost use Rattle.wp_guarded.specs.Parts.{content};
 ghost use Rattle.wp_shared.specs.Opening.{IsOneStore};
 ghost use Rattle.wp_shared.specs.Seats.{Stands, place_at};
 
@@ -47,7 +48,7 @@ fn name_seat<D: Disk + Drop, J: Moves>(
     seat: &mut WordSeat<Part<D>>,
     client: &Name,
 )
-    requires seat { (seat.old.table_id ≡ words.now.table) × (J.place ≡ place_of words.now seat.old.id) }
+    requires seat { (seat.old.table_id ≡ words.now.table) × (J.place ≡ place_of content words.now seat.old.id) }
     requires steps { J.steps ≡ (λ w. set_client client.now ∷ []) }
     requires new { seat.old.me.0 ≡ new_actor true seat.old.me.0.participant.client seat.old.me.0.participant.seen }
     ensures same { (seat.new.table_id ≡ seat.old.table_id) × (seat.new.me.1 ≡ seat.old.me.1) }

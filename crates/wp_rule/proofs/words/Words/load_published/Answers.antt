@@ -10,4 +10,4 @@ pub returns-clause-seen : goal.returns-clause-seen
 returns-clause-seen g c = let s = sees_it _ _ _ _ c.load.ensures.moved in (s.0, (λ i. (s.1 i, c.load.ensures.same.2 i)), s.2, s.3, s.4, s.5)
 
 pub returns-clause-stands : goal.returns-clause-stands
-returns-clause-stands g c = subst (λ (z : SharedWords _ × ℕ). SawAll (place_of z.0 z.1) c.load.new.seat.me.0 c.load.result) (λ i. (c.self.view_is i, sym c.load.ensures.same.1 i)) (saw_it _ _ _ _ c.load.ensures.moved)
+returns-clause-stands g c = subst (λ (z : SharedWords _ × ℕ). SawAll (place_of g.S.HoldsPart.content z.0 z.1) c.load.new.seat.me.0 c.load.result) (λ i. (c.self.view_is i, sym c.load.ensures.same.1 i)) (saw_it _ _ _ _ c.load.ensures.moved)

@@ -4,4 +4,4 @@ use Rattle.wp_rule.specs.Words.{place_under}
 use Rattle.wp_rule.proofs.words.Words.load_published.Given as goal
 
 abbrev pub ghosts-load : goal.ghosts-load
-ghosts-load g a = record { place = place_under a.table.now.key a.seat.now.id; steps = λ w. load_published ∷ [] }
+ghosts-load g a = record { place = place_under g.S.HoldsPart.content a.table.now.key a.seat.now.id; steps = λ w. load_published ∷ [] }

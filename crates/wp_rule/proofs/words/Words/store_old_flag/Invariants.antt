@@ -5,4 +5,4 @@ use Rattle.wp_rule.specs.Words.{place_under}
 use Rattle.wp_rule.proofs.words.Words.store_old_flag.Given as goal
 
 abbrev pub ghosts-store : goal.ghosts-store
-ghosts-store g a = record { place = place_under a.table.now.key a.seat.now.id; steps = λ w. store_old_flag a.n ∷ note (old_flag_stays a.n) ∷ [] }
+ghosts-store g a = record { place = place_under g.S.HoldsPart.content a.table.now.key a.seat.now.id; steps = λ w. store_old_flag a.n ∷ note (old_flag_stays a.n) ∷ [] }

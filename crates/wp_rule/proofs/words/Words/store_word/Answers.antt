@@ -12,7 +12,7 @@ overflow_add-i g c = let few = c.self.invariant.2 in let low = c.requires.pair.3
 
 pub store-requires-clause-may : goal.store-requires-clause-may
 store-requires-clause-may g c = let t = c.requires.pair in
-    may_word _ _ _ _ t.0 t.1 t.2 (t.4 ∙ ap (λ (z : SharedWords _). cache_place z.cells t.0.number) (sym c.self.view_is)) (subst (λ (z : SharedWords _). MayStep (place_of z c.args.seat.now.id) c.args.seat.now.me.0 (store_word t.0)) (sym c.self.view_is) t.5)
+    may_word _ _ _ _ t.0 t.1 t.2 (t.4 ∙ ap (λ (z : SharedWords _). cache_place z.cells t.0.number) (sym c.self.view_is)) (subst (λ (z : SharedWords _). MayStep (place_of g.S.HoldsPart.content z c.args.seat.now.id) c.args.seat.now.me.0 (store_word t.0)) (sym c.self.view_is) t.5)
 
 pub returns-clause-moved : goal.returns-clause-moved
-returns-clause-moved g c pair is = subst (λ (z : SharedWords _). Moved (place_of z c.args.seat.now.id) (storing_word pair) (λ w. Unit {0}) c.args.seat.now.me.0 c.store.new.seat.me.0) c.self.view_is (word_told _ _ _ c.args.word pair is c.store.ensures.moved)
+returns-clause-moved g c pair is = subst (λ (z : SharedWords _). Moved (place_of g.S.HoldsPart.content z c.args.seat.now.id) (storing_word pair) (λ w. Unit {0}) c.args.seat.now.me.0 c.store.new.seat.me.0) c.self.view_is (word_told _ _ _ c.args.word pair is c.store.ensures.moved)

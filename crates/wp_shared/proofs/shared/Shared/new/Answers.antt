@@ -1,6 +1,6 @@
 use Rattle.std.proofs.Common.{ℕ, ◌≤◌, ap, ◌∙◌, subst, sym}
 use Rattle.wp_guarded.specs.Parts.{content}
-use Rattle.wp_shared.proofs.Opened.{one_store, first_slot, last_slot}
+use Rattle.wp_shared.proofs.Opened.{one_store, first_slot, last_slot, last_edit_is}
 use Rattle.wp_shared.proofs.shared.Shared.new.Goals as goal
 
 pub new-requires-clause-parts : goal.new-requires-clause-parts
@@ -15,3 +15,6 @@ into_log-requires g c = let are = c.in-Ok.ensures.slots in
 
 pub into_edits-requires : goal.into_edits-requires
 into_edits-requires g c = let are = c.in-Ok.ensures.slots in (_, ap content (last_slot c.in-Err-new.slots.items _ _ _ _ _ _ (c.in-Err-new.ensures.refused ∙ are.2) c.remove.result c.remove.ensures.value))
+
+pub returns-in-Ok-new-clause-last_edit : goal.returns-in-Ok-new-clause-last_edit
+returns-in-Ok-new-clause-last_edit g c = let are = c.in-Ok.ensures.slots in last_edit_is c.in-Ok.slots.items _ _ _ _ _ _ are.2 _ c.in-Ok-new.ensures.words.2

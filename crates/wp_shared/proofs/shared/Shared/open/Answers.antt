@@ -35,6 +35,7 @@ returns-in-Ok-new-clause-opened g c =
       versions = parts.store;
       log_is = c.in-Ok-new.ensures.log;
       set_is = c.in-Ok-new.ensures.set;
+      last_is = c.in-Ok-new.ensures.last_edit;
       parts = subst (λ (h : List Entry). PartsOpened c.args.id old.log old.manifest old.tables parts.wal h parts.manifest tables parts.store) same e.opened;
       opens = subst (λ (h : List Entry). AllKnown old.log old.manifest old.tables (OpensTo parts.wal.id h (installed_of parts.manifest.edit parts.store.tables))) same e.opens;
       log_survives = e.log_survives;

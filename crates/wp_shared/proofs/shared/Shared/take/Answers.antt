@@ -4,6 +4,7 @@ use Rattle.wp_core.specs.World.{Actor}
 use Rattle.wp_machine.specs.Parts.{turn_of}
 use Rattle.wp_rule.specs.Words.{place_of}
 use Rattle.wp_guarded.specs.declared.part.Part.{Part}
+use Rattle.wp_guarded.specs.Parts.{content}
 use Rattle.wp_shared.specs.Seats.{SeatState, AllAway}
 use Rattle.wp_shared.proofs.HeldTurns.{still_sits, taken}
 use Rattle.wp_shared.proofs.shared.Shared.take.Goals as goal
@@ -11,7 +12,7 @@ use Rattle.wp_shared.proofs.shared.Shared.take.Goals as goal
 pub invariant_of-seat : goal.invariant_of-seat
 invariant_of-seat g c = let i = c.loop.invariant in
     let sat : AllAway c.loop.seat-inside.seat.me.1 × (c.loop.seat-inside.client ≡ c.loop.seat-inside.seat.me.0.participant.client) = subst (λ (x : Me (Part g.row.D.Denot) Actor × List ℕ). AllAway x.0.1 × (x.1 ≡ x.0.0.participant.client)) (λ k. (sym i.2 k, sym i.3 k)) c.seat.invariant in
-    still_sits (turn_of c.args.turn) c.loop.seat-inside.seat.me c.claim.new.seat.me c.self.inside.words.first (place_of c.self.inside.words c.loop.seat-inside.seat.id) c.exchange.new.seat.me c.loop.seat-inside.client c.if-claim.ensures.turn c.exchange.ensures.home sat
+    still_sits (turn_of c.args.turn) c.loop.seat-inside.seat.me c.claim.new.seat.me c.self.inside.words.first (place_of content c.self.inside.words c.loop.seat-inside.seat.id) c.exchange.new.seat.me c.loop.seat-inside.client c.if-claim.ensures.turn c.exchange.ensures.home sat
 
 pub returns-then-claim-clause-taken : goal.returns-then-claim-clause-taken
 returns-then-claim-clause-taken g c = let i = c.loop.invariant in let home = c.exchange.ensures.home in
