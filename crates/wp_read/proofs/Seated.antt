@@ -41,6 +41,13 @@ taken_seated z turn s t x k same =
 pub taken_participant : {D : Type 0} (z : SharedState D) (turn : Turn) (s t : SeatState) (x : Part D) → Taken z turn s t x → t.knows.participant ≡ s.knows.participant
 taken_participant z turn s t x k = ap (λ (a : Actor). a.participant) k.knows
 
+-- it made and took in as many others
+pub taken_made : {D : Type 0} (z : SharedState D) (turn : Turn) (s t : SeatState) (x : Part D) → Taken z turn s t x → t.knows.made ≡ s.knows.made
+taken_made z turn s t x k = ap (λ (a : Actor). a.made) k.knows
+
+pub taken_joined : {D : Type 0} (z : SharedState D) (turn : Turn) (s t : SeatState) (x : Part D) → Taken z turn s t x → t.knows.joined ≡ s.knows.joined
+taken_joined z turn s t x k = ap (λ (a : Actor). a.joined) k.knows
+
 pub given_seated : {D : Type 0} (z : SharedState D) (s t : SeatState) (x : Part D) → Given z s t x → IsSeated s t
 given_seated z s t x g =
     record { table = g.same_table; by = g.same_by; live = ap (λ (a : Actor). a.live) g.knows; made = ap (λ (a : Actor). a.made) g.knows; joined = ap (λ (a : Actor). a.joined) g.knows }
@@ -113,6 +120,8 @@ module _ {D : Type 0} (z : SharedState D) (s t : SeatState) (n : ℕ) (least : O
       actor = s.knows;
       there = k.there;
       participant = refl;
+      made = refl;
+      joined = refl;
       held = subst (IsIn (snapshots m)) (sym held) (inl refl);
       live = snapshots_are;
       history_is = sym seen_after;

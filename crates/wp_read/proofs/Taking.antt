@@ -16,13 +16,15 @@ use Rattle.wp_read.specs.Registers.{IsTaken, IsTakenAt, IsPinned}
 use Rattle.wp_read.proofs.Seated.{taken_participant}
 
 -- a part of the call takes it: the call began with the same participant, and the seat has seen no more in the end
-module _ {D : Type 0} (z : SharedState D) (old mid : SeatState) (history seen : List Entry) (by : mid.by ≡ old.by) (same : mid.knows.participant ≡ old.knows.participant) (all : history ≡ seen) where
+module _ {D : Type 0} (z : SharedState D) (old mid : SeatState) (history seen : List Entry) (by : mid.by ≡ old.by) (same : mid.knows.participant ≡ old.knows.participant) (made : mid.knows.made ≡ old.knows.made) (joined : mid.knows.joined ≡ old.knows.joined) (all : history ≡ seen) where
   pub taken_since : (r : Registration) (m : Snapshots) → IsTakenAt z mid history r m → IsTakenAt z old seen r m
   taken_since r m k = record {
     world = k.world;
     actor = k.actor;
     there = subst (λ (n : ℕ). IsAt (place_at z n) k.actor k.world) by k.there;
     participant = k.participant ∙ same;
+    made = k.made ∙ made;
+    joined = k.joined ∙ joined;
     held = k.held;
     live = k.live;
     history_is = k.history_is ∙ all;

@@ -94,6 +94,8 @@ pub record IsTakenAt {D : Type 0} (z : SharedState D) (old : SeatState) (history
   pub actor : Actor
   pub there : IsAt (place_at z old.by) actor world
   pub participant : actor.participant ≡ old.knows.participant
+  pub made : actor.made ≡ old.knows.made
+  pub joined : actor.joined ≡ old.knows.joined
   pub held : IsIn (snapshots m) actor.held
   pub live : world.snapshots ≡ m
   pub history_is : world.writes.history ≡ history

@@ -1,4 +1,4 @@
-use Rattle.std.proofs.Common.{ap, sym, subst}
+use Rattle.std.proofs.Common.{ap, sym, subst, ◌∙◌}
 use Rattle.wp_judge.specs.declared.observed.Load.TheVariants.{IsOldCommit}
 use Rattle.wp_core.specs.Lists.{IsIn}
 use Rattle.wp_core.specs.Tables.{turn_of}
@@ -9,6 +9,9 @@ use Rattle.wp_guarded.specs.declared.part.Part.TheVariants as part
 use Rattle.wp_shared.specs.Seats.{SeatState}
 use Rattle.wp_read.proofs.HeldTables.{loads_between, keeps_between, old_flag_noted}
 use Rattle.wp_read.proofs.deciding.load_old_commits.Goals as goal
+
+pub give_snaps-requires-clause-last_taken : goal.give_snaps-requires-clause-last_taken
+give_snaps-requires-clause-last_taken g c = (c.args.seat.now.turns, ap (λ (s : SeatState). s.turns) c.look_in_old_commits.ensures.reads.seat ∙ c.take_snaps-snaps.ensures.same.2)
 
 pub give_snaps-requires-clause-flag : goal.give_snaps-requires-clause-flag
 give_snaps-requires-clause-flag g c none =

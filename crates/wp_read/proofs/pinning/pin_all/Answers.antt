@@ -5,7 +5,7 @@ use Rattle.wp_core.specs.Views.{live_listed}
 use Rattle.wp_core.specs.Turns.{prepared_turn, snapshots_turn}
 use Rattle.wp_core.specs.World.{Participant}
 use Rattle.wp_read.specs.Registers.{numbers_of, IsPinned}
-use Rattle.wp_read.proofs.Seated.{flag_noted, last_left, delayed_noted, continues_both, both_noted, taken_participant, given_participant}
+use Rattle.wp_read.proofs.Seated.{flag_noted, last_left, delayed_noted, continues_both, both_noted, taken_participant, taken_made, taken_joined, given_participant}
 use Rattle.wp_read.proofs.Taking.{taken_ok, refused_err, pinned_since}
 use Rattle.wp_read.proofs.pinning.pin_all.Goals as goal
 
@@ -37,5 +37,7 @@ returns-clause-pinned g c =
     IfOk-weaker c.pin_in-pinned.result (λ p. IsPinned z s2 s3.knows.participant.seen p.floor p.live.items) (λ p. IsPinned z s0 t.knows.participant.seen p.floor p.live.items)
     (λ p k. pinned_since z s0 s2 s3.knows.participant.seen t.knows.participant.seen (c.take_snaps-snaps.ensures.same.1 ∙ c.take_tables-tables.ensures.same.1)
     (taken_participant z snapshots_turn s1 s2 _ c.take_snaps-snaps.ensures.taken ∙ taken_participant z prepared_turn s0 s1 _ c.take_tables-tables.ensures.taken)
+    (taken_made z snapshots_turn s1 s2 _ c.take_snaps-snaps.ensures.taken ∙ taken_made z prepared_turn s0 s1 _ c.take_tables-tables.ensures.taken)
+    (taken_joined z snapshots_turn s1 s2 _ c.take_snaps-snaps.ensures.taken ∙ taken_joined z prepared_turn s0 s1 _ c.take_tables-tables.ensures.taken)
     (sym (ap (λ (x : Participant). x.seen) (given_participant z c.give_snaps.new.seat t _ c.give_tables.ensures ∙ given_participant z s3 c.give_snaps.new.seat _ c.give_snaps.ensures)))
     p.floor p.live.items k) c.pin_in-pinned.ensures.pinned

@@ -60,7 +60,7 @@ returns-in-Ok-clause-pinned g c =
     let deref : c.deref.result.now ≡ numbers = c.deref.ensures.value ∙ sym c.deref-in-Ok.ensures.value in
     let made : live ≡ map again numbers = c.in-Ok.ensures.live ∙ ap (map again) deref in
     let is : s2 ≡ pinned s1 floor.number numbers m1 others = subst (λ (n : ℕ). s2 ≡ pinned s1 n numbers m1 others) c.number.ensures (c.register_again.ensures m1 others c.register_in.ensures.changes.held) in
-    pinned_since z s0 s0 s1.knows.participant.seen s2.knows.participant.seen refl refl (sym (again_seen s1 s2 floor.number numbers m1 others is)) floor live
+    pinned_since z s0 s0 s1.knows.participant.seen s2.knows.participant.seen refl refl refl refl (sym (again_seen s1 s2 floor.number numbers m1 others is)) floor live
     (is_pinned z s0 s1.knows.participant.seen floor m numbers live c.in_ok-floor.ensures.taken made (subst (AreLive m) (sym c.deref-in-Ok.ensures.value) c.in_ok-numbers.ensures))
 
 pub returns-in-Ok-clause-listed : goal.returns-in-Ok-clause-listed
