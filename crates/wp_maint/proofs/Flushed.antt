@@ -4,29 +4,29 @@ use Rattle.std.specs.Prelude.{Err, IfSome}
 use Rattle.wp_model.specs.declared.entry.Entry.{Entry}
 use Rattle.wp_model.specs.declared.version.Version.{Version}
 use Rattle.wp_model.specs.Flushed.{InstalledEdit}
+use Rattle.wp_merge.specs.Merge.{sorted_of}
 use Rattle.wp_session.specs.Tables.{unflushed, after_flush}
+use Rattle.wp_core.specs.Effects.{with_failed}
 use Rattle.wp_core.specs.Lists.{IsIn}
-use Rattle.wp_core.specs.Sound.Actors.{StartsWith}
 use Rattle.wp_core.specs.Tables.{Installed, installed}
 use Rattle.wp_core.specs.Views.{tables_failed, tables_stay, nothing_flushed, frozen_stay}
 use Rattle.wp_core.specs.Views as event
 use Rattle.wp_core.specs.World.{Participant}
 use Rattle.wp_rule.specs.Knows.{KnowsTables}
-use Rattle.wp_rule.specs.Words.{IsAt}
 use Rattle.wp_guarded.specs.Edits.{EditsState}
-use Rattle.wp_shared.specs.Seats.{SharedState, SeatState, place_at}
+use Rattle.wp_guarded.specs.Installs.{SurvivesInstall}
+use Rattle.wp_shared.specs.Seats.{SharedState, SeatState}
 use Rattle.wp_commits.specs.Notes.{GoesOn}
 use Rattle.wp_maint.specs.declared.error.MaintError.{MaintError}
 use Rattle.wp_maint.specs.declared.error.MaintError.TheVariants.{Memory, Nothing, TableFault, TablesStopped}
 use Rattle.wp_maint.specs.declared.frozen.Frozen.{Frozen}
-use Rattle.wp_maint.specs.Calls.{found_by, remembering, HasFlushed, FlushesFrom}
+use Rattle.wp_maint.specs.Calls.{found_by, remembering, SawWhole, HasFlushed, HasNewest, FlushesFrom}
 use Rattle.wp_maint.specs.Flush.{HasFrozen, MayPut}
 use Rattle.wp_maint.specs.Installs.{HasInstalled, NotInstalled}
-use Rattle.wp_maint.specs.Holding.{no_fact, is_of_flushed, is_of_tables, being, GoesOnAs}
+use Rattle.wp_maint.specs.Holding.{no_fact, is_of_flushed, is_of_tables, being, GoesOnAs, HoldsEdits}
 use Rattle.wp_maint.proofs.Found.{failed_last}
 use Rattle.wp_maint.proofs.Installed.{same_edit}
-use Rattle.wp_maint.proofs.Memory.{some_in_memory}
-use Rattle.wp_maint.proofs.Onward.{starts_same, none_free, flushed_free, tables_free, goes_as, goes_still}
+use Rattle.wp_maint.proofs.Onward.{changed_seat, held_left, starts_same, none_free, flushed_free, tables_free, goes_as, goes_still}
 
 module _ {D : Type 0} (z : SharedState D) (s u : SeatState) (e left : EditsState) (f : Frozen) (frozen : HasFrozen s.knows e.table f) where
   abbrev next : InstalledEdit
@@ -47,9 +47,10 @@ module _ {D : Type 0} (z : SharedState D) (s u : SeatState) (e left : EditsState
       last = ap (λ (x : Installed). x.last.versions) k.table ∙ sym (ap (λ (x : InstalledEdit). x.versions) (same_edit s.knows e.table f frozen));
     }
 
-    pub has_flushed : (v : SeatState) → GoesOn is_of_tables (installed left.table ∷ []) u.turns u v → e.table.halted ≡ false → (n : ℕ) → n ≡ length f.versions → HasFlushed (GoesOnAs s v) z s v e.table (record { at = f.at; versions = n })
-    has_flushed v put running n counted =
-        let seen : v.knows.participant.seen ≡ s.knows.participant.seen = ap (λ (x : SeatState). x.knows.participant.seen) put.same ∙ ap (λ (x : SeatState). x.knows.participant.seen) k.changes.goes.same in
+    pub has_flushed : HoldsEdits z s e → SawWhole z s s.knows.participant.past s.knows.participant.seen → HasNewest f.versions e left → (v : SeatState) → GoesOn is_of_tables (installed left.table ∷ []) u.turns u v → e.table.halted ≡ false → (n : ℕ) → n ≡ length f.versions → HasFlushed (GoesOnAs s v) z s v e.table (record { at = f.at; versions = n })
+    has_flushed holds whole parts v put running n counted =
+        let before : u.knows.participant.seen ≡ s.knows.participant.seen = ap (λ (x : SeatState). x.knows.participant.seen) k.changes.goes.same in
+        let seen : v.knows.participant.seen ≡ s.knows.participant.seen = ap (λ (x : SeatState). x.knows.participant.seen) put.same ∙ before in
         let after : InstalledEdit → Participant = λ edit. remembering (found_by z s e.table k.changes.found ∷ event.installed edit false ∷ []) s.knows.participant in
         let first : GoesOnAs s u (after next) =
         goes_as s (being (after next) s) u is_of_flushed (installed left.table ∷ []) s.turns k.changes.goes refl refl refl (starts_same s.knows.participant.seen) flushed_free in
@@ -58,8 +59,23 @@ module _ {D : Type 0} (z : SharedState D) (s u : SeatState) (e left : EditsState
           found = k.changes.found;
           running = running;
           at = frozen.at ∙ ap (λ (h : List Entry). length h) (sym seen);
+          whole = subst (SawWhole z s s.knows.participant.past) (sym seen) whole;
           some = let o = frozen.some in omega (arith, o, counted);
           versions = counted ∙ frozen.count ∙ ap (λ (h : List Entry). length (unflushed h e.table.last)) (sym seen);
+          left = held_left z s u v (record e.table { last = after_flush v.knows.participant.seen e.table.last }) k.stands (changed_seat z s u e.table left.table k.changes) before (sym (ap (λ (x : SeatState). x.knows.participant.past) put.same))
+              (subst (λ (t : Installed). IsIn (installed t) u.knows.held) (k.table ∙ ap (λ (h : List Entry). record e.table { last = after_flush h e.table.last }) (sym seen)) (subst (IsIn (installed left.table)) (sym k.holds.held) (inl refl)));
+          table = record {
+            before = e;
+            after = left;
+            of_store = holds.of_store;
+            still_of_store = k.holds.of_store;
+            before_is = refl;
+            after_is = k.table ∙ ap (λ (h : List Entry). record e.table { last = after_flush h e.table.last }) (sym seen);
+            edits = k.edits;
+            still_edits = k.still_edits;
+            so = parts ∙ ap (λ (l : List Version). l ∷ e.parts) (frozen.versions ∙ ap (λ (h : List Entry). sorted_of (unflushed h e.table.last)) (sym seen));
+          };
+          survives = subst (λ (h : List Entry). SurvivesInstall e left (after_flush h e.table.last)) (sym seen) k.survives;
           goes_on = subst (λ (h : List Entry). GoesOnAs s v (after (after_flush h e.table.last))) (sym seen) (goes_still s u v (after next) first second);
         }
 
@@ -73,25 +89,21 @@ module _ {D : Type 0} (z : SharedState D) (s u : SeatState) (e left : EditsState
   settled_still Nothing k there = absurd k
   settled_still (TablesStopped flushed) k there = absurd k
 
-  pub not_flushed : (why : MaintError) → NotInstalled z s e next why u left → e.table.halted ≡ false → FlushesFrom (GoesOnAs s u) z s e.table (Err why) u
-  not_flushed Memory k running = subst (λ (x : SeatState). GoesOnAs s x s.knows.participant) (sym k.0)
+  pub not_flushed : HoldsEdits z s e → (why : MaintError) → NotInstalled z s e next why u left → e.table.halted ≡ false → FlushesFrom (GoesOnAs s u) z s e.table (Err why) u
+  not_flushed holds Memory k running = subst (λ (x : SeatState). GoesOnAs s x s.knows.participant) (sym k.0)
       (record { same_table = refl; same_by = refl; live = refl; seen = starts_same s.knows.participant.seen; participant = refl; notes = λ fact guard there. there; made = refl; joined = refl })
-  not_flushed TableFault k running =
+  not_flushed holds TableFault k running =
       let seen : u.knows.participant.seen ≡ s.knows.participant.seen = ap (λ (x : SeatState). x.knows.participant.seen) k.changes.goes.same in record {
         found = k.changes.found;
         running = running;
-        busy = λ none. some_in_memory u.knows.participant.seen e.table.last (let o = frozen.some in let c = frozen.count in let q = ap (λ (h : List Entry). length (unflushed h e.table.last)) seen in omega (arith, o, c, q)) none;
+        busy = let o = frozen.some in let c = frozen.count in let q = ap (λ (h : List Entry). length (unflushed h e.table.last)) seen in omega (arith, o, c, q);
         asked = left.table.failed;
         next = subst (λ (h : List Entry). IfSome left.table.failed (λ edit. edit ≡ after_flush h e.table.last)) (sym seen) k.asked;
-        left = record {
-          world = k.stands.0;
-          actor = u.knows;
-          there = subst (λ (b : ℕ). IsAt (place_at z b) u.knows k.stands.0) (ap (λ (x : SeatState). x.by) k.changes.goes.same) k.stands.1;
-          held = subst (λ (t : Installed). IsIn (installed t) u.knows.held) k.table (subst (IsIn (installed left.table)) (sym k.holds.held) (inl refl));
-          past_is = refl;
-          seen_is = subst (λ (h : List Entry). StartsWith h s.knows.participant.seen) (sym seen) (starts_same s.knows.participant.seen);
-        };
+        left = held_left z s u u (with_failed e.table left.table.failed) k.stands (changed_seat z s u e.table left.table k.changes) seen refl
+            (subst (λ (t : Installed). IsIn (installed t) u.knows.held) k.table (subst (IsIn (installed left.table)) (sym k.holds.held) (inl refl)));
+        fault = record { before = e; after = left; of_store = holds.of_store; still_of_store = k.holds.of_store; before_is = refl; after_is = k.table; edits = k.edits; still_edits = k.still_edits; so = k.fault };
+        survives = (next, ap (λ (h : List Entry). after_flush h e.table.last) (sym seen), k.survives);
         goes_on = goes_as s (being (remembering (found_by z s e.table k.changes.found ∷ tables_failed e.table.last left.table.failed ∷ []) s.knows.participant) s) u no_fact (installed left.table ∷ []) s.turns k.changes.goes refl refl refl (starts_same s.knows.participant.seen) none_free;
       }
-  not_flushed Nothing k running = absurd k
-  not_flushed (TablesStopped flushed) k running = absurd k
+  not_flushed holds Nothing k running = absurd k
+  not_flushed holds (TablesStopped flushed) k running = absurd k

@@ -1,19 +1,16 @@
 -- The edit of a flush, and the table that takes the place of what was frozen.
-use Rattle.std.proofs.Common.{◌≡◌, ◌⊎◌, inl, inr, ℕ, suc, ◌<◌, ◌≤◌, nat_le, ◌==◌, ◌&&◌, Bool, true, false, cond, ne_eqb, List, [], ◌∷◌, ◌++◌, Option, Some, None, refl, sym, subst, ap, ◌∙◌, arith}
-use Rattle.std.proofs.lemmas.Bool.{cases_lt, and_parts, le-leb, leb-true}
+use Rattle.std.proofs.Common.{◌≡◌, ◌⊎◌, inl, inr, ℕ, suc, ◌<◌, ◌≤◌, nat_le, Bool, false, cond, List, [], ◌∷◌, ◌++◌, Option, Some, None, refl, sym, subst, ap, ◌∙◌, arith}
+use Rattle.std.proofs.lemmas.Bool.{cases_lt, le-leb}
 use Rattle.std.specs.Prelude.{IfSome}
-use Rattle.std.specs.List.{list_all}
 use Rattle.std.specs.Option.{option_or}
-use Rattle.std.specs.Str.{bytes_eq}
 use Rattle.wp_model.specs.declared.entry.Entry.{Entry}
 use Rattle.wp_model.specs.declared.version.Version.{Version}
 use Rattle.wp_model.specs.Flushed.{InstalledEdit, IsEditCovered}
 use Rattle.wp_model.specs.Versions.{version_at}
 use Rattle.wp_merge.specs.Merge.{sorted_of}
-use Rattle.wp_merge.proofs.Sorted.{in_order_sorted, at_sorted, in_order_same}
+use Rattle.wp_merge.proofs.Sorted.{at_sorted}
 use Rattle.wp_open.proofs.Later.{at_append}
 use Rattle.wp_session.specs.Tables.{unflushed, after_flush}
-use Rattle.wp_table.specs.Table.{is_flushed}
 use Rattle.wp_core.specs.Lists.{IsIn}
 use Rattle.wp_core.specs.Sound.Store.{NoneFlushed}
 use Rattle.wp_core.specs.Tables.{StoreTable, Installed, store, installed}
@@ -30,13 +27,10 @@ use Rattle.wp_guarded.specs.Installs.{with_table}
 use Rattle.wp_maint.specs.Flush.{HasFrozen, MayPut}
 use Rattle.wp_maint.specs.Holding.{being, HoldsEdits}
 use Rattle.wp_maint.proofs.TakesTurns.{stores_are}
-use Rattle.wp_maint.proofs.Versions.{Found}
+use Rattle.wp_maint.proofs.Retained.{none_past}
+use Rattle.wp_maint.proofs.Versions.{Found, same_sorted}
 
 -- ---- the edit
-
--- lists that are found alike sort alike
-same_sorted : (xs ys : List Version) → ((key : List ℕ) (p : ℕ) → version_at xs key p ≡ version_at ys key p) → sorted_of xs ≡ sorted_of ys
-same_sorted xs ys same = in_order_same (sorted_of xs) (sorted_of ys) (in_order_sorted xs) (in_order_sorted ys) (λ key p. at_sorted xs key p ∙ same key p ∙ sym (at_sorted ys key p))
 
 pub same_edit : (a : Actor) (t : Installed) (f : Frozen) → HasFrozen a t f → with_table f.versions f.at t.last ≡ after_flush a.participant.seen t.last
 same_edit a t f k =
@@ -74,18 +68,6 @@ still_holds z s u e left p test h k first = record {
 }
 
 -- ---- the table
-
-below_is : (n : ℕ) (versions : List Version) → list_all (is_flushed n) versions ≡ true → (key : List ℕ) (p : ℕ) → n < p → version_at versions key p ≡ None
-below_is n [] all key p above = refl
-below_is n (v ∷ versions) all key p above =
-    let parts = and_parts (is_flushed n v) (list_all (is_flushed n) versions) all in
-    let low : v.number ≤ n = leb-true v.number n parts.0 in
-    let other : (v.number == p) ≡ false = ne_eqb v.number p (λ same. absurd (omega (arith, same, low, above))) in
-    rw (other, below_is n versions parts.1 key p above) (past (bytes_eq v.key key))
-  where
-    past : (b : Bool) → let nothing : Found = None in cond (b && false) (Some v.value) nothing ≡ nothing
-    past true = refl
-    past false = refl
 
 or_same : (a b : Found) → a ≡ None → option_or a b ≡ b
 or_same a b none = ap (λ (o : Found). option_or o b) none
@@ -129,7 +111,7 @@ module _ {D : Type 0} (z : SharedState D) (s : SeatState) (e : Installed) (f : F
           ∙ sym (at_append t.memory t.tables key q)
       | inl above ↦
           ap (λ (o : Found). option_or o (version_at now.tables key q)) (same_above key q above)
-          ∙ ap (option_or (version_at t.memory key q)) (now_at key q ∙ or_same (version_at f.versions key q) (version_at t.tables key q) (below_is f.at f.versions may.low key q above))
+          ∙ ap (option_or (version_at t.memory key q)) (now_at key q ∙ or_same (version_at f.versions key q) (version_at t.tables key q) (none_past f.at f.versions may.low key q above))
           ∙ sym (at_append t.memory t.tables key q)
     ];
     above = λ key q above. same_above key q (let l = may.flushed in omega (arith, l, above));
@@ -140,7 +122,7 @@ module _ {D : Type 0} (z : SharedState D) (s : SeatState) (e : Installed) (f : F
           → (version_at t.tables key q ≡ Some value) ⊎ ((q ≤ e.last.flushed) × (version_at t.memory key q ≡ Some value))
       below_by key q value None is there = inl (sym (or_same (version_at f.versions key q) (version_at t.tables key q) is) ∙ there)
       below_by key q value (Some v) is there = elim (cases_lt f.at q) [
-        | inl above ↦ absurd (none_some (version_at f.versions key q) v (below_is f.at f.versions may.low key q above) is)
+        | inl above ↦ absurd (none_some (version_at f.versions key q) v (none_past f.at f.versions may.low key q above) is)
         | inr low ↦ inr ((let l = may.flushed in omega (arith, l, low)), frozen_at key q low ∙ is ∙ sym (ap (λ (x : Found). option_or x (version_at t.tables key q)) is) ∙ there)
       ]
 

@@ -171,12 +171,3 @@ module _ (seen : List Entry) (legal : IsLegal seen) (e : InstalledEdit) (covered
 -- what is sorted of nothing was nothing
 pub sorted_none : (versions : List Version) → sorted_of versions ≡ [] → versions ≡ []
 sorted_none versions is = empty_list versions (λ key p. sym (at_sorted versions key p) ∙ ap (λ (l : List Version). version_at l key p) is)
-
-take_all : (h : List Entry) → take (length h) h ≡ h
-take_all [] = refl
-take_all (x ∷ h) = ap (λ (t : List Entry). x ∷ t) (take_all h)
-
--- something stands in memory
-pub some_in_memory : (seen : List Entry) (e : InstalledEdit) → 1 ≤ length (unflushed seen e) → NoneInMemory seen e → ⊥
-some_in_memory seen e some none =
-    let all = ap (λ (h : List Entry). length (unflushed h e)) (take_all seen) in let empty = ap (λ (l : List Version). length l) (none (length seen)) in absurd (omega (arith, some, all, empty))

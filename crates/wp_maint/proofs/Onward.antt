@@ -1,32 +1,37 @@
 -- A seat that goes on, from one stage to the next.
-use Rattle.std.proofs.Common.{◌≡◌, ℕ, Bool, false, true, List, [], ◌∷◌, ◌++◌, append_assoc, append-nil, length, refl, sym, subst, ap, ◌∙◌, Option, Some, None}
+use Rattle.std.proofs.Common.{◌≡◌, ℕ, ◌≤◌, Bool, false, true, List, [], ◌∷◌, ◌++◌, append_assoc, append-nil, length, take, refl, sym, subst, ap, ◌∙◌, Option, Some, None}
 use Rattle.std.specs.Prelude.{Result, Ok, Err, IfSome}
 use Rattle.wp_model.specs.declared.entry.Entry.{Entry}
 use Rattle.wp_model.specs.declared.version.Version.{Version}
-use Rattle.wp_model.specs.Flushed.{InstalledEdit}
-use Rattle.wp_session.specs.Tables.{unflushed, after_flush}
+use Rattle.wp_model.specs.Flushed.{InstalledEdit, later_versions}
+use Rattle.wp_merge.specs.Merge.{sorted_of}
+use Rattle.wp_session.specs.Tables.{unflushed, retained, after_flush, after_compaction}
+use Rattle.wp_core.specs.Lists.{IsIn}
 use Rattle.wp_core.specs.Notes.{gives_guard}
 use Rattle.wp_core.specs.Sound.Actors.{StartsWith}
 use Rattle.wp_core.specs.Sound.Views.{guarded_by}
 use Rattle.wp_core.specs.Steps.{give_turn}
-use Rattle.wp_core.specs.Tables.{Content, Installed}
+use Rattle.wp_core.specs.Tables.{Content, Installed, installed}
 use Rattle.wp_core.specs.Turns.{Turn}
 use Rattle.wp_core.specs.Sound.Pasts.{tables_due}
 use Rattle.wp_core.specs.Views.{Fact, Event, tables_failed, found_edit, tables_stay, nothing_flushed, frozen_stay}
 use Rattle.wp_core.specs.Views as event
-use Rattle.wp_core.specs.World.{Participant, Actor}
+use Rattle.wp_core.specs.World.{Participant, Actor, World}
 use Rattle.wp_core.proofs.Tests.{none_some}
 use Rattle.wp_rule.specs.Knows.{Noted, KnowsTables}
 use Rattle.wp_rule.specs.Words.{IsAt}
+use Rattle.wp_tableset.specs.Changes.{compacted_parts}
 use Rattle.wp_guarded.specs.Edits.{EditsState}
+use Rattle.wp_guarded.specs.Installs.{SurvivesInstall}
 use Rattle.wp_shared.specs.Calls.{Continues}
-use Rattle.wp_shared.specs.Seats.{SharedState, SeatState, IsFree, place_at}
+use Rattle.wp_shared.specs.Seats.{SharedState, SeatState, IsFree, Stands, place_at}
 use Rattle.wp_commits.specs.Notes.{GoesOn}
 use Rattle.wp_maint.specs.declared.done.Done.{Done}
 use Rattle.wp_maint.specs.declared.error.MaintError.{MaintError}
 use Rattle.wp_maint.specs.declared.error.MaintError.TheVariants.{Memory, Nothing, TableFault, TablesStopped}
-use Rattle.wp_maint.specs.Calls.{HeldTables, Finds, FlushesFrom, NoneInMemory, found_by, remembering}
-use Rattle.wp_maint.specs.Finding.{Remembers}
+use Rattle.wp_maint.specs.Calls.{HeldTables, SawWhole, Finds, FlushesFrom, NoneInMemory, CompactsFrom, IsCompactionOf, found_by, remembering}
+use Rattle.wp_maint.specs.Compaction.{EndsRoundFrom}
+use Rattle.wp_maint.specs.Finding.{Remembers, Changes}
 use Rattle.wp_maint.specs.Holding.{no_fact, is_under, is_of_flushed, is_of_tables, seeing, being, GoesOnAs, HoldsEdits}
 
 -- ---- what was seen
@@ -73,6 +78,16 @@ goes_as old base new test held turns k table by knows starts free =
       made = ap (λ (x : SeatState). x.knows.made) k.same ∙ ap (λ (a : Actor). a.made) knows;
       joined = ap (λ (x : SeatState). x.knows.joined) k.same ∙ ap (λ (a : Actor). a.joined) knows;
     }
+
+-- the other is in the same place, and made and took in as many others
+abbrev pub IsSeat : SeatState → SeatState → Type 0
+IsSeat s t = (t.by ≡ s.by) × (t.knows.made ≡ s.knows.made) × (t.knows.joined ≡ s.knows.joined)
+
+pub seat_still : (s t : SeatState) (p : Participant) → GoesOnAs s t p → IsSeat s t
+seat_still s t p k = (k.same_by, k.made, k.joined)
+
+pub changed_seat : {D : Type 0} {event : Event} {test : Fact → Bool} (z : SharedState D) (s u : SeatState) (e left : Installed) → Changes z s e left event test u → IsSeat s u
+changed_seat z s u e left k = let same = k.goes.same in (ap (λ (x : SeatState). x.by) same, ap (λ (x : SeatState). x.knows.made) same, ap (λ (x : SeatState). x.knows.joined) same)
 
 module _ (s t u : SeatState) (p : Participant) (first : GoesOnAs s t p) where
   pub goes_more : (events : List Event) → GoesOnAs t u (remembering events t.knows.participant) → GoesOnAs s u (remembering events p)
@@ -138,28 +153,60 @@ settled_on s u test held turns gone named k edit settled =
 pub as_continues : {D : Type 0} (z : SharedState D) (s u : SeatState) (p : Participant) → GoesOnAs s u p → IsFree z.table u → Continues z s u p
 as_continues z s u p k free = record { free = free; same_by = k.same_by; seen = k.seen; participant = k.participant; notes = k.notes; made = k.made; joined = k.joined }
 
+-- ---- the tables that it left
+
+-- a seat that stood with the tables held them, and the one behind remembers no more
+pub held_left : {D : Type 0} (z : SharedState D) (s u v : SeatState) (t : Installed) → (w : World) × Stands z u w → IsSeat s u → u.knows.participant.seen ≡ s.knows.participant.seen → u.knows.participant.past ≡ v.knows.participant.past → IsIn (installed t) u.knows.held
+    → HeldTables z s v.knows.participant.past t
+held_left z s u v t stands same seen past held = record {
+  world = stands.0;
+  actor = u.knows;
+  there = subst (λ (b : ℕ). IsAt (place_at z b) u.knows stands.0) same.0 stands.1;
+  held = held;
+  past_is = past;
+  seen_is = subst (λ (h : List Entry). StartsWith h s.knows.participant.seen) (sym seen) (starts_same s.knows.participant.seen);
+  made = same.1;
+  joined = same.2;
+}
+
+-- the seat before it saw the whole history too
+pub saw_so : {D : Type 0} (z : SharedState D) (s t : SeatState) (history seen : List Entry) → IsSeat s t → t.knows.participant.past ≡ s.knows.participant.past → history ≡ seen → SawWhole z t t.knows.participant.past history → SawWhole z s s.knows.participant.past seen
+saw_so z s t history seen same past is k = record {
+  world = k.world;
+  actor = k.actor;
+  there = subst (λ (b : ℕ). IsAt (place_at z b) k.actor k.world) same.0 k.there;
+  history_is = k.history_is ∙ is;
+  past_is = k.past_is ∙ past;
+  made = k.made ∙ same.1;
+  joined = k.joined ∙ same.2;
+}
+
 -- ---- what a flush says, of a seat before and of one behind
 
-module _ {D : Type 0} (First Last : Participant → Type 0) (z : SharedState D) (s t u v : SeatState) (e : Installed) (by : t.by ≡ s.by) (same_past : t.knows.participant.past ≡ s.knows.participant.past) (starts : StartsWith t.knows.participant.seen s.knows.participant.seen) (past : u.knows.participant.past ≡ v.knows.participant.past)
+module _ {D : Type 0} (First Last : Participant → Type 0) (z : SharedState D) (s t u v : SeatState) (e : Installed) (same : IsSeat s t) (same_past : t.knows.participant.past ≡ s.knows.participant.past) (starts : StartsWith t.knows.participant.seen s.knows.participant.seen) (past : u.knows.participant.past ≡ v.knows.participant.past)
     (more : (events : List Event) → First (remembering events t.knows.participant) → Last (remembering events s.knows.participant)) (still : First t.knows.participant → Last s.knows.participant) where
-  holds_so : (left : Installed) → HeldTables z t.by u.knows.participant.past t.knows.participant.seen left → HeldTables z s.by v.knows.participant.past s.knows.participant.seen left
+  holds_so : (left : Installed) → HeldTables z t u.knows.participant.past left → HeldTables z s v.knows.participant.past left
   holds_so left k = record {
     world = k.world;
     actor = k.actor;
-    there = subst (λ (b : ℕ). IsAt (place_at z b) k.actor k.world) by k.there;
+    there = subst (λ (b : ℕ). IsAt (place_at z b) k.actor k.world) same.0 k.there;
     held = k.held;
     past_is = k.past_is ∙ past;
     seen_is = starts_on s.knows.participant.seen t.knows.participant.seen k.actor.participant.seen starts k.seen_is;
+    made = k.made ∙ same.1;
+    joined = k.joined ∙ same.2;
   }
 
   abbrev found_so : Finds z t e → Finds z s e
   found_so k = record {
     world = k.world;
     actor = k.actor;
-    there = subst (λ (b : ℕ). IsAt (place_at z b) k.actor k.world) by k.there;
+    there = subst (λ (b : ℕ). IsAt (place_at z b) k.actor k.world) same.0 k.there;
     held = k.held;
     past_is = k.past_is ∙ same_past;
     seen_is = starts_on s.knows.participant.seen t.knows.participant.seen k.actor.participant.seen starts k.seen_is;
+    made = k.made ∙ same.1;
+    joined = k.joined ∙ same.2;
   }
 
   -- what is remembered of the tables that were found, and then of these events
@@ -172,8 +219,22 @@ module _ {D : Type 0} (First Last : Participant → Type 0) (z : SharedState D) 
     found = found_so k.found;
     running = k.running;
     at = k.at ∙ ap (λ (h : List Entry). length h) seen;
+    whole = saw_so z s t u.knows.participant.seen v.knows.participant.seen same same_past seen k.whole;
     some = k.some;
     versions = k.versions ∙ ap (λ (h : List Entry). length (unflushed h e.last)) seen;
+    left = subst (λ (h : List Entry). HeldTables z s v.knows.participant.past (record e { last = after_flush h e.last })) seen (holds_so (record e { last = after_flush u.knows.participant.seen e.last }) k.left);
+    table = record {
+      before = k.table.before;
+      after = k.table.after;
+      of_store = k.table.of_store;
+      still_of_store = k.table.still_of_store;
+      before_is = k.table.before_is;
+      after_is = k.table.after_is ∙ ap (λ (h : List Entry). record e { last = after_flush h e.last }) seen;
+      edits = k.table.edits;
+      still_edits = k.table.still_edits;
+      so = k.table.so ∙ ap (λ (h : List Entry). sorted_of (unflushed h e.last) ∷ k.table.before.parts) seen;
+    };
+    survives = subst (λ (h : List Entry). SurvivesInstall k.table.before k.table.after (after_flush h e.last)) seen k.survives;
     goes_on = remembers_so k.found (event.installed (after_flush v.knows.participant.seen e.last) false ∷ [])
         (subst (λ (h : List Entry). First (remembering (found_by z t e k.found ∷ event.installed (after_flush h e.last) false ∷ []) t.knows.participant)) seen k.goes_on);
   }
@@ -182,13 +243,68 @@ module _ {D : Type 0} (First Last : Participant → Type 0) (z : SharedState D) 
   flushes_so seen (Err TableFault) k = record {
     found = found_so k.found;
     running = k.running;
-    busy = λ idle. k.busy (subst (λ (h : List Entry). NoneInMemory h e.last) (sym seen) idle);
+    busy = subst (λ (h : List Entry). 1 ≤ length (unflushed h e.last)) seen k.busy;
     asked = k.asked;
     next = subst (λ (h : List Entry). IfSome k.asked (λ edit. edit ≡ after_flush h e.last)) seen k.next;
     left = holds_so _ k.left;
+    fault = k.fault;
+    survives = (k.survives.0, k.survives.1 ∙ ap (λ (h : List Entry). after_flush h e.last) seen, k.survives.2);
     goes_on = remembers_so k.found (tables_failed e.last k.asked ∷ []) k.goes_on;
   }
   flushes_so seen (Err (TablesStopped flushed)) k = record { found = found_so k.found; halted = k.halted; flushed_is = k.flushed_is; goes_on = remembers_so k.found [] k.goes_on }
+
+  -- the same of a compaction, where what it pinned is pinned still, and begins what was seen
+  module _ (First_pinned Last_pinned : ℕ → List ℕ → Type 0) (pins : (floor : ℕ) (live : List ℕ) → First_pinned floor live → Last_pinned floor live × (take floor u.knows.participant.seen ≡ take floor v.knows.participant.seen)) where
+    edit_so : (edit : InstalledEdit) → IsCompactionOf First_pinned u e.last edit → IsCompactionOf Last_pinned v e.last edit
+    edit_so edit k = let p = pins k.floor k.live k.pinned in record { floor = k.floor; live = k.live; pinned = p.0; edit_is = k.edit_is ∙ ap (λ (h : List Entry). after_compaction h k.live e.last) p.1 }
+
+    next_so : (asked : Option InstalledEdit) → IfSome asked (IsCompactionOf First_pinned u e.last) → IfSome asked (IsCompactionOf Last_pinned v e.last)
+    next_so None k = tt
+    next_so (Some edit) k = edit_so edit k
+
+    pub compacts_so : (result : Result Done MaintError) → CompactsFrom First First_pinned z t e result u → CompactsFrom Last Last_pinned z s e result v
+    compacts_so (Ok done) k = let p = pins done.at k.live k.pinned in record {
+      found = found_so k.found;
+      running = k.running;
+      several = k.several;
+      live = k.live;
+      pinned = p.0;
+      versions = k.versions ∙ ap (λ (h : List Entry). length (retained h k.live e.last)) p.1;
+      few = subst (λ (h : List Entry). done.versions ≤ length (later_versions h 0)) p.1 k.few;
+      left = subst (λ (h : List Entry). HeldTables z s v.knows.participant.past (record e { last = after_compaction h k.live e.last })) p.1 (holds_so (record e { last = after_compaction (take done.at u.knows.participant.seen) k.live e.last }) k.left);
+      table = record {
+        before = k.table.before;
+        after = k.table.after;
+        of_store = k.table.of_store;
+        still_of_store = k.table.still_of_store;
+        before_is = k.table.before_is;
+        after_is = k.table.after_is ∙ ap (λ (h : List Entry). record e { last = after_compaction h k.live e.last }) p.1;
+        edits = k.table.edits;
+        still_edits = k.table.still_edits;
+        so = k.table.so ∙ ap (λ (h : List Entry). compacted_parts (retained h k.live e.last)) p.1;
+      };
+      survives = subst (λ (h : List Entry). SurvivesInstall k.table.before k.table.after (after_compaction h k.live e.last)) p.1 k.survives;
+      goes_on = remembers_so k.found (event.installed (after_compaction (take done.at v.knows.participant.seen) k.live e.last) true ∷ [])
+          (subst (λ (h : List Entry). First (remembering (found_by z t e k.found ∷ event.installed (after_compaction h k.live e.last) true ∷ []) t.knows.participant)) p.1 k.goes_on);
+    }
+    compacts_so (Err Memory) k = still k
+    compacts_so (Err Nothing) k = record { found = found_so k.found; running = k.running; idle = k.idle; goes_on = remembers_so k.found [] k.goes_on }
+    compacts_so (Err TableFault) k = record {
+      found = found_so k.found;
+      running = k.running;
+      busy = k.busy;
+      asked = k.asked;
+      next = next_so k.asked k.next;
+      left = holds_so _ k.left;
+      fault = k.fault;
+      survives = (k.survives.0, edit_so k.survives.0 k.survives.1, k.survives.2);
+      goes_on = remembers_so k.found (tables_failed e.last k.asked ∷ []) k.goes_on;
+    }
+    compacts_so (Err (TablesStopped flushed)) k = record { found = found_so k.found; halted = k.halted; flushed_is = k.flushed_is; goes_on = remembers_so k.found [] k.goes_on }
+
+    pub ends_so : (result : Option (Result Done MaintError)) → EndsRoundFrom First First_pinned z t e result u → EndsRoundFrom Last Last_pinned z s e result v
+    ends_so (Some result) k = compacts_so result k
+    ends_so None k = still k
 
 -- ---- there is nothing to do
 
@@ -200,9 +316,9 @@ module _ {D : Type 0} (z : SharedState D) (s u v : SeatState) (e : Installed) (f
   found_then = goes_being z u v (found_by z u e k.found ∷ []) k.is
 
   pub found_nothing : e.halted ≡ false → NoneInMemory u.knows.participant.seen e.last → FlushesFrom (GoesOnAs s v) z s e (Err Nothing) v
-  found_nothing running none = flushes_so (GoesOnAs u v) (GoesOnAs s v) z s u v v e first.same_by past_still first.seen refl (goes_more s u v s.knows.participant first) (goes_still s u v s.knows.participant first) refl (Err Nothing)
+  found_nothing running none = flushes_so (GoesOnAs u v) (GoesOnAs s v) z s u v v e (seat_still s u s.knows.participant first) past_still first.seen refl (goes_more s u v s.knows.participant first) (goes_still s u v s.knows.participant first) refl (Err Nothing)
       (record { found = k.found; running = running; idle = subst (λ (x : SeatState). NoneInMemory x.knows.participant.seen e.last) (sym k.is) none; goes_on = found_then })
 
   pub found_halted : e.halted ≡ true → (n : ℕ) → n ≡ e.last.flushed → FlushesFrom (GoesOnAs s v) z s e (Err (TablesStopped n)) v
-  found_halted halted n is = flushes_so (GoesOnAs u v) (GoesOnAs s v) z s u v v e first.same_by past_still first.seen refl (goes_more s u v s.knows.participant first) (goes_still s u v s.knows.participant first) refl (Err (TablesStopped n))
+  found_halted halted n is = flushes_so (GoesOnAs u v) (GoesOnAs s v) z s u v v e (seat_still s u s.knows.participant first) past_still first.seen refl (goes_more s u v s.knows.participant first) (goes_still s u v s.knows.participant first) refl (Err (TablesStopped n))
       (record { found = k.found; halted = halted; flushed_is = is; goes_on = found_then })

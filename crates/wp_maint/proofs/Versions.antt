@@ -1,5 +1,5 @@
 -- Lists of versions, and how many are in them.
-use Rattle.std.proofs.Common.{◌≡◌, ℕ, zero, suc, ◌≤◌, nat_le, ◌==◌, Bool, true, false, cond, ne_eqb, Less, Equal, Greater, List, [], ◌∷◌, ◌++◌, length, drop, Option, Some, None, refl, sym, ap, ◌∙◌, arith}
+use Rattle.std.proofs.Common.{◌≡◌, inl, inr, ℕ, zero, suc, ◌≤◌, nat_le, ◌==◌, Bool, true, false, cond, ne_eqb, Less, Equal, Greater, List, [], ◌∷◌, ◌++◌, length, drop, Option, Some, None, refl, sym, subst, ap, ◌∙◌, arith}
 use Rattle.std.specs.declared.cmp.Ordering.{Ordering}
 use Rattle.std.specs.Prelude.{slice_get}
 use Rattle.std.specs.List.{list_all}
@@ -17,10 +17,11 @@ use Rattle.wp_model.proofs.BatchLemmas.{ascending_rest}
 use Rattle.wp_model.proofs.VersionLists.{IsBefore, in_order_parts}
 use Rattle.wp_merge.specs.Merge.{merge_of, sorted_of, weave, choose_by_order}
 use Rattle.wp_merge.proofs.Merged.{is_here, missing, same_place}
-use Rattle.wp_merge.proofs.Sorted.{own_place, own_value, at_sorted}
+use Rattle.wp_merge.proofs.Sorted.{own_place, own_value, at_sorted, in_order_sorted, in_order_same}
 use Rattle.wp_open.proofs.Later.{at_append}
 use Rattle.wp_cover.proofs.Order.{key_itself}
 use Rattle.wp_cover.proofs.Presence.{none_after}
+use Rattle.wp_core.specs.Lists.{IsIn}
 use Rattle.wp_core.proofs.PublishesVersions.{at_under}
 
 abbrev pub Found : Type 0
@@ -48,6 +49,26 @@ all_found P (v ∷ versions) in_order passes =
     by : (w : Version) → version_at versions w.key w.number ≡ Some w.value → (b : Bool) → is_here w.key w.number v ≡ b → IsBefore v versions → version_at (v ∷ versions) w.key w.number ≡ Some w.value
     by w there true is before = let none = missing w.key w.number v versions before is in absurd cc
     by w there false is before = ap (λ (b : Bool). cond b (Some v.value) (version_at versions w.key w.number)) is ∙ there
+
+-- what is in a list in order is found there
+pub at_own : (versions : List Version) → AreInOrder versions → (v : Version) → IsIn v versions → version_at versions v.key v.number ≡ Some v.value
+at_own [] ordered v there = absurd there
+at_own (w ∷ versions) ordered v (inl same) = subst (λ (x : Version). version_at (w ∷ versions) x.key x.number ≡ Some x.value) same (own_value w versions)
+at_own (w ∷ versions) ordered v (inr rest) = let parts = in_order_parts w versions ordered in by (at_own versions parts.1 v rest) (is_here v.key v.number w) refl parts.0
+  where
+    by : version_at versions v.key v.number ≡ Some v.value → (b : Bool) → is_here v.key v.number w ≡ b → IsBefore w versions → version_at (w ∷ versions) v.key v.number ≡ Some v.value
+    by there true is before = let none = missing v.key v.number w versions before is in absurd cc
+    by there false is before = ap (λ (b : Bool). cond b (Some w.value) (version_at versions v.key v.number)) is ∙ there
+
+-- ---- lists that sort alike
+
+-- lists that are found alike
+pub same_sorted : (xs ys : List Version) → ((key : List ℕ) (p : ℕ) → version_at xs key p ≡ version_at ys key p) → sorted_of xs ≡ sorted_of ys
+same_sorted xs ys same = in_order_same (sorted_of xs) (sorted_of ys) (in_order_sorted xs) (in_order_sorted ys) (λ key p. at_sorted xs key p ∙ same key p ∙ sym (at_sorted ys key p))
+
+-- a list in order is sorted
+pub sorted_same : (versions : List Version) → AreInOrder versions → sorted_of versions ≡ versions
+sorted_same versions ordered = in_order_same (sorted_of versions) versions (in_order_sorted versions) ordered (λ key p. at_sorted versions key p)
 
 -- ---- how many versions are sorted
 
@@ -79,6 +100,38 @@ pub length_sorted : (versions : List Version) → Distinct versions → length (
 length_sorted [] distinct = refl
 length_sorted (v ∷ versions) distinct =
     length_with v (sorted_of versions) (at_sorted versions v.key v.number ∙ distinct.0) ∙ ap (λ (n : ℕ). suc n) (length_sorted versions distinct.1)
+
+-- ---- versions that are all in another list
+
+longer_with : (v : Version) (versions : List Version) → length versions ≤ length (merge_of (v ∷ []) versions)
+longer_with v [] = omega arith
+longer_with v (w ∷ versions) = by (version_cmp v w) (longer_with v versions)
+  where
+    by : (o : Ordering) → length versions ≤ length (merge_of (v ∷ []) versions) → suc (length versions) ≤ length (choose_by_order o (v ∷ w ∷ versions) (v ∷ versions) (w ∷ weave v (merge_of []) versions))
+    by Less rest = let le : suc (length versions) ≤ suc (suc (length versions)) = omega arith in le
+    by Equal rest = let le : suc (length versions) ≤ suc (length versions) = omega arith in le
+    by Greater rest = let le : suc (length versions) ≤ suc (length (merge_of (v ∷ []) versions)) = omega (arith, rest) in le
+
+longer_sorted : (ys xs : List Version) → length (sorted_of xs) ≤ length (sorted_of (ys ++ xs))
+longer_sorted [] xs = let le : length (sorted_of xs) ≤ length (sorted_of xs) = omega arith in le
+longer_sorted (y ∷ ys) xs =
+    let rest = longer_sorted ys xs in let more = longer_with y (sorted_of (ys ++ xs)) in
+    let le : length (sorted_of xs) ≤ length (merge_of (y ∷ []) (sorted_of (ys ++ xs))) = omega (arith, rest, more) in le
+
+first_of : (a b : Found) → ((value : Option (List ℕ)) → b ≡ Some value → a ≡ Some value) → option_or a b ≡ a
+first_of None None within = refl
+first_of None (Some value) within = let none = within value refl in absurd cc
+first_of (Some value) b within = refl
+
+-- a list in order is no longer than one that has each of its versions
+pub no_more : (xs ys : List Version) → AreInOrder xs → Distinct ys → ((key : List ℕ) (p : ℕ) (value : Option (List ℕ)) → version_at xs key p ≡ Some value → version_at ys key p ≡ Some value) → length xs ≤ length ys
+no_more xs ys ordered distinct within =
+    let both = same_sorted (ys ++ xs) ys (λ key p. at_append ys xs key p ∙ first_of (version_at ys key p) (version_at xs key p) (λ value there. within key p value there)) in
+    let more = longer_sorted ys xs in
+    let one = ap (λ (l : List Version). length l) (sorted_same xs ordered) in
+    let two = ap (λ (l : List Version). length l) both in
+    let three = length_sorted ys distinct in
+    omega (arith, more, one, two, three)
 
 -- ---- the versions of entries stand once each
 

@@ -1,10 +1,15 @@
--- What a flush answers, and what it leaves of the seat.
-use Rattle.std.specs.Prelude.{◌≡◌, ℕ, ◌≤◌, true, false, List, [], ◌∷◌, ◌++◌, length, take, Option, IfSome, Result, Ok, Err}
+-- What a flush and a compaction answer, and what they leave of the seat.
+use Rattle.std.specs.Prelude.{◌≡◌, ℕ, ◌≤◌, ◌<◌, true, false, List, [], ◌∷◌, ◌++◌, length, take, Option, Some, IfSome, Result, Ok, Err}
 use Rattle.wp_model.specs.declared.entry.Entry.{Entry}
-use Rattle.wp_model.specs.Flushed.{InstalledEdit}
-use Rattle.wp_session.specs.Tables.{unflushed, after_flush}
+use Rattle.wp_model.specs.declared.version.Version.{Version}
+use Rattle.wp_model.specs.Flushed.{InstalledEdit, later_versions}
+use Rattle.wp_merge.specs.Merge.{sorted_of}
+use Rattle.wp_session.specs.Tables.{unflushed, retained, after_flush, after_compaction}
+use Rattle.wp_tableset.specs.Changes.{compacted_parts}
+use Rattle.wp_tableset.specs.declared.error.TableSetError.TheVariants.{Fault}
 use Rattle.wp_core.specs.Effects.{with_failed}
 use Rattle.wp_core.specs.Lists.{IsIn}
+use Rattle.wp_core.specs.Reading.{Registration}
 use Rattle.wp_core.specs.Sound.Actors.{StartsWith}
 use Rattle.wp_core.specs.Sound.Pasts.{tables_due}
 use Rattle.wp_core.specs.Tables.{Installed, installed}
@@ -12,8 +17,13 @@ use Rattle.wp_core.specs.Views.{Event, tables_failed, found_edit}
 use Rattle.wp_core.specs.Views as event
 use Rattle.wp_core.specs.World.{Actor, Participant, World}
 use Rattle.wp_rule.specs.Words.{IsAt}
+use Rattle.wp_guarded.specs.Edits.{EditsState, IsEdits}
+use Rattle.wp_guarded.specs.Installs.{HadCause, SurvivesInstall}
+use Rattle.wp_guarded.specs.Parts.{set_first}
 use Rattle.wp_shared.specs.Calls.{Continues}
 use Rattle.wp_shared.specs.Seats.{SharedState, SeatState, place_at}
+use Rattle.wp_read.specs.Registers.{IsPinned, numbers_of}
+use Rattle.wp_maint.specs.Holding.{seeing}
 use Rattle.wp_maint.specs.declared.done.Done.{Done}
 use Rattle.wp_maint.specs.declared.error.MaintError.{MaintError}
 use Rattle.wp_maint.specs.declared.error.MaintError.TheVariants.{Memory, Nothing, TableFault, TablesStopped}
@@ -26,22 +36,63 @@ remembering events p = record p { past = p.past ++ events }
 
 -- ---- what the seat held
 
--- In a reached world of the store the seat held the tables turn, with this table. It had this past then, and had seen no less.
-pub record HeldTables {D : Type 0} (z : SharedState D) (by : ℕ) (past : List Event) (seen : List Entry) (e : Installed) : Type 0 where
+-- In a reached world of the store the seat held the tables turn, with this table. It had this past then, had seen no less than
+-- before, and had made and taken in as many others.
+pub record HeldTables {D : Type 0} (z : SharedState D) (old : SeatState) (past : List Event) (e : Installed) : Type 0 where
   pub world : World
   pub actor : Actor
-  pub there : IsAt (place_at z by) actor world
+  pub there : IsAt (place_at z old.by) actor world
   pub held : IsIn (installed e) actor.held
   pub past_is : actor.participant.past ≡ past
-  pub seen_is : StartsWith actor.participant.seen seen
+  pub seen_is : StartsWith actor.participant.seen old.knows.participant.seen
+  pub made : actor.made ≡ old.knows.made
+  pub joined : actor.joined ≡ old.knows.joined
+
+-- In a reached world of the store this was the whole history. The seat had this past then, and had made and taken in as many
+-- others as before.
+pub record SawWhole {D : Type 0} (z : SharedState D) (old : SeatState) (past : List Event) (history : List Entry) : Type 0 where
+  pub world : World
+  pub actor : Actor
+  pub there : IsAt (place_at z old.by) actor world
+  pub history_is : world.writes.history ≡ history
+  pub past_is : actor.participant.past ≡ past
+  pub made : actor.made ≡ old.knows.made
+  pub joined : actor.joined ≡ old.knows.joined
 
 -- the tables as the call found them
 abbrev pub Finds : {D : Type 0} → SharedState D → SeatState → Installed → Type 0
-Finds z old e = HeldTables z old.by old.knows.participant.past old.knows.participant.seen e
+Finds z old e = HeldTables z old old.knows.participant.past e
 
 -- what it remembers of them: how many it knew of is told by its past, and by the first edit of that world
 abbrev pub found_by : {D : Type 0} → (z : SharedState D) → (old : SeatState) → (e : Installed) → Finds z old e → Event
 found_by z old e found = found_edit e.last.flushed e.last.tables (tables_due found.world.first_edit old.knows.participant.past) e.halted
+
+-- The store's tables on their devices, as the call found them, with this table, and as it left them, with that one. Both are what
+-- the value behind the turn may be: the devices have the tables that it names, no fault since the opening was forgotten, and what was
+-- for good then is so still. No clause of a call on a shared store sees its devices: that the value was the one and became the
+-- other in this very call is what the install itself says, of the value that the call took out from behind the turn.
+pub record TablesBecame {D : Type 0} (z : SharedState D) (e next : Installed) (So : EditsState → EditsState → Type 0) : Type 0 where
+  pub before : EditsState
+  pub after : EditsState
+  pub of_store : set_first z.first ≡ Some before.first
+  pub still_of_store : set_first z.first ≡ Some after.first
+  pub before_is : before.table ≡ e
+  pub after_is : after.table ≡ next
+  pub edits : IsEdits before
+  pub still_edits : IsEdits after
+  pub so : So before after
+
+-- a table of these versions is the newest of them, before those that were there
+abbrev pub HasNewest : List Version → EditsState → EditsState → Type 0
+HasNewest versions before after = after.parts ≡ versions ∷ before.parts
+
+-- a table of these versions is in place of all, or none where there are none
+abbrev pub HasAlone : List Version → EditsState → EditsState → Type 0
+HasAlone versions before after = after.parts ≡ compacted_parts versions
+
+-- a call to one of the two devices failed: its count rose
+abbrev pub HasFault : EditsState → EditsState → Type 0
+HasFault before after = HadCause before.set after.set Fault
 
 -- ---- refusals
 
@@ -62,15 +113,18 @@ pub record HasNothing {D : Type 0} (Goes : Participant → Type 0) (z : SharedSt
   pub idle : Idle e.last
   pub goes_on : Goes (remembering (found_by z old e found ∷ []) old.knows.participant)
 
--- A device failed, where there was something to do. The last edit stays; a later opening may find the one that was to be
--- installed, where the manifest was called for it.
-pub record HasFailed {D : Type 0} (Goes : Participant → Type 0) (z : SharedState D) (old new : SeatState) (e : Installed) (Idle : InstalledEdit → Type 0) (IsNext : InstalledEdit → Type 0) : Type 0 where
+-- A device failed, and its count rose, where there was something to do, as `Busy` says. The last edit stays; a later opening may
+-- find the one that was to be installed, where the manifest was called for it. At each moment a crash left the edits up to the
+-- last one, or those and that one, and their tables.
+pub record HasFailed {D : Type 0} (Goes : Participant → Type 0) (z : SharedState D) (old new : SeatState) (e : Installed) (Busy : Type 0) (IsNext : InstalledEdit → Type 0) : Type 0 where
   pub found : Finds z old e
   pub running : e.halted ≡ false
-  pub busy : Idle e.last → ⊥
+  pub busy : Busy
   pub asked : Option InstalledEdit
   pub next : IfSome asked IsNext
-  pub left : HeldTables z old.by new.knows.participant.past old.knows.participant.seen (with_failed e asked)
+  pub left : HeldTables z old new.knows.participant.past (with_failed e asked)
+  pub fault : TablesBecame z e (with_failed e asked) HasFault
+  pub survives : (edit : InstalledEdit) × IsNext edit × SurvivesInstall fault.before fault.after edit
   pub goes_on : Goes (remembering (found_by z old e found ∷ tables_failed e.last asked ∷ []) old.knows.participant)
 
 -- ---- a flush
@@ -79,22 +133,84 @@ pub record HasFailed {D : Type 0} (Goes : Participant → Type 0) (z : SharedSta
 abbrev pub NoneInMemory : List Entry → InstalledEdit → Type 0
 NoneInMemory seen edit = (n : ℕ) → unflushed (take n seen) edit ≡ []
 
--- All that stood in memory is in one table more, up to the number that was published then; the seat has seen so far.
+-- All that stood in memory is in one table more, up to the number that was published in a world that the seat was in. That table
+-- has just these versions, and the last edit names it. At each moment a crash left the edits before that one, or those and it,
+-- and their tables.
 pub record HasFlushed {D : Type 0} (Goes : Participant → Type 0) (z : SharedState D) (old new : SeatState) (e : Installed) (done : Done) : Type 0 where
   pub found : Finds z old e
   pub running : e.halted ≡ false
   pub at : done.at ≡ length new.knows.participant.seen
+  pub whole : SawWhole z old old.knows.participant.past new.knows.participant.seen
   pub some : 1 ≤ done.versions
   pub versions : done.versions ≡ length (unflushed new.knows.participant.seen e.last)
+  pub left : HeldTables z old new.knows.participant.past (record e { last = after_flush new.knows.participant.seen e.last })
+  pub table : TablesBecame z e (record e { last = after_flush new.knows.participant.seen e.last }) (HasNewest (sorted_of (unflushed new.knows.participant.seen e.last)))
+  pub survives : SurvivesInstall table.before table.after (after_flush new.knows.participant.seen e.last)
   pub goes_on : Goes (remembering (found_by z old e found ∷ event.installed (after_flush new.knows.participant.seen e.last) false ∷ []) old.knows.participant)
 
 abbrev pub FlushesFrom : {D : Type 0} → (Participant → Type 0) → SharedState D → SeatState → Installed → Result Done MaintError → SeatState → Type 0
 FlushesFrom Goes z old e (Ok done) new = HasFlushed Goes z old new e done
 FlushesFrom Goes z old e (Err Memory) new = Goes old.knows.participant
 FlushesFrom Goes z old e (Err Nothing) new = HasNothing Goes z old e (NoneInMemory new.knows.participant.seen)
-FlushesFrom Goes z old e (Err TableFault) new = HasFailed Goes z old new e (NoneInMemory new.knows.participant.seen) (λ edit. edit ≡ after_flush new.knows.participant.seen e.last)
+FlushesFrom Goes z old e (Err TableFault) new = HasFailed Goes z old new e (1 ≤ length (unflushed new.knows.participant.seen e.last)) (λ edit. edit ≡ after_flush new.knows.participant.seen e.last)
 FlushesFrom Goes z old e (Err (TablesStopped flushed)) new = IsStopped Goes z old e flushed
 
 -- what a flush answers and leaves, where the tables were so as it found them
 abbrev pub Flushes : {D : Type 0} → SharedState D → SeatState → Result Done MaintError → SeatState → Type 0
 Flushes z old result new = (e : Installed) × FlushesFrom (Continues z old new) z old e result new
+
+-- ---- a compaction
+
+-- there are not two tables to merge
+abbrev pub FewTables : InstalledEdit → Type 0
+FewTables edit = edit.tables < 2
+
+-- there are
+abbrev pub SeveralTables : InstalledEdit → Type 0
+SeveralTables edit = 2 ≤ edit.tables
+
+-- All that was live was pinned in one world of the store, from this floor on, by the seat as it was before the call but that it
+-- may have seen more. The floor is no less than what it had seen before the call.
+pub record HasPinned {D : Type 0} (z : SharedState D) (old new : SeatState) (floor : ℕ) (live : List ℕ) : Type 0 where
+  pub seen : List Entry
+  pub snapshot : Registration
+  pub others : List Registration
+  pub pinned : IsPinned z (seeing seen old) (take floor new.knows.participant.seen) snapshot others
+  pub floor_is : floor ≡ snapshot.number
+  pub live_is : live ≡ numbers_of others
+  pub within : floor ≤ length new.knows.participant.seen
+  pub later : StartsWith (take floor new.knows.participant.seen) old.knows.participant.seen
+
+-- Which floor and which live numbers it was, `Pinned` says. Of the tables' versions those stay that a reader at the floor needs,
+-- or at a number that was live; they are no more than the history had up to the floor. The last edit names their table alone.
+-- At each moment a crash left the edits before that one, or those and it, and their tables.
+pub record HasCompacted {D : Type 0} (Goes : Participant → Type 0) (Pinned : ℕ → List ℕ → Type 0) (z : SharedState D) (old new : SeatState) (e : Installed) (done : Done) : Type 0 where
+  pub found : Finds z old e
+  pub running : e.halted ≡ false
+  pub several : SeveralTables e.last
+  pub live : List ℕ
+  pub pinned : Pinned done.at live
+  pub versions : done.versions ≡ length (retained (take done.at new.knows.participant.seen) live e.last)
+  pub few : done.versions ≤ length (later_versions (take done.at new.knows.participant.seen) 0)
+  pub left : HeldTables z old new.knows.participant.past (record e { last = after_compaction (take done.at new.knows.participant.seen) live e.last })
+  pub table : TablesBecame z e (record e { last = after_compaction (take done.at new.knows.participant.seen) live e.last }) (HasAlone (retained (take done.at new.knows.participant.seen) live e.last))
+  pub survives : SurvivesInstall table.before table.after (after_compaction (take done.at new.knows.participant.seen) live e.last)
+  pub goes_on : Goes (remembering (found_by z old e found ∷ event.installed (after_compaction (take done.at new.knows.participant.seen) live e.last) true ∷ []) old.knows.participant)
+
+-- the edit is that of a compaction of these tables at a floor with these live numbers
+pub record IsCompactionOf (Pinned : ℕ → List ℕ → Type 0) (new : SeatState) (last edit : InstalledEdit) : Type 0 where
+  pub floor : ℕ
+  pub live : List ℕ
+  pub pinned : Pinned floor live
+  pub edit_is : edit ≡ after_compaction (take floor new.knows.participant.seen) live last
+
+abbrev pub CompactsFrom : {D : Type 0} → (Participant → Type 0) → (ℕ → List ℕ → Type 0) → SharedState D → SeatState → Installed → Result Done MaintError → SeatState → Type 0
+CompactsFrom Goes Pinned z old e (Ok done) new = HasCompacted Goes Pinned z old new e done
+CompactsFrom Goes Pinned z old e (Err Memory) new = Goes old.knows.participant
+CompactsFrom Goes Pinned z old e (Err Nothing) new = HasNothing Goes z old e FewTables
+CompactsFrom Goes Pinned z old e (Err TableFault) new = HasFailed Goes z old new e (SeveralTables e.last) (IsCompactionOf Pinned new e.last)
+CompactsFrom Goes Pinned z old e (Err (TablesStopped flushed)) new = IsStopped Goes z old e flushed
+
+-- what a compaction answers and leaves, where the tables were so as it found them
+abbrev pub Compacts : {D : Type 0} → SharedState D → SeatState → Result Done MaintError → SeatState → Type 0
+Compacts z old result new = (e : Installed) × CompactsFrom (Continues z old new) (HasPinned z old new) z old e result new

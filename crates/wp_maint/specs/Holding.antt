@@ -1,5 +1,5 @@
 -- A seat that holds the tables turn.
-use Rattle.std.specs.Prelude.{◌≡◌, ℕ, Bool, true, false, List, [], ◌∷◌, Some, None}
+use Rattle.std.specs.Prelude.{◌≡◌, Bool, true, false, List, [], ◌∷◌, Some, None}
 use Rattle.wp_model.specs.declared.entry.Entry.{Entry}
 use Rattle.wp_core.specs.Changes.{sees, turn_index}
 use Rattle.wp_core.specs.Notes.{gives_guard}

@@ -5,10 +5,12 @@ use Rattle.wp_core.specs.Effects.{with_failed}
 use Rattle.wp_core.specs.Views.{tables_failed}
 use Rattle.wp_core.specs.Views as event
 use Rattle.wp_core.specs.World.{World}
-use Rattle.wp_guarded.specs.Edits.{EditsState}
+use Rattle.wp_guarded.specs.Edits.{EditsState, IsEdits}
+use Rattle.wp_guarded.specs.Installs.{SurvivesInstall}
 use Rattle.wp_shared.specs.Seats.{SharedState, SeatState, Stands}
 use Rattle.wp_maint.specs.declared.error.MaintError.{MaintError}
 use Rattle.wp_maint.specs.declared.error.MaintError.TheVariants.{Memory, TableFault}
+use Rattle.wp_maint.specs.Calls.{HasFault}
 use Rattle.wp_maint.specs.Finding.{Changes}
 use Rattle.wp_maint.specs.Holding.{no_fact, is_of_flushed, HoldsEdits}
 
@@ -17,6 +19,10 @@ pub record HasInstalled {D : Type 0} (z : SharedState D) (old : SeatState) (e : 
   pub table : left.table ≡ record e.table { last = next }
   pub holds : HoldsEdits z new left
   pub changes : Changes z old e.table left.table (event.installed next compacts) is_of_flushed new
+  pub survives : SurvivesInstall e left next
+  pub edits : IsEdits e
+  pub still_edits : IsEdits left
+  pub stands : (w : World) × Stands z new w
 
 -- a device failed, before the manifest was called for this edit, or in its install
 pub record HasBroken {D : Type 0} (z : SharedState D) (old : SeatState) (e : EditsState) (next : InstalledEdit) (new : SeatState) (left : EditsState) : Type 0 where
@@ -24,6 +30,10 @@ pub record HasBroken {D : Type 0} (z : SharedState D) (old : SeatState) (e : Edi
   pub asked : IfSome left.table.failed (λ edit. edit ≡ next)
   pub holds : HoldsEdits z new left
   pub changes : Changes z old e.table left.table (tables_failed e.table.last left.table.failed) no_fact new
+  pub fault : HasFault e left
+  pub survives : SurvivesInstall e left next
+  pub edits : IsEdits e
+  pub still_edits : IsEdits left
   pub stands : (w : World) × Stands z new w
 
 -- why the edit is not installed, and what that leaves

@@ -1,6 +1,6 @@
 use wp_model::Seq;
 
-/// What a flush made.
+/// What a flush or a compaction made.
 #[derive(Clone, Copy, Debug, PartialEq, Eq)]
 pub struct Done {
     /// The published number up to which it goes.

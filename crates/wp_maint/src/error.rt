@@ -4,11 +4,11 @@ ghost use Rattle.wp_maint.specs.declared.error.MaintError.TheVariants.{Memory};
 use std::alloc::AllocError;
 use wp_model::Seq;
 
-/// Why a flush made nothing.
+/// Why a flush or a compaction made nothing.
 #[derive(Clone, Copy, Debug, PartialEq, Eq)]
 pub enum MaintError {
     Memory,
-    /// No version stands in memory.
+    /// No version stands in memory, or there are fewer than two tables.
     Nothing,
     /// The manifest's device or the tables' failed. None of them will be called again.
     TableFault,

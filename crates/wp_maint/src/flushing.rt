@@ -6,7 +6,7 @@ ghost use Rattle.wp_core.specs.Tables.{installed};
 ghost use Rattle.wp_rule.specs.Knows.{KnowsTables};
 ghost use Rattle.wp_shared.specs.Seats.{IsFree};
 ghost use Rattle.wp_commits.specs.Notes.{GoesOn};
-ghost use Rattle.wp_maint.specs.Calls.{Flushes, FlushesFrom};
+ghost use Rattle.wp_maint.specs.Calls.{Flushes, FlushesFrom, HasNewest, SawWhole};
 ghost use Rattle.wp_maint.specs.Flush.{HasFrozen, MayPut};
 ghost use Rattle.wp_maint.specs.Installs.{HasInstalled, NotInstalled};
 ghost use Rattle.wp_maint.specs.Holding.{is_of_tables, GoesOnAs, HoldsEdits};
@@ -36,15 +36,19 @@ fn install<D: Disk + Drop>(
     requires frozen { HasFrozen seat.old.knows edits.old.table frozen.now }
     ensures table { IfOk result (λ table. arc_value table ≡ frozen.now.versions) }
     ensures installed { OnOk result (HasInstalled store.now seat.old edits.old (after_flush seat.old.knows.participant.seen edits.old.table.last) false seat.new edits.new) }
+    ensures parts { OnOk result (HasNewest frozen.now.versions edits.old edits.new) }
     ensures refused { IfErr result (λ why. NotInstalled store.now seat.old edits.old (after_flush seat.old.knows.participant.seen edits.old.table.last) why seat.new edits.new) }
 {
+    edits.told();
     match edits.flush(&frozen.versions, frozen.at) {
         Ok(table) => {
+            edits.told();
             install_flush(store, seat, edits);
             Ok(table)
         }
         Err(TableSetError::Memory) => Err(MaintError::Memory),
         Err(TableSetError::Fault) => {
+            edits.told();
             halt(store, seat, edits);
             Err(MaintError::TableFault)
         }
@@ -95,6 +99,7 @@ fn flush_frozen<D: Disk + Drop, R: Wait>(
     requires settled { KnowsTables seat.old.knows edits.old.table.last }
     requires running { edits.old.table.halted ≡ false }
     requires frozen { HasFrozen seat.old.knows edits.old.table frozen }
+    requires whole { SawWhole store.now seat.old seat.old.knows.participant.past seat.old.knows.participant.seen }
     ensures holds { HoldsEdits store.now seat.new edits.new }
     ensures settled { KnowsTables seat.new.knows edits.new.table.last }
     ensures says { FlushesFrom (GoesOnAs seat.old seat.new) store.now seat.old edits.old.table result seat.new }

@@ -9,6 +9,7 @@ ghost use Rattle.wp_rule.specs.Knows.{KnowsTables};
 ghost use Rattle.wp_guarded.specs.Stock.{store_table};
 ghost use Rattle.wp_shared.specs.Seats.{Stands};
 ghost use Rattle.wp_commits.specs.Notes.{GoesOn};
+ghost use Rattle.wp_maint.specs.Calls.{SawWhole};
 ghost use Rattle.wp_maint.specs.Flush.{Freezes, IsCopied};
 ghost use Rattle.wp_maint.specs.Holding.{no_fact, is_under, seeing, HoldsEdits};
 
@@ -87,6 +88,7 @@ pub(crate) fn freeze_all<D: Disk + Drop, R: Wait>(
     requires settled { KnowsTables seat.old.knows edits.now.table.last }
     ensures goes { GoesOn (is_under write_turn) (installed edits.now.table ∷ []) seat.old.turns (seeing seat.new.knows.participant.seen seat.old) seat.new }
     ensures grown { StartsWith seat.new.knows.participant.seen seat.old.knows.participant.seen }
+    ensures whole { SawWhole store.now seat.old seat.old.knows.participant.past seat.new.knows.participant.seen }
     ensures frozen { IfOk result (λ frozen. Freezes seat.new.knows edits.now.table frozen) }
 {
     let log = take_log(store, rt, seat);

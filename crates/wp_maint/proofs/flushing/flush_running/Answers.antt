@@ -1,4 +1,4 @@
-use Rattle.std.proofs.Common.{◌∷◌, [], List, refl, sym, subst, ap, ◌∙◌}
+use Rattle.std.proofs.Common.{◌∷◌, [], refl, sym, subst, ap, ◌∙◌}
 use Rattle.wp_core.specs.Turns.{write_turn}
 use Rattle.wp_core.specs.Tables.{installed}
 use Rattle.wp_core.specs.World.{Participant}
@@ -6,7 +6,7 @@ use Rattle.wp_shared.specs.Seats.{SeatState}
 use Rattle.wp_maint.specs.Flush.{Freezes}
 use Rattle.wp_maint.specs.Holding.{is_under, seeing, GoesOnAs}
 use Rattle.wp_maint.proofs.Found.{held_first}
-use Rattle.wp_maint.proofs.Onward.{under_free, goes_seeing, goes_more, goes_still, found_nothing, holds_being, settled_being, settled_on, flushes_so}
+use Rattle.wp_maint.proofs.Onward.{under_free, goes_seeing, goes_more, goes_still, found_nothing, holds_being, settled_being, settled_on, seat_still, saw_so, flushes_so}
 use Rattle.wp_maint.proofs.flushing.flush_running.Goals as goal
 
 pub find_edits-requires-clause-held : goal.find_edits-requires-clause-held
@@ -56,4 +56,9 @@ pub returns-clause-says : goal.returns-clause-says
 returns-clause-says g c =
     let s = c.args.seat.now in let u = c.freeze_all.new.seat in let v = c.flush_frozen.new.seat in let e = c.args.edits.now.table in
     let first = goes_seeing s u u.knows.participant.seen (is_under write_turn) (installed e ∷ []) s.turns c.freeze_all.ensures.goes c.freeze_all.ensures.grown (under_free write_turn) in
-    flushes_so (GoesOnAs u v) (GoesOnAs s v) c.args.store.now s u v v e first.same_by (ap (λ (p : Participant). p.past) first.participant) c.freeze_all.ensures.grown refl (goes_more s u v s.knows.participant first) (goes_still s u v s.knows.participant first) refl c.flush_frozen.result c.flush_frozen.ensures.says
+    flushes_so (GoesOnAs u v) (GoesOnAs s v) c.args.store.now s u v v e (seat_still s u s.knows.participant first) (ap (λ (p : Participant). p.past) first.participant) c.freeze_all.ensures.grown refl (goes_more s u v s.knows.participant first) (goes_still s u v s.knows.participant first) refl c.flush_frozen.result c.flush_frozen.ensures.says
+
+pub flush_frozen-requires-clause-whole : goal.flush_frozen-requires-clause-whole
+flush_frozen-requires-clause-whole g c =
+    let s = c.args.seat.now in let u = c.freeze_all.new.seat in let same = sym c.freeze_all.ensures.goes.same in
+    saw_so c.args.store.now u s u.knows.participant.seen u.knows.participant.seen (ap (λ (x : SeatState). x.by) same, ap (λ (x : SeatState). x.knows.made) same, ap (λ (x : SeatState). x.knows.joined) same) (ap (λ (x : SeatState). x.knows.participant.past) same) refl c.freeze_all.ensures.whole

@@ -1,11 +1,11 @@
-use Rattle.std.proofs.Common.{◌∷◌, [], false, sym, subst, ap, ◌∙◌}
+use Rattle.std.proofs.Common.{false, sym, subst, ap, ◌∙◌}
 use Rattle.wp_model.specs.Flushed.{InstalledEdit}
 use Rattle.wp_session.specs.Tables.{after_flush}
 use Rattle.wp_core.specs.Tables.{Installed}
 use Rattle.wp_core.specs.Views.{tables_failed}
 use Rattle.wp_core.specs.Views as event
 use Rattle.wp_rule.specs.Knows.{KnowsInstalled}
-use Rattle.wp_guarded.specs.Installs.{with_table, IsRefused}
+use Rattle.wp_guarded.specs.Installs.{HadCause, with_table, IsRefused, SurvivesInstall}
 use Rattle.wp_maint.specs.Finding.{Changes}
 use Rattle.wp_maint.specs.Holding.{no_fact, is_of_flushed}
 use Rattle.wp_maint.proofs.Found.{failed_last}
@@ -38,8 +38,12 @@ returns-in-Ok-clause-installed g c =
     let z = c.args.store.now in let s = c.args.seat.now in let u = c.install_flush.new.seat in let e = c.args.edits.now in let left = c.flush.new.self in let f = c.args.frozen.now in
     let same = same_edit s.knows e.table f c.requires.frozen in let is = c.in-Ok.ensures.installed in let last = ap (λ (x : Installed). x.last) is in record {
       table = is ∙ ap (λ (l : InstalledEdit). record e.table { last = l }) same;
-      holds = still_holds z s u e left _ is_of_flushed c.requires.holds (c.install_flush.ensures e.table c.requires.holds.held).goes c.in-Ok.ensures.first;
-      changes = subst (λ (l : InstalledEdit). Changes z s e.table left.table (event.installed l false) is_of_flushed u) (last ∙ same) (c.install_flush.ensures e.table c.requires.holds.held);
+      holds = still_holds z s u e left _ is_of_flushed c.requires.holds (c.install_flush.ensures.changes e.table c.requires.holds.held).goes c.in-Ok.ensures.first;
+      changes = subst (λ (l : InstalledEdit). Changes z s e.table left.table (event.installed l false) is_of_flushed u) (last ∙ same) (c.install_flush.ensures.changes e.table c.requires.holds.held);
+      survives = subst (SurvivesInstall e left) same c.in-Ok.ensures.survives;
+      edits = c.told.ensures.edits;
+      still_edits = c.told-in-Ok.ensures.edits;
+      stands = c.install_flush.ensures.stands;
     }
 
 pub returns-in-Err-Fault-clause-refused : goal.returns-in-Err-Fault-clause-refused
@@ -52,5 +56,9 @@ returns-in-Err-Fault-clause-refused g c =
       asked = asked_is (with_table f.versions f.at e.table.last) next left.table.failed (same_edit s.knows e.table f c.requires.frozen) k.1;
       holds = still_holds z s u e left _ no_fact c.requires.holds changes.goes c.in-Err-Fault.ensures.first;
       changes = subst (λ (l : InstalledEdit). Changes z s e.table left.table (tables_failed l left.table.failed) no_fact u) (ap (λ (x : Installed). x.last) k.0 ∙ failed_last e.table left.table.failed) changes;
+      edits = c.told.ensures.edits;
+      still_edits = c.told-in-Err-Fault.ensures.edits;
       stands = c.halt.ensures.stands;
+      fault = subst (HadCause e.set left.set) c.in-Err-Fault.field-0-is c.in-Err-Fault.ensures.cause;
+      survives = subst (SurvivesInstall e left) (same_edit s.knows e.table f c.requires.frozen) c.in-Err-Fault.ensures.survives;
     }

@@ -1,6 +1,5 @@
-use Rattle.std.proofs.Common.{sym, subst, ap, ◌∙◌}
-use Rattle.std.specs.Prelude.{List, IfSome}
-use Rattle.wp_model.specs.declared.entry.Entry.{Entry}
+use Rattle.std.proofs.Common.{sym, subst, ◌∙◌}
+use Rattle.std.specs.Prelude.{IfSome}
 use Rattle.wp_model.specs.Flushed.{IsEditCovered}
 use Rattle.wp_core.specs.Views.{tables_failed}
 use Rattle.wp_shared.specs.Seats.{SeatState}

@@ -1,4 +1,4 @@
-use Rattle.std.proofs.Common.{false, ◌∙◌, sym}
+use Rattle.std.proofs.Common.{false, ◌∙◌}
 use Rattle.wp_core.specs.Views as event
 use Rattle.wp_maint.proofs.Found.{held_first, held_still, then_changes, knows_still}
 use Rattle.wp_maint.proofs.steps.install_flush.Goals as goal
@@ -15,6 +15,6 @@ remember_flush-requires-clause-held g c =
     let h = c.requires.held in let k = c.find_edits.ensures h.0 (held_first c.args.seat.now h.0 h.1) in
     (h.0, (held_still c.args.store.now c.args.seat.now c.find_edits.new.seat h.0 h.1 k).1, h.2, knows_still c.args.store.now c.args.seat.now c.find_edits.new.seat h.0 k h.0 c.args.edits.now.table.last false h.3)
 
-pub returns : goal.returns
-returns g c t held =
-    then_changes c.args.store.now c.args.seat.now c.find_edits.new.seat c.remember_flush.new.seat t (c.find_edits.ensures t (held_first c.args.seat.now t held)) c.args.edits.now.table (event.installed c.args.edits.now.table.last false) _ c.remember_flush.ensures
+pub returns-clause-changes : goal.returns-clause-changes
+returns-clause-changes g c t held =
+    then_changes c.args.store.now c.args.seat.now c.find_edits.new.seat c.remember_flush.new.seat t (c.find_edits.ensures t (held_first c.args.seat.now t held)) c.args.edits.now.table (event.installed c.args.edits.now.table.last false) _ c.remember_flush.ensures.goes

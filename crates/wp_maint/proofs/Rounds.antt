@@ -1,0 +1,233 @@
+-- What one round of a compaction leaves of its seat, and what rounds one after another leave.
+use Rattle.std.proofs.Common.{◌≡◌, inl, inr, ℕ, ◌≤◌, true, false, List, [], ◌∷◌, ◌++◌, append-nil, length, take, refl, sym, subst, ap, ◌∙◌, Option, Some, None, arith}
+use Rattle.std.specs.Prelude.{Result, Ok, Err}
+use Rattle.wp_model.specs.declared.entry.Entry.{Entry}
+use Rattle.wp_model.specs.declared.version.Version.{Version}
+use Rattle.wp_model.specs.Decision as decision
+use Rattle.wp_model.specs.Flushed.{InstalledEdit}
+use Rattle.wp_keep.specs.declared.pair.Pair.{Pair}
+use Rattle.wp_keep.specs.Keep.{is_committed, retained_of}
+use Rattle.wp_session.specs.Tables.{retained, after_compaction}
+use Rattle.wp_core.specs.Lists.{IsIn}
+use Rattle.wp_core.specs.Reading.{Registration}
+use Rattle.wp_core.specs.Sound.Actors.{StartsWith}
+use Rattle.wp_core.specs.Tables.{Installed, installed}
+use Rattle.wp_core.specs.Turns.{tables_turn}
+use Rattle.wp_core.specs.Views.{Event, tables_failed, live_listed}
+use Rattle.wp_core.specs.Views as event
+use Rattle.wp_core.specs.World.{Participant, Actor}
+use Rattle.wp_rule.specs.Words.{IsAt}
+use Rattle.wp_shared.specs.Calls.{Continues}
+use Rattle.wp_shared.specs.Seats.{SharedState, SeatState, IsFree, place_at}
+use Rattle.wp_commits.specs.Notes.{GoesOn}
+use Rattle.wp_read.specs.Registers.{IsPinned, numbers_of}
+use Rattle.wp_maint.specs.declared.done.Done.{Done}
+use Rattle.wp_maint.specs.declared.error.MaintError.{MaintError}
+use Rattle.wp_maint.specs.declared.error.MaintError.TheVariants.{Memory, Nothing, TableFault, TablesStopped}
+use Rattle.wp_maint.specs.Calls.{CompactsFrom, Compacts, FewTables, HasPinned, found_by, remembering}
+use Rattle.wp_maint.specs.Compaction.{HasDecided, IsPin, KnowsLive, EndsRoundFrom, EndsRound}
+use Rattle.wp_maint.specs.Decided.{ArePinned, Decides, version_numbers}
+use Rattle.wp_maint.specs.Finding.{Remembers}
+use Rattle.wp_maint.specs.Holding.{no_fact, is_under, seeing, GoesOnAs}
+use Rattle.wp_maint.proofs.Decisions.{decided_same}
+use Rattle.wp_maint.proofs.Onward.{starts_on, starts_same, none_free, under_free, goes_as, goes_more, goes_still, goes_being, IsSeat, seat_still, as_continues, compacts_so, ends_so}
+use Rattle.wp_maint.proofs.Pinning.{continues_then, continues_on, continues_as, in_middle, pinned_low, take_seen, grown_length}
+use Rattle.wp_maint.proofs.Replaces.{length_front}
+use Rattle.wp_maint.proofs.Retained.{retained_same}
+use Rattle.wp_maint.proofs.StillTabled.{decided_still}
+
+-- the tables that are told of where none were found
+pub no_tables : Installed
+no_tables = record { last = record { flushed = 0; versions = []; tables = 0 }; failed = None; halted = false }
+
+-- ---- what was pinned
+
+behind : (r x : Registration) (front live : List Registration) → IsIn r live → IsIn r (front ++ x ∷ live)
+behind r x [] live there = inr there
+behind r x (y ∷ front) live there = inr (behind r x front live there)
+
+module _ {D : Type 0} (z : SharedState D) (s t : SeatState) (floor : Registration) (live : List Registration) (registered : t.knows.participant.registered ≡ s.knows.participant.registered ++ floor ∷ live) where
+  pub floor_registered : IsIn floor t.knows.participant.registered
+  floor_registered = subst (IsIn floor) (sym registered) (in_middle floor s.knows.participant.registered live)
+
+  pub knows_live : floor.number ≡ length t.knows.participant.seen → IsPinned z s t.knows.participant.seen floor live → IsIn (live_listed floor.number (numbers_of live)) t.knows.notes → KnowsLive t.knows floor.number live
+  knows_live number pinned listed = record {
+    within = omega (arith, number);
+    registered = λ r there. (subst (IsIn r) (sym registered) (behind r floor s.knows.participant.registered live there), pinned_low z s t.knows.participant.seen floor live pinned r there);
+    listed = listed;
+  }
+
+-- ---- what was decided
+
+pub are_pinned : (a : Actor) (floor : Registration) (live : List Registration) → IsIn floor a.participant.registered → floor.number ≡ length a.participant.seen → KnowsLive a floor.number live → ArePinned a.participant (floor ∷ live)
+are_pinned a floor live there number k r (inl same) = subst (λ (x : Registration). IsIn x a.participant.registered × (x.number ≤ length a.participant.seen)) same (there, omega (arith, number))
+are_pinned a floor live there number k r (inr rest) = let l = (k.registered r rest).1 in ((k.registered r rest).0, omega (arith, l, number))
+
+pub has_decided : (a : Actor) (floor : Registration) (live : List Registration) (versions : List Version) (pairs : List Pair) → floor.number ≡ length a.participant.seen → KnowsLive a floor.number live → Decides a.participant.seen (version_numbers versions) (numbers_of (floor ∷ live)) [] pairs
+    → HasDecided a floor live versions pairs
+has_decided a floor live versions pairs number k decided = record {
+  live_is = k;
+  decided = subst (λ (h : List Entry). Decides h (version_numbers versions) (numbers_of (floor ∷ live)) [] pairs) (sym (take_seen floor.number a.participant.seen a.participant.seen number (starts_same a.participant.seen))) decided;
+}
+
+-- what is kept by what was decided is what the history retains
+pub kept_retained : (a : Actor) (floor : Registration) (live : List Registration) (versions : List Version) (pairs : List Pair) (last : InstalledEdit) → HasDecided a floor live versions pairs → versions ≡ last.versions → (kept : List Version)
+    → kept ≡ retained_of (is_committed pairs) versions (numbers_of live) floor.number → kept ≡ retained (take floor.number a.participant.seen) (numbers_of live) last
+kept_retained a floor live versions pairs last k same kept is =
+    let front = take floor.number a.participant.seen in
+    let long : floor.number ≡ length front = sym (length_front floor.number a.participant.seen k.live_is.within) in
+    is
+    ∙ retained_same (is_committed pairs) (decision.is_committed front) versions (numbers_of live) floor.number (λ v there n among. decided_same front versions (numbers_of (floor ∷ live)) pairs k.decided v there n among)
+    ∙ (λ i. retained_of (decision.is_committed front) (same i) (numbers_of live) (long i))
+
+-- ---- there is nothing to do
+
+pub found_few : {D : Type 0} (z : SharedState D) (s v : SeatState) (e : Installed) (Pinned : ℕ → List ℕ → Type 0) → Remembers z s e v → e.halted ≡ false → FewTables e.last → CompactsFrom (GoesOnAs s v) Pinned z s e (Err Nothing) v
+found_few z s v e Pinned k running few = record { found = k.found; running = running; idle = few; goes_on = goes_being z s v (found_by z s e k.found ∷ []) k.is }
+
+-- ---- under the tables turn
+
+-- what was done behind a seat that had seen no less is done behind the one before it
+pub ends_then : {D : Type 0} (z : SharedState D) (s u v : SeatState) (e : Installed) (Pinned : ℕ → List ℕ → Type 0) → GoesOnAs s u s.knows.participant → (result : Option (Result Done MaintError)) → EndsRoundFrom (GoesOnAs u v) Pinned z u e result v → EndsRoundFrom (GoesOnAs s v) Pinned z s e result v
+ends_then z s u v e Pinned first result k =
+    ends_so (GoesOnAs u v) (GoesOnAs s v) z s u v v e (seat_still s u s.knows.participant first) (ap (λ (p : Participant). p.past) first.participant) first.seen refl (goes_more s u v s.knows.participant first) (goes_still s u v s.knows.participant first)
+    Pinned Pinned (λ floor live pinned. (pinned, refl)) result k
+
+module _ {D : Type 0} (z : SharedState D) (s d t : SeatState) (e : Installed) (free : IsFree z.table s) (first : Continues z s d s.knows.participant) (taken : GoesOn no_fact (installed e ∷ []) (5 ∷ []) d t) where
+  pub goes_taken : GoesOnAs s t s.knows.participant
+  goes_taken = goes_still s d t s.knows.participant (continues_as z s d s.knows.participant free first) (goes_as d d t no_fact (installed e ∷ []) (5 ∷ []) taken refl refl refl (starts_same d.knows.participant.seen) none_free)
+
+  pub decided_taken : d.knows.participant ≡ s.knows.participant → (floor : Registration) (live : List Registration) (versions : List Version) (pairs : List Pair) → HasDecided s.knows floor live versions pairs → HasDecided t.knows floor live versions pairs
+  decided_taken same floor live versions pairs k = decided_still s.knows t.knows floor live versions pairs (ap (λ (x : SeatState). x.knows.participant) taken.same ∙ same) goes_taken.notes k
+
+  -- the turn is given
+  pub ends_given : (u v : SeatState) → GoesOn (is_under tables_turn) [] [] u v → IsFree z.table v → (floor : ℕ) (live : List ℕ) (result : Option (Result Done MaintError)) → EndsRoundFrom (GoesOnAs t u) (IsPin floor live) z t e result u → EndsRound (Continues z s v) (IsPin floor live) z s result v
+  ends_given u v given freed floor live result k =
+      let p : Participant = s.knows.participant in
+      let last = goes_as u u v (is_under tables_turn) [] [] given refl refl refl (starts_same u.knows.participant.seen) (under_free tables_turn) in
+      let same : v.knows.participant ≡ u.knows.participant = ap (λ (x : SeatState). x.knows.participant) given.same in (
+        e,
+        ends_so (GoesOnAs t u) (Continues z s v) z s t u v e (seat_still s t s.knows.participant goes_taken) (ap (λ (x : Participant). x.past) goes_taken.participant) goes_taken.seen (sym (ap (λ (x : Participant). x.past) same))
+            (λ events w. as_continues z s v (remembering events p) (goes_still s u v (remembering events p) (goes_more s t u p goes_taken events w) last) freed)
+            (λ w. as_continues z s v p (goes_still s u v p (goes_still s t u p goes_taken w) last) freed)
+            (IsPin floor live) (IsPin floor live) (λ f l pinned. (pinned, ap (λ (x : Participant). take f x.seen) (sym same))) result k,
+      )
+
+-- ---- what a round leaves, whatever it answers
+
+abbrev Somehow : (Participant → Type 0) → Participant → Type 0
+Somehow Goes p = (events : List Event) × Goes (remembering events p)
+
+module _ {D : Type 0} (Goes : Participant → Type 0) (Pinned : ℕ → List ℕ → Type 0) (z : SharedState D) (s u : SeatState) (e : Installed) where
+  without : Goes s.knows.participant → Somehow Goes s.knows.participant
+  without k = ([], subst (λ (past : List Event). Goes (record s.knows.participant { past = past })) (sym (append-nil s.knows.participant.past)) k)
+
+  compacts_somehow : (result : Result Done MaintError) → CompactsFrom Goes Pinned z s e result u → Somehow Goes s.knows.participant
+  compacts_somehow (Ok done) k = (found_by z s e k.found ∷ event.installed (after_compaction (take done.at u.knows.participant.seen) k.live e.last) true ∷ [], k.goes_on)
+  compacts_somehow (Err Memory) k = without k
+  compacts_somehow (Err Nothing) k = (found_by z s e k.found ∷ [], k.goes_on)
+  compacts_somehow (Err TableFault) k = (found_by z s e k.found ∷ tables_failed e.last k.asked ∷ [], k.goes_on)
+  compacts_somehow (Err (TablesStopped flushed)) k = (found_by z s e k.found ∷ [], k.goes_on)
+
+  ends_somehow : (result : Option (Result Done MaintError)) → EndsRoundFrom Goes Pinned z s e result u → Somehow Goes s.knows.participant
+  ends_somehow (Some result) k = compacts_somehow result k
+  ends_somehow None k = without k
+
+-- what was pinned by one seat was by another in its place
+pinned_by : {D : Type 0} (z : SharedState D) (a b : SeatState) (history : List Entry) (floor : Registration) (live : List Registration) → IsSeat a b → b.knows.participant ≡ a.knows.participant → IsPinned z a history floor live → IsPinned z b history floor live
+pinned_by z a b history floor live seat same k = let t = k.taken in record {
+  before = k.before;
+  taken = record {
+    world = t.world;
+    actor = t.actor;
+    there = subst (λ (n : ℕ). IsAt (place_at z n) t.actor t.world) (sym seat.0) t.there;
+    participant = t.participant ∙ sym same;
+    made = t.made ∙ sym seat.1;
+    joined = t.joined ∙ sym seat.2;
+    held = t.held;
+    live = t.live;
+    history_is = t.history_is;
+    number = t.number;
+    smallest = t.smallest;
+  };
+  are_again = k.are_again;
+  are_live = k.are_live;
+}
+
+module _ {D : Type 0} (z : SharedState D) (s t u v : SeatState) (floor : Registration) (live : List Registration) (first : Continues z s t (record s.knows.participant { registered = s.knows.participant.registered ++ floor ∷ live })) (number : floor.number ≡ length t.knows.participant.seen)
+    (pinned : IsPinned z s t.knows.participant.seen floor live) (result : Option (Result Done MaintError)) (k : EndsRound (Continues z t u) (IsPin floor.number (numbers_of live)) z t result u) where
+  abbrev pins : Participant
+  pins = record s.knows.participant { registered = s.knows.participant.registered ++ floor ∷ live }
+
+  went : Somehow (Continues z t u) t.knows.participant
+  went = ends_somehow (Continues z t u) (IsPin floor.number (numbers_of live)) z t u k.0 result k.1
+
+  pub free_round : IsFree z.table u
+  free_round = went.1.free
+
+  pub registered_round : u.knows.participant.registered ≡ s.knows.participant.registered ++ floor ∷ live
+  registered_round = ap (λ (p : Participant). p.registered) went.1.participant ∙ ap (λ (p : Participant). p.registered) first.participant
+
+  module _ (last : Continues z u v (record u.knows.participant { registered = s.knows.participant.registered })) where
+    unpinned : (events : List Event) → Continues z t u (remembering events t.knows.participant) → Continues z s v (remembering events s.knows.participant)
+    unpinned events second =
+        continues_then z s u v (remembering events pins) (continues_then z s t u pins first (remembering events) (λ q h. refl) second) (λ q. record q { registered = s.knows.participant.registered }) (λ q h. refl) last
+
+    unpinned_still : Continues z t u t.knows.participant → Continues z s v s.knows.participant
+    unpinned_still second = continues_then z s u v pins (continues_on z s t u pins first second) (λ q. record q { registered = s.knows.participant.registered }) (λ q h. refl) last
+
+    seen_last : StartsWith v.knows.participant.seen t.knows.participant.seen
+    seen_last = starts_on t.knows.participant.seen u.knows.participant.seen v.knows.participant.seen went.1.seen last.seen
+
+    front_then : take floor.number u.knows.participant.seen ≡ t.knows.participant.seen
+    front_then = take_seen floor.number t.knows.participant.seen u.knows.participant.seen number went.1.seen
+
+    front_last : take floor.number v.knows.participant.seen ≡ t.knows.participant.seen
+    front_last = take_seen floor.number t.knows.participant.seen v.knows.participant.seen number seen_last
+
+    has_pinned : HasPinned z s v floor.number (numbers_of live)
+    has_pinned = record {
+      seen = s.knows.participant.seen;
+      snapshot = floor;
+      others = live;
+      pinned = subst (λ (h : List Entry). IsPinned z (seeing s.knows.participant.seen s) h floor live) (sym front_last) (pinned_by z s (seeing s.knows.participant.seen s) t.knows.participant.seen floor live (refl, refl, refl) refl pinned);
+      floor_is = refl;
+      live_is = refl;
+      within = let l = grown_length t.knows.participant.seen v.knows.participant.seen seen_last in omega (arith, l, number);
+      later = subst (λ (h : List Entry). StartsWith h s.knows.participant.seen) (sym front_last) first.seen;
+    }
+
+    pins_so : (f : ℕ) (l : List ℕ) → IsPin floor.number (numbers_of live) f l → HasPinned z s v f l × (take f u.knows.participant.seen ≡ take f v.knows.participant.seen)
+    pins_so f l is = subst (λ (x : ℕ × List ℕ). HasPinned z s v x.0 x.1 × (take x.0 u.knows.participant.seen ≡ take x.0 v.knows.participant.seen)) (λ i. (sym is.0 i, sym is.1 i)) (has_pinned, front_then ∙ sym front_last)
+
+    pub round_so : EndsRound (Continues z s v) (HasPinned z s v) z s result v
+    round_so = (
+      k.0,
+      ends_so (Continues z t u) (Continues z s v) z s t u v k.0 (first.same_by, first.made, first.joined) (ap (λ (p : Participant). p.past) first.participant) first.seen (sym (ap (λ (p : Participant). p.past) last.participant)) unpinned unpinned_still
+          (IsPin floor.number (numbers_of live)) (HasPinned z s v) pins_so result k.1,
+    )
+
+-- ---- rounds one after another
+
+module _ {D : Type 0} (z : SharedState D) (s t v : SeatState) (first : Continues z s t s.knows.participant) where
+  pinned_since : (floor : ℕ) (live : List ℕ) → HasPinned z t v floor live → HasPinned z s v floor live × (take floor v.knows.participant.seen ≡ take floor v.knows.participant.seen)
+  pinned_since floor live k = (
+    record {
+      seen = k.seen;
+      snapshot = k.snapshot;
+      others = k.others;
+      pinned = pinned_by z (seeing k.seen t) (seeing k.seen s) (take floor v.knows.participant.seen) k.snapshot k.others (sym first.same_by, sym first.made, sym first.joined) (ap (λ (p : Participant). record p { seen = k.seen }) (sym first.participant)) k.pinned;
+      floor_is = k.floor_is;
+      live_is = k.live_is;
+      within = k.within;
+      later = starts_on s.knows.participant.seen t.knows.participant.seen (take floor v.knows.participant.seen) first.seen k.later;
+    },
+    refl,
+  )
+
+  pub compacts_since : (result : Result Done MaintError) → EndsRound (Continues z t v) (HasPinned z t v) z t (Some result) v → Compacts z s result v
+  compacts_since result k = (
+    k.0,
+    compacts_so (Continues z t v) (Continues z s v) z s t v v k.0 (first.same_by, first.made, first.joined) (ap (λ (p : Participant). p.past) first.participant) first.seen refl (λ events second. continues_then z s t v s.knows.participant first (remembering events) (λ q h. refl) second) (continues_on z s t v s.knows.participant first)
+        (HasPinned z t v) (HasPinned z s v) pinned_since result k.1,
+  )

@@ -1,0 +1,207 @@
+-- The tables are still those that were decided, so what is kept of them may be installed.
+use Rattle.std.proofs.Common.{◌≡◌, inl, inr, ℕ, ◌≤◌, true, List, [], ◌∷◌, append-nil, length, length-append, take, refl, sym, subst, ap, ◌∙◌, None, arith}
+use Rattle.std.specs.List.{list_all}
+use Rattle.wp_model.specs.declared.entry.Entry.{Entry}
+use Rattle.wp_model.specs.declared.version.Version.{Version}
+use Rattle.wp_model.specs.Covered.{is_among}
+use Rattle.wp_model.specs.Flushed.{IsEditCovered, later_versions}
+use Rattle.wp_model.specs.Versions.{AreInOrder}
+use Rattle.wp_merge.specs.Merge.{joined}
+use Rattle.wp_merge.proofs.Sorted.{in_order_sorted}
+use Rattle.wp_session.specs.Tables.{retained, after_compaction}
+use Rattle.wp_table.specs.Table.{is_flushed}
+use Rattle.wp_core.specs.Changes.{sees, held_without}
+use Rattle.wp_core.specs.IsSound.{IsSound}
+use Rattle.wp_core.specs.Lists.{IsIn}
+use Rattle.wp_core.specs.Reading.{Registration}
+use Rattle.wp_core.specs.Sound.Actors.{StartsWith}
+use Rattle.wp_core.specs.Sound.Store.{NoneFlushed}
+use Rattle.wp_core.specs.Sound.Views.{guarded_by}
+use Rattle.wp_core.specs.Tables.{Content, StoreTable, Installed, store, installed}
+use Rattle.wp_core.specs.Turns.{store_turn}
+use Rattle.wp_core.specs.Views.{Fact, tables_stay, live_listed, nothing_flushed}
+use Rattle.wp_core.specs.World.{Participant, Actor, World}
+use Rattle.wp_rule.specs.Knows.{Noted, KnowsTables}
+use Rattle.wp_rule.specs.Words.{SawAll}
+use Rattle.wp_rule.proofs.Knows.{at_sound, noted_is}
+use Rattle.wp_guarded.specs.Edits.{EditsState}
+use Rattle.wp_guarded.specs.Stock.{StockState, store_table}
+use Rattle.wp_shared.specs.Seats.{SharedState, SeatState, place_at}
+use Rattle.wp_read.specs.Registers.{numbers_of}
+use Rattle.wp_commits.specs.Notes.{GoesOn}
+use Rattle.wp_commits.proofs.Goes.{goes_with, then}
+use Rattle.wp_keep.specs.declared.pair.Pair.{Pair}
+use Rattle.wp_maint.specs.Compaction.{HasDecided, KnowsLive, MayMerge, MayReplace}
+use Rattle.wp_maint.specs.Decided.{Decides, version_numbers}
+use Rattle.wp_maint.specs.Holding.{no_fact, seeing, HoldsEdits}
+use Rattle.wp_maint.proofs.Covering.{kept_is_covered, kept_few, versions_numbered}
+use Rattle.wp_maint.proofs.Pinning.{take_grown}
+use Rattle.wp_maint.proofs.Puts.{held_taken}
+use Rattle.wp_maint.proofs.Replaces.{length_front, front_starts, number_of}
+use Rattle.wp_maint.proofs.TakesTurns.{installed_are, stores_are}
+
+-- the seat has seen this history, and is as it was but for that
+pub goes_saw : (s u : SeatState) → (u.table ≡ s.table) × (u.by ≡ s.by) × (u.turns ≡ s.turns) → u.knows ≡ sees u.knows.participant.seen s.knows → GoesOn no_fact s.knows.held s.turns (seeing u.knows.participant.seen s) u
+goes_saw s u same rest = record {
+  same = goes_with (seeing u.knows.participant.seen s) u s.knows.held s.turns s.knows.notes same.0 same.1 same.2 rest;
+  noted = λ fact other there. subst (λ (a : Actor). Noted a fact) (sym rest) there;
+}
+
+-- what is live is known still, when more was seen
+pub live_later : (s u : Actor) (floor : ℕ) (live : List Registration) → KnowsLive s floor live → u.participant ≡ record s.participant { seen = u.participant.seen } → StartsWith u.participant.seen s.participant.seen → Noted u (live_listed floor (numbers_of live)) → KnowsLive u floor live
+live_later s u floor live k same grown listed = record {
+  within = let l = length-append s.participant.seen grown.0 in let q = ap (λ (h : List Entry). length h) grown.1 in let w = k.within in omega (arith, l, q, w);
+  registered = λ r there. (subst (λ (p : Participant). IsIn r p.registered) (sym same) (k.registered r there).0, (k.registered r there).1);
+  listed = listed;
+}
+
+module _ {D : Type 0} (z : SharedState D) (u : SeatState) (e : Installed) (stock : StockState) (held : u.knows.held ≡ store (store_table stock) ∷ installed e ∷ []) (settled : KnowsTables u.knows e.last) (floor : ℕ) (live : List Registration) (k : KnowsLive u.knows floor live)
+    (n : ℕ) (saw : SawAll (place_at z u.by) u.knows n) (low_tables : list_all (is_flushed e.last.flushed) e.last.versions ≡ true) (flushed_low : e.last.flushed ≤ floor) (given_up : stock.floor ≤ floor) where
+  abbrev w : World
+  w = saw.world
+
+  sound : IsSound w
+  sound = at_sound (place_at z u.by) u.knows w saw.there
+
+  edit_here : w.installed ≡ e
+  edit_here = installed_are z u w e saw.there (subst (IsIn (installed e)) (sym held) (inr (inl refl)))
+
+  store_here : w.store ≡ store_table stock
+  store_here = stores_are z u w (store_table stock) saw.there (subst (IsIn (store (store_table stock))) (sym held) (inl refl))
+
+  named : (w.store.tables ≡ e.last.versions) × (w.store.floor ≡ settled.1.0)
+  named = (noted_is (place_at z u.by) u.knows w (tables_stay e.last.versions settled.1.0) saw.there settled.1.1).is_so
+
+  gone : NoneFlushed w.store.memory w.installed.last.flushed
+  gone = (noted_is (place_at z u.by) u.knows w nothing_flushed saw.there settled.0).is_so
+
+  -- they are in order, as the store has them
+  pub tables_here : (store_table stock).tables ≡ e.last.versions
+  tables_here = ap (λ (t : StoreTable). t.tables) (sym store_here) ∙ named.0
+
+  in_order : AreInOrder e.last.versions
+  in_order = subst AreInOrder tables_here (in_order_sorted (joined stock.parts.tables))
+
+  floor_here : w.store.floor ≤ floor
+  floor_here = let q = ap (λ (t : StoreTable). t.floor) store_here in omega (arith, q, given_up)
+
+  replace_here : MayReplace u.knows e floor live e.last.versions
+  replace_here = record {
+    live_is = k;
+    gone = settled.0;
+    store_floor = settled.1.0;
+    named = settled.1.1;
+    given_up = let q = named.1 in let f = floor_here in omega (arith, q, f);
+    in_order = in_order;
+    low = low_tables;
+  }
+
+  abbrev front : List Entry
+  front = take floor u.knows.participant.seen
+
+  front_is : length front ≡ floor
+  front_is = length_front floor u.knows.participant.seen k.within
+
+  starts : StartsWith w.writes.history front
+  starts = front_starts floor u.knows.participant.seen w.writes.history (subst (λ (h : List Entry). StartsWith h u.knows.participant.seen) (sym saw.seen) ([], sym (append-nil u.knows.participant.seen)))
+
+  low : (m : ℕ) → is_among (numbers_of live) m ≡ true → m ≤ length front
+  low m among = let x = number_of live m among in let l = (k.registered x.r x.there).1 in let i = x.is in let f = front_is in omega (arith, l, i, f)
+
+  low_here : list_all (is_flushed w.installed.last.flushed) e.last.versions ≡ true
+  low_here = subst (λ (x : Installed). list_all (is_flushed x.last.flushed) e.last.versions ≡ true) (sym edit_here) low_tables
+
+  given_up_here : w.store.floor ≤ length front
+  given_up_here = let f = floor_here in let g = front_is in omega (arith, f, g)
+
+  length_here : length front ≤ length w.writes.history
+  length_here = let l = length-append front starts.0 in let q = ap (λ (h : List Entry). length h) starts.1 in omega (arith, l, q)
+
+  pub may_merge : MayMerge u.knows e floor live
+  may_merge = record {
+    replace = replace_here;
+    numbered = versions_numbered w sound front starts (numbers_of live) low e.last.versions named.0 in_order low_here gone given_up_here;
+    covered = subst (λ (x : Installed × List Entry). IsEditCovered x.1 (after_compaction front (numbers_of live) x.0.last)) (λ i. (edit_here i, saw.seen i))
+        (kept_is_covered w sound front starts (numbers_of live) low e.last.versions named.0 in_order low_here gone given_up_here length_here (ap (λ (x : Installed). x.last.versions) (sym edit_here)));
+    few = kept_few w sound front starts (numbers_of live) low e.last.versions named.0 in_order low_here gone given_up_here (let f = front_is in let q = ap (λ (x : Installed). x.last.flushed) edit_here in omega (arith, f, q, flushed_low));
+  }
+
+-- ---- the seat goes on
+
+-- what was decided is known still
+pub decided_still : (s t : Actor) (floor : Registration) (live : List Registration) (versions : List Version) (pairs : List Pair) → t.participant ≡ s.participant → ((fact : Fact) → guarded_by fact ≡ None → Noted s fact → Noted t fact)
+    → HasDecided s floor live versions pairs → HasDecided t floor live versions pairs
+decided_still s t floor live versions pairs same notes k = record {
+  live_is = record {
+    within = subst (λ (p : Participant). floor.number ≤ length p.seen) (sym same) k.live_is.within;
+    registered = λ r there. (subst (λ (p : Participant). IsIn r p.registered) (sym same) (k.live_is.registered r there).0, (k.live_is.registered r there).1);
+    listed = notes (live_listed floor.number (numbers_of live)) refl k.live_is.listed;
+  };
+  decided = subst (λ (p : Participant). Decides (take floor.number p.seen) (version_numbers versions) (numbers_of (floor ∷ live)) [] pairs) (sym same) k.decided;
+}
+
+-- the edit may be installed still
+pub may_merge_still : (s t : Actor) (e : Installed) (floor : ℕ) (live : List Registration) → t.participant ≡ s.participant → ((fact : Fact) → Noted s fact → Noted t fact) → MayMerge s e floor live → MayMerge t e floor live
+may_merge_still s t e floor live same notes k = let r = k.replace in record {
+  replace = record {
+    live_is = record {
+      within = subst (λ (p : Participant). floor ≤ length p.seen) (sym same) r.live_is.within;
+      registered = λ x there. (subst (λ (p : Participant). IsIn x p.registered) (sym same) (r.live_is.registered x there).0, (r.live_is.registered x there).1);
+      listed = notes (live_listed floor (numbers_of live)) r.live_is.listed;
+    };
+    gone = notes nothing_flushed r.gone;
+    store_floor = r.store_floor;
+    named = notes (tables_stay e.last.versions r.store_floor) r.named;
+    given_up = r.given_up;
+    in_order = r.in_order;
+    low = r.low;
+  };
+  numbered = k.numbered;
+  covered = subst (λ (p : Participant). IsEditCovered p.seen (after_compaction (take floor p.seen) (numbers_of live) e.last)) (sym same) k.covered;
+  few = subst (λ (p : Participant). length (retained (take floor p.seen) (numbers_of live) e.last) ≤ length (later_versions (take floor p.seen) 0)) (sym same) k.few;
+}
+
+-- ---- a look at the store
+
+module _ (s t u v : SeatState) (before : StoreTable) (e : Installed) (held : s.knows.held ≡ installed e ∷ []) (first : GoesOn no_fact (store before ∷ s.knows.held) (3 ∷ s.turns) s t) (second : GoesOn no_fact t.knows.held t.turns (seeing u.knows.participant.seen t) u) where
+  pub held_looked : u.knows.held ≡ store before ∷ installed e ∷ []
+  held_looked = ap (λ (x : SeatState). x.knows.held) second.same ∙ held_taken s t u v before before e held first
+
+  pub turns_looked : u.turns ≡ 3 ∷ s.turns
+  turns_looked = ap (λ (x : SeatState). x.turns) second.same ∙ ap (λ (x : SeatState). x.turns) first.same
+
+  module _ (third : GoesOn no_fact (held_without u.knows.held store_turn) s.turns u v) where
+    gave_back : GoesOn no_fact (installed e ∷ []) s.turns u v
+    gave_back = subst (λ (h : List Content). GoesOn no_fact (held_without h store_turn) s.turns u v) held_looked third
+
+    pub same_looked : v.knows.participant ≡ u.knows.participant
+    same_looked = ap (λ (x : SeatState). x.knows.participant) third.same
+
+    pub looked : GoesOn no_fact (installed e ∷ []) s.turns (seeing v.knows.participant.seen s) v
+    looked =
+        let h = u.knows.participant.seen in
+        let one : GoesOn no_fact (store before ∷ s.knows.held) (3 ∷ s.turns) (seeing h s) (seeing h t) = record { same = ap (seeing h) first.same; noted = λ fact other there. first.noted fact other there } in
+        let two = then no_fact (seeing h s) (seeing h t) u (store before ∷ s.knows.held) t.knows.held (3 ∷ s.turns) t.turns one second in
+        let three = then no_fact (seeing h s) u v t.knows.held (installed e ∷ []) t.turns s.turns two gave_back in
+        subst (λ (p : Participant). GoesOn no_fact (installed e ∷ []) s.turns (seeing p.seen s) v) (sym same_looked) three
+
+    pub grown_looked : StartsWith u.knows.participant.seen t.knows.participant.seen → StartsWith v.knows.participant.seen s.knows.participant.seen
+    grown_looked grown = subst (λ (x : Participant × Participant). StartsWith x.0.seen x.1.seen) (λ i. (sym same_looked i, ap (λ (x : SeatState). x.knows.participant) first.same i)) grown
+
+-- the seat that looked holds the tables still
+pub holds_looked : {D : Type 0} (z : SharedState D) (s u : SeatState) (e : EditsState) → GoesOn no_fact (installed e.table ∷ []) s.turns (seeing u.knows.participant.seen s) u → HoldsEdits z s e → HoldsEdits z u e
+holds_looked z s u e k h = record {
+  same_table = ap (λ (x : SeatState). x.table) k.same ∙ h.same_table;
+  live = ap (λ (x : SeatState). x.knows.live) k.same ∙ h.live;
+  held = ap (λ (x : SeatState). x.knows.held) k.same;
+  turns = ap (λ (x : SeatState). x.turns) k.same ∙ h.turns;
+  of_store = h.of_store;
+}
+
+-- what was decided is known still by a seat that has seen more
+pub decided_looked : (s u : SeatState) (held : List Content) (turns : List ℕ) → GoesOn no_fact held turns (seeing u.knows.participant.seen s) u → StartsWith u.knows.participant.seen s.knows.participant.seen
+    → (floor : Registration) (live : List Registration) (versions : List Version) (pairs : List Pair) → HasDecided s.knows floor live versions pairs → HasDecided u.knows floor live versions pairs
+decided_looked s u held turns goes grown floor live versions pairs k = record {
+  live_is = live_later s.knows u.knows floor.number live k.live_is (ap (λ (x : SeatState). x.knows.participant) goes.same) grown (goes.noted (live_listed floor.number (numbers_of live)) refl k.live_is.listed);
+  decided = subst (λ (h : List Entry). Decides h (version_numbers versions) (numbers_of (floor ∷ live)) [] pairs) (sym (take_grown floor.number s.knows.participant.seen u.knows.participant.seen k.live_is.within grown)) k.decided;
+}

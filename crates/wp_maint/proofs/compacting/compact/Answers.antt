@@ -1,0 +1,15 @@
+use Rattle.wp_maint.proofs.Pinning.{continues_none, continues_on}
+use Rattle.wp_maint.proofs.Rounds.{compacts_since}
+use Rattle.wp_maint.proofs.compacting.compact.Goals as goal
+
+pub loop-init : goal.loop-init
+loop-init g c = continues_none c.args.store.now c.args.seat.now c.requires
+
+pub try_compact-requires : goal.try_compact-requires
+try_compact-requires g c = c.loop.invariant.free
+
+pub returns-in-Some-try_compact : goal.returns-in-Some-try_compact
+returns-in-Some-try_compact g c = compacts_since c.args.store.now c.args.seat.now c.loop.seat c.try_compact.new.seat c.loop.invariant c.in-Some-try_compact.result c.in-Some-try_compact.ensures
+
+pub loop-preserved : goal.loop-preserved
+loop-preserved g c = continues_on c.args.store.now c.args.seat.now c.loop.seat c.try_compact.new.seat c.args.seat.now.knows.participant c.loop.invariant c.in_default.ensures.1

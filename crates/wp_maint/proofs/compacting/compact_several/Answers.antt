@@ -1,0 +1,48 @@
+use Rattle.std.proofs.Common.{[], ◌∷◌, Some, refl}
+use Rattle.wp_core.specs.Tables.{installed}
+use Rattle.wp_read.specs.Registers.{numbers_of}
+use Rattle.wp_maint.specs.Compaction.{IsPin}
+use Rattle.wp_maint.specs.Holding.{no_fact, seeing}
+use Rattle.wp_maint.proofs.Onward.{none_free, goes_seeing, settled_on}
+use Rattle.wp_maint.proofs.Rounds.{ends_then}
+use Rattle.wp_maint.proofs.StillTabled.{holds_looked, decided_looked}
+use Rattle.wp_maint.proofs.compacting.compact_several.Goals as goal
+
+pub merge-requires-clause-holds : goal.merge-requires-clause-holds
+merge-requires-clause-holds g c = holds_looked c.args.store.now c.args.seat.now c.are_unchanged.new.seat c.args.edits.now c.are_unchanged.ensures.goes c.requires.holds
+
+pub merge-requires-clause-decided : goal.merge-requires-clause-decided
+merge-requires-clause-decided g c =
+    decided_looked c.args.seat.now c.are_unchanged.new.seat (installed c.args.edits.now.table ∷ []) c.args.seat.now.turns c.are_unchanged.ensures.goes c.are_unchanged.ensures.grown c.args.pinned.now.floor c.args.pinned.now.live.items c.args.decided.now.versions c.args.decided.now.committed.items c.requires.decided
+
+pub returns-in-Ok-true-clause-says : goal.returns-in-Ok-true-clause-says
+returns-in-Ok-true-clause-says g c =
+    let s = c.args.seat.now in let u = c.are_unchanged.new.seat in let e = c.args.edits.now.table in let pins = IsPin c.args.pinned.now.floor.number (numbers_of c.args.pinned.now.live.items) in
+    let first = goes_seeing s u u.knows.participant.seen no_fact (installed e ∷ []) s.turns c.are_unchanged.ensures.goes c.are_unchanged.ensures.grown none_free in
+    ends_then c.args.store.now s u c.merge.new.seat e pins first (Some c.merge.result) c.merge.ensures.says
+
+pub returns-in-Ok-false-clause-holds : goal.returns-in-Ok-false-clause-holds
+returns-in-Ok-false-clause-holds g c = holds_looked c.args.store.now c.args.seat.now c.are_unchanged.new.seat c.args.edits.now c.are_unchanged.ensures.goes c.requires.holds
+
+pub returns-in-Ok-false-clause-settled : goal.returns-in-Ok-false-clause-settled
+returns-in-Ok-false-clause-settled g c =
+    let s = c.args.seat.now in let u = c.are_unchanged.new.seat in let e = c.args.edits.now.table in
+    settled_on (seeing u.knows.participant.seen s) u no_fact (installed e ∷ []) s.turns refl (λ versions floor. refl) c.are_unchanged.ensures.goes e.last c.requires.settled
+
+pub returns-in-Ok-false-clause-says : goal.returns-in-Ok-false-clause-says
+returns-in-Ok-false-clause-says g c =
+    let s = c.args.seat.now in let u = c.are_unchanged.new.seat in
+    goes_seeing s u u.knows.participant.seen no_fact (installed c.args.edits.now.table ∷ []) s.turns c.are_unchanged.ensures.goes c.are_unchanged.ensures.grown none_free
+
+pub returns-in-Err-clause-holds : goal.returns-in-Err-clause-holds
+returns-in-Err-clause-holds g c = holds_looked c.args.store.now c.args.seat.now c.are_unchanged.new.seat c.args.edits.now c.are_unchanged.ensures.goes c.requires.holds
+
+pub returns-in-Err-clause-settled : goal.returns-in-Err-clause-settled
+returns-in-Err-clause-settled g c =
+    let s = c.args.seat.now in let u = c.are_unchanged.new.seat in let e = c.args.edits.now.table in
+    settled_on (seeing u.knows.participant.seen s) u no_fact (installed e ∷ []) s.turns refl (λ versions floor. refl) c.are_unchanged.ensures.goes e.last c.requires.settled
+
+pub returns-in-Err-clause-says : goal.returns-in-Err-clause-says
+returns-in-Err-clause-says g c =
+    let s = c.args.seat.now in let u = c.are_unchanged.new.seat in
+    goes_seeing s u u.knows.participant.seen no_fact (installed c.args.edits.now.table ∷ []) s.turns c.are_unchanged.ensures.goes c.are_unchanged.ensures.grown none_free

@@ -1,0 +1,33 @@
+use Rattle.std.proofs.Common.{◌≤◌, List, [], ◌∷◌, length, sym, subst, ◌∙◌}
+use Rattle.wp_model.specs.declared.version.Version.{Version}
+use Rattle.wp_core.specs.Lists.{IsIn}
+use Rattle.wp_core.specs.World.{Participant}
+use Rattle.wp_read.specs.Registers.{numbers_of}
+use Rattle.wp_maint.specs.Decided.{AreSeen, Decides, version_numbers}
+use Rattle.wp_maint.proofs.Pinning.{continues_on}
+use Rattle.wp_maint.proofs.decided.decide_tables.Goals as goal
+
+pub decide_each-requires-clause-free : goal.decide_each-requires-clause-free
+decide_each-requires-clause-free g c = c.tabled.ensures.continues.free
+
+pub decide_each-requires-clause-pinned : goal.decide_each-requires-clause-pinned
+decide_each-requires-clause-pinned g c r there = subst (λ (p : Participant). IsIn r p.registered × (r.number ≤ length p.seen)) (sym c.tabled.ensures.same) (c.requires.pinned r there)
+
+pub decide_each-requires-clause-seen : goal.decide_each-requires-clause-seen
+decide_each-requires-clause-seen g c = subst (λ (y : Participant × List Version). AreSeen y.0.seen y.1) (λ j. (sym c.tabled.ensures.same j, sym c.as_slice.ensures.value j)) c.in_ok-versions.ensures.seen
+
+pub returns-in_err-committed-clause-continues : goal.returns-in_err-committed-clause-continues
+returns-in_err-committed-clause-continues g c = let s = c.args.seat.now in continues_on c.args.store.now s c.tabled.new.seat c.decide_each.new.seat s.knows.participant c.tabled.ensures.continues c.decide_each.ensures.continues
+
+pub returns-in_err-committed-clause-same : goal.returns-in_err-committed-clause-same
+returns-in_err-committed-clause-same g c = c.decide_each.ensures.same ∙ c.tabled.ensures.same
+
+pub returns-clause-continues : goal.returns-clause-continues
+returns-clause-continues g c = let s = c.args.seat.now in continues_on c.args.store.now s c.tabled.new.seat c.decide_each.new.seat s.knows.participant c.tabled.ensures.continues c.decide_each.ensures.continues
+
+pub returns-clause-same : goal.returns-clause-same
+returns-clause-same g c = c.decide_each.ensures.same ∙ c.tabled.ensures.same
+
+pub returns-clause-decided : goal.returns-clause-decided
+returns-clause-decided g c =
+    subst (λ (y : Participant × List Version). Decides y.0.seen (version_numbers y.1) (numbers_of (c.args.pinned.now.floor ∷ c.args.pinned.now.live.items)) [] c.in_ok-committed.committed.items) (λ j. (c.tabled.ensures.same j, c.as_slice.ensures.value j)) c.in_ok-committed.ensures.decided

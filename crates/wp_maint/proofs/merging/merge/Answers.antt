@@ -1,0 +1,20 @@
+use Rattle.wp_maint.proofs.Onward.{same_seat}
+use Rattle.wp_maint.proofs.Rounds.{kept_retained}
+use Rattle.wp_maint.proofs.merging.merge.Goals as goal
+
+pub merge_kept-requires-clause-kept : goal.merge_kept-requires-clause-kept
+merge_kept-requires-clause-kept g c =
+    let p = c.args.pinned.now in let d = c.args.decided.now in
+    kept_retained c.args.seat.now.knows p.floor p.live.items d.versions d.committed.items c.args.edits.now.table.last c.requires.decided c.requires.same c.in-Ok.kept c.in-Ok.ensures
+
+pub returns-in_default-clause-settled : goal.returns-in_default-clause-settled
+returns-in_default-clause-settled g c = let r = c.requires.may.replace in (r.gone, (r.store_floor, r.named))
+
+pub returns-in_default-clause-says : goal.returns-in_default-clause-says
+returns-in_default-clause-says g c = same_seat c.args.seat.now
+
+pub returns-in_default-with_capacity-clause-settled : goal.returns-in_default-with_capacity-clause-settled
+returns-in_default-with_capacity-clause-settled g c = let r = c.requires.may.replace in (r.gone, (r.store_floor, r.named))
+
+pub returns-in_default-with_capacity-clause-says : goal.returns-in_default-with_capacity-clause-says
+returns-in_default-with_capacity-clause-says g c = same_seat c.args.seat.now

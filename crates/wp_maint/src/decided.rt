@@ -1,0 +1,155 @@
+//! Which versions in tables are committed, where something is pinned.
+ghost use Rattle.std.specs.Prelude.{◌≡◌, ◌≤◌, true, [], ◌∷◌, length, IfOk, OnOk};
+ghost use Rattle.wp_core.specs.Lists.{IsIn};
+ghost use Rattle.wp_core.specs.Sound.Snapshots.{has_versions_at};
+ghost use Rattle.wp_shared.specs.Calls.{Continues};
+ghost use Rattle.wp_shared.specs.Seats.{IsFree};
+ghost use Rattle.wp_read.specs.Registers.{numbers_of};
+ghost use Rattle.wp_maint.specs.Decided.{ArePinned, AreSeen, Decides, version_numbers};
+
+use crate::turns::{give_stock, take_stock};
+use std::alloc::{AllocError, Global};
+use std::sync::Wait;
+use wp_keep::Pair;
+use wp_model::{Seq, Version, Versions};
+use wp_outside::Disk;
+use wp_read::{Pinned, Snapshot, visible};
+use wp_shared::{Seat, Shared};
+
+/// The versions in tables at some moment.
+#[derive(Drop)]
+pub(crate) struct Decided {
+    pub versions: Versions,
+    /// Which of their numbers are committed, and at which of the pinned ones.
+    pub committed: Vec<Pair>,
+}
+
+/// The versions in tables now.
+fn tabled<D: Disk + Drop, R: Wait>(
+    store: &Shared<D>,
+    rt: &R,
+    seat: &mut Seat<D>,
+) -> Result<Versions, AllocError>
+    requires { IsFree store.now.table seat.old }
+    ensures continues { Continues store.now seat.old seat.new seat.old.knows.participant }
+    ensures same { seat.new.knows.participant ≡ seat.old.knows.participant }
+    ensures seen { IfOk result (AreSeen seat.old.knows.participant.seen) }
+{
+    let stock = take_stock(store, rt, seat);
+    let versions = stock.in_tables();
+    give_stock(store, seat, stock);
+    versions
+}
+
+/// Decides the version with this number at the snapshot.
+fn decide_at<D: Disk + Drop, R: Wait>(
+    store: &Shared<D>,
+    rt: &R,
+    seat: &mut Seat<D>,
+    committed: &mut Vec<Pair>,
+    number: Seq,
+    snapshot: &Snapshot,
+) -> Result<(), AllocError>
+    requires free { IsFree store.now.table seat.old }
+    requires registered { IsIn snapshot.now seat.old.knows.participant.registered }
+    requires version { number ≤ snapshot.now.number → has_versions_at seat.old.knows.participant.seen number ≡ true }
+    ensures continues { Continues store.now seat.old seat.new seat.old.knows.participant }
+    ensures same { seat.new.knows.participant ≡ seat.old.knows.participant }
+    ensures decided { OnOk result (Decides seat.old.knows.participant.seen (number ∷ []) (snapshot.now.number ∷ []) committed.old.items committed.new.items) }
+{
+    if !visible(store, rt, seat, number, snapshot) {
+        return Ok(());
+    }
+    committed.push(Pair {
+        number,
+        commit: snapshot.number(),
+    })?;
+    Ok(())
+}
+
+/// Decides it at each of the snapshots.
+fn decide_at_each<D: Disk + Drop, R: Wait>(
+    store: &Shared<D>,
+    rt: &R,
+    seat: &mut Seat<D>,
+    committed: &mut Vec<Pair>,
+    number: Seq,
+    live: &[Snapshot],
+) -> Result<(), AllocError>
+    requires free { IsFree store.now.table seat.old }
+    requires pinned { ArePinned seat.old.knows.participant live.now }
+    requires version { number ≤ length seat.old.knows.participant.seen → has_versions_at seat.old.knows.participant.seen number ≡ true }
+    ensures continues { Continues store.now seat.old seat.new seat.old.knows.participant }
+    ensures same { seat.new.knows.participant ≡ seat.old.knows.participant }
+    ensures decided { OnOk result (Decides seat.old.knows.participant.seen (number ∷ []) (numbers_of live.now) committed.old.items committed.new.items) }
+{
+    for i in 0..live.len() {
+        decide_at(store, rt, seat, committed, number, &live[i])?;
+    }
+    Ok(())
+}
+
+/// Decides it at all that is pinned.
+fn decide_version<D: Disk + Drop, R: Wait>(
+    store: &Shared<D>,
+    rt: &R,
+    seat: &mut Seat<D>,
+    committed: &mut Vec<Pair>,
+    number: Seq,
+    pinned: &Pinned,
+) -> Result<(), AllocError>
+    requires free { IsFree store.now.table seat.old }
+    requires pinned { ArePinned seat.old.knows.participant (pinned.now.floor ∷ pinned.now.live.items) }
+    requires version { number ≤ length seat.old.knows.participant.seen → has_versions_at seat.old.knows.participant.seen number ≡ true }
+    ensures continues { Continues store.now seat.old seat.new seat.old.knows.participant }
+    ensures same { seat.new.knows.participant ≡ seat.old.knows.participant }
+    ensures decided { OnOk result (Decides seat.old.knows.participant.seen (number ∷ []) (numbers_of (pinned.now.floor ∷ pinned.now.live.items)) committed.old.items committed.new.items) }
+{
+    decide_at(store, rt, seat, committed, number, &pinned.floor)?;
+    decide_at_each(store, rt, seat, committed, number, &pinned.live)
+}
+
+/// Decides each of the versions at all that is pinned.
+fn decide_each<D: Disk + Drop, R: Wait>(
+    store: &Shared<D>,
+    rt: &R,
+    alloc: Global,
+    seat: &mut Seat<D>,
+    versions: &[Version],
+    pinned: &Pinned,
+) -> Result<Vec<Pair>, AllocError>
+    requires free { IsFree store.now.table seat.old }
+    requires pinned { ArePinned seat.old.knows.participant (pinned.now.floor ∷ pinned.now.live.items) }
+    requires seen { AreSeen seat.old.knows.participant.seen versions.now }
+    ensures continues { Continues store.now seat.old seat.new seat.old.knows.participant }
+    ensures same { seat.new.knows.participant ≡ seat.old.knows.participant }
+    ensures decided { IfOk result (λ committed. Decides seat.old.knows.participant.seen (version_numbers versions.now) (numbers_of (pinned.now.floor ∷ pinned.now.live.items)) [] committed.items) }
+{
+    let mut committed = Vec::new(alloc);
+    for i in 0..versions.len() {
+        decide_version(store, rt, seat, &mut committed, versions[i].number, pinned)?;
+    }
+    Ok(committed)
+}
+
+/// Decides the versions that are in tables now at all that is pinned. It takes no turn for longer than a look.
+pub(crate) fn decide_tables<D: Disk + Drop, R: Wait>(
+    store: &Shared<D>,
+    rt: &R,
+    alloc: Global,
+    seat: &mut Seat<D>,
+    pinned: &Pinned,
+) -> Result<Decided, AllocError>
+    requires free { IsFree store.now.table seat.old }
+    requires pinned { ArePinned seat.old.knows.participant (pinned.now.floor ∷ pinned.now.live.items) }
+    ensures continues { Continues store.now seat.old seat.new seat.old.knows.participant }
+    ensures same { seat.new.knows.participant ≡ seat.old.knows.participant }
+    ensures decided { IfOk result (λ d. Decides seat.old.knows.participant.seen (version_numbers d.versions) (numbers_of (pinned.now.floor ∷ pinned.now.live.items)) [] d.committed.items) }
+{
+    let versions = tabled(store, rt, seat)?;
+    let committed = decide_each(store, rt, alloc, seat, versions.as_slice(), pinned)?;
+    Ok(Decided {
+        versions,
+        committed,
+    })
+}

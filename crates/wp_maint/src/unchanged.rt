@@ -1,0 +1,95 @@
+//! Whether the tables are still those that were decided.
+ghost use Rattle.std.specs.Prelude.{◌≡◌, ◌↔◌, true, [], ◌∷◌, IfOk};
+ghost use Rattle.wp_core.specs.Sound.Actors.{StartsWith};
+ghost use Rattle.wp_core.specs.Tables.{installed};
+ghost use Rattle.wp_core.specs.Tables as table;
+ghost use Rattle.wp_guarded.specs.Stock.{store_table};
+ghost use Rattle.wp_rule.specs.Knows.{KnowsTables};
+ghost use Rattle.wp_commits.specs.Notes.{GoesOn};
+ghost use Rattle.wp_maint.specs.Compaction.{HasDecided, MayMerge};
+ghost use Rattle.wp_maint.specs.Holding.{no_fact, seeing, HoldsEdits};
+
+use crate::decided::Decided;
+use crate::turns::{give_stock, take_stock};
+use std::alloc::AllocError;
+use std::sync::Wait;
+use wp_guarded::{Edits, Stock};
+use wp_model::Version;
+use wp_outside::Disk;
+use wp_read::Pinned;
+use wp_shared::{Seat, Shared};
+
+fn is_equal(version: &Version, other: &Version) -> bool
+    ensures { (result ≡ true) ↔ (version.now ≡ other.now) }
+{
+    version.key == other.key && version.number == other.number && version.value == other.value
+}
+
+/// Whether both are the same list.
+fn are_equal(versions: &[Version], others: &[Version]) -> bool
+    ensures { result ≡ true → versions.now ≡ others.now }
+{
+    if versions.len() != others.len() {
+        return false;
+    }
+    for i in 0..versions.len() {
+        if !is_equal(&versions[i], &others[i]) {
+            return false;
+        }
+    }
+    true
+}
+
+/// Whether the tables have the versions that were decided, none of which is above the floor, and the store gave up nothing above it,
+/// under the store turn.
+fn is_unchanged<D: Disk + Drop>(
+    store: &Shared<D>,
+    seat: &mut Seat<D>,
+    edits: &Edits<D>,
+    stock: &Stock,
+    pinned: &Pinned,
+    decided: &Decided,
+) -> Result<bool, AllocError>
+    requires seat { seat.old.table ≡ store.now.table }
+    requires held { seat.old.knows.held ≡ table.store (store_table stock.now) ∷ installed edits.now.table ∷ [] }
+    requires settled { KnowsTables seat.old.knows edits.now.table.last }
+    requires decided { HasDecided seat.old.knows pinned.now.floor pinned.now.live.items decided.now.versions decided.now.committed.items }
+    ensures goes { GoesOn no_fact seat.old.knows.held seat.old.turns (seeing seat.new.knows.participant.seen seat.old) seat.new }
+    ensures grown { StartsWith seat.new.knows.participant.seen seat.old.knows.participant.seen }
+    ensures same { IfOk result (λ same. same ≡ true → decided.now.versions ≡ edits.now.table.last.versions) }
+    ensures may { IfOk result (λ same. same ≡ true → MayMerge seat.new.knows edits.now.table pinned.now.floor.number pinned.now.live.items) }
+{
+    let floor = pinned.floor.number();
+    store.published(seat);
+    if edits.flushed() > floor {
+        return Ok(false);
+    }
+    if stock.floor() > floor {
+        return Ok(false);
+    }
+    let versions = stock.in_tables()?;
+    Ok(are_equal(versions.as_slice(), decided.versions.as_slice()))
+}
+
+/// Whether the tables are still those that were decided, with no version above the floor. If so, a compaction may install its edit.
+pub(crate) fn are_unchanged<D: Disk + Drop, R: Wait>(
+    store: &Shared<D>,
+    rt: &R,
+    seat: &mut Seat<D>,
+    edits: &Edits<D>,
+    pinned: &Pinned,
+    decided: &Decided,
+) -> Result<bool, AllocError>
+    requires holds { HoldsEdits store.now seat.old edits.now }
+    requires settled { KnowsTables seat.old.knows edits.now.table.last }
+    requires decided { HasDecided seat.old.knows pinned.now.floor pinned.now.live.items decided.now.versions decided.now.committed.items }
+    ensures goes { GoesOn no_fact (installed edits.now.table ∷ []) seat.old.turns (seeing seat.new.knows.participant.seen seat.old) seat.new }
+    ensures grown { StartsWith seat.new.knows.participant.seen seat.old.knows.participant.seen }
+    ensures same { IfOk result (λ same. same ≡ true → decided.now.versions ≡ edits.now.table.last.versions) }
+    ensures may { IfOk result (λ same. same ≡ true → MayMerge seat.new.knows edits.now.table pinned.now.floor.number pinned.now.live.items) }
+{
+    let stock = take_stock(store, rt, seat);
+    let same = is_unchanged(store, seat, edits, &stock, pinned, decided);
+    give_stock(store, seat, stock);
+    same
+}
