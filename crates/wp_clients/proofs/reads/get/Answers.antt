@@ -1,0 +1,24 @@
+use Rattle.std.proofs.Common.{◌≡◌, Some, None, refl, sym, subst, ◌∙◌}
+use Rattle.wp_model.specs.Batch.{change_to}
+use Rattle.wp_text.specs.declared.reply.Reply.{Reply}
+use Rattle.wp_text.specs.declared.script.Command.TheVariants as command
+use Rattle.wp_session.specs.Plan.{read_reply}
+use Rattle.wp_clients.specs.Answers.{AnswersFrom}
+use Rattle.wp_clients.specs.Replies.{batch_in, own_reply}
+use Rattle.wp_clients.proofs.Clients.{answers_from}
+use Rattle.wp_clients.proofs.Reading.{keeps_at_once, own_answers, fresh_answers}
+use Rattle.wp_clients.proofs.reads.get.Goals as goal
+
+pub returns-in-Some-clause-answered : goal.returns-in-Some-clause-answered
+returns-in-Some-clause-answered g c =
+    let z = c.args.store.now in let s = c.args.seat.now in let txn = c.args.txn.now in let key = c.args.key.now in let said = c.in-Some.said in
+    let is : own_reply (change_to (batch_in txn) key) ≡ Some said = sym (c.in_ok-said.ensures {u = tt}) ∙ c.in-Some.is in
+    answers_from z s s txn txn (command.Get key) said (λ snapshots. own_answers z s s txn key snapshots c.requires said is refl (keeps_at_once z s c.requires.free))
+
+pub returns-clause-answered : goal.returns-clause-answered
+returns-clause-answered g c =
+    let z = c.args.store.now in let s = c.args.seat.now in let t = c.read_fresh.new.seat in let txn = c.args.txn.now in let key = c.args.key.now in
+    let value = c.in_ok-value.value in let at = c.in_ok-value.at in
+    let none : own_reply (change_to (batch_in txn) key) ≡ None = sym (c.in_ok-said.ensures {u = tt}) ∙ c.in_default.is in
+    subst (λ (r : Reply). AnswersFrom z s t txn txn (command.Get key) r) (sym c.read_reply.ensures)
+    (answers_from z s t txn txn (command.Get key) (read_reply value at) (λ snapshots. fresh_answers z s t txn key snapshots c.requires value at none c.in_ok-value.ensures.read))
