@@ -1,14 +1,7 @@
-pub mod Stores
-pub mod Said
-pub mod Board
-pub mod Sessions
-pub mod Explained
 pub mod Keeping
-pub mod LaterLemmas
-pub mod Asked
-pub mod Failing
-pub mod StepLemmas
-pub mod RunLemmas
 pub mod TextLemmas
+pub mod Whole
 pub mod Opened
+pub mod Crashed
+pub mod Stored
 pub mod TopLemmas

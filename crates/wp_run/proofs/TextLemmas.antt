@@ -5,7 +5,7 @@ use Rattle.wp_model.specs.declared.entry.Entry.{Entry}
 use Rattle.wp_text.specs.declared.script.Part.{Part}
 use Rattle.wp_text.specs.declared.reply.Reply.{Reply}
 use Rattle.wp_text.specs.Lines.{entry_line, entry_lines}
-use Rattle.wp_run.specs.Runs.{Answered, replies_of}
+use Rattle.wp_sessions.specs.Over.{Answered, replies_in, replies_of}
 use Rattle.wp_run.specs.Transcript.{client_text, client_lines}
 
 -- one more piece after what was appended so far
@@ -34,7 +34,6 @@ client_lines-push (p ∷ parts) (a ∷ sessions) part answers same =
 pub client_lines_more : (parts : List Part) (sessions : List Answered) (i : ℕ) (part : Part) (answered : Answered) → length parts ≡ length sessions → i < length parts → part ≡ get_or parts i part → answered ≡ get_or sessions i answered
     → client_lines (take (i + 1) parts) (replies_of (take (i + 1) sessions)) ≡ client_lines (take i parts) (replies_of (take i sessions)) ++ client_text part answered.replies
 client_lines_more parts sessions i part answered same lt part-is answered-is =
-    let given : Answered → List Reply = λ s. s.replies in
-    let fronts : length (take i parts) ≡ length (replies_of (take i sessions)) = omega (arith, length-map (take i sessions) given, length-take i parts, length-take i sessions) in
+    let fronts : length (take i parts) ≡ length (replies_of (take i sessions)) = omega (arith, length-map (take i sessions) replies_in, length-take i parts, length-take i sessions) in
     let within : i < length sessions = omega arith in
-    rw (take_more parts i part lt, ← part-is, take_more sessions i answered within, ← answered-is, map_push given (take i sessions) answered) (client_lines-push (take i parts) (replies_of (take i sessions)) part answered.replies fronts)
+    rw (take_more parts i part lt, ← part-is, take_more sessions i answered within, ← answered-is, map_push replies_in (take i sessions) answered) (client_lines-push (take i parts) (replies_of (take i sessions)) part answered.replies fronts)

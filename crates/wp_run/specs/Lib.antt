@@ -1,9 +1,7 @@
-pub mod Runs
-pub mod Later
-pub mod Answering
-pub mod Failed
 pub mod Transcript
 pub mod Use
 pub mod Status
+pub mod Crash
+pub mod Seating
 pub mod Serving
 pub mod Run

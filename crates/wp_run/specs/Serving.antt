@@ -1,8 +1,8 @@
 -- How a script was served over a store.
 use Rattle.std.specs.Prelude.{◌≡◌, ◌⊎◌, ℕ, ◌≤◌, Bool, true, false, List, [], unwrap_or}
+use Rattle.std.specs.List.{list_all, list_any}
 use Rattle.std.specs.Io.KnownBytes.{Appends}
 use Rattle.wp_model.specs.declared.entry.Entry.{Entry}
-use Rattle.wp_model.specs.Legal.{IsLegal}
 use Rattle.wp_outside.specs.Disk.{IfKnown}
 use Rattle.wp_outside.specs.Faults.{Rose}
 use Rattle.wp_outside.specs.Sink.{AppendsPrefix}
@@ -19,17 +19,13 @@ use Rattle.wp_open.specs.declared.opening.OpenError.{OpenError}
 use Rattle.wp_open.specs.declared.opening.OpenError.TheVariants as open_error
 use Rattle.wp_open.specs.Opens.{Opens, OpensTo, AllKnown}
 use Rattle.wp_open.specs.Refused.{IsCause, IsOutside, IsLeft}
-use Rattle.wp_engine.specs.Engine.{EngineState}
-use Rattle.wp_engine.specs.Stored.{fault_count, CrashLeaves, CrashOpens, AllOpen}
 use Rattle.wp_run.specs.declared.status.Status.{Status}
 use Rattle.wp_run.specs.declared.status.Status.TheVariants as status
-use Rattle.wp_session.specs.Asked.{AsksLog, AsksTables}
-use Rattle.wp_run.specs.Failed.{OneFaultAsks, IfStopped, IfHalted}
-use Rattle.wp_run.specs.Later.{Later, store_of}
-use Rattle.wp_run.specs.Runs.{Answered, AllRunSoFar, are_whole, replies_of}
-use Rattle.wp_run.specs.Transcript.{IsTranscript, text_of}
 use Rattle.wp_session.specs.Explains.{Faults, AreFirstParts, Explains}
-use Rattle.wp_run.specs.Use.{DisksUse, Device, SinkUse}
+use Rattle.wp_sessions.specs.Over.{Answered, replies_of}
+use Rattle.wp_run.specs.Crash.{CrashOpens}
+use Rattle.wp_run.specs.Transcript.{IsTranscript, text_of}
+use Rattle.wp_run.specs.Use.{DisksUse, SinkUse}
 
 -- ---- a served script
 
@@ -68,7 +64,7 @@ pub record AnswersScript (s : Serving) (faults : Faults) (text : List ℕ) : Typ
 
 -- Memory was wanting once the store was open. The first commands of each client had their replies, and these explain what
 -- is left: each entry is that of one of them.
-pub record BreaksOff (s : Serving) : Type 0 where
+pub record LacksMemory (s : Serving) : Type 0 where
   pub faults : Faults
   pub found : StoredState
   pub left : StoredState
@@ -77,7 +73,7 @@ pub record BreaksOff (s : Serving) : Type 0 where
   pub run : List Part
   pub first : AreFirstParts s.script run
   pub replies : List (List Reply)
-  pub explained : Explains s.limit faults run run found left failed replies
+  pub explained : Explains s.limit faults s.script run found left failed replies
 
 -- The store was not opened, for this reason. Where the devices are known and open to a history, the reason is none of theirs.
 pub record IsUnopened (s : Serving) (why : OpenError) : Type 0 where
@@ -98,27 +94,20 @@ Serves s status.Ok = (text : List ℕ) × AnswersScript s (faults_of 0 0) text �
 Serves s status.LogFault = (tables : ℕ) × (text : List ℕ) × AnswersScript s (faults_of 1 tables) text × Appends s.sink.before s.sink.after text
 Serves s status.TableFault = (text : List ℕ) × AnswersScript s (faults_of 0 1) text × Appends s.sink.before s.sink.after text
 Serves s status.SinkFault = Rose s.sink.faults_before s.sink.faults_after × (faults : Faults) × (text : List ℕ) × AnswersScript s faults text × AppendsPrefix s.sink.before s.sink.after text
-Serves s status.Memory = IsUnopened s open_error.Memory ⊎ BreaksOff s
+Serves s status.Memory = IsUnopened s open_error.Memory ⊎ LacksMemory s
 Serves s (status.Contents damage) = IsUnopened s (open_error.Contents damage)
 Serves s (status.OpenFault device) = IsUnopened s (open_error.OpenFault device)
 Serves s other = ⊥
 
--- ---- a store that is open
+-- ---- what the sessions of a script left
 
--- The clients were answered so, as far as memory allowed, from the one state to the other. If a device failed, it did so at
--- what one of them had asked for.
-pub record HaveRun (old new : EngineState) (script : List Part) (sessions : List Answered) : Type 0 where
-  pub ran : AllRunSoFar (store_of old) script sessions (store_of new)
-  pub stopped : IfStopped old new (λ entries. OneFaultAsks is_fault (AsksLog entries) (store_of old) script (replies_of sessions))
-  pub halted : IfHalted old new (λ edit. OneFaultAsks is_tables_fault (AsksTables edit) (store_of old) script (replies_of sessions))
+-- no session broke off
+abbrev pub are_whole : List Answered → Bool
+are_whole answered = list_all (λ a. a.whole) answered
 
--- the text of the replies that all clients were given, from the one state to the other
-abbrev pub IsTextOf : EngineState → EngineState → List Part → List ℕ → Type 0
-IsTextOf old new script text = (sessions : List Answered) × HaveRun old new script sessions × (are_whole sessions ≡ true) × (text ≡ text_of script (replies_of sessions) new.entries)
-
--- the clients were answered from the one state to the other, as far as memory allowed
-abbrev pub HasRun : EngineState → EngineState → List Part → Type 0
-HasRun old new script = (sessions : List Answered) × HaveRun old new script sessions
+-- a client was answered by such a fault
+abbrev pub one_fails : (Reply → Bool) → List Answered → Bool
+one_fails is_failed answered = list_any (λ a. list_any is_failed a.replies) answered
 
 -- how a text was written: whole, with the log failed, the tables alone, or neither; or in part
 abbrev pub IsWritten : (stopped halted : Bool) → SinkUse → List ℕ → Status → Type 0
@@ -128,19 +117,8 @@ IsWritten stopped halted sink text status.TableFault = (stopped ≡ false) × (h
 IsWritten stopped halted sink text status.SinkFault = Rose sink.faults_before sink.faults_after × AppendsPrefix sink.before sink.after text
 IsWritten stopped halted sink text other = ⊥
 
--- what became of the answers to a script, from the one state to the other
-abbrev pub HasEnded : EngineState → EngineState → List Part → SinkUse → Status → Type 0
-HasEnded old new script sink status.Memory = HasRun old new script
-HasEnded old new script sink end = (text : List ℕ) × IsTextOf old new script text × IsWritten new.stopped new.halted sink text end
-
--- how an open store answered a script, and how it left the devices
-pub record Finishes (old : EngineState) (script : List Part) (log manifest tables : Device) (sink : SinkUse) (end : Status) : Type 0 where
-  pub new : EngineState
-  pub later : Later old new
-  pub legal : IsLegal new.entries
-  pub stored : IfKnown log.moments (CrashLeaves (fault_count new.stopped) new.id new.entries)
-  pub opens : AllOpen new log.moments manifest.moments tables.moments
-  pub log_left : (log.moments ≡ new.moments) × (log.faults ≡ new.faults)
-  pub manifest_left : (manifest.moments ≡ new.manifest_moments) × (manifest.faults ≡ new.manifest_faults)
-  pub tables_left : (tables.moments ≡ new.tables_moments) × (tables.faults ≡ new.tables_faults)
-  pub ended : HasEnded old new script sink end
+-- What became of the replies: with the history they were written, or what could be of them; or memory was wanting for that, or in
+-- a session.
+abbrev pub HasEnded : List Part → List Answered → List Entry → SinkUse → Status → Type 0
+HasEnded script answered history sink status.Memory = Unit {0}
+HasEnded script answered history sink end = (are_whole answered ≡ true) × IsWritten (one_fails is_fault answered) (one_fails is_tables_fault answered) sink (text_of script (replies_of answered) history) end

@@ -16,17 +16,6 @@ pub record DiskUse : Type 1 where
 abbrev pub disk_use : List Moment → List Moment → ℕ → ℕ → Type 0 → DiskUse
 disk_use before after faults_before faults_after uncalled = record { before = before; after = after; faults_before = faults_before; faults_after = faults_after; uncalled = uncalled }
 
--- a device as a call left it
-pub record Device : Type 0 where
-  pub moments : List Moment
-  pub faults : ℕ
-
-abbrev pub device : List Moment → ℕ → Device
-device moments faults = record { moments = moments; faults = faults }
-
-abbrev pub left_of : DiskUse → Device
-left_of call = device call.after call.faults_after
-
 -- of the three devices of a store
 pub record DisksUse : Type 1 where
   pub log : DiskUse

@@ -1,86 +1,51 @@
-ghost use Rattle.std.specs.Prelude.{◌≡◌, ◌≤◌, ◌<◌, ◌^◌, IfOk, OnErr};
-ghost use Rattle.wp_run.specs.Later.{Later};
+//! A script served over a store.
+ghost use Rattle.std.specs.Prelude.{◌≡◌, ◌≤◌, ◌<◌, ◌^◌, length};
+ghost use Rattle.wp_outside.specs.Disk.{ReadsItself};
+ghost use Rattle.wp_run.specs.Seating.{IsSeating};
+ghost use Rattle.wp_run.specs.Serving.{Serves, HasEnded};
 ghost use Rattle.wp_run.specs.Status.{IsStatusOf, IsBeforeSink, stage_of};
-ghost use Rattle.wp_run.specs.Use.{IsDurable, device, disk_use, sink_use};
-ghost use Rattle.wp_run.specs.Serving.{IsTextOf, HasRun, IsWritten, Finishes, Serves};
+ghost use Rattle.wp_run.specs.Use.{IsDurable, disk_use, sink_use};
 
-use crate::clients::{are_whole, run_all};
+use crate::seating::Seating;
 use crate::status::Status;
-use crate::transcript::transcript;
-use std::alloc::{AllocError, Global};
-use wp_engine::Engine;
-use wp_model::Seq;
-use wp_open::{OpenError, OpenRefused, open_parts};
-use wp_outside::{Disk, Disks, Failed, Sink, write_all};
-use wp_session::laws::due_is_session;
+use crate::text::{log_failed, tables_failed, text_of, write_text};
+use std::alloc::Global;
+use std::sync::Wait;
+use std::thread::Threads;
+use wp_open::{OpenError, OpenRefused};
+use wp_outside::{Disk, Disks, Gate, Sink};
+use wp_sessions::{ScriptRun, run_script};
+use wp_shared::Shared;
 use wp_text::Part;
+use wp_words::Choice;
 
 /// How a script was served, and the store's devices.
-pub(crate) struct Served<D: Disk> {
+pub(crate) struct Served<D> {
     pub(crate) status: Status,
     pub(crate) disks: Disks<D>,
 }
 
-/// The text of what the script's clients are answered.
-fn answer_all<D: Disk>(
+/// Writes what the clients were answered, and the history. The text is built whole before its first byte is written.
+fn finish<D: Drop, K: Sink>(
     alloc: Global,
-    engine: &mut Engine<D>,
     parts: &[Part],
-) -> Result<Vec<u8>, AllocError>
-    ensures text { IfOk result (λ text. IsTextOf engine.old engine.new parts.now text.items) }
-    ensures err { OnErr result (HasRun engine.old engine.new parts.now) }
-    ensures later { Later engine.old engine.new }
-{
-    let sessions = run_all(alloc, engine, parts)?;
-    if !are_whole(&sessions) {
-        return Err(AllocError);
-    }
-    let text = transcript(alloc, parts, &sessions, engine.history())?;
-    Ok(text)
-}
-
-/// Writes the text, where there was memory for it. The status says whether it was written whole, and else what failed
-/// before: the log, or the tables.
-fn write_text<K: Sink>(
-    sink: &mut K,
-    text: Result<Vec<u8>, AllocError>,
-    stopped: bool,
-    halted: bool,
-) -> Status
-    ensures written { IfOk text (λ text. IsWritten stopped halted (sink_use (K.contents sink.old) (K.contents sink.new) (K.faults sink.old) (K.faults sink.new)) text.items result) }
-    ensures unwritten { OnErr text (result ≡ Status.Memory) }
-    ensures silent { IsBeforeSink (stage_of result) → sink.new ≡ sink.old }
-    ensures later { K.faults sink.old ≤ K.faults sink.new }
-{
-    let Ok(text) = text else {
-        return Status::Memory;
-    };
-    match write_all(sink, &text) {
-        Ok(()) if stopped => Status::LogFault,
-        Ok(()) if halted => Status::TableFault,
-        Ok(()) => Status::Ok,
-        Err(Failed) => Status::SinkFault,
-    }
-}
-
-/// Answers the script's clients over an open store. The text is built whole before its first byte is written.
-fn finish<D: Disk, K: Sink>(
-    alloc: Global,
-    mut engine: Engine<D>,
-    parts: &[Part],
+    run: ScriptRun<D>,
     sink: &mut K,
 ) -> Served<D>
-    ensures finishes { Finishes engine parts.now (device (D.moments result.disks.log) (D.faults result.disks.log))
-        (device (D.moments result.disks.manifest) (D.faults result.disks.manifest)) (device (D.moments result.disks.tables) (D.faults result.disks.tables))
-        (sink_use (K.contents sink.old) (K.contents sink.new) (K.faults sink.old) (K.faults sink.new)) result.status }
+    requires { length parts.now ≡ length run.answers.items }
+    ensures disks { result.disks ≡ run.disks }
+    ensures ended { HasEnded parts.now run.answers.items run.history.entries (sink_use (K.contents sink.old) (K.contents sink.new) (K.faults sink.old) (K.faults sink.new)) result.status }
     ensures silent { IsBeforeSink (stage_of result.status) → sink.new ≡ sink.old }
     ensures sink_later { K.faults sink.old ≤ K.faults sink.new }
 {
-    let text = answer_all(alloc, &mut engine, parts);
-    let stopped = engine.is_stopped();
-    let halted = engine.is_halted();
-    engine.history();
-    let disks = engine.into_disks();
+    let ScriptRun {
+        answers,
+        history,
+        disks,
+    } = run;
+    let text = text_of(alloc, parts, &answers, &history);
+    let stopped = log_failed(&answers);
+    let halted = tables_failed(&answers);
     let status = write_text(sink, text, stopped, halted);
     Served { status, disks }
 }
@@ -95,19 +60,29 @@ fn status_of(why: OpenError) -> Status
     }
 }
 
-/// Opens the store on the disks, or makes it with this id, and answers the script's clients.
-pub(crate) fn serve<D: Disk, K: Sink>(
+/// For the proof alone: the tables' device as it reads is one of its images.
+fn reads_itself<D: Disk>(disks: &Disks<D>)
+    ensures { ReadsItself (D.moments disks.now.tables) }
+{
+    let _ = &disks.tables;
+}
+
+/// Opens the store on the disks, or makes it, as the choice says, and answers the script's clients.
+pub(crate) fn serve<R: Threads + Wait + Sync, D: Disk + Drop + Send, K: Sink, G: Gate + Sync>(
+    rt: &R,
     alloc: Global,
-    limit: Seq,
-    id: u32,
+    choice: Choice,
     parts: &[Part],
+    seating: Seating<D>,
     disks: Disks<D>,
     sink: &mut K,
+    gate: &G,
 ) -> Served<D>
-    requires { limit < 2 ^ 32 }
+    requires ranges { (choice.bits ≤ 16) × (1 ≤ choice.limit) × (choice.limit < 2 ^ 32) }
+    requires seating { IsSeating parts.now seating.client seating.room }
     ensures serves { Serves (record {
-      limit = limit;
-      id = id;
+      limit = choice.limit;
+      id = choice.id;
       script = parts.now;
       disks = record {
         log = disk_use (D.moments disks.log) (D.moments result.disks.log) (D.faults disks.log) (D.faults result.disks.log) (result.disks.log ≡ disks.log);
@@ -124,9 +99,13 @@ pub(crate) fn serve<D: Disk, K: Sink>(
     ensures silent { IsBeforeSink (stage_of result.status) → sink.new ≡ sink.old }
     ensures sink_later { K.faults sink.old ≤ K.faults sink.new }
 {
-    due_is_session();
-    match open_parts(alloc, disks, id) {
-        Ok(opened) => finish(alloc, Engine::new(alloc, opened, limit), parts, sink),
+    reads_itself(&disks);
+    let Seating { client, room } = seating;
+    match Shared::open(alloc, client, disks, choice.bits, choice.limit, choice.id) {
+        Ok((store, first)) => {
+            let run = run_script(rt, alloc, store, first, gate, parts, room);
+            finish(alloc, parts, run, sink)
+        }
         Err(OpenRefused { disks, why }) => {
             let status = status_of(why);
             Served { status, disks }

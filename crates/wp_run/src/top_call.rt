@@ -4,6 +4,7 @@ ghost use Rattle.wp_run.specs.Run.{Call, Ends, IsChosen, IsReadAs};
 ghost use Rattle.wp_run.specs.Use.{IsDurable, disk_use, source_use, sink_use};
 ghost use Rattle.wp_run.specs.Status.{LeavesUncalled, stage_of};
 
+use crate::seating::Seating;
 use crate::serve::{Served, serve};
 use crate::status::Status;
 use std::alloc::{AllocError, Global};
@@ -47,15 +48,16 @@ fn script_of<S: Source>(alloc: Global, action: Action, source: &mut S) -> Result
     }
 }
 
-/// Runs the program on the words of its command line, of which the first is its name.
-pub fn run<R: Threads + Wait + Sync, D: Disk + Send, S: Source, K: Sink, G: Gate + Sync>(
-    _rt: &R,
+/// Runs the program on the words of its command line, of which the first is its name. Each client of the script runs on a thread of its
+/// own where one can be made, and passes the gate before each of its commands.
+pub fn run<R: Threads + Wait + Sync, D: Disk + Drop + Send, S: Source, K: Sink, G: Gate + Sync>(
+    rt: &R,
     alloc: Global,
     words: &[String],
     disks: Disks<D>,
     source: &mut S,
     sink: &mut K,
-    _gate: &G,
+    gate: &G,
 ) -> Ended<D>
     // How the call ended and why, what was written and what the devices store, by the status.
     ensures ends { Ends (record {
@@ -96,13 +98,14 @@ pub fn run<R: Threads + Wait + Sync, D: Disk + Send, S: Source, K: Sink, G: Gate
         Ok(script) => script,
         Err(status) => return Ended { status, disks },
     };
-    let Served { status, disks } = serve(
-        alloc,
-        choice.limit,
-        choice.id,
-        script.as_slice(),
-        disks,
-        sink,
-    );
+    let parts = script.as_slice();
+    let seating = match Seating::new(alloc, parts) {
+        Ok(seating) => seating,
+        Err(AllocError) => {
+            let status = Status::Memory;
+            return Ended { status, disks };
+        }
+    };
+    let Served { status, disks } = serve(rt, alloc, choice, parts, seating, disks, sink, gate);
     Ended { status, disks }
 }

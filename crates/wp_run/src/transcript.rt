@@ -1,13 +1,13 @@
 ghost use Rattle.std.specs.Prelude.{◌≡◌, ◌++◌, ◌≤◌, ◌<◌, ◌^◌, length, IfOk, OnOk};
 ghost use Rattle.std.specs.List.{flat_map};
 ghost use Rattle.wp_text.specs.Lines as text;
-ghost use Rattle.wp_run.specs.Runs.{replies_of};
+ghost use Rattle.wp_sessions.specs.Over.{replies_of};
 ghost use Rattle.wp_run.specs.Transcript.{client_text, client_lines, text_of};
 
-use crate::client::Answers;
 use std::alloc::{AllocError, Global};
 use wp_history::History;
 use wp_model::Entry;
+use wp_sessions::Answered;
 use wp_text::{Part, Reply, client_line, end_line, history_line, reply_line};
 
 fn push_replies(out: &mut Vec<u8>, replies: &[Reply]) -> Result<(), AllocError>
@@ -26,7 +26,7 @@ fn push_client(out: &mut Vec<u8>, part: &Part, replies: &[Reply]) -> Result<(), 
     push_replies(out, replies)
 }
 
-fn push_clients(out: &mut Vec<u8>, parts: &[Part], sessions: &[Answers]) -> Result<(), AllocError>
+fn push_clients(out: &mut Vec<u8>, parts: &[Part], sessions: &[Answered]) -> Result<(), AllocError>
     requires { length parts.now ≡ length sessions.now }
     ensures { OnOk result (out.new.items ≡ out.old.items ++ client_lines parts.now (replies_of sessions.now)) }
 {
@@ -49,7 +49,7 @@ fn push_history(out: &mut Vec<u8>, entries: &[Entry]) -> Result<(), AllocError>
 pub(crate) fn transcript(
     alloc: Global,
     parts: &[Part],
-    sessions: &[Answers],
+    sessions: &[Answered],
     history: &History,
 ) -> Result<Vec<u8>, AllocError>
     requires { length parts.now ≡ length sessions.now }

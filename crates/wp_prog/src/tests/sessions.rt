@@ -8,7 +8,7 @@ use std::thread::Threads;
 
 pub(super) const RUN: &[&str] = &["wp", "run"];
 
-const NO_CACHE: &[&str] = &["wp", "run", "--bits", "0"];
+pub(super) const NO_CACHE: &[&str] = &["wp", "run", "--bits", "0"];
 
 const LIMIT_3: &[&str] = &["wp", "run", "--limit", "3"];
 
@@ -260,31 +260,6 @@ fn sessions_are_answered_as_worked(rt: HostRuntime) -> Result<(), Fail> {
             transcript_of(alloc, worked)?.as_slice(),
             "script {index}"
         );
-    }
-    Ok(())
-}
-
-/// Clients one after another, and their transcript.
-const SUCCEEDING: [(&str, &str); 3] = [
-    (
-        "client a\nbegin t\nput k 1\nprepare\nclient b\nput k 2\ntake t\ncommit\nget k\n",
-        "client a\nbegun\nheld\nprepare @1\nclient b\nbusy txn t\ntook\ncommit @2\nget 1 @2\nhistory\n1 prepare t put k 1\n2 commit 1\nend 2 0\n",
-    ),
-    (
-        "client a\nbegin t\nput k 1\nclient b\nput k 2\n",
-        "client a\nbegun\nheld\nclient b\nput @1\nhistory\n1 write put k 2\nend 1 0\n",
-    ),
-    (
-        "client a\nput k 1\ntell l\nclient b\nhear m\nhear l\n",
-        "client a\nput @1\ntold @1\nclient b\nsilent m\nheard @1\nhistory\n1 write put k 1\nend 1 0\n",
-    ),
-];
-
-#[test]
-fn a_client_leaves_what_it_prepared_and_nothing_open(rt: HostRuntime) -> Result<(), Fail> {
-    for (commands, text) in SUCCEEDING {
-        let seen = seen(&rt, &script(commands, &[]))?;
-        assert_eq!(rt; seen.text.as_slice(), text.as_bytes());
     }
     Ok(())
 }

@@ -1,19 +1,8 @@
-use Rattle.wp_run.proofs.TopLemmas.{answers_end}
+use Rattle.wp_run.proofs.TopLemmas.{text_ends}
 use Rattle.wp_run.proofs.serve.finish.Goals as goal
 
-pub returns-clause-finishes : goal.returns-clause-finishes
-returns-clause-finishes g c =
-    let new = c.answer_all-text.new.engine in
-    record {
-      new = new;
-      later = c.answer_all-text.ensures.later;
-      legal = c.history.ensures.legal;
-      stored = c.into_disks-disks.ensures.stored;
-      opens = c.into_disks-disks.ensures.opens;
-      log_left = c.into_disks-disks.ensures.log;
-      manifest_left = c.into_disks-disks.ensures.manifest;
-      tables_left = c.into_disks-disks.ensures.tables;
-      ended = answers_end c.args.engine new c.args.parts.now c.answer_all-text.result _ _ _ c.write_text-status.result
-          c.answer_all-text.ensures.text c.answer_all-text.ensures.err c.is_stopped-stopped.ensures c.is_halted-halted.ensures
-          c.write_text-status.ensures.written c.write_text-status.ensures.unwritten;
-    }
+pub returns-clause-ended : goal.returns-clause-ended
+returns-clause-ended g c =
+    text_ends c.args.parts.now c.args.run.answers.items c.args.run.history.entries c.text_of-text.result _ _ _ c.write_text-status.result
+    (rw c.deref.ensures.value at c.text_of-text.ensures.whole) (rw c.deref.ensures.value at c.text_of-text.ensures.text) (rw c.deref-2.ensures.value at c.log_failed-stopped.ensures) (rw c.deref-3.ensures.value at c.tables_failed-halted.ensures)
+    c.write_text-status.ensures.written c.write_text-status.ensures.unwritten

@@ -1,40 +1,45 @@
-use Rattle.std.proofs.Common.{ap}
+use Rattle.std.proofs.Common.{sym, subst, ap}
+use Rattle.wp_outside.specs.declared.disk.Disks.{Disks}
+use Rattle.wp_shared.specs.Devices.{devices_of}
+use Rattle.wp_sessions.specs.Explained.{HaveRun}
 use Rattle.wp_run.proofs.Opened.{refused_fronts}
-use Rattle.wp_run.proofs.TopLemmas.{serves_opened, durable_opened, serves_refused}
+use Rattle.wp_run.proofs.Stored.{is_durable}
+use Rattle.wp_run.proofs.TopLemmas.{serves_run, serves_refused, is_first}
+use Rattle.wp_run.proofs.Whole.{as_many}
 use Rattle.wp_run.proofs.serve.serve.Goals as goal
 
-pub returns-in-Err-clause-serves : goal.returns-in-Err-clause-serves
-returns-in-Err-clause-serves g c =
-    let refused = c.in-Err.field-0 in
-    serves_refused refused.why c.status_of-status.result _ c.status_of-status.ensures
-    (record { cause = c.in-Err.ensures.cause; only = c.in-Err.ensures.only; left = c.in-Err.ensures.left; survives = c.in-Err.ensures.log_survives })
+pub run_script-run-requires-clause-first : goal.run_script-run-requires-clause-first
+run_script-run-requires-clause-first g c κs within = is_first c.in-Ok.store c.args.parts.now c.args.seating.client c.in-Ok.first c.in-Ok.ensures.seat c.requires.seating.0
 
-pub returns-in-Err-clause-durable : goal.returns-in-Err-clause-durable
-returns-in-Err-clause-durable g c =
-    let refused = c.in-Err.field-0 in
-    record {
-      log = c.in-Err.ensures.log_durable;
-      manifest = c.in-Err.ensures.manifest_durable;
-      tables = refused_fronts _ _ _ _ _ _ _ _ refused.why (λ e. ap (λ disk. g.D.Disk.moments disk) e) (g.met.D.Disk.itself c.args.disks.tables) c.in-Err.ensures.left;
-      log_later = c.in-Err.ensures.log_later;
-      manifest_later = c.in-Err.ensures.manifest_later;
-      tables_later = c.in-Err.ensures.tables_later;
-    }
+pub finish-requires : goal.finish-requires
+finish-requires g c = as_many c.args.parts.now c.run_script-run.ensures.run c.run_script-run.result.answers.items c.run_script-run.ensures.whole
 
 pub returns-in-Ok-clause-serves : goal.returns-in-Ok-clause-serves
 returns-in-Ok-clause-serves g c =
-    let opened = c.in-Ok.opened in
-    serves_opened c.due_is_session.ensures _ opened.wal opened.history.entries opened.manifest _ _ opened.store c.finish.result.status
-    c.in-Ok.ensures.opened c.in-Ok.ensures.opens c.in-Ok.ensures.log_later c.in-Ok.ensures.manifest_later c.in-Ok.ensures.tables_later
-    (rw c.new.ensures at c.finish.ensures.finishes)
+    let left = c.run_script-run.result in
+    let ran = subst (λ (ds : Disks g.row.D.Denot). HaveRun c.in-Ok.store c.args.parts.now left.answers.items left.history.entries (devices_of g.D.Disk.moments g.D.Disk.faults ds)) (sym c.finish.ensures.disks) c.run_script-run.ensures in
+    serves_run c.in-Ok.store _ left.answers.items left.history.entries c.in-Ok.ensures.store.1 c.in-Ok.ensures.opened ran c.finish.result.status c.finish.ensures.ended
 
 pub returns-in-Ok-clause-durable : goal.returns-in-Ok-clause-durable
 returns-in-Ok-clause-durable g c =
-    let opened = c.in-Ok.opened in
-    durable_opened _ opened.wal opened.history.entries opened.manifest _ _ opened.store c.finish.result.status
-    c.in-Ok.ensures.opened (g.met.D.Disk.itself c.args.disks.tables) c.in-Ok.ensures.log_durable c.in-Ok.ensures.manifest_durable
-    c.in-Ok.ensures.log_later c.in-Ok.ensures.manifest_later c.in-Ok.ensures.tables_later
-    (rw c.new.ensures at c.finish.ensures.finishes)
+    let left = c.run_script-run.result in
+    let ran = subst (λ (ds : Disks g.row.D.Denot). HaveRun c.in-Ok.store c.args.parts.now left.answers.items left.history.entries (devices_of g.D.Disk.moments g.D.Disk.faults ds)) (sym c.finish.ensures.disks) c.run_script-run.ensures in
+    is_durable c.args.choice.id _ c.in-Ok.ensures.opened ran.ended c.reads_itself.ensures
 
-pub new-requires-clause-opened : goal.new-requires-clause-opened
-new-requires-clause-opened g c = (_, _, _, _, c.in-Ok.ensures.opened)
+pub returns-in-Err-clause-serves : goal.returns-in-Err-clause-serves
+returns-in-Err-clause-serves g c =
+    let refused = c.in-Err.ensures.refused in
+    serves_refused c.in-Err.field-0.why c.status_of-status.result _ c.status_of-status.ensures
+    (record { cause = refused.cause; only = refused.only; left = refused.left; survives = refused.log_survives })
+
+pub returns-in-Err-clause-durable : goal.returns-in-Err-clause-durable
+returns-in-Err-clause-durable g c =
+    let refused = c.in-Err.ensures.refused in
+    record {
+      log = refused.log_durable;
+      manifest = refused.manifest_durable;
+      tables = refused_fronts _ _ _ _ _ _ _ _ c.in-Err.field-0.why (λ e. ap (λ disk. g.D.Disk.moments disk) e) c.reads_itself.ensures refused.left;
+      log_later = refused.log_later;
+      manifest_later = refused.manifest_later;
+      tables_later = refused.tables_later;
+    }

@@ -1,9 +1,0 @@
-pub mod MemoryLemmas
-pub mod LogLemmas
-pub mod TableLemmas
-pub mod OpenLemmas
-pub mod VersionLemmas
-pub mod FlushLemmas
-pub mod SetLemmas
-pub mod CompactLemmas
-pub mod ThroughoutLemmas

@@ -1,0 +1,106 @@
+//! The text of what the clients were answered.
+ghost use Rattle.std.specs.Prelude.{◌≡◌, ◌≤◌, true, length, IfOk, OnErr};
+ghost use Rattle.std.specs.List.{list_any};
+ghost use Rattle.wp_session.specs.Kind.{is_fault, is_tables_fault};
+ghost use Rattle.wp_sessions.specs.Over.{replies_of};
+ghost use Rattle.wp_run.specs.Serving.{are_whole, one_fails, IsWritten};
+ghost use Rattle.wp_run.specs.Status.{IsBeforeSink, stage_of};
+ghost use Rattle.wp_run.specs.Transcript.{text_of};
+ghost use Rattle.wp_run.specs.Use.{sink_use};
+
+use crate::status::Status;
+use crate::transcript::transcript;
+use std::alloc::{AllocError, Global};
+use wp_history::History;
+use wp_outside::{Failed, Sink, write_all};
+use wp_sessions::Answered;
+use wp_text::{Part, Reply};
+
+/// Whether no session broke off.
+fn are_whole(answers: &[Answered]) -> bool
+    ensures { result ≡ are_whole answers.now }
+{
+    answers.iter().all(|answered| answered.is_whole())
+}
+
+fn is_log_fault(reply: &Reply) -> bool
+    ensures { result ≡ is_fault reply.now }
+{
+    matches!(reply, Reply::FaultLog)
+}
+
+fn is_tables_fault(reply: &Reply) -> bool
+    ensures { result ≡ is_tables_fault reply.now }
+{
+    matches!(reply, Reply::FaultTables)
+}
+
+fn tells_log_fault(answered: &Answered) -> bool
+    ensures { result ≡ list_any is_fault answered.now.replies }
+{
+    answered.replies().iter().any(|reply| is_log_fault(reply))
+}
+
+fn tells_tables_fault(answered: &Answered) -> bool
+    ensures { result ≡ list_any is_tables_fault answered.now.replies }
+{
+    answered
+        .replies()
+        .iter()
+        .any(|reply| is_tables_fault(reply))
+}
+
+/// Whether a client was answered that the log failed.
+pub(crate) fn log_failed(answers: &[Answered]) -> bool
+    ensures { result ≡ one_fails is_fault answers.now }
+{
+    answers.iter().any(|answered| tells_log_fault(answered))
+}
+
+/// Whether a client was answered that a device of the tables failed.
+pub(crate) fn tables_failed(answers: &[Answered]) -> bool
+    ensures { result ≡ one_fails is_tables_fault answers.now }
+{
+    answers.iter().any(|answered| tells_tables_fault(answered))
+}
+
+/// The text, where no session broke off.
+pub(crate) fn text_of(
+    alloc: Global,
+    parts: &[Part],
+    answers: &[Answered],
+    history: &History,
+) -> Result<Vec<u8>, AllocError>
+    requires { length parts.now ≡ length answers.now }
+    ensures whole { IfOk result (λ text. are_whole answers.now ≡ true) }
+    ensures text { IfOk result (λ text. text.items ≡ text_of parts.now (replies_of answers.now) history.now.entries) }
+{
+    if !are_whole(answers) {
+        return Err(AllocError);
+    }
+    transcript(alloc, parts, answers, history)
+}
+
+/// Writes the text, where there is one. The status says whether it was written whole, and else what failed before: the log, or the
+/// tables.
+pub(crate) fn write_text<K: Sink>(
+    sink: &mut K,
+    text: Result<Vec<u8>, AllocError>,
+    stopped: bool,
+    halted: bool,
+) -> Status
+    ensures written { IfOk text (λ text. IsWritten stopped halted (sink_use (K.contents sink.old) (K.contents sink.new) (K.faults sink.old) (K.faults sink.new)) text.items result) }
+    ensures unwritten { OnErr text (result ≡ Status.Memory) }
+    ensures silent { IsBeforeSink (stage_of result) → sink.new ≡ sink.old }
+    ensures later { K.faults sink.old ≤ K.faults sink.new }
+{
+    let Ok(text) = text else {
+        return Status::Memory;
+    };
+    match write_all(sink, &text) {
+        Ok(()) if stopped => Status::LogFault,
+        Ok(()) if halted => Status::TableFault,
+        Ok(()) => Status::Ok,
+        Err(Failed) => Status::SinkFault,
+    }
+}
