@@ -1,0 +1,106 @@
+"""One client alone: what is due at each of its commands, when nobody else changes the store."""
+from dataclasses import dataclass, field, replace
+
+from .history import Edit, History, has, in_order, retained
+from .session import Client, after, asked, is_at, refusal
+from .texts import need
+
+
+@dataclass
+class Alone:
+    """The store as one client finds it, when nobody else changes it."""
+
+    history: History
+    edit: Edit
+    limit: int
+    stopped: bool = False
+    halted: bool = False
+    board: dict = field(default_factory=dict)
+
+    def logs(self, client, command, answer):
+        needed = len(asked(client, command))
+        if self.stopped:
+            return ("stopped", len(self.history))
+        return ("full", len(self.history), self.limit) if len(self.history) + needed > self.limit else answer
+
+    def due(self, client, command):
+        """The reply that is due where no device fails."""
+        kind, published = command[0], len(self.history)
+        refused = refusal(client, command)
+        if refused is not None:
+            return refused
+        if kind in ("put", "del"):
+            holder = self.history.holder(command[1])
+            if holder is not None:
+                return ("busy txn", self.history.undecided()[holder])
+            return ("held",) if client.state == "open" else self.logs(client, command, (kind, published + 1))
+        if kind == "get":
+            return self.due_read(client, command)
+        if kind in ("begin", "take"):
+            named = self.history.named(command[1]) is not None
+            if kind == "begin":
+                return ("taken", command[1]) if named else ("begun",)
+            return ("took",) if named else ("unknown", command[1], published)
+        if kind in ("prepare", "commit"):
+            return self.logs(client, command, (kind, published + 1))
+        if kind == "rollback":
+            return ("dropped",) if client.state == "open" else self.logs(client, command, ("rollback", published + 2))
+        if kind == "hear":
+            return ("heard", published) if command[1] in self.board else ("silent", command[1])
+        if kind in ("flush", "compact"):
+            return self.due_tables(client, kind)
+        return {"snap": ("snap", published), "tell": ("told", published), "free": ("freed",), "leave": ("left",)}[kind]
+
+    def due_read(self, client, command):
+        own, key, at = client.own(self.history), command[1], len(self.history)
+        if is_at(command):
+            at = client.snapshot(command[3])
+        elif has(own, key):
+            return ("missing own",) if dict(own)[key] is None else ("get own", dict(own)[key])
+        value = self.history.value(key, at)
+        return ("missing", at) if value is None else ("get", value, at)
+
+    def due_tables(self, client, kind):
+        published = len(self.history)
+        if self.halted:
+            return ("halted", self.edit.flushed)
+        if kind == "flush":
+            versions = self.history.versions(self.edit.flushed)
+            return ("flushed", published, len(versions)) if versions else ("nothing",)
+        if self.edit.tables < 2:
+            return ("nothing",)
+        return ("compacted", published, len(self.kept(client)))
+
+    def kept(self, client):
+        return retained(self.history, self.edit.versions, [n for _, n in client.snapshots], len(self.history))
+
+    def take(self, client, command, answer):
+        """The client once it has the reply; the store is what the reply leaves of it."""
+        form = answer[0]
+        prepare = self.history.named(command[1]) if form == "took" else 0
+        if form == "flushed":
+            versions = in_order(self.edit.versions + tuple(self.history.versions(self.edit.flushed)))
+            self.edit = Edit(len(self.history), versions, self.edit.tables + 1)
+        elif form == "compacted":
+            self.edit = replace(self.edit, versions=self.kept(client), tables=min(answer[2], 1))
+        elif form in ("put", "del", "prepare", "commit", "rollback"):
+            for entry in asked(client, command):
+                batch = self.history.prior(self.history.batch(entry.number)) if entry.kind == "undo" else entry.batch
+                self.history.add(replace(entry, batch=batch))
+        elif form == "told":
+            self.board[command[1]] = answer[1]
+        self.stopped |= form == "fault log"
+        self.halted |= form == "fault tables"
+        return after(client, command, answer, prepare)
+
+
+def check_alone(part, found, edit, limit):
+    """Each reply is the one that is due; returns the store that is left."""
+    store, client = Alone(found.copy(), edit, limit), Client()
+    for line, (command, answer) in enumerate(zip(part.commands, part.answers), 1):
+        due = store.due(client, command)
+        logs = due[0] in ("put", "del", "prepare", "commit", "rollback")
+        fails = answer == ("fault log",) and logs or answer == ("fault tables",) and due[0] in ("flushed", "compacted")
+        need(answer == due or fails, "due", f"line {line}, `{' '.join(command)}`: `{part.lines[line - 1]}`, and {due} is due")
+        client = store.take(client, command, answer)
+    return store
