@@ -13,7 +13,7 @@ use Rattle.wp_core.specs.Steps.{Step, store_published, store_max_evicted, store_
 use Rattle.wp_core.specs.Effects.{with_entry}
 use Rattle.wp_core.specs.Needs.{Needs}
 use Rattle.wp_core.proofs.Quiet.{holder_lives}
-use Rattle.wp_rule.specs.Words.{Place, IsAt, words_of, turn_words}
+use Rattle.wp_rule.specs.Words.{Place, IsAt, words_of, lines_of, turn_words}
 use Rattle.wp_rule.specs.Moves.{world_after_step, actor_after_step, MayStep, LeadTo, MayStore, MayPublishAs, Leave, publishing, storing, storing_max}
 use Rattle.wp_rule.proofs.Knows.{at_sound, held_is}
 use Rattle.wp_rule.proofs.Needed.{guarded}
@@ -30,12 +30,12 @@ cell_set [] cache i x = let n : 0 + i ≡ i = omega arith in ap (λ k. set cache
 cell_set (y ∷ front) cache i x = let n : suc (length front) + i ≡ suc (length front + i) = omega arith in ap (λ k. set (y ∷ (front ++ cache)) k x) n ∙ ap (λ l. y ∷ l) (cell_set front cache i x)
 
 abbrev front_of : World → List ℕ
-front_of w = length w.writes.history ∷ w.max_evicted ∷ w.delayed_flag ∷ w.old_flag ∷ turn_words w.holders
+front_of w = length w.writes.history ∷ w.max_evicted ∷ w.delayed_flag ∷ w.old_flag ∷ 0 ∷ 0 ∷ 0 ∷ 0 ∷ lines_of (turn_words w.holders)
 
-pub cell_at : (w : World) (i : ℕ) → get_or (words_of w) (10 + i) 0 ≡ get_or w.cache i 0
+pub cell_at : (w : World) (i : ℕ) → get_or (words_of w) (56 + i) 0 ≡ get_or w.cache i 0
 cell_at w i = cell_in (front_of w) w.cache i
 
-cell_stored : (w : World) (i x : ℕ) → set (words_of w) (10 + i) x ≡ front_of w ++ set w.cache i x
+cell_stored : (w : World) (i x : ℕ) → set (words_of w) (56 + i) x ≡ front_of w ++ set w.cache i x
 cell_stored w i x = cell_set (front_of w) w.cache i x
 
 -- ---- a store, and then a note
@@ -77,13 +77,13 @@ may_old p a value may w k =
     (holder_is_live p a w snapshots_turn k n.0, guarded p a w k snapshots_turn n.0, refl)
 
 pub may_word : (p : Place) (a : Actor) (i word : ℕ) (pair : CommitPair) → word ≡ word_of pair → pair_of word ≡ Some pair → i ≡ cache_place p.cells pair.number → MayStep p a (store_word pair)
-    → MayStore p a (storing (pair_of word)) (10 + i) word
+    → MayStore p a (storing (pair_of word)) (56 + i) word
 may_word p a i word pair is back place may w k =
     let n = may w k in let next : World = world_after_step w p.by a (store_word pair) in
     let at_place : i ≡ cache_place (length w.cache) pair.number = place ∙ ap (λ n. cache_place n pair.number) (sym k.cells) in
     let same : set w.cache i word ≡ with_pair w.cache pair = λ j. set w.cache (at_place j) (is j) in
-    subst (λ (x : Option CommitPair). LeadTo p a w (storing x w) (set (words_of w) (10 + i) word)) (sym back)
-    (then_noted p a w (store_word pair) (words_stay w.max_evicted (with_pair w.cache pair)) (set (words_of w) (10 + i) word) k n
+    subst (λ (x : Option CommitPair). LeadTo p a w (storing x w) (set (words_of w) (56 + i) word)) (sym back)
+    (then_noted p a w (store_word pair) (words_stay w.max_evicted (with_pair w.cache pair)) (set (words_of w) (56 + i) word) k n
     (record {
       words_are = sym (cell_stored w i word ∙ ap (λ (cache : List ℕ). front_of w ++ cache) same);
       opened = refl;
@@ -114,7 +114,7 @@ may_publish p a number m w k =
       (n, tt),
       reached_next w p.by a step k.there k.reached n,
       record {
-        words_are = ap (λ (x : ℕ). x ∷ w.max_evicted ∷ w.delayed_flag ∷ w.old_flag ∷ (turn_words w.holders ++ w.cache)) counts;
+        words_are = ap (λ (x : ℕ). x ∷ w.max_evicted ∷ w.delayed_flag ∷ w.old_flag ∷ 0 ∷ 0 ∷ 0 ∷ 0 ∷ (lines_of (turn_words w.holders) ++ w.cache)) counts;
         opened = refl;
         first_edit = refl;
         cells = refl;

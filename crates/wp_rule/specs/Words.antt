@@ -1,5 +1,5 @@
 -- The words of a world, in their order, and which world may stand behind a seat.
-use Rattle.std.specs.Prelude.{◌≡◌, ℕ, ◌+◌, List, [], ◌∷◌, ◌++◌, length, Option, Some, None}
+use Rattle.std.specs.Prelude.{◌≡◌, ℕ, ◌+◌, ◌*◌, List, [], ◌∷◌, ◌++◌, length, Option, Some, None}
 use mathlib.Core.Option.{some, none}
 use mathlib.Core.Option as maybe
 use lib.ListN.{get_elem?}
@@ -22,13 +22,19 @@ turn_word (Some by) = 1
 abbrev pub turn_words : Holders → List ℕ
 turn_words h = turn_word h.write ∷ turn_word h.prepared ∷ turn_word h.snapshots ∷ turn_word h.store ∷ turn_word h.locks ∷ turn_word h.tables ∷ []
 
--- the published number, the bound, the delayed flag, the old-map flag, the six turns, and then the cache
+-- Each with seven words behind it that stay 0. Eight words are a line of a processor's memory, which is handed from one processor
+-- to another as a whole: so who takes a turn does not slow who takes another, or who loads the words before them.
+abbrev pub lines_of : List ℕ → List ℕ
+lines_of [] = []
+lines_of (x ∷ xs) = x ∷ 0 ∷ 0 ∷ 0 ∷ 0 ∷ 0 ∷ 0 ∷ 0 ∷ lines_of xs
+
+-- the published number, the bound, the delayed flag and the old-map flag, in one line; the six turns, in one each; and then the cache
 abbrev pub words_of : World → List ℕ
-words_of w = length w.writes.history ∷ w.max_evicted ∷ w.delayed_flag ∷ w.old_flag ∷ (turn_words w.holders ++ w.cache)
+words_of w = length w.writes.history ∷ w.max_evicted ∷ w.delayed_flag ∷ w.old_flag ∷ 0 ∷ 0 ∷ 0 ∷ 0 ∷ (lines_of (turn_words w.holders) ++ w.cache)
 
 -- the place of a turn's word
 abbrev pub turn_place : Turn → ℕ
-turn_place turn = turn_index turn + 4
+turn_place turn = 8 * turn_index turn + 8
 
 -- The shared words, as clauses see them: in which table they lie, the history that was opened, how many of them are the
 -- cache's, and the values behind the turns as they were handed in.

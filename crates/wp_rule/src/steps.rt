@@ -14,7 +14,9 @@ use crate::rule::Rule;
 use atomic_table::{Seat, Shared};
 use wp_machine::{Actor, Turn};
 
-const FIRST_TURN: usize = 4;
+/// How many words a line of a processor's memory has. The words of turns lie in a line each, behind the one that has the other
+/// words, so that who takes one turn does not slow who takes another.
+const LINE: usize = 8;
 
 /// The table in which the words and the slots lie.
 pub(crate) type WordTable<S> = Shared<S, Actor, Opening<S>, Rule<S>>;
@@ -52,7 +54,7 @@ pub(crate) fn store<S: HoldsPart, J: Moves>(
 pub(crate) fn turn_place(turn: Turn) -> usize
     ensures { result ≡ turn_place (turn_of turn) }
 {
-    FIRST_TURN + turn.index() as usize
+    LINE * turn.index() as usize + LINE
 }
 
 /// One try to take a turn.
@@ -62,7 +64,7 @@ pub(crate) fn claim<S: HoldsPart, J: OfTurn<S>>(
     turn: Turn,
 ) -> bool
     requires seat { (seat.old.table_id ≡ table.now.table_id) × (J.place ≡ place_under S.content table.now.key seat.old.id) }
-    requires turn { (J.turn ≡ turn_of turn) × (9 < table.now.table_id.words) }
+    requires turn { (J.turn ≡ turn_of turn) × (48 < table.now.table_id.words) }
     requires first { J.first ≡ table.now.key.first.value.items }
     requires live { seat.old.me.0.live ≡ true }
     ensures same { (seat.new.table_id ≡ seat.old.table_id) × (seat.new.id ≡ seat.old.id) }
@@ -78,7 +80,7 @@ pub(crate) fn unclaim<S: HoldsPart, J: OfTurn<S>>(
     turn: Turn,
 )
     requires seat { (seat.old.table_id ≡ table.now.table_id) × (J.place ≡ place_under S.content table.now.key seat.old.id) }
-    requires turn { (J.turn ≡ turn_of turn) × (9 < table.now.table_id.words) }
+    requires turn { (J.turn ≡ turn_of turn) × (48 < table.now.table_id.words) }
     requires held { MayUnclaim S.content (S.tells table.now.key.first.value.items) J.place J.turn seat.old.me }
     ensures same { (seat.new.table_id ≡ seat.old.table_id) × (seat.new.id ≡ seat.old.id) × (seat.new.me.1 ≡ rest seat.old.me.1) }
     ensures moved { Moved J.place (λ w. give_turn J.turn ∷ []) (λ w. Unit {0}) seat.old.me.0 seat.new.me.0 }

@@ -42,7 +42,7 @@ const DELAYED_FLAG: usize = 2;
 
 const OLD_FLAG: usize = 3;
 
-const FIRST_CELL: usize = 10;
+const FIRST_CELL: usize = 56;
 
 /// A seat of the words: an actor of the machine, with the values that it has out.
 pub type WordSeat<S> = Seat<S, Actor>;
@@ -61,7 +61,7 @@ impl<S: HoldsPart + Drop> Model for Words<S> {
 
     ghost view = { λ w. record { table = w.table.shared.table_id; opened = w.table.shared.key.entries.value.entries; cells = w.table.shared.key.cells; first = w.table.shared.key.first.value.items } };
 
-    ghost invariant = { λ w. (w.table.shared.table_id.words ≡ w.table.shared.key.cells + 10) × (w.table.shared.table_id.slots ≡ 6) × (w.table.shared.key.cells ≤ 65536) };
+    ghost invariant = { λ w. (w.table.shared.table_id.words ≡ w.table.shared.key.cells + 56) × (w.table.shared.table_id.slots ≡ 6) × (w.table.shared.key.cells ≤ 65536) };
 }
 
 fn first_words(
@@ -71,13 +71,13 @@ fn first_words(
     cells: usize,
 ) -> Result<Vec<u64>, AllocError>
     requires { cells ≤ 65536 }
-    ensures { IfOk result (λ words. words.items ≡ published ∷ published ∷ delayed_flag ∷ replicate (cells + 7) 0) }
+    ensures { IfOk result (λ words. words.items ≡ published ∷ published ∷ delayed_flag ∷ replicate (cells + 53) 0) }
 {
-    let mut words = Vec::with_capacity(alloc, cells + 10)?;
+    let mut words = Vec::with_capacity(alloc, cells + FIRST_CELL)?;
     words.push(published)?;
     words.push(published)?;
     words.push(delayed_flag)?;
-    words.resize(cells + 10, 0)?;
+    words.resize(cells + FIRST_CELL, 0)?;
     Ok(words)
 }
 
