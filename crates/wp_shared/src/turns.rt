@@ -8,14 +8,17 @@ use crate::held::Held;
 use crate::seat::Seat;
 use crate::shared::Shared;
 use std::sync::Wait;
-use std::thread;
+use std::{hint, thread};
 use wp_guarded::Part;
 use wp_outside::Disk;
 use wp_rule::Turn;
 
-/// How often a seat tries to take a turn that is held before it sleeps on it, where the turn's holder may be in a call of a
-/// device.
-const TRIES: u32 = 40;
+/// How often a seat tries at once again to take a turn that is held. Most turns are held for less time than it takes to let
+/// others run.
+const SPINS: u32 = 60;
+
+/// How often it tries before it sleeps, where the turn's holder may be in a call of a device.
+const TRIES: u32 = 100;
 
 /// Whether the holder of the turn may be in a call of a device.
 fn is_long(turn: Turn) -> bool {
@@ -42,9 +45,11 @@ impl<D: Disk + Drop> Shared<D> {
         unreachable!()
     }
 
-    /// Lets others run, or sleeps until the turn is given. The answer is how often it was tried by then.
+    /// Waits a moment, lets others run, or sleeps until the turn is given. The answer is how often it was tried by then.
     fn wait<R: Wait>(&self, rt: &R, turn: Turn, tries: u32) -> u32 {
-        if tries < TRIES || !is_long(turn) {
+        if tries < SPINS {
+            hint::spin_loop();
+        } else if tries < TRIES || !is_long(turn) {
             thread::yield_now();
         } else {
             self.words.park(rt, turn);
