@@ -21,7 +21,7 @@ use wp_outside::Disk;
 use wp_shared::{Seat, Shared};
 
 /// How many versions of a key are copied at first: mostly one of the newest is the one.
-const FIRST_COPIES: usize = 4;
+const FIRST_COPIES: usize = 2;
 
 /// How many times as many are copied next.
 const GROWTH: usize = 4;

@@ -89,3 +89,12 @@ at_merged key n (s ∷ ss) h = at_merge key n s (merged_of ss) h.0 ∙ ap (optio
 
 pub merged_is : (sources : List (List Version)) (all : List Version) → AreAllInOrder sources → AreMerged sources all → all ≡ merged_of sources
 merged_is sources all h is = one_list all (merged_of sources) is.in_order (in_order-merged sources h) (λ key n. is.each key n ∙ sym (at_merged key n sources h))
+
+-- ---- one list alone
+
+or_none : (x : Option (Option (List ℕ))) → option_or x None ≡ x
+or_none None = refl
+or_none (Some found) = refl
+
+pub merged_alone : (versions all : List Version) → AreInOrder versions → AreMerged (versions ∷ []) all → all ≡ versions
+merged_alone versions all in_order is = one_list all versions is.in_order in_order (λ key n. is.each key n ∙ or_none (version_at versions key n))

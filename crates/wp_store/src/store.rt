@@ -110,12 +110,16 @@ impl Store {
     }
 
     /// The newest `n` versions of the key, of all parts merged. It goes to each part for this key alone, and copies at
-    /// most `n` versions there.
+    /// most `n` versions there. Where all is in memory nothing is merged.
     pub fn collect(&self, key: &Key, n: usize) -> Result<Versions, AllocError>
         ensures { IfOk result (λ found. (all : List Version) → AreMerged (parts_of self.now) all → found ≡ newest_of n key.now all) }
     {
+        let newest = newest_in_memory(self.alloc, &self.memory, key, n)?;
+        if self.frozen.is_empty() && self.tables.is_empty() {
+            return Ok(newest);
+        }
         let mut sources = Vec::new(self.alloc);
-        sources.push(newest_in_memory(self.alloc, &self.memory, key, n)?)?;
+        sources.push(newest)?;
         push_newest_frozen(self.alloc, &mut sources, &self.frozen, key, n)?;
         push_newest_tables(self.alloc, &mut sources, &self.tables, key, n)?;
         let mut found = merged(self.alloc, sources)?.into_vec();
