@@ -1,6 +1,6 @@
 -- How the steps of clearing a word follow each other.
 use Rattle.std.proofs.Common.{◌≡◌, inl, inr, ℕ, ◌+◌, ◌-◌, ◌/◌, ◌<◌, ◌≤◌, min, max, nat_le, nat_lt, Bool, true, false, cond, List, ◌∷◌, refl, sym, subst, ap, ◌∙◌, Option, Some, None, arith}
-use Rattle.std.specs.Prelude.{Result, Ok, Err, OnOk}
+use Rattle.std.specs.Prelude.{Result, Ok, Err, OnOk, OnErr}
 use Rattle.std.specs.Option.{option_map}
 use Rattle.std.proofs.lemmas.Bool.Decides.{nat_tests}
 use Rattle.wp_model.specs.declared.entry.Entry.{Entry}
@@ -72,6 +72,10 @@ pub on_ok : {T E : Type 0} (r : Result T E) (P Q : Type 0) → (P → Q) → OnO
 on_ok (Ok x) P Q f h = f h
 on_ok (Err e) P Q f h = tt
 
+pub err_any : {T E : Type 0} (r : Result T E) (P : Type 0) → P → OnErr r P
+err_any (Ok x) P p = tt
+err_any (Err e) P p = p
+
 -- ---- one after another
 
 module _ (s t u v : SeatState) where
@@ -103,14 +107,6 @@ still_cleared test s t h m place less k words (inr gone) =
 pub after_again : (cells published bound : ℕ) (o : Option CommitPair) → bound_after cells published (bound_after cells published bound o) o ≡ bound_after cells published bound o
 after_again cells published bound None = refl
 after_again cells published bound (Some pair) = raised_low cells published (raised cells published bound pair.decision) pair.decision (raised_reaches cells published bound pair.decision)
-
-pub after_rises : (cells published bound : ℕ) (o : Option CommitPair) → bound ≤ bound_after cells published bound o
-after_rises cells published bound None = omega arith
-after_rises cells published bound (Some pair) = by_test (nat_le pair.decision bound) refl
-  where
-    by_test : (b : Bool) → nat_le pair.decision bound ≡ b → bound ≤ cond b bound (bound_past cells published pair.decision)
-    by_test true e = omega arith
-    by_test false e = let high : bound < pair.decision = grind (arith, nat_tests) in let reach = past_reaches cells published pair.decision in omega (arith, high, reach)
 
 pub words_in_place : (place : ℕ) (fact : Fact) → is_of_place place fact ≡ false → is_of_words fact ≡ false
 words_in_place place (passed i gone) e = refl

@@ -1,5 +1,5 @@
 //! Clearing a word: its pair is made ready to go.
-ghost use Rattle.std.specs.Prelude.{◌≡◌, ◌≤◌, ℕ, true, List, [], ◌∷◌, length, ◌<◌, OnOk, IfOk};
+ghost use Rattle.std.specs.Prelude.{◌≡◌, ◌⊎◌, ◌≤◌, ℕ, true, List, [], ◌∷◌, length, ◌<◌, OnOk, OnErr, IfOk};
 ghost use Rattle.wp_core.specs.Cache.{cache_place, pair_at};
 ghost use Rattle.wp_core.specs.Tables.{writes, prepared, snapshots};
 ghost use Rattle.wp_core.specs.Views.{passed, in_old_commits, apart, words_stay};
@@ -242,7 +242,8 @@ fn clear_second<D: Disk + Drop, R: Wait>(
 
 /// Makes the words ready for the two pairs of a rollback: that of the Undo `r`, which decides itself, and then that of the Prepare
 /// `p`, which the Close behind it decides. Where they have the same place it is cleared for the first, and that one will go again
-/// for the second. All memory that this needs is taken here.
+/// for the second. All memory that this needs is taken here. Where it is wanting for the first the bound has risen for that one, and
+/// where it is wanting for the second, for both.
 pub fn clear_pair<D: Disk + Drop, R: Wait>(
     store: &Shared<D>,
     rt: &R,
@@ -256,9 +257,11 @@ pub fn clear_pair<D: Disk + Drop, R: Wait>(
     requires words { (bound : ℕ) × (words : List ℕ) × Noted seat.old.knows (words_stay bound words) }
     requires unentered { IsUnentered seat.old.knows store.now.cells log.now.table }
     ensures seat { GoesOn is_of_words seat.old.knows.held seat.old.turns seat.old seat.new }
-    ensures rises { (bound : ℕ) (words : List ℕ) → Noted seat.old.knows (words_stay bound words) → (later : ℕ) × (bound ≤ later) × Noted seat.new.knows (words_stay later words) }
     ensures bound { OnOk result ((bound : ℕ) (words : List ℕ) → Noted seat.old.knows (words_stay bound words)
         → Noted seat.new.knows (words_stay (bound_for_both store.now.cells (length log.now.table.history) bound (pair_at words (cache_place store.now.cells r)) (pair_at words (cache_place store.now.cells p))) words)) }
+    ensures refused { OnErr result ((bound : ℕ) (words : List ℕ) → Noted seat.old.knows (words_stay bound words)
+        → Noted seat.new.knows (words_stay (bound_after store.now.cells (length log.now.table.history) bound (pair_at words (cache_place store.now.cells r))) words)
+        ⊎ Noted seat.new.knows (words_stay (bound_for_both store.now.cells (length log.now.table.history) bound (pair_at words (cache_place store.now.cells r)) (pair_at words (cache_place store.now.cells p))) words)) }
     ensures numbers { IfOk result (λ cleared. cleared ≡ r ∷ p ∷ []) }
     ensures cleared { OnOk result (IsCleared seat.new.knows (cache_place store.now.cells r) × IsCleared seat.new.knows (cache_place store.now.cells p)) }
 {
