@@ -2,7 +2,11 @@
 use Rattle.std.proofs.Common.{◌≡◌, inr, ℕ, suc, Bool, true, false, ◌||◌, List, [], ◌∷◌, ◌++◌, length, length-append, append_assoc, refl, sym, subst, ap, ◌∙◌, None, arith}
 use Rattle.std.specs.Prelude.{Result, Ok, Err}
 use Rattle.wp_model.specs.declared.entry.Entry.{Entry}
+use Rattle.wp_outside.specs.Disk.{Passes}
 use Rattle.wp_outside.specs.Faults.{Rose}
+use Rattle.wp_gatelog.specs.Moments.{Leaves}
+use Rattle.wp_wal.specs.Spelling.{IsLogOrNext}
+use Rattle.wp_wal.specs.Wal.{WalState, LosesNothing}
 use Rattle.wp_core.specs.Entries.{transaction_of}
 use Rattle.wp_core.specs.Lists.{IsIn}
 use Rattle.wp_core.specs.Sound.Views.{guarded_by}
@@ -15,7 +19,7 @@ use Rattle.wp_commits.specs.Notes.{noting, GoesOn}
 use Rattle.wp_publish.specs.declared.error.WriteError.{WriteError}
 use Rattle.wp_publish.specs.declared.error.WriteError.TheVariants.{Memory, LogFault}
 use Rattle.wp_publish.specs.Writing.{HoldsWrite}
-use Rattle.wp_publish.specs.Records.{putting, transaction_behind, is_about, IsPut, IsNotPut, failing, Puts}
+use Rattle.wp_publish.specs.Records.{putting, transaction_behind, is_about, IsPut, IsNotPut, failing, FailsAppend, Puts}
 use Rattle.wp_publish.specs.Stages.{is_guarded, may_end, holding, as_failed, IsLogged, HasJoined}
 use Rattle.wp_publish.proofs.Facts.{unguarded}
 use Rattle.wp_publish.proofs.Holding.{as_write}
@@ -59,37 +63,67 @@ module _ {D : Type 0} (z : SharedState D) (s new : SeatState) (log left : LogSta
       })
       history closed
 
+-- the log call failed, and the record was taken back
+pub fails : (log mid left : LogState) → log.table.logged ≡ false → mid.table ≡ record log.table { closed = true; failed = log.table.pending } → left ≡ record mid { table = record mid.table { pending = [] } }
+    → Rose log.wal.faults mid.wal.faults → Passes (Leaves (IsLogOrNext log.wal.id log.table.history log.table.pending)) log.wal.moments mid.wal.moments → LosesNothing log.wal.moments mid.wal.moments → FailsAppend log log.table.pending left
+fails log mid left unlogged closed back rose passed durable =
+    let wal : left.wal ≡ mid.wal = ap (λ (x : LogState). x.wal) back in record {
+      table = ap (λ (x : LogState). x.table) back ∙ ap (λ (t : WriteTable). record t { pending = [] }) closed ∙ ap (λ (b : Bool). record log.table { pending = []; logged = b; closed = true; failed = log.table.pending }) unlogged;
+      rose = subst (λ (w : WalState). Rose log.wal.faults w.faults) (sym wal) rose;
+      passed = subst (λ (w : WalState). Passes (Leaves (IsLogOrNext log.wal.id log.table.history log.table.pending)) log.wal.moments w.moments) (sym wal) passed;
+      durable = subst (λ (w : WalState). LosesNothing log.wal.moments w.moments) (sym wal) durable;
+    }
+
 -- ---- a stage before
 
-module _ {D : Type 0} (z : SharedState D) (s t new : SeatState) (log mid left : LogState) (h : List Content) (m : List ℕ) (k : GoesOn is_guarded h m s t) (history : mid.table.history ≡ log.table.history) (faults : mid.wal.faults ≡ log.wal.faults) where
+-- the table with nothing pending
+abbrev pub settled : WriteTable → WriteTable
+settled t = record t { pending = []; logged = false }
+
+-- the log with no record ready
+abbrev pub unreserved : WalState → WalState
+unreserved w = record w { reserved = None }
+
+module _ {D : Type 0} (z : SharedState D) (s t new : SeatState) (log mid left : LogState) (h : List Content) (m : List ℕ) (k : GoesOn is_guarded h m s t) (table : settled mid.table ≡ settled log.table) (wal : unreserved mid.wal ≡ unreserved log.wal) where
+  same_history : mid.table.history ≡ log.table.history
+  same_history = ap (λ (x : WriteTable). x.history) table
+
   not_put_before : (f : Participant → Participant) (closed : Bool) → IsNotPut z t mid closed (f t.knows.participant) new left → IsNotPut z s log closed (f s.knows.participant) new left
   not_put_before f closed p = record {
     holds = p.holds;
     same_by = p.same_by ∙ ap (λ (x : SeatState). x.by) k.same;
-    history = p.history ∙ history;
+    history = p.history ∙ same_history;
     closed_is = p.closed_is;
     knows = p.knows ∙ ap (λ (x : SeatState). record x.knows { participant = f x.knows.participant; held = writes left.table ∷ []; notes = new.knows.notes }) k.same;
     notes = λ fact guard there. p.notes fact guard (k.noted fact (unguarded fact guard) there);
   }
 
   about_same : (entries : List Entry) (fact : Fact) → is_about (transaction_behind mid.table.history entries) fact ≡ is_about (transaction_behind log.table.history entries) fact
-  about_same entries fact = ap (λ (e : List Entry). is_about (transaction_behind e entries) fact) history
+  about_same entries fact = ap (λ (e : List Entry). is_about (transaction_behind e entries) fact) same_history
 
   put_before : (entries : List Entry) → IsPut z t mid entries new left → IsPut z s log entries new left
   put_before entries p = record {
     holds = p.holds;
     same_by = p.same_by ∙ ap (λ (x : SeatState). x.by) k.same;
-    history = p.history ∙ ap (λ (e : List Entry). e ++ entries) history;
+    history = p.history ∙ ap (λ (e : List Entry). e ++ entries) same_history;
     running = p.running;
     knows = p.knows
-        ∙ (λ i. record (k.same i).knows { participant = putting (history i) entries (k.same i).knows.participant; learned = []; held = writes left.table ∷ []; notes = new.knows.notes });
+        ∙ (λ i. record (k.same i).knows { participant = putting (same_history i) entries (k.same i).knows.participant; learned = []; held = writes left.table ∷ []; notes = new.knows.notes });
     notes = λ fact guard about there. p.notes fact guard (about_same entries fact ∙ about) (k.noted fact (unguarded fact guard) there);
+  }
+
+  fails_before : (entries : List Entry) → FailsAppend mid entries left → FailsAppend log entries left
+  fails_before entries f = record {
+    table = f.table ∙ ap (λ (x : WriteTable). record x { closed = true; failed = entries }) table;
+    rose = subst (λ (w : WalState). Rose w.faults left.wal.faults) wal f.rose;
+    passed = subst (λ (x : WalState × List Entry). Passes (Leaves (IsLogOrNext x.0.id x.1 entries)) x.0.moments left.wal.moments) (λ i. (wal i, same_history i)) f.passed;
+    durable = subst (λ (w : WalState). LosesNothing w.moments left.wal.moments) wal f.durable;
   }
 
   pub puts_before : (entries : List Entry) (answer : Result (Unit {0}) WriteError) → Puts z t mid entries answer new left → Puts z s log entries answer new left
   puts_before entries (Ok done) p = put_before entries p
   puts_before entries (Err Memory) p = not_put_before (λ x. x) false p
-  puts_before entries (Err LogFault) p = (not_put_before (failing entries) true p.0, subst (λ (n : ℕ). Rose n left.wal.faults) faults p.1)
+  puts_before entries (Err LogFault) p = (not_put_before (failing entries) true p.0, fails_before entries p.1)
 
 -- ---- entries were put
 

@@ -1,6 +1,6 @@
 -- A record that is made ready for its log call.
-use Rattle.std.proofs.Common.{◌≡◌, inl, inr, ℕ, false, List, length, refl, sym, subst, ap, ◌∙◌}
-use Rattle.std.specs.Prelude.{Result, Ok, Err, OnErr}
+use Rattle.std.proofs.Common.{◌≡◌, ◌⊎◌, inl, inr, ℕ, false, List, length, refl, sym, subst, ap, ◌∙◌}
+use Rattle.std.specs.Prelude.{Result}
 use Rattle.wp_model.specs.declared.entry.Entry.{Entry}
 use Rattle.wp_core.specs.Tables.{WriteTable}
 use Rattle.wp_core.specs.Views.{Fact, passed, in_old_commits, apart, words_stay}
@@ -15,16 +15,17 @@ use Rattle.wp_publish.specs.Records.{MayPut, Puts}
 use Rattle.wp_publish.specs.Stages.{is_of_versions, HoldsPending, IsBegun}
 use Rattle.wp_publish.proofs.Holding.{still_holds, words_still}
 use Rattle.wp_publish.proofs.Joined.{own_still}
-use Rattle.wp_publish.proofs.Puts.{puts_before}
-
-pub err_any : {T E : Type 0} (r : Result T E) (P : Type 0) → P → OnErr r P
-err_any (Ok x) P p = tt
-err_any (Err e) P p = p
+use Rattle.wp_publish.proofs.Puts.{settled, unreserved, puts_before}
 
 -- words were cleared
 pub cleared_holds : {D : Type 0} (z : SharedState D) (s t : SeatState) (log : LogState) → HoldsPending z s log → GoesOn is_of_words s.knows.held s.turns s t
     → ((bound : ℕ) (words : List ℕ) → Noted s.knows (words_stay bound words) → (later : ℕ) × Noted t.knows (words_stay later words)) → HoldsPending z t log
 cleared_holds z s t log h k keeps = still_holds z s t log is_of_words h k (words_still s.knows t.knows (length log.table.history) keeps h.words)
+
+-- ... up to one bound or another
+pub either_keeps : (t : Actor) (words : List ℕ) (one other : ℕ) → Noted t (words_stay one words) ⊎ Noted t (words_stay other words) → (later : ℕ) × Noted t (words_stay later words)
+either_keeps t words one other (inl n) = (one, n)
+either_keeps t words one other (inr n) = (other, n)
 
 -- what is cleared stays so where these notes are kept
 pub cleared_through : (a b : Actor) (place : ℕ) → ((bound : ℕ) (words : List ℕ) → Noted a (words_stay bound words) → Noted b (words_stay bound words)) → ((fact : Fact) → is_of_versions fact ≡ false → Noted a fact → Noted b fact) → IsCleared a place → IsCleared b place
@@ -49,4 +50,4 @@ module _ {D : Type 0} (z : SharedState D) (s t : SeatState) (log mid : LogState)
 
   pub begun_puts : (new : SeatState) (left : LogState) (answer : Result (Unit {0}) WriteError) → Puts z t mid mid.table.pending answer new left → Puts z s log es answer new left
   begun_puts new left answer p =
-      puts_before z s t new log mid left _ _ b.seat history_is b.faults es answer (subst (λ (e : List Entry). Puts z t mid e answer new left) pending_is p)
+      puts_before z s t new log mid left _ _ b.seat (ap settled b.table) (ap unreserved b.wal) es answer (subst (λ (e : List Entry). Puts z t mid e answer new left) pending_is p)

@@ -104,6 +104,7 @@ module _ {D : Type 0} (z : SharedState D) (old s new : SeatState) (log : LogStat
       history_is = saw.seen ∙ seen_all;
       closed_is = ap (λ (t : WriteTable). t.closed) (writes_are (place_at z new.by) new.knows saw.world saw.there log.table held_now);
     };
+    found_is = writes_are (place_at z new.by) new.knows saw.world saw.there log.table held_now;
   }
 
 -- ---- it is given

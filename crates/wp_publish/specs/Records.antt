@@ -4,7 +4,11 @@ use Rattle.std.specs.FinSet as set
 use Rattle.wp_model.specs.declared.entry.Entry.{Entry}
 use Rattle.wp_model.specs.History.{is_changed}
 use Rattle.wp_model.specs.Legal.{IsLegal}
+use Rattle.wp_outside.specs.Disk.{Passes}
 use Rattle.wp_outside.specs.Faults.{Rose}
+use Rattle.wp_gatelog.specs.Moments.{Leaves}
+use Rattle.wp_wal.specs.Spelling.{IsLogOrNext}
+use Rattle.wp_wal.specs.Wal.{LosesNothing}
 use Rattle.wp_core.specs.Conditions.{HasTransaction}
 use Rattle.wp_core.specs.Entries.{transaction_of, changes_under}
 use Rattle.wp_core.specs.Lists.{IsIn}
@@ -84,8 +88,16 @@ pub record IsNotPut {D : Type 0} (z : SharedState D) (old : SeatState) (log : Lo
 abbrev pub failing : List Entry → Participant → Participant
 failing entries p = record p { past = p.past ++ log_failed entries ∷ [] }
 
+-- The append of these entries failed: the count of the log's device rose, and the log is closed for good. A crash at any moment of it
+-- left the history, or it and the entries, whole, and lost nothing that was acknowledged.
+pub record FailsAppend (log : LogState) (entries : List Entry) (left : LogState) : Type 0 where
+  pub table : left.table ≡ record log.table { pending = []; logged = false; closed = true; failed = entries }
+  pub rose : Rose log.wal.faults left.wal.faults
+  pub passed : Passes (Leaves (IsLogOrNext log.wal.id log.table.history entries)) log.wal.moments left.wal.moments
+  pub durable : LosesNothing log.wal.moments left.wal.moments
+
 -- what a call answers that puts these entries behind the history, and what it leaves
 abbrev pub Puts : {D : Type 0} → SharedState D → SeatState → LogState → List Entry → Result (Unit {0}) WriteError → SeatState → LogState → Type 0
 Puts z old log entries (Ok done) new left = IsPut z old log entries new left
 Puts z old log entries (Err Memory) new left = IsNotPut z old log false old.knows.participant new left
-Puts z old log entries (Err LogFault) new left = IsNotPut z old log true (failing entries old.knows.participant) new left × Rose log.wal.faults left.wal.faults
+Puts z old log entries (Err LogFault) new left = IsNotPut z old log true (failing entries old.knows.participant) new left × FailsAppend log entries left

@@ -117,7 +117,7 @@ pub record IsBegun {D : Type 0} (z : SharedState D) (old : SeatState) (log : Log
   pub holds : HoldsPending z new left
   pub seat : GoesOn is_guarded (writes left.table ∷ []) old.turns old new
   pub table : left.table ≡ record log.table { pending = entries; logged = false }
-  pub faults : left.wal.faults ≡ log.wal.faults
+  pub wal : left.wal ≡ record log.wal { reserved = left.wal.reserved }
   pub nowhere : Noted new.knows versions_nowhere
   pub below : Noted new.knows number_not_in_heap
 

@@ -57,6 +57,7 @@ pub record TakesWrite {D : Type 0} (z : SharedState D) (old new : SeatState) (lo
   pub knows : new.knows ≡ record (sees log.table.history old.knows) { held = writes log.table ∷ []; notes = new.knows.notes }
   pub notes : (fact : Fact) → IsIn fact old.knows.notes → IsIn fact new.knows.notes
   pub found : FoundLog z old.by old.knows.participant log.table.history log.table.closed
+  pub found_is : found.world.writes ≡ log.table
 
 -- The turn is given, and the seat is free. It has noted what it noted without a turn.
 pub record GivesWrite {D : Type 0} (z : SharedState D) (old new : SeatState) : Type 0 where

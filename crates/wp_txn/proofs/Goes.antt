@@ -21,7 +21,7 @@ use Rattle.wp_txn.specs.declared.error.TxnError.{TxnError}
 use Rattle.wp_txn.specs.declared.error.TxnError.TheVariants.{Memory, Taken, Busy, TooMany, Silent, Unknown, InUse, NumbersFull, LogFault, Stopped}
 use Rattle.wp_txn.specs.Calls.{remembering}
 use Rattle.wp_txn.specs.Txn.{HasOpen, HasPrepared}
-use Rattle.wp_txn.specs.Writes.{HasPut, HadFault, Refuses}
+use Rattle.wp_txn.specs.Writes.{HasPut, Refuses}
 
 pub starts_through : (a b c : List Entry) → StartsWith c b → StartsWith b a → StartsWith c a
 starts_through a b c later sooner = (sooner.0 ++ later.0, later.1 ∙ ap (λ (es : List Entry). es ++ later.0) sooner.1 ∙ append_assoc a sooner.0 later.0)
@@ -40,14 +40,14 @@ chain Stays First Second z a b c P Q R one two first second same = record {
 }
 
 -- the log was found by whoever the participant was then but for what it had seen
-pub found_from : {D : Type 0} (z : SharedState D) (by at : ℕ) (p q : Participant) (seen history : List Entry) (b : Bool) → at ≡ by → q ≡ record p { seen = seen } → FoundLog z at q history b → FoundLog z by p history b
-found_from z by at p q seen history b same is found = record {
+abbrev found_from : {D : Type 0} (z : SharedState D) (by at : ℕ) (p q : Participant) (seen history now : List Entry) (b : Bool) → at ≡ by → q ≡ record p { seen = seen } → now ≡ history → FoundLog z at q history b → FoundLog z by p now b
+found_from z by at p q seen history now b same is is_now found = record {
   world = found.world;
   actor = found.actor;
   there = subst (λ (n : ℕ). IsAt (place_at z n) found.actor found.world) same found.there;
   held = found.held;
-  participant = found.participant ∙ ap (λ (x : Participant). record x { seen = history }) is;
-  history_is = found.history_is;
+  participant = found.participant ∙ ap (λ (x : Participant). record x { seen = history }) is ∙ ap (λ (h : List Entry). record p { seen = h }) (sym is_now);
+  history_is = found.history_is ∙ sym is_now;
   closed_is = found.closed_is;
 }
 
@@ -58,7 +58,7 @@ pub put_within : {D : Type 0} (Part Stays : Fact → Type 0) (z : SharedState D)
     → ContinuesWith Stays z old new (record after { own = after.own ++ numbers_behind (length history) entries }) → HasPut Stays z old new found after history entries
 put_within Part Stays z old mid left new found after history entries by starts is put same goes = record {
   grown = starts_through old.knows.participant.seen mid.knows.participant.seen history put.grown starts;
-  found_log = found_from z old.by mid.by found mid.knows.participant mid.knows.participant.seen history false by is put.found_log;
+  found_log = found_from z old.by mid.by found mid.knows.participant mid.knows.participant.seen history history false by is refl put.found_log;
   seen = same ∙ put.seen;
   within = put.within;
   goes_on = goes;
@@ -68,8 +68,8 @@ put_within Part Stays z old mid left new found after history entries by starts i
 module _ {D : Type 0} (z : SharedState D) (old mid left new : SeatState) (needed : ℕ) (found after : Participant) (by : mid.by ≡ old.by) (is : mid.knows.participant ≡ record found { seen = mid.knows.participant.seen })
     (same : new.knows.participant.seen ≡ left.knows.participant.seen) (plain : Continues z mid left mid.knows.participant → Continues z old new after)
     (more : (events : List Event) → Continues z mid left (remembering events mid.knows.participant) → Continues z old new (remembering events after)) where
-  found_in : (b : Bool) → FoundLog z mid.by mid.knows.participant left.knows.participant.seen b → FoundLog z old.by found new.knows.participant.seen b
-  found_in b k = subst (λ (h : List Entry). FoundLog z old.by found h b) (sym same) (found_from z old.by mid.by found mid.knows.participant mid.knows.participant.seen left.knows.participant.seen b by is k)
+  abbrev found_in : (b : Bool) → FoundLog z mid.by mid.knows.participant left.knows.participant.seen b → FoundLog z old.by found new.knows.participant.seen b
+  found_in b k = found_from z old.by mid.by found mid.knows.participant mid.knows.participant.seen left.knows.participant.seen new.knows.participant.seen b by is same k
 
   same_length : length left.knows.participant.seen ≡ length new.knows.participant.seen
   same_length = ap (λ (h : List Entry). length h) (sym same)
@@ -82,8 +82,7 @@ module _ {D : Type 0} (z : SharedState D) (old mid left new : SeatState) (needed
       let legal = subst (λ (h : List Entry). IsLegal (h ++ c.2.0)) (sym same) c.2.3 in (
         subst (λ (n : ℕ). n + needed ≤ z.limit) same_length c.0,
         found_in false c.1,
-        (c.2.0, wider c.2.0 c.2.1 legal, more (log_failed c.2.0 ∷ []) c.2.2, legal),
-        subst (HadFault z) (sym same) c.3,
+        (c.2.0, wider c.2.0 c.2.1 legal, more (log_failed c.2.0 ∷ []) c.2.2, legal, c.2.4),
       )
   refused_within Asks More wider (Taken name) c = c
   refused_within Asks More wider (Busy holder) c = c

@@ -27,7 +27,7 @@ use Rattle.wp_rule.specs.Words.{Place, SawAll}
 use Rattle.wp_rule.proofs.Forgets.{EndsNothing, note_ends}
 use Rattle.wp_rule.proofs.MayBeMade.{known_made}
 use Rattle.wp_commits.proofs.Held.{writes_are}
-use Rattle.wp_guarded.specs.Log.{LogState}
+use Rattle.wp_guarded.specs.Log.{LogState, IsLog}
 use Rattle.wp_publish.specs.declared.error.WriteError.{WriteError}
 use Rattle.wp_publish.specs.declared.error.WriteError.TheVariants as write_error
 use Rattle.wp_publish.specs.Records.{numbers_behind, putting, transaction_behind, is_about, failing, MayPut, IsPut, IsNotPut, Puts}
@@ -96,8 +96,16 @@ module _ {D : Type 0} (z : SharedState D) (old s : SeatState) (log : LogState) (
   is_then : s.knows.participant ≡ record was { seen = s.knows.participant.seen }
   is_then = participant_then ∙ ap (λ (es : List Entry). record was { seen = es }) (sym takes.holds.seen)
 
-  found_then : (seen : List Entry) (b : Bool) → seen ≡ history → log.table.closed ≡ b → FoundLog z old.by was seen b
-  found_then seen b is closed = subst (λ (c : Bool). FoundLog z old.by was seen c) closed (subst (λ (h : List Entry). FoundLog z old.by was h log.table.closed) (sym is) takes.found)
+  abbrev found_then : (seen : List Entry) (b : Bool) → seen ≡ history → log.table.closed ≡ b → FoundLog z old.by was seen b
+  found_then seen b is closed = record {
+    world = takes.found.world;
+    actor = takes.found.actor;
+    there = takes.found.there;
+    held = takes.found.held;
+    participant = takes.found.participant ∙ ap (λ (h : List Entry). record was { seen = h }) (sym is);
+    history_is = takes.found.history_is ∙ sym is;
+    closed_is = takes.found.closed_is ∙ closed;
+  }
 
   -- ---- the log was found closed
 
@@ -144,14 +152,15 @@ module _ {D : Type 0} (z : SharedState D) (old s : SeatState) (log : LogState) (
     pub holds_still : HoldsWrite z t log
     holds_still = subst (λ (x : SeatState). HoldsWrite z x log) (sym same_seat) takes.holds
 
-    pub opened : (needed : ℕ) → log.table.closed ≡ false → published ≡ length t.knows.participant.seen → published + needed ≤ z.limit → z.limit < 2 ^ 32 → OpensLog z old t log needed
-    opened needed running number within few = record {
+    pub opened : (needed : ℕ) → log.table.closed ≡ false → published ≡ length t.knows.participant.seen → published + needed ≤ z.limit → z.limit < 2 ^ 32 → IsLog log → OpensLog z old t log needed
+    opened needed running number within few is_log = record {
       takes = subst (λ (x : SeatState). TakesWrite z old x log) (sym same_seat) takes;
       running = running;
       within = subst (λ (n : ℕ). n + needed ≤ z.limit) (number ∙ ap (λ (es : List Entry). length es) seen_all) within;
       few = few;
       world = saw.world;
       stands = saw.there;
+      is_log = is_log;
     }
 
     pub full_back : (new : SeatState) (needed limit : ℕ) (Asks : List Entry → Type 0) → log.table.closed ≡ false → published ≡ length t.knows.participant.seen → limit ≡ z.limit → limit < published + needed → GivesWrite z t new
@@ -169,7 +178,7 @@ module _ {D : Type 0} (z : SharedState D) (old s : SeatState) (log : LogState) (
 -- ---- a record
 
 module _ {D : Type 0} (z : SharedState D) (old s t new : SeatState) (log left : LogState) (entries : List Entry) (facts : ℕ → List Fact) (o : OpensLog z old s log (length entries)) (legal : IsLegal (log.table.history ++ entries))
-    (turnless : (n : ℕ) (fact : Fact) → IsIn fact (facts n) → guarded_by fact ≡ None) (gives : GivesWrite z t new) where
+    (turnless : (n : ℕ) (fact : Fact) → IsIn fact (facts n) → guarded_by fact ≡ None) (gives : GivesWrite z t new) (still_log : IsLog left) where
   abbrev before_it : List Entry
   before_it = log.table.history
 
@@ -216,18 +225,22 @@ module _ {D : Type 0} (z : SharedState D) (old s t new : SeatState) (log left : 
       let back = not_put_back true (failing entries) (λ es x. refl) p.0 in (
         subst (λ (es : List Entry). length es + length entries ≤ z.limit) (sym back.0) o.within,
         found_then z old s log o.takes new.knows.participant.seen false back.0 o.running,
-        (entries, refl, back.1, subst (λ (h : List Entry). IsLegal (h ++ entries)) (sym back.0) legal),
-        record {
-          before = log;
-          left = left;
-          of_store = o.takes.holds.of_store;
-          still_of_store = p.0.holds.of_store;
-          history_is = sym back.0;
-          history_left = p.0.history ∙ sym back.0;
-          running = o.running;
-          closed = p.0.closed_is;
-          rose = p.1;
-        },
+        (
+          entries,
+          refl,
+          back.1,
+          subst (λ (h : List Entry). IsLegal (h ++ entries)) (sym back.0) legal,
+          record {
+            before = log;
+            left = left;
+            of_store = o.takes.holds.of_store;
+            still_of_store = p.0.holds.of_store;
+            before_is = sym o.takes.found_is;
+            log = o.is_log;
+            still_log = still_log;
+            fails = p.1;
+          },
+        ),
       )
 
 -- what is so of a fact is so of each that is it

@@ -8,7 +8,7 @@ use Rattle.wp_core.specs.Lists.{IsIn}
 use Rattle.wp_core.specs.Sound.Views.{guarded_by}
 use Rattle.wp_core.specs.Views.{Fact, direct_free}
 use Rattle.wp_core.specs.World.{Participant, World}
-use Rattle.wp_guarded.specs.Log.{LogState}
+use Rattle.wp_guarded.specs.Log.{LogState, IsLog}
 use Rattle.wp_publish.specs.declared.error.WriteError.{WriteError}
 use Rattle.wp_publish.specs.declared.error.WriteError.TheVariants as write_error
 use Rattle.wp_publish.specs.Records.{transaction_behind, is_about, IsPut, Puts}
@@ -22,7 +22,7 @@ use Rattle.wp_txn.specs.Turns.{IsNoDirect}
 use Rattle.wp_txn.specs.Writes.{HasPut, Refuses, writing_direct}
 
 -- The seat took the write turn with this log, which is running, and stands so in a world of the store. So many entries more have
--- their numbers within the limit.
+-- their numbers within the limit. The device has what the log's table says.
 pub record OpensLog {D : Type 0} (z : SharedState D) (old new : SeatState) (log : LogState) (needed : ℕ) : Type 0 where
   pub takes : TakesWrite z old new log
   pub running : log.table.closed ≡ false
@@ -30,6 +30,7 @@ pub record OpensLog {D : Type 0} (z : SharedState D) (old new : SeatState) (log 
   pub few : z.limit < 2 ^ 32
   pub world : World
   pub stands : Stands z new world
+  pub is_log : IsLog log
 
 -- what a record leaves, behind which these facts are noted while the write turn is held
 abbrev pub PutsNoting : {D : Type 0} → SharedState D → SeatState → LogState → List Entry → List Fact → Result (Unit {0}) WriteError → SeatState → LogState → Type 0

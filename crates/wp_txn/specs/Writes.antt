@@ -9,14 +9,14 @@ use Rattle.wp_model.specs.Batch.{key_of}
 use Rattle.wp_model.specs.Legal.{IsLegal, prior}
 use Rattle.wp_core.specs.Sound.Actors.{StartsWith}
 use Rattle.wp_core.specs.Sound.Views.{guarded_by}
+use Rattle.wp_core.specs.Tables.{WriteTable}
 use Rattle.wp_core.specs.Views.{Fact, locked, stopped}
 use Rattle.wp_core.specs.World.{Participant}
 use Rattle.wp_commits.specs.Gone.{HasLeft}
-use Rattle.wp_guarded.specs.Log.{LogState}
+use Rattle.wp_guarded.specs.Log.{LogState, IsLog}
 use Rattle.wp_guarded.specs.Parts.{log_first}
-use Rattle.wp_outside.specs.Faults.{Rose}
 use Rattle.wp_publish.specs.Writing.{FoundLog}
-use Rattle.wp_publish.specs.Records.{numbers_behind, failing}
+use Rattle.wp_publish.specs.Records.{numbers_behind, failing, FailsAppend}
 use Rattle.wp_shared.specs.Calls.{ContinuesWith, Continues}
 use Rattle.wp_shared.specs.Seats.{SharedState, SeatState}
 use Rattle.wp_txn.specs.declared.error.TxnError.{TxnError}
@@ -41,17 +41,20 @@ pub record HasPut {D : Type 0} (Stays : Fact → Type 0) (z : SharedState D) (ol
 abbrev pub HasPutThese : {D : Type 0} → (Fact → Type 0) → SharedState D → SeatState → SeatState → Participant → Participant → List Entry → Type 0
 HasPutThese Stays z old new found after entries = (history : List Entry) × HasPut Stays z old new found after history entries
 
--- A log of the store with this history was running, and a call to its device failed: the device's count rose, and the log is closed.
-pub record HadFault {D : Type 0} (z : SharedState D) (history : List Entry) : Type 0 where
+-- The store's log on its device, as the call found it, with this table, and as it left it, once the append of these entries had failed.
+-- Both are what the value behind the turn may be: the device has what the table says that the log spells, no fault since the opening
+-- was forgotten, and what was acknowledged then is so still. No clause of a call on a shared store sees its device: that the value was
+-- the one and became the other in this very call is what the append itself says, of the value that the call took out from behind the
+-- turn.
+pub record HadFault {D : Type 0} (z : SharedState D) (found : WriteTable) (entries : List Entry) : Type 0 where
   pub before : LogState
   pub left : LogState
   pub of_store : log_first z.first ≡ Some before.first
   pub still_of_store : log_first z.first ≡ Some left.first
-  pub history_is : before.table.history ≡ history
-  pub history_left : left.table.history ≡ history
-  pub running : before.table.closed ≡ false
-  pub closed : left.table.closed ≡ true
-  pub rose : Rose before.wal.faults left.wal.faults
+  pub before_is : before.table ≡ found
+  pub log : IsLog before
+  pub still_log : IsLog left
+  pub fails : FailsAppend before entries left
 
 -- Why a call put no entries there, of which it needs so many, and asks for such. It was the first participant as it found the log,
 -- and is the second one but for what it remembers of that. What a log that failed was asked to take might have come next.
@@ -63,8 +66,8 @@ Refuses z old new needed Asks found after (NumbersFull published limit) =
     (published ≡ length new.knows.participant.seen) × (limit ≡ z.limit) × (limit < published + needed)
     × FoundLog z old.by found new.knows.participant.seen false × Continues z old new after
 Refuses z old new needed Asks found after LogFault =
-    (length new.knows.participant.seen + needed ≤ z.limit) × FoundLog z old.by found new.knows.participant.seen false
-    × ((entries : List Entry) × Asks entries × Continues z old new (failing entries after) × IsLegal (new.knows.participant.seen ++ entries)) × HadFault z new.knows.participant.seen
+    (length new.knows.participant.seen + needed ≤ z.limit) × (found_log : FoundLog z old.by found new.knows.participant.seen false)
+    × ((entries : List Entry) × Asks entries × Continues z old new (failing entries after) × IsLegal (new.knows.participant.seen ++ entries) × HadFault z found_log.world.writes entries)
 Refuses z old new needed Asks found after other = ⊥
 
 -- ---- a direct write

@@ -3,7 +3,7 @@ ghost use Rattle.std.specs.Prelude.{◌≡◌, ◌≤◌, false, [], ◌∷◌, 
 ghost use Rattle.wp_model.specs.declared.entry.Entry.TheVariants.{Write, Prepare, Commit, Undo, Close};
 ghost use Rattle.wp_model.specs.History.{named};
 ghost use Rattle.wp_core.specs.Views.{undecided_at, unprepared};
-ghost use Rattle.wp_guarded.specs.Log.{LogState};
+ghost use Rattle.wp_guarded.specs.Log.{LogState, IsLog};
 ghost use Rattle.wp_publish.specs.Records.{MayPut};
 ghost use Rattle.wp_publish.specs.Writing.{HoldsWrite, GivesWrite};
 ghost use Rattle.wp_shared.specs.Seats.{IsFree, SeatState};
@@ -48,6 +48,7 @@ fn open_log<D: Disk + Drop, R: Wait>(
         give_write(store, seat, log);
         return Err(TxnError::NumbersFull { published, limit });
     }
+    log.told();
     Ok(log)
 }
 
@@ -61,7 +62,9 @@ fn close_log<D: Disk + Drop>(
     requires { HoldsWrite store.now seat.old log }
     ensures gives { GivesWrite store.now seat.old seat.new }
     ensures answer { result ≡ answer_of outcome (length log.table.history) }
+    ensures log { IsLog log }
 {
+    log.told();
     let published = log.published();
     give_write(store, seat, log);
     match outcome {

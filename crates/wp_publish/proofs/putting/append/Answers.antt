@@ -1,6 +1,5 @@
 use Rattle.std.proofs.Common.{true, List, refl, sym, subst, ap, ◌∙◌}
 use Rattle.wp_model.specs.declared.entry.Entry.{Entry}
-use Rattle.wp_outside.specs.Faults.{Rose}
 use Rattle.wp_core.specs.Tables.{WriteTable}
 use Rattle.wp_core.specs.Views.{versions_nowhere, number_not_in_heap}
 use Rattle.wp_rule.specs.Knows.{Noted}
@@ -8,7 +7,7 @@ use Rattle.wp_guarded.specs.Log.{LogState}
 use Rattle.wp_shared.specs.Seats.{SeatState}
 use Rattle.wp_publish.specs.Records.{IsNotPut, failing}
 use Rattle.wp_publish.proofs.Holding.{holds_as, memory_still, heap_still}
-use Rattle.wp_publish.proofs.Puts.{failed_put}
+use Rattle.wp_publish.proofs.Puts.{failed_put, fails}
 use Rattle.wp_publish.proofs.putting.append.Goals as goal
 
 pub log_pending-requires-clause-held : goal.log_pending-requires-clause-held
@@ -44,5 +43,5 @@ returns-in_default g c =
           (failed_put c.args.store.now c.args.seat.now c.take_back.new.seat c.args.log.now c.take_back.new.log c.take_back.ensures.holds c.close_log.new.seat c.append.new.self.table c.append.new.self.table.failed c.close_log.ensures c.take_back.ensures.seat
           (ap (λ (x : LogState). x.table.history) c.take_back.ensures.log ∙ ap (λ (t : WriteTable). t.history) c.in_default.ensures.err)
           (ap (λ (x : LogState). x.table.closed) c.take_back.ensures.log ∙ ap (λ (t : WriteTable). t.closed) c.in_default.ensures.err)),
-      subst (λ (x : LogState). Rose c.args.log.now.wal.faults x.wal.faults) (sym c.take_back.ensures.log) c.in_default.ensures.cause,
+      fails c.args.log.now c.append.new.self c.take_back.new.log c.requires.unlogged.unlogged c.in_default.ensures.err c.take_back.ensures.log c.in_default.ensures.cause c.append.ensures.passed c.append.ensures.durable,
     )

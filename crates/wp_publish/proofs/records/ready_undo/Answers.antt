@@ -3,9 +3,10 @@ use Rattle.wp_core.specs.Cache.{cache_place}
 use Rattle.wp_core.specs.Views.{words_stay, versions_nowhere, number_not_in_heap}
 use Rattle.wp_rule.specs.Knows.{Noted}
 use Rattle.wp_commits.specs.Notes.{is_of_words}
+use Rattle.wp_commits.proofs.Clears.{err_any}
 use Rattle.wp_publish.specs.Stages.{is_guarded, is_of_versions}
 use Rattle.wp_publish.proofs.Facts.{and_still, not_words, not_versions}
-use Rattle.wp_publish.proofs.Readied.{err_any, cleared_holds, cleared_through}
+use Rattle.wp_publish.proofs.Readied.{cleared_holds, either_keeps, cleared_through}
 use Rattle.wp_publish.proofs.Words.{unentered}
 use Rattle.wp_publish.proofs.records.ready_undo.Goals as goal
 
@@ -13,13 +14,13 @@ pub clear_pair-requires-clause-unentered : goal.clear_pair-requires-clause-unent
 clear_pair-requires-clause-unentered g c = unentered c.args.seat.now.knows c.args.store.now.cells c.args.log.now.table c.requires.holds.words
 
 pub returns-in_err-cleared-clause-holds : goal.returns-in_err-cleared-clause-holds
-returns-in_err-cleared-clause-holds g c = cleared_holds c.args.store.now c.args.seat.now c.clear_pair.new.seat c.args.log.now c.requires.holds c.clear_pair.ensures.seat (λ bound words there. (let r = c.clear_pair.ensures.rises bound words there in (r.0, r.2)))
+returns-in_err-cleared-clause-holds g c = cleared_holds c.args.store.now c.args.seat.now c.clear_pair.new.seat c.args.log.now c.requires.holds c.clear_pair.ensures.seat (λ bound words there. either_keeps c.clear_pair.new.seat.knows words _ _ (c.in_err-cleared.ensures.refused bound words there))
 
 pub returns-in_err-cleared-clause-err : goal.returns-in_err-cleared-clause-err
 returns-in_err-cleared-clause-err g c = err_any c.from_residual.result (Noted c.clear_pair.new.seat.knows versions_nowhere) (c.clear_pair.ensures.seat.noted versions_nowhere refl c.requires.nowhere)
 
 pub put_versions-requires-clause-holds : goal.put_versions-requires-clause-holds
-put_versions-requires-clause-holds g c = cleared_holds c.args.store.now c.args.seat.now c.clear_pair.new.seat c.args.log.now c.requires.holds c.clear_pair.ensures.seat (λ bound words there. (let r = c.clear_pair.ensures.rises bound words there in (r.0, r.2)))
+put_versions-requires-clause-holds g c = cleared_holds c.args.store.now c.args.seat.now c.clear_pair.new.seat c.args.log.now c.requires.holds c.clear_pair.ensures.seat (λ bound words there. (_, c.in_ok-cleared.ensures.bound bound words there))
 
 pub returns-in_err-put_versions-clause-seat : goal.returns-in_err-put_versions-clause-seat
 returns-in_err-put_versions-clause-seat g c =

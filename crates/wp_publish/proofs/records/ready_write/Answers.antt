@@ -3,9 +3,10 @@ use Rattle.wp_core.specs.Cache.{cache_place}
 use Rattle.wp_core.specs.Views.{words_stay, versions_nowhere, number_not_in_heap}
 use Rattle.wp_rule.specs.Knows.{Noted}
 use Rattle.wp_commits.specs.Notes.{is_of_words}
+use Rattle.wp_commits.proofs.Clears.{err_any}
 use Rattle.wp_publish.specs.Stages.{is_guarded, is_of_versions}
 use Rattle.wp_publish.proofs.Facts.{and_still, not_words, not_versions}
-use Rattle.wp_publish.proofs.Readied.{err_any, cleared_holds, cleared_through}
+use Rattle.wp_publish.proofs.Readied.{cleared_holds, cleared_through}
 use Rattle.wp_publish.proofs.Words.{unentered}
 use Rattle.wp_publish.proofs.records.ready_write.Goals as goal
 

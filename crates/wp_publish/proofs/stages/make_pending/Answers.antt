@@ -1,5 +1,3 @@
-use Rattle.std.proofs.Common.{ap}
-use Rattle.wp_wal.specs.Wal.{WalState}
 use Rattle.wp_publish.proofs.Begun.{begins_as, begins_one, begins_legal, begun}
 use Rattle.wp_publish.proofs.stages.make_pending.Goals as goal
 
@@ -14,5 +12,5 @@ begin-requires-clause-legal g c = begins_legal c.args.log.now c.reserve.new.self
 
 pub returns-clause-ok : goal.returns-clause-ok
 returns-clause-ok g c =
-    begun c.args.log.now c.reserve.new.self c.args.entries.items c.in-Ok.ensures.ok c.args.store.now c.args.seat.now c.begin.new.seat c.requires.holds c.reserve.ensures.first (ap (λ (x : WalState). x.faults) c.in-Ok.ensures.reserved)
+    begun c.args.log.now c.reserve.new.self c.args.entries.items c.in-Ok.ensures.ok c.args.store.now c.args.seat.now c.begin.new.seat c.requires.holds c.reserve.ensures.first c.in-Ok.ensures.reserved
     c.begin.ensures.seat c.begin.ensures.nowhere c.begin.ensures.below

@@ -20,4 +20,4 @@ returns-then-published-needed-clause-refused g c = let p = c.published-published
 pub returns-clause-ok : goal.returns-clause-ok
 returns-clause-ok g c = let p = c.published-published-2 in
     opened c.args.store.now c.args.seat.now c.take_write-log.new.seat c.take_write-log.result c.take_write-log.ensures p.new.seat p.result p.ensures.same p.ensures.stands p.ensures.rest c.args.needed (sym c.is_closed.ensures ∙ c.if-is_closed.false)
-    p.ensures.seen.1 (subst (λ (n : ℕ). p.result + c.args.needed ≤ n) c.limit-limit.ensures.0 c.if-published-needed.false) (subst (λ (n : ℕ). n < 2 ^ 32) c.limit-limit.ensures.0 c.limit-limit.ensures.2)
+    p.ensures.seen.1 (subst (λ (n : ℕ). p.result + c.args.needed ≤ n) c.limit-limit.ensures.0 c.if-published-needed.false) (subst (λ (n : ℕ). n < 2 ^ 32) c.limit-limit.ensures.0 c.limit-limit.ensures.2) c.told.ensures.log

@@ -32,7 +32,7 @@ returns g c =
     let Answers : PreparedState → Result ℕ TxnError → Type 0 = λ t r. Records c.args.store.now c.args.seat.now (Commit t.number ∷ []) (λ n. unprepared t.name ∷ []) r c.close_log.new.seat in
     subst (Answers c.args.txn.now) (sym c.close_log.ensures.answer) (subst (λ (t : PreparedState). Answers t (answer_of c.put_commit-outcome.result (length c.put_commit-outcome.new.log.table.history))) c.txn.view_is
     (recorded c.args.store.now c.args.seat.now c.open_log.new.seat c.put_commit-outcome.new.seat c.close_log.new.seat c.in_ok-log.log c.put_commit-outcome.new.log (Commit txn.number ∷ []) (λ n. unprepared txn.name ∷ []) o
-    (may_commit c.args.store.now c.args.seat.now c.open_log.new.seat c.in_ok-log.log 1 o txn.name txn.number txn.batch h (omega arith)).legal (λ n. about_one (unprepared txn.name) refl) c.close_log.ensures.gives
+    (may_commit c.args.store.now c.args.seat.now c.open_log.new.seat c.in_ok-log.log 1 o txn.name txn.number txn.batch h (omega arith)).legal (λ n. about_one (unprepared txn.name) refl) c.close_log.ensures.gives c.close_log.ensures.log
     c.put_commit-outcome.result c.put_commit-outcome.ensures))
 
 pub close_log-requires : goal.close_log-requires

@@ -27,7 +27,7 @@ returns g c =
     let Answers : OpenState → Result ℕ TxnError → Type 0 = λ t r. Records c.args.store.now c.args.seat.now (Prepare t.name t.batch ∷ []) (λ n. undecided_at t.name n ∷ []) r c.close_log.new.seat in
     subst (Answers c.args.txn.now) (sym c.close_log.ensures.answer) (subst (λ (t : OpenState). Answers t (answer_of c.put_prepare-outcome.result (length c.put_prepare-outcome.new.log.table.history))) c.txn.view_is
     (recorded c.args.store.now c.args.seat.now c.open_log.new.seat c.put_prepare-outcome.new.seat c.close_log.new.seat c.in_ok-log.log c.put_prepare-outcome.new.log (Prepare txn.name txn.batch ∷ []) (λ n. undecided_at txn.name n ∷ []) o
-    (may_prepare c.args.store.now c.args.seat.now c.open_log.new.seat c.in_ok-log.log 1 o txn.name txn.batch h c.changes.ensures.batch (omega arith)).legal (λ n. about_one (undecided_at txn.name n) refl) c.close_log.ensures.gives
+    (may_prepare c.args.store.now c.args.seat.now c.open_log.new.seat c.in_ok-log.log 1 o txn.name txn.batch h c.changes.ensures.batch (omega arith)).legal (λ n. about_one (undecided_at txn.name n) refl) c.close_log.ensures.gives c.close_log.ensures.log
     c.put_prepare-outcome.result c.put_prepare-outcome.ensures))
 
 pub close_log-requires : goal.close_log-requires

@@ -39,7 +39,7 @@ returns g c =
     (recorded z s t c.put_rollback-outcome.new.seat c.close_log.new.seat log c.put_rollback-outcome.new.log (Undo x.number b ∷ Close x.number ∷ []) (λ n. unprepared x.name ∷ []) o
     (may_roll_back z s t log 2 o x.name x.number x.batch h (omega arith) b c.changes.ensures.batch
     (restores z s t log 2 o x.name x.number x.batch h c.held_keys_keep_their_values.ensures b (subst (λ (t : PreparedState). HadPrior s t.number t.batch b) (sym c.txn.view_is) c.requires.prior))).legal
-    (λ n. about_one (unprepared x.name) refl) c.close_log.ensures.gives c.put_rollback-outcome.result c.put_rollback-outcome.ensures))
+    (λ n. about_one (unprepared x.name) refl) c.close_log.ensures.gives c.close_log.ensures.log c.put_rollback-outcome.result c.put_rollback-outcome.ensures))
 
 pub close_log-requires : goal.close_log-requires
 close_log-requires g c =

@@ -19,7 +19,7 @@ pub returns : goal.returns
 returns g c =
     let o = c.in_ok-log.ensures.ok in let es = Write c.args.batch.now ∷ [] in
     subst (λ (r : Result ℕ TxnError). Records c.args.store.now c.args.seat.now es (λ n. []) r c.close_log.new.seat) (sym c.close_log.ensures.answer)
-    (recorded c.args.store.now c.args.seat.now c.open_log.new.seat c.write-outcome.new.seat c.close_log.new.seat c.in_ok-log.log c.write-outcome.new.log es (λ n. []) o (c.requires.may _ _ o).legal (λ n fact there. absurd there) c.close_log.ensures.gives
+    (recorded c.args.store.now c.args.seat.now c.open_log.new.seat c.write-outcome.new.seat c.close_log.new.seat c.in_ok-log.log c.write-outcome.new.log es (λ n. []) o (c.requires.may _ _ o).legal (λ n fact there. absurd there) c.close_log.ensures.gives c.close_log.ensures.log
     c.write-outcome.result (noting_none _ _ _ _ _ es c.write-outcome.result c.write-outcome.ensures))
 
 pub close_log-requires : goal.close_log-requires
