@@ -50,7 +50,7 @@ module _ {D : Type 0} (z : SharedState D) (first : InstalledEdit) (old new : Sea
       refl refl refl refl refl k.running (after_flush new.knows.participant.seen e.last) false (ap (λ (x : List Entry × InstalledEdit). after_flush x.0 x.1) (λ i. (seen i, edit_is i))) k.goes_on
 
   pub nothing_flushed_alone : Flushes z old (Err Nothing) new → AnswersAlone z first old new client client command.Flush reply.Nothing store
-  nothing_flushed_alone (e, k) =
+  nothing_flushed_alone (e, (whole, k)) =
       let edit_is = last_is z first old new only store is stood was_last e k.found in
       let seen = seen_still z first old new only store is stood _ (follows_on _ z old new _ k.goes_on _ refl refl) in
       let all : take (length new.knows.participant.seen) new.knows.participant.seen ≡ store.history = take_all (length new.knows.participant.seen) new.knows.participant.seen (omega arith) ∙ seen in
@@ -58,7 +58,7 @@ module _ {D : Type 0} (z : SharedState D) (first : InstalledEdit) (old new : Sea
       nothing_answers z first old new only store is stood was_last e k.found client command.Flush ready next asks (ap (flushed (length store.history)) none) k.running k.goes_on
 
   pub flush_failed_alone : Flushes z old (Err TableFault) new → AnswersAlone z first old new client client command.Flush reply.FaultTables store
-  flush_failed_alone (e, k) =
+  flush_failed_alone (e, (whole, k)) =
       let edit_is = last_is z first old new only store is stood was_last e k.found in
       let seen = seen_still z first old new only store is stood _ (follows_on _ z old new _ k.goes_on _ refl refl) in
       let same : length (unflushed new.knows.participant.seen e.last) ≡ length (unflushed store.history store.installed) = ap (λ (x : List Entry × InstalledEdit). length (unflushed x.0 x.1)) (λ i. (seen i, edit_is i)) in

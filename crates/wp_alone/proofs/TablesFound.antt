@@ -55,7 +55,7 @@ store_halted : (store : Store) (was : Client) (c : Command) (ready : Reply) (nex
 store_halted store was c ready next a = λ i. record { history = append-nil store.history i; stopped = store.stopped; limit = store.limit; installed = store.installed; halted = true; board = a.board store.board reply.FaultTables i }
 
 module _ {D : Type 0} (z : SharedState D) (first : InstalledEdit) (old new : SeatState) (only : IsOnly old) (store : Store) (is : IsStoreOf z first old.knows.participant store) (stood : (w : World) × Stands z new w) (was_last : WasLast content z.first first) where
-  module _ (e : Installed) (f : Finds z old e) where
+  module _ (e : Installed) (f : Finds z old new e) where
     alone_found : IsAlone f.world f.actor
     alone_found = alone_at z old.by f.actor f.world f.there only.by (f.made ∙ only.made) (f.joined ∙ only.joined)
 
@@ -82,7 +82,7 @@ module _ {D : Type 0} (z : SharedState D) (first : InstalledEdit) (old new : Sea
     stopped halted = if_one store.halted (sym halted_is ∙ ap one_if halted)
 
     abbrev found_event : Event
-    found_event = found_by z old e f
+    found_event = found_by z old new e f
 
     -- ---- what is answered
 

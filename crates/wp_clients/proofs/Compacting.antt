@@ -81,7 +81,7 @@ module _ {D : Type 0} (z : SharedState D) (old new : SeatState) where
   module _ (client : Client) where
     compacted_beside : (done : Done) → Compacts z old (Ok done) new → Answers z old new client client command.Compact (reply.Compacted done.at done.versions)
     compacted_beside done (t, k) =
-        let edit = after_compaction (take done.at seen) k.live t.last in let event : Event = found_by z old t k.found in let made : Event = installed edit true in let bounds = floor_within done.at k.live k.pinned in
+        let edit = after_compaction (take done.at seen) k.live t.last in let event : Event = found_by z old new t k.found in let made : Event = installed edit true in let bounds = floor_within done.at k.live k.pinned in
         tables_answers z old new command.Compact compaction_is client (reply.Compacted done.at done.versions) (event ∷ made ∷ []) k.goes_on
         (record {
           acknowledges = refl;

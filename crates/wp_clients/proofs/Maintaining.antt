@@ -80,9 +80,9 @@ module _ {D : Type 0} (z : SharedState D) (old new : SeatState) where
         (λ first is_first before p e agrees. subst (λ (o : Option Reply). UnlessRefused o r (Row e before client 0 c r)) (sym (of.free client)) (row first is_first before p e agrees))
 
     -- a device had failed before
-    pub halted_answers : (t : Installed) (flushed : ℕ) → IsStopped (Continues z old new) z old t flushed → Answers z old new client client c (reply.Halted flushed)
+    pub halted_answers : (t : Installed) (flushed : ℕ) → IsStopped (Continues z old new) z old new t flushed → Answers z old new client client c (reply.Halted flushed)
     halted_answers t flushed k =
-        let event : Event = found_by z old t k.found in
+        let event : Event = found_by z old new t k.found in
         let same : event ≡ found_edit flushed t.last.tables (tables_due k.found.world.first_edit it.past) true = λ i. found_edit (sym k.flushed_is i) t.last.tables (tables_due k.found.world.first_edit it.past) (k.halted i) in
         tables_answers (reply.Halted flushed) (event ∷ []) k.goes_on
         (record { acknowledges = refl; tables = λ before. refl; labels = λ before. of.labels before (reply.Halted flushed); log_failed = refl; tables_failed = refl; remembered = (t.last.tables, tables_due k.found.world.first_edit it.past, inl same); explained = of_one (IsExplained it.client client.txn c (Some (reply.Halted flushed))) event tt })
@@ -91,10 +91,10 @@ module _ {D : Type 0} (z : SharedState D) (old new : SeatState) where
         of.halted e before client flushed (subst (λ (n : ℕ). IsKnown e (WasFlushed n)) (sym k.flushed_is) known.0, known.1 k.halted))
 
     -- there was nothing to do
-    pub nothing_answers : (t : Installed) (Idle : InstalledEdit → Type 0) (k : HasNothing (Continues z old new) z old t Idle)
-        → ((first : InstalledEdit) → WasLast content z.first first → (before : Progress) → IsProgress first it before → (e : Evidence) → Agrees e z new.knows.participant → Knows e (found_by z old t k.found) → Row e before client 0 c reply.Nothing)
+    pub nothing_answers : (t : Installed) (Idle : InstalledEdit → Type 0) (k : HasNothing (Continues z old new) z old new t Idle)
+        → ((first : InstalledEdit) → WasLast content z.first first → (before : Progress) → IsProgress first it before → (e : Evidence) → Agrees e z new.knows.participant → Knows e (found_by z old new t k.found) → Row e before client 0 c reply.Nothing)
         → Answers z old new client client c reply.Nothing
-    nothing_answers t Idle k row = let event : Event = found_by z old t k.found in
+    nothing_answers t Idle k row = let event : Event = found_by z old new t k.found in
         tables_answers reply.Nothing (event ∷ []) k.goes_on
         (record { acknowledges = refl; tables = λ before. refl; labels = λ before. of.labels before reply.Nothing; log_failed = refl; tables_failed = refl; remembered = tt; explained = of_one (IsExplained it.client client.txn c (Some reply.Nothing)) event tt })
         refl (λ before low. low)
@@ -105,7 +105,7 @@ module _ {D : Type 0} (z : SharedState D) (old new : SeatState) where
         → ((before : Progress) → before.last ≤ length it.seen → (e : Evidence) → Agrees e z new.knows.participant → e.installed ≡ t.last → e.failed.edit ≡ k.asked → Row e before client 0 c reply.FaultTables)
         → Answers z old new client client c reply.FaultTables
     failed_answers t Busy IsNext k row =
-        let event : Event = found_by z old t k.found in let fault : Event = tables_failed t.last k.asked in
+        let event : Event = found_by z old new t k.found in let fault : Event = tables_failed t.last k.asked in
         tables_answers reply.FaultTables (event ∷ fault ∷ []) k.goes_on
         (record { acknowledges = refl; tables = λ before. refl; labels = λ before. of.labels before reply.FaultTables; log_failed = refl; tables_failed = refl; remembered = tt; explained = of_two (IsExplained it.client client.txn c (Some reply.FaultTables)) event fault tt tt })
         refl (λ before low. low)
@@ -130,7 +130,7 @@ module _ {D : Type 0} (z : SharedState D) (old new : SeatState) where
 
     flushed_beside : (done : Done) → Flushes z old (Ok done) new → Answers z old new client client command.Flush (reply.Flushed done.at done.versions)
     flushed_beside done (t, k) =
-        let edit = after_flush seen t.last in let event : Event = found_by z old t k.found in let made : Event = installed edit false in
+        let edit = after_flush seen t.last in let event : Event = found_by z old new t k.found in let made : Event = installed edit false in
         tables_answers command.Flush flush_is client (reply.Flushed done.at done.versions) (event ∷ made ∷ []) k.goes_on
         (record {
           acknowledges = refl;
@@ -164,10 +164,10 @@ module _ {D : Type 0} (z : SharedState D) (old new : SeatState) where
 
     not_flushed_beside : (why : MaintError) (r : Reply) → tables_refusal why ≡ Some r → Flushes z old (Err why) new → Answers z old new client client command.Flush r
     not_flushed_beside Memory r is f = absurd cc
-    not_flushed_beside Nothing r is (t, k) = subst (Answers z old new client client command.Flush) (same_some reply.Nothing r is)
+    not_flushed_beside Nothing r is (t, (whole, k)) = subst (Answers z old new client client command.Flush) (same_some reply.Nothing r is)
         (nothing_answers command.Flush flush_is client t (NoneInMemory seen) k
         (λ first is_first before p e agrees known. nothing_row t k.idle before (last_still first it new.knows.participant before k.goes_on.seen p) e agrees known.0))
-    not_flushed_beside TableFault r is (t, k) = subst (Answers z old new client client command.Flush) (same_some reply.FaultTables r is)
+    not_flushed_beside TableFault r is (t, (whole, k)) = subst (Answers z old new client client command.Flush) (same_some reply.FaultTables r is)
         (failed_answers command.Flush flush_is client t (1 ≤ length (unflushed seen t.last)) (λ edit. edit ≡ after_flush seen t.last) k (fails_row t k.asked k.busy k.next k.goes_on.seen))
     not_flushed_beside (TablesStopped flushed) r is (t, k) = subst (Answers z old new client client command.Flush) (same_some (reply.Halted flushed) r is)
         (halted_answers command.Flush flush_is client t flushed k)
@@ -191,6 +191,6 @@ module _ {D : Type 0} (z : SharedState D) (old new : SeatState) where
   pub flush_holds : (answer : Result Done MaintError) → Flushes z old answer new → (h : HoldingsState) → Holds z old h → Holds z new h
   flush_holds (Ok done) (t, k) = holds_still z old new _ refl refl refl k.goes_on
   flush_holds (Err Memory) (t, goes) = keeps_holds z old new goes
-  flush_holds (Err Nothing) (t, k) = holds_still z old new _ refl refl refl k.goes_on
-  flush_holds (Err TableFault) (t, k) = holds_still z old new _ refl refl refl k.goes_on
+  flush_holds (Err Nothing) (t, (whole, k)) = holds_still z old new _ refl refl refl k.goes_on
+  flush_holds (Err TableFault) (t, (whole, k)) = holds_still z old new _ refl refl refl k.goes_on
   flush_holds (Err (TablesStopped flushed)) (t, k) = holds_still z old new _ refl refl refl k.goes_on

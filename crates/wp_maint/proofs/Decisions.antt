@@ -57,6 +57,15 @@ module _ (history : List Entry) (p n : ℕ) (pairs : List Pair) where
       is_here q m (inl same) (inr none) at = absurd none
       is_here q m (inr none) here at = absurd none
 
+  -- the pairs told it already
+  pub decided_told : is_committed pairs p n ≡ true → Decides history (p ∷ []) (n ∷ []) pairs pairs
+  decided_told told = record { still = λ q m there. there; only = λ q m there. inl there; all = λ q m mine here at. is_here q m mine here }
+    where
+      is_here : (q m : ℕ) → IsIn q (p ∷ []) → IsIn m (n ∷ []) → is_committed pairs q m ≡ true
+      is_here q m (inl same) (inl here) = subst (λ (k : ℕ × ℕ). is_committed pairs k.0 k.1 ≡ true) (λ i. (same i, here i)) told
+      is_here q m (inl same) (inr none) = absurd none
+      is_here q m (inr none) here = absurd none
+
 -- ---- one after another
 
 in_either : {X : Type 0} (x : X) (xs ys : List X) → IsIn x (xs ++ ys) → IsIn x xs ⊎ IsIn x ys
@@ -71,12 +80,18 @@ pub decided_nothing : (history : List Entry) (ns : List ℕ) (pairs : List Pair)
 decided_nothing history ns pairs = record { still = λ p n there. there; only = λ p n there. inl there; all = λ p n none here at. absurd none }
 
 module _ (history : List Entry) (before mid after : List Pair) where
-  pub then_numbers : (ps ns ms : List ℕ) → Decides history ps ns before mid → Decides history ps ms mid after → Decides history ps (ns ++ ms) before after
-  then_numbers ps ns ms first second = record {
+  then_each : (ps ns ms all : List ℕ) → ((n : ℕ) → IsIn n all → IsIn n ns ⊎ IsIn n ms) → Decides history ps ns before mid → Decides history ps ms mid after → Decides history ps all before after
+  then_each ps ns ms all are first second = record {
     still = λ p n there. second.still p n (first.still p n there);
     only = λ p n there. ⊎_elim (λ old. first.only p n old) (λ at. inr at) (second.only p n there);
-    all = λ p n mine here at. ⊎_elim (λ (k : IsIn n ns). second.still p n (first.all p n mine k at)) (λ (k : IsIn n ms). second.all p n mine k at) (in_either n ns ms here);
+    all = λ p n mine here at. ⊎_elim (λ (k : IsIn n ns). second.still p n (first.all p n mine k at)) (λ (k : IsIn n ms). second.all p n mine k at) (are n here);
   }
+
+  pub then_numbers : (ps ns ms : List ℕ) → Decides history ps ns before mid → Decides history ps ms mid after → Decides history ps (ns ++ ms) before after
+  then_numbers ps ns ms first second = then_each ps ns ms (ns ++ ms) (λ n here. in_either n ns ms here) first second
+
+  pub then_one : (ps ns : List ℕ) (m : ℕ) → Decides history ps ns before mid → Decides history ps (m ∷ []) mid after → Decides history ps (m ∷ ns) before after
+  then_one ps ns m first second = then_each ps ns (m ∷ []) (m ∷ ns) (λ n here. ⊎_elim (λ same. inr (inl same)) (λ rest. inl rest) here) first second
 
   pub then_versions : (ps qs ns : List ℕ) → Decides history ps ns before mid → Decides history qs ns mid after → Decides history (ps ++ qs) ns before after
   then_versions ps qs ns first second = record {

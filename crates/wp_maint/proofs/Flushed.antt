@@ -26,7 +26,7 @@ use Rattle.wp_maint.specs.Installs.{HasInstalled, NotInstalled}
 use Rattle.wp_maint.specs.Holding.{no_fact, is_of_flushed, is_of_tables, being, GoesOnAs, HoldsEdits}
 use Rattle.wp_maint.proofs.Found.{failed_last}
 use Rattle.wp_maint.proofs.Installed.{same_edit}
-use Rattle.wp_maint.proofs.Onward.{changed_seat, held_left, starts_same, none_free, flushed_free, tables_free, goes_as, goes_still}
+use Rattle.wp_maint.proofs.Onward.{changed_seat, held_left, found_later, starts_equal, starts_same, none_free, flushed_free, tables_free, goes_as, goes_still}
 
 module _ {D : Type 0} (z : SharedState D) (s u : SeatState) (e left : EditsState) (f : Frozen) (frozen : HasFrozen s.knows e.table f) where
   abbrev next : InstalledEdit
@@ -47,22 +47,23 @@ module _ {D : Type 0} (z : SharedState D) (s u : SeatState) (e left : EditsState
       last = ap (λ (x : Installed). x.last.versions) k.table ∙ sym (ap (λ (x : InstalledEdit). x.versions) (same_edit s.knows e.table f frozen));
     }
 
-    pub has_flushed : HoldsEdits z s e → SawWhole z s s.knows.participant.past s.knows.participant.seen → HasNewest f.versions e left → (v : SeatState) → GoesOn is_of_tables (installed left.table ∷ []) u.turns u v → e.table.halted ≡ false → (n : ℕ) → n ≡ length f.versions → HasFlushed (GoesOnAs s v) z s v e.table (record { at = f.at; versions = n })
+    pub has_flushed : HoldsEdits z s e → SawWhole z s s.knows.participant.seen → HasNewest f.versions e left → (v : SeatState) → GoesOn is_of_tables (installed left.table ∷ []) u.turns u v → e.table.halted ≡ false → (n : ℕ) → n ≡ length f.versions → HasFlushed (GoesOnAs s v) z s v e.table (record { at = f.at; versions = n })
     has_flushed holds whole parts v put running n counted =
         let before : u.knows.participant.seen ≡ s.knows.participant.seen = ap (λ (x : SeatState). x.knows.participant.seen) k.changes.goes.same in
         let seen : v.knows.participant.seen ≡ s.knows.participant.seen = ap (λ (x : SeatState). x.knows.participant.seen) put.same ∙ before in
-        let after : InstalledEdit → Participant = λ edit. remembering (found_by z s e.table k.changes.found ∷ event.installed edit false ∷ []) s.knows.participant in
+        let found = found_later z s u v e.table (starts_equal u.knows.participant.seen v.knows.participant.seen (ap (λ (x : SeatState). x.knows.participant.seen) put.same)) k.changes.found in
+        let after : InstalledEdit → Participant = λ edit. remembering (found_by z s v e.table found ∷ event.installed edit false ∷ []) s.knows.participant in
         let first : GoesOnAs s u (after next) =
         goes_as s (being (after next) s) u is_of_flushed (installed left.table ∷ []) s.turns k.changes.goes refl refl refl (starts_same s.knows.participant.seen) flushed_free in
         let second : GoesOnAs u v u.knows.participant = goes_as u u v is_of_tables (installed left.table ∷ []) u.turns put refl refl refl (starts_same u.knows.participant.seen) tables_free in
         record {
-          found = k.changes.found;
+          found = found;
           running = running;
           at = frozen.at ∙ ap (λ (h : List Entry). length h) (sym seen);
-          whole = subst (SawWhole z s s.knows.participant.past) (sym seen) whole;
+          whole = subst (SawWhole z s) (sym seen) whole;
           some = let o = frozen.some in omega (arith, o, counted);
           versions = counted ∙ frozen.count ∙ ap (λ (h : List Entry). length (unflushed h e.table.last)) (sym seen);
-          left = held_left z s u v (record e.table { last = after_flush v.knows.participant.seen e.table.last }) k.stands (changed_seat z s u e.table left.table k.changes) before (sym (ap (λ (x : SeatState). x.knows.participant.past) put.same))
+          left = held_left z s u v (record e.table { last = after_flush v.knows.participant.seen e.table.last }) k.stands (changed_seat z s u e.table left.table k.changes) before (ap (λ (x : SeatState). x.knows.participant) put.same)
               (subst (λ (t : Installed). IsIn (installed t) u.knows.held) (k.table ∙ ap (λ (h : List Entry). record e.table { last = after_flush h e.table.last }) (sym seen)) (subst (IsIn (installed left.table)) (sym k.holds.held) (inl refl)));
           table = record {
             before = e;
@@ -89,21 +90,23 @@ module _ {D : Type 0} (z : SharedState D) (s u : SeatState) (e left : EditsState
   settled_still Nothing k there = absurd k
   settled_still (TablesStopped flushed) k there = absurd k
 
-  pub not_flushed : HoldsEdits z s e → (why : MaintError) → NotInstalled z s e next why u left → e.table.halted ≡ false → FlushesFrom (GoesOnAs s u) z s e.table (Err why) u
-  not_flushed holds Memory k running = subst (λ (x : SeatState). GoesOnAs s x s.knows.participant) (sym k.0)
+  pub not_flushed : HoldsEdits z s e → SawWhole z s s.knows.participant.seen → (why : MaintError) → NotInstalled z s e next why u left → e.table.halted ≡ false → FlushesFrom (GoesOnAs s u) z s e.table (Err why) u
+  not_flushed holds whole Memory k running = subst (λ (x : SeatState). GoesOnAs s x s.knows.participant) (sym k.0)
       (record { same_table = refl; same_by = refl; live = refl; seen = starts_same s.knows.participant.seen; participant = refl; notes = λ fact guard there. there; made = refl; joined = refl })
-  not_flushed holds TableFault k running =
-      let seen : u.knows.participant.seen ≡ s.knows.participant.seen = ap (λ (x : SeatState). x.knows.participant.seen) k.changes.goes.same in record {
-        found = k.changes.found;
-        running = running;
-        busy = let o = frozen.some in let c = frozen.count in let q = ap (λ (h : List Entry). length (unflushed h e.table.last)) seen in omega (arith, o, c, q);
-        asked = left.table.failed;
-        next = subst (λ (h : List Entry). IfSome left.table.failed (λ edit. edit ≡ after_flush h e.table.last)) (sym seen) k.asked;
-        left = held_left z s u u (with_failed e.table left.table.failed) k.stands (changed_seat z s u e.table left.table k.changes) seen refl
-            (subst (λ (t : Installed). IsIn (installed t) u.knows.held) k.table (subst (IsIn (installed left.table)) (sym k.holds.held) (inl refl)));
-        fault = record { before = e; after = left; of_store = holds.of_store; still_of_store = k.holds.of_store; before_is = refl; after_is = k.table; edits = k.edits; still_edits = k.still_edits; so = k.fault };
-        survives = (next, ap (λ (h : List Entry). after_flush h e.table.last) (sym seen), k.survives);
-        goes_on = goes_as s (being (remembering (found_by z s e.table k.changes.found ∷ tables_failed e.table.last left.table.failed ∷ []) s.knows.participant) s) u no_fact (installed left.table ∷ []) s.turns k.changes.goes refl refl refl (starts_same s.knows.participant.seen) none_free;
-      }
-  not_flushed holds Nothing k running = absurd k
-  not_flushed holds (TablesStopped flushed) k running = absurd k
+  not_flushed holds whole TableFault k running = let seen : u.knows.participant.seen ≡ s.knows.participant.seen = ap (λ (x : SeatState). x.knows.participant.seen) k.changes.goes.same in (
+    subst (SawWhole z s) (sym seen) whole,
+    record {
+      found = k.changes.found;
+      running = running;
+      busy = let o = frozen.some in let c = frozen.count in let q = ap (λ (h : List Entry). length (unflushed h e.table.last)) seen in omega (arith, o, c, q);
+      asked = left.table.failed;
+      next = subst (λ (h : List Entry). IfSome left.table.failed (λ edit. edit ≡ after_flush h e.table.last)) (sym seen) k.asked;
+      left = held_left z s u u (with_failed e.table left.table.failed) k.stands (changed_seat z s u e.table left.table k.changes) seen refl
+          (subst (λ (t : Installed). IsIn (installed t) u.knows.held) k.table (subst (IsIn (installed left.table)) (sym k.holds.held) (inl refl)));
+      fault = record { before = e; after = left; of_store = holds.of_store; still_of_store = k.holds.of_store; before_is = refl; after_is = k.table; edits = k.edits; still_edits = k.still_edits; so = k.fault };
+      survives = (next, ap (λ (h : List Entry). after_flush h e.table.last) (sym seen), k.survives);
+      goes_on = goes_as s (being (remembering (found_by z s u e.table k.changes.found ∷ tables_failed e.table.last left.table.failed ∷ []) s.knows.participant) s) u no_fact (installed left.table ∷ []) s.turns k.changes.goes refl refl refl (starts_same s.knows.participant.seen) none_free;
+    },
+  )
+  not_flushed holds whole Nothing k running = absurd k
+  not_flushed holds whole (TablesStopped flushed) k running = absurd k

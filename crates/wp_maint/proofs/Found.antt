@@ -11,6 +11,7 @@ use Rattle.wp_commits.specs.Notes.{GoesOn}
 use Rattle.wp_maint.specs.Calls.{found_by, remembering}
 use Rattle.wp_maint.specs.Finding.{Remembers, Changes}
 use Rattle.wp_maint.specs.Holding.{being}
+use Rattle.wp_maint.proofs.Onward.{starts_equal, found_later}
 
 pub held_first : (s : SeatState) (t : Installed) → s.knows.held ≡ installed t ∷ [] → IsIn (installed t) s.knows.held
 held_first s t held = subst (IsIn (installed t)) (sym held) (inl refl)
@@ -32,11 +33,12 @@ module _ {D : Type 0} (z : SharedState D) (s u : SeatState) (t : Installed) wher
 pub then_changes : {D : Type 0} (z : SharedState D) (s u v : SeatState) (t : Installed) (k : Remembers z s t u) (left : Installed) (event : Event) (test : Fact → Bool)
     → GoesOn test (installed left ∷ []) u.turns (being (remembering (event ∷ []) u.knows.participant) u) v → Changes z s t left event test v
 then_changes z s u v t k left event test goes =
-    let first = found_by z s t k.found in
+    let found = found_later z s u v t (starts_equal u.knows.participant.seen v.knows.participant.seen (ap (λ (x : SeatState). x.knows.participant.seen) goes.same)) k.found in
+    let first = found_by z s v t found in
     let both : being (remembering (event ∷ []) u.knows.participant) u ≡ being (remembering (first ∷ event ∷ []) s.knows.participant) s =
     ap (λ (x : SeatState). being (remembering (event ∷ []) x.knows.participant) x) k.is
     ∙ ap (λ (past : List Event). being (record s.knows.participant { past = past }) s) (append_assoc s.knows.participant.past (first ∷ []) (event ∷ [])) in
     record {
-      found = k.found;
+      found = found;
       goes = subst (λ (b : SeatState). GoesOn test (installed left ∷ []) s.turns b v) both (subst (λ (x : SeatState). GoesOn test (installed left ∷ []) x.turns (being (remembering (event ∷ []) u.knows.participant) u) v) k.is goes);
     }

@@ -1,5 +1,5 @@
 -- The steps of maintenance: that they may be made, and what they leave of the seat.
-use Rattle.std.proofs.Common.{◌≡◌, inl, inr, ℕ, ◌≤◌, Bool, true, false, true≢false, List, [], ◌∷◌, append-nil, length, refl, sym, subst, ap, ◌∙◌, Option, Some, None}
+use Rattle.std.proofs.Common.{◌≡◌, inl, inr, ℕ, ◌≤◌, Bool, true, false, true≢false, List, [], ◌∷◌, length, refl, sym, subst, ap, ◌∙◌, Option, Some, None}
 use Rattle.std.specs.Prelude.{IfSome}
 use Rattle.wp_model.specs.declared.entry.Entry.{Entry}
 use Rattle.wp_model.specs.declared.version.Version.{Version}
@@ -35,6 +35,7 @@ use Rattle.wp_maint.specs.Calls.{remembering}
 use Rattle.wp_maint.specs.Finding.{Remembers}
 use Rattle.wp_maint.specs.Holding.{no_fact, is_of_flushed, is_of_tables, being}
 use Rattle.wp_maint.proofs.Found.{failed_last}
+use Rattle.wp_maint.proofs.Onward.{starts_same, starts_equal}
 
 abbrev installed_in : Installed → Content → Installed
 installed_in t (installed d) = d
@@ -80,9 +81,20 @@ found z so s u same t held m =
     let step = made (place_at z s.by) find_edit so s.knows u.knows find_ends m in
     let p : Participant = s.knows.participant in
     let table : step.world.installed ≡ t = ap (installed_in t) (held_is (place_at z s.by) s.knows step.world (installed t) step.before held).1 in
+    let is : u ≡ being (remembering (find_of step.world.first_edit t p ∷ []) p) s = becomes s u (record s.knows { participant = remembering (find_of step.world.first_edit t p ∷ []) p }) same (step.actor ∙ ap (λ (x : Installed). record s.knows { participant = remembering (find_of step.world.first_edit x p ∷ []) p }) table) in
     record {
-      found = record { world = step.world; actor = s.knows; there = step.before; held = held; past_is = refl; seen_is = ([], sym (append-nil p.seen)); made = refl; joined = refl };
-      is = becomes s u (record s.knows { participant = remembering (find_of step.world.first_edit t p ∷ []) p }) same (step.actor ∙ ap (λ (x : Installed). record s.knows { participant = remembering (find_of step.world.first_edit x p ∷ []) p }) table);
+      found = record {
+        world = step.world;
+        actor = s.knows;
+        there = step.before;
+        held = held;
+        past_is = refl;
+        seen_is = starts_same p.seen;
+        within = starts_equal p.seen u.knows.participant.seen (ap (λ (x : SeatState). x.knows.participant.seen) is);
+        made = refl;
+        joined = refl;
+      };
+      is = is;
     }
   where
     find_of : InstalledEdit → Installed → Participant → Event

@@ -31,7 +31,7 @@ use Rattle.wp_maint.specs.Compaction.{IsPin, MayReplace}
 use Rattle.wp_maint.specs.Holding.{no_fact, is_of_flushed, is_of_tables, being, GoesOnAs, HoldsEdits}
 use Rattle.wp_maint.specs.Installs.{HasInstalled, NotInstalled}
 use Rattle.wp_maint.proofs.Found.{failed_last}
-use Rattle.wp_maint.proofs.Onward.{changed_seat, held_left, same_seat, starts_same, none_free, flushed_free, tables_free, goes_as, goes_still}
+use Rattle.wp_maint.proofs.Onward.{changed_seat, held_left, found_later, same_seat, starts_equal, starts_same, none_free, flushed_free, tables_free, goes_as, goes_still}
 use Rattle.wp_maint.proofs.Replaces.{in_one_is}
 use Rattle.wp_maint.proofs.Versions.{sorted_same}
 
@@ -89,18 +89,19 @@ module _ {D : Type 0} (z : SharedState D) (s u : SeatState) (e left : EditsState
     has_compacted holds parts v put running several few n counted =
         let then : v.knows.participant.seen ≡ s.knows.participant.seen = ap (λ (x : SeatState). x.knows.participant.seen) put.same ∙ seen in
         let named : next ≡ after_compaction (take floor v.knows.participant.seen) numbers e.table.last = in_one_is (take floor s.knows.participant.seen) numbers e.table.last kept kept_is ∙ ap (λ (h : List Entry). after_compaction (take floor h) numbers e.table.last) (sym then) in
-        let after : InstalledEdit → Participant = λ edit. remembering (found_by z s e.table k.changes.found ∷ event.installed edit true ∷ []) s.knows.participant in
+        let found = found_later z s u v e.table (starts_equal u.knows.participant.seen v.knows.participant.seen (ap (λ (x : SeatState). x.knows.participant.seen) put.same)) k.changes.found in
+        let after : InstalledEdit → Participant = λ edit. remembering (found_by z s v e.table found ∷ event.installed edit true ∷ []) s.knows.participant in
         let first : GoesOnAs s u (after next) = goes_as s (being (after next) s) u is_of_flushed (installed left.table ∷ []) s.turns k.changes.goes refl refl refl (starts_same s.knows.participant.seen) flushed_free in
         let second : GoesOnAs u v u.knows.participant = goes_as u u v is_of_tables (installed left.table ∷ []) u.turns put refl refl refl (starts_same u.knows.participant.seen) tables_free in
         record {
-          found = k.changes.found;
+          found = found;
           running = running;
           several = several;
           live = numbers;
           pinned = (refl, refl);
           versions = counted ∙ ap (λ (l : List Version). length l) kept_is ∙ ap (λ (h : List Entry). length (retained (take floor h) numbers e.table.last)) (sym then);
           few = subst (λ (h : List Entry). n ≤ length (later_versions (take floor h) 0)) (sym then) (omega (arith, few, counted));
-          left = held_left z s u v (record e.table { last = after_compaction (take floor v.knows.participant.seen) numbers e.table.last }) k.stands (changed_seat z s u e.table left.table k.changes) seen (sym (ap (λ (x : SeatState). x.knows.participant.past) put.same))
+          left = held_left z s u v (record e.table { last = after_compaction (take floor v.knows.participant.seen) numbers e.table.last }) k.stands (changed_seat z s u e.table left.table k.changes) seen (ap (λ (x : SeatState). x.knows.participant) put.same)
               (subst (λ (t : Installed). IsIn (installed t) u.knows.held) (k.table ∙ ap (λ (edit : InstalledEdit). record e.table { last = edit }) named) (subst (IsIn (installed left.table)) (sym k.holds.held) (inl refl)));
           table = record {
             before = e;
@@ -149,7 +150,7 @@ module _ {D : Type 0} (z : SharedState D) (s u : SeatState) (e left : EditsState
             (subst (λ (t : Installed). IsIn (installed t) u.knows.held) k.table (subst (IsIn (installed left.table)) (sym k.holds.held) (inl refl)));
         fault = record { before = e; after = left; of_store = holds.of_store; still_of_store = k.holds.of_store; before_is = refl; after_is = k.table; edits = k.edits; still_edits = k.still_edits; so = k.fault };
         survives = (next, asked_so (Some next) refl same, k.survives);
-        goes_on = goes_as s (being (remembering (found_by z s e.table k.changes.found ∷ tables_failed e.table.last left.table.failed ∷ []) s.knows.participant) s) u no_fact (installed left.table ∷ []) s.turns k.changes.goes refl refl refl (starts_same s.knows.participant.seen) none_free;
+        goes_on = goes_as s (being (remembering (found_by z s u e.table k.changes.found ∷ tables_failed e.table.last left.table.failed ∷ []) s.knows.participant) s) u no_fact (installed left.table ∷ []) s.turns k.changes.goes refl refl refl (starts_same s.knows.participant.seen) none_free;
       }
   not_compacted holds Nothing k running several = absurd k
   not_compacted holds (TablesStopped flushed) k running several = absurd k

@@ -29,7 +29,7 @@ use Rattle.wp_commits.specs.Notes.{GoesOn}
 use Rattle.wp_maint.specs.declared.done.Done.{Done}
 use Rattle.wp_maint.specs.declared.error.MaintError.{MaintError}
 use Rattle.wp_maint.specs.declared.error.MaintError.TheVariants.{Memory, Nothing, TableFault, TablesStopped}
-use Rattle.wp_maint.specs.Calls.{HeldTables, SawWhole, Finds, FlushesFrom, NoneInMemory, CompactsFrom, IsCompactionOf, found_by, remembering}
+use Rattle.wp_maint.specs.Calls.{HeldTables, SawWhole, Finds, HasNothing, FlushesFrom, NoneInMemory, FewTables, CompactsFrom, IsCompactionOf, found_by, remembering}
 use Rattle.wp_maint.specs.Compaction.{EndsRoundFrom}
 use Rattle.wp_maint.specs.Finding.{Remembers, Changes}
 use Rattle.wp_maint.specs.Holding.{no_fact, is_under, is_of_flushed, is_of_tables, seeing, being, GoesOnAs, HoldsEdits}
@@ -39,8 +39,11 @@ use Rattle.wp_maint.specs.Holding.{no_fact, is_under, is_of_flushed, is_of_table
 pub starts_on : (one two three : List Entry) → StartsWith two one → StartsWith three two → StartsWith three one
 starts_on one two three first second = (first.0 ++ second.0, second.1 ∙ ap (λ (h : List Entry). h ++ second.0) first.1 ∙ append_assoc one first.0 second.0)
 
+pub starts_equal : (one two : List Entry) → two ≡ one → StartsWith two one
+starts_equal one two same = ([], same ∙ sym (append-nil one))
+
 pub starts_same : (one : List Entry) → StartsWith one one
-starts_same one = ([], sym (append-nil one))
+starts_same one = starts_equal one one refl
 
 -- ---- which facts stay
 
@@ -153,29 +156,50 @@ settled_on s u test held turns gone named k edit settled =
 pub as_continues : {D : Type 0} (z : SharedState D) (s u : SeatState) (p : Participant) → GoesOnAs s u p → IsFree z.table u → Continues z s u p
 as_continues z s u p k free = record { free = free; same_by = k.same_by; seen = k.seen; participant = k.participant; notes = k.notes; made = k.made; joined = k.joined }
 
--- ---- the tables that it left
+-- ---- the tables that it held
 
--- a seat that stood with the tables held them, and the one behind remembers no more
-pub held_left : {D : Type 0} (z : SharedState D) (s u v : SeatState) (t : Installed) → (w : World) × Stands z u w → IsSeat s u → u.knows.participant.seen ≡ s.knows.participant.seen → u.knows.participant.past ≡ v.knows.participant.past → IsIn (installed t) u.knows.held
-    → HeldTables z s v.knows.participant.past t
-held_left z s u v t stands same seen past held = record {
+-- a seat that stood with the tables held them, and the one behind has seen and remembers no more
+pub held_left : {D : Type 0} (z : SharedState D) (s u v : SeatState) (t : Installed) → (w : World) × Stands z u w → IsSeat s u → u.knows.participant.seen ≡ s.knows.participant.seen → v.knows.participant ≡ u.knows.participant → IsIn (installed t) u.knows.held
+    → HeldTables z s v v.knows.participant.past t
+held_left z s u v t stands same seen still held = record {
   world = stands.0;
   actor = u.knows;
   there = subst (λ (b : ℕ). IsAt (place_at z b) u.knows stands.0) same.0 stands.1;
   held = held;
-  past_is = past;
-  seen_is = subst (λ (h : List Entry). StartsWith h s.knows.participant.seen) (sym seen) (starts_same s.knows.participant.seen);
+  past_is = sym (ap (λ (p : Participant). p.past) still);
+  seen_is = starts_equal s.knows.participant.seen u.knows.participant.seen seen;
+  within = starts_equal u.knows.participant.seen v.knows.participant.seen (ap (λ (p : Participant). p.seen) still);
   made = same.1;
   joined = same.2;
 }
 
+-- a seat held the tables between two others, and so between two that are further apart
+abbrev pub held_between : {D : Type 0} (z : SharedState D) (s t u v : SeatState) (past last : List Event) (e : Installed) → IsSeat s t → StartsWith t.knows.participant.seen s.knows.participant.seen → StartsWith v.knows.participant.seen u.knows.participant.seen → past ≡ last → HeldTables z t u past e → HeldTables z s v last e
+held_between z s t u v past last e same starts grown is k = record {
+  world = k.world;
+  actor = k.actor;
+  there = subst (λ (b : ℕ). IsAt (place_at z b) k.actor k.world) same.0 k.there;
+  held = k.held;
+  past_is = k.past_is ∙ is;
+  seen_is = starts_on s.knows.participant.seen t.knows.participant.seen k.actor.participant.seen starts k.seen_is;
+  within = starts_on k.actor.participant.seen u.knows.participant.seen v.knows.participant.seen k.within grown;
+  made = k.made ∙ same.1;
+  joined = k.joined ∙ same.2;
+}
+
+-- it found them, and one that has seen more found them too
+abbrev pub found_later : {D : Type 0} (z : SharedState D) (s u v : SeatState) (e : Installed) → StartsWith v.knows.participant.seen u.knows.participant.seen → Finds z s u e → Finds z s v e
+found_later z s u v e grown k = held_between z s s u v s.knows.participant.past s.knows.participant.past e (refl, refl, refl) (starts_same s.knows.participant.seen) grown refl k
+
 -- the seat before it saw the whole history too
-pub saw_so : {D : Type 0} (z : SharedState D) (s t : SeatState) (history seen : List Entry) → IsSeat s t → t.knows.participant.past ≡ s.knows.participant.past → history ≡ seen → SawWhole z t t.knows.participant.past history → SawWhole z s s.knows.participant.past seen
+pub saw_so : {D : Type 0} (z : SharedState D) (s t : SeatState) (history seen : List Entry) → IsSeat s t → t.knows.participant.past ≡ s.knows.participant.past → history ≡ seen → SawWhole z t history → SawWhole z s seen
 saw_so z s t history seen same past is k = record {
   world = k.world;
   actor = k.actor;
   there = subst (λ (b : ℕ). IsAt (place_at z b) k.actor k.world) same.0 k.there;
+  held = k.held;
   history_is = k.history_is ∙ is;
+  seen_is = k.seen_is ∙ is;
   past_is = k.past_is ∙ past;
   made = k.made ∙ same.1;
   joined = k.joined ∙ same.2;
@@ -183,46 +207,34 @@ saw_so z s t history seen same past is k = record {
 
 -- ---- what a flush says, of a seat before and of one behind
 
-module _ {D : Type 0} (First Last : Participant → Type 0) (z : SharedState D) (s t u v : SeatState) (e : Installed) (same : IsSeat s t) (same_past : t.knows.participant.past ≡ s.knows.participant.past) (starts : StartsWith t.knows.participant.seen s.knows.participant.seen) (past : u.knows.participant.past ≡ v.knows.participant.past)
+module _ {D : Type 0} (First Last : Participant → Type 0) (z : SharedState D) (s t u v : SeatState) (e : Installed) (same : IsSeat s t) (same_past : t.knows.participant.past ≡ s.knows.participant.past) (starts : StartsWith t.knows.participant.seen s.knows.participant.seen) (past : u.knows.participant.past ≡ v.knows.participant.past) (grown : StartsWith v.knows.participant.seen u.knows.participant.seen)
     (more : (events : List Event) → First (remembering events t.knows.participant) → Last (remembering events s.knows.participant)) (still : First t.knows.participant → Last s.knows.participant) where
-  holds_so : (left : Installed) → HeldTables z t u.knows.participant.past left → HeldTables z s v.knows.participant.past left
-  holds_so left k = record {
-    world = k.world;
-    actor = k.actor;
-    there = subst (λ (b : ℕ). IsAt (place_at z b) k.actor k.world) same.0 k.there;
-    held = k.held;
-    past_is = k.past_is ∙ past;
-    seen_is = starts_on s.knows.participant.seen t.knows.participant.seen k.actor.participant.seen starts k.seen_is;
-    made = k.made ∙ same.1;
-    joined = k.joined ∙ same.2;
-  }
+  holds_so : (left : Installed) → HeldTables z t u u.knows.participant.past left → HeldTables z s v v.knows.participant.past left
+  holds_so left k = held_between z s t u v u.knows.participant.past v.knows.participant.past left same starts grown past k
 
-  abbrev found_so : Finds z t e → Finds z s e
-  found_so k = record {
-    world = k.world;
-    actor = k.actor;
-    there = subst (λ (b : ℕ). IsAt (place_at z b) k.actor k.world) same.0 k.there;
-    held = k.held;
-    past_is = k.past_is ∙ same_past;
-    seen_is = starts_on s.knows.participant.seen t.knows.participant.seen k.actor.participant.seen starts k.seen_is;
-    made = k.made ∙ same.1;
-    joined = k.joined ∙ same.2;
-  }
+  abbrev found_so : Finds z t u e → Finds z s v e
+  found_so k = held_between z s t u v t.knows.participant.past s.knows.participant.past e same starts grown same_past k
 
   -- what is remembered of the tables that were found, and then of these events
-  remembers_so : (k : Finds z t e) (events : List Event) → First (remembering (found_by z t e k ∷ events) t.knows.participant) → Last (remembering (found_by z s e (found_so k) ∷ events) s.knows.participant)
+  remembers_so : (k : Finds z t u e) (events : List Event) → First (remembering (found_by z t u e k ∷ events) t.knows.participant) → Last (remembering (found_by z s v e (found_so k) ∷ events) s.knows.participant)
   remembers_so k events first =
-      subst (λ (past : List Event). Last (remembering (found_edit e.last.flushed e.last.tables (tables_due k.world.first_edit past) e.halted ∷ events) s.knows.participant)) same_past (more (found_by z t e k ∷ events) first)
+      subst (λ (past : List Event). Last (remembering (found_edit e.last.flushed e.last.tables (tables_due k.world.first_edit past) e.halted ∷ events) s.knows.participant)) same_past (more (found_by z t u e k ∷ events) first)
+
+  nothing_so : (Idle : InstalledEdit → Type 0) → HasNothing First z t u e Idle → HasNothing Last z s v e Idle
+  nothing_so Idle k = record { found = found_so k.found; running = k.running; idle = k.idle; goes_on = remembers_so k.found [] k.goes_on }
+
+  saw_whole : u.knows.participant.seen ≡ v.knows.participant.seen → SawWhole z t u.knows.participant.seen → SawWhole z s v.knows.participant.seen
+  saw_whole seen k = saw_so z s t u.knows.participant.seen v.knows.participant.seen same same_past seen k
 
   pub flushes_so : u.knows.participant.seen ≡ v.knows.participant.seen → (result : Result Done MaintError) → FlushesFrom First z t e result u → FlushesFrom Last z s e result v
   flushes_so seen (Ok done) k = record {
     found = found_so k.found;
     running = k.running;
     at = k.at ∙ ap (λ (h : List Entry). length h) seen;
-    whole = saw_so z s t u.knows.participant.seen v.knows.participant.seen same same_past seen k.whole;
+    whole = saw_whole seen k.whole;
     some = k.some;
     versions = k.versions ∙ ap (λ (h : List Entry). length (unflushed h e.last)) seen;
-    left = subst (λ (h : List Entry). HeldTables z s v.knows.participant.past (record e { last = after_flush h e.last })) seen (holds_so (record e { last = after_flush u.knows.participant.seen e.last }) k.left);
+    left = subst (λ (h : List Entry). HeldTables z s v v.knows.participant.past (record e { last = after_flush h e.last })) seen (holds_so (record e { last = after_flush u.knows.participant.seen e.last }) k.left);
     table = record {
       before = k.table.before;
       after = k.table.after;
@@ -236,21 +248,24 @@ module _ {D : Type 0} (First Last : Participant → Type 0) (z : SharedState D) 
     };
     survives = subst (λ (h : List Entry). SurvivesInstall k.table.before k.table.after (after_flush h e.last)) seen k.survives;
     goes_on = remembers_so k.found (event.installed (after_flush v.knows.participant.seen e.last) false ∷ [])
-        (subst (λ (h : List Entry). First (remembering (found_by z t e k.found ∷ event.installed (after_flush h e.last) false ∷ []) t.knows.participant)) seen k.goes_on);
+        (subst (λ (h : List Entry). First (remembering (found_by z t u e k.found ∷ event.installed (after_flush h e.last) false ∷ []) t.knows.participant)) seen k.goes_on);
   }
   flushes_so seen (Err Memory) k = still k
-  flushes_so seen (Err Nothing) k = record { found = found_so k.found; running = k.running; idle = subst (λ (h : List Entry). NoneInMemory h e.last) seen k.idle; goes_on = remembers_so k.found [] k.goes_on }
-  flushes_so seen (Err TableFault) k = record {
-    found = found_so k.found;
-    running = k.running;
-    busy = subst (λ (h : List Entry). 1 ≤ length (unflushed h e.last)) seen k.busy;
-    asked = k.asked;
-    next = subst (λ (h : List Entry). IfSome k.asked (λ edit. edit ≡ after_flush h e.last)) seen k.next;
-    left = holds_so _ k.left;
-    fault = k.fault;
-    survives = (k.survives.0, k.survives.1 ∙ ap (λ (h : List Entry). after_flush h e.last) seen, k.survives.2);
-    goes_on = remembers_so k.found (tables_failed e.last k.asked ∷ []) k.goes_on;
-  }
+  flushes_so seen (Err Nothing) (whole, k) = (saw_whole seen whole, subst (λ (h : List Entry). HasNothing Last z s v e (NoneInMemory h)) seen (nothing_so (NoneInMemory u.knows.participant.seen) k))
+  flushes_so seen (Err TableFault) (whole, k) = (
+    saw_whole seen whole,
+    record {
+      found = found_so k.found;
+      running = k.running;
+      busy = subst (λ (h : List Entry). 1 ≤ length (unflushed h e.last)) seen k.busy;
+      asked = k.asked;
+      next = subst (λ (h : List Entry). IfSome k.asked (λ edit. edit ≡ after_flush h e.last)) seen k.next;
+      left = holds_so _ k.left;
+      fault = k.fault;
+      survives = (k.survives.0, k.survives.1 ∙ ap (λ (h : List Entry). after_flush h e.last) seen, k.survives.2);
+      goes_on = remembers_so k.found (tables_failed e.last k.asked ∷ []) k.goes_on;
+    },
+  )
   flushes_so seen (Err (TablesStopped flushed)) k = record { found = found_so k.found; halted = k.halted; flushed_is = k.flushed_is; goes_on = remembers_so k.found [] k.goes_on }
 
   -- the same of a compaction, where what it pinned is pinned still, and begins what was seen
@@ -271,7 +286,7 @@ module _ {D : Type 0} (First Last : Participant → Type 0) (z : SharedState D) 
       pinned = p.0;
       versions = k.versions ∙ ap (λ (h : List Entry). length (retained h k.live e.last)) p.1;
       few = subst (λ (h : List Entry). done.versions ≤ length (later_versions h 0)) p.1 k.few;
-      left = subst (λ (h : List Entry). HeldTables z s v.knows.participant.past (record e { last = after_compaction h k.live e.last })) p.1 (holds_so (record e { last = after_compaction (take done.at u.knows.participant.seen) k.live e.last }) k.left);
+      left = subst (λ (h : List Entry). HeldTables z s v v.knows.participant.past (record e { last = after_compaction h k.live e.last })) p.1 (holds_so (record e { last = after_compaction (take done.at u.knows.participant.seen) k.live e.last }) k.left);
       table = record {
         before = k.table.before;
         after = k.table.after;
@@ -285,10 +300,10 @@ module _ {D : Type 0} (First Last : Participant → Type 0) (z : SharedState D) 
       };
       survives = subst (λ (h : List Entry). SurvivesInstall k.table.before k.table.after (after_compaction h k.live e.last)) p.1 k.survives;
       goes_on = remembers_so k.found (event.installed (after_compaction (take done.at v.knows.participant.seen) k.live e.last) true ∷ [])
-          (subst (λ (h : List Entry). First (remembering (found_by z t e k.found ∷ event.installed (after_compaction h k.live e.last) true ∷ []) t.knows.participant)) p.1 k.goes_on);
+          (subst (λ (h : List Entry). First (remembering (found_by z t u e k.found ∷ event.installed (after_compaction h k.live e.last) true ∷ []) t.knows.participant)) p.1 k.goes_on);
     }
     compacts_so (Err Memory) k = still k
-    compacts_so (Err Nothing) k = record { found = found_so k.found; running = k.running; idle = k.idle; goes_on = remembers_so k.found [] k.goes_on }
+    compacts_so (Err Nothing) k = nothing_so FewTables k
     compacts_so (Err TableFault) k = record {
       found = found_so k.found;
       running = k.running;
@@ -312,13 +327,19 @@ module _ {D : Type 0} (z : SharedState D) (s u v : SeatState) (e : Installed) (f
   past_still : u.knows.participant.past ≡ s.knows.participant.past
   past_still = ap (λ (p : Participant). p.past) first.participant
 
-  found_then : GoesOnAs u v (remembering (found_by z u e k.found ∷ []) u.knows.participant)
-  found_then = goes_being z u v (found_by z u e k.found ∷ []) k.is
+  found_then : GoesOnAs u v (remembering (found_by z u v e k.found ∷ []) u.knows.participant)
+  found_then = goes_being z u v (found_by z u v e k.found ∷ []) k.is
 
-  pub found_nothing : e.halted ≡ false → NoneInMemory u.knows.participant.seen e.last → FlushesFrom (GoesOnAs s v) z s e (Err Nothing) v
-  found_nothing running none = flushes_so (GoesOnAs u v) (GoesOnAs s v) z s u v v e (seat_still s u s.knows.participant first) past_still first.seen refl (goes_more s u v s.knows.participant first) (goes_still s u v s.knows.participant first) refl (Err Nothing)
-      (record { found = k.found; running = running; idle = subst (λ (x : SeatState). NoneInMemory x.knows.participant.seen e.last) (sym k.is) none; goes_on = found_then })
+  seen_then : u.knows.participant.seen ≡ v.knows.participant.seen
+  seen_then = sym (ap (λ (x : SeatState). x.knows.participant.seen) k.is)
+
+  pub found_nothing : e.halted ≡ false → SawWhole z s u.knows.participant.seen → NoneInMemory u.knows.participant.seen e.last → FlushesFrom (GoesOnAs s v) z s e (Err Nothing) v
+  found_nothing running whole none = (
+    subst (SawWhole z s) seen_then whole,
+    nothing_so (GoesOnAs u v) (GoesOnAs s v) z s u v v e (seat_still s u s.knows.participant first) past_still first.seen refl (starts_same v.knows.participant.seen) (goes_more s u v s.knows.participant first) (goes_still s u v s.knows.participant first) (NoneInMemory v.knows.participant.seen)
+        (record { found = k.found; running = running; idle = subst (λ (h : List Entry). NoneInMemory h e.last) seen_then none; goes_on = found_then }),
+  )
 
   pub found_halted : e.halted ≡ true → (n : ℕ) → n ≡ e.last.flushed → FlushesFrom (GoesOnAs s v) z s e (Err (TablesStopped n)) v
-  found_halted halted n is = flushes_so (GoesOnAs u v) (GoesOnAs s v) z s u v v e (seat_still s u s.knows.participant first) past_still first.seen refl (goes_more s u v s.knows.participant first) (goes_still s u v s.knows.participant first) refl (Err (TablesStopped n))
+  found_halted halted n is = flushes_so (GoesOnAs u v) (GoesOnAs s v) z s u v v e (seat_still s u s.knows.participant first) past_still first.seen refl (starts_same v.knows.participant.seen) (goes_more s u v s.knows.participant first) (goes_still s u v s.knows.participant first) refl (Err (TablesStopped n))
       (record { found = k.found; halted = halted; flushed_is = is; goes_on = found_then })

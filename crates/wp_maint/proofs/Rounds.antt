@@ -83,14 +83,14 @@ kept_retained a floor live versions pairs last k same kept is =
 -- ---- there is nothing to do
 
 pub found_few : {D : Type 0} (z : SharedState D) (s v : SeatState) (e : Installed) (Pinned : ℕ → List ℕ → Type 0) → Remembers z s e v → e.halted ≡ false → FewTables e.last → CompactsFrom (GoesOnAs s v) Pinned z s e (Err Nothing) v
-found_few z s v e Pinned k running few = record { found = k.found; running = running; idle = few; goes_on = goes_being z s v (found_by z s e k.found ∷ []) k.is }
+found_few z s v e Pinned k running few = record { found = k.found; running = running; idle = few; goes_on = goes_being z s v (found_by z s v e k.found ∷ []) k.is }
 
 -- ---- under the tables turn
 
 -- what was done behind a seat that had seen no less is done behind the one before it
 pub ends_then : {D : Type 0} (z : SharedState D) (s u v : SeatState) (e : Installed) (Pinned : ℕ → List ℕ → Type 0) → GoesOnAs s u s.knows.participant → (result : Option (Result Done MaintError)) → EndsRoundFrom (GoesOnAs u v) Pinned z u e result v → EndsRoundFrom (GoesOnAs s v) Pinned z s e result v
 ends_then z s u v e Pinned first result k =
-    ends_so (GoesOnAs u v) (GoesOnAs s v) z s u v v e (seat_still s u s.knows.participant first) (ap (λ (p : Participant). p.past) first.participant) first.seen refl (goes_more s u v s.knows.participant first) (goes_still s u v s.knows.participant first)
+    ends_so (GoesOnAs u v) (GoesOnAs s v) z s u v v e (seat_still s u s.knows.participant first) (ap (λ (p : Participant). p.past) first.participant) first.seen refl (starts_same v.knows.participant.seen) (goes_more s u v s.knows.participant first) (goes_still s u v s.knows.participant first)
     Pinned Pinned (λ floor live pinned. (pinned, refl)) result k
 
 module _ {D : Type 0} (z : SharedState D) (s d t : SeatState) (e : Installed) (free : IsFree z.table s) (first : Continues z s d s.knows.participant) (taken : GoesOn no_fact (installed e ∷ []) (5 ∷ []) d t) where
@@ -107,7 +107,7 @@ module _ {D : Type 0} (z : SharedState D) (s d t : SeatState) (e : Installed) (f
       let last = goes_as u u v (is_under tables_turn) [] [] given refl refl refl (starts_same u.knows.participant.seen) (under_free tables_turn) in
       let same : v.knows.participant ≡ u.knows.participant = ap (λ (x : SeatState). x.knows.participant) given.same in (
         e,
-        ends_so (GoesOnAs t u) (Continues z s v) z s t u v e (seat_still s t s.knows.participant goes_taken) (ap (λ (x : Participant). x.past) goes_taken.participant) goes_taken.seen (sym (ap (λ (x : Participant). x.past) same))
+        ends_so (GoesOnAs t u) (Continues z s v) z s t u v e (seat_still s t s.knows.participant goes_taken) (ap (λ (x : Participant). x.past) goes_taken.participant) goes_taken.seen (sym (ap (λ (x : Participant). x.past) same)) last.seen
             (λ events w. as_continues z s v (remembering events p) (goes_still s u v (remembering events p) (goes_more s t u p goes_taken events w) last) freed)
             (λ w. as_continues z s v p (goes_still s u v p (goes_still s t u p goes_taken w) last) freed)
             (IsPin floor live) (IsPin floor live) (λ f l pinned. (pinned, ap (λ (x : Participant). take f x.seen) (sym same))) result k,
@@ -123,11 +123,11 @@ module _ {D : Type 0} (Goes : Participant → Type 0) (Pinned : ℕ → List ℕ
   without k = ([], subst (λ (past : List Event). Goes (record s.knows.participant { past = past })) (sym (append-nil s.knows.participant.past)) k)
 
   compacts_somehow : (result : Result Done MaintError) → CompactsFrom Goes Pinned z s e result u → Somehow Goes s.knows.participant
-  compacts_somehow (Ok done) k = (found_by z s e k.found ∷ event.installed (after_compaction (take done.at u.knows.participant.seen) k.live e.last) true ∷ [], k.goes_on)
+  compacts_somehow (Ok done) k = (found_by z s u e k.found ∷ event.installed (after_compaction (take done.at u.knows.participant.seen) k.live e.last) true ∷ [], k.goes_on)
   compacts_somehow (Err Memory) k = without k
-  compacts_somehow (Err Nothing) k = (found_by z s e k.found ∷ [], k.goes_on)
-  compacts_somehow (Err TableFault) k = (found_by z s e k.found ∷ tables_failed e.last k.asked ∷ [], k.goes_on)
-  compacts_somehow (Err (TablesStopped flushed)) k = (found_by z s e k.found ∷ [], k.goes_on)
+  compacts_somehow (Err Nothing) k = (found_by z s u e k.found ∷ [], k.goes_on)
+  compacts_somehow (Err TableFault) k = (found_by z s u e k.found ∷ tables_failed e.last k.asked ∷ [], k.goes_on)
+  compacts_somehow (Err (TablesStopped flushed)) k = (found_by z s u e k.found ∷ [], k.goes_on)
 
   ends_somehow : (result : Option (Result Done MaintError)) → EndsRoundFrom Goes Pinned z s e result u → Somehow Goes s.knows.participant
   ends_somehow (Some result) k = compacts_somehow result k
@@ -203,7 +203,7 @@ module _ {D : Type 0} (z : SharedState D) (s t u v : SeatState) (floor : Registr
     pub round_so : EndsRound (Continues z s v) (HasPinned z s v) z s result v
     round_so = (
       k.0,
-      ends_so (Continues z t u) (Continues z s v) z s t u v k.0 (first.same_by, first.made, first.joined) (ap (λ (p : Participant). p.past) first.participant) first.seen (sym (ap (λ (p : Participant). p.past) last.participant)) unpinned unpinned_still
+      ends_so (Continues z t u) (Continues z s v) z s t u v k.0 (first.same_by, first.made, first.joined) (ap (λ (p : Participant). p.past) first.participant) first.seen (sym (ap (λ (p : Participant). p.past) last.participant)) last.seen unpinned unpinned_still
           (IsPin floor.number (numbers_of live)) (HasPinned z s v) pins_so result k.1,
     )
 
@@ -228,6 +228,6 @@ module _ {D : Type 0} (z : SharedState D) (s t v : SeatState) (first : Continues
   pub compacts_since : (result : Result Done MaintError) → EndsRound (Continues z t v) (HasPinned z t v) z t (Some result) v → Compacts z s result v
   compacts_since result k = (
     k.0,
-    compacts_so (Continues z t v) (Continues z s v) z s t v v k.0 (first.same_by, first.made, first.joined) (ap (λ (p : Participant). p.past) first.participant) first.seen refl (λ events second. continues_then z s t v s.knows.participant first (remembering events) (λ q h. refl) second) (continues_on z s t v s.knows.participant first)
+    compacts_so (Continues z t v) (Continues z s v) z s t v v k.0 (first.same_by, first.made, first.joined) (ap (λ (p : Participant). p.past) first.participant) first.seen refl (starts_same v.knows.participant.seen) (λ events second. continues_then z s t v s.knows.participant first (remembering events) (λ q h. refl) second) (continues_on z s t v s.knows.participant first)
         (HasPinned z t v) (HasPinned z s v) pinned_since result k.1,
   )

@@ -12,7 +12,7 @@ use Rattle.wp_core.specs.Lists.{IsIn}
 use Rattle.wp_core.specs.Reading.{Registration}
 use Rattle.wp_core.specs.Sound.Actors.{StartsWith}
 use Rattle.wp_core.specs.Sound.Pasts.{tables_due}
-use Rattle.wp_core.specs.Tables.{Installed, installed}
+use Rattle.wp_core.specs.Tables.{Installed, writes, installed}
 use Rattle.wp_core.specs.Views.{Event, tables_failed, found_edit}
 use Rattle.wp_core.specs.Views as event
 use Rattle.wp_core.specs.World.{Actor, Participant, World}
@@ -37,35 +37,38 @@ remembering events p = record p { past = p.past ++ events }
 -- ---- what the seat held
 
 -- In a reached world of the store the seat held the tables turn, with this table. It had this past then, had seen no less than
--- before, and had made and taken in as many others.
-pub record HeldTables {D : Type 0} (z : SharedState D) (old : SeatState) (past : List Event) (e : Installed) : Type 0 where
+-- before the call and no more than after it, and had made and taken in as many others.
+pub record HeldTables {D : Type 0} (z : SharedState D) (old new : SeatState) (past : List Event) (e : Installed) : Type 0 where
   pub world : World
   pub actor : Actor
   pub there : IsAt (place_at z old.by) actor world
   pub held : IsIn (installed e) actor.held
   pub past_is : actor.participant.past ≡ past
   pub seen_is : StartsWith actor.participant.seen old.knows.participant.seen
+  pub within : StartsWith new.knows.participant.seen actor.participant.seen
   pub made : actor.made ≡ old.knows.made
   pub joined : actor.joined ≡ old.knows.joined
 
--- In a reached world of the store this was the whole history. The seat had this past then, and had made and taken in as many
--- others as before.
-pub record SawWhole {D : Type 0} (z : SharedState D) (old : SeatState) (past : List Event) (history : List Entry) : Type 0 where
+-- In a reached world of the store this was the whole history, and the seat, which held the write turn, had seen it. It had the past
+-- then that it had before the call, and had made and taken in as many others.
+pub record SawWhole {D : Type 0} (z : SharedState D) (old : SeatState) (history : List Entry) : Type 0 where
   pub world : World
   pub actor : Actor
   pub there : IsAt (place_at z old.by) actor world
+  pub held : IsIn (writes world.writes) actor.held
   pub history_is : world.writes.history ≡ history
-  pub past_is : actor.participant.past ≡ past
+  pub seen_is : actor.participant.seen ≡ history
+  pub past_is : actor.participant.past ≡ old.knows.participant.past
   pub made : actor.made ≡ old.knows.made
   pub joined : actor.joined ≡ old.knows.joined
 
 -- the tables as the call found them
-abbrev pub Finds : {D : Type 0} → SharedState D → SeatState → Installed → Type 0
-Finds z old e = HeldTables z old old.knows.participant.past e
+abbrev pub Finds : {D : Type 0} → SharedState D → SeatState → SeatState → Installed → Type 0
+Finds z old new e = HeldTables z old new old.knows.participant.past e
 
 -- what it remembers of them: how many it knew of is told by its past, and by the first edit of that world
-abbrev pub found_by : {D : Type 0} → (z : SharedState D) → (old : SeatState) → (e : Installed) → Finds z old e → Event
-found_by z old e found = found_edit e.last.flushed e.last.tables (tables_due found.world.first_edit old.knows.participant.past) e.halted
+abbrev pub found_by : {D : Type 0} → (z : SharedState D) → (old new : SeatState) → (e : Installed) → Finds z old new e → Event
+found_by z old new e found = found_edit e.last.flushed e.last.tables (tables_due found.world.first_edit old.knows.participant.past) e.halted
 
 -- The store's tables on their devices, as the call found them, with this table, and as it left them, with that one. Both are what
 -- the value behind the turn may be: the devices have the tables that it names, no fault since the opening was forgotten, and what was
@@ -100,32 +103,32 @@ HasFault before after = HadCause before.set after.set Fault
 -- participant the seat goes on as, where `Goes` says so.
 
 -- a device had failed before, when this was the flushed number
-pub record IsStopped {D : Type 0} (Goes : Participant → Type 0) (z : SharedState D) (old : SeatState) (e : Installed) (flushed : ℕ) : Type 0 where
-  pub found : Finds z old e
+pub record IsStopped {D : Type 0} (Goes : Participant → Type 0) (z : SharedState D) (old new : SeatState) (e : Installed) (flushed : ℕ) : Type 0 where
+  pub found : Finds z old new e
   pub halted : e.halted ≡ true
   pub flushed_is : flushed ≡ e.last.flushed
-  pub goes_on : Goes (remembering (found_by z old e found ∷ []) old.knows.participant)
+  pub goes_on : Goes (remembering (found_by z old new e found ∷ []) old.knows.participant)
 
 -- no device had failed, and there was nothing to do
-pub record HasNothing {D : Type 0} (Goes : Participant → Type 0) (z : SharedState D) (old : SeatState) (e : Installed) (Idle : InstalledEdit → Type 0) : Type 0 where
-  pub found : Finds z old e
+pub record HasNothing {D : Type 0} (Goes : Participant → Type 0) (z : SharedState D) (old new : SeatState) (e : Installed) (Idle : InstalledEdit → Type 0) : Type 0 where
+  pub found : Finds z old new e
   pub running : e.halted ≡ false
   pub idle : Idle e.last
-  pub goes_on : Goes (remembering (found_by z old e found ∷ []) old.knows.participant)
+  pub goes_on : Goes (remembering (found_by z old new e found ∷ []) old.knows.participant)
 
--- A device failed, and its count rose, where there was something to do, as `Busy` says. The last edit stays; a later opening may
--- find the one that was to be installed, where the manifest was called for it. At each moment a crash left the edits up to the
--- last one, or those and that one, and their tables.
+-- A device failed where there was something to do, as `Busy` says. The last edit stays; a later opening may find the one that was
+-- to be installed, where the manifest was called for it. As `TablesBecame` says, of two states: a device's count rose, and at each
+-- moment between them a crash left the edits up to the last one, or those and that one, and their tables.
 pub record HasFailed {D : Type 0} (Goes : Participant → Type 0) (z : SharedState D) (old new : SeatState) (e : Installed) (Busy : Type 0) (IsNext : InstalledEdit → Type 0) : Type 0 where
-  pub found : Finds z old e
+  pub found : Finds z old new e
   pub running : e.halted ≡ false
   pub busy : Busy
   pub asked : Option InstalledEdit
   pub next : IfSome asked IsNext
-  pub left : HeldTables z old new.knows.participant.past (with_failed e asked)
+  pub left : HeldTables z old new new.knows.participant.past (with_failed e asked)
   pub fault : TablesBecame z e (with_failed e asked) HasFault
   pub survives : (edit : InstalledEdit) × IsNext edit × SurvivesInstall fault.before fault.after edit
-  pub goes_on : Goes (remembering (found_by z old e found ∷ tables_failed e.last asked ∷ []) old.knows.participant)
+  pub goes_on : Goes (remembering (found_by z old new e found ∷ tables_failed e.last asked ∷ []) old.knows.participant)
 
 -- ---- a flush
 
@@ -133,27 +136,29 @@ pub record HasFailed {D : Type 0} (Goes : Participant → Type 0) (z : SharedSta
 abbrev pub NoneInMemory : List Entry → InstalledEdit → Type 0
 NoneInMemory seen edit = (n : ℕ) → unflushed (take n seen) edit ≡ []
 
--- All that stood in memory is in one table more, up to the number that was published in a world that the seat was in. That table
--- has just these versions, and the last edit names it. At each moment a crash left the edits before that one, or those and it,
--- and their tables.
+-- All that stood in memory is in one table more, up to the number that was published in a world that the seat was in. The last edit
+-- names that table. As `TablesBecame` says, of two states: a table with just these versions came before those that were there, and
+-- at each moment between them a crash left the edits before that one, or those and it, and their tables.
 pub record HasFlushed {D : Type 0} (Goes : Participant → Type 0) (z : SharedState D) (old new : SeatState) (e : Installed) (done : Done) : Type 0 where
-  pub found : Finds z old e
+  pub found : Finds z old new e
   pub running : e.halted ≡ false
   pub at : done.at ≡ length new.knows.participant.seen
-  pub whole : SawWhole z old old.knows.participant.past new.knows.participant.seen
+  pub whole : SawWhole z old new.knows.participant.seen
   pub some : 1 ≤ done.versions
   pub versions : done.versions ≡ length (unflushed new.knows.participant.seen e.last)
-  pub left : HeldTables z old new.knows.participant.past (record e { last = after_flush new.knows.participant.seen e.last })
+  pub left : HeldTables z old new new.knows.participant.past (record e { last = after_flush new.knows.participant.seen e.last })
   pub table : TablesBecame z e (record e { last = after_flush new.knows.participant.seen e.last }) (HasNewest (sorted_of (unflushed new.knows.participant.seen e.last)))
   pub survives : SurvivesInstall table.before table.after (after_flush new.knows.participant.seen e.last)
-  pub goes_on : Goes (remembering (found_by z old e found ∷ event.installed (after_flush new.knows.participant.seen e.last) false ∷ []) old.knows.participant)
+  pub goes_on : Goes (remembering (found_by z old new e found ∷ event.installed (after_flush new.knows.participant.seen e.last) false ∷ []) old.knows.participant)
 
+-- What it answers and leaves where it finds these tables. Where there was nothing to flush, or a device failed, the seat had seen
+-- the whole history as well.
 abbrev pub FlushesFrom : {D : Type 0} → (Participant → Type 0) → SharedState D → SeatState → Installed → Result Done MaintError → SeatState → Type 0
 FlushesFrom Goes z old e (Ok done) new = HasFlushed Goes z old new e done
 FlushesFrom Goes z old e (Err Memory) new = Goes old.knows.participant
-FlushesFrom Goes z old e (Err Nothing) new = HasNothing Goes z old e (NoneInMemory new.knows.participant.seen)
-FlushesFrom Goes z old e (Err TableFault) new = HasFailed Goes z old new e (1 ≤ length (unflushed new.knows.participant.seen e.last)) (λ edit. edit ≡ after_flush new.knows.participant.seen e.last)
-FlushesFrom Goes z old e (Err (TablesStopped flushed)) new = IsStopped Goes z old e flushed
+FlushesFrom Goes z old e (Err Nothing) new = SawWhole z old new.knows.participant.seen × HasNothing Goes z old new e (NoneInMemory new.knows.participant.seen)
+FlushesFrom Goes z old e (Err TableFault) new = SawWhole z old new.knows.participant.seen × HasFailed Goes z old new e (1 ≤ length (unflushed new.knows.participant.seen e.last)) (λ edit. edit ≡ after_flush new.knows.participant.seen e.last)
+FlushesFrom Goes z old e (Err (TablesStopped flushed)) new = IsStopped Goes z old new e flushed
 
 -- what a flush answers and leaves, where the tables were so as it found them
 abbrev pub Flushes : {D : Type 0} → SharedState D → SeatState → Result Done MaintError → SeatState → Type 0
@@ -182,20 +187,21 @@ pub record HasPinned {D : Type 0} (z : SharedState D) (old new : SeatState) (flo
   pub later : StartsWith (take floor new.knows.participant.seen) old.knows.participant.seen
 
 -- Which floor and which live numbers it was, `Pinned` says. Of the tables' versions those stay that a reader at the floor needs,
--- or at a number that was live; they are no more than the history had up to the floor. The last edit names their table alone.
--- At each moment a crash left the edits before that one, or those and it, and their tables.
+-- or at a number that was live; they are no more than the history had up to the floor. The last edit names their table alone. As
+-- `TablesBecame` says, of two states: a table with just these versions took the place of all, and at each moment between them a
+-- crash left the edits before that one, or those and it, and their tables.
 pub record HasCompacted {D : Type 0} (Goes : Participant → Type 0) (Pinned : ℕ → List ℕ → Type 0) (z : SharedState D) (old new : SeatState) (e : Installed) (done : Done) : Type 0 where
-  pub found : Finds z old e
+  pub found : Finds z old new e
   pub running : e.halted ≡ false
   pub several : SeveralTables e.last
   pub live : List ℕ
   pub pinned : Pinned done.at live
   pub versions : done.versions ≡ length (retained (take done.at new.knows.participant.seen) live e.last)
   pub few : done.versions ≤ length (later_versions (take done.at new.knows.participant.seen) 0)
-  pub left : HeldTables z old new.knows.participant.past (record e { last = after_compaction (take done.at new.knows.participant.seen) live e.last })
+  pub left : HeldTables z old new new.knows.participant.past (record e { last = after_compaction (take done.at new.knows.participant.seen) live e.last })
   pub table : TablesBecame z e (record e { last = after_compaction (take done.at new.knows.participant.seen) live e.last }) (HasAlone (retained (take done.at new.knows.participant.seen) live e.last))
   pub survives : SurvivesInstall table.before table.after (after_compaction (take done.at new.knows.participant.seen) live e.last)
-  pub goes_on : Goes (remembering (found_by z old e found ∷ event.installed (after_compaction (take done.at new.knows.participant.seen) live e.last) true ∷ []) old.knows.participant)
+  pub goes_on : Goes (remembering (found_by z old new e found ∷ event.installed (after_compaction (take done.at new.knows.participant.seen) live e.last) true ∷ []) old.knows.participant)
 
 -- the edit is that of a compaction of these tables at a floor with these live numbers
 pub record IsCompactionOf (Pinned : ℕ → List ℕ → Type 0) (new : SeatState) (last edit : InstalledEdit) : Type 0 where
@@ -207,9 +213,9 @@ pub record IsCompactionOf (Pinned : ℕ → List ℕ → Type 0) (new : SeatStat
 abbrev pub CompactsFrom : {D : Type 0} → (Participant → Type 0) → (ℕ → List ℕ → Type 0) → SharedState D → SeatState → Installed → Result Done MaintError → SeatState → Type 0
 CompactsFrom Goes Pinned z old e (Ok done) new = HasCompacted Goes Pinned z old new e done
 CompactsFrom Goes Pinned z old e (Err Memory) new = Goes old.knows.participant
-CompactsFrom Goes Pinned z old e (Err Nothing) new = HasNothing Goes z old e FewTables
+CompactsFrom Goes Pinned z old e (Err Nothing) new = HasNothing Goes z old new e FewTables
 CompactsFrom Goes Pinned z old e (Err TableFault) new = HasFailed Goes z old new e (SeveralTables e.last) (IsCompactionOf Pinned new e.last)
-CompactsFrom Goes Pinned z old e (Err (TablesStopped flushed)) new = IsStopped Goes z old e flushed
+CompactsFrom Goes Pinned z old e (Err (TablesStopped flushed)) new = IsStopped Goes z old new e flushed
 
 -- what a compaction answers and leaves, where the tables were so as it found them
 abbrev pub Compacts : {D : Type 0} → SharedState D → SeatState → Result Done MaintError → SeatState → Type 0

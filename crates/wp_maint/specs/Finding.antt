@@ -9,10 +9,10 @@ use Rattle.wp_maint.specs.Holding.{being}
 
 -- it held these tables in a world of the store, and is as it was but that it remembers them
 pub record Remembers {D : Type 0} (z : SharedState D) (old : SeatState) (e : Installed) (new : SeatState) : Type 0 where
-  pub found : Finds z old e
-  pub is : new ≡ being (remembering (found_by z old e found ∷ []) old.knows.participant) old
+  pub found : Finds z old new e
+  pub is : new ≡ being (remembering (found_by z old new e found ∷ []) old.knows.participant) old
 
 -- it held these tables, and holds those now; it remembers the first, and this event
 pub record Changes {D : Type 0} (z : SharedState D) (old : SeatState) (e left : Installed) (event : Event) (test : Fact → Bool) (new : SeatState) : Type 0 where
-  pub found : Finds z old e
-  pub goes : GoesOn test (installed left ∷ []) old.turns (being (remembering (found_by z old e found ∷ event ∷ []) old.knows.participant) old) new
+  pub found : Finds z old new e
+  pub goes : GoesOn test (installed left ∷ []) old.turns (being (remembering (found_by z old new e found ∷ event ∷ []) old.knows.participant) old) new

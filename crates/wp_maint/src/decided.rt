@@ -1,5 +1,6 @@
 //! Which versions in tables are committed, where something is pinned.
 ghost use Rattle.std.specs.Prelude.{◌≡◌, ◌≤◌, true, [], ◌∷◌, length, IfOk, OnOk};
+ghost use Rattle.wp_keep.specs.Keep.{is_committed};
 ghost use Rattle.wp_core.specs.Lists.{IsIn};
 ghost use Rattle.wp_core.specs.Sound.Snapshots.{has_versions_at};
 ghost use Rattle.wp_shared.specs.Calls.{Continues};
@@ -41,7 +42,17 @@ fn tabled<D: Disk + Drop, R: Wait>(
     versions
 }
 
-/// Decides the version with this number at the snapshot.
+/// Whether the last of the pairs tells that the number is committed at this one.
+fn is_told(committed: &[Pair], number: Seq, at: Seq) -> bool
+    ensures { result ≡ true → is_committed committed.now number at ≡ true }
+{
+    match committed.last() {
+        Some(pair) => pair.number == number && pair.commit <= at,
+        None => false,
+    }
+}
+
+/// Decides the version with this number at the snapshot. It takes no look where the last pair tells that it is committed.
 fn decide_at<D: Disk + Drop, R: Wait>(
     store: &Shared<D>,
     rt: &R,
@@ -57,13 +68,14 @@ fn decide_at<D: Disk + Drop, R: Wait>(
     ensures same { seat.new.knows.participant ≡ seat.old.knows.participant }
     ensures decided { OnOk result (Decides seat.old.knows.participant.seen (number ∷ []) (snapshot.now.number ∷ []) committed.old.items committed.new.items) }
 {
+    let at = snapshot.number();
+    if is_told(committed, number, at) {
+        return Ok(());
+    }
     if !visible(store, rt, seat, number, snapshot) {
         return Ok(());
     }
-    committed.push(Pair {
-        number,
-        commit: snapshot.number(),
-    })?;
+    committed.push(Pair { number, commit: at })?;
     Ok(())
 }
 
@@ -89,7 +101,7 @@ fn decide_at_each<D: Disk + Drop, R: Wait>(
     Ok(())
 }
 
-/// Decides it at all that is pinned.
+/// Decides it at all that is pinned, from the least live number on: where it is committed there, it is so at all greater ones.
 fn decide_version<D: Disk + Drop, R: Wait>(
     store: &Shared<D>,
     rt: &R,
@@ -105,8 +117,8 @@ fn decide_version<D: Disk + Drop, R: Wait>(
     ensures same { seat.new.knows.participant ≡ seat.old.knows.participant }
     ensures decided { OnOk result (Decides seat.old.knows.participant.seen (number ∷ []) (numbers_of (pinned.now.floor ∷ pinned.now.live.items)) committed.old.items committed.new.items) }
 {
-    decide_at(store, rt, seat, committed, number, &pinned.floor)?;
-    decide_at_each(store, rt, seat, committed, number, &pinned.live)
+    decide_at_each(store, rt, seat, committed, number, &pinned.live)?;
+    decide_at(store, rt, seat, committed, number, &pinned.floor)
 }
 
 /// Decides each of the versions at all that is pinned.

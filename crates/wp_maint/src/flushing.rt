@@ -99,7 +99,7 @@ fn flush_frozen<D: Disk + Drop, R: Wait>(
     requires settled { KnowsTables seat.old.knows edits.old.table.last }
     requires running { edits.old.table.halted ≡ false }
     requires frozen { HasFrozen seat.old.knows edits.old.table frozen }
-    requires whole { SawWhole store.now seat.old seat.old.knows.participant.past seat.old.knows.participant.seen }
+    requires whole { SawWhole store.now seat.old seat.old.knows.participant.seen }
     ensures holds { HoldsEdits store.now seat.new edits.new }
     ensures settled { KnowsTables seat.new.knows edits.new.table.last }
     ensures says { FlushesFrom (GoesOnAs seat.old seat.new) store.now seat.old edits.old.table result seat.new }

@@ -88,7 +88,7 @@ pub(crate) fn freeze_all<D: Disk + Drop, R: Wait>(
     requires settled { KnowsTables seat.old.knows edits.now.table.last }
     ensures goes { GoesOn (is_under write_turn) (installed edits.now.table ∷ []) seat.old.turns (seeing seat.new.knows.participant.seen seat.old) seat.new }
     ensures grown { StartsWith seat.new.knows.participant.seen seat.old.knows.participant.seen }
-    ensures whole { SawWhole store.now seat.old seat.old.knows.participant.past seat.new.knows.participant.seen }
+    ensures whole { SawWhole store.now seat.old seat.new.knows.participant.seen }
     ensures frozen { IfOk result (λ frozen. Freezes seat.new.knows edits.now.table frozen) }
 {
     let log = take_log(store, rt, seat);

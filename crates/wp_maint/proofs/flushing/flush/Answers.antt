@@ -17,7 +17,7 @@ returns g c =
     let last = goes_as u u v (is_under tables_turn) [] [] c.give_edits.ensures.goes refl refl refl (starts_same u.knows.participant.seen) (under_free tables_turn) in
     let same = c.give_edits.ensures.goes.same in (
       e,
-      flushes_so (GoesOnAs t u) (Continues z s v) z s t u v e (first.same_by, first.made, first.joined) (ap (λ (x : Participant). x.past) first.participant) first.seen (sym (ap (λ (x : SeatState). x.knows.participant.past) same))
+      flushes_so (GoesOnAs t u) (Continues z s v) z s t u v e (first.same_by, first.made, first.joined) (ap (λ (x : Participant). x.past) first.participant) first.seen (sym (ap (λ (x : SeatState). x.knows.participant.past) same)) last.seen
           (λ events k. as_continues z s v (remembering events p) (goes_still s u v (remembering events p) (goes_more s t u p first events k) last) c.give_edits.ensures.free)
           (λ k. as_continues z s v p (goes_still s u v p (goes_still s t u p first k) last) c.give_edits.ensures.free) (sym (ap (λ (x : SeatState). x.knows.participant.seen) same)) c.flush_in-result.result c.flush_in-result.ensures.says,
     )

@@ -16,4 +16,4 @@ pub returns-in-Err-clause-settled : goal.returns-in-Err-clause-settled
 returns-in-Err-clause-settled g c = settled_still c.args.store.now c.args.seat.now c.install.new.seat c.args.edits.now c.install.new.edits c.args.frozen c.requires.frozen c.in-Err.why c.in-Err.ensures.refused c.requires.settled
 
 pub returns-in-Err-clause-says : goal.returns-in-Err-clause-says
-returns-in-Err-clause-says g c = not_flushed c.args.store.now c.args.seat.now c.install.new.seat c.args.edits.now c.install.new.edits c.args.frozen c.requires.frozen c.requires.holds c.in-Err.why c.in-Err.ensures.refused c.requires.running
+returns-in-Err-clause-says g c = not_flushed c.args.store.now c.args.seat.now c.install.new.seat c.args.edits.now c.install.new.edits c.args.frozen c.requires.frozen c.requires.holds c.requires.whole c.in-Err.why c.in-Err.ensures.refused c.requires.running

@@ -6,7 +6,7 @@ use Rattle.wp_shared.specs.Seats.{SeatState}
 use Rattle.wp_maint.specs.Flush.{Freezes}
 use Rattle.wp_maint.specs.Holding.{is_under, seeing, GoesOnAs}
 use Rattle.wp_maint.proofs.Found.{held_first}
-use Rattle.wp_maint.proofs.Onward.{under_free, goes_seeing, goes_more, goes_still, found_nothing, holds_being, settled_being, settled_on, seat_still, saw_so, flushes_so}
+use Rattle.wp_maint.proofs.Onward.{starts_same, under_free, goes_seeing, goes_more, goes_still, found_nothing, holds_being, settled_being, settled_on, seat_still, saw_so, flushes_so}
 use Rattle.wp_maint.proofs.flushing.flush_running.Goals as goal
 
 pub find_edits-requires-clause-held : goal.find_edits-requires-clause-held
@@ -50,13 +50,13 @@ returns-in_default-found-clause-says g c =
     let z = c.args.store.now in let s = c.args.seat.now in let u = c.freeze_all.new.seat in let v = c.find_edits.new.seat in let e = c.args.edits.now.table in
     let first = goes_seeing s u u.knows.participant.seen (is_under write_turn) (installed e ∷ []) s.turns c.freeze_all.ensures.goes c.freeze_all.ensures.grown (under_free write_turn) in
     let k = c.find_edits.ensures e (held_first u e (ap (λ (x : SeatState). x.knows.held) c.freeze_all.ensures.goes.same)) in
-    found_nothing z s u v e first k c.requires.running (subst (Freezes u.knows e) c.in_default-found.is c.in-Ok.ensures.frozen)
+    found_nothing z s u v e first k c.requires.running c.freeze_all.ensures.whole (subst (Freezes u.knows e) c.in_default-found.is c.in-Ok.ensures.frozen)
 
 pub returns-clause-says : goal.returns-clause-says
 returns-clause-says g c =
     let s = c.args.seat.now in let u = c.freeze_all.new.seat in let v = c.flush_frozen.new.seat in let e = c.args.edits.now.table in
     let first = goes_seeing s u u.knows.participant.seen (is_under write_turn) (installed e ∷ []) s.turns c.freeze_all.ensures.goes c.freeze_all.ensures.grown (under_free write_turn) in
-    flushes_so (GoesOnAs u v) (GoesOnAs s v) c.args.store.now s u v v e (seat_still s u s.knows.participant first) (ap (λ (p : Participant). p.past) first.participant) c.freeze_all.ensures.grown refl (goes_more s u v s.knows.participant first) (goes_still s u v s.knows.participant first) refl c.flush_frozen.result c.flush_frozen.ensures.says
+    flushes_so (GoesOnAs u v) (GoesOnAs s v) c.args.store.now s u v v e (seat_still s u s.knows.participant first) (ap (λ (p : Participant). p.past) first.participant) c.freeze_all.ensures.grown refl (starts_same v.knows.participant.seen) (goes_more s u v s.knows.participant first) (goes_still s u v s.knows.participant first) refl c.flush_frozen.result c.flush_frozen.ensures.says
 
 pub flush_frozen-requires-clause-whole : goal.flush_frozen-requires-clause-whole
 flush_frozen-requires-clause-whole g c =

@@ -57,14 +57,17 @@ returns-clause-whole g c =
     let last = c.give_log.ensures _ (turns_four s t1 t2 log (store_table c.take_stock-stock.result) c.args.edits.now.table c.requires.holds.held first second s3 s4 k given) in
     let seen : v.knows.participant.seen ≡ t2.knows.participant.seen = ap (λ (x : SeatState). x.knows.participant.seen) last.same ∙ ap (λ (x : SeatState). x.knows.participant.seen) given.same ∙ ap (λ (x : SeatState). x.knows.participant.seen) k.same in
     let stands = c.take_stock-stock.ensures.stands in
-    let held : IsIn (writes log) t2.knows.held = subst (IsIn (writes log)) (sym (held_two s t1 t2 log (store_table c.take_stock-stock.result) c.args.edits.now.table c.requires.holds.held first second)) (inr (inl refl)) in record {
+    let held : IsIn (writes log) t2.knows.held = subst (IsIn (writes log)) (sym (held_two s t1 t2 log (store_table c.take_stock-stock.result) c.args.edits.now.table c.requires.holds.held first second)) (inr (inl refl)) in
+    let same : stands.0.writes ≡ log = same_writes (place_at z t2.by) t2.knows stands.0 log stands.1 held in record {
       world = stands.0;
       actor = t2.knows;
       there = subst (λ (b : ℕ). IsAt (place_at z b) t2.knows stands.0) (ap (λ (x : SeatState). x.by) second.same ∙ ap (λ (x : SeatState). x.by) first.same) stands.1;
+      held = subst (λ (d : WriteTable). IsIn (writes d) t2.knows.held) (sym same) held;
       history_is =
-          ap (λ (x : WriteTable). x.history) (same_writes (place_at z t2.by) t2.knows stands.0 log stands.1 held)
+          ap (λ (x : WriteTable). x.history) same
           ∙ sym (seen_two s t1 t2 log (store_table c.take_stock-stock.result) c.args.edits.now.table c.requires.holds.held first second)
           ∙ sym seen;
+      seen_is = sym seen;
       past_is = ap (λ (x : SeatState). x.knows.participant.past) second.same ∙ ap (λ (x : SeatState). x.knows.participant.past) first.same;
       made = ap (λ (x : SeatState). x.knows.made) second.same ∙ ap (λ (x : SeatState). x.knows.made) first.same;
       joined = ap (λ (x : SeatState). x.knows.joined) second.same ∙ ap (λ (x : SeatState). x.knows.joined) first.same;
