@@ -38,8 +38,8 @@ pub record Serving : Type 1 where
   pub sink : SinkUse
 
 -- The store was opened to what was found. A crash leaves its history in the log, or it and the entries that the log failed
--- to take, whole; and devices that open to its history and to its last edit, or to the one that they failed to take. So often
--- the devices failed in between.
+-- to take, whole; and devices that open to its history and to its last edit, or to the one that they failed to take. The log
+-- failed once at most, and so did the tables; where one did, the count of a device of it has risen.
 pub record HasStored (s : Serving) (faults : Faults) (found left : StoredState) (failed : Failed) : Type 0 where
   pub id : ℕ
   pub made : IfKnown s.disks.log.before (λ m. IsUnmade m.reads → id ≡ s.id)

@@ -11,10 +11,9 @@ use Rattle.wp_session.specs.Known.{StoredState}
 abbrev pub opened_store : ℕ → StoredState → Store
 opened_store limit found = record { history = found.history; stopped = false; limit = limit; installed = found.edit; halted = false; board = map.empty }
 
--- each command is answered as the store is then, and leaves it so to the next; this is the last one's store
-abbrev pub RunsAlone : Store → Client → List Command → List Reply → Store → Type 0
-RunsAlone store client [] [] last = last ≡ store
-RunsAlone store client [] (answer ∷ answers) last = ⊥
-RunsAlone store client (first ∷ commands) [] last = ⊥
-RunsAlone store client (first ∷ commands) (answer ∷ answers) last =
-    IsReply store client first answer × RunsAlone (store_after store client first answer) (client_after store.history client first answer) commands answers last
+-- each command is answered as the store is then, and leaves it so to the next; the last one leaves this store, and this client
+abbrev pub RunsAlone : Store → Client → List Command → List Reply → Store → Client → Type 0
+RunsAlone old was [] [] new now = (new ≡ old) × (now ≡ was)
+RunsAlone old was (first ∷ commands) (answer ∷ answers) new now =
+    IsReply old was first answer × RunsAlone (store_after old was first answer) (client_after old.history was first answer) commands answers new now
+RunsAlone old was commands answers new now = ⊥

@@ -7,7 +7,7 @@ use Rattle.wp_model.specs.Legal.{IsLegal}
 use Rattle.wp_text.specs.declared.script.Command.{Command}
 use Rattle.wp_text.specs.declared.script.Part.{Part}
 use Rattle.wp_text.specs.declared.reply.Reply.{Reply}
-use Rattle.wp_session.specs.Client.{new_client}
+use Rattle.wp_session.specs.Client.{Client, new_client}
 use Rattle.wp_session.specs.Kind.{acknowledged, is_fault, is_stopped, is_flushed, is_installed, is_tables_fault, is_halted}
 use Rattle.wp_session.specs.Session.{IsSession}
 use Rattle.wp_session.specs.Replies.{Failed, Evidence}
@@ -19,7 +19,7 @@ use Rattle.wp_session.specs.Asked.{AsksLog, AsksEdit, FaultAsks}
 abbrev pub stored_in : Store → StoredState
 stored_in store = record { history = store.history; edit = store.installed }
 
--- how often the devices failed: the log's, and those of the tables
+-- how often the log failed under a command, and the tables did
 pub record Faults : Type 0 where
   pub log : ℕ
   pub tables : ℕ
@@ -67,7 +67,7 @@ AreSessions left limit failed found before script run sessions = ⊥
 -- is what the very command asked for that was answered so.
 abbrev pub IsExact : ℕ → (found left : StoredState) → Failed → List Part → List (List Reply) → Type 0
 IsExact limit found left failed (part ∷ []) (answers ∷ []) =
-    (last : Store) × RunsAlone (opened_store limit found) new_client part.commands answers last × (left ≡ stored_in last)
+    (last : Store) × (client : Client) × RunsAlone (opened_store limit found) new_client part.commands answers last client × (left ≡ stored_in last)
     × (last.stopped ≡ true → FaultAsks is_fault (AsksLog failed.entries) (opened_store limit found) new_client part.commands answers)
     × (last.halted ≡ true → FaultAsks is_tables_fault (AsksEdit failed.edit) (opened_store limit found) new_client part.commands answers)
 IsExact limit found left failed script sessions = Unit {0}
@@ -81,8 +81,8 @@ pub record IsLastEdit (found left : InstalledEdit) (answers : List Reply) : Type
   pub unchanged : list_any is_installed answers ≡ false → left ≡ found
 
 -- The replies are explained by the history that is left, which begins with the one that was found, by the last edit, and by
--- what the devices failed to take, which the commands of these replies asked for. So often the devices failed. Of each part of
--- the script these commands have run: all, or the first of them, where memory was wanting.
+-- what the devices failed to take, which the commands of these replies asked for. So many replies tell a fault of the log, and of
+-- the tables. Each part of the script has one session, of the commands in its place of those that ran.
 pub record Explains (limit : ℕ) (faults : Faults) (script run : List Part) (found left : StoredState) (failed : Failed) (sessions : List (List Reply)) : Type 0 where
   pub legal : IsLegal left.history
   pub begins : (added : List Entry) × (left.history ≡ found.history ++ added)

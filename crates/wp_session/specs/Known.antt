@@ -14,7 +14,7 @@ use Rattle.wp_session.specs.declared.client.Txn.{Txn}
 use Rattle.wp_session.specs.declared.client.Txn.TheVariants.{Idle, Open}
 use Rattle.wp_session.specs.Client.{Client, new_client}
 use Rattle.wp_session.specs.After.{after_reply}
-use Rattle.wp_session.specs.Kind.{is_flushed, is_compacted, is_tables_fault}
+use Rattle.wp_session.specs.Kind.{is_fault, is_flushed, is_compacted, is_tables_fault}
 use Rattle.wp_session.specs.Progress.{Progress}
 use Rattle.wp_session.specs.Replies.{Claim, HasName, HasKey, WritesKey, WasTold, LogFailed, WasFlushed, TablesFailed, OtherCompacted, Failed, Evidence}
 
@@ -91,7 +91,7 @@ is_said history found all others (HasName name) = one_comes_to (gets_name name) 
 is_said history found all others (HasKey name key) = prepare_has found.history (named found.history name) key || one_comes_to (stages_key name key) all
 is_said history found all others (WritesKey name key) = one_comes_to (writes_key key) (filter (λ d. bytes_eq d.part.client name) others)
 is_said history found all others (WasTold label n) = one_comes_to (tells label n) all
-is_said history found all others (LogFailed n) = n == length history
+is_said history found all others (LogFailed n) = (n == length history) && list_any is_fault (answers_in all)
 is_said history found all others (WasFlushed n) = (n == found.edit.flushed) || list_any (is_flushed n) (answers_in all)
 is_said history found all others TablesFailed = list_any is_tables_fault (answers_in all)
 is_said history found all others OtherCompacted = list_any is_compacted (answers_in others)

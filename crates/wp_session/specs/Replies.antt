@@ -31,7 +31,7 @@ pub data Claim : Type 0 where
   HasKey : List ℕ → List ℕ → Claim  -- the transaction of this name has the key: a client was answered `held` in it for the key, or it was undecided at opening
   WritesKey : List ℕ → List ℕ → Claim  -- another client, of this name, came to write the key at once
   WasTold : List ℕ → ℕ → Claim  -- a client was answered `told` for the label, with a number of at most this
-  LogFailed : ℕ → Claim  -- the log failed, and so many entries are all of the history
+  LogFailed : ℕ → Claim  -- a client was answered `fault log`, and so many entries are all of the history
   WasFlushed : ℕ → Claim  -- this was the flushed number at opening, or a client was answered `flushed` with it
   TablesFailed : Claim  -- a client was answered `fault tables`
   OtherCompacted : Claim  -- another client was answered `compacted`

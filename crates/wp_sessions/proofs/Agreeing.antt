@@ -34,7 +34,7 @@ use Rattle.wp_core.proofs.OneHolder.{name_is}
 use Rattle.wp_session.specs.declared.client.Txn as session_txn
 use Rattle.wp_session.specs.Client.{new_client}
 use Rattle.wp_session.specs.Explains.{dialogues, judged_by}
-use Rattle.wp_session.specs.Kind.{is_flushed, is_compacted}
+use Rattle.wp_session.specs.Kind.{is_fault, is_flushed, is_compacted}
 use Rattle.wp_session.specs.Known.{Dialogue, answers_in, comes_to, one_comes_to, gets_name, stages_key, writes_key, tells, prepare_has}
 use Rattle.wp_session.specs.Replies.{HasName, HasKey, WasTold, WasFlushed, TablesFailed, OtherCompacted, Evidence, IsKnown}
 use Rattle.wp_clients.specs.Agrees.{IsAnother, IsPrepares, KnowsHolder, Knows, Agrees}
@@ -42,7 +42,7 @@ use Rattle.wp_sessions.specs.Explained.{found_in, left_in, failed_in}
 use Rattle.wp_sessions.specs.Over.{Answered, AreOver, replies_of}
 use Rattle.wp_sessions.proofs.Coming.{comes_wider, comes_answered, answers_any}
 use Rattle.wp_sessions.proofs.Doings.{Did, did, got_name, wrote_key}
-use Rattle.wp_sessions.proofs.Lists.{or_left, or_right, at_map, any_at, any_other, any_filter}
+use Rattle.wp_sessions.proofs.Lists.{or_left, or_right, both_so, at_map, any_at, any_other, any_filter}
 
 -- a number that was told is at most each greater one
 tells_more : (label : List ℕ) (n m : ℕ) → n ≤ m → (t : session_txn.Txn) (c : Command) (a : Option Reply) → tells label n t c a ≡ true → tells label m t c a ≡ true
@@ -140,7 +140,7 @@ module _ {D : Type 0} {z : SharedState D} {seats : List SeatState} {history : Li
 
   -- ---- the seat
 
-  module _ (p : Participant) (at : get_elem? (map participant_of seats) (length before) ≡ some p) (halted_said : ended.edits.halted ≡ true → IsKnown evidence TablesFailed) where
+  module _ (p : Participant) (at : get_elem? (map participant_of seats) (length before) ≡ some p) (closed_said : ended.writes.closed ≡ true → list_any is_fault (answers_in (before ++ mine ∷ after)) ≡ true) (halted_said : ended.edits.halted ≡ true → IsKnown evidence TablesFailed) where
     mine_did : (event : Event) → IsIn event p.past → HasDone (of_seats past_of seats) 0 (length before) event
     mine_did event there = (p.past, (map past_of (map participant_of seats), refl, at_map past_of (map participant_of seats) (length before) p at), there)
 
@@ -167,7 +167,9 @@ module _ {D : Type 0} {z : SharedState D} {seats : List SeatState} {history : Li
     knows : (event : Event) → IsIn event p.past → Knows evidence event
     knows (found key holder seen account) there = knows_holder key holder seen account there
     knows (heard label n) there = λ m le. was_told label n m le (ended.board.heard label n (past_is (heard label n) there))
-    knows (stopped n) there = eq-eqb n (length history) ((ended.faults.stopped n (past_is (stopped n) there)).1 ∙ ap (λ (h : List Entry). length h) ended.history_is)
+    knows (stopped n) there =
+        let k = ended.faults.stopped n (past_is (stopped n) there) in
+        both_so (n == length history) (list_any is_fault (answers_in (before ++ mine ∷ after))) (eq-eqb n (length history) (k.1 ∙ ap (λ (h : List Entry). length h) ended.history_is)) (closed_said k.0)
     knows (log_failed entries) there = (ended.faults.failed entries (past_is (log_failed entries) there)).1
     knows (tables_failed last edit) there = let f = ended.installed.failed last edit (past_is (tables_failed last edit) there) in (f.1, f.2)
     knows (found_edit n tables due halted) there = (

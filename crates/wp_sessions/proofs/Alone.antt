@@ -10,28 +10,22 @@ use Rattle.wp_session.specs.Asked.{FaultAsks}
 use Rattle.wp_session.specs.Client.{Client}
 use Rattle.wp_session.specs.Current.{RunsAlone}
 use Rattle.wp_session.specs.Due.{Store, IsReply, logged_entries, store_after, client_after}
-use Rattle.wp_sessions.specs.SoFar.{LeadsAlone}
 
-pub leads_more : (old : Store) (was : Client) (done : List Command) (answers : List Reply) (s : Store) (client : Client) (c : Command) (r : Reply) → LeadsAlone old was done answers s client → IsReply s client c r
-    → LeadsAlone old was (done ++ c ∷ []) (answers ++ r ∷ []) (store_after s client c r) (client_after s.history client c r)
-leads_more old was [] [] s client c r (same, is) replied = (
+pub runs_more : (old : Store) (was : Client) (done : List Command) (answers : List Reply) (s : Store) (client : Client) (c : Command) (r : Reply) → RunsAlone old was done answers s client → IsReply s client c r
+    → RunsAlone old was (done ++ c ∷ []) (answers ++ r ∷ []) (store_after s client c r) (client_after s.history client c r)
+runs_more old was [] [] s client c r (same, is) replied = (
   subst (λ (x : Store × Client). IsReply x.0 x.1 c r) (λ i. (same i, is i)) replied,
   (ap (λ (x : Store × Client). store_after x.0 x.1 c r) (λ i. (same i, is i)), ap (λ (x : Store × Client). client_after x.0.history x.1 c r) (λ i. (same i, is i))),
 )
-leads_more old was (d ∷ done) (a ∷ answers) s client c r (first, rest) replied = (first, leads_more (store_after old was d a) (client_after old.history was d a) done answers s client c r rest replied)
-leads_more old was _ _ s client c r led replied = absurd led
-
-pub leads_runs : (old : Store) (was : Client) (done : List Command) (answers : List Reply) (s : Store) (client : Client) → LeadsAlone old was done answers s client → RunsAlone old was done answers s
-leads_runs old was [] [] s client led = led.0
-leads_runs old was (d ∷ done) (a ∷ answers) s client (first, rest) = (first, leads_runs (store_after old was d a) (client_after old.history was d a) done answers s client rest)
-leads_runs old was _ _ s client led = absurd led
+runs_more old was (d ∷ done) (a ∷ answers) s client c r (first, rest) replied = (first, runs_more (store_after old was d a) (client_after old.history was d a) done answers s client c r rest replied)
+runs_more old was _ _ s client c r ran replied = absurd ran
 
 -- the history has grown
-pub runs_grow : (old : Store) (was : Client) (done : List Command) (answers : List Reply) (s : Store) → RunsAlone old was done answers s → StartsWith s.history old.history
-runs_grow old was [] [] s same = ([], ap (λ (x : Store). x.history) same ∙ sym (append-nil old.history))
-runs_grow old was (d ∷ done) (a ∷ answers) s (first, rest) =
-    starts_through old.history (store_after old was d a).history s.history (runs_grow (store_after old was d a) (client_after old.history was d a) done answers s rest) (logged_entries old was d a, refl)
-runs_grow old was _ _ s ran = absurd ran
+pub runs_grow : (old : Store) (was : Client) (done : List Command) (answers : List Reply) (s : Store) (client : Client) → RunsAlone old was done answers s client → StartsWith s.history old.history
+runs_grow old was [] [] s client (same, is) = ([], ap (λ (x : Store). x.history) same ∙ sym (append-nil old.history))
+runs_grow old was (d ∷ done) (a ∷ answers) s client (first, rest) =
+    starts_through old.history (store_after old was d a).history s.history (runs_grow (store_after old was d a) (client_after old.history was d a) done answers s client rest) (logged_entries old was d a, refl)
+runs_grow old was _ _ s client ran = absurd ran
 
 module _ (is_failed : Reply → Bool) (Asks : Store → Client → Command → Type 0) where
   -- what was asked for is asked for still as more commands follow
@@ -40,15 +34,15 @@ module _ (is_failed : Reply → Bool) (Asks : Store → Client → Command → T
   asks_front old was (d ∷ done) commands (a ∷ answers) others (inr later) = inr (asks_front (store_after old was d a) (client_after old.history was d a) done commands answers others later)
   asks_front old was _ commands _ others none = absurd none
 
-  pub asks_last : (old : Store) (was : Client) (done : List Command) (answers : List Reply) (s : Store) (client : Client) (c : Command) (r : Reply) → LeadsAlone old was done answers s client → is_failed r ≡ true → Asks s client c
+  pub asks_last : (old : Store) (was : Client) (done : List Command) (answers : List Reply) (s : Store) (client : Client) (c : Command) (r : Reply) → RunsAlone old was done answers s client → is_failed r ≡ true → Asks s client c
       → FaultAsks is_failed Asks old was (done ++ c ∷ []) (answers ++ r ∷ [])
   asks_last old was [] [] s client c r (same, is) failed asks = inl (failed, subst (λ (x : Store × Client). Asks x.0 x.1 c) (λ i. (same i, is i)) asks)
   asks_last old was (d ∷ done) (a ∷ answers) s client c r (first, rest) failed asks = inr (asks_last (store_after old was d a) (client_after old.history was d a) done answers s client c r rest failed asks)
-  asks_last old was _ _ s client c r led failed asks = absurd led
+  asks_last old was _ _ s client c r ran failed asks = absurd ran
 
   -- where nothing is asked in particular, a fault alone does
-  pub asks_any : ((s : Store) (client : Client) (c : Command) → Asks s client c) → (old : Store) (was : Client) (done : List Command) (answers : List Reply) (s : Store) → RunsAlone old was done answers s → (x : Reply) × IsIn x answers × (is_failed x ≡ true) → FaultAsks is_failed Asks old was done answers
-  asks_any all old was [] [] s ran (x, there, failed) = absurd there
-  asks_any all old was (d ∷ done) (a ∷ answers) s (first, rest) (x, inl same, failed) = inl (subst (λ (y : Reply). is_failed y ≡ true) (sym same) failed, all old was d)
-  asks_any all old was (d ∷ done) (a ∷ answers) s (first, rest) (x, inr later, failed) = inr (asks_any all (store_after old was d a) (client_after old.history was d a) done answers s rest (x, later, failed))
-  asks_any all old was _ _ s ran (x, there, failed) = absurd ran
+  pub asks_any : ((s : Store) (client : Client) (c : Command) → Asks s client c) → (old : Store) (was : Client) (done : List Command) (answers : List Reply) (s : Store) (client : Client) → RunsAlone old was done answers s client → (x : Reply) × IsIn x answers × (is_failed x ≡ true) → FaultAsks is_failed Asks old was done answers
+  asks_any all old was [] [] s client ran (x, there, failed) = absurd there
+  asks_any all old was (d ∷ done) (a ∷ answers) s client (first, rest) (x, inl same, failed) = inl (subst (λ (y : Reply). is_failed y ≡ true) (sym same) failed, all old was d)
+  asks_any all old was (d ∷ done) (a ∷ answers) s client (first, rest) (x, inr later, failed) = inr (asks_any all (store_after old was d a) (client_after old.history was d a) done answers s client rest (x, later, failed))
+  asks_any all old was _ _ s client ran (x, there, failed) = absurd ran

@@ -18,7 +18,7 @@ use Rattle.wp_shared.specs.Ended.{IsEnded}
 use Rattle.wp_shared.specs.Ending.{AreAll, participant_of}
 use Rattle.wp_shared.specs.Seats.{SharedState, SeatState}
 use Rattle.wp_session.specs.Explains.{dialogue, dialogues, all_replies, AreFirstParts, AreSessions, IsExact, Explains}
-use Rattle.wp_session.specs.Kind.{acknowledged, is_fault, is_stopped, is_halted}
+use Rattle.wp_session.specs.Kind.{is_fault, is_stopped, is_halted}
 use Rattle.wp_session.specs.Kind as kinds
 use Rattle.wp_session.specs.Known.{StoredState, Dialogue, answers_in}
 use Rattle.wp_clients.specs.Answers.{IsRemembered}
@@ -88,11 +88,11 @@ module _ {D : Type 0} {z : SharedState D} {seats : List SeatState} {history : Li
   tables_counted =
       let all = weighed z (found_in ended) kinds.is_tables_fault is_tables_fault (λ p a s o. o.tables_failed) parts answered seats over in let met = ended.faults.tables in omega (arith, all, met)
 
-  -- a fault that halted the tables was answered
-  halted_said : (ds : List Dialogue) → dialogues parts (replies_of answered) ≡ ds → ended.edits.halted ≡ true → list_any kinds.is_tables_fault (answers_in ds) ≡ true
-  halted_said ds split up =
-      let counted = tables_counted in let one = one_at_least ended.edits.halted up in
-      subst (λ (xs : List Reply). list_any kinds.is_tables_fault xs ≡ true) (sym (same_replies z (found_in ended) parts answered seats over) ∙ ap answers_in split) (count_any kinds.is_tables_fault replies (omega (arith, counted, one)))
+  -- a fault that was met was answered
+  fault_said : (is_such : Reply → Bool) (met : Bool) → count_by is_such replies ≡ one_if met → (ds : List Dialogue) → dialogues parts (replies_of answered) ≡ ds → met ≡ true → list_any is_such (answers_in ds) ≡ true
+  fault_said is_such met counted ds split up =
+      let one = one_at_least met up in
+      subst (λ (xs : List Reply). list_any is_such xs ≡ true) (sym (same_replies z (found_in ended) parts answered seats over) ∙ ap answers_in split) (count_any is_such replies (omega (arith, counted, one)))
 
   sessions : (before : List Dialogue) (ps : List Part) (others : List Answered) (ss : List SeatState) (o : AreOver z (found_in ended) ps others ss) → dialogues parts (replies_of answered) ≡ before ++ dialogues ps (replies_of others)
       → ((i j : ℕ) (p : Participant) → j ≡ length before + i → get_elem? (map participant_of ss) i ≡ some p → get_elem? (map participant_of seats) j ≡ some p)
@@ -101,7 +101,8 @@ module _ {D : Type 0} {z : SharedState D} {seats : List SeatState} {history : Li
   sessions before (p ∷ ps) (a ∷ others) (s ∷ ss) o split at =
       let mine = dialogue p a.replies in
       let after = dialogues ps (replies_of others) in (
-        o.0.session _ (agrees ended parts answered over before mine after split s.knows.participant (at 0 (length before) s.knows.participant (omega arith) refl) (halted_said (before ++ mine ∷ after) split)),
+        o.0.session _ (agrees ended parts answered over before mine after split s.knows.participant (at 0 (length before) s.knows.participant (omega arith) refl)
+            (fault_said is_fault ended.writes.closed log_counted (before ++ mine ∷ after) split) (fault_said kinds.is_tables_fault ended.edits.halted tables_counted (before ++ mine ∷ after) split)),
         sessions (before ++ mine ∷ []) ps others ss o.1 (split ∙ sym (append_assoc before (mine ∷ []) after))
             (λ i j q same there. at (suc i) j q (let longer = length-append before (mine ∷ []) in omega (arith, same, longer)) there),
       )

@@ -62,7 +62,7 @@ module _ {D : Type 0} {z : SharedState D} {s : SeatState} {history : List Entry}
   grown = starts_through alone.store.history s.knows.participant.seen history (ended.seen 0 0 s.knows.participant.seen (s.knows.participant.seen ∷ [], refl, refl)) alone.history
 
   from_opened : length z.opened ≤ length alone.store.history
-  from_opened = shorter alone.store.history z.opened (runs_grow (opened_store z.limit (found_in ended)) new_client over.done answered.replies alone.store alone.ran)
+  from_opened = shorter alone.store.history z.opened (runs_grow (opened_store z.limit (found_in ended)) new_client over.done answered.replies alone.store alone.client alone.ran)
 
   own_low : (n : ℕ) → times n s.knows.participant.own ≡ 1 → n ≤ length alone.store.history
   own_low n one =
@@ -112,7 +112,7 @@ module _ {D : Type 0} {z : SharedState D} {s : SeatState} {history : List Entry}
     where
       by : (last : InstalledEdit) (edit : Option InstalledEdit) → IsIn (tables_failed last edit) s.knows.participant.past → list_any kinds.is_tables_fault answered.replies ≡ true → FaultAsks kinds.is_tables_fault (AsksEdit edit) (opened_store z.limit (found_in ended)) new_client over.done answered.replies
       by last (Some edit) there said = alone.asked_edit last edit there
-      by last None there said = asks_any kinds.is_tables_fault (AsksEdit None) (λ x y c. tt) (opened_store z.limit (found_in ended)) new_client over.done answered.replies alone.store alone.ran (any_in kinds.is_tables_fault answered.replies said)
+      by last None there said = asks_any kinds.is_tables_fault (AsksEdit None) (λ x y c. tt) (opened_store z.limit (found_in ended)) new_client over.done answered.replies alone.store alone.client alone.ran (any_in kinds.is_tables_fault answered.replies said)
 
   pub exact : IsExact z.limit (found_in ended) (left_in ended) (failed_in ended) (record { client = part.client; commands = over.done } ∷ []) (answered.replies ∷ [])
-  exact = (alone.store, alone.ran, (λ i. record { history = same_history i; edit = same_edit i }), asked_log, asked_tables)
+  exact = (alone.store, alone.client, alone.ran, (λ i. record { history = same_history i; edit = same_edit i }), asked_log, asked_tables)

@@ -13,21 +13,19 @@ use Rattle.wp_core.specs.Views.{Event, installed, log_failed, tables_failed}
 use Rattle.wp_core.proofs.KeepsSeen.{whole}
 use Rattle.wp_core.proofs.PastsGrow.{in_front}
 use Rattle.wp_shared.specs.Seats.{SharedState, SeatState}
-use Rattle.wp_clients.proofs.Going.{starts_through}
 use Rattle.wp_session.specs.declared.client.Txn.{Txn}
 use Rattle.wp_session.specs.Client.{Client, new_client}
-use Rattle.wp_session.specs.Current.{opened_store}
 use Rattle.wp_session.specs.Known.{StoredState, known_at_first, comes_to}
 use Rattle.wp_session.specs.Session.{IsSession}
-use Rattle.wp_clients.specs.Answers.{explaining, IsExplained, Stays, BreaksOff}
+use Rattle.wp_clients.specs.Answers.{explaining, IsExplained, BreaksOff}
 use Rattle.wp_clients.specs.Holdings.{HoldingsState, no_holdings, client_of, Holds}
 use Rattle.wp_clients.proofs.Growing.{agrees_before}
+use Rattle.wp_clients.proofs.Released.{stays_through}
 use Rattle.wp_sessions.specs.SoFar.{IsSessionSoFar, RanAlone}
 use Rattle.wp_clients.specs.Ends.{LetsGo}
 use Rattle.wp_sessions.specs.Came.{HasComeTo}
 use Rattle.wp_sessions.specs.Over.{Answered, BreaksOffBefore, EndsAlone, IsOver}
 use Rattle.wp_sessions.proofs.Alike.{explained_alike, if_some_map}
-use Rattle.wp_sessions.proofs.Alone.{leads_runs}
 use Rattle.wp_sessions.proofs.Coming.{Such}
 use Rattle.wp_sessions.proofs.LastEdit.{none_installed}
 use Rattle.wp_sessions.proofs.Onward.{in_parts, total_append, only_before, remembered_wider}
@@ -58,19 +56,10 @@ ends_broken s t was c others broke = record {
   tables_failed = broke.tables_failed;
 }
 
-pub stays_twice : (s t u : SeatState) → Stays s t → Stays t u → Stays s u
-stays_twice s t u first second = record {
-  same_by = second.same_by ∙ first.same_by;
-  made = second.made ∙ first.made;
-  joined = second.joined ∙ first.joined;
-  client = second.client ∙ first.client;
-  seen = starts_through s.knows.participant.seen t.knows.participant.seen u.knows.participant.seen second.seen first.seen;
-}
-
 -- and then the client lets go of what it has
-pub ends_then : {D : Type 0} (z : SharedState D) (s t u : SeatState) (txn : Txn) (rest : List Command) → BreaksOffBefore s t txn rest → LetsGo z t u → BreaksOffBefore s u txn rest
-ends_then z s t u txn rest ends goes = record {
-  stays = stays_twice s t u ends.stays goes.stays;
+pub ends_then : {D : Type 0} (z : SharedState D) (s t u : SeatState) (txn : Txn) (rest : List Command) (was now : HoldingsState) → BreaksOffBefore s t txn rest → LetsGo z t u was now → BreaksOffBefore s u txn rest
+ends_then z s t u txn rest was now ends goes = record {
+  stays = stays_through s t u ends.stays goes.stays;
   own = goes.own ∙ ends.own;
   events = ends.events;
   past = goes.past ∙ ends.past;
@@ -123,7 +112,8 @@ module _ {D : Type 0} (z : SharedState D) (found : StoredState) (part : Part) (a
   ends_alone : RanAlone z found done answered.replies s.knows.participant (client_of h) → EndsAlone z found done answered.replies u.knows.participant
   ends_alone ran = record {
     store = ran.store;
-    ran = leads_runs (opened_store z.limit found) new_client done answered.replies ran.store (client_of h) ran.ran;
+    client = client_of h;
+    ran = ran.ran;
     history = subst (StartsWith u.knows.participant.seen) (sym ran.store_is.history) ends.stays.seen;
     own = λ n there. subst (λ (k : List Entry). n ≤ length k) (sym ran.store_is.history) (ran.store_is.own n (subst (IsIn n) ends.own there));
     stopped = ran.store_is.stopped ∙ counted_still is_log_fault ends.log_failed;
@@ -154,6 +144,6 @@ module _ {D : Type 0} (z : SharedState D) (found : StoredState) (part : Part) (a
   }
 
 -- a session that came so far is over, once the client has let go
-pub came_over : {D : Type 0} (z : SharedState D) (found : StoredState) (part : Part) (answered : Answered) (t u : SeatState) (h : HoldingsState) → HasComeTo z found part.client part.commands answered t h → LetsGo z t u → IsOver z found part answered u
+pub came_over : {D : Type 0} (z : SharedState D) (found : StoredState) (part : Part) (answered : Answered) (t u : SeatState) (h : HoldingsState) → HasComeTo z found part.client part.commands answered t h → LetsGo z t u h no_holdings → IsOver z found part answered u
 came_over z found part answered t u h came goes =
-    over z found part answered came.done came.rest came.last u came.had came.goes (ends_then z came.last t u (client_of came.had).txn came.rest came.ends goes) goes.holds came.commands came.all
+    over z found part answered came.done came.rest came.last u came.had came.goes (ends_then z came.last t u (client_of came.had).txn came.rest h no_holdings came.ends goes) (goes.holds came.holds) came.commands came.all

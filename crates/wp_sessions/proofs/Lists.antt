@@ -17,6 +17,9 @@ or_right false b is = is
 pub or_left : (a b : Bool) → a ≡ true → (a || b) ≡ true
 or_left a b is = rw is refl
 
+pub both_so : (a b : Bool) → a ≡ true → b ≡ true → (a && b) ≡ true
+both_so a b first second = rw first second
+
 pub at_map : {A B : Type 0} (f : A → B) (xs : List A) (i : ℕ) (x : A) → get_elem? xs i ≡ some x → get_elem? (map f xs) i ≡ some (f x)
 at_map f [] i x at = absurd (some-ne-none x (sym at))
 at_map f (y ∷ xs) zero x at = ap (λ (a : _). some (f a)) (some-injective y x at)

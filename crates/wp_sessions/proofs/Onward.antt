@@ -17,7 +17,7 @@ use Rattle.wp_shared.specs.Seats.{SharedState, SeatState}
 use Rattle.wp_session.specs.Asked.{AsksLog, AsksTables}
 use Rattle.wp_session.specs.Client.{Client, new_client}
 use Rattle.wp_session.specs.After.{after_reply}
-use Rattle.wp_session.specs.Current.{opened_store}
+use Rattle.wp_session.specs.Current.{opened_store, RunsAlone}
 use Rattle.wp_session.specs.Due.{Store, store_after}
 use Rattle.wp_session.specs.Kind.{acknowledged, is_fault}
 use Rattle.wp_session.specs.Kind as kinds
@@ -28,9 +28,9 @@ use Rattle.wp_alone.specs.Alone.{IsOnly, IsStoreOf, AnswersAlone}
 use Rattle.wp_clients.specs.Answers.{explaining, IsExplained, IsRemembered, Stays, Answers}
 use Rattle.wp_clients.specs.Holdings.{HoldingsState, client_of, Holds}
 use Rattle.wp_clients.proofs.Growing.{agrees_before, in_back}
-use Rattle.wp_sessions.specs.SoFar.{IsFound, IsAlike, LeadsAlone, IsSessionTo, IsExplainedTo, RanAlone, IsSessionSoFar}
+use Rattle.wp_sessions.specs.SoFar.{IsFound, IsAlike, IsSessionTo, IsExplainedTo, RanAlone, IsSessionSoFar}
 use Rattle.wp_sessions.proofs.Alike.{after_alike, explained_alike, if_some_map}
-use Rattle.wp_sessions.proofs.Alone.{leads_more, asks_front, asks_last}
+use Rattle.wp_sessions.proofs.Alone.{runs_more, asks_front, asks_last}
 use Rattle.wp_sessions.proofs.Coming.{Such}
 use Rattle.wp_sessions.proofs.Lists.{or_left, or_right, count_append}
 
@@ -113,7 +113,7 @@ module _ {D : Type 0} (z : SharedState D) (found : StoredState) (is_found : IsFo
   alone_more ran did = record {
     store = store_after ran.store was c r;
     store_is = did.store_is;
-    ran = subst (LeadsAlone (opened_store z.limit found) new_client (done ++ c ∷ []) (answers ++ r ∷ []) (store_after ran.store was c r)) (sym did.client) (leads_more (opened_store z.limit found) new_client done answers ran.store was c r ran.ran did.replied);
+    ran = subst (RunsAlone (opened_store z.limit found) new_client (done ++ c ∷ []) (answers ++ r ∷ []) (store_after ran.store was c r)) (sym did.client) (runs_more (opened_store z.limit found) new_client done answers ran.store was c r ran.ran did.replied);
     asked = λ entries there. ⊎_elim
         (λ (k : IsIn (log_failed entries) before.past). asks_front is_fault (AsksLog entries) (opened_store z.limit found) new_client done (c ∷ []) answers (r ∷ []) (ran.asked entries k))
         (λ (k : IsIn (log_failed entries) did.events). let b = did.asked entries k in asks_last is_fault (AsksLog entries) (opened_store z.limit found) new_client done answers ran.store was c r ran.ran b.0 b.1)

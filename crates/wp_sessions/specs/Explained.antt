@@ -32,8 +32,8 @@ AreWholeParts [] [] [] = Unit {0}
 AreWholeParts (part ∷ parts) (first ∷ firsts) (a ∷ answered) = (a.whole ≡ true → first ≡ part) × AreWholeParts parts firsts answered
 AreWholeParts parts firsts answered = ⊥
 
--- The store ended, with all its seats handed in. The clients were answered so, each to those of its commands that ran, which are
--- all where memory was not wanting for it; and the history and the devices that are left explain the replies.
+-- The store ended, with all its seats handed in. The clients were answered so, each to the first of its commands, which are all
+-- where its answers are whole; and the history and the devices that are left explain the replies.
 pub record HaveRun {D : Type 0} (z : SharedState D) (script : List Part) (answered : List Answered) (history : List Entry) (left : DevicesLeft) : Type 0 where
   pub seats : List SeatState
   pub ended : IsEnded z seats history left

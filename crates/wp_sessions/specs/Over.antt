@@ -14,7 +14,7 @@ use Rattle.wp_core.specs.World.{Participant}
 use Rattle.wp_shared.specs.Seats.{SharedState, SeatState}
 use Rattle.wp_session.specs.declared.client.Txn.{Txn}
 use Rattle.wp_session.specs.Asked.{AsksLog, AsksTables, FaultAsks}
-use Rattle.wp_session.specs.Client.{new_client}
+use Rattle.wp_session.specs.Client.{Client, new_client}
 use Rattle.wp_session.specs.Current.{opened_store, RunsAlone}
 use Rattle.wp_session.specs.Due.{Store}
 use Rattle.wp_session.specs.Kind.{acknowledged, is_fault, is_tables_fault}
@@ -45,7 +45,8 @@ pub record BreaksOffBefore (old new : SeatState) (txn : Txn) (rest : List Comman
 -- command that was answered so.
 pub record EndsAlone {D : Type 0} (z : SharedState D) (found : StoredState) (done : List Command) (answers : List Reply) (p : Participant) : Type 0 where
   pub store : Store
-  pub ran : RunsAlone (opened_store z.limit found) new_client done answers store
+  pub client : Client
+  pub ran : RunsAlone (opened_store z.limit found) new_client done answers store client
   pub history : StartsWith p.seen store.history
   pub own : (n : ℕ) → IsIn n p.own → n ≤ length store.history
   pub stopped : one_if store.stopped ≡ log_faults p.past

@@ -1,5 +1,5 @@
 -- How far a client's session has come at its seat.
-use Rattle.std.specs.Prelude.{◌≡◌, ℕ, Bool, true, List, [], ◌∷◌, ◌++◌, Option, Some, IfSome, count_by}
+use Rattle.std.specs.Prelude.{◌≡◌, ℕ, Bool, true, List, ◌++◌, Option, Some, IfSome, count_by}
 use Rattle.std.specs.List.{flat_map}
 use Rattle.wp_model.specs.declared.entry.Entry.{Entry}
 use Rattle.wp_model.specs.Flushed.{InstalledEdit}
@@ -15,8 +15,8 @@ use Rattle.wp_session.specs.declared.client.Txn.{Txn}
 use Rattle.wp_session.specs.declared.client.Txn.TheVariants.{Prepared}
 use Rattle.wp_session.specs.Asked.{AsksLog, AsksTables, FaultAsks}
 use Rattle.wp_session.specs.Client.{Client, new_client}
-use Rattle.wp_session.specs.Current.{opened_store}
-use Rattle.wp_session.specs.Due.{Store, IsReply, store_after, client_after}
+use Rattle.wp_session.specs.Current.{opened_store, RunsAlone}
+use Rattle.wp_session.specs.Due.{Store}
 use Rattle.wp_session.specs.Kind.{acknowledged, is_fault, is_tables_fault}
 use Rattle.wp_session.specs.Known.{StoredState, known_at_first, comes_to}
 use Rattle.wp_session.specs.Progress.{Progress}
@@ -53,19 +53,12 @@ pub record IsExplainedTo (name : List ℕ) (done : List Command) (answers : List
       → comes_to is_such new_client (done ++ commands) (answers ++ others) ≡ true
   pub explained : (event : Event) → IsIn event past → IfSome (explaining name event) (λ is_such. (commands : List Command) (others : List Reply) → comes_to is_such new_client (done ++ commands) (answers ++ others) ≡ true)
 
--- each command is answered as the store is then; so they leave the store, and the client
-abbrev pub LeadsAlone : Store → Client → List Command → List Reply → Store → Client → Type 0
-LeadsAlone old was [] [] new now = (new ≡ old) × (now ≡ was)
-LeadsAlone old was (first ∷ commands) (answer ∷ answers) new now =
-    IsReply old was first answer × LeadsAlone (store_after old was first answer) (client_after old.history was first answer) commands answers new now
-LeadsAlone old was commands answers new now = ⊥
-
 -- The commands so far ran alone, and led to a store of which the seat's past tells. What a device failed to take was asked for by
 -- the command that was answered so.
 pub record RanAlone {D : Type 0} (z : SharedState D) (found : StoredState) (done : List Command) (answers : List Reply) (p : Participant) (client : Client) : Type 0 where
   pub store : Store
   pub store_is : IsStoreOf z found.edit p store
-  pub ran : LeadsAlone (opened_store z.limit found) new_client done answers store client
+  pub ran : RunsAlone (opened_store z.limit found) new_client done answers store client
   pub asked : (entries : List Entry) → IsIn (log_failed entries) p.past → FaultAsks is_fault (AsksLog entries) (opened_store z.limit found) new_client done answers
   pub asked_edit : (last edit : InstalledEdit) → IsIn (tables_failed last (Some edit)) p.past → FaultAsks is_tables_fault (AsksTables edit) (opened_store z.limit found) new_client done answers
 

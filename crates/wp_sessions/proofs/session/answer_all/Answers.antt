@@ -1,5 +1,5 @@
 use Rattle.std.proofs.Common.{arith}
-use Rattle.wp_sessions.proofs.Leaving.{stays_twice}
+use Rattle.wp_clients.proofs.Released.{stays_through}
 use Rattle.wp_sessions.proofs.Looping.{stays_next, goes_next, count_next, came_broken, came_whole}
 use Rattle.wp_sessions.proofs.session.answer_all.Goals as goal
 
@@ -10,7 +10,7 @@ returns-then-not-answered-clause-came g c =
 
 pub returns-then-not-answered-clause-stays : goal.returns-then-not-answered-clause-stays
 returns-then-not-answered-clause-stays g c =
-    stays_twice c.args.seat.now c.loop-command.seat c.answer_next-answered.new.seat c.loop-command.invariant.stays
+    stays_through c.args.seat.now c.loop-command.seat c.answer_next-answered.new.seat c.loop-command.invariant.stays
     (stays_next c.args.store.now c.args.commands.now c.loop-command.command-index _ c.loop-command.replies.items c.answer_next-answered.new.replies.items c.args.seat.now c.args.held.now c.loop-command.seat c.answer_next-answered.new.seat c.loop-command.held c.answer_next-answered.new.held
     (omega arith) c.command-item.is c.loop-command.invariant.goes _ c.answer_next-answered.ensures.next)
 
@@ -20,7 +20,7 @@ loop-command-preserved g c = record {
       goes_next c.args.store.now c.args.commands.now c.loop-command.command-index _ c.loop-command.replies.items c.answer_next-answered.new.replies.items c.args.seat.now c.args.held.now c.loop-command.seat c.answer_next-answered.new.seat c.loop-command.held c.answer_next-answered.new.held
       (omega arith) c.command-item.is c.loop-command.invariant.goes c.if-not-answered.ensures.next c.if-not-answered.ensures.holds;
   stays =
-      stays_twice c.args.seat.now c.loop-command.seat c.answer_next-answered.new.seat c.loop-command.invariant.stays
+      stays_through c.args.seat.now c.loop-command.seat c.answer_next-answered.new.seat c.loop-command.invariant.stays
       (stays_next c.args.store.now c.args.commands.now c.loop-command.command-index _ c.loop-command.replies.items c.answer_next-answered.new.replies.items c.args.seat.now c.args.held.now c.loop-command.seat c.answer_next-answered.new.seat c.loop-command.held c.answer_next-answered.new.held
       (omega arith) c.command-item.is c.loop-command.invariant.goes _ c.answer_next-answered.ensures.next);
   holds = c.if-not-answered.ensures.holds;
