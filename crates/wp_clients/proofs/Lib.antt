@@ -9,6 +9,7 @@ pub mod Holders
 pub mod Writes
 pub mod Staged
 pub mod Reading
+pub mod Fresh
 pub mod Labelled
 pub mod Snapping
 pub mod Claiming

@@ -7,6 +7,7 @@ use Rattle.wp_core.specs.Reading.{Registration}
 use Rattle.wp_core.specs.World.{Participant}
 use Rattle.wp_core.proofs.KeepsSeen.{shorter, whole}
 use Rattle.wp_core.proofs.PastsGrow.{in_last}
+use Rattle.wp_read.specs.Registers.{IsTaken}
 use Rattle.wp_shared.specs.Calls.{Continues}
 use Rattle.wp_shared.specs.Seats.{SharedState, SeatState}
 use Rattle.wp_txn.specs.Calls.{Keeps, without_transaction, GivesUp}
@@ -14,7 +15,7 @@ use Rattle.wp_clients.specs.declared.holdings.HeldTxn.{HeldTxn}
 use Rattle.wp_clients.specs.declared.holdings.HeldTxn.TheVariants as held
 use Rattle.wp_clients.specs.declared.holdings.HeldSnapshot.{HeldSnapshot}
 use Rattle.wp_clients.specs.Answers.{Stays}
-use Rattle.wp_clients.specs.Ends.{LetsGo, LetsGoTo}
+use Rattle.wp_clients.specs.Ends.{LetsGo}
 use Rattle.wp_clients.specs.Holdings.{HoldingsState, no_holdings, Holds, HoldsFrom}
 use Rattle.wp_clients.specs.Replies.{ReadsFresh, IsPlace}
 use Rattle.wp_clients.proofs.Going.{starts_through}
@@ -73,8 +74,8 @@ module _ {D : Type 0} (z : SharedState D) (a b : SeatState) (r : Registration) (
         joined = left.joined ∙ (read.joined ∙ took.joined);
       }
 
-      pub read_once : (key : List ℕ) (value : Option (List ℕ)) → r.number ≡ length b.knows.participant.seen → value ≡ value_at c.knows.participant.seen key r.number → ReadsFresh z a d key value r.number
-      read_once key value number is =
+      pub read_once : (key : List ℕ) (value : Option (List ℕ)) → r.number ≡ length b.knows.participant.seen → IsTaken z a b.knows.participant.seen r → value ≡ value_at c.knows.participant.seen key r.number → ReadsFresh z a d key value r.number
+      read_once key value number taken is =
           let first = shorter b.knows.participant.seen a.knows.participant.seen took.seen in
           let second = shorter c.knows.participant.seen b.knows.participant.seen read.seen in
           let third = shorter d.knows.participant.seen c.knows.participant.seen left.seen in
@@ -82,12 +83,19 @@ module _ {D : Type 0} (z : SharedState D) (a b : SeatState) (r : Registration) (
             goes_on = released;
             fresh = omega (arith, first, number);
             within = omega (arith, second, third, number);
+            published = record {
+              snapshot = r;
+              history = b.knows.participant.seen;
+              taken = taken;
+              number = refl;
+              seen = starts_through b.knows.participant.seen c.knows.participant.seen d.knows.participant.seen left.seen read.seen;
+            };
             value_is = is ∙ sym (value_old d.knows.participant.seen c.knows.participant.seen key r.number left.seen (omega (arith, second, number)));
           }
 
 -- ---- the end of a session
 
-stays_through : (a b c : SeatState) → Stays a b → Stays b c → Stays a c
+pub stays_through : (a b c : SeatState) → Stays a b → Stays b c → Stays a c
 stays_through a b c first second = record {
   same_by = second.same_by ∙ first.same_by;
   made = second.made ∙ first.made;
@@ -98,7 +106,7 @@ stays_through a b c first second = record {
 
 module _ {D : Type 0} (z : SharedState D) (old : SeatState) (was : HoldingsState) where
   -- nothing is let go of yet
-  pub lets_nothing_go : LetsGoTo z old old was was
+  pub lets_nothing_go : LetsGo z old old was was
   lets_nothing_go = record {
     stays = record { same_by = refl; made = refl; joined = refl; client = refl; seen = whole old.knows.participant.seen };
     own = refl;
@@ -106,7 +114,7 @@ module _ {D : Type 0} (z : SharedState D) (old : SeatState) (was : HoldingsState
     holds = λ has. has;
   }
 
-  module _ (mid : SeatState) (t : HeldTxn) (xs : List HeldSnapshot) (s : HeldSnapshot) (so : LetsGoTo z old mid was (record { txn = t; snapshots = xs ++ s ∷ [] })) (has : Holds z old was) where
+  module _ (mid : SeatState) (t : HeldTxn) (xs : List HeldSnapshot) (s : HeldSnapshot) (so : LetsGo z old mid was (record { txn = t; snapshots = xs ++ s ∷ [] })) (has : Holds z old was) where
     abbrev with_it : HoldingsState
     with_it = record { txn = t; snapshots = xs ++ s ∷ [] }
 
@@ -118,7 +126,7 @@ module _ {D : Type 0} (z : SharedState D) (old : SeatState) (was : HoldingsState
     last_registered = place_registered z mid with_it s.label (length xs) (so.holds has) last_place
 
     -- it is released
-    pub last_let_go : (new : SeatState) → Released z mid new s.snapshot → LetsGoTo z old new was (record { txn = t; snapshots = xs })
+    pub last_let_go : (new : SeatState) → Released z mid new s.snapshot → LetsGo z old new was (record { txn = t; snapshots = xs })
     last_let_go new out = record {
       stays = stays_through old mid new so.stays (in_place _ z mid new (record mid.knows.participant { registered = out.front ++ out.back }) out.goes_on refl);
       own = ap (λ (p : Participant). p.own) out.goes_on.participant ∙ so.own;
@@ -132,7 +140,7 @@ none_left_of [] none = refl
 none_left_of (x ∷ xs) none = absurd (omega (arith, none))
 
 -- its transaction is given up
-pub txn_let_go : {D : Type 0} (z : SharedState D) (old new : SeatState) (name : List ℕ) (t : HeldTxn) → GivesUp z old new name → HoldsFrom z old new t held.Idle → (h : HoldingsState) → h.txn ≡ t → LetsGoTo z old new h (record h { txn = held.Idle })
+pub txn_let_go : {D : Type 0} (z : SharedState D) (old new : SeatState) (name : List ℕ) (t : HeldTxn) → GivesUp z old new name → HoldsFrom z old new t held.Idle → (h : HoldingsState) → h.txn ≡ t → LetsGo z old new h (record h { txn = held.Idle })
 txn_let_go z old new name t goes holds h is = record {
   stays = in_place _ z old new (without_transaction name old.knows.participant) goes refl;
   own = ap (λ (p : Participant). p.own) goes.participant;
@@ -141,10 +149,10 @@ txn_let_go z old new name t goes holds h is = record {
 }
 
 -- first its snapshots, and then its transaction
-pub all_let_go : {D : Type 0} (z : SharedState D) (old mid new : SeatState) (h : HoldingsState) → Holds z old h → LetsGoTo z old mid h (record h { snapshots = [] }) → LetsGoTo z mid new (record h { snapshots = [] }) no_holdings → LetsGo z old new
-all_let_go z old mid new h has first second = record {
+pub all_let_go : {D : Type 0} (z : SharedState D) (old mid new : SeatState) (h : HoldingsState) → LetsGo z old mid h (record h { snapshots = [] }) → LetsGo z mid new (record h { snapshots = [] }) no_holdings → LetsGo z old new h no_holdings
+all_let_go z old mid new h first second = record {
   stays = stays_through old mid new first.stays second.stays;
   own = second.own ∙ first.own;
   past = second.past ∙ first.past;
-  holds = second.holds (first.holds has);
+  holds = λ has. second.holds (first.holds has);
 }

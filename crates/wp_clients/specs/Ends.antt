@@ -2,18 +2,11 @@
 use Rattle.std.specs.Prelude.{◌≡◌}
 use Rattle.wp_shared.specs.Seats.{SharedState, SeatState}
 use Rattle.wp_clients.specs.Answers.{Stays}
-use Rattle.wp_clients.specs.Holdings.{HoldingsState, no_holdings, Holds}
+use Rattle.wp_clients.specs.Holdings.{HoldingsState, Holds}
 
 -- The client had this, and has this now. Its seat published nothing, and remembers no more.
-pub record LetsGoTo {D : Type 0} (z : SharedState D) (old new : SeatState) (was now : HoldingsState) : Type 0 where
+pub record LetsGo {D : Type 0} (z : SharedState D) (old new : SeatState) (was now : HoldingsState) : Type 0 where
   pub stays : Stays old new
   pub own : new.knows.participant.own ≡ old.knows.participant.own
   pub past : new.knows.participant.past ≡ old.knows.participant.past
   pub holds : Holds z old was → Holds z new now
-
--- the client has nothing any more
-pub record LetsGo {D : Type 0} (z : SharedState D) (old new : SeatState) : Type 0 where
-  pub stays : Stays old new
-  pub own : new.knows.participant.own ≡ old.knows.participant.own
-  pub past : new.knows.participant.past ≡ old.knows.participant.past
-  pub holds : Holds z new no_holdings

@@ -1,4 +1,5 @@
 pub mod Holdings
+pub mod Fresh
 pub mod Replies
 pub mod Agrees
 pub mod Answers

@@ -16,6 +16,7 @@ use Rattle.wp_maint.specs.declared.error.MaintError.TheVariants as maint
 use Rattle.wp_clients.specs.declared.holdings.HeldTxn.{HeldTxn}
 use Rattle.wp_clients.specs.declared.holdings.HeldTxn.TheVariants as held
 use Rattle.wp_clients.specs.declared.holdings.HeldSnapshot.{HeldSnapshot}
+use Rattle.wp_clients.specs.Fresh.{WasPublished}
 use Rattle.wp_clients.specs.Holdings.{labelled}
 
 -- what a refusal is answered: nothing where memory was wanting; that a label is silent is answered with the label
@@ -52,11 +53,12 @@ own_reply None = None
 own_reply (Some None) = Some reply.MissingOwn
 own_reply (Some (Some value)) = Some (reply.GotOwn value)
 
--- The value of the key at a number that was published during the call. The seat is as it was but for what it has seen.
+-- The value of the key at a number that was published while the call ran. The seat is as it was but for what it has seen.
 pub record ReadsFresh {D : Type 0} (z : SharedState D) (old new : SeatState) (key : List ℕ) (value : Option (List ℕ)) (at : ℕ) : Type 0 where
   pub goes_on : Keeps z old new
   pub fresh : length old.knows.participant.seen ≤ at
   pub within : at ≤ length new.knows.participant.seen
+  pub published : WasPublished z old new at
   pub value_is : value ≡ value_at new.knows.participant.seen key at
 
 -- ---- snapshots

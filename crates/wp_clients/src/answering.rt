@@ -9,6 +9,7 @@ ghost use Rattle.wp_shared.specs.Seats.{Stands};
 ghost use Rattle.wp_session.specs.Due.{Store};
 ghost use Rattle.wp_alone.specs.Alone.{IsOnly, IsStoreOf, AnswersAlone};
 ghost use Rattle.wp_clients.specs.Answers.{Answers, IsAnswered, AnswersFrom, BreaksOff, BreaksOffFrom};
+ghost use Rattle.wp_clients.specs.Fresh.{NamesPublished};
 ghost use Rattle.wp_clients.specs.Holdings.{client_of, HoldsTxn, Holds, HoldsFrom};
 ghost use Rattle.wp_clients.specs.Replies.{is_of_txn};
 
@@ -108,6 +109,7 @@ fn obey<D: Disk + Drop, R: Wait>(
     requires { Holds store.now seat.old held.old }
     ensures holds { Holds store.now seat.new held.new }
     ensures answered { IfOk result (λ answer. IsAnswered store.now seat.old seat.new (client_of held.old) (client_of held.new) command.now answer) }
+    ensures published { IfOk result (NamesPublished store.now seat.old seat.new command.now) }
     ensures err { OnErr result (BreaksOff seat.old seat.new (client_of held.old) command.now) }
     ensures kept { OnErr result (held.new ≡ held.old) }
 {
@@ -154,6 +156,7 @@ pub fn answer<D: Disk + Drop, R: Wait>(
     ensures answered { IfOk result (λ answer. Answers store.now seat.old seat.new (client_of held.old) (client_of held.new) command.now answer) }
     ensures alone { IfOk result (λ answer. IsOnly seat.old → (first : InstalledEdit) → WasLast content store.now.first first → (s : Store) → IsStoreOf store.now first seat.old.knows.participant s
         → AnswersAlone store.now first seat.old seat.new (client_of held.old) (client_of held.new) command.now answer s) }
+    ensures published { IfOk result (NamesPublished store.now seat.old seat.new command.now) }
     ensures err { OnErr result (BreaksOff seat.old seat.new (client_of held.old) command.now) }
     ensures kept { OnErr result (held.new ≡ held.old) }
 {

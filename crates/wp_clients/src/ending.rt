@@ -2,8 +2,8 @@
 ghost use Rattle.std.specs.Prelude.{◌≡◌, []};
 ghost use Rattle.wp_clients.specs.declared.holdings.HeldTxn.{HeldTxn};
 ghost use Rattle.wp_clients.specs.declared.holdings.HeldTxn.TheVariants as held;
-ghost use Rattle.wp_clients.specs.Holdings.{HoldingsState, HoldsTxn, Holds};
-ghost use Rattle.wp_clients.specs.Ends.{LetsGo, LetsGoTo};
+ghost use Rattle.wp_clients.specs.Holdings.{HoldingsState, no_holdings, HoldsTxn, Holds};
+ghost use Rattle.wp_clients.specs.Ends.{LetsGo};
 
 use crate::holdings::{HeldSnapshot, HeldTxn, Holdings};
 use std::sync::Wait;
@@ -13,7 +13,7 @@ use wp_shared::{Seat, Shared};
 /// Drops an open transaction, and leaves a prepared one.
 fn let_txn_go<D: Disk + Drop, R: Wait>(store: &Shared<D>, rt: &R, seat: &mut Seat<D>, txn: HeldTxn)
     requires { HoldsTxn store.now seat.old txn }
-    ensures { (h : HoldingsState) → h.txn ≡ txn → LetsGoTo store.now seat.old seat.new h (record h { txn = held.Idle }) }
+    ensures { (h : HoldingsState) → h.txn ≡ txn → LetsGo store.now seat.old seat.new h (record h { txn = held.Idle }) }
 {
     match txn {
         HeldTxn::Idle => {}
@@ -31,7 +31,7 @@ fn release_all<D: Disk + Drop, R: Wait>(
 )
     requires { (txn : HeldTxn) × Holds store.now seat.old (record { txn = txn; snapshots = snapshots.items }) }
     ensures { (txn : HeldTxn) → Holds store.now seat.old (record { txn = txn; snapshots = snapshots.items })
-        → LetsGoTo store.now seat.old seat.new (record { txn = txn; snapshots = snapshots.items }) (record { txn = txn; snapshots = [] }) }
+        → LetsGo store.now seat.old seat.new (record { txn = txn; snapshots = snapshots.items }) (record { txn = txn; snapshots = [] }) }
 {
     while let Some(last) = snapshots.pop() {
         let HeldSnapshot {
@@ -46,7 +46,7 @@ fn release_all<D: Disk + Drop, R: Wait>(
 /// Ends the session: its snapshots are released, an open transaction is dropped, and a prepared one is left. It takes no memory.
 pub fn end<D: Disk + Drop, R: Wait>(store: &Shared<D>, rt: &R, seat: &mut Seat<D>, held: Holdings)
     requires { Holds store.now seat.old held }
-    ensures { LetsGo store.now seat.old seat.new }
+    ensures { LetsGo store.now seat.old seat.new held no_holdings }
 {
     let Holdings { txn, snapshots } = held;
     release_all(store, rt, seat, snapshots);

@@ -6,6 +6,7 @@ ghost use Rattle.wp_text.specs.declared.script.Command.TheVariants.{Get, GetAt};
 ghost use Rattle.wp_txn.specs.Calls.{Keeps};
 ghost use Rattle.wp_session.specs.Plan as plans;
 ghost use Rattle.wp_clients.specs.Answers.{AnswersFrom, IsAnswered};
+ghost use Rattle.wp_clients.specs.Fresh.{NamesPublished};
 ghost use Rattle.wp_clients.specs.Holdings.{client_of, HoldsTxn, Holds};
 ghost use Rattle.wp_clients.specs.Replies.{batch_in, own_reply, ReadsFresh};
 
@@ -82,6 +83,7 @@ pub(crate) fn get<D: Disk + Drop, R: Wait>(
     requires { HoldsTxn store.now seat.old txn.now }
     ensures goes_on { Keeps store.now seat.old seat.new }
     ensures answered { IfOk result (AnswersFrom store.now seat.old seat.new txn.now txn.now (Get key.now)) }
+    ensures published { IfOk result (NamesPublished store.now seat.old seat.new (Get key.now)) }
 {
     if let Some(said) = own_reply(alloc, txn, key)? {
         return Ok(said);

@@ -3,6 +3,7 @@ ghost use Rattle.std.specs.Prelude.{◌≡◌, IfOk, OnErr};
 ghost use Rattle.wp_text.specs.declared.script.Command.TheVariants.{Snap, Free};
 ghost use Rattle.wp_session.specs.Replies.{refuses_label};
 ghost use Rattle.wp_clients.specs.Answers.{BreaksOff, IsAnswered};
+ghost use Rattle.wp_clients.specs.Fresh.{NamesPublished};
 ghost use Rattle.wp_clients.specs.Holdings.{client_of, Holds};
 
 use crate::holdings::{HeldSnapshot, Holdings};
@@ -39,6 +40,7 @@ pub(crate) fn snap<D: Disk + Drop, R: Wait>(
     requires { Holds store.now seat.old held.old }
     ensures holds { Holds store.now seat.new held.new }
     ensures answered { IfOk result (λ answer. IsAnswered store.now seat.old seat.new (client_of held.old) (client_of held.new) (Snap label.now) answer) }
+    ensures published { IfOk result (NamesPublished store.now seat.old seat.new (Snap label.now)) }
     ensures err { OnErr result (BreaksOff seat.old seat.new (client_of held.old) (Snap label.now)) }
     ensures kept { OnErr result (held.new ≡ held.old) }
 {

@@ -19,3 +19,6 @@ returns-clause-alone g c =
 
 pub returns-clause-err : goal.returns-clause-err
 returns-clause-err g c = rw c.stand.ensures.same c.obey-outcome.ensures.err
+
+pub returns-clause-published : goal.returns-clause-published
+returns-clause-published g c = rw c.stand.ensures.same c.obey-outcome.ensures.published

@@ -1,5 +1,6 @@
 use Rattle.std.proofs.Common.{[], refl, sym, subst}
-use Rattle.wp_clients.specs.Holdings.{HoldingsState, Holds}
+use Rattle.wp_clients.specs.Ends.{LetsGo}
+use Rattle.wp_clients.specs.Holdings.{HoldingsState, no_holdings, Holds}
 use Rattle.wp_clients.proofs.Released.{all_let_go}
 use Rattle.wp_clients.proofs.ending.end.Goals as goal
 
@@ -15,4 +16,5 @@ pub returns : goal.returns
 returns g c =
     let has = subst (Holds c.args.store.now c.args.seat.now) (sym c.held.view_is) c.requires in
     let txn = c.held.inside.txn in let h : HoldingsState = record { txn = txn; snapshots = c.held.inside.snapshots.items } in
-    all_let_go c.args.store.now c.args.seat.now c.release_all.new.seat c.let_txn_go.new.seat h has (c.release_all.ensures txn has) (c.let_txn_go.ensures (record h { snapshots = [] }) refl)
+    subst (λ (x : HoldingsState). LetsGo c.args.store.now c.args.seat.now c.let_txn_go.new.seat x no_holdings) c.held.view_is
+    (all_let_go c.args.store.now c.args.seat.now c.release_all.new.seat c.let_txn_go.new.seat h (c.release_all.ensures txn has) (c.let_txn_go.ensures (record h { snapshots = [] }) refl))

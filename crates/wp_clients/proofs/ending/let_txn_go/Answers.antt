@@ -1,7 +1,7 @@
 use Rattle.std.proofs.Common.{subst, ◌∙◌}
 use Rattle.wp_clients.specs.declared.holdings.HeldTxn.{HeldTxn}
 use Rattle.wp_clients.specs.declared.holdings.HeldTxn.TheVariants as held
-use Rattle.wp_clients.specs.Ends.{LetsGoTo}
+use Rattle.wp_clients.specs.Ends.{LetsGo}
 use Rattle.wp_clients.specs.Holdings.{HoldsTxn}
 use Rattle.wp_clients.proofs.Decides.{given_up_open, given_up_prepared}
 use Rattle.wp_clients.proofs.Released.{lets_nothing_go, txn_let_go}
@@ -15,7 +15,7 @@ leave-requires-clause-prepared g c = (rw c.in-Prepared.is at c.requires).has
 
 pub returns-in-Idle : goal.returns-in-Idle
 returns-in-Idle g c = λ h is. let z = c.args.store.now in let s = c.args.seat.now in
-    subst (λ (x : HeldTxn). LetsGoTo z s s h (record h { txn = x })) (is ∙ c.in-Idle.is) (lets_nothing_go z s h)
+    subst (λ (x : HeldTxn). LetsGo z s s h (record h { txn = x })) (is ∙ c.in-Idle.is) (lets_nothing_go z s h)
 
 pub returns-in-Open : goal.returns-in-Open
 returns-in-Open g c = λ h is.

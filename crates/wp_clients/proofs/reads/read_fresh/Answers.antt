@@ -24,4 +24,4 @@ returns-clause-read g c =
     let gone = c.release.ensures in
     let shown = IfOk-at_ok (λ (v : Option (List ℕ)). v ≡ value_at c.get-outcome.new.seat.knows.participant.seen key snapshot.number) c.in_ok-outcome.was c.get-outcome.ensures.value in
     subst (λ (n : ℕ). ReadsFresh z s d key value n) (sym c.number-at.ensures)
-    (read_once z s c.snapshot.new.seat snapshot c.in_ok-snapshot.ensures.registered c.get-outcome.new.seat c.get-outcome.ensures.continues d gone.0 gone.1 gone.2 gone.3 gone.4 key value c.in_ok-snapshot.ensures.number shown)
+    (read_once z s c.snapshot.new.seat snapshot c.in_ok-snapshot.ensures.registered c.get-outcome.new.seat c.get-outcome.ensures.continues d gone.0 gone.1 gone.2 gone.3 gone.4 key value c.in_ok-snapshot.ensures.number c.in_ok-snapshot.ensures.taken shown)

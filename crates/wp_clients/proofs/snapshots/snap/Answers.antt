@@ -1,7 +1,12 @@
-use Rattle.std.proofs.Common.{◌≡◌, map, None, refl, sym, subst, ◌∙◌}
+use Rattle.std.specs.Prelude.{nat_le, is_some}
+use Rattle.std.proofs.Common.{◌≡◌, length, map, None, refl, sym, subst, ◌∙◌}
+use Rattle.wp_core.proofs.KeepsSeen.{whole}
+use Rattle.wp_session.specs.declared.client.TheConstants.{MOST_SNAPSHOTS}
+use Rattle.wp_session.specs.Client.{number_of}
 use Rattle.wp_session.specs.Replies.{refuses_label}
 use Rattle.wp_clients.specs.declared.holdings.HeldSnapshot.{HeldSnapshot}
 use Rattle.wp_clients.specs.Holdings.{HoldingsState, labelled, client_of, Holds}
+use Rattle.wp_clients.proofs.Fresh.{label_names}
 use Rattle.wp_clients.proofs.Places.{snapped_there, snapped_holds_there}
 use Rattle.wp_clients.proofs.Reading.{keeps_at_once}
 use Rattle.wp_clients.proofs.Snapping.{label_refused}
@@ -46,3 +51,13 @@ returns-clause-answered g c =
     let free : refuses_label (map labelled h.snapshots) label ≡ None = subst (λ (y : HoldingsState). refuses_label (map labelled y.snapshots) label ≡ None) (sym c.held.view_is) (sym (c.in_ok-reply.ensures {u = tt}) ∙ c.in_default.is) in
     rw (← c.held.view_is, c.push_reserved.ensures.items, c.reserve.ensures.items, c.number-number.ensures)
     (snapped_there z s c.snapshot.new.seat h x label (c.in_ok-label.ensures {u = tt}) free c.in_ok-snapshot.ensures.registered c.in_ok-snapshot.ensures.number)
+
+pub returns-in-Some-clause-published : goal.returns-in-Some-clause-published
+returns-in-Some-clause-published g c =
+    let snapshots = (client_of c.args.held.now).snapshots in let label = c.args.label.now in
+    label_names c.args.store.now c.args.seat.now c.args.seat.now label (is_some (number_of snapshots label)) (nat_le MOST_SNAPSHOTS (length snapshots)) c.in-Some.reply (sym (c.in_ok-reply.ensures {u = tt}) ∙ c.in-Some.is)
+
+pub returns-clause-published : goal.returns-clause-published
+returns-clause-published g c =
+    let t = c.snapshot.new.seat in
+    record { snapshot = c.in_ok-snapshot.snapshot; history = t.knows.participant.seen; taken = c.in_ok-snapshot.ensures.taken; number = sym c.number-number.ensures; seen = whole t.knows.participant.seen }

@@ -1,0 +1,27 @@
+-- That a fresh read, and a snapshot, are of the store as it was while the command ran.
+use Rattle.std.specs.Prelude.{◌≡◌, ℕ, List}
+use Rattle.wp_model.specs.declared.entry.Entry.{Entry}
+use Rattle.wp_text.specs.declared.script.Command.{Command}
+use Rattle.wp_text.specs.declared.script.Command.TheVariants as command
+use Rattle.wp_text.specs.declared.reply.Reply.{Reply}
+use Rattle.wp_text.specs.declared.reply.Reply.TheVariants as reply
+use Rattle.wp_core.specs.Reading.{Registration}
+use Rattle.wp_core.specs.Sound.Actors.{StartsWith}
+use Rattle.wp_read.specs.Registers.{IsTaken}
+use Rattle.wp_shared.specs.Seats.{SharedState, SeatState}
+
+-- The number was published in a world of the store in which the seat took a snapshot with it, and had done no more than before.
+-- What was published then it has seen now.
+pub record WasPublished {D : Type 0} (z : SharedState D) (old new : SeatState) (n : ℕ) : Type 0 where
+  pub snapshot : Registration
+  pub history : List Entry
+  pub taken : IsTaken z old history snapshot
+  pub number : snapshot.number ≡ n
+  pub seen : StartsWith new.knows.participant.seen history
+
+-- a fresh read and a snapshot have such a number; of other replies nothing is asked
+abbrev pub NamesPublished : {D : Type 0} → SharedState D → SeatState → SeatState → Command → Reply → Type 0
+NamesPublished z old new (command.Get key) (reply.Got value n) = WasPublished z old new n
+NamesPublished z old new (command.Get key) (reply.Missing n) = WasPublished z old new n
+NamesPublished z old new (command.Snap label) (reply.Snapped n) = WasPublished z old new n
+NamesPublished z old new command answer = Unit {0}
