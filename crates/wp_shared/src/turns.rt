@@ -13,12 +13,22 @@ use wp_guarded::Part;
 use wp_outside::Disk;
 use wp_rule::Turn;
 
-/// How often a seat tries at once again to take a turn that is held. Most turns are held for less time than it takes to let
-/// others run.
-const SPINS: u32 = 60;
+/// How many pauses of the processor a seat waits at first for a turn that is held. That is longer than most turns are held: who has
+/// just given one then takes the next ones before the words move to another processor.
+const FIRST_PAUSES: u32 = 32;
+
+/// How often it waits so, twice as long each time, before it lets others run.
+const DOUBLINGS: u32 = 6;
 
 /// How often it tries before it sleeps, where the turn's holder may be in a call of a device.
-const TRIES: u32 = 100;
+const TRIES: u32 = 46;
+
+/// Waits so many pauses of the processor.
+fn pause(pauses: u32) {
+    for _ in 0..pauses {
+        hint::spin_loop();
+    }
+}
 
 /// Whether the holder of the turn may be in a call of a device.
 fn is_long(turn: Turn) -> bool {
@@ -47,8 +57,8 @@ impl<D: Disk + Drop> Shared<D> {
 
     /// Waits a moment, lets others run, or sleeps until the turn is given. The answer is how often it was tried by then.
     fn wait<R: Wait>(&self, rt: &R, turn: Turn, tries: u32) -> u32 {
-        if tries < SPINS {
-            hint::spin_loop();
+        if tries < DOUBLINGS {
+            pause(FIRST_PAUSES << tries);
         } else if tries < TRIES || !is_long(turn) {
             thread::yield_now();
         } else {
