@@ -209,7 +209,7 @@ pub fn clear_for<D: Disk + Drop, R: Wait>(
     ensures numbers { IfOk result (λ cleared. cleared ≡ p ∷ []) }
     ensures cleared { OnOk result (IsCleared seat.new.knows (cache_place store.now.cells p)) }
 {
-    let place = steps::place_of(store, p);
+    let place = store.place_of(p);
     clear_place(store, rt, seat, log, place)?;
     Ok(Cleared::of(p))
 }
@@ -265,8 +265,8 @@ pub fn clear_pair<D: Disk + Drop, R: Wait>(
     ensures numbers { IfOk result (λ cleared. cleared ≡ r ∷ p ∷ []) }
     ensures cleared { OnOk result (IsCleared seat.new.knows (cache_place store.now.cells r) × IsCleared seat.new.knows (cache_place store.now.cells p)) }
 {
-    let first = steps::place_of(store, r);
-    let second = steps::place_of(store, p);
+    let first = store.place_of(r);
+    let second = store.place_of(p);
     clear_place(store, rt, seat, log, first)?;
     clear_second(store, rt, seat, log, first, second)?;
     Ok(Cleared::of_two(r, p))

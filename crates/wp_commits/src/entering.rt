@@ -112,7 +112,7 @@ fn enter_pair<D: Disk + Drop, R: Wait>(
     ensures there { (bound : ℕ) (words : List ℕ) → Noted seat.new.knows (words_stay bound words) → pair_at words (cache_place store.now.cells p) ≡ Some (record { number = p; decision = c }) }
     ensures elsewhere { (place : ℕ) → place ≢ cache_place store.now.cells p → IsCleared seat.old.knows place → IsCleared seat.new.knows place }
 {
-    let place = steps::place_of(store, p);
+    let place = store.place_of(p);
     clear_again(store, rt, seat, log, place);
     steps::put_word(store, seat, log, place, p, c);
 }

@@ -65,14 +65,6 @@ pub fn pair<D: Disk + Drop>(
     unpack(store.word(seat, place))
 }
 
-/// The place of the number's word.
-pub fn place_of<D: Disk + Drop>(store: &Shared<D>, p: Seq) -> usize
-    ensures place { result ≡ cache_place store.now.cells p }
-    ensures within { result < store.now.cells }
-{
-    (p % store.cells() as u64) as usize
-}
-
 // ---- notes
 
 /// Notes the fact, which the seat knows, as the steps that are picked say.

@@ -119,7 +119,6 @@ fn load_any<D: Disk + Drop, R: Wait>(
 )
     requires free { IsFree store.now.table seat.old }
     requires next { IsNext seat.old seen.old which }
-    requires words { 1 ≤ store.now.cells }
     ensures loads { Loads store.now which (noting seat.old seat.new.knows.notes) seat.new seen.old seen.new }
     ensures notes { KeepsNotes seat.old.knows.notes seat.new.knows.notes }
 {

@@ -5,7 +5,6 @@
 ghost use Rattle.std.specs.FinMap as finite;
 ghost use Rattle.std.specs.FinSet as set;
 ghost use Rattle.std.specs.Prelude.{◌≡◌, ◌≤◌, ◌<◌, suc, true, List, [], ◌∷◌, ◌++◌, length, unwrap_or, MatchOption};
-ghost use Rattle.wp_core.specs.Cache.{cache_place};
 ghost use Rattle.wp_core.specs.Changes.{found_in};
 ghost use Rattle.wp_core.specs.Lists.{IsIn};
 ghost use Rattle.wp_core.specs.Reading.{Registration, reads};
@@ -75,24 +74,13 @@ pub fn begin_reading<D: Disk + Drop>(
     }
 }
 
-/// The index of the version's word in the commit cache.
-fn word_index<D: Disk + Drop>(store: &Shared<D>, version: Seq) -> usize
-    requires { 1 ≤ store.now.cells }
-    ensures place { result ≡ cache_place store.now.cells version }
-    ensures within { result < store.now.cells }
-{
-    let cells = store.cells() as u64;
-    (version % cells) as usize
-}
-
 fn first_word<D: Disk + Drop>(store: &Shared<D>, seat: &mut Seat<D>, seen: &mut Observed)
     requires seat { seat.old.table ≡ store.now.table }
     requires next { IsNext seat.old seen.old Load.FirstWord }
-    requires words { 1 ≤ store.now.cells }
     ensures { Loads store.now Load.FirstWord seat.old seat.new seen.old seen.new }
 {
-    let index = word_index(store, seen.version);
-    let word = store.load_word::<Brand>(seat, index);
+    let place = store.place_of(seen.version);
+    let word = store.load_word::<Brand>(seat, place);
     seen.first_word = Some(word);
 }
 
@@ -117,11 +105,10 @@ fn delayed_flag<D: Disk + Drop>(store: &Shared<D>, seat: &mut Seat<D>, seen: &mu
 fn second_word<D: Disk + Drop>(store: &Shared<D>, seat: &mut Seat<D>, seen: &mut Observed)
     requires seat { seat.old.table ≡ store.now.table }
     requires next { IsNext seat.old seen.old Load.SecondWord }
-    requires words { 1 ≤ store.now.cells }
     ensures { Loads store.now Load.SecondWord seat.old seat.new seen.old seen.new }
 {
-    let index = word_index(store, seen.version);
-    let word = store.load_word::<Brand>(seat, index);
+    let place = store.place_of(seen.version);
+    let word = store.load_word::<Brand>(seat, place);
     seen.second_word = Some(word);
 }
 
@@ -148,7 +135,6 @@ pub fn load<D: Disk + Drop>(store: &Shared<D>, seat: &mut Seat<D>, seen: &mut Ob
     requires seat { seat.old.table ≡ store.now.table }
     requires next { IsNext seat.old seen.old which }
     requires word { IsOfWord which }
-    requires words { 1 ≤ store.now.cells }
     ensures { Loads store.now which seat.old seat.new seen.old seen.new }
 {
     match which {

@@ -1,6 +1,7 @@
 //! The shared store.
 ghost use Rattle.std.specs.Prelude.{◌≡◌, ◌<◌, ◌≤◌, ◌^◌, ◌∷◌, [], List, true, length, slice_index};
 ghost use Rattle.wp_model.specs.Legal.{IsLegal};
+ghost use Rattle.wp_core.specs.Cache.{cache_place};
 ghost use Rattle.wp_core.specs.Sound.Actors.{StartsWith};
 ghost use Rattle.wp_core.specs.Changes.{sees, made_one};
 ghost use Rattle.wp_core.specs.Steps.{Step, set_client};
@@ -81,6 +82,14 @@ impl<D: Disk + Drop> Shared<D> {
         ensures { (result ≡ self.now.cells) × (1 ≤ result) }
     {
         self.words.cells()
+    }
+
+    /// The place of the number's word in the commit cache.
+    pub fn place_of(&self, p: Seq) -> usize
+        ensures place { result ≡ cache_place self.now.cells p }
+        ensures within { result < self.now.cells }
+    {
+        (p % self.cells() as u64) as usize
     }
 
     /// The greatest number that an entry may get: 1 to 4294967295.

@@ -9,5 +9,5 @@ load_word-word-requires-clause-may g c = may_load c.args.store.now c.args.seat.n
 
 pub returns : goal.returns
 returns g c =
-    load_made c.args.store.now (λ (w : World). c.load_word-word.result ≡ slice_index w.cache c.word_index-index.result) c.args.seat.now c.load_word-word.new.seat SecondWord c.args.seen.now _ c.requires.next
-    (λ w k so. ap (λ (n : ℕ). record c.args.seen.now { second_word = Some n }) (word_is c.args.store.now c.args.seat.now.by c.args.seat.now.knows w c.args.seen.now.version c.word_index-index.result c.load_word-word.result c.word_index-index.ensures.place k so)) c.load_word-word.ensures.same c.load_word-word.ensures.moved
+    load_made c.args.store.now (λ (w : World). c.load_word-word.result ≡ slice_index w.cache c.place_of-place.result) c.args.seat.now c.load_word-word.new.seat SecondWord c.args.seen.now _ c.requires.next
+    (λ w k so. ap (λ (n : ℕ). record c.args.seen.now { second_word = Some n }) (word_is c.args.store.now c.args.seat.now.by c.args.seat.now.knows w c.args.seen.now.version c.place_of-place.result c.load_word-word.result c.place_of-place.ensures.place k so)) c.load_word-word.ensures.same c.load_word-word.ensures.moved

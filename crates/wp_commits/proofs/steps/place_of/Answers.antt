@@ -1,5 +1,0 @@
-use Rattle.std.proofs.Common.{ℕ, ◌≤◌, ◌<◌, ◌%◌, mod-lt, sym, subst}
-use Rattle.wp_commits.proofs.steps.place_of.Goals as goal
-
-pub returns-clause-within : goal.returns-clause-within
-returns-clause-within g c = subst (λ (n : ℕ). c.args.p % n < c.args.store.now.cells) (sym c.cells.ensures.0) (mod-lt c.args.p (subst (λ (n : ℕ). 1 ≤ n) c.cells.ensures.0 c.cells.ensures.1))
