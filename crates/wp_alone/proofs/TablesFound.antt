@@ -17,9 +17,9 @@ use Rattle.wp_core.specs.World.{World}
 use Rattle.wp_rule.specs.Shows.{WasLast}
 use Rattle.wp_rule.proofs.Knows.{held_is, one_was_first}
 use Rattle.wp_guarded.specs.Parts.{content}
-use Rattle.wp_shared.specs.Calls.{Continues}
+use Rattle.wp_shared.specs.Calls.{Continues, remembering}
 use Rattle.wp_shared.specs.Seats.{SharedState, SeatState, Stands, place_at}
-use Rattle.wp_maint.specs.Calls.{remembering, Finds, found_by}
+use Rattle.wp_maint.specs.Calls.{Finds, found_by}
 use Rattle.wp_session.specs.Client.{Client}
 use Rattle.wp_session.specs.Due.{Store, due, unless_halted, edit_of, board_after, store_after}
 use Rattle.wp_session.specs.Kind.{is_logged, is_fault, is_installed}

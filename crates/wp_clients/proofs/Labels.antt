@@ -14,14 +14,15 @@ use Rattle.wp_core.specs.Views.{Event, told, heard}
 use Rattle.wp_core.specs.World.{Participant}
 use Rattle.wp_core.proofs.KeepsSeen.{shorter}
 use Rattle.wp_core.proofs.PastsGrow.{in_last}
-use Rattle.wp_shared.specs.Calls.{Continues}
+use Rattle.wp_shared.specs.Calls.{Continues, remembering}
 use Rattle.wp_shared.specs.Seats.{SharedState, SeatState}
 use Rattle.wp_txn.specs.declared.error.TxnError.{TxnError}
 use Rattle.wp_txn.specs.declared.error.TxnError.TheVariants.{Memory, Taken, Busy, TooMany, Silent, Unknown, InUse, NumbersFull, LogFault, Stopped}
-use Rattle.wp_txn.specs.Calls.{Keeps, IsSilent, Tells, Hears, remembering}
+use Rattle.wp_txn.specs.Calls.{Keeps, IsSilent, Tells, Hears}
 use Rattle.wp_session.specs.Client.{Client}
 use Rattle.wp_session.specs.Progress.{knows_label}
 use Rattle.wp_alone.proofs.Board.{told_alone, heard_alone, silent_alone}
+use Rattle.wp_clients.specs.Fresh.{NamesPublished}
 use Rattle.wp_clients.specs.Answers.{IsExplained, Answers, BreaksOff, IsAnswered}
 use Rattle.wp_clients.specs.Holdings.{HoldingsState, Holds}
 use Rattle.wp_clients.specs.Replies.{refusal}
@@ -53,7 +54,7 @@ module _ {D : Type 0} (z : SharedState D) (old new : SeatState) (label : List �
   same_own events goes = ap (λ (p : Participant). p.own) goes.participant ∙ sym (append-nil it.own)
 
   told_beside : (n : ℕ) → Tells z old label (Ok n) new → Answers z old new client client (command.Tell label) (reply.Told n)
-  told_beside n (is, goes, were) = record {
+  told_beside n (is, goes, were, was) = record {
     stays = in_place _ z old new _ goes refl;
     own = same_own (told label n ∷ []) goes;
     events = told label n ∷ [];
@@ -70,7 +71,7 @@ module _ {D : Type 0} (z : SharedState D) (old new : SeatState) (label : List �
   }
 
   heard_beside : (n : ℕ) → Hears z old label (Ok n) new → Answers z old new client client (command.Hear label) (reply.Heard n)
-  heard_beside n (is, (m, low_m, goes, were)) = record {
+  heard_beside n (is, (m, low_m, goes, were, was)) = record {
     stays = in_place _ z old new _ goes refl;
     own = same_own (heard label m ∷ []) goes;
     events = heard label m ∷ [];
@@ -148,13 +149,16 @@ module _ {D : Type 0} (z : SharedState D) (old new : SeatState) (label : List �
     pub not_told_answers : (r : Reply) → refusal why ≡ Some r → IsAnswered z old new client client (command.Tell label) r
     not_told_answers r is = let none : refusal why ≡ None = ap refusal (told_else why k) in absurd (none_some r (sym none ∙ is))
 
+    pub not_told_names : (r : Reply) → refusal why ≡ Some r → NamesPublished z old new (command.Tell label) r
+    not_told_names r is = let none : refusal why ≡ None = ap refusal (told_else why k) in absurd (none_some r (sym none ∙ is))
+
     pub not_told_breaks : BreaksOff old new client (command.Tell label)
     not_told_breaks = broke_off z old new client (command.Tell label) (subst (λ (w : TxnError). Tells z old label (Err w) new) (told_else why k) k)
 
 -- what the client has, after either call
 module _ {D : Type 0} (z : SharedState D) (old new : SeatState) (label : List ℕ) (h : HoldingsState) (has : Holds z old h) where
   pub told_holds : (answer : Result ℕ TxnError) → Tells z old label answer new → Holds z new h
-  told_holds (Ok n) (is, goes, were) = holds_still z old new _ refl refl refl goes h has
+  told_holds (Ok n) (is, goes, were, was) = holds_still z old new _ refl refl refl goes h has
   told_holds (Err Memory) goes = keeps_holds z old new goes h has
   told_holds (Err (Taken other)) c = absurd c
   told_holds (Err (Busy holder)) c = absurd c
@@ -167,7 +171,7 @@ module _ {D : Type 0} (z : SharedState D) (old new : SeatState) (label : List �
   told_holds (Err (Stopped n)) c = absurd c
 
   pub heard_holds : (answer : Result ℕ TxnError) → Hears z old label answer new → Holds z new h
-  heard_holds (Ok n) (is, (m, low, goes, were)) = holds_still z old new _ refl refl refl goes h has
+  heard_holds (Ok n) (is, (m, low, goes, were, was)) = holds_still z old new _ refl refl refl goes h has
   heard_holds (Err Silent) (silent, goes) = keeps_holds z old new goes h has
   heard_holds (Err Memory) c = absurd c
   heard_holds (Err (Taken other)) c = absurd c

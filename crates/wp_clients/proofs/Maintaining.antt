@@ -18,12 +18,12 @@ use Rattle.wp_core.proofs.KeepsSeen.{shorter}
 use Rattle.wp_core.proofs.Tests.{same_some}
 use Rattle.wp_rule.specs.Shows.{WasLast}
 use Rattle.wp_guarded.specs.Parts.{content}
-use Rattle.wp_shared.specs.Calls.{Continues}
+use Rattle.wp_shared.specs.Calls.{Continues, remembering}
 use Rattle.wp_shared.specs.Seats.{SharedState, SeatState}
 use Rattle.wp_maint.specs.declared.done.Done.{Done}
 use Rattle.wp_maint.specs.declared.error.MaintError.{MaintError}
 use Rattle.wp_maint.specs.declared.error.MaintError.TheVariants.{Memory, Nothing, TableFault, TablesStopped}
-use Rattle.wp_maint.specs.Calls.{remembering, found_by, IsStopped, HasNothing, HasFailed, HasFlushed, NoneInMemory, Flushes}
+use Rattle.wp_maint.specs.Calls.{found_by, IsStopped, HasNothing, HasFailed, HasFlushed, NoneInMemory, Flushes}
 use Rattle.wp_session.specs.Client.{Client}
 use Rattle.wp_session.specs.Kind.{number_in, last_after}
 use Rattle.wp_session.specs.Progress.{Progress, heard_after}

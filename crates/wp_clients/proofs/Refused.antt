@@ -14,11 +14,10 @@ use Rattle.wp_core.specs.World.{Participant}
 use Rattle.wp_core.proofs.KeepsSeen.{shorter}
 use Rattle.wp_core.proofs.PastsGrow.{in_last, in_either, total_more}
 use Rattle.wp_core.proofs.Tests.{same_some}
-use Rattle.wp_shared.specs.Calls.{Continues}
+use Rattle.wp_shared.specs.Calls.{Continues, remembering}
 use Rattle.wp_shared.specs.Seats.{SharedState, SeatState}
 use Rattle.wp_txn.specs.declared.error.TxnError.{TxnError}
 use Rattle.wp_txn.specs.declared.error.TxnError.TheVariants.{Memory, Taken, Busy, TooMany, Silent, Unknown, InUse, NumbersFull, LogFault, Stopped}
-use Rattle.wp_txn.specs.Calls.{remembering}
 use Rattle.wp_txn.specs.Writes.{Refuses}
 use Rattle.wp_session.specs.Client.{Client}
 use Rattle.wp_session.specs.Kind.{number_in, fresh_in, last_after}

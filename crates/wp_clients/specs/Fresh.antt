@@ -1,5 +1,5 @@
--- That a fresh read, and a snapshot, are of the store as it was while the command ran.
-use Rattle.std.specs.Prelude.{◌≡◌, ℕ, List}
+-- That a fresh read, a snapshot, and a number that is told or heard are of the store as it was while the command ran.
+use Rattle.std.specs.Prelude.{◌≡◌, ℕ, List, length}
 use Rattle.wp_model.specs.declared.entry.Entry.{Entry}
 use Rattle.wp_text.specs.declared.script.Command.{Command}
 use Rattle.wp_text.specs.declared.script.Command.TheVariants as command
@@ -9,6 +9,7 @@ use Rattle.wp_core.specs.Reading.{Registration}
 use Rattle.wp_core.specs.Sound.Actors.{StartsWith}
 use Rattle.wp_read.specs.Registers.{IsTaken}
 use Rattle.wp_shared.specs.Seats.{SharedState, SeatState}
+use Rattle.wp_txn.specs.Calls.{WasHistory}
 
 -- The number was published in a world of the store in which the seat took a snapshot with it, and had done no more than before.
 -- What was published then it has seen now.
@@ -19,9 +20,16 @@ pub record WasPublished {D : Type 0} (z : SharedState D) (old new : SeatState) (
   pub number : snapshot.number ≡ n
   pub seen : StartsWith new.knows.participant.seen history
 
--- a fresh read and a snapshot have such a number; of other replies nothing is asked
+-- In a world of the store in which the seat had done no more than before so many entries were published, just those that it has
+-- seen now.
+abbrev pub CountsPublished : {D : Type 0} → SharedState D → SeatState → SeatState → ℕ → Type 0
+CountsPublished z old new n = (n ≡ length new.knows.participant.seen) × WasHistory z old new.knows.participant.seen
+
+-- a fresh read and a snapshot have such a number, and what is told and heard is one; of other replies nothing is asked
 abbrev pub NamesPublished : {D : Type 0} → SharedState D → SeatState → SeatState → Command → Reply → Type 0
 NamesPublished z old new (command.Get key) (reply.Got value n) = WasPublished z old new n
 NamesPublished z old new (command.Get key) (reply.Missing n) = WasPublished z old new n
 NamesPublished z old new (command.Snap label) (reply.Snapped n) = WasPublished z old new n
+NamesPublished z old new (command.Tell label) (reply.Told n) = CountsPublished z old new n
+NamesPublished z old new (command.Hear label) (reply.Heard n) = CountsPublished z old new n
 NamesPublished z old new command answer = Unit {0}

@@ -4,6 +4,7 @@ ghost use Rattle.wp_text.specs.declared.script.Command.TheVariants.{Tell, Hear};
 ghost use Rattle.wp_session.specs.Client.{Client};
 ghost use Rattle.wp_shared.specs.Seats.{IsFree};
 ghost use Rattle.wp_clients.specs.Answers.{BreaksOff, IsAnswered};
+ghost use Rattle.wp_clients.specs.Fresh.{NamesPublished};
 ghost use Rattle.wp_clients.specs.Holdings.{HoldingsState, Holds};
 
 use crate::refusals::refusal;
@@ -26,6 +27,7 @@ pub(crate) fn tell<D: Disk + Drop, R: Wait>(
     requires { IsFree store.now.table seat.old }
     ensures holds { (h : HoldingsState) → Holds store.now seat.old h → Holds store.now seat.new h }
     ensures answered { IfOk result (λ answer. (client : Client) → IsAnswered store.now seat.old seat.new client client (Tell label.now) answer) }
+    ensures published { IfOk result (NamesPublished store.now seat.old seat.new (Tell label.now)) }
     ensures err { OnErr result ((client : Client) → BreaksOff seat.old seat.new client (Tell label.now)) }
 {
     match wp_txn::tell(store, rt, alloc, seat, label) {
@@ -45,6 +47,7 @@ pub(crate) fn hear<D: Disk + Drop, R: Wait>(
     requires { IsFree store.now.table seat.old }
     ensures holds { (h : HoldingsState) → Holds store.now seat.old h → Holds store.now seat.new h }
     ensures answered { IfOk result (λ answer. (client : Client) → IsAnswered store.now seat.old seat.new client client (Hear label.now) answer) }
+    ensures published { IfOk result (NamesPublished store.now seat.old seat.new (Hear label.now)) }
     ensures err { OnErr result ((client : Client) → BreaksOff seat.old seat.new client (Hear label.now)) }
 {
     let asked = label.copy(alloc)?;

@@ -15,12 +15,13 @@ use Rattle.wp_core.specs.World.{Participant}
 use Rattle.wp_rule.specs.Knows.{KnowsTables}
 use Rattle.wp_guarded.specs.Edits.{EditsState}
 use Rattle.wp_guarded.specs.Installs.{SurvivesInstall}
+use Rattle.wp_shared.specs.Calls.{remembering}
 use Rattle.wp_shared.specs.Seats.{SharedState, SeatState}
 use Rattle.wp_commits.specs.Notes.{GoesOn}
 use Rattle.wp_maint.specs.declared.error.MaintError.{MaintError}
 use Rattle.wp_maint.specs.declared.error.MaintError.TheVariants.{Memory, Nothing, TableFault, TablesStopped}
 use Rattle.wp_maint.specs.declared.frozen.Frozen.{Frozen}
-use Rattle.wp_maint.specs.Calls.{found_by, remembering, SawWhole, HasFlushed, HasNewest, FlushesFrom}
+use Rattle.wp_maint.specs.Calls.{found_by, SawWhole, HasFlushed, HasNewest, FlushesFrom}
 use Rattle.wp_maint.specs.Flush.{HasFrozen, MayPut}
 use Rattle.wp_maint.specs.Installs.{HasInstalled, NotInstalled}
 use Rattle.wp_maint.specs.Holding.{no_fact, is_of_flushed, is_of_tables, being, GoesOnAs, HoldsEdits}

@@ -6,9 +6,10 @@ use Rattle.wp_core.specs.Lists.{IsIn}
 use Rattle.wp_core.specs.Tables.{Installed, installed}
 use Rattle.wp_core.specs.Views.{Event, Fact}
 use Rattle.wp_rule.specs.Knows.{KnowsInstalled}
+use Rattle.wp_shared.specs.Calls.{remembering}
 use Rattle.wp_shared.specs.Seats.{SharedState, SeatState}
 use Rattle.wp_commits.specs.Notes.{GoesOn}
-use Rattle.wp_maint.specs.Calls.{found_by, remembering}
+use Rattle.wp_maint.specs.Calls.{found_by}
 use Rattle.wp_maint.specs.Finding.{Remembers, Changes}
 use Rattle.wp_maint.specs.Holding.{being}
 use Rattle.wp_maint.proofs.Onward.{starts_equal, found_later}

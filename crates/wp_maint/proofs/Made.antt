@@ -26,12 +26,12 @@ use Rattle.wp_rule.proofs.MayBeMade.{known_made}
 use Rattle.wp_rule.proofs.Needed.{guarded, needed}
 use Rattle.wp_rule.proofs.Outlasting.{outlasts}
 use Rattle.wp_rule.proofs.Stores.{holder_is_live}
+use Rattle.wp_shared.specs.Calls.{remembering}
 use Rattle.wp_shared.specs.Seats.{SharedState, SeatState, Stands, place_at}
 use Rattle.wp_shared.proofs.OneStep.{made, becomes}
 use Rattle.wp_commits.specs.Notes.{GoesOn}
 use Rattle.wp_commits.proofs.Goes.{goes_with}
 use Rattle.wp_commits.proofs.Turns.{note_ends_none}
-use Rattle.wp_maint.specs.Calls.{remembering}
 use Rattle.wp_maint.specs.Finding.{Remembers}
 use Rattle.wp_maint.specs.Holding.{no_fact, is_of_flushed, is_of_tables, being}
 use Rattle.wp_maint.proofs.Found.{failed_last}

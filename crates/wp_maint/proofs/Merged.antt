@@ -21,12 +21,13 @@ use Rattle.wp_core.specs.World.{Participant}
 use Rattle.wp_rule.specs.Knows.{Noted, KnowsTables}
 use Rattle.wp_guarded.specs.Edits.{EditsState}
 use Rattle.wp_guarded.specs.Installs.{in_one_table, SurvivesInstall}
+use Rattle.wp_shared.specs.Calls.{remembering}
 use Rattle.wp_shared.specs.Seats.{SharedState, SeatState}
 use Rattle.wp_commits.specs.Notes.{GoesOn}
 use Rattle.wp_read.specs.Registers.{numbers_of}
 use Rattle.wp_maint.specs.declared.error.MaintError.{MaintError}
 use Rattle.wp_maint.specs.declared.error.MaintError.TheVariants.{Memory, Nothing, TableFault, TablesStopped}
-use Rattle.wp_maint.specs.Calls.{found_by, remembering, HasAlone, HasCompacted, IsCompactionOf, CompactsFrom, SeveralTables}
+use Rattle.wp_maint.specs.Calls.{found_by, HasAlone, HasCompacted, IsCompactionOf, CompactsFrom, SeveralTables}
 use Rattle.wp_maint.specs.Compaction.{IsPin, MayReplace}
 use Rattle.wp_maint.specs.Holding.{no_fact, is_of_flushed, is_of_tables, being, GoesOnAs, HoldsEdits}
 use Rattle.wp_maint.specs.Installs.{HasInstalled, NotInstalled}

@@ -23,13 +23,13 @@ use Rattle.wp_rule.specs.Words.{IsAt}
 use Rattle.wp_tableset.specs.Changes.{compacted_parts}
 use Rattle.wp_guarded.specs.Edits.{EditsState}
 use Rattle.wp_guarded.specs.Installs.{SurvivesInstall}
-use Rattle.wp_shared.specs.Calls.{Continues}
+use Rattle.wp_shared.specs.Calls.{Continues, remembering}
 use Rattle.wp_shared.specs.Seats.{SharedState, SeatState, IsFree, Stands, place_at}
 use Rattle.wp_commits.specs.Notes.{GoesOn}
 use Rattle.wp_maint.specs.declared.done.Done.{Done}
 use Rattle.wp_maint.specs.declared.error.MaintError.{MaintError}
 use Rattle.wp_maint.specs.declared.error.MaintError.TheVariants.{Memory, Nothing, TableFault, TablesStopped}
-use Rattle.wp_maint.specs.Calls.{HeldTables, SawWhole, Finds, HasNothing, FlushesFrom, NoneInMemory, FewTables, CompactsFrom, IsCompactionOf, found_by, remembering}
+use Rattle.wp_maint.specs.Calls.{HeldTables, SawWhole, Finds, HasNothing, FlushesFrom, NoneInMemory, FewTables, CompactsFrom, IsCompactionOf, found_by}
 use Rattle.wp_maint.specs.Compaction.{EndsRoundFrom}
 use Rattle.wp_maint.specs.Finding.{Remembers, Changes}
 use Rattle.wp_maint.specs.Holding.{no_fact, is_under, is_of_flushed, is_of_tables, seeing, being, GoesOnAs, HoldsEdits}

@@ -17,14 +17,14 @@ use Rattle.wp_core.specs.Views.{Event, tables_failed, live_listed}
 use Rattle.wp_core.specs.Views as event
 use Rattle.wp_core.specs.World.{Participant, Actor}
 use Rattle.wp_rule.specs.Words.{IsAt}
-use Rattle.wp_shared.specs.Calls.{Continues}
+use Rattle.wp_shared.specs.Calls.{Continues, remembering}
 use Rattle.wp_shared.specs.Seats.{SharedState, SeatState, IsFree, place_at}
 use Rattle.wp_commits.specs.Notes.{GoesOn}
 use Rattle.wp_read.specs.Registers.{IsPinned, numbers_of}
 use Rattle.wp_maint.specs.declared.done.Done.{Done}
 use Rattle.wp_maint.specs.declared.error.MaintError.{MaintError}
 use Rattle.wp_maint.specs.declared.error.MaintError.TheVariants.{Memory, Nothing, TableFault, TablesStopped}
-use Rattle.wp_maint.specs.Calls.{CompactsFrom, Compacts, FewTables, HasPinned, found_by, remembering}
+use Rattle.wp_maint.specs.Calls.{CompactsFrom, Compacts, FewTables, HasPinned, found_by}
 use Rattle.wp_maint.specs.Compaction.{HasDecided, IsPin, KnowsLive, EndsRoundFrom, EndsRound}
 use Rattle.wp_maint.specs.Decided.{ArePinned, Decides, version_numbers}
 use Rattle.wp_maint.specs.Finding.{Remembers}

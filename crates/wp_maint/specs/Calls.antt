@@ -1,5 +1,5 @@
 -- What a flush and a compaction answer, and what they leave of the seat.
-use Rattle.std.specs.Prelude.{◌≡◌, ℕ, ◌≤◌, ◌<◌, true, false, List, [], ◌∷◌, ◌++◌, length, take, Option, Some, IfSome, Result, Ok, Err}
+use Rattle.std.specs.Prelude.{◌≡◌, ℕ, ◌≤◌, ◌<◌, true, false, List, [], ◌∷◌, length, take, Option, Some, IfSome, Result, Ok, Err}
 use Rattle.wp_model.specs.declared.entry.Entry.{Entry}
 use Rattle.wp_model.specs.declared.version.Version.{Version}
 use Rattle.wp_model.specs.Flushed.{InstalledEdit, later_versions}
@@ -20,19 +20,13 @@ use Rattle.wp_rule.specs.Words.{IsAt}
 use Rattle.wp_guarded.specs.Edits.{EditsState, IsEdits}
 use Rattle.wp_guarded.specs.Installs.{HadCause, SurvivesInstall}
 use Rattle.wp_guarded.specs.Parts.{set_first}
-use Rattle.wp_shared.specs.Calls.{Continues}
+use Rattle.wp_shared.specs.Calls.{Continues, remembering}
 use Rattle.wp_shared.specs.Seats.{SharedState, SeatState, place_at}
 use Rattle.wp_read.specs.Registers.{IsPinned, numbers_of}
 use Rattle.wp_maint.specs.Holding.{seeing}
 use Rattle.wp_maint.specs.declared.done.Done.{Done}
 use Rattle.wp_maint.specs.declared.error.MaintError.{MaintError}
 use Rattle.wp_maint.specs.declared.error.MaintError.TheVariants.{Memory, Nothing, TableFault, TablesStopped}
-
--- ---- what the seat remembers
-
--- it remembers these events more
-abbrev pub remembering : List Event → Participant → Participant
-remembering events p = record p { past = p.past ++ events }
 
 -- ---- what the seat held
 

@@ -13,9 +13,9 @@ ghost use Rattle.wp_core.specs.Views as event;
 ghost use Rattle.wp_core.specs.World.{World};
 ghost use Rattle.wp_rule.specs.Knows.{Noted, KnowsMoved, KnowsInstalled};
 ghost use Rattle.wp_guarded.specs.Stock.{store_table};
+ghost use Rattle.wp_shared.specs.Calls.{remembering};
 ghost use Rattle.wp_shared.specs.Seats.{Stands};
 ghost use Rattle.wp_commits.specs.Notes.{noting, GoesOn};
-ghost use Rattle.wp_maint.specs.Calls.{remembering};
 ghost use Rattle.wp_maint.specs.Holding.{no_fact, is_of_flushed, is_of_tables, being};
 ghost use Rattle.wp_maint.specs.Finding.{Changes, Remembers};
 

@@ -1,11 +1,15 @@
 -- What the calls of the crates above leave of a seat.
-use Rattle.std.specs.Prelude.{◌≡◌, None}
+use Rattle.std.specs.Prelude.{◌≡◌, List, ◌++◌, None}
 use Rattle.wp_core.specs.Lists.{IsIn}
-use Rattle.wp_core.specs.Views.{Fact}
+use Rattle.wp_core.specs.Views.{Event, Fact}
 use Rattle.wp_core.specs.World.{Participant}
 use Rattle.wp_core.specs.Sound.Actors.{StartsWith}
 use Rattle.wp_core.specs.Sound.Views.{guarded_by}
 use Rattle.wp_shared.specs.Seats.{SharedState, SeatState, IsFree}
+
+-- it remembers these events too
+abbrev pub remembering : List Event → Participant → Participant
+remembering events p = record p { past = p.past ++ events }
 
 -- The seat is free again, in its place. It has seen no less than before, and is this participant but for that; of what it
 -- noted it has these facts still. It made and took in no other.

@@ -32,13 +32,12 @@ use Rattle.wp_rule.proofs.MayBeMade.{known_made}
 use Rattle.wp_rule.proofs.Needed.{has_locks, alone}
 use Rattle.wp_rule.proofs.Outlasting.{outlasts}
 use Rattle.wp_publish.specs.Records.{numbers_behind, is_about}
-use Rattle.wp_shared.specs.Calls.{ContinuesWith, Continues}
+use Rattle.wp_shared.specs.Calls.{ContinuesWith, Continues, remembering}
 use Rattle.wp_shared.specs.Seats.{SharedState, SeatState, IsFree, Stands, place_at}
 use Rattle.wp_shared.proofs.OneStep.{becomes}
 use Rattle.wp_txn.specs.declared.error.TxnError.{TxnError}
 use Rattle.wp_txn.specs.declared.error.TxnError.TheVariants.{Memory, Taken, Busy, TooMany, Silent, Unknown, InUse, NumbersFull, LogFault, Stopped}
 use Rattle.wp_txn.specs.Actors.{with_direct, ending_direct}
-use Rattle.wp_txn.specs.Calls.{remembering}
 use Rattle.wp_txn.specs.Recording.{Records, HasDirect, HoldsDirect, EndsDirect, without_direct}
 use Rattle.wp_txn.specs.Turns.{with_locks, HoldsLocks, GaveLocks, is_of_direct, IsNoDirect, IsWithoutDirect}
 use Rattle.wp_txn.specs.Under.{LocksDirect}

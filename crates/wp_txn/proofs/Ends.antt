@@ -17,11 +17,11 @@ use Rattle.wp_core.specs.Sound.Actors.{StartsWith}
 use Rattle.wp_core.specs.Sound.Views.{guarded_by}
 use Rattle.wp_core.proofs.HistoryLaws.{next_decides_prepare}
 use Rattle.wp_publish.specs.Records.{numbers_behind, transaction_behind, is_about}
-use Rattle.wp_shared.specs.Calls.{ContinuesWith, Continues}
+use Rattle.wp_shared.specs.Calls.{ContinuesWith, Continues, remembering}
 use Rattle.wp_commits.specs.Gone.{HasLeft}
 use Rattle.wp_rule.specs.Words.{IsAt}
 use Rattle.wp_shared.specs.Seats.{SharedState, SeatState, place_at}
-use Rattle.wp_txn.specs.Calls.{remembering, without_transaction}
+use Rattle.wp_txn.specs.Calls.{without_transaction}
 use Rattle.wp_txn.specs.Recording.{Records, Frees}
 use Rattle.wp_txn.specs.Turns.{IsApartFrom}
 use Rattle.wp_txn.specs.Txn.{OpenState, PreparedState, HasOpen, HasPrepared}

@@ -15,11 +15,10 @@ use Rattle.wp_core.proofs.KeepsSeen.{shorter}
 use Rattle.wp_rule.specs.Words.{IsAt}
 use Rattle.wp_publish.specs.Writing.{FoundLog}
 use Rattle.wp_publish.specs.Records.{numbers_behind, failing}
-use Rattle.wp_shared.specs.Calls.{ContinuesWith, Continues}
+use Rattle.wp_shared.specs.Calls.{ContinuesWith, Continues, remembering}
 use Rattle.wp_shared.specs.Seats.{SharedState, SeatState, IsFree, place_at}
 use Rattle.wp_txn.specs.declared.error.TxnError.{TxnError}
 use Rattle.wp_txn.specs.declared.error.TxnError.TheVariants.{Memory, Taken, Busy, TooMany, Silent, Unknown, InUse, NumbersFull, LogFault, Stopped}
-use Rattle.wp_txn.specs.Calls.{remembering}
 use Rattle.wp_txn.specs.Txn.{HasOpen, HasPrepared}
 use Rattle.wp_txn.specs.Writes.{HasPut, Refuses}
 

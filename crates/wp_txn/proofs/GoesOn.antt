@@ -28,11 +28,11 @@ use Rattle.wp_guarded.specs.declared.part.Part.{Part}
 use Rattle.wp_guarded.specs.declared.part.Part.TheVariants as part
 use Rattle.wp_guarded.specs.Parts.{content}
 use Rattle.wp_shared.specs.Seats.{SharedState, SeatState, IsFree, Stands, place_at}
-use Rattle.wp_shared.specs.Calls.{ContinuesWith, Continues}
+use Rattle.wp_shared.specs.Calls.{ContinuesWith, Continues, remembering}
 use Rattle.wp_txn.specs.declared.error.TxnError.{TxnError}
 use Rattle.wp_txn.specs.declared.error.TxnError.TheVariants.{Memory, Taken, Busy, TooMany, Silent, Unknown, InUse, NumbersFull, LogFault, Stopped}
 use Rattle.wp_txn.specs.Actors.{no_changes, with_claimed, with_found, with_told, with_heard, giving_up}
-use Rattle.wp_txn.specs.Calls.{remembering, with_transaction, Keeps, LocksWere, IsFreeName, Finds, GivesUp, Begins, Tells, Hears}
+use Rattle.wp_txn.specs.Calls.{with_transaction, Keeps, LocksWere, IsFreeName, Finds, GivesUp, Begins, WasHistory, Tells, Hears}
 use Rattle.wp_txn.specs.Recording.{Frees}
 use Rattle.wp_txn.specs.Turns.{seat_of, with_locks, HoldsLocks, GaveLocks, IsApartFrom, IsWithout}
 use Rattle.wp_txn.specs.Txn.{HasOpen}
@@ -219,8 +219,17 @@ module _ {D : Type 0} (z : SharedState D) (old : SeatState) (free : IsFree z.tab
 
       -- ---- the board
 
-      pub told_back : (label : List ℕ) (answer : Result ℕ TxnError) (u : LockTables) (r : SeatState) → TellsUnder t s label answer u r → OnOk answer ((w : World) × Stands z r w) → GaveLocks r new → Tells z old label answer new
-      told_back label (Ok n) u r c stands gave =
+      published_back : (r : SeatState) → WasHistory z s r.knows.participant.seen → GaveLocks r new → WasHistory z old new.knows.participant.seen
+      published_back r was gave = record {
+        world = was.world;
+        actor = was.actor;
+        there = subst (λ (by : ℕ). IsAt (place_at z by) was.actor was.world) (ap (λ (x : SeatState). x.by) took) was.there;
+        participant = was.participant ∙ ap (λ (x : SeatState). record x.knows.participant { seen = was.actor.participant.seen }) took;
+        is = was.is ∙ sym (ap (λ (p : Participant). p.seen) (participant_back r new gave));
+      }
+
+      pub told_back : (label : List ℕ) (answer : Result ℕ TxnError) (u : LockTables) (r : SeatState) → TellsUnder t s label answer u r → OnOk answer ((w : World) × Stands z r w) → OnOk answer (WasHistory z s r.knows.participant.seen) → GaveLocks r new → Tells z old label answer new
+      told_back label (Ok n) u r c stands was gave =
           let h : List Entry = c.1.0 in let f : Actor → Actor = λ a. with_told t label (sees h a) in
           let goes : Continues z old new (remembering (told label (length h) ∷ []) (record old.knows.participant { seen = h })) =
           back Turnless t (f (with_locks t old).knows) r new (under f r c.1.3) gave (held_back t (with_label t label (length h))) free.live refl refl (subst (λ (x : SeatState). StartsWith h x.knows.participant.seen) took c.1.1) (λ fact kept there. there) in
@@ -237,20 +246,21 @@ module _ {D : Type 0} (z : SharedState D) (old : SeatState) (free : IsFree z.tab
             },
             locks_left z r new (with_label t label (length h)) (λ l. finite.get l.labels label ≡ Some n) stands (subst (λ (x : SeatState). IsIn (locks (with_label t label (length h))) x.knows.held) (sym (under f r c.1.3)) (inl refl)) gave
                 (at_inserted t.labels label (length h) label refl ∙ ap (λ (m : ℕ). Some m) (sym c.1.2)),
+            published_back r was gave,
           )
-      told_back label (Err Memory) u r c stands gave = saw r c.1.0 c.1.2 c.1.1 gave
-      told_back label (Err (Taken other)) u r c stands gave = c
-      told_back label (Err (Busy holder)) u r c stands gave = c
-      told_back label (Err TooMany) u r c stands gave = c
-      told_back label (Err Silent) u r c stands gave = c
-      told_back label (Err (Unknown other at)) u r c stands gave = c
-      told_back label (Err (InUse other)) u r c stands gave = c
-      told_back label (Err (NumbersFull published limit)) u r c stands gave = c
-      told_back label (Err LogFault) u r c stands gave = c
-      told_back label (Err (Stopped n)) u r c stands gave = c
+      told_back label (Err Memory) u r c stands was gave = saw r c.1.0 c.1.2 c.1.1 gave
+      told_back label (Err (Taken other)) u r c stands was gave = c
+      told_back label (Err (Busy holder)) u r c stands was gave = c
+      told_back label (Err TooMany) u r c stands was gave = c
+      told_back label (Err Silent) u r c stands was gave = c
+      told_back label (Err (Unknown other at)) u r c stands was gave = c
+      told_back label (Err (InUse other)) u r c stands was gave = c
+      told_back label (Err (NumbersFull published limit)) u r c stands was gave = c
+      told_back label (Err LogFault) u r c stands was gave = c
+      told_back label (Err (Stopped n)) u r c stands was gave = c
 
-      pub heard_back : (w : World) (label : List ℕ) (answer : Result ℕ TxnError) (r : SeatState) → Stands z old w → w.locks ≡ t → HearsUnder t s label answer r → GaveLocks r new → Hears z old label answer new
-      heard_back w label (Ok n) r stands are c gave =
+      pub heard_back : (w : World) (label : List ℕ) (answer : Result ℕ TxnError) (r : SeatState) → Stands z old w → w.locks ≡ t → HearsUnder t s label answer r → OnOk answer (WasHistory z s r.knows.participant.seen) → GaveLocks r new → Hears z old label answer new
+      heard_back w label (Ok n) r stands are c was gave =
           let h : List Entry = c.1 in let f : Actor → Actor = with_heard h label c.0 in
           let goes = back Turnless t (f (with_locks t old).knows) r new (under f r c.6) gave (held_same t) free.live refl refl (subst (λ (x : SeatState). StartsWith h x.knows.participant.seen) took c.4) (λ fact kept there. there) in
           let seen : new.knows.participant.seen ≡ h = ap (λ (x : Participant). x.seen) (participant_back r new gave) ∙ ap (λ (x : SeatState). x.knows.participant.seen) (under f r c.6) in (
@@ -260,9 +270,10 @@ module _ {D : Type 0} (z : SharedState D) (old : SeatState) (free : IsFree z.tab
               subst (λ (k : ℕ). c.0 ≤ k) (sym c.5) c.3,
               record { free = goes.free; same_by = goes.same_by; seen = goes.seen; participant = goes.participant; notes = goes.notes; made = goes.made; joined = goes.joined },
               locks_found z old w t (λ l. finite.get l.labels label ≡ Some c.0) stands are c.2,
+              published_back r was gave,
             ),
           )
-      heard_back w label (Err Silent) r stands are c gave =
+      heard_back w label (Err Silent) r stands are c was gave =
           let none : finite.get w.locks.labels label ≡ None = ap (λ (l : LockTables). finite.get l.labels label) are ∙ c.0 in
           let past = mine past_of w.actors old.by old.knows old.knows stands.there refl in
           let board = (at_sound (place_at z old.by) old.knows w stands).board in (
@@ -275,12 +286,12 @@ module _ {D : Type 0} (z : SharedState D) (old : SeatState) (free : IsFree z.tab
             },
             nothing_done r c.1 gave,
           )
-      heard_back w label (Err Memory) r stands are c gave = c
-      heard_back w label (Err (Taken other)) r stands are c gave = c
-      heard_back w label (Err (Busy holder)) r stands are c gave = c
-      heard_back w label (Err TooMany) r stands are c gave = c
-      heard_back w label (Err (Unknown other at)) r stands are c gave = c
-      heard_back w label (Err (InUse other)) r stands are c gave = c
-      heard_back w label (Err (NumbersFull published limit)) r stands are c gave = c
-      heard_back w label (Err LogFault) r stands are c gave = c
-      heard_back w label (Err (Stopped n)) r stands are c gave = c
+      heard_back w label (Err Memory) r stands are c was gave = c
+      heard_back w label (Err (Taken other)) r stands are c was gave = c
+      heard_back w label (Err (Busy holder)) r stands are c was gave = c
+      heard_back w label (Err TooMany) r stands are c was gave = c
+      heard_back w label (Err (Unknown other at)) r stands are c was gave = c
+      heard_back w label (Err (InUse other)) r stands are c was gave = c
+      heard_back w label (Err (NumbersFull published limit)) r stands are c was gave = c
+      heard_back w label (Err LogFault) r stands are c was gave = c
+      heard_back w label (Err (Stopped n)) r stands are c was gave = c

@@ -20,7 +20,7 @@ use Rattle.wp_core.specs.Views.{Account, Fact, passed, in_old_commits, apart, wo
 use Rattle.wp_core.specs.World.{Transaction, Actor, World}
 use Rattle.wp_core.specs.Steps.{Step, load_published, claim_name, find_holder, lock_key, set_batch, free_transaction, leave_name, take_name, tell, hear, note, give_turn}
 use Rattle.wp_core.specs.Turns.{locks_turn}
-use Rattle.wp_core.specs.Changes.{keys_of_holder, with_name, without_transaction}
+use Rattle.wp_core.specs.Changes.{sees, keys_of_holder, with_name, without_transaction}
 use Rattle.wp_core.specs.Conditions.{HasTransaction}
 use Rattle.wp_core.specs.Effects.{done}
 use Rattle.wp_core.specs.Entries.{batch_of_name}
@@ -31,7 +31,7 @@ use Rattle.wp_core.proofs.AllParticipants.{mine}
 use Rattle.wp_core.proofs.HistoryGrows.{none_is}
 use Rattle.wp_core.proofs.Keyed.{at_inserted}
 use Rattle.wp_core.proofs.KeepsSeen.{shorter}
-use Rattle.wp_rule.specs.Words.{Place, IsAt}
+use Rattle.wp_rule.specs.Words.{Place, IsAt, SawAll}
 use Rattle.wp_rule.specs.Moves.{MayMake, MayStep, Moved, first_of, actor_after, world_after, taking_name}
 use Rattle.wp_rule.specs.Accounts.{IsHolderIn, account_of}
 use Rattle.wp_rule.specs.Knows.{Noted}
@@ -43,6 +43,7 @@ use Rattle.wp_rule.proofs.Outlasting.{outlasts}
 use Rattle.wp_shared.specs.Seats.{SharedState, SeatState, Stands, place_at}
 use Rattle.wp_shared.proofs.OneStep.{stepped, becomes}
 use Rattle.wp_txn.specs.Actors.{no_changes, transaction_in, with_claimed, with_found, with_locked, with_batch, giving_up, with_taken, with_told, with_heard}
+use Rattle.wp_txn.specs.Calls.{WasHistory}
 use Rattle.wp_txn.specs.Turns.{seat_of, IsApartFrom, IsWithout, TakesPrepare}
 use Rattle.wp_txn.specs.Txn.{HasPrepared}
 
@@ -305,6 +306,24 @@ module _ (p : Place) (so : World → Type 0) (s new : SeatState) (same : (new.ta
         m.so_is,
         becomes s new (with_heard w.writes.history name n s.knows) same (all_made p (λ v. load_published ∷ hear name n ∷ []) (λ v. r ≡ length v.writes.history) s.knows new.knows m (load_ends, (hear_ends name n, tt))),
       )
+
+  pub heard_all : (n r : ℕ) → finite.get t.labels name ≡ Some n → (m : Moved p (λ w. load_published ∷ hear name n ∷ []) (λ w. r ≡ length w.writes.history) s.knows new.knows) → m.world.writes.history ≡ new.knows.participant.seen
+  unfolding heard_it
+  heard_all n r there m = sym (ap (λ (x : SeatState). x.knows.participant.seen) (heard_it n r there m).4)
+
+-- what was published as a seat made its steps, which it has seen now
+pub published_then : {D : Type 0} (z : SharedState D) (old new : SeatState) (steps : World → List Step) (so : World → Type 0) (m : Moved (place_at z old.by) steps so old.knows new.knows) → m.world.writes.history ≡ new.knows.participant.seen → WasHistory z old new.knows.participant.seen
+published_then z old new steps so m is = record { world = m.world; actor = old.knows; there = m.before; participant = refl; is = is }
+
+-- ... and as it loaded the published number, before it went on
+pub published_before : {D : Type 0} (z : SharedState D) (old by new : SeatState) (n : ℕ) → by.by ≡ old.by → SawAll (place_at z by.by) by.knows n → by.knows ≡ sees by.knows.participant.seen old.knows → new.knows.participant.seen ≡ by.knows.participant.seen → WasHistory z old new.knows.participant.seen
+published_before z old by new n same saw rest seen = record {
+  world = saw.world;
+  actor = by.knows;
+  there = subst (λ (b : ℕ). IsAt (place_at z b) by.knows saw.world) same saw.there;
+  participant = ap (λ (a : Actor). a.participant) rest;
+  is = saw.seen ∙ sym seen;
+}
 
 pub may_hear : (p : Place) (a : Actor) (t : LockTables) (label : List ℕ) (n : ℕ) → IsIn (locks t) a.held → finite.get t.labels label ≡ Some n → MayMake p a (λ w. load_published ∷ hear label n ∷ [])
 may_hear p a t label n held there w k =

@@ -31,11 +31,11 @@ use Rattle.wp_rule.proofs.Needed.{needed}
 use Rattle.wp_commits.proofs.Held.{writes_are}
 use Rattle.wp_guarded.specs.Log.{LogState}
 use Rattle.wp_shared.specs.Seats.{SharedState, SeatState, IsFree, Stands, place_at}
-use Rattle.wp_shared.specs.Calls.{Continues}
+use Rattle.wp_shared.specs.Calls.{Continues, remembering}
 use Rattle.wp_txn.specs.declared.error.TxnError.{TxnError}
 use Rattle.wp_txn.specs.declared.error.TxnError.TheVariants.{Memory, Taken, Busy, TooMany, Silent, Unknown, InUse, NumbersFull, LogFault, Stopped}
 use Rattle.wp_txn.specs.Actors.{with_found, with_taken}
-use Rattle.wp_txn.specs.Calls.{remembering, Keeps, StoodWithLog, Takes, TakesPrepared}
+use Rattle.wp_txn.specs.Calls.{Keeps, StoodWithLog, Takes, TakesPrepared}
 use Rattle.wp_txn.specs.Turns.{seat_of, with_locks, HoldsLocks, GaveLocks, TookLog, HoldsLog, GaveLog, TakesPrepare}
 use Rattle.wp_txn.specs.Under.{IsPrepareOf, TakesUnder}
 use Rattle.wp_txn.proofs.GoesOn.{Turnless, same_rest, came_back}

@@ -32,11 +32,10 @@ use Rattle.wp_publish.specs.declared.error.WriteError.{WriteError}
 use Rattle.wp_publish.specs.declared.error.WriteError.TheVariants as write_error
 use Rattle.wp_publish.specs.Records.{numbers_behind, putting, transaction_behind, is_about, failing, MayPut, IsPut, IsNotPut, Puts}
 use Rattle.wp_publish.specs.Writing.{HoldsWrite, FoundLog, TakesWrite, GivesWrite}
-use Rattle.wp_shared.specs.Calls.{ContinuesWith, Continues}
+use Rattle.wp_shared.specs.Calls.{ContinuesWith, Continues, remembering}
 use Rattle.wp_shared.specs.Seats.{SharedState, SeatState, place_at}
 use Rattle.wp_shared.proofs.OneStep.{becomes}
 use Rattle.wp_txn.specs.Actors.{noting, with_stopped}
-use Rattle.wp_txn.specs.Calls.{remembering}
 use Rattle.wp_txn.specs.Recording.{OpensLog, PutsNoting, Records, answer_of}
 use Rattle.wp_txn.specs.Turns.{seat_of}
 use Rattle.wp_txn.specs.Writes.{HasPut, Refuses}

@@ -1,30 +1,27 @@
 -- What the calls answer, and what they leave of the seat.
-use Rattle.std.specs.Prelude.{◌≡◌, ℕ, ◌≤◌, Bool, true, false, List, [], ◌∷◌, ◌++◌, length, Option, Some, None, Result, Ok, Err}
+use Rattle.std.specs.Prelude.{◌≡◌, ℕ, ◌≤◌, Bool, true, false, List, [], ◌∷◌, length, Option, Some, None, Result, Ok, Err}
 use Rattle.std.specs.FinMap as finite
 use Rattle.wp_model.specs.declared.batch.TheConstants.{MOST_KEYS}
 use Rattle.wp_model.specs.declared.change.Change.{Change}
+use Rattle.wp_model.specs.declared.entry.Entry.{Entry}
 use Rattle.wp_model.specs.declared.holder.Holder.{Holder}
 use Rattle.wp_model.specs.declared.holder.Holder.TheVariants.{Txn}
 use Rattle.wp_model.specs.LockTables.{LockTables}
 use Rattle.wp_model.specs.Batch.{key_of, change_to, with_change}
 use Rattle.wp_model.specs.History.{named, is_changed}
 use Rattle.wp_core.specs.Tables.{WriteTable, writes}
-use Rattle.wp_core.specs.Views.{Event, claimed, took, locked, told, heard, found}
+use Rattle.wp_core.specs.Views.{claimed, took, locked, told, heard, found}
 use Rattle.wp_core.specs.Lists.{IsIn}
 use Rattle.wp_core.specs.World.{Transaction, Participant, Actor, World}
 use Rattle.wp_rule.specs.Words.{IsAt}
 use Rattle.wp_rule.specs.Accounts.{IsHolderIn, account_of}
 use Rattle.wp_shared.specs.Seats.{SharedState, SeatState, Stands, place_at}
-use Rattle.wp_shared.specs.Calls.{ContinuesWith, Continues}
+use Rattle.wp_shared.specs.Calls.{ContinuesWith, Continues, remembering}
 use Rattle.wp_txn.specs.declared.error.TxnError.{TxnError}
 use Rattle.wp_txn.specs.declared.error.TxnError.TheVariants.{Memory, Taken, Busy, TooMany, Silent, Unknown, InUse}
 use Rattle.wp_txn.specs.Txn.{OpenState, PreparedState, HasOpen, HasPrepared}
 use Rattle.wp_txn.specs.Actors.{no_changes, transaction_in, with_key_locked}
 use Rattle.wp_txn.specs.Turns.{IsApartFrom}
-
--- it remembers these events too
-abbrev pub remembering : List Event → Participant → Participant
-remembering events p = record p { past = p.past ++ events }
 
 -- it has this transaction, in place of one of the same name
 abbrev pub with_transaction : List ℕ → Transaction → Participant → Participant
@@ -139,9 +136,18 @@ TakesPrepared z old name (Err other) new = ⊥
 
 -- ---- the board
 
+-- The history was published in a world of the store in which the seat had done what it had before the call.
+pub record WasHistory {D : Type 0} (z : SharedState D) (old : SeatState) (history : List Entry) : Type 0 where
+  pub world : World
+  pub actor : Actor
+  pub there : IsAt (place_at z old.by) actor world
+  pub participant : actor.participant ≡ record old.knows.participant { seen = actor.participant.seen }
+  pub is : world.writes.history ≡ history
+
 abbrev pub Tells : {D : Type 0} → SharedState D → SeatState → List ℕ → Result ℕ TxnError → SeatState → Type 0
 Tells z old label (Ok n) new =
     (n ≡ length new.knows.participant.seen) × Continues z old new (remembering (told label n ∷ []) old.knows.participant) × LocksWere z new (λ t. finite.get t.labels label ≡ Some n)
+    × WasHistory z old new.knows.participant.seen
 Tells z old label (Err Memory) new = Keeps z old new
 Tells z old label (Err other) new = ⊥
 
@@ -156,6 +162,6 @@ pub record IsSilent {D : Type 0} (z : SharedState D) (old : SeatState) (label : 
 abbrev pub Hears : {D : Type 0} → SharedState D → SeatState → List ℕ → Result ℕ TxnError → SeatState → Type 0
 Hears z old label (Ok n) new =
     (n ≡ length new.knows.participant.seen)
-    × ((m : ℕ) × (m ≤ n) × Continues z old new (remembering (heard label m ∷ []) old.knows.participant) × LocksWere z old (λ t. finite.get t.labels label ≡ Some m))
+    × ((m : ℕ) × (m ≤ n) × Continues z old new (remembering (heard label m ∷ []) old.knows.participant) × LocksWere z old (λ t. finite.get t.labels label ≡ Some m) × WasHistory z old new.knows.participant.seen)
 Hears z old label (Err Silent) new = IsSilent z old label × Keeps z old new
 Hears z old label (Err other) new = ⊥

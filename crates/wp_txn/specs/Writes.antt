@@ -17,11 +17,11 @@ use Rattle.wp_guarded.specs.Log.{LogState, IsLog}
 use Rattle.wp_guarded.specs.Parts.{log_first}
 use Rattle.wp_publish.specs.Writing.{FoundLog}
 use Rattle.wp_publish.specs.Records.{numbers_behind, failing, FailsAppend}
-use Rattle.wp_shared.specs.Calls.{ContinuesWith, Continues}
+use Rattle.wp_shared.specs.Calls.{ContinuesWith, Continues, remembering}
 use Rattle.wp_shared.specs.Seats.{SharedState, SeatState}
 use Rattle.wp_txn.specs.declared.error.TxnError.{TxnError}
 use Rattle.wp_txn.specs.declared.error.TxnError.TheVariants.{Memory, Busy, NumbersFull, LogFault, Stopped}
-use Rattle.wp_txn.specs.Calls.{Keeps, Finds, LocksWere, IsFreeName, remembering, without_transaction}
+use Rattle.wp_txn.specs.Calls.{Keeps, Finds, LocksWere, IsFreeName, without_transaction}
 use Rattle.wp_txn.specs.Turns.{IsApartFrom}
 use Rattle.wp_txn.specs.Txn.{OpenState, PreparedState, HasOpen, HasPrepared}
 

@@ -2,7 +2,7 @@
 ghost use Rattle.std.specs.Prelude.{◌≡◌, OnOk};
 ghost use Rattle.wp_core.specs.World.{World};
 ghost use Rattle.wp_shared.specs.Seats.{IsFree, Stands};
-ghost use Rattle.wp_txn.specs.Calls.{Tells, Hears};
+ghost use Rattle.wp_txn.specs.Calls.{WasHistory, Tells, Hears};
 ghost use Rattle.wp_txn.specs.Turns.{HoldsLocks};
 ghost use Rattle.wp_txn.specs.Under.{TellsUnder, HearsUnder};
 
@@ -28,6 +28,7 @@ fn tell_under<D: Disk + Drop>(
     requires label { told ≡ label.now }
     ensures answered { TellsUnder tables.old seat.old label.now result tables.new seat.new }
     ensures stands { OnOk result ((w : World) × Stands store.now seat.new w) }
+    ensures published { OnOk result (WasHistory store.now seat.old seat.new.knows.participant.seen) }
 {
     let published = store.published(seat);
     tables.tell(told, published)?;
@@ -62,7 +63,8 @@ fn hear_under<D: Disk + Drop>(
     label: &Name,
 ) -> Result<Seq, TxnError>
     requires { HoldsLocks store.now seat.old tables.now }
-    ensures { HearsUnder tables.now seat.old label.now result seat.new }
+    ensures answered { HearsUnder tables.now seat.old label.now result seat.new }
+    ensures published { OnOk result (WasHistory store.now seat.old seat.new.knows.participant.seen) }
 {
     match tables.told(label) {
         Some(number) => Ok(hear_label(store, seat, tables, label, number)),

@@ -15,6 +15,7 @@ ghost use Rattle.wp_core.specs.Tables.{writes, locks};
 ghost use Rattle.wp_core.specs.Views.{unprepared, undecided_at};
 ghost use Rattle.wp_core.specs.World.{World};
 ghost use Rattle.wp_shared.specs.Seats.{Stands};
+ghost use Rattle.wp_txn.specs.Calls.{WasHistory};
 ghost use Rattle.wp_txn.specs.Actors.{transaction_in, noting, with_claimed, with_found, with_locked, with_direct, with_stopped, with_batch, with_told, with_heard};
 ghost use Rattle.wp_txn.specs.Turns.{seat_of, HoldsLocks, IsWithout, IsWithoutDirect, TakesPrepare};
 ghost use Rattle.wp_txn.specs.Txn.{HasPrepared};
@@ -183,8 +184,9 @@ pub(crate) fn hear_label<D: Disk + Drop>(
 ) -> Seq
     requires seat { HoldsLocks store.now seat.old tables.now }
     requires there { finite.get tables.now.labels label.now ≡ Some number }
-    ensures { (history : List Entry) × StartsWith history seat.old.knows.participant.seen × (number ≤ length history) × (result ≡ length history)
+    ensures heard { (history : List Entry) × StartsWith history seat.old.knows.participant.seen × (number ≤ length history) × (result ≡ length history)
         × (seat.new ≡ seat_of seat.old (with_heard history label.now number seat.old.knows)) }
+    ensures published { WasHistory store.now seat.old seat.new.knows.participant.seen }
 {
     store.make_about::<Brand, (&Name, Seq)>(seat, &(label, number))
 }

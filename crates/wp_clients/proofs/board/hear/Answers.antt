@@ -11,6 +11,9 @@ returns-in-Ok-clause-holds g c = λ h has. heard_holds c.args.store.now c.args.s
 pub returns-in-Ok-clause-answered : goal.returns-in-Ok-clause-answered
 returns-in-Ok-clause-answered g c = λ client. heard_answers c.args.store.now c.args.seat.now c.hear.new.seat c.args.label.now client c.in-Ok.published (c.in-Ok.ensures {u = tt})
 
+pub returns-in-Ok-clause-published : goal.returns-in-Ok-clause-published
+returns-in-Ok-clause-published g c = let t = c.in-Ok.ensures {u = tt} in (t.0, t.1.4)
+
 pub returns-in-Err-Silent-clause-holds : goal.returns-in-Err-Silent-clause-holds
 returns-in-Err-Silent-clause-holds g c = λ h has. heard_holds c.args.store.now c.args.seat.now c.hear.new.seat c.args.label.now h has (Err c.in-Err-Silent.field-0) (c.in-Err-Silent.ensures {u = tt})
 

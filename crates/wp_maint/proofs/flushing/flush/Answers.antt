@@ -2,9 +2,8 @@ use Rattle.std.proofs.Common.{◌∷◌, [], refl, sym, ap}
 use Rattle.wp_core.specs.Tables.{installed}
 use Rattle.wp_core.specs.Turns.{tables_turn}
 use Rattle.wp_core.specs.World.{Participant}
-use Rattle.wp_shared.specs.Calls.{Continues}
+use Rattle.wp_shared.specs.Calls.{Continues, remembering}
 use Rattle.wp_shared.specs.Seats.{SeatState}
-use Rattle.wp_maint.specs.Calls.{remembering}
 use Rattle.wp_maint.specs.Holding.{no_fact, is_under, GoesOnAs}
 use Rattle.wp_maint.proofs.Onward.{starts_same, none_free, under_free, goes_as, goes_more, goes_still, as_continues, flushes_so}
 use Rattle.wp_maint.proofs.flushing.flush.Goals as goal
