@@ -20,9 +20,9 @@ use Rattle.wp_rule.specs.Words.{Place}
 use Rattle.wp_rule.proofs.Knows.{at_sound}
 use Rattle.wp_rule.proofs.Needed.{needed}
 use Rattle.wp_rule.proofs.Outlasting.{outlasts}
-use Rattle.wp_guarded.specs.declared.part.Part.{Part}
-use Rattle.wp_guarded.specs.declared.part.Part.TheVariants as part
-use Rattle.wp_guarded.specs.Parts.{content}
+use Rattle.wp_parts.specs.declared.part.Part.{Part}
+use Rattle.wp_parts.specs.declared.part.Part.TheVariants as part
+use Rattle.wp_parts.specs.Parts.{content}
 use Rattle.wp_shared.specs.Seats.{SharedState, SeatState, place_at}
 use Rattle.wp_shared.specs.Turns.{Taken, MayBeGiven, Given}
 use Rattle.wp_commits.specs.Notes.{is_flag, GoesOn, FlagTells, DelayedFlagTells, OldFlagTells}

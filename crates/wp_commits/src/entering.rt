@@ -12,9 +12,9 @@ use crate::clear::raise_past;
 use crate::cleared::Cleared;
 use crate::steps;
 use std::sync::Wait;
-use wp_guarded::Log;
 use wp_model::Seq;
 use wp_outside::Disk;
+use wp_parts::Log;
 use wp_shared::{Seat, Shared};
 
 /// Raises the bound by the rule, under the prepared turn, where it has not come to this decision.

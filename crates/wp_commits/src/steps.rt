@@ -25,11 +25,11 @@ ghost use Rattle.wp_commits.specs.Notes.{noting, is_flag, is_of_words, is_of_pla
 use std::alloc::AllocError;
 use std::marker::Brand;
 use std::sync::Wait;
-use wp_guarded::{Log, Part};
 use wp_judge::{pack, unpack};
 use wp_machine::{Fact, Turn};
 use wp_model::Seq;
 use wp_outside::Disk;
+use wp_parts::{Log, Part};
 use wp_prepared::Prepared;
 use wp_rule::Moves;
 use wp_shared::{Held, Seat, Shared};

@@ -12,7 +12,7 @@
 //!
 //! Sets and maps are lists whose newest item comes first, so that a table is copied as it is when an actor takes its turn.
 //!
-//! Whether a step may be made is tested by `wp_permits`.
+//! Whether a step may be made is tested by `wp_machine_permits`.
 #![tactic(auto)]
 
 mod access;

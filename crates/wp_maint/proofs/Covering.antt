@@ -19,7 +19,7 @@ use Rattle.wp_keep.specs.MayGo.{DecidesAt, MayGo}
 use Rattle.wp_keep.proofs.Covers.{covers}
 use Rattle.wp_merge.proofs.Merged.{or_none}
 use Rattle.wp_open.proofs.Later.{at_append}
-use Rattle.wp_session.specs.Tables.{after_compaction}
+use Rattle.wp_replies.specs.Tables.{after_compaction}
 use Rattle.wp_table.specs.Table.{is_numbered, is_flushed}
 use Rattle.wp_core.specs.Conditions.{KeepsStore}
 use Rattle.wp_core.specs.IsSound.{IsSound}
@@ -33,7 +33,7 @@ use Rattle.wp_core.proofs.PendingVersions.{covers_same}
 use Rattle.wp_core.proofs.PublishesVersions.{up_to_within, up_to_past}
 use Rattle.wp_core.proofs.SnapshotsStep.{among_live}
 use Rattle.wp_core.proofs.Tests.{none_some}
-use Rattle.wp_guarded.proofs.LaterVersions.{later_none, later_each, later_past}
+use Rattle.wp_parts.proofs.LaterVersions.{later_none, later_each, later_past}
 use Rattle.wp_maint.proofs.Memory.{above_is}
 use Rattle.wp_maint.proofs.Retained.{all_retained, fewer_retained, none_past}
 use Rattle.wp_maint.proofs.Versions.{Found, all_found, no_more, distinct_later}

@@ -5,7 +5,7 @@ use Rattle.wp_model.specs.declared.entry.Entry.{Entry}
 use Rattle.wp_model.specs.declared.version.Version.{Version}
 use Rattle.wp_model.specs.Flushed.{InstalledEdit}
 use Rattle.wp_merge.specs.Merge.{sorted_of}
-use Rattle.wp_session.specs.Tables.{unflushed, after_flush}
+use Rattle.wp_replies.specs.Tables.{unflushed, after_flush}
 use Rattle.wp_core.specs.Effects.{with_failed}
 use Rattle.wp_core.specs.Lists.{IsIn}
 use Rattle.wp_core.specs.Tables.{Installed, installed}
@@ -13,8 +13,8 @@ use Rattle.wp_core.specs.Views.{tables_failed, tables_stay, nothing_flushed, fro
 use Rattle.wp_core.specs.Views as event
 use Rattle.wp_core.specs.World.{Participant}
 use Rattle.wp_rule.specs.Knows.{KnowsTables}
-use Rattle.wp_guarded.specs.Edits.{EditsState}
-use Rattle.wp_guarded.specs.Installs.{SurvivesInstall}
+use Rattle.wp_parts.specs.Edits.{EditsState}
+use Rattle.wp_parts.specs.Installs.{SurvivesInstall}
 use Rattle.wp_shared.specs.Calls.{remembering}
 use Rattle.wp_shared.specs.Seats.{SharedState, SeatState}
 use Rattle.wp_commits.specs.Notes.{GoesOn}

@@ -8,7 +8,7 @@ use Rattle.wp_model.specs.Legal.{IsLegal}
 use Rattle.wp_model.specs.Versions.{version_at}
 use Rattle.wp_merge.specs.Merge.{joined, sorted_of}
 use Rattle.wp_merge.proofs.Sorted.{in_order_sorted}
-use Rattle.wp_session.specs.Tables.{unflushed, after_flush}
+use Rattle.wp_replies.specs.Tables.{unflushed, after_flush}
 use Rattle.wp_core.specs.Changes.{held_without}
 use Rattle.wp_core.specs.IsSound.{IsSound}
 use Rattle.wp_core.specs.Lists.{IsIn}
@@ -19,7 +19,7 @@ use Rattle.wp_core.specs.Views.{Fact, tables_stay, nothing_flushed, frozen_stay}
 use Rattle.wp_core.specs.World.{Actor, World}
 use Rattle.wp_rule.specs.Knows.{KnowsTables}
 use Rattle.wp_rule.proofs.Knows.{at_sound, noted_is}
-use Rattle.wp_guarded.specs.Stock.{StockState, store_table}
+use Rattle.wp_parts.specs.Stock.{StockState, store_table}
 use Rattle.wp_shared.specs.Seats.{SharedState, SeatState, Stands, place_at}
 use Rattle.wp_commits.specs.Notes.{noting, GoesOn}
 use Rattle.wp_commits.proofs.Goes.{then, wider}

@@ -10,7 +10,7 @@ use Rattle.wp_model.specs.Versions.{version_at}
 use Rattle.wp_merge.specs.Merge.{sorted_of}
 use Rattle.wp_merge.proofs.Sorted.{at_sorted}
 use Rattle.wp_open.proofs.Later.{at_append}
-use Rattle.wp_session.specs.Tables.{unflushed, after_flush}
+use Rattle.wp_replies.specs.Tables.{unflushed, after_flush}
 use Rattle.wp_core.specs.Lists.{IsIn}
 use Rattle.wp_core.specs.Sound.Store.{NoneFlushed}
 use Rattle.wp_core.specs.Tables.{StoreTable, Installed, store, installed}
@@ -19,11 +19,11 @@ use Rattle.wp_core.specs.World.{Participant, Actor, World}
 use Rattle.wp_core.proofs.Tests.{none_some}
 use Rattle.wp_rule.specs.Knows.{Noted, KnowsMoved, KnowsInstalled}
 use Rattle.wp_rule.proofs.Knows.{noted_is}
-use Rattle.wp_guarded.specs.Edits.{EditsState}
+use Rattle.wp_parts.specs.Edits.{EditsState}
 use Rattle.wp_shared.specs.Seats.{SharedState, SeatState, Stands, place_at}
 use Rattle.wp_commits.specs.Notes.{GoesOn}
 use Rattle.wp_maint.specs.declared.frozen.Frozen.{Frozen}
-use Rattle.wp_guarded.specs.Installs.{with_table}
+use Rattle.wp_parts.specs.Installs.{with_table}
 use Rattle.wp_maint.specs.Flush.{HasFrozen, MayPut}
 use Rattle.wp_maint.specs.Holding.{being, HoldsEdits}
 use Rattle.wp_maint.proofs.TakesTurns.{stores_are}

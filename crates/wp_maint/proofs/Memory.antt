@@ -17,7 +17,7 @@ use Rattle.wp_merge.specs.Merge.{sorted_of}
 use Rattle.wp_merge.proofs.Merged.{or_none}
 use Rattle.wp_merge.proofs.Sorted.{in_order_sorted, at_sorted, in_order_same, own_value}
 use Rattle.wp_open.proofs.Later.{at_append}
-use Rattle.wp_session.specs.Tables.{unflushed, after_flush}
+use Rattle.wp_replies.specs.Tables.{unflushed, after_flush}
 use Rattle.wp_table.specs.Table as table
 use Rattle.wp_core.specs.Entries.{next_of}
 use Rattle.wp_core.specs.IsSound.{IsSound}
@@ -27,7 +27,7 @@ use Rattle.wp_core.proofs.HistoryGrows.{none_is}
 use Rattle.wp_core.proofs.PendingVersions.{covers_same}
 use Rattle.wp_core.proofs.PublishesVersions.{up_to_within}
 use Rattle.wp_core.proofs.Tests.{none_some}
-use Rattle.wp_guarded.proofs.LaterVersions.{later_none, later_each, later_past}
+use Rattle.wp_parts.proofs.LaterVersions.{later_none, later_each, later_past}
 use Rattle.wp_maint.specs.Calls.{NoneInMemory}
 use Rattle.wp_maint.proofs.Versions.{Found, empty_list, all_found, length_sorted, distinct_later}
 

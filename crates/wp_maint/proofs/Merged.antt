@@ -7,7 +7,7 @@ use Rattle.wp_model.specs.declared.version.Version.{Version}
 use Rattle.wp_model.specs.Flushed.{InstalledEdit, later_versions}
 use Rattle.wp_model.specs.Versions.{AreInOrder}
 use Rattle.wp_merge.specs.Merge.{joined, sorted_of}
-use Rattle.wp_session.specs.Tables.{retained, after_compaction}
+use Rattle.wp_replies.specs.Tables.{retained, after_compaction}
 use Rattle.wp_store.specs.Store.{with_newest}
 use Rattle.wp_table.specs.Table.{is_flushed}
 use Rattle.wp_tableset.specs.Changes.{compacted_parts, one_part}
@@ -19,8 +19,8 @@ use Rattle.wp_core.specs.Views.{tables_failed, tables_stay, live_listed, nothing
 use Rattle.wp_core.specs.Views as event
 use Rattle.wp_core.specs.World.{Participant}
 use Rattle.wp_rule.specs.Knows.{Noted, KnowsTables}
-use Rattle.wp_guarded.specs.Edits.{EditsState}
-use Rattle.wp_guarded.specs.Installs.{in_one_table, SurvivesInstall}
+use Rattle.wp_parts.specs.Edits.{EditsState}
+use Rattle.wp_parts.specs.Installs.{in_one_table, SurvivesInstall}
 use Rattle.wp_shared.specs.Calls.{remembering}
 use Rattle.wp_shared.specs.Seats.{SharedState, SeatState}
 use Rattle.wp_commits.specs.Notes.{GoesOn}

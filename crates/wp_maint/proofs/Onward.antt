@@ -5,7 +5,7 @@ use Rattle.wp_model.specs.declared.entry.Entry.{Entry}
 use Rattle.wp_model.specs.declared.version.Version.{Version}
 use Rattle.wp_model.specs.Flushed.{InstalledEdit, later_versions}
 use Rattle.wp_merge.specs.Merge.{sorted_of}
-use Rattle.wp_session.specs.Tables.{unflushed, retained, after_flush, after_compaction}
+use Rattle.wp_replies.specs.Tables.{unflushed, retained, after_flush, after_compaction}
 use Rattle.wp_core.specs.Lists.{IsIn}
 use Rattle.wp_core.specs.Notes.{gives_guard}
 use Rattle.wp_core.specs.Sound.Actors.{StartsWith}
@@ -21,8 +21,8 @@ use Rattle.wp_core.proofs.Tests.{none_some}
 use Rattle.wp_rule.specs.Knows.{Noted, KnowsTables}
 use Rattle.wp_rule.specs.Words.{IsAt}
 use Rattle.wp_tableset.specs.Changes.{compacted_parts}
-use Rattle.wp_guarded.specs.Edits.{EditsState}
-use Rattle.wp_guarded.specs.Installs.{SurvivesInstall}
+use Rattle.wp_parts.specs.Edits.{EditsState}
+use Rattle.wp_parts.specs.Installs.{SurvivesInstall}
 use Rattle.wp_shared.specs.Calls.{Continues, remembering}
 use Rattle.wp_shared.specs.Seats.{SharedState, SeatState, IsFree, Stands, place_at}
 use Rattle.wp_commits.specs.Notes.{GoesOn}

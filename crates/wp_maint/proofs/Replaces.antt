@@ -10,7 +10,7 @@ use Rattle.wp_model.specs.Decision.{is_committed}
 use Rattle.wp_model.specs.Flushed.{InstalledEdit, IsEditCovered}
 use Rattle.wp_model.specs.Snapshots.{IsLive}
 use Rattle.wp_keep.specs.Keep.{retained_of}
-use Rattle.wp_session.specs.Tables.{retained, after_compaction}
+use Rattle.wp_replies.specs.Tables.{retained, after_compaction}
 use Rattle.wp_table.specs.Table.{is_flushed}
 use Rattle.wp_core.specs.Conditions.{KeepsStore}
 use Rattle.wp_core.specs.IsSound.{IsSound}
@@ -27,7 +27,7 @@ use Rattle.wp_rule.proofs.Knows.{at_sound, noted_is, seen_is}
 use Rattle.wp_shared.specs.Seats.{SharedState, SeatState, Stands, place_at}
 use Rattle.wp_read.specs.Registers.{numbers_of}
 use Rattle.wp_maint.specs.Compaction.{MayReplace}
-use Rattle.wp_guarded.specs.Installs.{in_one_table}
+use Rattle.wp_parts.specs.Installs.{in_one_table}
 use Rattle.wp_maint.proofs.Covering.{kept_keeps}
 use Rattle.wp_maint.proofs.Onward.{starts_on}
 use Rattle.wp_maint.proofs.TakesTurns.{installed_are}

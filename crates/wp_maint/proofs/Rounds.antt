@@ -7,7 +7,7 @@ use Rattle.wp_model.specs.Decision as decision
 use Rattle.wp_model.specs.Flushed.{InstalledEdit}
 use Rattle.wp_keep.specs.declared.pair.Pair.{Pair}
 use Rattle.wp_keep.specs.Keep.{is_committed, retained_of}
-use Rattle.wp_session.specs.Tables.{retained, after_compaction}
+use Rattle.wp_replies.specs.Tables.{retained, after_compaction}
 use Rattle.wp_core.specs.Lists.{IsIn}
 use Rattle.wp_core.specs.Reading.{Registration}
 use Rattle.wp_core.specs.Sound.Actors.{StartsWith}

@@ -8,7 +8,7 @@ use Rattle.wp_model.specs.Flushed.{IsEditCovered, later_versions}
 use Rattle.wp_model.specs.Versions.{AreInOrder}
 use Rattle.wp_merge.specs.Merge.{joined}
 use Rattle.wp_merge.proofs.Sorted.{in_order_sorted}
-use Rattle.wp_session.specs.Tables.{retained, after_compaction}
+use Rattle.wp_replies.specs.Tables.{retained, after_compaction}
 use Rattle.wp_table.specs.Table.{is_flushed}
 use Rattle.wp_core.specs.Changes.{sees, held_without}
 use Rattle.wp_core.specs.IsSound.{IsSound}
@@ -24,8 +24,8 @@ use Rattle.wp_core.specs.World.{Participant, Actor, World}
 use Rattle.wp_rule.specs.Knows.{Noted, KnowsTables}
 use Rattle.wp_rule.specs.Words.{SawAll}
 use Rattle.wp_rule.proofs.Knows.{at_sound, noted_is}
-use Rattle.wp_guarded.specs.Edits.{EditsState}
-use Rattle.wp_guarded.specs.Stock.{StockState, store_table}
+use Rattle.wp_parts.specs.Edits.{EditsState}
+use Rattle.wp_parts.specs.Stock.{StockState, store_table}
 use Rattle.wp_shared.specs.Seats.{SharedState, SeatState, place_at}
 use Rattle.wp_read.specs.Registers.{numbers_of}
 use Rattle.wp_commits.specs.Notes.{GoesOn}

@@ -18,12 +18,12 @@ use Rattle.wp_rule.specs.Knows.{KnowsTables}
 use Rattle.wp_rule.specs.Words.{SawAll}
 use Rattle.wp_rule.proofs.Knows.{held_is}
 use Rattle.wp_rule.proofs.Needed.{needed}
-use Rattle.wp_guarded.specs.Edits.{EditsState}
-use Rattle.wp_guarded.specs.Log.{LogState}
-use Rattle.wp_guarded.specs.Parts.{content, IsAnchored, log_first}
-use Rattle.wp_guarded.specs.Stock.{StockState, store_table}
-use Rattle.wp_guarded.specs.declared.part.Part.{Part}
-use Rattle.wp_guarded.specs.declared.part.Part.TheVariants as part
+use Rattle.wp_parts.specs.Edits.{EditsState}
+use Rattle.wp_parts.specs.Log.{LogState}
+use Rattle.wp_parts.specs.Parts.{content, IsAnchored, log_first}
+use Rattle.wp_parts.specs.Stock.{StockState, store_table}
+use Rattle.wp_parts.specs.declared.part.Part.{Part}
+use Rattle.wp_parts.specs.declared.part.Part.TheVariants as part
 use Rattle.wp_shared.specs.Seats.{SharedState, SeatState, IsFree, Stands, place_at}
 use Rattle.wp_shared.specs.Turns.{Taken, MayBeGiven, Given}
 use Rattle.wp_commits.specs.Notes.{GoesOn}

@@ -4,7 +4,7 @@ use Rattle.wp_model.specs.declared.entry.Entry.{Entry}
 use Rattle.wp_model.specs.declared.version.Version.{Version}
 use Rattle.wp_model.specs.Flushed.{InstalledEdit, later_versions}
 use Rattle.wp_merge.specs.Merge.{sorted_of}
-use Rattle.wp_session.specs.Tables.{unflushed, retained, after_flush, after_compaction}
+use Rattle.wp_replies.specs.Tables.{unflushed, retained, after_flush, after_compaction}
 use Rattle.wp_tableset.specs.Changes.{compacted_parts}
 use Rattle.wp_tableset.specs.declared.error.TableSetError.TheVariants.{Fault}
 use Rattle.wp_core.specs.Effects.{with_failed}
@@ -17,9 +17,9 @@ use Rattle.wp_core.specs.Views.{Event, tables_failed, found_edit}
 use Rattle.wp_core.specs.Views as event
 use Rattle.wp_core.specs.World.{Actor, Participant, World}
 use Rattle.wp_rule.specs.Words.{IsAt}
-use Rattle.wp_guarded.specs.Edits.{EditsState, IsEdits}
-use Rattle.wp_guarded.specs.Installs.{HadCause, SurvivesInstall}
-use Rattle.wp_guarded.specs.Parts.{set_first}
+use Rattle.wp_parts.specs.Edits.{EditsState, IsEdits}
+use Rattle.wp_parts.specs.Installs.{HadCause, SurvivesInstall}
+use Rattle.wp_parts.specs.Parts.{set_first}
 use Rattle.wp_shared.specs.Calls.{Continues, remembering}
 use Rattle.wp_shared.specs.Seats.{SharedState, SeatState, place_at}
 use Rattle.wp_read.specs.Registers.{IsPinned, numbers_of}

@@ -5,7 +5,7 @@ use Rattle.wp_model.specs.declared.version.Version.{Version}
 use Rattle.wp_model.specs.Flushed.{IsEditCovered, later_versions}
 use Rattle.wp_model.specs.Versions.{AreInOrder}
 use Rattle.wp_keep.specs.declared.pair.Pair.{Pair}
-use Rattle.wp_session.specs.Tables.{retained, after_compaction}
+use Rattle.wp_replies.specs.Tables.{retained, after_compaction}
 use Rattle.wp_table.specs.Table.{is_numbered, is_flushed}
 use Rattle.wp_core.specs.Lists.{IsIn}
 use Rattle.wp_core.specs.Reading.{Registration}

@@ -6,7 +6,7 @@ use Rattle.std.specs.Vec.{vec_capacity}
 use Rattle.wp_model.specs.declared.version.Version.{Version}
 use Rattle.wp_model.specs.Flushed.{IsEditCovered}
 use Rattle.wp_merge.specs.Merge.{joined, sorted_of}
-use Rattle.wp_session.specs.Tables.{unflushed, after_flush}
+use Rattle.wp_replies.specs.Tables.{unflushed, after_flush}
 use Rattle.wp_table.specs.Table.{is_numbered, is_flushed}
 use Rattle.wp_core.specs.Tables.{StoreTable, Installed}
 use Rattle.wp_core.specs.Views.{tables_stay, frozen_stay}

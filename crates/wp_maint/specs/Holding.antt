@@ -11,8 +11,8 @@ use Rattle.wp_core.specs.Turns.{Turn, tables_turn}
 use Rattle.wp_core.specs.Views.{Fact, tables_stay, nothing_flushed, frozen_stay}
 use Rattle.wp_core.specs.World.{Participant}
 use Rattle.wp_rule.specs.Knows.{Noted}
-use Rattle.wp_guarded.specs.Edits.{EditsState}
-use Rattle.wp_guarded.specs.Parts.{set_first}
+use Rattle.wp_parts.specs.Edits.{EditsState}
+use Rattle.wp_parts.specs.Parts.{set_first}
 use Rattle.wp_shared.specs.Seats.{SharedState, SeatState}
 
 -- ---- which facts

@@ -19,8 +19,8 @@ use crate::turns::{give_edits, take_edits};
 use crate::unchanged::are_unchanged;
 use std::alloc::Global;
 use std::sync::Wait;
-use wp_guarded::Edits;
 use wp_outside::Disk;
+use wp_parts::Edits;
 use wp_read::{Pinned, pin_all};
 use wp_shared::{Seat, Shared};
 

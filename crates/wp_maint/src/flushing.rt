@@ -1,7 +1,7 @@
 //! A flush of what stands in memory.
 ghost use Rattle.std.specs.Prelude.{◌≡◌, ◌<◌, [], ◌∷◌, false, length, map, vec_capacity, IfOk, IfErr, OnOk};
 ghost use Rattle.std.specs.Arc.{arc_value};
-ghost use Rattle.wp_session.specs.Tables.{after_flush};
+ghost use Rattle.wp_replies.specs.Tables.{after_flush};
 ghost use Rattle.wp_core.specs.Tables.{installed};
 ghost use Rattle.wp_rule.specs.Knows.{KnowsTables};
 ghost use Rattle.wp_shared.specs.Seats.{IsFree};
@@ -17,8 +17,8 @@ use crate::frozen::{Frozen, freeze_all};
 use crate::steps::{find_edits, halt, install_flush, move_versions};
 use crate::turns::{give_edits, give_stock, take_edits, take_stock};
 use std::sync::{Arc, Wait};
-use wp_guarded::Edits;
 use wp_outside::Disk;
+use wp_parts::Edits;
 use wp_shared::{Seat, Shared};
 use wp_table::Table;
 use wp_tableset::TableSetError;

@@ -8,15 +8,15 @@ ghost use Rattle.wp_core.specs.Tables as table;
 ghost use Rattle.wp_core.specs.Turns.{write_turn, store_turn, tables_turn};
 ghost use Rattle.wp_core.specs.World.{World};
 ghost use Rattle.wp_rule.specs.Knows.{KnowsTables};
-ghost use Rattle.wp_guarded.specs.Parts.{log_first};
-ghost use Rattle.wp_guarded.specs.Stock.{store_table};
+ghost use Rattle.wp_parts.specs.Parts.{log_first};
+ghost use Rattle.wp_parts.specs.Stock.{store_table};
 ghost use Rattle.wp_shared.specs.Seats.{IsFree, Stands};
 ghost use Rattle.wp_commits.specs.Notes.{GoesOn};
 ghost use Rattle.wp_maint.specs.Holding.{no_fact, is_under, seeing, HoldsEdits};
 
 use std::sync::Wait;
-use wp_guarded::{Edits, Log, Part, Stock};
 use wp_outside::Disk;
+use wp_parts::{Edits, Log, Part, Stock};
 use wp_rule::Turn;
 use wp_shared::{Held, Seat, Shared};
 

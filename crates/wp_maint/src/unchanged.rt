@@ -3,7 +3,7 @@ ghost use Rattle.std.specs.Prelude.{◌≡◌, ◌↔◌, true, [], ◌∷◌, I
 ghost use Rattle.wp_core.specs.Sound.Actors.{StartsWith};
 ghost use Rattle.wp_core.specs.Tables.{installed};
 ghost use Rattle.wp_core.specs.Tables as table;
-ghost use Rattle.wp_guarded.specs.Stock.{store_table};
+ghost use Rattle.wp_parts.specs.Stock.{store_table};
 ghost use Rattle.wp_rule.specs.Knows.{KnowsTables};
 ghost use Rattle.wp_commits.specs.Notes.{GoesOn};
 ghost use Rattle.wp_maint.specs.Compaction.{HasDecided, MayMerge};
@@ -13,9 +13,9 @@ use crate::decided::Decided;
 use crate::turns::{give_stock, take_stock};
 use std::alloc::AllocError;
 use std::sync::Wait;
-use wp_guarded::{Edits, Stock};
 use wp_model::Version;
 use wp_outside::Disk;
+use wp_parts::{Edits, Stock};
 use wp_read::Pinned;
 use wp_shared::{Seat, Shared};
 

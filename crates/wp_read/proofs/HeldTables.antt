@@ -19,9 +19,9 @@ use Rattle.wp_core.proofs.Tests.{same_some}
 use Rattle.wp_rule.specs.Knows.{KnowsGive}
 use Rattle.wp_rule.specs.Plays.{facts_at, with_turn}
 use Rattle.wp_rule.proofs.Needed.{needed}
-use Rattle.wp_guarded.specs.declared.part.Part.{Part}
-use Rattle.wp_guarded.specs.declared.part.Part.TheVariants as part
-use Rattle.wp_guarded.specs.Parts.{content, IsAnchored}
+use Rattle.wp_parts.specs.declared.part.Part.{Part}
+use Rattle.wp_parts.specs.declared.part.Part.TheVariants as part
+use Rattle.wp_parts.specs.Parts.{content, IsAnchored}
 use Rattle.wp_shared.specs.Seats.{SharedState, SeatState, IsFree, place_at}
 use Rattle.wp_shared.specs.Turns.{Taken, MayBeGiven, Given}
 use Rattle.wp_read.specs.Reads.{reading, noting, KeepsNotes, Loads}

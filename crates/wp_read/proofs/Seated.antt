@@ -20,8 +20,8 @@ use Rattle.wp_core.specs.World.{Participant, Actor}
 use Rattle.wp_core.proofs.Tests.{same_some}
 use Rattle.wp_rule.specs.Plays.{facts_at}
 use Rattle.wp_rule.proofs.Knows.{at_sound, seen_is}
-use Rattle.wp_guarded.specs.declared.part.Part.{Part}
-use Rattle.wp_guarded.specs.declared.part.Part.TheVariants as part
+use Rattle.wp_parts.specs.declared.part.Part.{Part}
+use Rattle.wp_parts.specs.declared.part.Part.TheVariants as part
 use Rattle.wp_shared.specs.Calls.{Continues}
 use Rattle.wp_shared.specs.Seats.{SharedState, SeatState, IsFree, place_at}
 use Rattle.wp_shared.specs.Turns.{Taken, Given}

@@ -26,8 +26,8 @@ use Rattle.wp_merge.proofs.Sorted.{in_order_sorted, at_sorted}
 use Rattle.wp_rule.specs.Words.{IsAt}
 use Rattle.wp_rule.proofs.Knows.{at_sound, seen_is}
 use Rattle.wp_store.specs.Store.{of_key, newest_of}
-use Rattle.wp_guarded.specs.Stock.{StockState, store_table}
-use Rattle.wp_guarded.specs.declared.part.Part.TheVariants as part
+use Rattle.wp_parts.specs.Stock.{StockState, store_table}
+use Rattle.wp_parts.specs.declared.part.Part.TheVariants as part
 use Rattle.wp_shared.specs.Seats.{SharedState, SeatState, place_at}
 use Rattle.wp_shared.specs.Turns.{Taken}
 use Rattle.wp_read.specs.Values.{ShowsValue}

@@ -6,13 +6,13 @@ ghost use Rattle.wp_core.specs.Tables as table;
 ghost use Rattle.wp_core.specs.Tables.{NoneDelayed, NoOldCommits};
 ghost use Rattle.wp_core.specs.Turns.{prepared_turn, snapshots_turn, store_turn};
 ghost use Rattle.wp_core.specs.Views.{delayed_flag_stays, old_flag_stays};
-ghost use Rattle.wp_guarded.specs.Stock.{store_table};
-ghost use Rattle.wp_guarded.specs.declared.part.Part.TheVariants as part;
+ghost use Rattle.wp_parts.specs.Stock.{store_table};
+ghost use Rattle.wp_parts.specs.declared.part.Part.TheVariants as part;
 ghost use Rattle.wp_shared.specs.Turns.{Taken, Given};
 
 use std::sync::Wait;
-use wp_guarded::Stock;
 use wp_outside::Disk;
+use wp_parts::Stock;
 use wp_prepared::Prepared;
 use wp_rule::Turn;
 use wp_shared::{Held, Part, Seat, Shared};

@@ -13,12 +13,12 @@ use Rattle.wp_tableset.specs.Set.{TableSetState}
 use Rattle.wp_gatelog.specs.Durability.{LosesNoRecord}
 use Rattle.wp_open.specs.Opens.{AllKnown, OpensTo, installed_of}
 use Rattle.wp_core.specs.Lists.{one_if}
-use Rattle.wp_guarded.specs.Opening.{running_set}
+use Rattle.wp_parts.specs.Opening.{running_set}
 use Rattle.wp_shared.specs.Devices.{DevicesLeft}
 use Rattle.wp_shared.specs.Ended.{IsEnded}
 use Rattle.wp_shared.specs.OpenedFrom.{IsOpenedFrom}
 use Rattle.wp_shared.specs.Seats.{SharedState, SeatState}
-use Rattle.wp_sessions.specs.Explained.{found_in, left_in, failed_in, faults_in}
+use Rattle.wp_threads.specs.Explained.{found_in, left_in, failed_in, faults_in}
 use Rattle.wp_run.specs.Serving.{Serving, HasStored}
 use Rattle.wp_run.specs.Use.{IsDurable, DisksUse}
 use Rattle.wp_run.proofs.Crashed.{crash_opens}

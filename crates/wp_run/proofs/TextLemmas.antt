@@ -5,7 +5,7 @@ use Rattle.wp_model.specs.declared.entry.Entry.{Entry}
 use Rattle.wp_text.specs.declared.script.Part.{Part}
 use Rattle.wp_text.specs.declared.reply.Reply.{Reply}
 use Rattle.wp_text.specs.Lines.{entry_line, entry_lines}
-use Rattle.wp_sessions.specs.Over.{Answered, replies_in, replies_of}
+use Rattle.wp_threads.specs.Over.{Answered, replies_in, replies_of}
 use Rattle.wp_run.specs.Transcript.{client_text, client_lines}
 
 -- one more piece after what was appended so far

@@ -10,18 +10,18 @@ use Rattle.wp_open.specs.Opens.{installed_of}
 use Rattle.wp_text.specs.declared.script.Part.{Part}
 use Rattle.wp_core.specs.Lists.{one_if}
 use Rattle.wp_rule.proofs.Knows.{one_was_first}
-use Rattle.wp_guarded.specs.Parts.{content}
-use Rattle.wp_session.specs.Explains.{Explains}
-use Rattle.wp_session.specs.Kind.{is_fault, is_tables_fault}
+use Rattle.wp_parts.specs.Parts.{content}
+use Rattle.wp_replies.specs.Explains.{Explains}
+use Rattle.wp_replies.specs.Kind.{is_fault, is_tables_fault}
 use Rattle.wp_shared.specs.OpenedFrom.{IsOpenedFrom}
 use Rattle.wp_shared.specs.Seats.{SharedState, SeatState}
-use Rattle.wp_sessions.specs.Explained.{found_in, left_in, failed_in, faults_in, HaveRun}
-use Rattle.wp_sessions.specs.New.{first_seat, IsFirst}
-use Rattle.wp_sessions.specs.Over.{Answered, replies_of}
-use Rattle.wp_words.specs.Choice.{IsEntered, IsChoice}
-use Rattle.wp_words.specs.declared.choice.Action.{Action}
-use Rattle.wp_words.specs.declared.choice.Action.TheVariants as action
-use Rattle.wp_words.specs.declared.choice.Choice.{Choice}
+use Rattle.wp_threads.specs.Explained.{found_in, left_in, failed_in, faults_in, HaveRun}
+use Rattle.wp_threads.specs.New.{first_seat, IsFirst}
+use Rattle.wp_threads.specs.Over.{Answered, replies_of}
+use Rattle.wp_args.specs.Choice.{IsEntered, IsChoice}
+use Rattle.wp_args.specs.declared.choice.Action.{Action}
+use Rattle.wp_args.specs.declared.choice.Action.TheVariants as action
+use Rattle.wp_args.specs.declared.choice.Choice.{Choice}
 use Rattle.wp_run.specs.declared.status.Status.{Status}
 use Rattle.wp_run.specs.declared.status.Status.TheVariants as status
 use Rattle.wp_run.specs.Run.{Call, IsChosen, IsUnread, IsReadAs, IsServed, Ends}

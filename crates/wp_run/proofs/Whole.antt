@@ -10,10 +10,10 @@ use Rattle.wp_text.specs.declared.script.Part.{Part}
 use Rattle.wp_text.specs.declared.reply.Reply.{Reply}
 use Rattle.wp_core.specs.Lists.{one_if}
 use Rattle.wp_core.proofs.Tests.{both}
-use Rattle.wp_session.specs.Explains.{all_replies}
-use Rattle.wp_sessions.specs.Explained.{AreWholeParts}
-use Rattle.wp_sessions.specs.Over.{Answered, replies_of}
-use Rattle.wp_sessions.proofs.Lists.{count_any}
+use Rattle.wp_replies.specs.Explains.{all_replies}
+use Rattle.wp_threads.specs.Explained.{AreWholeParts}
+use Rattle.wp_threads.specs.Over.{Answered, replies_of}
+use Rattle.wp_threads.proofs.Lists.{count_any}
 use Rattle.wp_run.specs.Serving.{are_whole, one_fails}
 
 -- each part has one session

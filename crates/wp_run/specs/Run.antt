@@ -5,10 +5,10 @@ use Rattle.wp_text.specs.declared.fault.Fault.{Fault}
 use Rattle.wp_text.specs.declared.script.Part.{Part}
 use Rattle.wp_text.specs.Grammar.{IsScript}
 use Rattle.wp_text.specs.Faults.{IsFault}
-use Rattle.wp_words.specs.declared.choice.Action.{Action}
-use Rattle.wp_words.specs.declared.choice.Action.TheVariants as action
-use Rattle.wp_words.specs.declared.choice.Choice.{Choice}
-use Rattle.wp_words.specs.Choice.{IsChoice, IsTaken}
+use Rattle.wp_args.specs.declared.choice.Action.{Action}
+use Rattle.wp_args.specs.declared.choice.Action.TheVariants as action
+use Rattle.wp_args.specs.declared.choice.Choice.{Choice}
+use Rattle.wp_args.specs.Choice.{IsChoice, IsTaken}
 use Rattle.wp_outside.specs.Whole.{AreBytesRead}
 use Rattle.wp_run.specs.declared.status.Status.{Status}
 use Rattle.wp_run.specs.declared.status.Status.TheVariants as status

@@ -10,9 +10,9 @@ use Rattle.wp_gatelog.specs.Spelling.{IsUnmade}
 use Rattle.wp_gatelog.specs.Opening.{SurvivesThrough}
 use Rattle.wp_text.specs.declared.script.Part.{Part}
 use Rattle.wp_text.specs.declared.reply.Reply.{Reply}
-use Rattle.wp_session.specs.Kind.{is_fault, is_tables_fault}
-use Rattle.wp_session.specs.Known.{StoredState}
-use Rattle.wp_session.specs.Replies.{Failed}
+use Rattle.wp_replies.specs.Kind.{is_fault, is_tables_fault}
+use Rattle.wp_replies.specs.Known.{StoredState}
+use Rattle.wp_replies.specs.Replies.{Failed}
 use Rattle.wp_wal.specs.Spelling.{MAGIC, IsLogOf}
 use Rattle.wp_wal.specs.Wal.{LeavesHistoryOrNext}
 use Rattle.wp_open.specs.declared.opening.OpenError.{OpenError}
@@ -21,8 +21,8 @@ use Rattle.wp_open.specs.Opens.{Opens, OpensTo, AllKnown}
 use Rattle.wp_open.specs.Refused.{IsCause, IsOutside, IsLeft}
 use Rattle.wp_run.specs.declared.status.Status.{Status}
 use Rattle.wp_run.specs.declared.status.Status.TheVariants as status
-use Rattle.wp_session.specs.Explains.{Faults, AreFirstParts, Explains}
-use Rattle.wp_sessions.specs.Over.{Answered, replies_of}
+use Rattle.wp_replies.specs.Explains.{Faults, AreFirstParts, Explains}
+use Rattle.wp_threads.specs.Over.{Answered, replies_of}
 use Rattle.wp_run.specs.Crash.{CrashOpens}
 use Rattle.wp_run.specs.Transcript.{IsTranscript, text_of}
 use Rattle.wp_run.specs.Use.{DisksUse, SinkUse}

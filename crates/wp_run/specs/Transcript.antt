@@ -6,9 +6,9 @@ use Rattle.wp_model.specs.History.{undecided}
 use Rattle.wp_text.specs.declared.script.Part.{Part}
 use Rattle.wp_text.specs.declared.reply.Reply.{Reply}
 use Rattle.wp_text.specs.Lines.{client_line, reply_line, entry_lines, end_line, line_end}
-use Rattle.wp_session.specs.Explains.{Faults, Explains}
-use Rattle.wp_session.specs.Known.{StoredState}
-use Rattle.wp_session.specs.Replies.{Failed}
+use Rattle.wp_replies.specs.Explains.{Faults, Explains}
+use Rattle.wp_replies.specs.Known.{StoredState}
+use Rattle.wp_replies.specs.Replies.{Failed}
 
 -- one client's replies, below its name
 abbrev pub client_text : Part → List Reply → List ℕ

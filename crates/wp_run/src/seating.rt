@@ -5,8 +5,8 @@ ghost use Rattle.wp_run.specs.Seating.{IsFirstClient, IsSeating};
 use std::alloc::{AllocError, Global};
 use wp_model::Name;
 use wp_outside::Disk;
-use wp_sessions::Room;
 use wp_text::Part;
+use wp_threads::Room;
 
 /// Whose the store's first seat is to be, and room for the sessions.
 #[derive(Drop)]

@@ -12,12 +12,12 @@ use crate::text::{log_failed, tables_failed, text_of, write_text};
 use std::alloc::Global;
 use std::sync::Wait;
 use std::thread::Threads;
+use wp_args::Choice;
 use wp_open::{OpenError, OpenRefused};
 use wp_outside::{Disk, Disks, Gate, Sink};
-use wp_sessions::{ScriptRun, run_script};
 use wp_shared::Shared;
 use wp_text::Part;
-use wp_words::Choice;
+use wp_threads::{ScriptRun, run_script};
 
 /// How a script was served, and the store's devices.
 pub(crate) struct Served<D> {

@@ -1,8 +1,8 @@
 //! The text of what the clients were answered.
 ghost use Rattle.std.specs.Prelude.{◌≡◌, ◌≤◌, true, length, IfOk, OnErr};
 ghost use Rattle.std.specs.List.{list_any};
-ghost use Rattle.wp_session.specs.Kind.{is_fault, is_tables_fault};
-ghost use Rattle.wp_sessions.specs.Over.{replies_of};
+ghost use Rattle.wp_replies.specs.Kind.{is_fault, is_tables_fault};
+ghost use Rattle.wp_threads.specs.Over.{replies_of};
 ghost use Rattle.wp_run.specs.Serving.{are_whole, one_fails, IsWritten};
 ghost use Rattle.wp_run.specs.Status.{IsBeforeSink, stage_of};
 ghost use Rattle.wp_run.specs.Transcript.{text_of};
@@ -13,8 +13,8 @@ use crate::transcript::transcript;
 use std::alloc::{AllocError, Global};
 use wp_history::History;
 use wp_outside::{Failed, Sink, write_all};
-use wp_sessions::Answered;
 use wp_text::{Part, Reply};
+use wp_threads::Answered;
 
 /// Whether no session broke off.
 fn are_whole(answers: &[Answered]) -> bool

@@ -10,9 +10,9 @@ use crate::status::Status;
 use std::alloc::{AllocError, Global};
 use std::sync::Wait;
 use std::thread::Threads;
+use wp_args::{Action, choice_of, words_choose_once};
 use wp_outside::{Disk, Disks, Gate, ReadError, Sink, Source, read_all};
 use wp_text::{MOST_BYTES, Script, ScriptError, read_script};
-use wp_words::{Action, choice_of, words_choose_once};
 
 /// How a call ended, and the devices that it was handed.
 #[derive(Drop)]

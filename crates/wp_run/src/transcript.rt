@@ -1,14 +1,14 @@
 ghost use Rattle.std.specs.Prelude.{◌≡◌, ◌++◌, ◌≤◌, ◌<◌, ◌^◌, length, IfOk, OnOk};
 ghost use Rattle.std.specs.List.{flat_map};
 ghost use Rattle.wp_text.specs.Lines as text;
-ghost use Rattle.wp_sessions.specs.Over.{replies_of};
+ghost use Rattle.wp_threads.specs.Over.{replies_of};
 ghost use Rattle.wp_run.specs.Transcript.{client_text, client_lines, text_of};
 
 use std::alloc::{AllocError, Global};
 use wp_history::History;
 use wp_model::Entry;
-use wp_sessions::Answered;
 use wp_text::{Part, Reply, client_line, end_line, history_line, reply_line};
+use wp_threads::Answered;
 
 fn push_replies(out: &mut Vec<u8>, replies: &[Reply]) -> Result<(), AllocError>
     ensures { OnOk result (out.new.items ≡ out.old.items ++ flat_map text.reply_line replies.now) }

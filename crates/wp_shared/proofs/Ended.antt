@@ -23,11 +23,11 @@ use Rattle.wp_core.specs.Sound.Pasts.{AreHolders, IsBoard, AreFaults, AreEdits, 
 use Rattle.wp_core.proofs.CrashImages.{left_by_crash, edit_by_crash}
 use Rattle.wp_core.proofs.PendingSteps.{none_logged}
 use Rattle.wp_rule.specs.Shows.{IsPart, Leaves}
-use Rattle.wp_guarded.specs.Log.{LogState, IsLog}
-use Rattle.wp_guarded.specs.Edits.{EditsState, IsEdits}
-use Rattle.wp_guarded.specs.Parts.{content, tells}
-use Rattle.wp_guarded.specs.declared.part.Part.{Part}
-use Rattle.wp_guarded.specs.declared.part.Part.TheVariants as part
+use Rattle.wp_parts.specs.Log.{LogState, IsLog}
+use Rattle.wp_parts.specs.Edits.{EditsState, IsEdits}
+use Rattle.wp_parts.specs.Parts.{content, tells}
+use Rattle.wp_parts.specs.declared.part.Part.{Part}
+use Rattle.wp_parts.specs.declared.part.Part.TheVariants as part
 use Rattle.wp_shared.specs.Devices.{DevicesLeft, devices_behind}
 use Rattle.wp_shared.specs.Opening.{IsOneStore}
 use Rattle.wp_shared.specs.Seats.{SharedState, SeatState, place_at}

@@ -6,8 +6,8 @@ use Rattle.atomic_table.specs.Seated.{TableId}
 use Rattle.wp_core.specs.Turns.{Turn}
 use Rattle.wp_core.specs.World.{Actor}
 use Rattle.wp_rule.specs.Shows.{Leaves}
-use Rattle.wp_guarded.specs.declared.part.Part.{Part}
-use Rattle.wp_guarded.specs.Parts.{content, tells}
+use Rattle.wp_parts.specs.declared.part.Part.{Part}
+use Rattle.wp_parts.specs.Parts.{content, tells}
 use Rattle.wp_shared.specs.Seats.{SharedState, SeatState, IsFree, turns_of, place_at}
 use Rattle.wp_shared.specs.Ending.{AllFree, AreAll, participant_of, all_joined, Remains}
 

@@ -18,9 +18,9 @@ use Rattle.wp_rule.specs.Plays.{taking, with_turn, Claimed, MayLie, MayUnclaim, 
 use Rattle.wp_rule.specs.Knows.{Noted}
 use Rattle.wp_rule.proofs.Outlasting.{outlasts}
 use Rattle.wp_rule.proofs.Takes.{table_of}
-use Rattle.wp_guarded.specs.declared.part.Part.{Part}
-use Rattle.wp_guarded.specs.declared.part.Part.TheVariants as part
-use Rattle.wp_guarded.specs.Parts.{content, tells}
+use Rattle.wp_parts.specs.declared.part.Part.{Part}
+use Rattle.wp_parts.specs.declared.part.Part.TheVariants as part
+use Rattle.wp_parts.specs.Parts.{content, tells}
 use Rattle.wp_shared.specs.Seats.{SharedState, SeatState, AllAway, IsFree, turns_of, place_at}
 use Rattle.wp_shared.specs.Turns.{Taken, MayBeGiven, Given}
 

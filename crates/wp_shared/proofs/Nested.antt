@@ -12,8 +12,8 @@ use Rattle.wp_rule.specs.Knows.{KnowsGive}
 use Rattle.wp_rule.proofs.Needed.{needed}
 use Rattle.wp_rule.proofs.Takes.{table_of, knows_give}
 use Rattle.wp_rule.proofs.TurnsTaken.{more_to_give}
-use Rattle.wp_guarded.specs.declared.part.Part.{Part}
-use Rattle.wp_guarded.specs.Parts.{content, IsAnchored}
+use Rattle.wp_parts.specs.declared.part.Part.{Part}
+use Rattle.wp_parts.specs.Parts.{content, IsAnchored}
 use Rattle.wp_shared.specs.Seats.{SharedState, SeatState, place_at}
 use Rattle.wp_shared.specs.Turns.{Taken, MayBeGiven, Given}
 

@@ -24,12 +24,12 @@ use Rattle.wp_open.specs.declared.opening.OpenError.TheVariants as open_error
 use Rattle.wp_open.proofs.Stages.{manifest_rests}
 use Rattle.wp_rule.specs.Shows.{WasLast}
 use Rattle.wp_rule.specs.Words.{first_edit_of}
-use Rattle.wp_guarded.specs.Log.{LogState, log_state}
-use Rattle.wp_guarded.specs.Edits.{EditsState, edits_state}
-use Rattle.wp_guarded.specs.Opening.{running_set, slots_of}
-use Rattle.wp_guarded.specs.Parts.{content, log_first, set_first}
-use Rattle.wp_guarded.specs.declared.part.Part.{Part}
-use Rattle.wp_guarded.specs.declared.part.Part.TheVariants as part
+use Rattle.wp_parts.specs.Log.{LogState, log_state}
+use Rattle.wp_parts.specs.Edits.{EditsState, edits_state}
+use Rattle.wp_parts.specs.Opening.{running_set, slots_of}
+use Rattle.wp_parts.specs.Parts.{content, log_first, set_first}
+use Rattle.wp_parts.specs.declared.part.Part.{Part}
+use Rattle.wp_parts.specs.declared.part.Part.TheVariants as part
 use Rattle.wp_shared.specs.Devices.{DevicesLeft, devices_behind}
 use Rattle.wp_shared.specs.OpenedFrom.{IsRefusedFrom}
 use Rattle.wp_shared.specs.Opening.{IsOneStore}

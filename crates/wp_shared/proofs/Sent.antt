@@ -8,9 +8,9 @@ use Rattle.atomic_table.proofs.badge.Badge.TheSendSync as badge
 use Rattle.atomic_table.proofs.shared.Seat.TheSendSync as table
 use Rattle.wp_model.proofs.word.Word.TheSendSync as word
 use Rattle.wp_rule.proofs.words.Words.TheSendSync as words
-use Rattle.wp_guarded.specs.contracts.part.Part as Part
-use Rattle.wp_guarded.specs.contracts.part.PartHoldsPart.TheImpl.{ghosts, no_dict}
-use Rattle.wp_guarded.proofs.Sent.{part_send}
+use Rattle.wp_parts.specs.contracts.part.Part as Part
+use Rattle.wp_parts.specs.contracts.part.PartHoldsPart.TheImpl.{ghosts, no_dict}
+use Rattle.wp_parts.proofs.Sent.{part_send}
 use Rattle.wp_shared.specs.contracts.shared.Shared as Shared
 use Rattle.wp_shared.specs.contracts.shared.Shared.TheInside as SharedInside
 use Rattle.wp_shared.specs.contracts.seat.Seat as Seat

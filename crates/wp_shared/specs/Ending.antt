@@ -4,8 +4,8 @@ use Rattle.atomic_table.specs.Seated.{TableId}
 use Rattle.wp_core.specs.Turns.{Turn}
 use Rattle.wp_core.specs.World.{Actor, Participant}
 use Rattle.wp_rule.specs.Shows.{Leaves}
-use Rattle.wp_guarded.specs.declared.part.Part.{Part}
-use Rattle.wp_guarded.specs.Parts.{content, tells}
+use Rattle.wp_parts.specs.declared.part.Part.{Part}
+use Rattle.wp_parts.specs.Parts.{content, tells}
 use Rattle.wp_shared.specs.Seats.{SharedState, SeatState, IsFree, place_at}
 
 abbrev pub AllFree : TableId → List SeatState → Type 0

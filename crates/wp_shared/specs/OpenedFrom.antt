@@ -16,8 +16,8 @@ use Rattle.wp_open.specs.Parts.{PartsOpened}
 use Rattle.wp_open.specs.Refused.{IsCause, IsOutside, IsLeft}
 use Rattle.wp_open.specs.declared.opening.OpenError.{OpenError}
 use Rattle.wp_rule.specs.Shows.{WasLast}
-use Rattle.wp_guarded.specs.Opening.{running_set}
-use Rattle.wp_guarded.specs.Parts.{content, log_first, set_first}
+use Rattle.wp_parts.specs.Opening.{running_set}
+use Rattle.wp_parts.specs.Parts.{content, log_first, set_first}
 use Rattle.wp_shared.specs.Devices.{DevicesLeft}
 use Rattle.wp_shared.specs.Seats.{SharedState}
 

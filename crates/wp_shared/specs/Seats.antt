@@ -4,9 +4,9 @@ use Rattle.atomic_table.specs.Seated.{TableId}
 use Rattle.wp_model.specs.declared.entry.Entry.{Entry}
 use Rattle.wp_core.specs.World.{Actor, World}
 use Rattle.wp_rule.specs.Words.{first_edit_of, Place, IsAt}
-use Rattle.wp_guarded.specs.declared.part.Part.{Part}
-use Rattle.wp_guarded.specs.declared.part.Part.TheVariants as part
-use Rattle.wp_guarded.specs.Parts.{content}
+use Rattle.wp_parts.specs.declared.part.Part.{Part}
+use Rattle.wp_parts.specs.declared.part.Part.TheVariants as part
+use Rattle.wp_parts.specs.Parts.{content}
 
 -- The store: which table it is, the history that was opened, how many words its cache has, the values behind the turns as
 -- they were handed in, and the greatest number that an entry may get.

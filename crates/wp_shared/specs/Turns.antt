@@ -12,8 +12,8 @@ use Rattle.wp_core.specs.World.{World, content_of}
 use Rattle.wp_core.specs.Steps.{give_turn}
 use Rattle.wp_rule.specs.Plays.{with_turn}
 use Rattle.wp_rule.specs.Moves.{MayStep}
-use Rattle.wp_guarded.specs.declared.part.Part.{Part}
-use Rattle.wp_guarded.specs.Parts.{content, IsAnchored}
+use Rattle.wp_parts.specs.declared.part.Part.{Part}
+use Rattle.wp_parts.specs.Parts.{content, IsAnchored}
 use Rattle.wp_shared.specs.Seats.{SharedState, SeatState, Stands, place_at}
 
 -- The turn was free and is the seat's now. The value is the turn's table, which the seat has, with what the turn guards besides

@@ -5,8 +5,8 @@ ghost use Rattle.wp_rule.specs.Ends.{part_of};
 ghost use Rattle.wp_shared.specs.Seats.{IsFree};
 ghost use Rattle.wp_outside.specs.Disk.{IfKnown};
 ghost use Rattle.wp_wal.specs.Wal.{LeavesHistory};
-ghost use Rattle.wp_guarded.specs.Log.{IsLog};
-ghost use Rattle.wp_guarded.specs.Edits.{IsEdits};
+ghost use Rattle.wp_parts.specs.Log.{IsLog};
+ghost use Rattle.wp_parts.specs.Edits.{IsEdits};
 ghost use Rattle.wp_shared.specs.Devices.{devices_of, devices_behind};
 ghost use Rattle.wp_shared.specs.Ending.{AllFree, AreAll, Remains};
 ghost use Rattle.wp_shared.specs.Ended.{IsEnded};
@@ -14,9 +14,9 @@ ghost use Rattle.wp_shared.specs.Ended.{IsEnded};
 use crate::held::Held;
 use crate::seat::Seat;
 use crate::shared::Shared;
-use wp_guarded::{Edits, Log, Part};
 use wp_history::History;
 use wp_outside::{Disk, Disks};
+use wp_parts::{Edits, Log, Part};
 use wp_rule::Parts;
 
 /// What an ended store leaves.

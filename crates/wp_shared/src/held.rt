@@ -4,12 +4,12 @@ ghost use Rattle.wp_model.specs.LockTables.{LockTables};
 ghost use Rattle.wp_model.specs.PreparedTables.{PreparedTables};
 ghost use Rattle.wp_model.specs.Snapshots.{Snapshots};
 ghost use Rattle.wp_core.specs.Tables.{WriteTable, StoreTable, Installed, writes, prepared, snapshots, store, locks, installed};
-ghost use Rattle.wp_guarded.specs.declared.part.Part.TheVariants as part;
-ghost use Rattle.wp_guarded.specs.Parts.{content};
+ghost use Rattle.wp_parts.specs.declared.part.Part.TheVariants as part;
+ghost use Rattle.wp_parts.specs.Parts.{content};
 
-use wp_guarded::{Edits, Log, Part, Stock};
 use wp_locks::Locks;
 use wp_outside::Disk;
+use wp_parts::{Edits, Log, Part, Stock};
 use wp_prepared::Prepared;
 use wp_snaps::Snaps;
 

@@ -29,4 +29,4 @@ pub use held::Held;
 pub use note::Note;
 pub use seat::Seat;
 pub use shared::Shared;
-pub use wp_guarded::Part;
+pub use wp_parts::Part;

@@ -11,9 +11,9 @@ use crate::shared::Shared;
 use atomic_table::Badge;
 use std::marker::Model;
 use std::mem;
-use wp_guarded::Part;
 use wp_model::Seq;
 use wp_outside::Disk;
+use wp_parts::Part;
 use wp_rule::{Actor, WordSeat};
 
 /// What a seat had seen when it wrote the note. It may go to any thread, and a seat of the same store learns it.

@@ -6,8 +6,8 @@ ghost use Rattle.wp_open.specs.Parts.{PartsOpened};
 ghost use Rattle.wp_core.specs.World.{new_actor};
 ghost use Rattle.wp_rule.specs.Shows.{WasLast};
 ghost use Rattle.wp_rule.specs.Words.{SawAll};
-ghost use Rattle.wp_guarded.specs.Opening.{running_set};
-ghost use Rattle.wp_guarded.specs.Parts.{content, log_first, set_first};
+ghost use Rattle.wp_parts.specs.Opening.{running_set};
+ghost use Rattle.wp_parts.specs.Parts.{content, log_first, set_first};
 ghost use Rattle.wp_shared.specs.Devices.{devices_of, devices_behind};
 ghost use Rattle.wp_shared.specs.OpenedFrom.{IsOpenedFrom, IsRefusedFrom};
 ghost use Rattle.wp_shared.specs.Seats.{place_at};
@@ -18,10 +18,10 @@ use crate::seat::Seat;
 use crate::shared::Shared;
 use std::alloc::Global;
 use std::snapshot::Snapshot;
-use wp_guarded::{delayed_flag, guard};
 use wp_model::{Name, Seq};
 use wp_open::{OpenError, OpenRefused, Parts, open_parts};
 use wp_outside::{Disk, Disks};
+use wp_parts::{delayed_flag, guard};
 use wp_rule::Words;
 
 /// How many words so many bits number.

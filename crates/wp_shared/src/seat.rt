@@ -2,9 +2,9 @@
 ghost use Rattle.std.specs.Prelude.{◌≡◌};
 
 use std::marker::Model;
-use wp_guarded::Part;
 use wp_model::Name;
 use wp_outside::Disk;
+use wp_parts::Part;
 use wp_rule::WordSeat;
 
 /// A client's seat at a store. Clauses see the table that it is at, its number there, what its actor of the machine knows, and

@@ -7,15 +7,15 @@ ghost use Rattle.wp_core.specs.Changes.{sees, made_one};
 ghost use Rattle.wp_core.specs.Steps.{Step, set_client};
 ghost use Rattle.wp_core.specs.World.{World, new_actor};
 ghost use Rattle.wp_rule.specs.Words.{place_of, SawAll};
-ghost use Rattle.wp_guarded.specs.Parts.{content};
+ghost use Rattle.wp_parts.specs.Parts.{content};
 ghost use Rattle.wp_shared.specs.Opening.{IsOneStore};
 ghost use Rattle.wp_shared.specs.Seats.{Stands, place_at};
 
 use crate::seat::Seat;
 use std::marker::{Brand, Model};
-use wp_guarded::Part;
 use wp_model::{Name, Seq};
 use wp_outside::Disk;
+use wp_parts::Part;
 use wp_rule::{Moves, WordSeat, Words};
 
 /// The store that clients share: words, and the values behind the turns.

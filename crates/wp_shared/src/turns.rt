@@ -9,8 +9,8 @@ use crate::seat::Seat;
 use crate::shared::Shared;
 use std::sync::Wait;
 use std::{hint, thread};
-use wp_guarded::Part;
 use wp_outside::Disk;
+use wp_parts::Part;
 use wp_rule::Turn;
 
 /// How many pauses of the processor a seat waits at first for a turn that is held. That is longer than most turns are held: who has

@@ -31,7 +31,7 @@ use Rattle.wp_rule.proofs.Knows.{at_sound, noted_is}
 use Rattle.wp_rule.proofs.MayBeMade.{known_made}
 use Rattle.wp_rule.proofs.Needed.{has_locks, alone}
 use Rattle.wp_rule.proofs.Outlasting.{outlasts}
-use Rattle.wp_publish.specs.Records.{numbers_behind, is_about}
+use Rattle.wp_records.specs.Records.{numbers_behind, is_about}
 use Rattle.wp_shared.specs.Calls.{ContinuesWith, Continues, remembering}
 use Rattle.wp_shared.specs.Seats.{SharedState, SeatState, IsFree, Stands, place_at}
 use Rattle.wp_shared.proofs.OneStep.{becomes}

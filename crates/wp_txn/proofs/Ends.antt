@@ -16,7 +16,7 @@ use Rattle.wp_core.specs.World.{Participant}
 use Rattle.wp_core.specs.Sound.Actors.{StartsWith}
 use Rattle.wp_core.specs.Sound.Views.{guarded_by}
 use Rattle.wp_core.proofs.HistoryLaws.{next_decides_prepare}
-use Rattle.wp_publish.specs.Records.{numbers_behind, transaction_behind, is_about}
+use Rattle.wp_records.specs.Records.{numbers_behind, transaction_behind, is_about}
 use Rattle.wp_shared.specs.Calls.{ContinuesWith, Continues, remembering}
 use Rattle.wp_commits.specs.Gone.{HasLeft}
 use Rattle.wp_rule.specs.Words.{IsAt}

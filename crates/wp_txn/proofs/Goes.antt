@@ -13,8 +13,8 @@ use Rattle.wp_core.specs.Sound.Actors.{StartsWith}
 use Rattle.wp_core.specs.Sound.Views.{guarded_by}
 use Rattle.wp_core.proofs.KeepsSeen.{shorter}
 use Rattle.wp_rule.specs.Words.{IsAt}
-use Rattle.wp_publish.specs.Writing.{FoundLog}
-use Rattle.wp_publish.specs.Records.{numbers_behind, failing}
+use Rattle.wp_records.specs.Writing.{FoundLog}
+use Rattle.wp_records.specs.Records.{numbers_behind, failing}
 use Rattle.wp_shared.specs.Calls.{ContinuesWith, Continues, remembering}
 use Rattle.wp_shared.specs.Seats.{SharedState, SeatState, IsFree, place_at}
 use Rattle.wp_txn.specs.declared.error.TxnError.{TxnError}

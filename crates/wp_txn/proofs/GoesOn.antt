@@ -24,9 +24,9 @@ use Rattle.wp_core.proofs.Tests.{some_none}
 use Rattle.wp_rule.specs.Accounts.{IsHolderIn, account_of}
 use Rattle.wp_rule.proofs.Knows.{at_sound}
 use Rattle.wp_rule.specs.Words.{IsAt}
-use Rattle.wp_guarded.specs.declared.part.Part.{Part}
-use Rattle.wp_guarded.specs.declared.part.Part.TheVariants as part
-use Rattle.wp_guarded.specs.Parts.{content}
+use Rattle.wp_parts.specs.declared.part.Part.{Part}
+use Rattle.wp_parts.specs.declared.part.Part.TheVariants as part
+use Rattle.wp_parts.specs.Parts.{content}
 use Rattle.wp_shared.specs.Seats.{SharedState, SeatState, IsFree, Stands, place_at}
 use Rattle.wp_shared.specs.Calls.{ContinuesWith, Continues, remembering}
 use Rattle.wp_txn.specs.declared.error.TxnError.{TxnError}

@@ -18,8 +18,8 @@ use Rattle.wp_core.proofs.HistoryGrows.{named_stays}
 use Rattle.wp_core.proofs.HistoryLaws.{next_decides_prepare}
 use Rattle.wp_core.proofs.KeepsSeen.{shorter}
 use Rattle.wp_commits.specs.Gone.{HasLeft}
-use Rattle.wp_guarded.specs.Log.{LogState}
-use Rattle.wp_publish.specs.Records.{transaction_behind}
+use Rattle.wp_parts.specs.Log.{LogState}
+use Rattle.wp_records.specs.Records.{transaction_behind}
 use Rattle.wp_shared.specs.Calls.{Continues}
 use Rattle.wp_shared.specs.Seats.{SharedState, SeatState}
 use Rattle.wp_txn.specs.Calls.{without_transaction}

@@ -29,7 +29,7 @@ use Rattle.wp_rule.specs.Moves.{MayStep}
 use Rattle.wp_rule.proofs.Knows.{at_sound}
 use Rattle.wp_rule.proofs.Needed.{needed}
 use Rattle.wp_commits.proofs.Held.{writes_are}
-use Rattle.wp_guarded.specs.Log.{LogState}
+use Rattle.wp_parts.specs.Log.{LogState}
 use Rattle.wp_shared.specs.Seats.{SharedState, SeatState, IsFree, Stands, place_at}
 use Rattle.wp_shared.specs.Calls.{Continues, remembering}
 use Rattle.wp_txn.specs.declared.error.TxnError.{TxnError}

@@ -27,11 +27,11 @@ use Rattle.wp_rule.specs.Words.{Place, SawAll}
 use Rattle.wp_rule.proofs.Forgets.{EndsNothing, note_ends}
 use Rattle.wp_rule.proofs.MayBeMade.{known_made}
 use Rattle.wp_commits.proofs.Held.{writes_are}
-use Rattle.wp_guarded.specs.Log.{LogState, IsLog}
-use Rattle.wp_publish.specs.declared.error.WriteError.{WriteError}
-use Rattle.wp_publish.specs.declared.error.WriteError.TheVariants as write_error
-use Rattle.wp_publish.specs.Records.{numbers_behind, putting, transaction_behind, is_about, failing, MayPut, IsPut, IsNotPut, Puts}
-use Rattle.wp_publish.specs.Writing.{HoldsWrite, FoundLog, TakesWrite, GivesWrite}
+use Rattle.wp_parts.specs.Log.{LogState, IsLog}
+use Rattle.wp_records.specs.declared.error.WriteError.{WriteError}
+use Rattle.wp_records.specs.declared.error.WriteError.TheVariants as write_error
+use Rattle.wp_records.specs.Records.{numbers_behind, putting, transaction_behind, is_about, failing, MayPut, IsPut, IsNotPut, Puts}
+use Rattle.wp_records.specs.Writing.{HoldsWrite, FoundLog, TakesWrite, GivesWrite}
 use Rattle.wp_shared.specs.Calls.{ContinuesWith, Continues, remembering}
 use Rattle.wp_shared.specs.Seats.{SharedState, SeatState, place_at}
 use Rattle.wp_shared.proofs.OneStep.{becomes}

@@ -8,11 +8,11 @@ use Rattle.wp_core.specs.Lists.{IsIn}
 use Rattle.wp_core.specs.Sound.Views.{guarded_by}
 use Rattle.wp_core.specs.Views.{Fact, direct_free}
 use Rattle.wp_core.specs.World.{Participant, World}
-use Rattle.wp_guarded.specs.Log.{LogState, IsLog}
-use Rattle.wp_publish.specs.declared.error.WriteError.{WriteError}
-use Rattle.wp_publish.specs.declared.error.WriteError.TheVariants as write_error
-use Rattle.wp_publish.specs.Records.{transaction_behind, is_about, IsPut, Puts}
-use Rattle.wp_publish.specs.Writing.{TakesWrite}
+use Rattle.wp_parts.specs.Log.{LogState, IsLog}
+use Rattle.wp_records.specs.declared.error.WriteError.{WriteError}
+use Rattle.wp_records.specs.declared.error.WriteError.TheVariants as write_error
+use Rattle.wp_records.specs.Records.{transaction_behind, is_about, IsPut, Puts}
+use Rattle.wp_records.specs.Writing.{TakesWrite}
 use Rattle.wp_shared.specs.Calls.{ContinuesWith, Continues}
 use Rattle.wp_shared.specs.Seats.{SharedState, SeatState, Stands}
 use Rattle.wp_txn.specs.declared.error.TxnError.{TxnError}

@@ -14,9 +14,9 @@ use Rattle.wp_core.specs.World.{Actor}
 use Rattle.wp_core.specs.Changes.{turn_index, held_without, keys_of_holder}
 use Rattle.wp_core.specs.Sound.Actors.{StartsWith}
 use Rattle.wp_core.specs.Sound.Views.{guarded_by}
-use Rattle.wp_guarded.specs.Log.{LogState}
-use Rattle.wp_guarded.specs.Parts.{log_first}
-use Rattle.wp_publish.specs.Records.{is_about}
+use Rattle.wp_parts.specs.Log.{LogState}
+use Rattle.wp_parts.specs.Parts.{log_first}
+use Rattle.wp_records.specs.Records.{is_about}
 use Rattle.wp_shared.specs.Seats.{SharedState, SeatState}
 use Rattle.wp_txn.specs.Actors.{giving_up, ending_direct, with_taken}
 

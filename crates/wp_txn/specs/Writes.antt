@@ -13,10 +13,10 @@ use Rattle.wp_core.specs.Tables.{WriteTable}
 use Rattle.wp_core.specs.Views.{Fact, locked, stopped}
 use Rattle.wp_core.specs.World.{Participant}
 use Rattle.wp_commits.specs.Gone.{HasLeft}
-use Rattle.wp_guarded.specs.Log.{LogState, IsLog}
-use Rattle.wp_guarded.specs.Parts.{log_first}
-use Rattle.wp_publish.specs.Writing.{FoundLog}
-use Rattle.wp_publish.specs.Records.{numbers_behind, failing, FailsAppend}
+use Rattle.wp_parts.specs.Log.{LogState, IsLog}
+use Rattle.wp_parts.specs.Parts.{log_first}
+use Rattle.wp_records.specs.Writing.{FoundLog}
+use Rattle.wp_records.specs.Records.{numbers_behind, failing, FailsAppend}
 use Rattle.wp_shared.specs.Calls.{ContinuesWith, Continues, remembering}
 use Rattle.wp_shared.specs.Seats.{SharedState, SeatState}
 use Rattle.wp_txn.specs.declared.error.TxnError.{TxnError}

@@ -11,7 +11,7 @@
 //! - `write` is one change, written at once: its key is locked for the call alone. `prepare` puts the changes of an open
 //!   transaction into the log, and `commit` decides them; `commit_now` does both by one entry. `rollback` reads what their keys
 //!   have, at a snapshot of its own, and puts that back, with the end of the prepare in the same record. Each takes the write turn
-//!   for its record, finds the log running and room under the limit, and has the record made by `wp_publish`. Behind the write
+//!   for its record, finds the log running and room under the limit, and has the record made by `wp_records`. Behind the write
 //!   turn the name and the keys of the transaction are free again, and a decided number leaves the prepared tables.
 //! - `tell` and `hear`: labels on a board, by which one client lets another see what it has seen.
 //!

@@ -3,9 +3,9 @@ ghost use Rattle.std.specs.Prelude.{◌≡◌, ◌≤◌, false, [], ◌∷◌, 
 ghost use Rattle.wp_model.specs.declared.entry.Entry.TheVariants.{Write, Prepare, Commit, Undo, Close};
 ghost use Rattle.wp_model.specs.History.{named};
 ghost use Rattle.wp_core.specs.Views.{undecided_at, unprepared};
-ghost use Rattle.wp_guarded.specs.Log.{LogState, IsLog};
-ghost use Rattle.wp_publish.specs.Records.{MayPut};
-ghost use Rattle.wp_publish.specs.Writing.{HoldsWrite, GivesWrite};
+ghost use Rattle.wp_parts.specs.Log.{LogState, IsLog};
+ghost use Rattle.wp_records.specs.Records.{MayPut};
+ghost use Rattle.wp_records.specs.Writing.{HoldsWrite, GivesWrite};
 ghost use Rattle.wp_shared.specs.Seats.{IsFree, SeatState};
 ghost use Rattle.wp_txn.specs.Recording.{OpensLog, PutsNoting, Records, HadPrior, answer_of};
 ghost use Rattle.wp_txn.specs.Txn.{HasOpen, HasPrepared};
@@ -16,11 +16,11 @@ use crate::steps::{find_log_closed, note_undecided, note_unprepared};
 use crate::txn::{OpenTxn, PreparedTxn};
 use std::alloc::Global;
 use std::sync::Wait;
-use wp_guarded::Log;
 use wp_model::{Batch, Name, Seq};
 use wp_outside::Disk;
-use wp_publish::{WriteError, give_write, take_write};
+use wp_parts::Log;
 use wp_read::laws::held_keys_keep_their_values;
+use wp_records::{WriteError, give_write, take_write};
 use wp_shared::{Seat, Shared};
 
 /// Takes the write turn with the log, if that is running and so many entries more have their numbers within the limit.
@@ -87,7 +87,7 @@ pub(crate) fn record_write<D: Disk + Drop, R: Wait>(
     ensures { Records store.now seat.old (Write batch.now ∷ []) (λ n. []) result seat.new }
 {
     let mut log = open_log(store, rt, seat, 1)?;
-    let outcome = wp_publish::write(store, rt, alloc, seat, &mut log, batch);
+    let outcome = wp_records::write(store, rt, alloc, seat, &mut log, batch);
     close_log(store, seat, log, outcome)
 }
 
@@ -106,7 +106,7 @@ fn put_prepare<D: Disk + Drop, R: Wait>(
     requires may { MayPut seat.old.knows log.old.table.history (Prepare name.now batch.now ∷ []) }
     ensures { PutsNoting store.now seat.old log.old (Prepare name.now batch.now ∷ []) (undecided_at name.now (length log.new.table.history) ∷ []) result seat.new log.new }
 {
-    wp_publish::prepare(store, rt, alloc, seat, log, name, batch)?;
+    wp_records::prepare(store, rt, alloc, seat, log, name, batch)?;
     note_undecided(store, seat, log, name, log.published());
     Ok(())
 }
@@ -145,7 +145,7 @@ fn put_commit<D: Disk + Drop, R: Wait>(
     requires prepare { named log.old.table.history name.now ≡ Some number }
     ensures { PutsNoting store.now seat.old log.old (Commit number ∷ []) (unprepared name.now ∷ []) result seat.new log.new }
 {
-    wp_publish::commit(store, rt, alloc, seat, log, number)?;
+    wp_records::commit(store, rt, alloc, seat, log, number)?;
     note_unprepared(store, seat, log, name);
     Ok(())
 }
@@ -185,7 +185,7 @@ fn put_rollback<D: Disk + Drop, R: Wait>(
     requires prepare { named log.old.table.history name.now ≡ Some number }
     ensures { PutsNoting store.now seat.old log.old (Undo number prior.now ∷ Close number ∷ []) (unprepared name.now ∷ []) result seat.new log.new }
 {
-    wp_publish::roll_back(store, rt, alloc, seat, log, number, prior)?;
+    wp_records::roll_back(store, rt, alloc, seat, log, number, prior)?;
     note_unprepared(store, seat, log, name);
     Ok(())
 }

@@ -22,10 +22,10 @@ ghost use Rattle.wp_txn.specs.Txn.{HasPrepared};
 
 use crate::txn::PreparedTxn;
 use std::marker::Brand;
-use wp_guarded::Log;
 use wp_locks::Locks;
 use wp_model::{Batch, Holder, Key, Name, Seq};
 use wp_outside::Disk;
+use wp_parts::Log;
 use wp_shared::{Seat, Shared};
 
 /// The seat claimed the name, which was not live. It still holds the tables as they were before.

@@ -5,9 +5,9 @@ ghost use Rattle.wp_shared.specs.Seats.{Stands};
 ghost use Rattle.wp_txn.specs.Turns.{with_locks, HoldsLocks, GaveLocks, TookLog, HoldsLog, GaveLog};
 
 use std::sync::Wait;
-use wp_guarded::{Log, Part};
 use wp_locks::Locks;
 use wp_outside::Disk;
+use wp_parts::{Log, Part};
 use wp_rule::Turn;
 use wp_shared::{Held, Seat, Shared};
 

@@ -2,7 +2,7 @@ use Rattle.std.proofs.Common.{subst, sym}
 use Rattle.std.proofs.lemmas.Result.{IfOk-weaker}
 use Rattle.wp_merge.specs.Merge.{joined}
 use Rattle.wp_merge.proofs.Sorted.{in_order_sorted}
-use Rattle.wp_guarded.specs.Stock.{store_table}
+use Rattle.wp_parts.specs.Stock.{store_table}
 use Rattle.wp_maint.specs.Decided.{AreSeen}
 use Rattle.wp_maint.proofs.Tabled.{turns_one, are_seen, looked_on, same_look}
 use Rattle.wp_maint.proofs.decided.tabled.Goals as goal

@@ -1,11 +1,11 @@
 use Rattle.std.proofs.Common.{false, sym, subst, ap, ◌∙◌}
 use Rattle.wp_model.specs.Flushed.{InstalledEdit}
-use Rattle.wp_session.specs.Tables.{after_flush}
+use Rattle.wp_replies.specs.Tables.{after_flush}
 use Rattle.wp_core.specs.Tables.{Installed}
 use Rattle.wp_core.specs.Views.{tables_failed}
 use Rattle.wp_core.specs.Views as event
 use Rattle.wp_rule.specs.Knows.{KnowsInstalled}
-use Rattle.wp_guarded.specs.Installs.{HadCause, with_table, IsRefused, SurvivesInstall}
+use Rattle.wp_parts.specs.Installs.{HadCause, with_table, IsRefused, SurvivesInstall}
 use Rattle.wp_maint.specs.Finding.{Changes}
 use Rattle.wp_maint.specs.Holding.{no_fact, is_of_flushed}
 use Rattle.wp_maint.proofs.Found.{failed_last}

@@ -2,7 +2,7 @@ use Rattle.std.proofs.Common.{List, map, refl, ap, ◌∙◌}
 use Rattle.std.specs.Arc.{arc_value}
 use Rattle.wp_model.specs.declared.version.Version.{Version}
 use Rattle.wp_merge.specs.Merge.{joined, sorted_of}
-use Rattle.wp_guarded.specs.Stock.{store_table}
+use Rattle.wp_parts.specs.Stock.{store_table}
 use Rattle.wp_maint.proofs.Installed.{knows_moved, none_flushed, tables_named}
 use Rattle.wp_maint.proofs.Puts.{held_taken, turns_taken, put, put_settled}
 use Rattle.wp_maint.proofs.flushing.put_table.Goals as goal

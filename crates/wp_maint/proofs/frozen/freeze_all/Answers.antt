@@ -4,7 +4,7 @@ use Rattle.wp_core.specs.Tables.{WriteTable, writes}
 use Rattle.wp_rule.specs.Words.{IsAt}
 use Rattle.wp_rule.proofs.Stores.{same_writes}
 use Rattle.wp_shared.specs.Seats.{SeatState, place_at}
-use Rattle.wp_guarded.specs.Stock.{store_table}
+use Rattle.wp_parts.specs.Stock.{store_table}
 use Rattle.wp_maint.proofs.Freezes.{held_two, seen_two, place_two, settled_two, turns_three, turns_four, goes_five, grown_five, frozen_five}
 use Rattle.wp_maint.proofs.frozen.freeze_all.Goals as goal
 

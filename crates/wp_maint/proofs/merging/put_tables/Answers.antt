@@ -2,7 +2,7 @@ use Rattle.std.proofs.Common.{◌≤◌, refl, subst, sym, ap, ◌∙◌}
 use Rattle.wp_core.specs.Conditions.{KeepsStore}
 use Rattle.wp_core.specs.Tables.{StoreTable}
 use Rattle.wp_core.specs.Views.{nothing_flushed}
-use Rattle.wp_guarded.specs.Stock.{store_table}
+use Rattle.wp_parts.specs.Stock.{store_table}
 use Rattle.wp_shared.specs.Seats.{SeatState}
 use Rattle.wp_maint.proofs.Puts.{held_taken, turns_taken, put, put_settled}
 use Rattle.wp_maint.proofs.Replaces.{may_put}

@@ -2,7 +2,7 @@ use Rattle.std.proofs.Common.{◌∷◌, inl, refl, subst, sym, ap}
 use Rattle.std.proofs.lemmas.Result.{IfOk-weaker}
 use Rattle.wp_core.specs.Lists.{IsIn}
 use Rattle.wp_core.specs.Tables.{store}
-use Rattle.wp_guarded.specs.Stock.{store_table}
+use Rattle.wp_parts.specs.Stock.{store_table}
 use Rattle.wp_shared.specs.Seats.{SeatState}
 use Rattle.wp_maint.specs.Holding.{no_fact}
 use Rattle.wp_maint.proofs.Onward.{settled_on}

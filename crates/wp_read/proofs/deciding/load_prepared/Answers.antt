@@ -5,7 +5,7 @@ use Rattle.wp_core.specs.Tables.{turn_of}
 use Rattle.wp_core.specs.Turns.{prepared_turn}
 use Rattle.wp_core.specs.Views.{delayed_flag_stays}
 use Rattle.wp_core.proofs.Tests.{same_some}
-use Rattle.wp_guarded.specs.declared.part.Part.TheVariants as part
+use Rattle.wp_parts.specs.declared.part.Part.TheVariants as part
 use Rattle.wp_shared.specs.Seats.{SeatState}
 use Rattle.wp_read.proofs.HeldTables.{loads_between, keeps_between, delayed_flag_noted}
 use Rattle.wp_read.proofs.deciding.load_prepared.Goals as goal

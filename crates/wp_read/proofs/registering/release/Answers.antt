@@ -5,7 +5,7 @@ use Rattle.wp_shared.specs.Calls.{Continues}
 use Rattle.wp_read.proofs.HeldTables.{old_flag_noted}
 use Rattle.wp_read.proofs.Seated.{continues_one, taken_participant}
 use Rattle.wp_core.specs.Turns.{snapshots_turn}
-use Rattle.wp_guarded.specs.declared.part.Part.TheVariants as part
+use Rattle.wp_parts.specs.declared.part.Part.TheVariants as part
 use Rattle.wp_read.proofs.registering.release.Goals as goal
 
 pub settle_old_flag-requires-clause-down : goal.settle_old_flag-requires-clause-down

@@ -1,7 +1,7 @@
 use Rattle.std.proofs.Common.{refl}
 use Rattle.wp_core.specs.Tables.{store}
-use Rattle.wp_guarded.specs.Stock.{store_table}
-use Rattle.wp_guarded.specs.declared.part.Part.TheVariants as part
+use Rattle.wp_parts.specs.Stock.{store_table}
+use Rattle.wp_parts.specs.declared.part.Part.TheVariants as part
 use Rattle.wp_read.proofs.HeldTables.{may_give}
 use Rattle.wp_read.proofs.turns.give_stock.Goals as goal
 

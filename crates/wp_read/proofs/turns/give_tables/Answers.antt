@@ -1,6 +1,6 @@
 use Rattle.std.proofs.Common.{refl}
 use Rattle.wp_core.specs.Tables.{prepared}
-use Rattle.wp_guarded.specs.declared.part.Part.TheVariants as part
+use Rattle.wp_parts.specs.declared.part.Part.TheVariants as part
 use Rattle.wp_read.proofs.HeldTables.{may_give}
 use Rattle.wp_read.proofs.turns.give_tables.Goals as goal
 

@@ -1,7 +1,7 @@
 use Rattle.std.proofs.Common.{sym, subst, ap}
 use Rattle.wp_outside.specs.declared.disk.Disks.{Disks}
 use Rattle.wp_shared.specs.Devices.{devices_of}
-use Rattle.wp_sessions.specs.Explained.{HaveRun}
+use Rattle.wp_threads.specs.Explained.{HaveRun}
 use Rattle.wp_run.proofs.Opened.{refused_fronts}
 use Rattle.wp_run.proofs.Stored.{is_durable}
 use Rattle.wp_run.proofs.TopLemmas.{serves_run, serves_refused, is_first}

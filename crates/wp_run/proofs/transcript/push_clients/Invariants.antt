@@ -1,5 +1,5 @@
 use Rattle.std.proofs.Common.{◌≡◌, ◌++◌, take}
-use Rattle.wp_sessions.specs.Over.{replies_of}
+use Rattle.wp_threads.specs.Over.{replies_of}
 use Rattle.wp_run.specs.Transcript.{client_lines}
 use Rattle.wp_run.proofs.transcript.push_clients.Given as goal
 

@@ -3,7 +3,7 @@ use Rattle.wp_model.specs.Batch.{key_of, is_batch}
 use Rattle.wp_model.specs.declared.change.Change.{Change}
 use Rattle.wp_model.specs.declared.entry.Entry.TheVariants.{Write}
 use Rattle.wp_core.specs.World.{Participant}
-use Rattle.wp_publish.specs.Records.{MayPut}
+use Rattle.wp_records.specs.Records.{MayPut}
 use Rattle.wp_txn.specs.Recording.{Records, HasDirect, EndsDirect}
 use Rattle.wp_txn.proofs.MayPut.{may_write_direct}
 use Rattle.wp_txn.proofs.DirectWrites.{free_after, direct_after, written}

@@ -5,7 +5,7 @@ use Rattle.wp_model.specs.History.{named}
 use Rattle.wp_model.specs.declared.entry.Entry.{Entry}
 use Rattle.wp_model.specs.declared.entry.Entry.TheVariants.{Commit}
 use Rattle.wp_core.specs.Views.{unprepared}
-use Rattle.wp_publish.specs.declared.error.WriteError.{WriteError}
+use Rattle.wp_records.specs.declared.error.WriteError.{WriteError}
 use Rattle.wp_txn.specs.Recording.{PutsNoting}
 use Rattle.wp_txn.proofs.UnderLog.{put_noting, has_still, held_still, commit_frees, name_of}
 use Rattle.wp_txn.proofs.recording.put_commit.Goals as goal

@@ -6,8 +6,8 @@ use Rattle.wp_core.specs.Tables as table
 use Rattle.wp_core.specs.World.{Actor}
 use Rattle.wp_core.specs.Changes.{turn_index}
 use Rattle.wp_machine.specs.Parts.{turn_of}
-use Rattle.wp_guarded.specs.declared.part.Part.{Part}
-use Rattle.wp_guarded.specs.declared.part.Part.TheVariants as part
+use Rattle.wp_parts.specs.declared.part.Part.{Part}
+use Rattle.wp_parts.specs.declared.part.Part.TheVariants as part
 use Rattle.wp_shared.specs.Seats.{SeatState}
 use Rattle.wp_shared.proofs.HeldTurns.{carried, turns_left, may_lie, may_unclaim, given}
 use Rattle.wp_shared.proofs.shared.Shared.give.Goals as goal

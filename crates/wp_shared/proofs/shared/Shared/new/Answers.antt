@@ -1,5 +1,5 @@
 use Rattle.std.proofs.Common.{ℕ, ◌≤◌, ap, ◌∙◌, subst, sym}
-use Rattle.wp_guarded.specs.Parts.{content}
+use Rattle.wp_parts.specs.Parts.{content}
 use Rattle.wp_shared.proofs.Opened.{one_store, first_slot, last_slot, last_edit_is}
 use Rattle.wp_shared.proofs.shared.Shared.new.Goals as goal
 

@@ -1,7 +1,7 @@
 use Rattle.std.specs.Prelude.{[], ◌∷◌}
 use Rattle.wp_core.specs.Steps.{set_client}
 use Rattle.wp_rule.specs.Words.{place_of}
-use Rattle.wp_guarded.specs.Parts.{content}
+use Rattle.wp_parts.specs.Parts.{content}
 use Rattle.wp_shared.proofs.shared.Shared.seat.Given as goal
 
 abbrev pub ghosts-name_seat : goal.ghosts-name_seat

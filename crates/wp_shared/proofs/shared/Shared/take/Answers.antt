@@ -3,8 +3,8 @@ use Rattle.atomic_table.specs.Table.{Me}
 use Rattle.wp_core.specs.World.{Actor}
 use Rattle.wp_machine.specs.Parts.{turn_of}
 use Rattle.wp_rule.specs.Words.{place_of}
-use Rattle.wp_guarded.specs.declared.part.Part.{Part}
-use Rattle.wp_guarded.specs.Parts.{content}
+use Rattle.wp_parts.specs.declared.part.Part.{Part}
+use Rattle.wp_parts.specs.Parts.{content}
 use Rattle.wp_shared.specs.Seats.{SeatState, AllAway}
 use Rattle.wp_shared.proofs.HeldTurns.{still_sits, taken}
 use Rattle.wp_shared.proofs.shared.Shared.take.Goals as goal

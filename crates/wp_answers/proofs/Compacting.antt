@@ -1,0 +1,176 @@
+-- What a client is answered that compacts.
+use Rattle.std.proofs.Common.{◌≡◌, inl, inr, ℕ, ◌≤◌, ◌<◌, true, List, [], ◌∷◌, ◌++◌, length, map, take, Option, Some, None, refl, sym, subst, ap, ◌∙◌, arith, ◌==◌, eq-eqb}
+use Rattle.std.specs.Prelude.{slice_index_or, Result, Ok, Err, IfSome, min, nat_lt}
+use Rattle.std.specs.List.{Contains, list_any}
+use Rattle.std.proofs.lemmas.Bool.{cases_Bool, eqb-true}
+use Rattle.std.proofs.lemmas.Bool.Decides.{nat_tests}
+use Rattle.std.proofs.lemmas.List.{length-take-le}
+use Rattle.std.proofs.lemmas.List.Folds.{list_any_at}
+use Rattle.wp_model.specs.declared.entry.Entry.{Entry}
+use Rattle.wp_model.specs.Flushed.{InstalledEdit, later_versions}
+use Rattle.wp_model.specs.Snapshots.{Snapshots, IsLive}
+use Rattle.wp_text.specs.declared.script.Command.TheVariants as command
+use Rattle.wp_text.specs.declared.reply.Reply.{Reply}
+use Rattle.wp_text.specs.declared.reply.Reply.TheVariants as reply
+use Rattle.wp_core.specs.Lists.{IsIn}
+use Rattle.wp_core.specs.Reading.{Registration}
+use Rattle.wp_core.specs.Sound.Actors.{StartsWith}
+use Rattle.wp_core.specs.Sound.Pasts.{tables_due}
+use Rattle.wp_core.specs.Tables.{Installed}
+use Rattle.wp_core.specs.Views.{Event, installed}
+use Rattle.wp_core.specs.World.{Participant}
+use Rattle.wp_core.proofs.KeepsSeen.{shorter}
+use Rattle.wp_core.proofs.Registered.{registered_live}
+use Rattle.wp_core.proofs.Tests.{same_some}
+use Rattle.wp_rule.proofs.Knows.{at_sound, one_was_first}
+use Rattle.wp_parts.specs.Parts.{content}
+use Rattle.wp_shared.specs.Seats.{SharedState, SeatState, place_at}
+use Rattle.wp_read.specs.Registers as pins
+use Rattle.wp_maint.specs.declared.done.Done.{Done}
+use Rattle.wp_maint.specs.declared.error.MaintError.{MaintError}
+use Rattle.wp_maint.specs.declared.error.MaintError.TheVariants.{Memory, Nothing, TableFault, TablesStopped}
+use Rattle.wp_maint.specs.Calls.{found_by, FewTables, SeveralTables, HasPinned, IsCompactionOf, Compacts}
+use Rattle.wp_replies.specs.Client.{Client, numbers_of}
+use Rattle.wp_replies.specs.Progress.{Progress}
+use Rattle.wp_replies.specs.Replies.{Evidence, OtherCompacted, IsKnown, HasNothingToMerge, FailsCompaction}
+use Rattle.wp_replies.specs.Tables.{after_compaction}
+use Rattle.wp_sole_client.proofs.Retained.{numbers_in}
+use Rattle.wp_sole_client.proofs.Compacting.{compacted_alone, nothing_compacted_alone, compact_failed_alone, compact_halted_alone}
+use Rattle.wp_answers.specs.Agrees.{Agrees}
+use Rattle.wp_answers.specs.Answers.{IsExplained, Answers, BreaksOff, IsDue, IsAnswered}
+use Rattle.wp_answers.specs.declared.holdings.HeldSnapshot.{HeldSnapshot}
+use Rattle.wp_answers.specs.Holdings.{HoldingsState, txn_of, labelled, client_of, snapshot_of, times_registered, Holds}
+use Rattle.wp_answers.specs.Replies.{tables_refusal}
+use Rattle.wp_answers.proofs.Growing.{taken_old}
+use Rattle.wp_answers.proofs.Labelled.{is_registered, times_there}
+use Rattle.wp_answers.proofs.Maintaining.{of_two, compaction_is, tables_answers, halted_answers, nothing_answers, failed_answers}
+use Rattle.wp_answers.proofs.Staying.{holds_still, keeps_holds, broke_off}
+
+-- ---- the client's snapshots are among those that were live
+
+among_contains : (xs : List ℕ) (n : ℕ) → Contains xs n → list_any (λ m. m == n) xs ≡ true
+among_contains xs n k = list_any_at (λ m. m == n) xs k.0 n k.1 (eq-eqb (slice_index_or xs k.0 n) n k.2)
+
+-- a number is that of one of them
+number_there : (xs : List HeldSnapshot) (n : ℕ) → list_any (λ m. m == n) (numbers_of (map labelled xs)) ≡ true → (front : List HeldSnapshot) × (s : HeldSnapshot) × (back : List HeldSnapshot) × (xs ≡ front ++ s ∷ back) × (s.snapshot.number ≡ n)
+number_there [] n there = absurd cc
+number_there (x ∷ xs) n there =
+    elim (cases_Bool (x.snapshot.number == n)) [
+      | inl same ↦ ([], x, xs, refl, eqb-true x.snapshot.number n same)
+      | inr differs ↦ let k = number_there xs n (rw differs at there) in (x ∷ k.0, k.1, k.2, ap (λ (ys : List HeldSnapshot). x ∷ ys) k.3, k.4)
+    ]
+
+-- the registrations have the numbers of the snapshots
+numbers_held : (xs : List HeldSnapshot) → numbers_in (map snapshot_of xs) ≡ numbers_of (map labelled xs)
+numbers_held [] = refl
+numbers_held (x ∷ xs) = ap (λ (ns : List ℕ). x.snapshot.number ∷ ns) (numbers_held xs)
+
+module _ {D : Type 0} (z : SharedState D) (old new : SeatState) where
+  abbrev it : Participant
+  it = old.knows.participant
+
+  abbrev seen : List Entry
+  seen = new.knows.participant.seen
+
+  -- the floor is a number that the seat has seen, and no earlier than what it had seen before
+  floor_within : (floor : ℕ) (live : List ℕ) → HasPinned z old new floor live → (length it.seen ≤ floor) × (floor ≤ length seen)
+  floor_within floor live k = let more = shorter (take floor seen) it.seen k.later in let size = length-take-le floor seen k.within in (omega (arith, more, size), k.within)
+
+  -- ---- a compaction
+
+  module _ (client : Client) where
+    compacted_beside : (done : Done) → Compacts z old (Ok done) new → Answers z old new client client command.Compact (reply.Compacted done.at done.versions)
+    compacted_beside done (t, k) =
+        let edit = after_compaction (take done.at seen) k.live t.last in let event : Event = found_by z old new t k.found in let made : Event = installed edit true in let bounds = floor_within done.at k.live k.pinned in
+        tables_answers z old new command.Compact compaction_is client (reply.Compacted done.at done.versions) (event ∷ made ∷ []) k.goes_on
+        (record {
+          acknowledges = refl;
+          tables = λ before. ap (λ (v : ℕ). min v 1) k.versions;
+          labels = λ before. refl;
+          log_failed = refl;
+          tables_failed = refl;
+          remembered = tt;
+          explained = of_two (IsExplained it.client client.txn command.Compact (Some (reply.Compacted done.at done.versions))) event made tt refl;
+        })
+        refl (λ before low. bounds.1)
+        (λ first is_first before p e agrees. let low = p.last in let from = bounds.0 in let to = bounds.1 in let high = shorter e.history seen agrees.seen in (
+          (omega (arith, low, from), omega (arith, to, high)),
+          subst (λ (h : List Entry). done.versions ≤ length (later_versions h 0)) (sym (taken_old e.history seen done.at agrees.seen bounds.1)) k.few,
+        ))
+
+    nothing_row : (t : Installed) (due : ℕ) → t.last.tables < 2 → (before : Progress) → before.tables ≡ due → (e : Evidence) → (t.last.tables < due → IsKnown e OtherCompacted) → HasNothingToMerge e before.tables
+    nothing_row t due few before same e known =
+        elim (cases_Bool (nat_lt before.tables 2)) [
+          | inl less ↦ inl (let l = less in grind (arith, nat_tests))
+          | inr most ↦ inr (known (let m = most in let is = same in let f = few in grind (arith, nat_tests)))
+        ]
+
+    pub not_compacted_breaks : (why : MaintError) → tables_refusal why ≡ None → Compacts z old (Err why) new → BreaksOff old new client command.Compact
+    not_compacted_breaks Memory none (t, goes) = broke_off z old new client command.Compact goes
+    not_compacted_breaks Nothing none f = absurd cc
+    not_compacted_breaks TableFault none f = absurd cc
+    not_compacted_breaks (TablesStopped flushed) none f = absurd cc
+
+  module _ (h : HoldingsState) (has : Holds z old h) where
+    -- what the client has registered was live, and so it is among what was pinned
+    own_live : (floor : ℕ) (live : List ℕ) → HasPinned z old new floor live → (n : ℕ) → list_any (λ m. m == n) (numbers_of (client_of h).snapshots) ≡ true → list_any (λ m. m == n) live ≡ true
+    own_live floor live k n there =
+        let place = number_there h.snapshots n there in let s : Registration = place.1.snapshot in let taken = k.pinned.taken in
+        let registered : IsIn s it.registered = is_registered s it.registered
+        (let held = has.registered s in let are = ap (λ (xs : List HeldSnapshot). times_registered s (map snapshot_of xs)) place.3 in let some = times_there place.0 place.1 place.2 in omega (arith, held, are, some)) in
+        let of_actor : IsIn s taken.actor.participant.registered = subst (λ (p : Participant). IsIn s p.registered) (sym taken.participant) registered in
+        let was_live = (registered_live taken.world.writes.history taken.world.snapshots taken.world.actors old.by taken.actor s taken.there.there of_actor (at_sound (place_at z old.by) taken.actor taken.world taken.there).registrations).0 in
+        let before : IsLive k.pinned.before n = subst (IsLive k.pinned.before) place.4 (subst (λ (m : Snapshots). IsLive m s.number) taken.live was_live) in
+        subst (λ (ns : List ℕ). list_any (λ m. m == n) ns ≡ true) (sym k.live_is) (among_contains (pins.numbers_of k.others) n ((k.pinned.are_live.each n).1 before))
+
+    fails_row : (t : Installed) (asked : Option InstalledEdit) → SeveralTables t.last → IfSome asked (IsCompactionOf (HasPinned z old new) new t.last) → StartsWith seen it.seen → (before : Progress) → before.last ≤ length it.seen → (e : Evidence) → Agrees e z new.knows.participant
+        → e.installed ≡ t.last → e.failed.edit ≡ asked → FailsCompaction e before.last (client_of h)
+    fails_row t None several next grown before low e agrees last failed = let more = shorter seen it.seen grown in record {
+      at = length seen;
+      fresh = (omega (arith, low, more), shorter e.history seen agrees.seen);
+      two = subst (λ (x : InstalledEdit). 2 ≤ x.tables) (sym last) several;
+      snapshots = numbers_of (client_of h).snapshots;
+      own = λ n there. there;
+      edit = subst (λ (o : Option InstalledEdit). IfSome o (λ edit. edit ≡ after_compaction (take (length seen) e.history) (numbers_of (client_of h).snapshots) e.installed)) (sym failed) tt;
+    }
+    fails_row t (Some edit) several next grown before low e agrees last failed = let bounds = floor_within next.floor next.live next.pinned in let from = bounds.0 in let to = bounds.1 in let high = shorter e.history seen agrees.seen in record {
+      at = next.floor;
+      fresh = (omega (arith, low, from), omega (arith, to, high));
+      two = subst (λ (x : InstalledEdit). 2 ≤ x.tables) (sym last) several;
+      snapshots = next.live;
+      own = own_live next.floor next.live next.pinned;
+      edit = subst (λ (o : Option InstalledEdit). IfSome o (λ edit. edit ≡ after_compaction (take next.floor e.history) next.live e.installed)) (sym failed)
+          (subst (λ (x : InstalledEdit). edit ≡ after_compaction (take next.floor e.history) next.live x) (sym last)
+          (subst (λ (hs : List Entry). edit ≡ after_compaction hs next.live t.last) (sym (taken_old e.history seen next.floor agrees.seen bounds.1)) next.edit_is));
+    }
+
+    not_compacted_beside : (why : MaintError) (r : Reply) → tables_refusal why ≡ Some r → Compacts z old (Err why) new → Answers z old new (client_of h) (client_of h) command.Compact r
+    not_compacted_beside Memory r is f = absurd cc
+    not_compacted_beside Nothing r is (t, k) = subst (Answers z old new (client_of h) (client_of h) command.Compact) (same_some reply.Nothing r is)
+        (nothing_answers z old new command.Compact compaction_is (client_of h) t FewTables k
+        (λ first is_first before p e agrees known. nothing_row (client_of h) t (tables_due k.found.world.first_edit it.past) k.idle before
+        (p.tables ∙ ap (λ (edit : InstalledEdit). tables_due edit it.past) (one_was_first content z.first first k.found.world.first_edit is_first k.found.there.first_edit)) e known.2))
+    not_compacted_beside TableFault r is (t, k) = subst (Answers z old new (client_of h) (client_of h) command.Compact) (same_some reply.FaultTables r is)
+        (failed_answers z old new command.Compact compaction_is (client_of h) t (SeveralTables t.last) (IsCompactionOf (HasPinned z old new) new t.last) k (fails_row t k.asked k.busy k.next k.goes_on.seen))
+    not_compacted_beside (TablesStopped flushed) r is (t, k) = subst (Answers z old new (client_of h) (client_of h) command.Compact) (same_some (reply.Halted flushed) r is)
+        (halted_answers z old new command.Compact compaction_is (client_of h) t flushed k)
+
+    pub compacted_answers : (done : Done) → Compacts z old (Ok done) new → IsAnswered z old new (client_of h) (client_of h) command.Compact (reply.Compacted done.at done.versions)
+    compacted_answers done k = (compacted_beside (client_of h) done k, λ world stands only first is_first store so. compacted_alone z first old new only store so (world, stands) is_first (txn_of h.txn) (map labelled h.snapshots) (map snapshot_of h.snapshots) (numbers_held h.snapshots) has.registered done k)
+
+    not_compacted_due : (why : MaintError) (r : Reply) → tables_refusal why ≡ Some r → Compacts z old (Err why) new → IsDue z old new (client_of h) (client_of h) command.Compact r
+    not_compacted_due Memory r is k = absurd cc
+    not_compacted_due Nothing r is k = subst (IsDue z old new (client_of h) (client_of h) command.Compact) (same_some reply.Nothing r is) (λ world stands only first is_first store so. nothing_compacted_alone z first old new only store so (world, stands) is_first (txn_of h.txn) (map labelled h.snapshots) (map snapshot_of h.snapshots) (numbers_held h.snapshots) has.registered k)
+    not_compacted_due TableFault r is k = subst (IsDue z old new (client_of h) (client_of h) command.Compact) (same_some reply.FaultTables r is) (λ world stands only first is_first store so. compact_failed_alone z first old new only store so (world, stands) is_first (txn_of h.txn) (map labelled h.snapshots) (map snapshot_of h.snapshots) (numbers_held h.snapshots) has.registered k)
+    not_compacted_due (TablesStopped flushed) r is k = subst (IsDue z old new (client_of h) (client_of h) command.Compact) (same_some (reply.Halted flushed) r is) (λ world stands only first is_first store so. compact_halted_alone z first old new only store so (world, stands) is_first (txn_of h.txn) (map labelled h.snapshots) (map snapshot_of h.snapshots) (numbers_held h.snapshots) has.registered flushed k)
+
+    pub not_compacted_answers : (why : MaintError) (r : Reply) → tables_refusal why ≡ Some r → Compacts z old (Err why) new → IsAnswered z old new (client_of h) (client_of h) command.Compact r
+    not_compacted_answers why r is k = (not_compacted_beside why r is k, not_compacted_due why r is k)
+
+  -- what the client has then: what it had
+  pub compaction_holds : (answer : Result Done MaintError) → Compacts z old answer new → (h : HoldingsState) → Holds z old h → Holds z new h
+  compaction_holds (Ok done) (t, k) = holds_still z old new _ refl refl refl k.goes_on
+  compaction_holds (Err Memory) (t, goes) = keeps_holds z old new goes
+  compaction_holds (Err Nothing) (t, k) = holds_still z old new _ refl refl refl k.goes_on
+  compaction_holds (Err TableFault) (t, k) = holds_still z old new _ refl refl refl k.goes_on
+  compaction_holds (Err (TablesStopped flushed)) (t, k) = holds_still z old new _ refl refl refl k.goes_on

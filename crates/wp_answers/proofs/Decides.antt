@@ -1,0 +1,293 @@
+-- What a client is answered that prepares, commits, rolls back, drops or leaves its transaction.
+use Rattle.std.proofs.Common.{◌≡◌, inl, ℕ, suc, ◌<◌, ◌≤◌, false, List, [], ◌∷◌, ◌++◌, length, Option, Some, None, refl, sym, subst, ap, ◌∙◌, append_assoc, arith}
+use Rattle.std.specs.Prelude.{◌≢◌, ◌-◌, unwrap_or}
+use Rattle.std.specs.Str.{bytes_eq}
+use Rattle.std.proofs.lemmas.List.{length-append}
+use Rattle.std.specs.FinMap as finite
+use mathlib.Core.List.{append-nil}
+use Rattle.wp_model.specs.declared.entry.Entry.{Entry}
+use Rattle.wp_model.specs.declared.entry.Entry.TheVariants as entry
+use Rattle.wp_model.specs.History.{entry_at}
+use Rattle.wp_model.proofs.Entries.{entry_at_old, slice_get_next}
+use Rattle.wp_model.specs.Legal.{prior}
+use Rattle.wp_text.specs.declared.script.Command.{Command}
+use Rattle.wp_text.specs.declared.script.Command.TheVariants as command
+use Rattle.wp_text.specs.declared.reply.Reply.{Reply}
+use Rattle.wp_text.specs.declared.reply.Reply.TheVariants as reply
+use Rattle.wp_core.specs.Sound.Actors.{StartsWith}
+use Rattle.wp_core.specs.Views.{Fact}
+use Rattle.wp_core.specs.World.{Participant, Transactions}
+use Rattle.wp_core.proofs.KeepsSeen.{shorter}
+use Rattle.wp_records.specs.Records.{numbers_behind}
+use Rattle.wp_shared.specs.Calls.{ContinuesWith}
+use Rattle.wp_shared.specs.Seats.{SharedState, SeatState}
+use Rattle.wp_txn.specs.declared.error.TxnError.{TxnError}
+use Rattle.wp_txn.specs.declared.error.TxnError.TheVariants.{Silent}
+use Rattle.wp_txn.specs.Calls.{Keeps, without_transaction, GivesUp}
+use Rattle.wp_txn.specs.Txn.{OpenState, PreparedState, HasPrepared}
+use Rattle.wp_txn.specs.Writes.{Prepares, Ends, CommitsNow, Commits, RollsBack, RefusesOpen, RefusesPrepared, AsksCommit, AsksRollback}
+use Rattle.wp_replies.specs.declared.client.LabelledSnapshot.{LabelledSnapshot}
+use Rattle.wp_replies.specs.declared.client.Txn.{Txn}
+use Rattle.wp_replies.specs.declared.client.Txn.TheVariants.{Idle, Open, Prepared}
+use Rattle.wp_replies.specs.Client.{Client}
+use Rattle.wp_replies.specs.After.{after_reply}
+use Rattle.wp_replies.specs.Kind.{acknowledged, fresh_in, last_after}
+use Rattle.wp_replies.specs.Progress.{Progress, heard_after}
+use Rattle.wp_replies.specs.Replies.{Evidence, IsLoggedAt, Row, UnlessRefused, refusal_of, Allows}
+use Rattle.wp_replies.specs.Plan.{next}
+use Rattle.wp_sole_client.proofs.Decisions.{prepared_alone, committed_now_alone, open_stopped_alone, open_full_alone, open_fault_alone, prepare_asks, commit_now_asks, committed_alone, rolled_back_alone, commit_stopped_alone, commit_full_alone, commit_fault_alone, rollback_stopped_alone, rollback_full_alone, rollback_fault_alone, dropped_alone, left_alone}
+use Rattle.wp_answers.specs.declared.holdings.HeldTxn.{HeldTxn}
+use Rattle.wp_answers.specs.declared.holdings.HeldTxn.TheVariants as held
+use Rattle.wp_answers.specs.Answers.{Answers, BreaksOff, IsDue, IsAnswered}
+use Rattle.wp_answers.specs.Holdings.{HoldsTxn, HoldsFrom}
+use Rattle.wp_answers.specs.Replies.{refusal}
+use Rattle.wp_answers.proofs.Fitting.{Fits, else_answers, one_answers, last_entry}
+use Rattle.wp_answers.proofs.Clients.{having, holds_from}
+use Rattle.wp_answers.proofs.Growing.{progress_still}
+use Rattle.wp_answers.proofs.Reading.{keeps_answers}
+use Rattle.wp_answers.proofs.Refused.{IsLogged, none_before, by_refusal, refused_answers, refused_holds, refused_memory}
+use Rattle.wp_answers.proofs.Staying.{in_place, broke_off_after, none_left, has_now, holds_now}
+
+-- ---- the state refuses the command
+
+pub state_answers : {D : Type 0} (z : SharedState D) (old new : SeatState) (client : Client) (c : Command) → refusal_of client c ≡ Some reply.State → fresh_in c reply.State ≡ None → ((before : List (List ℕ)) → heard_after before c reply.State ≡ before) → Keeps z old new
+    → Answers z old new client client c reply.State
+state_answers z old new client c refused fresh labels goes =
+    keeps_answers z old new client client c reply.State goes (record { acknowledges = refl; tables = λ before. refl; labels = labels; log_failed = refl; tables_failed = refl; remembered = tt }) refl
+    (λ before low. subst (λ (o : Option ℕ). unwrap_or o before ≤ length new.knows.participant.seen) (sym fresh) low)
+    (λ first is_first before p e agrees. subst (λ (o : Option Reply). UnlessRefused o reply.State (Row e before client 0 c reply.State)) (sym refused) refl)
+
+-- ---- one entry
+
+module _ {D : Type 0} (z : SharedState D) (old new : SeatState) (snapshots : List LabelledSnapshot) where
+  abbrev it : Participant
+  it = old.knows.participant
+
+  pub prepared_answers : (txn : OpenState) (prepared : PreparedState) (n : ℕ) → Prepares z old txn prepared n new → IsAnswered z old new (having (Open txn.name txn.batch) snapshots) (having (Prepared prepared.number) snapshots) command.Prepare (reply.Prepared n)
+  prepared_answers txn prepared n k = (
+    one_answers z old new _ it it k.3.0 (entry.Prepare txn.name txn.batch) [] (having (Open txn.name txn.batch) snapshots) (having (Prepared prepared.number) snapshots) command.Prepare (reply.Prepared n) n k.3.1 k.0 refl refl (sym (append-nil it.past))
+        (record { acknowledges = refl; tables = λ before. refl; labels = λ before. refl; log_failed = refl; tables_failed = refl; remembered = tt; explained = λ event there. absurd there })
+        (ap (λ (x : PreparedState). having (Prepared x.number) snapshots) k.1) (λ before. refl) (λ before e logged. logged),
+    λ world stands only first is_first store so. prepared_alone z first old new only store so (world, stands) snapshots txn prepared n k,
+  )
+
+  module _ (name : List ℕ) (n : ℕ) where
+    -- its transaction ends by one entry
+    ended_answers : (t : Txn) (made : Entry) → Ends z old name (made ∷ []) n new → refusal_of (having t snapshots) command.Commit ≡ None
+        → ((before : Progress) (e : Evidence) → IsLoggedAt e.history before.last n made → Allows e before (having t snapshots) 0 command.Commit (reply.Committed n)) → Answers z old new (having t snapshots) (having Idle snapshots) command.Commit (reply.Committed n)
+    ended_answers t made k free row =
+        one_answers z old new _ it (without_transaction name it) k.1.0 made [] (having t snapshots) (having Idle snapshots) command.Commit (reply.Committed n) n k.1.1 k.0 refl refl (sym (append-nil it.past))
+        (record { acknowledges = refl; tables = λ before. refl; labels = λ before. refl; log_failed = refl; tables_failed = refl; remembered = tt; explained = λ event there. absurd there })
+        refl (λ before. refl) row
+
+  pub committed_now_answers : (txn : OpenState) (n : ℕ) → CommitsNow z old txn n new → IsAnswered z old new (having (Open txn.name txn.batch) snapshots) (having Idle snapshots) command.Commit (reply.Committed n)
+  committed_now_answers txn n k = (
+    ended_answers txn.name n (Open txn.name txn.batch) (entry.Write txn.batch) k refl (λ before e logged. logged),
+    λ world stands only first is_first store so. committed_now_alone z first old new only store so (world, stands) snapshots txn n k,
+  )
+
+  pub committed_answers : (txn : PreparedState) (n : ℕ) → Commits z old txn n new → IsAnswered z old new (having (Prepared txn.number) snapshots) (having Idle snapshots) command.Commit (reply.Committed n)
+  committed_answers txn n k = (
+    ended_answers txn.name n (Prepared txn.number) (entry.Commit txn.number) k.0 refl (λ before e logged. logged),
+    λ world stands only first is_first store so. committed_alone z first old new only store so (world, stands) snapshots txn n k,
+  )
+
+  -- ---- no entry
+
+  given_up_answers : (name : List ℕ) (t : Txn) (c : Command) (r : Reply) → GivesUp z old new name → Fits c r [] [] it.client t → having Idle snapshots ≡ after_reply 0 (having t snapshots) c r
+      → ((before : ℕ) → last_after before c r ≡ before) → ((e : Evidence) (before : Progress) → Allows e before (having t snapshots) 0 c r) → Answers z old new (having t snapshots) (having Idle snapshots) c r
+  given_up_answers name t c r goes fits is last row =
+      else_answers z old new _ (without_transaction name it) [] (having t snapshots) (having Idle snapshots) c r 0 goes refl refl (sym (append-nil it.past)) fits is
+      (λ before low. let same = last before in omega (arith, same, low)) (λ first is_first before p e agrees. row e before)
+
+  pub dropped_answers : (txn : OpenState) → GivesUp z old new txn.name → IsAnswered z old new (having (Open txn.name txn.batch) snapshots) (having Idle snapshots) command.Rollback reply.Dropped
+  dropped_answers txn goes = (
+    given_up_answers txn.name (Open txn.name txn.batch) command.Rollback reply.Dropped goes
+        (record { acknowledges = refl; tables = λ before. refl; labels = λ before. refl; log_failed = refl; tables_failed = refl; remembered = tt; explained = λ event there. absurd there })
+        refl (λ before. refl) (λ e before. tt),
+    λ world stands only first is_first store so. dropped_alone z first old new only store so (world, stands) snapshots txn goes,
+  )
+
+  pub left_answers : (txn : PreparedState) → GivesUp z old new txn.name → IsAnswered z old new (having (Prepared txn.number) snapshots) (having Idle snapshots) command.Leave reply.Left
+  left_answers txn goes = (
+    given_up_answers txn.name (Prepared txn.number) command.Leave reply.Left goes
+        (record { acknowledges = refl; tables = λ before. refl; labels = λ before. refl; log_failed = refl; tables_failed = refl; remembered = tt; explained = λ event there. absurd there })
+        refl (λ before. refl) (λ e before. tt),
+    λ world stands only first is_first store so. left_alone z first old new only store so (world, stands) snapshots txn goes,
+  )
+
+-- ---- a rollback: two entries
+
+-- the numbers of the last two
+two_numbers : (history seen : List Entry) (undo close : Entry) (n : ℕ) → seen ≡ history ++ undo ∷ close ∷ [] → n ≡ length seen → n ≡ suc (suc (length history))
+two_numbers history seen undo close n ends is =
+    let size = ap (λ (l : List Entry). length l) ends in let more = length-append history (undo ∷ close ∷ []) in omega (arith, size, more, is)
+
+module _ {D : Type 0} (z : SharedState D) (old new : SeatState) (txn : PreparedState) (n : ℕ) (snapshots : List LabelledSnapshot) (k : RollsBack z old txn n new) where
+  abbrev seen : List Entry
+  seen = new.knows.participant.seen
+
+  abbrev history : List Entry
+  history = k.1.0
+
+  abbrev undo : Entry
+  undo = entry.Undo txn.number (prior history txn.batch)
+
+  abbrev close : Entry
+  close = entry.Close txn.number
+
+  number_is : n ≡ suc (suc (length history))
+  number_is = two_numbers history seen undo close n k.1.1.seen k.0
+
+  later_two : (before : Progress) → before.last ≤ length old.knows.participant.seen → (before.last < n) × (before.last < n - 1)
+  later_two before low = let more = shorter history old.knows.participant.seen k.1.1.grown in let is = number_is in (omega (arith, low, more, is), omega (arith, low, more, is))
+
+  close_there : (h : List Entry) → StartsWith h seen → entry_at h n ≡ Some close
+  close_there h starts = last_entry h seen (history ++ undo ∷ []) close n starts (k.1.1.seen ∙ sym (append_assoc history (undo ∷ []) (close ∷ []))) k.0
+
+  undo_there : (h : List Entry) → StartsWith h seen → entry_at h (n - 1) ≡ Some undo
+  undo_there h starts = let is = number_is in let one : n - 1 ≡ suc (length history) = omega (arith, is) in let size = k.0 in
+      ap (λ (l : List Entry). entry_at l (n - 1)) starts.1 ∙ (entry_at_old seen starts.0 (n - 1) (omega (arith, size)) ∙ (ap (λ (l : List Entry). entry_at l (n - 1)) k.1.1.seen
+      ∙ (ap (entry_at (history ++ undo ∷ close ∷ [])) one ∙ slice_get_next history undo (close ∷ []))))
+
+  own_two : numbers_behind (length history) (undo ∷ close ∷ []) ≡ acknowledged (reply.RolledBack n)
+  own_two = let is = number_is in let one : suc (length history) ≡ n - 1 = omega (arith, is) in let two : suc (suc (length history)) ≡ n = omega (arith, is) in
+      ap (λ (m : ℕ). m ∷ suc (suc (length history)) ∷ []) one ∙ ap (λ (m : ℕ). (n - 1) ∷ m ∷ []) two
+
+  rolled_back_beside : Answers z old new (having (Prepared txn.number) snapshots) (having Idle snapshots) command.Rollback (reply.RolledBack n)
+  rolled_back_beside = let goes = k.1.1.goes_on in
+      let grown : new.knows.participant.past ≡ old.knows.participant.past ++ [] = ap (λ (p : Participant). p.past) goes.participant ∙ sym (append-nil old.knows.participant.past) in record {
+        stays = in_place _ z old new _ goes refl;
+        own = ap (λ (p : Participant). p.own) goes.participant ∙ ap (λ (ns : List ℕ). old.knows.participant.own ++ ns) own_two;
+        events = [];
+        past = grown;
+        explained = λ event there. absurd there;
+        log_failed = refl;
+        tables_failed = refl;
+        remembered = tt;
+        number = 0;
+        after = refl;
+        progress = λ first is_first before p. progress_still first old.knows.participant new.knows.participant [] before _ grown (λ due. refl) p (let is = k.0 in omega (arith, is)) refl (λ label known. inl known);
+        allowed = λ first is_first before p e agrees. let low = later_two before p.last in ((low.0, close_there e.history agrees.seen), (prior history txn.batch, (low.1, undo_there e.history agrees.seen)));
+      }
+
+  pub rolled_back_answers : HasPrepared old txn.name txn.number txn.batch → IsAnswered z old new (having (Prepared txn.number) snapshots) (having Idle snapshots) command.Rollback (reply.RolledBack n)
+  rolled_back_answers has = (rolled_back_beside, λ world stands only first is_first store so. rolled_back_alone z first old new only store so (world, stands) snapshots txn has n k)
+
+-- ---- what the client has then
+
+module _ {D : Type 0} (z : SharedState D) (old new : SeatState) where
+  -- the transaction of this name is gone, which was the only one
+  gone : (Kept : Fact → Type 0) (after : Participant) (t : HeldTxn) (name : List ℕ) → ContinuesWith Kept z old new after → after.transactions ≡ (without_transaction name old.knows.participant).transactions → after.direct ≡ old.knows.participant.direct → after.registered ≡ old.knows.participant.registered
+      → HoldsTxn z old t → ((other : List ℕ) → bytes_eq name other ≡ false → finite.get old.knows.participant.transactions other ≡ None) → HoldsFrom z old new t held.Idle
+  gone Kept after t name goes ts direct registered has others =
+      holds_now Kept z old new after goes t held.Idle registered (has_now Kept z old new after goes t held.Idle direct has tt
+      (λ other free. ap (λ (x : Transactions). finite.get x other) ts ∙ none_left old.knows.participant.transactions name others other))
+
+  pub given_up_open : (txn : OpenState) → HoldsTxn z old (held.Open txn) → GivesUp z old new txn.name → HoldsFrom z old new (held.Open txn) held.Idle
+  given_up_open txn has goes = gone _ (without_transaction txn.name old.knows.participant) (held.Open txn) txn.name goes refl refl refl has has.only
+
+  pub given_up_prepared : (txn : PreparedState) → HoldsTxn z old (held.Prepared txn) → GivesUp z old new txn.name → HoldsFrom z old new (held.Prepared txn) held.Idle
+  given_up_prepared txn has goes = gone _ (without_transaction txn.name old.knows.participant) (held.Prepared txn) txn.name goes refl refl refl has has.only
+
+  pub committed_now_holds : (txn : OpenState) (n : ℕ) → HoldsTxn z old (held.Open txn) → CommitsNow z old txn n new → HoldsFrom z old new (held.Open txn) held.Idle
+  committed_now_holds txn n has k = gone _ _ (held.Open txn) txn.name k.1.1.goes_on refl refl refl has has.only
+
+  pub committed_holds : (txn : PreparedState) (n : ℕ) → HoldsTxn z old (held.Prepared txn) → Commits z old txn n new → HoldsFrom z old new (held.Prepared txn) held.Idle
+  committed_holds txn n has k = gone _ _ (held.Prepared txn) txn.name k.0.1.1.goes_on refl refl refl has has.only
+
+  pub rolled_back_holds : (txn : PreparedState) (n : ℕ) → HoldsTxn z old (held.Prepared txn) → RollsBack z old txn n new → HoldsFrom z old new (held.Prepared txn) held.Idle
+  rolled_back_holds txn n has k = gone _ _ (held.Prepared txn) txn.name k.1.1.goes_on refl refl refl has has.only
+
+  pub prepared_holds : (txn : OpenState) (prepared : PreparedState) (n : ℕ) → HoldsTxn z old (held.Open txn) → Prepares z old txn prepared n new → HoldsFrom z old new (held.Open txn) (held.Prepared prepared)
+  prepared_holds txn prepared n has k = let goes = k.3.1.goes_on in let is : PreparedState = record { name = txn.name; number = n; batch = txn.batch } in
+      subst (λ (x : PreparedState). HoldsFrom z old new (held.Open txn) (held.Prepared x)) (sym k.1)
+      (holds_now _ z old new _ goes (held.Open txn) (held.Prepared is) refl (has_now _ z old new _ goes (held.Open txn) (held.Prepared is) refl has k.2 has.only))
+
+-- ---- refusals
+
+module _ {D : Type 0} (z : SharedState D) (old new : SeatState) (why : TxnError) where
+  module _ (c : Command) (txn left : OpenState) (made : Entry) (snapshots : List LabelledSnapshot) (logged : IsLogged (having (Open txn.name txn.batch) snapshots) c 1 (λ (entries : List Entry). entries ≡ made ∷ [])) (k : RefusesOpen z old txn made left why new) where
+    pub open_refused_answers : (r : Reply) → refusal why ≡ Some r → Answers z old new (having (Open txn.name txn.batch) snapshots) (having (Open left.name left.batch) snapshots) c r
+    open_refused_answers r is =
+        subst (λ (x : OpenState). Answers z old new (having (Open txn.name txn.batch) snapshots) (having (Open x.name x.batch) snapshots) c r) (sym k.0)
+        (refused_answers z old new (having (Open txn.name txn.batch) snapshots) c 1 (λ (entries : List Entry). entries ≡ made ∷ []) logged old.knows.participant old.knows.participant [] refl refl (sym (append-nil old.knows.participant.past)) (none_before (having (Open txn.name txn.batch) snapshots) c old.knows.participant.client) why r is k.2)
+
+    pub open_refused_named : why ≢ Silent
+    open_refused_named is = (subst (λ (w : TxnError). RefusesOpen z old txn made left w new) is k).2
+
+    pub open_refused_breaks : refusal why ≡ None → BreaksOff old new (having (Open txn.name txn.batch) snapshots) c
+    open_refused_breaks none = broke_off_after _ z old new old.knows.participant (refused_memory z old new 1 (λ (entries : List Entry). entries ≡ made ∷ []) old.knows.participant old.knows.participant why none k.2) [] (having (Open txn.name txn.batch) snapshots) c refl refl (sym (append-nil old.knows.participant.past)) (λ event there. absurd there) refl refl
+
+  pub open_refused_holds : (txn left : OpenState) (made : Entry) → RefusesOpen z old txn made left why new → HoldsFrom z old new (held.Open txn) (held.Open left)
+  open_refused_holds txn left made k = subst (λ (x : OpenState). HoldsFrom z old new (held.Open txn) (held.Open x)) (sym k.0)
+      (holds_from z old new (held.Open txn) (refused_holds z old new 1 (λ (entries : List Entry). entries ≡ made ∷ []) old.knows.participant old.knows.participant refl refl refl why k.2))
+
+  module _ (c : Command) (txn left : PreparedState) (needs : ℕ) (Asks : List Entry → PreparedState → List Entry → Type 0) (snapshots : List LabelledSnapshot) (logged : IsLogged (having (Prepared txn.number) snapshots) c needs (Asks new.knows.participant.seen txn)) (k : RefusesPrepared z old txn needs Asks left why new) where
+    pub prepared_refused_answers : (r : Reply) → refusal why ≡ Some r → Answers z old new (having (Prepared txn.number) snapshots) (having (Prepared left.number) snapshots) c r
+    prepared_refused_answers r is =
+        subst (λ (x : PreparedState). Answers z old new (having (Prepared txn.number) snapshots) (having (Prepared x.number) snapshots) c r) (sym k.0)
+        (refused_answers z old new (having (Prepared txn.number) snapshots) c needs (Asks new.knows.participant.seen txn) logged old.knows.participant old.knows.participant [] refl refl (sym (append-nil old.knows.participant.past)) (none_before (having (Prepared txn.number) snapshots) c old.knows.participant.client) why r is k.2)
+
+    pub prepared_refused_named : why ≢ Silent
+    prepared_refused_named is = (subst (λ (w : TxnError). RefusesPrepared z old txn needs Asks left w new) is k).2
+
+    pub prepared_refused_breaks : refusal why ≡ None → BreaksOff old new (having (Prepared txn.number) snapshots) c
+    prepared_refused_breaks none = broke_off_after _ z old new old.knows.participant (refused_memory z old new needs (Asks new.knows.participant.seen txn) old.knows.participant old.knows.participant why none k.2) [] (having (Prepared txn.number) snapshots) c refl refl (sym (append-nil old.knows.participant.past)) (λ event there. absurd there) refl refl
+
+  pub prepared_refused_holds : (txn left : PreparedState) (needs : ℕ) (Asks : List Entry → PreparedState → List Entry → Type 0) → RefusesPrepared z old txn needs Asks left why new → HoldsFrom z old new (held.Prepared txn) (held.Prepared left)
+  prepared_refused_holds txn left needs Asks k = subst (λ (x : PreparedState). HoldsFrom z old new (held.Prepared txn) (held.Prepared x)) (sym k.0)
+      (holds_from z old new (held.Prepared txn) (refused_holds z old new needs (Asks new.knows.participant.seen txn) old.knows.participant old.knows.participant refl refl refl why k.2))
+
+-- what is due where the log refuses it
+module _ {D : Type 0} (z : SharedState D) (old new : SeatState) (why : TxnError) (r : Reply) (is : refusal why ≡ Some r) (snapshots : List LabelledSnapshot) where
+  abbrev finder : Participant
+  finder = old.knows.participant
+
+  module _ (txn left : OpenState) where
+    pub prepare_refused_due : RefusesOpen z old txn (entry.Prepare txn.name txn.batch) left why new → IsDue z old new (having (Open txn.name txn.batch) snapshots) (having (Open left.name left.batch) snapshots) command.Prepare r
+    prepare_refused_due k =
+        by_refusal z old new 1 (λ (entries : List Entry). entries ≡ entry.Prepare txn.name txn.batch ∷ []) finder finder (IsDue z old new (having (Open txn.name txn.batch) snapshots) (having (Open left.name left.batch) snapshots) command.Prepare)
+        (λ published limit f. λ world stands only first is_first store so. open_full_alone z first old new only store so (world, stands) snapshots txn left command.Prepare (reply.Prepared (next store.history)) (entry.Prepare txn.name txn.batch) (prepare_asks z first old new only store so (world, stands) snapshots txn) published limit (k.0, k.1, f))
+        (λ n f. λ world stands only first is_first store so. open_stopped_alone z first old new only store so (world, stands) snapshots txn left command.Prepare (reply.Prepared (next store.history)) (entry.Prepare txn.name txn.batch) (prepare_asks z first old new only store so (world, stands) snapshots txn) n (k.0, k.1, f))
+        (λ f. λ world stands only first is_first store so. open_fault_alone z first old new only store so (world, stands) snapshots txn left command.Prepare (reply.Prepared (next store.history)) (entry.Prepare txn.name txn.batch) (prepare_asks z first old new only store so (world, stands) snapshots txn) (k.0, k.1, f))
+        why r is k.2
+
+    pub commit_now_refused_due : RefusesOpen z old txn (entry.Write txn.batch) left why new → IsDue z old new (having (Open txn.name txn.batch) snapshots) (having (Open left.name left.batch) snapshots) command.Commit r
+    commit_now_refused_due k =
+        by_refusal z old new 1 (λ (entries : List Entry). entries ≡ entry.Write txn.batch ∷ []) finder finder (IsDue z old new (having (Open txn.name txn.batch) snapshots) (having (Open left.name left.batch) snapshots) command.Commit)
+        (λ published limit f. λ world stands only first is_first store so. open_full_alone z first old new only store so (world, stands) snapshots txn left command.Commit (reply.Committed (next store.history)) (entry.Write txn.batch) (commit_now_asks z first old new only store so (world, stands) snapshots txn) published limit (k.0, k.1, f))
+        (λ n f. λ world stands only first is_first store so. open_stopped_alone z first old new only store so (world, stands) snapshots txn left command.Commit (reply.Committed (next store.history)) (entry.Write txn.batch) (commit_now_asks z first old new only store so (world, stands) snapshots txn) n (k.0, k.1, f))
+        (λ f. λ world stands only first is_first store so. open_fault_alone z first old new only store so (world, stands) snapshots txn left command.Commit (reply.Committed (next store.history)) (entry.Write txn.batch) (commit_now_asks z first old new only store so (world, stands) snapshots txn) (k.0, k.1, f))
+        why r is k.2
+
+  module _ (txn left : PreparedState) where
+    pub commit_refused_due : RefusesPrepared z old txn 1 AsksCommit left why new → IsDue z old new (having (Prepared txn.number) snapshots) (having (Prepared left.number) snapshots) command.Commit r
+    commit_refused_due k =
+        by_refusal z old new 1 (AsksCommit new.knows.participant.seen txn) finder finder (IsDue z old new (having (Prepared txn.number) snapshots) (having (Prepared left.number) snapshots) command.Commit)
+        (λ published limit f. λ world stands only first is_first store so. commit_full_alone z first old new only store so (world, stands) snapshots txn left published limit (k.0, k.1, f))
+        (λ n f. λ world stands only first is_first store so. commit_stopped_alone z first old new only store so (world, stands) snapshots txn left n (k.0, k.1, f))
+        (λ f. λ world stands only first is_first store so. commit_fault_alone z first old new only store so (world, stands) snapshots txn left (k.0, k.1, f))
+        why r is k.2
+
+    pub rollback_refused_due : HasPrepared old txn.name txn.number txn.batch → RefusesPrepared z old txn 2 AsksRollback left why new → IsDue z old new (having (Prepared txn.number) snapshots) (having (Prepared left.number) snapshots) command.Rollback r
+    rollback_refused_due has k =
+        by_refusal z old new 2 (AsksRollback new.knows.participant.seen txn) finder finder (IsDue z old new (having (Prepared txn.number) snapshots) (having (Prepared left.number) snapshots) command.Rollback)
+        (λ published limit f. λ world stands only first is_first store so. rollback_full_alone z first old new only store so (world, stands) snapshots txn left has published limit (k.0, k.1, f))
+        (λ n f. λ world stands only first is_first store so. rollback_stopped_alone z first old new only store so (world, stands) snapshots txn left has n (k.0, k.1, f))
+        (λ f. λ world stands only first is_first store so. rollback_fault_alone z first old new only store so (world, stands) snapshots txn left has (k.0, k.1, f))
+        why r is k.2
+
+-- what each command asks the log for
+module _ (snapshots : List LabelledSnapshot) where
+  pub prepare_logged : (txn : OpenState) → IsLogged (having (Open txn.name txn.batch) snapshots) command.Prepare 1 (λ (entries : List Entry). entries ≡ entry.Prepare txn.name txn.batch ∷ [])
+  prepare_logged txn = record { free = refl; some = omega arith; needs_is = refl; asks = λ entries k. k; fresh = λ r. refl; labels = λ before r. refl }
+
+  pub commit_now_logged : (txn : OpenState) → IsLogged (having (Open txn.name txn.batch) snapshots) command.Commit 1 (λ (entries : List Entry). entries ≡ entry.Write txn.batch ∷ [])
+  commit_now_logged txn = record { free = refl; some = omega arith; needs_is = refl; asks = λ entries k. k; fresh = λ r. refl; labels = λ before r. refl }
+
+  pub commit_logged : (history : List Entry) (txn : PreparedState) → IsLogged (having (Prepared txn.number) snapshots) command.Commit 1 (AsksCommit history txn)
+  commit_logged history txn = record { free = refl; some = omega arith; needs_is = refl; asks = λ entries k. k; fresh = λ r. refl; labels = λ before r. refl }
+
+  pub rollback_logged : (history : List Entry) (txn : PreparedState) → IsLogged (having (Prepared txn.number) snapshots) command.Rollback 2 (AsksRollback history txn)
+  rollback_logged history txn = record { free = refl; some = omega arith; needs_is = refl; asks = λ entries k. (prior history txn.batch, k); fresh = λ r. refl; labels = λ before r. refl }

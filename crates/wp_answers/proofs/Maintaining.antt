@@ -1,0 +1,196 @@
+-- What a client is answered that flushes, or compacts.
+use Rattle.std.proofs.Common.{◌≡◌, inl, inr, ℕ, ◌≤◌, true, false, List, [], ◌∷◌, length, take, Option, Some, None, refl, sym, subst, ap, ◌∙◌, arith}
+use Rattle.std.specs.Prelude.{Result, Ok, Err, IfSome, unwrap_or}
+use Rattle.std.proofs.lemmas.Bool.Decides.{nat_tests}
+use Rattle.wp_model.specs.declared.entry.Entry.{Entry}
+use Rattle.wp_model.specs.Flushed.{InstalledEdit, later_versions}
+use Rattle.wp_text.specs.declared.script.Command.{Command}
+use Rattle.wp_text.specs.declared.script.Command.TheVariants as command
+use Rattle.wp_text.specs.declared.reply.Reply.{Reply}
+use Rattle.wp_text.specs.declared.reply.Reply.TheVariants as reply
+use Rattle.wp_core.specs.Lists.{IsIn}
+use Rattle.wp_core.specs.Sound.Actors.{StartsWith}
+use Rattle.wp_core.specs.Sound.Pasts.{tables_due}
+use Rattle.wp_core.specs.Tables.{Installed}
+use Rattle.wp_core.specs.Views.{Event, installed, tables_failed, found_edit}
+use Rattle.wp_core.specs.World.{Participant}
+use Rattle.wp_core.proofs.KeepsSeen.{shorter}
+use Rattle.wp_core.proofs.Tests.{same_some}
+use Rattle.wp_rule.specs.Shows.{WasLast}
+use Rattle.wp_parts.specs.Parts.{content}
+use Rattle.wp_shared.specs.Calls.{Continues, remembering}
+use Rattle.wp_shared.specs.Seats.{SharedState, SeatState}
+use Rattle.wp_maint.specs.declared.done.Done.{Done}
+use Rattle.wp_maint.specs.declared.error.MaintError.{MaintError}
+use Rattle.wp_maint.specs.declared.error.MaintError.TheVariants.{Memory, Nothing, TableFault, TablesStopped}
+use Rattle.wp_maint.specs.Calls.{found_by, IsStopped, HasNothing, HasFailed, HasFlushed, NoneInMemory, Flushes}
+use Rattle.wp_replies.specs.Client.{Client}
+use Rattle.wp_replies.specs.Kind.{number_in, last_after}
+use Rattle.wp_replies.specs.Progress.{Progress, heard_after}
+use Rattle.wp_replies.specs.Replies.{Evidence, WasFlushed, IsKnown, IsHaltedAt, HasNothingToFlush, FailsFlush, refusal_of, Row, UnlessRefused}
+use Rattle.wp_replies.specs.After.{after_reply}
+use Rattle.wp_replies.specs.Tables.{unflushed, after_flush}
+use Rattle.wp_sole_client.proofs.Flushing.{flushed_alone, nothing_flushed_alone, flush_failed_alone, flush_halted_alone}
+use Rattle.wp_answers.specs.Agrees.{Agrees, Knows}
+use Rattle.wp_answers.specs.Answers.{IsProgress, IsExplained, Answers, BreaksOff, IsDue, IsAnswered}
+use Rattle.wp_answers.specs.Holdings.{HoldingsState, Holds}
+use Rattle.wp_answers.specs.Replies.{tables_refusal}
+use Rattle.wp_answers.proofs.Fitting.{Fits, else_answers}
+use Rattle.wp_answers.proofs.Growing.{in_back, of_one, taken_old, seen_taken, last_still}
+use Rattle.wp_answers.proofs.Staying.{holds_still, keeps_holds, broke_off}
+
+-- what is so of the only two
+pub of_two : {X : Type 0} (P : X → Type 0) (x y : X) → P x → P y → (z : X) → IsIn z (x ∷ y ∷ []) → P z
+of_two P x y first second z (inl same) = subst P same first
+of_two P x y first second z (inr there) = of_one P y second z there
+
+-- the command is no other than a flush or a compaction, as far as the client is concerned
+pub record IsOfTables (c : Command) : Type 0 where
+  pub free : (client : Client) → refusal_of client c ≡ None
+  pub last : (before : ℕ) (r : Reply) → last_after before c r ≡ unwrap_or (number_in r) before
+  pub labels : (before : List (List ℕ)) (r : Reply) → heard_after before c r ≡ before
+  pub halted : (e : Evidence) (before : Progress) (client : Client) (flushed : ℕ) → IsHaltedAt e flushed → Row e before client 0 c (reply.Halted flushed)
+
+pub flush_is : IsOfTables command.Flush
+flush_is = record { free = λ client. refl; last = λ before r. refl; labels = λ before r. refl; halted = λ e before client flushed k. k }
+
+pub compaction_is : IsOfTables command.Compact
+compaction_is = record { free = λ client. refl; last = λ before r. refl; labels = λ before r. refl; halted = λ e before client flushed k. k }
+
+module _ {D : Type 0} (z : SharedState D) (old new : SeatState) where
+  abbrev it : Participant
+  it = old.knows.participant
+
+  abbrev seen : List Entry
+  seen = new.knows.participant.seen
+
+  -- what the seat remembers of the call is known
+  pub known_of : (events : List Event) → Continues z old new (remembering events it) → (e : Evidence) → Agrees e z new.knows.participant → (event : Event) → IsIn event events → Knows e event
+  known_of events goes e agrees event there = agrees.past event (subst (IsIn event) (sym (ap (λ (q : Participant). q.past) goes.participant)) (in_back event it.past events there))
+
+  module _ (c : Command) (of : IsOfTables c) (client : Client) where
+    -- the seat goes on as it was, but that it remembers these events
+    pub tables_answers : (r : Reply) (events : List Event) → Continues z old new (remembering events it) → Fits c r [] events it.client client.txn → client ≡ after_reply 0 client c r
+        → ((before : ℕ) → before ≤ length seen → unwrap_or (number_in r) before ≤ length seen)
+        → ((first : InstalledEdit) → WasLast content z.first first → (before : Progress) → IsProgress first it before → (e : Evidence) → Agrees e z new.knows.participant → Row e before client 0 c r)
+        → Answers z old new client client c r
+    tables_answers r events goes fits is low row =
+        else_answers z old new _ (remembering events it) events client client c r 0 goes refl refl refl fits is
+        (λ before lower. subst (λ (n : ℕ). n ≤ length seen) (sym (of.last before r)) (low before lower))
+        (λ first is_first before p e agrees. subst (λ (o : Option Reply). UnlessRefused o r (Row e before client 0 c r)) (sym (of.free client)) (row first is_first before p e agrees))
+
+    -- a device had failed before
+    pub halted_answers : (t : Installed) (flushed : ℕ) → IsStopped (Continues z old new) z old new t flushed → Answers z old new client client c (reply.Halted flushed)
+    halted_answers t flushed k =
+        let event : Event = found_by z old new t k.found in
+        let same : event ≡ found_edit flushed t.last.tables (tables_due k.found.world.first_edit it.past) true = λ i. found_edit (sym k.flushed_is i) t.last.tables (tables_due k.found.world.first_edit it.past) (k.halted i) in
+        tables_answers (reply.Halted flushed) (event ∷ []) k.goes_on
+        (record { acknowledges = refl; tables = λ before. refl; labels = λ before. of.labels before (reply.Halted flushed); log_failed = refl; tables_failed = refl; remembered = (t.last.tables, tables_due k.found.world.first_edit it.past, inl same); explained = of_one (IsExplained it.client client.txn c (Some (reply.Halted flushed))) event tt })
+        refl (λ before low. low)
+        (λ first is_first before p e agrees. let known = known_of (event ∷ []) k.goes_on e agrees event (inl refl) in
+        of.halted e before client flushed (subst (λ (n : ℕ). IsKnown e (WasFlushed n)) (sym k.flushed_is) known.0, known.1 k.halted))
+
+    -- there was nothing to do
+    pub nothing_answers : (t : Installed) (Idle : InstalledEdit → Type 0) (k : HasNothing (Continues z old new) z old new t Idle)
+        → ((first : InstalledEdit) → WasLast content z.first first → (before : Progress) → IsProgress first it before → (e : Evidence) → Agrees e z new.knows.participant → Knows e (found_by z old new t k.found) → Row e before client 0 c reply.Nothing)
+        → Answers z old new client client c reply.Nothing
+    nothing_answers t Idle k row = let event : Event = found_by z old new t k.found in
+        tables_answers reply.Nothing (event ∷ []) k.goes_on
+        (record { acknowledges = refl; tables = λ before. refl; labels = λ before. of.labels before reply.Nothing; log_failed = refl; tables_failed = refl; remembered = tt; explained = of_one (IsExplained it.client client.txn c (Some reply.Nothing)) event tt })
+        refl (λ before low. low)
+        (λ first is_first before p e agrees. row first is_first before p e agrees (known_of (event ∷ []) k.goes_on e agrees event (inl refl)))
+
+    -- a device failed
+    pub failed_answers : (t : Installed) (Busy : Type 0) (IsNext : InstalledEdit → Type 0) (k : HasFailed (Continues z old new) z old new t Busy IsNext)
+        → ((before : Progress) → before.last ≤ length it.seen → (e : Evidence) → Agrees e z new.knows.participant → e.installed ≡ t.last → e.failed.edit ≡ k.asked → Row e before client 0 c reply.FaultTables)
+        → Answers z old new client client c reply.FaultTables
+    failed_answers t Busy IsNext k row =
+        let event : Event = found_by z old new t k.found in let fault : Event = tables_failed t.last k.asked in
+        tables_answers reply.FaultTables (event ∷ fault ∷ []) k.goes_on
+        (record { acknowledges = refl; tables = λ before. refl; labels = λ before. of.labels before reply.FaultTables; log_failed = refl; tables_failed = refl; remembered = tt; explained = of_two (IsExplained it.client client.txn c (Some reply.FaultTables)) event fault tt tt })
+        refl (λ before low. low)
+        (λ first is_first before p e agrees. let known = known_of (event ∷ fault ∷ []) k.goes_on e agrees fault (inr (inl refl)) in
+        row before p.last e agrees known.0 known.1)
+
+  -- ---- a flush
+
+  module _ (client : Client) where
+    flushed_row : (t : Installed) (done : Done) (k : HasFlushed (Continues z old new) z old new t done) (before : Progress) → before.last ≤ length seen → (e : Evidence) → Agrees e z new.knows.participant → IsKnown e (WasFlushed t.last.flushed)
+        → Row e before client 0 command.Flush (reply.Flushed done.at done.versions)
+    flushed_row t done k before low e agrees known =
+        let at = k.at in let high = shorter e.history seen agrees.seen in (
+          (omega (arith, at, low), omega (arith, at, high)),
+          k.some,
+          (
+            t.last.flushed,
+            known,
+            ap (λ (h : List Entry). length (later_versions h t.last.flushed)) (ap (λ (m : ℕ). take m e.history) k.at ∙ seen_taken e.history seen agrees.seen) ∙ sym k.versions,
+          ),
+        )
+
+    flushed_beside : (done : Done) → Flushes z old (Ok done) new → Answers z old new client client command.Flush (reply.Flushed done.at done.versions)
+    flushed_beside done (t, k) =
+        let edit = after_flush seen t.last in let event : Event = found_by z old new t k.found in let made : Event = installed edit false in
+        tables_answers command.Flush flush_is client (reply.Flushed done.at done.versions) (event ∷ made ∷ []) k.goes_on
+        (record {
+          acknowledges = refl;
+          tables = λ before. omega arith;
+          labels = λ before. refl;
+          log_failed = refl;
+          tables_failed = refl;
+          remembered = (edit, sym k.at, inr (inl refl));
+          explained = of_two (IsExplained it.client client.txn command.Flush (Some (reply.Flushed done.at done.versions))) event made tt (let at = k.at in grind (arith, nat_tests));
+        })
+        refl (λ before low. let at = k.at in omega (arith, at))
+        (λ first is_first before p e agrees. flushed_row t done k before (last_still first it new.knows.participant before k.goes_on.seen p) e agrees (known_of (event ∷ made ∷ []) k.goes_on e agrees event (inl refl)).0)
+
+    pub flushed_answers : (done : Done) → Flushes z old (Ok done) new → IsAnswered z old new client client command.Flush (reply.Flushed done.at done.versions)
+    flushed_answers done k = (flushed_beside done k, λ world stands only first is_first store so. flushed_alone z first old new only store so (world, stands) is_first client done k)
+
+    nothing_row : (t : Installed) → NoneInMemory seen t.last → (before : Progress) → before.last ≤ length seen → (e : Evidence) → Agrees e z new.knows.participant → IsKnown e (WasFlushed t.last.flushed) → HasNothingToFlush e before.last
+    nothing_row t none before low e agrees known = let high = shorter e.history seen agrees.seen in
+        (omega (arith, low, high), (t.last.flushed, known, ap (λ (h : List Entry). later_versions h t.last.flushed) (taken_old e.history seen before.last agrees.seen low) ∙ none before.last))
+
+    fails_row : (t : Installed) (asked : Option InstalledEdit) → 1 ≤ length (unflushed seen t.last) → IfSome asked (λ edit. edit ≡ after_flush seen t.last) → StartsWith seen it.seen → (before : Progress) → before.last ≤ length it.seen → (e : Evidence) → Agrees e z new.knows.participant
+        → e.installed ≡ t.last → e.failed.edit ≡ asked → FailsFlush e before.last
+    fails_row t asked some next grown before low e agrees last failed = let there = seen_taken e.history seen agrees.seen in let more = shorter seen it.seen grown in record {
+      at = length seen;
+      fresh = (omega (arith, low, more), shorter e.history seen agrees.seen);
+      some = subst (λ (x : InstalledEdit). 1 ≤ length (unflushed (take (length seen) e.history) x)) (sym last) (subst (λ (h : List Entry). 1 ≤ length (unflushed h t.last)) (sym there) some);
+      edit = subst (λ (o : Option InstalledEdit). IfSome o (λ edit. edit ≡ after_flush (take (length seen) e.history) e.installed)) (sym failed)
+          (subst (λ (x : InstalledEdit). IfSome asked (λ edit. edit ≡ after_flush (take (length seen) e.history) x)) (sym last)
+          (subst (λ (h : List Entry). IfSome asked (λ edit. edit ≡ after_flush h t.last)) (sym there) next));
+    }
+
+    not_flushed_beside : (why : MaintError) (r : Reply) → tables_refusal why ≡ Some r → Flushes z old (Err why) new → Answers z old new client client command.Flush r
+    not_flushed_beside Memory r is f = absurd cc
+    not_flushed_beside Nothing r is (t, (whole, k)) = subst (Answers z old new client client command.Flush) (same_some reply.Nothing r is)
+        (nothing_answers command.Flush flush_is client t (NoneInMemory seen) k
+        (λ first is_first before p e agrees known. nothing_row t k.idle before (last_still first it new.knows.participant before k.goes_on.seen p) e agrees known.0))
+    not_flushed_beside TableFault r is (t, (whole, k)) = subst (Answers z old new client client command.Flush) (same_some reply.FaultTables r is)
+        (failed_answers command.Flush flush_is client t (1 ≤ length (unflushed seen t.last)) (λ edit. edit ≡ after_flush seen t.last) k (fails_row t k.asked k.busy k.next k.goes_on.seen))
+    not_flushed_beside (TablesStopped flushed) r is (t, k) = subst (Answers z old new client client command.Flush) (same_some (reply.Halted flushed) r is)
+        (halted_answers command.Flush flush_is client t flushed k)
+
+    not_flushed_due : (why : MaintError) (r : Reply) → tables_refusal why ≡ Some r → Flushes z old (Err why) new → IsDue z old new client client command.Flush r
+    not_flushed_due Memory r is k = absurd cc
+    not_flushed_due Nothing r is k = subst (IsDue z old new client client command.Flush) (same_some reply.Nothing r is) (λ world stands only first is_first store so. nothing_flushed_alone z first old new only store so (world, stands) is_first client k)
+    not_flushed_due TableFault r is k = subst (IsDue z old new client client command.Flush) (same_some reply.FaultTables r is) (λ world stands only first is_first store so. flush_failed_alone z first old new only store so (world, stands) is_first client k)
+    not_flushed_due (TablesStopped flushed) r is k = subst (IsDue z old new client client command.Flush) (same_some (reply.Halted flushed) r is) (λ world stands only first is_first store so. flush_halted_alone z first old new only store so (world, stands) is_first client flushed k)
+
+    pub not_flushed_answers : (why : MaintError) (r : Reply) → tables_refusal why ≡ Some r → Flushes z old (Err why) new → IsAnswered z old new client client command.Flush r
+    not_flushed_answers why r is k = (not_flushed_beside why r is k, not_flushed_due why r is k)
+
+    pub not_flushed_breaks : (why : MaintError) → tables_refusal why ≡ None → Flushes z old (Err why) new → BreaksOff old new client command.Flush
+    not_flushed_breaks Memory none (t, goes) = broke_off z old new client command.Flush goes
+    not_flushed_breaks Nothing none f = absurd cc
+    not_flushed_breaks TableFault none f = absurd cc
+    not_flushed_breaks (TablesStopped flushed) none f = absurd cc
+
+  -- what the client has then: what it had
+  pub flush_holds : (answer : Result Done MaintError) → Flushes z old answer new → (h : HoldingsState) → Holds z old h → Holds z new h
+  flush_holds (Ok done) (t, k) = holds_still z old new _ refl refl refl k.goes_on
+  flush_holds (Err Memory) (t, goes) = keeps_holds z old new goes
+  flush_holds (Err Nothing) (t, (whole, k)) = holds_still z old new _ refl refl refl k.goes_on
+  flush_holds (Err TableFault) (t, (whole, k)) = holds_still z old new _ refl refl refl k.goes_on
+  flush_holds (Err (TablesStopped flushed)) (t, k) = holds_still z old new _ refl refl refl k.goes_on

@@ -1,0 +1,194 @@
+-- What a client is answered whose command the log does not take.
+use Rattle.std.proofs.Common.{◌≡◌, ⊎_elim, ℕ, ◌+◌, ◌≤◌, List, [], ◌∷◌, ◌++◌, length, Option, Some, None, refl, sym, subst, ap, ◌∙◌, append_assoc, arith}
+use Rattle.std.specs.Prelude.{unwrap_or}
+use Rattle.wp_model.specs.declared.entry.Entry.{Entry}
+use Rattle.wp_model.specs.Flushed.{InstalledEdit}
+use Rattle.wp_text.specs.declared.script.Command.{Command}
+use Rattle.wp_text.specs.declared.reply.Reply.{Reply}
+use Rattle.wp_text.specs.declared.reply.Reply.TheVariants as reply
+use Rattle.wp_core.specs.Lists.{IsIn, one_if}
+use Rattle.wp_core.specs.Sound.Pasts.{is_log_fault, due_after}
+use Rattle.wp_core.specs.Sound.Pasts as pasts
+use Rattle.wp_core.specs.Views.{Event, log_failed, stopped}
+use Rattle.wp_core.specs.World.{Participant}
+use Rattle.wp_core.proofs.KeepsSeen.{shorter}
+use Rattle.wp_core.proofs.PastsGrow.{in_last, in_either, total_more}
+use Rattle.wp_core.proofs.Tests.{same_some}
+use Rattle.wp_shared.specs.Calls.{Continues, remembering}
+use Rattle.wp_shared.specs.Seats.{SharedState, SeatState}
+use Rattle.wp_txn.specs.declared.error.TxnError.{TxnError}
+use Rattle.wp_txn.specs.declared.error.TxnError.TheVariants.{Memory, Taken, Busy, TooMany, Silent, Unknown, InUse, NumbersFull, LogFault, Stopped}
+use Rattle.wp_txn.specs.Writes.{Refuses}
+use Rattle.wp_replies.specs.Client.{Client}
+use Rattle.wp_replies.specs.Kind.{number_in, fresh_in, last_after}
+use Rattle.wp_replies.specs.Progress.{Progress, heard_after}
+use Rattle.wp_replies.specs.Replies.{Evidence, refusal_of, needed, AsksFor, IsFresh, Row, UnlessRefused, Allows}
+use Rattle.wp_answers.specs.Agrees.{Agrees}
+use Rattle.wp_sole_client.specs.Alone.{log_faults, tables_faults}
+use Rattle.wp_answers.specs.Answers.{IsProgress, IsExplained, Answers}
+use Rattle.wp_answers.specs.Holdings.{HoldingsState, Holds}
+use Rattle.wp_answers.specs.Replies.{refusal}
+use Rattle.wp_answers.proofs.Fitting.{else_answers}
+use Rattle.wp_answers.proofs.Growing.{InstallNothing, due_still, last_still}
+use Rattle.wp_answers.proofs.Staying.{holds_still}
+
+-- the log does not take it: its numbers are full, it fails, or it failed before
+abbrev pub IsOfLog : Reply → Type 0
+IsOfLog (reply.Full published most) = Unit {0}
+IsOfLog reply.FaultLog = Unit {0}
+IsOfLog (reply.Stopped n) = Unit {0}
+IsOfLog other = ⊥
+
+-- The command asks the log for so many entries, and such, which the client's own state does not refuse. Its replies have nothing of
+-- labels.
+pub record IsLogged (client : Client) (c : Command) (needs : ℕ) (Asks : List Entry → Type 0) : Type 0 where
+  pub free : refusal_of client c ≡ None
+  pub some : 1 ≤ needs
+  pub needs_is : needed client.txn c ≡ needs
+  pub asks : (entries : List Entry) → Asks entries → AsksFor client.txn c entries
+  pub fresh : (r : Reply) → fresh_in c r ≡ number_in r
+  pub labels : (before : List (List ℕ)) (r : Reply) → heard_after before c r ≡ before
+
+-- these events have nothing of faults and edits, and are explained by the command, unless it was taken by the log
+pub record ComesBefore (client : Client) (c : Command) (name : List ℕ) (front : List Event) : Type 0 where
+  pub log_failed : log_faults front ≡ 0
+  pub tables_failed : tables_faults front ≡ 0
+  pub quiet : InstallNothing front
+  pub explained : (r : Reply) → IsOfLog r → (event : Event) → IsIn event front → IsExplained name client.txn c (Some r) event
+
+pub none_before : (client : Client) (c : Command) (name : List ℕ) → ComesBefore client c name []
+none_before client c name = record { log_failed = refl; tables_failed = refl; quiet = λ due. refl; explained = λ r of_log event there. absurd there }
+
+-- What is so of a refusal of the log, where it is so of the three that have a reply.
+module _ {D : Type 0} (z : SharedState D) (old new : SeatState) (needs : ℕ) (Asks : List Entry → Type 0) (found after : Participant) (P : Reply → Type 0)
+    (full : (published limit : ℕ) → Refuses z old new needs Asks found after (NumbersFull published limit) → P (reply.Full published limit))
+    (halted : (n : ℕ) → Refuses z old new needs Asks found after (Stopped n) → P (reply.Stopped n))
+    (failed : Refuses z old new needs Asks found after LogFault → P reply.FaultLog) where
+  pub by_refusal : (why : TxnError) (r : Reply) → refusal why ≡ Some r → Refuses z old new needs Asks found after why → P r
+  by_refusal (NumbersFull published limit) r is f = subst P (same_some (reply.Full published limit) r is) (full published limit f)
+  by_refusal (Stopped n) r is f = subst P (same_some (reply.Stopped n) r is) (halted n f)
+  by_refusal LogFault r is f = subst P (same_some reply.FaultLog r is) (failed f)
+  by_refusal Memory r is f = absurd cc
+  by_refusal (Taken name) r is f = absurd f
+  by_refusal (Busy holder) r is f = absurd f
+  by_refusal TooMany r is f = absurd f
+  by_refusal Silent r is f = absurd f
+  by_refusal (Unknown name at) r is f = absurd f
+  by_refusal (InUse name) r is f = absurd f
+
+-- ---- one event more
+
+module _ (front : List Event) (last : Event) where
+  log_more : log_faults (front ++ last ∷ []) ≡ log_faults front + one_if (is_log_fault last)
+  log_more = total_more (λ (e : Event). one_if (is_log_fault e)) front last
+
+  tables_more : tables_faults (front ++ last ∷ []) ≡ tables_faults front + one_if (pasts.is_tables_fault last)
+  tables_more = total_more (λ (e : Event). one_if (pasts.is_tables_fault e)) front last
+
+  quiet_more : InstallNothing front → ((due : ℕ) → due_after due last ≡ due) → InstallNothing (front ++ last ∷ [])
+  quiet_more quiet still due = due_still due front (last ∷ []) still ∙ quiet due
+
+module _ {D : Type 0} (z : SharedState D) (old new : SeatState) (client : Client) (c : Command) (needs : ℕ) (Asks : List Entry → Type 0) (logged : IsLogged client c needs Asks) where
+  abbrev it : Participant
+  it = old.knows.participant
+
+  -- a fresh number that is the length of what was seen
+  fresh_number : (first : InstalledEdit) (before : Progress) (e : Evidence) (n : ℕ) (after : Participant) → Continues z old new after → n ≡ length new.knows.participant.seen → IsProgress first it before → Agrees e z new.knows.participant → IsFresh e.history before.last n
+  fresh_number first before e n after goes is k agrees =
+      let low = last_still first it new.knows.participant before goes.seen k in let high = shorter e.history new.knows.participant.seen agrees.seen in (omega (arith, is, low), omega (arith, is, high))
+
+  -- the reply of the log has no number, so the client knows of nothing later
+  same_last : (r : Reply) → number_in r ≡ None → (before : ℕ) → before ≤ length new.knows.participant.seen → last_after before c r ≤ length new.knows.participant.seen
+  same_last r none before low = let is : last_after before c r ≡ before = ap (λ (o : Option ℕ). unwrap_or o before) (logged.fresh r ∙ none) in omega (arith, is, low)
+
+  -- the row of the reply has the last word
+  by_row : (e : Evidence) (before : Progress) (r : Reply) → Row e before client 0 c r → Allows e before client 0 c r
+  by_row e before r row = subst (λ (o : Option Reply). UnlessRefused o r (Row e before client 0 c r)) (sym logged.free) row
+
+  module _ (found after : Participant) (front : List Event) (same_client : after.client ≡ it.client) (own : after.own ≡ it.own) (past : after.past ≡ it.past ++ front) (k : ComesBefore client c it.client front) where
+    -- the past with one event more
+    past_more : (last : Event) → after.past ++ last ∷ [] ≡ it.past ++ (front ++ last ∷ [])
+    past_more last = ap (λ (es : List Event). es ++ last ∷ []) past ∙ append_assoc it.past front (last ∷ [])
+
+    full_answers : (published limit : ℕ) → Refuses z old new needs Asks found after (NumbersFull published limit) → Answers z old new client client c (reply.Full published limit)
+    full_answers published limit f =
+        else_answers z old new _ after front client client c (reply.Full published limit) 0 f.4 same_client own past
+        (record { acknowledges = refl; tables = λ before. sym (k.quiet before); labels = λ before. logged.labels before (reply.Full published limit); log_failed = k.log_failed; tables_failed = k.tables_failed; remembered = tt; explained = k.explained (reply.Full published limit) tt })
+        refl (same_last (reply.Full published limit) refl)
+        (λ first is_first before p e agrees. by_row e before (reply.Full published limit) (
+          (let n = logged.needs_is in let some = logged.some in omega (arith, n, some)),
+          fresh_number first before e published after f.4 f.0 p agrees,
+          f.1 ∙ sym agrees.limit,
+          (let n = logged.needs_is in let low = f.2 in let is = f.1 in let same = agrees.limit in omega (arith, n, low, is, same)),
+        ))
+
+    stopped_answers : (n : ℕ) → Refuses z old new needs Asks found after (Stopped n) → Answers z old new client client c (reply.Stopped n)
+    stopped_answers n f =
+        else_answers z old new _ (remembering (stopped n ∷ []) after) (front ++ stopped n ∷ []) client client c (reply.Stopped n) 0 f.2 same_client own (past_more (stopped n))
+        (record {
+          acknowledges = refl;
+          tables = λ before. sym (quiet_more front (stopped n) k.quiet (λ due. refl) before);
+          labels = λ before. logged.labels before (reply.Stopped n);
+          log_failed = (let m = log_more front (stopped n) in let none = k.log_failed in omega (arith, m, none));
+          tables_failed = (let m = tables_more front (stopped n) in let none = k.tables_failed in omega (arith, m, none));
+          remembered = in_last (stopped n) front;
+          explained = λ event there. ⊎_elim (λ (t : IsIn event front). k.explained (reply.Stopped n) tt event t)
+              (λ (same : stopped n ≡ event). subst (IsExplained it.client client.txn c (Some (reply.Stopped n))) same tt) (in_either event (stopped n) front there);
+        })
+        refl (same_last (reply.Stopped n) refl)
+        (λ first is_first before p e agrees. by_row e before (reply.Stopped n) (
+          (let m = logged.needs_is in let some = logged.some in omega (arith, m, some)),
+          fresh_number first before e n (remembering (stopped n ∷ []) after) f.2 f.0 p agrees,
+          agrees.past (stopped n) (subst (IsIn (stopped n)) (sym (ap (λ (q : Participant). q.past) f.2.participant)) (in_last (stopped n) after.past)),
+        ))
+
+    failed_answers : Refuses z old new needs Asks found after LogFault → Answers z old new client client c reply.FaultLog
+    failed_answers f = let entries = f.2.0 in let goes = f.2.2 in
+        else_answers z old new _ (remembering (log_failed entries ∷ []) after) (front ++ log_failed entries ∷ []) client client c reply.FaultLog 0 goes same_client own (past_more (log_failed entries))
+        (record {
+          acknowledges = refl;
+          tables = λ before. sym (quiet_more front (log_failed entries) k.quiet (λ due. refl) before);
+          labels = λ before. logged.labels before reply.FaultLog;
+          log_failed = (let m = log_more front (log_failed entries) in let none = k.log_failed in omega (arith, m, none));
+          tables_failed = (let m = tables_more front (log_failed entries) in let none = k.tables_failed in omega (arith, m, none));
+          remembered = tt;
+          explained = λ event there. ⊎_elim (λ (t : IsIn event front). k.explained reply.FaultLog tt event t)
+              (λ (same : log_failed entries ≡ event). subst (IsExplained it.client client.txn c (Some reply.FaultLog)) same tt) (in_either event (log_failed entries) front there);
+        })
+        refl (same_last reply.FaultLog refl)
+        (λ first is_first before p e agrees. by_row e before reply.FaultLog
+        (subst (AsksFor client.txn c) (sym (agrees.past (log_failed entries) (subst (IsIn (log_failed entries)) (sym (ap (λ (q : Participant). q.past) goes.participant)) (in_last (log_failed entries) after.past)))) (logged.asks entries f.2.1)))
+
+    -- each refusal of the log, with its reply
+    pub refused_answers : (why : TxnError) (r : Reply) → refusal why ≡ Some r → Refuses z old new needs Asks found after why → Answers z old new client client c r
+    refused_answers = by_refusal z old new needs Asks found after (Answers z old new client client c) full_answers stopped_answers failed_answers
+
+-- ---- what the seat has then
+
+module _ {D : Type 0} (z : SharedState D) (old new : SeatState) (needs : ℕ) (Asks : List Entry → Type 0) (found after : Participant) where
+  -- the client has what it had
+  pub refused_holds : after.transactions ≡ old.knows.participant.transactions → after.direct ≡ old.knows.participant.direct → after.registered ≡ old.knows.participant.registered
+      → (why : TxnError) → Refuses z old new needs Asks found after why → (h : HoldingsState) → Holds z old h → Holds z new h
+  refused_holds ts direct registered Memory f h has = holds_still z old new after ts direct registered f h has
+  refused_holds ts direct registered (Stopped n) f h has = holds_still z old new (remembering (stopped n ∷ []) after) ts direct registered f.2 h has
+  refused_holds ts direct registered (NumbersFull published limit) f h has = holds_still z old new after ts direct registered f.4 h has
+  refused_holds ts direct registered LogFault f h has = holds_still z old new (remembering (log_failed f.2.0 ∷ []) after) ts direct registered f.2.2 h has
+  refused_holds ts direct registered (Taken name) f h has = absurd f
+  refused_holds ts direct registered (Busy holder) f h has = absurd f
+  refused_holds ts direct registered TooMany f h has = absurd f
+  refused_holds ts direct registered Silent f h has = absurd f
+  refused_holds ts direct registered (Unknown name at) f h has = absurd f
+  refused_holds ts direct registered (InUse name) f h has = absurd f
+
+  -- where no reply is due, memory was wanting
+  pub refused_memory : (why : TxnError) → refusal why ≡ None → Refuses z old new needs Asks found after why → Continues z old new after
+  refused_memory Memory none f = f
+  refused_memory (Stopped n) none f = absurd cc
+  refused_memory (NumbersFull published limit) none f = absurd cc
+  refused_memory LogFault none f = absurd cc
+  refused_memory (Taken name) none f = absurd f
+  refused_memory (Busy holder) none f = absurd f
+  refused_memory TooMany none f = absurd f
+  refused_memory Silent none f = absurd f
+  refused_memory (Unknown name at) none f = absurd f
+  refused_memory (InUse name) none f = absurd f

@@ -1,0 +1,188 @@
+-- What a client is answered that writes a change at once.
+use Rattle.std.proofs.Common.{◌≡◌, ⊎_elim, ℕ, ◌≤◌, List, [], ◌∷◌, length, Option, Some, None, refl, sym, subst, ap, arith}
+use Rattle.std.specs.Prelude.{Result, Ok, Err, unwrap_or}
+use Rattle.wp_model.specs.declared.change.Change.{Change}
+use Rattle.wp_model.specs.declared.change.Change.TheVariants as change
+use Rattle.wp_model.specs.declared.entry.Entry.{Entry}
+use Rattle.wp_model.specs.declared.entry.Entry.TheVariants.{Write}
+use Rattle.wp_model.specs.declared.holder.Holder.{Holder}
+use Rattle.wp_model.specs.declared.holder.Holder.TheVariants as holder
+use Rattle.wp_model.specs.Batch.{key_of}
+use Rattle.wp_text.specs.declared.script.Command.TheVariants as command
+use Rattle.wp_text.specs.declared.reply.Reply.{Reply}
+use Rattle.wp_text.specs.declared.reply.Reply.TheVariants as reply
+use Rattle.wp_core.specs.Lists.{IsIn}
+use Rattle.wp_core.specs.Views.{Account, Event, locked, found}
+use Rattle.wp_core.specs.World.{Participant}
+use Rattle.wp_core.proofs.PastsGrow.{in_last}
+use Rattle.wp_core.proofs.Tests.{same_some}
+use Rattle.wp_rule.specs.Accounts.{account_of}
+use Rattle.wp_shared.specs.Calls.{Continues, remembering}
+use Rattle.wp_shared.specs.Seats.{SharedState, SeatState}
+use Rattle.wp_txn.specs.declared.error.TxnError.{TxnError}
+use Rattle.wp_txn.specs.declared.error.TxnError.TheVariants.{Memory, Taken, Busy, TooMany, Silent, Unknown, InUse, NumbersFull, LogFault, Stopped}
+use Rattle.wp_txn.specs.Calls.{Keeps, Finds}
+use Rattle.wp_txn.specs.Writes.{Refuses, wrote_direct, writing_direct, WritesDirect}
+use Rattle.wp_replies.specs.declared.client.LabelledSnapshot.{LabelledSnapshot}
+use Rattle.wp_replies.specs.declared.client.Txn.TheVariants.{Idle}
+use Rattle.wp_replies.specs.Client.{Client}
+use Rattle.wp_replies.specs.After.{after_reply}
+use Rattle.wp_replies.specs.Kind.{number_in, last_after}
+use Rattle.wp_replies.specs.Progress.{Progress, heard_after}
+use Rattle.wp_replies.specs.Replies.{Evidence, IsLoggedAt, IsBusy, Allows}
+use Rattle.wp_sole_client.proofs.Changing.{asking, acknowledging}
+use Rattle.wp_sole_client.proofs.Writes.{written_alone, busy_alone, stopped_alone, full_alone, fault_alone}
+use Rattle.wp_answers.specs.declared.holdings.HeldTxn.TheVariants as held
+use Rattle.wp_answers.specs.Answers.{IsExplained, Answers, BreaksOff, IsDue, IsAnswered}
+use Rattle.wp_answers.specs.Holdings.{HoldingsState, HoldsTxn, Holds}
+use Rattle.wp_answers.specs.Replies.{refusal}
+use Rattle.wp_answers.proofs.Fitting.{Fits, else_answers, one_answers}
+use Rattle.wp_answers.proofs.Clients.{having}
+use Rattle.wp_answers.proofs.Growing.{of_one}
+use Rattle.wp_answers.proofs.Holders.{found_busy}
+use Rattle.wp_answers.proofs.Labels.{itself}
+use Rattle.wp_answers.proofs.Refused.{IsOfLog, IsLogged, ComesBefore, refused_answers, refused_holds}
+use Rattle.wp_answers.proofs.Staying.{holds_still, keeps_holds, broke_off, broke_off_after}
+
+-- ---- by the change
+
+-- no reply to it has anything of labels
+pub labels_same : (c : Change) (before : List (List ℕ)) (r : Reply) → heard_after before (asking c) r ≡ before
+labels_same (change.Put key value) before r = refl
+labels_same (change.Del key) before r = refl
+
+-- a reply without a number leaves the last one
+pub last_same : (c : Change) (r : Reply) (most : ℕ) → number_in r ≡ None → (before : ℕ) → before ≤ most → last_after before (asking c) r ≤ most
+last_same (change.Put key value) r most none before low = subst (λ (o : Option ℕ). unwrap_or o before ≤ most) (sym none) low
+last_same (change.Del key) r most none before low = subst (λ (o : Option ℕ). unwrap_or o before ≤ most) (sym none) low
+
+-- the row of the entry's number
+logged_row : (c : Change) (snapshots : List LabelledSnapshot) (e : Evidence) (before : Progress) (n : ℕ) → IsLoggedAt e.history before.last n (Write (c ∷ [])) → Allows e before (having Idle snapshots) 0 (asking c) (acknowledging c n)
+logged_row (change.Put key value) snapshots e before n logged = (refl, logged)
+logged_row (change.Del key) snapshots e before n logged = (refl, logged)
+
+-- the row of the key's holder
+busy_row : (c : Change) (snapshots : List LabelledSnapshot) (e : Evidence) (before : Progress) (by : Holder) → IsBusy e before.last (key_of c) by → Allows e before (having Idle snapshots) 0 (asking c) (reply.Busy by)
+busy_row (change.Put key value) snapshots e before by k = k
+busy_row (change.Del key) snapshots e before by k = k
+
+-- that the key was locked is explained, whatever is answered but that it is busy
+locked_made : (c : Change) (n : ℕ) (client : List ℕ) → IsExplained client Idle (asking c) (Some (acknowledging c n)) (locked (key_of c) (holder.Client client))
+locked_made (change.Put key value) n client = rw (itself client, itself key) refl
+locked_made (change.Del key) n client = rw (itself client, itself key) refl
+
+locked_refused : (c : Change) (r : Reply) (client : List ℕ) → IsOfLog r → IsExplained client Idle (asking c) (Some r) (locked (key_of c) (holder.Client client))
+locked_refused (change.Put key value) (reply.Full published most) client k = rw (itself client, itself key) refl
+locked_refused (change.Put key value) reply.FaultLog client k = rw (itself client, itself key) refl
+locked_refused (change.Put key value) (reply.Stopped n) client k = rw (itself client, itself key) refl
+locked_refused (change.Put key value) other client k = absurd k
+locked_refused (change.Del key) (reply.Full published most) client k = rw (itself client, itself key) refl
+locked_refused (change.Del key) reply.FaultLog client k = rw (itself client, itself key) refl
+locked_refused (change.Del key) (reply.Stopped n) client k = rw (itself client, itself key) refl
+locked_refused (change.Del key) other client k = absurd k
+
+locked_alone : (c : Change) (client : List ℕ) → IsExplained client Idle (asking c) None (locked (key_of c) (holder.Client client))
+locked_alone (change.Put key value) client = rw (itself client, itself key) refl
+locked_alone (change.Del key) client = rw (itself client, itself key) refl
+
+-- the reply that has the number
+fits_made : (c : Change) (n : ℕ) (client : List ℕ) → Fits (asking c) (acknowledging c n) (n ∷ []) (locked (key_of c) (holder.Client client) ∷ []) client Idle
+fits_made (change.Put key value) n client = record { acknowledges = refl; tables = λ before. refl; labels = λ before. refl; log_failed = refl; tables_failed = refl; remembered = tt; explained = of_one (IsExplained client Idle (command.Put key value) (Some (reply.Put n))) (locked key (holder.Client client)) (locked_made (change.Put key value) n client) }
+fits_made (change.Del key) n client = record { acknowledges = refl; tables = λ before. refl; labels = λ before. refl; log_failed = refl; tables_failed = refl; remembered = tt; explained = of_one (IsExplained client Idle (command.Del key) (Some (reply.Del n))) (locked key (holder.Client client)) (locked_made (change.Del key) n client) }
+
+last_made : (c : Change) (n before : ℕ) → last_after before (asking c) (acknowledging c n) ≡ n
+last_made (change.Put key value) n before = refl
+last_made (change.Del key) n before = refl
+
+client_made : (c : Change) (n : ℕ) (snapshots : List LabelledSnapshot) → having Idle snapshots ≡ after_reply 0 (having Idle snapshots) (asking c) (acknowledging c n)
+client_made (change.Put key value) n snapshots = refl
+client_made (change.Del key) n snapshots = refl
+
+-- what it asks the log for
+writes_logged : (c : Change) (snapshots : List LabelledSnapshot) → IsLogged (having Idle snapshots) (asking c) 1 (λ (entries : List Entry). entries ≡ Write (c ∷ []) ∷ [])
+writes_logged (change.Put key value) snapshots = record { free = refl; some = omega arith; needs_is = refl; asks = λ entries k. k; fresh = λ r. refl; labels = λ before r. refl }
+writes_logged (change.Del key) snapshots = record { free = refl; some = omega arith; needs_is = refl; asks = λ entries k. k; fresh = λ r. refl; labels = λ before r. refl }
+
+-- ---- a write
+
+module _ {D : Type 0} (z : SharedState D) (old new : SeatState) (c : Change) (snapshots : List LabelledSnapshot) where
+  abbrev it : Participant
+  it = old.knows.participant
+
+  abbrev me : Client
+  me = having Idle snapshots
+
+  lock_before : ComesBefore me (asking c) it.client (locked (key_of c) (holder.Client it.client) ∷ [])
+  lock_before = record {
+    log_failed = refl;
+    tables_failed = refl;
+    quiet = λ due. refl;
+    explained = λ r of_log. of_one (IsExplained it.client Idle (asking c) (Some r)) (locked (key_of c) (holder.Client it.client)) (locked_refused c r it.client of_log);
+  }
+
+  pub written_answers : (n : ℕ) → WritesDirect z old c (Ok n) new → IsAnswered z old new me me (asking c) (acknowledging c n)
+  written_answers n w = (
+    one_answers z old new _ _ (wrote_direct (key_of c) it) w.1.0 (Write (c ∷ [])) (locked (key_of c) (holder.Client it.client) ∷ []) me me (asking c) (acknowledging c n) n w.1.1 w.0 refl refl refl
+        (fits_made c n it.client) (client_made c n snapshots) (last_made c n) (λ before e logged. logged_row c snapshots e before n logged),
+    λ world stands only first is_first store so. written_alone z first old new only store so (world, stands) snapshots c n w,
+  )
+
+  busy_answers : (has : HoldsTxn z old held.Idle) (by : Holder) → Finds z old new (Some (key_of c)) by → Answers z old new me me (asking c) (reply.Busy by)
+  busy_answers has by f =
+      let account : Account = account_of it f.world.locks f.published (Some (key_of c)) by in let event : Event = found (Some (key_of c)) by (length it.seen) account in
+      else_answers z old new _ (remembering (event ∷ []) it) (event ∷ []) me me (asking c) (reply.Busy by) 0 f.goes_on refl refl refl
+      (record { acknowledges = refl; tables = λ before. refl; labels = λ before. labels_same c before (reply.Busy by); log_failed = refl; tables_failed = refl; remembered = tt; explained = of_one (IsExplained it.client Idle (asking c) (Some (reply.Busy by))) event tt })
+      refl (last_same c (reply.Busy by) (length new.knows.participant.seen) refl)
+      (λ first is_first before p e agrees. busy_row c snapshots e before by
+      (found_busy e before.last (key_of c) by it f.world.locks f.published p.last has.direct (λ name same. has.only name refl)
+      (agrees.past event (subst (IsIn event) (sym (ap (λ (q : Participant). q.past) f.goes_on.participant)) (in_last event it.past)))))
+
+  log_refused : (why : TxnError) (r : Reply) → refusal why ≡ Some r → Refuses z old new 1 (λ (entries : List Entry). entries ≡ Write (c ∷ []) ∷ []) (writing_direct (key_of c) it) (wrote_direct (key_of c) it) why → Answers z old new me me (asking c) r
+  log_refused = refused_answers z old new me (asking c) 1 (λ (entries : List Entry). entries ≡ Write (c ∷ []) ∷ []) (writes_logged c snapshots) (writing_direct (key_of c) it) (wrote_direct (key_of c) it) (locked (key_of c) (holder.Client it.client) ∷ []) refl refl refl lock_before
+
+  pub not_written_answers : HoldsTxn z old held.Idle → (why : TxnError) (r : Reply) → refusal why ≡ Some r → WritesDirect z old c (Err why) new → IsAnswered z old new me me (asking c) r
+  not_written_answers has (Busy by) r is f = subst (IsAnswered z old new me me (asking c)) (same_some (reply.Busy by) r is)
+      (busy_answers has by f, λ world stands only first is_first store so. busy_alone z first old new only store so (world, stands) snapshots c has.direct (λ name. has.only name refl) by f)
+  not_written_answers has Memory r is f = absurd cc
+  not_written_answers has (NumbersFull published limit) r is f = (log_refused (NumbersFull published limit) r is f.0, subst (IsDue z old new me me (asking c)) (same_some (reply.Full published limit) r is) (λ world stands only first is_first store so. full_alone z first old new only store so (world, stands) snapshots c published limit f))
+  not_written_answers has (Stopped n) r is f = (log_refused (Stopped n) r is f.0, subst (IsDue z old new me me (asking c)) (same_some (reply.Stopped n) r is) (λ world stands only first is_first store so. stopped_alone z first old new only store so (world, stands) snapshots c n f))
+  not_written_answers has LogFault r is f = (log_refused LogFault r is f.0, subst (IsDue z old new me me (asking c)) (same_some reply.FaultLog r is) (λ world stands only first is_first store so. fault_alone z first old new only store so (world, stands) snapshots c f))
+  not_written_answers has (Taken name) r is f = absurd f.0
+  not_written_answers has TooMany r is f = absurd f.0
+  not_written_answers has Silent r is f = absurd f.0
+  not_written_answers has (Unknown name at) r is f = absurd f.0
+  not_written_answers has (InUse name) r is f = absurd f.0
+
+  memory_breaks : Continues z old new (wrote_direct (key_of c) it) → BreaksOff old new me (asking c)
+  memory_breaks goes = broke_off_after _ z old new (wrote_direct (key_of c) it) goes (locked (key_of c) (holder.Client it.client) ∷ []) me (asking c) refl refl refl
+      (of_one (IsExplained it.client Idle (asking c) None) (locked (key_of c) (holder.Client it.client)) (locked_alone c it.client)) refl refl
+
+  pub not_written_breaks : (why : TxnError) → refusal why ≡ None → WritesDirect z old c (Err why) new → BreaksOff old new me (asking c)
+  not_written_breaks Memory none f = ⊎_elim (λ (k : Keeps z old new). broke_off z old new me (asking c) k) memory_breaks f
+  not_written_breaks (Busy by) none f = absurd cc
+  not_written_breaks (NumbersFull published limit) none f = absurd cc
+  not_written_breaks (Stopped n) none f = absurd cc
+  not_written_breaks LogFault none f = absurd cc
+  not_written_breaks (Taken name) none f = absurd f.0
+  not_written_breaks TooMany none f = absurd f.0
+  not_written_breaks Silent none f = absurd f.0
+  not_written_breaks (Unknown name at) none f = absurd f.0
+  not_written_breaks (InUse name) none f = absurd f.0
+
+-- what the client has then: what it had
+module _ {D : Type 0} (z : SharedState D) (old new : SeatState) (c : Change) (h : HoldingsState) (has : Holds z old h) where
+  log_leaves : (why : TxnError) → Refuses z old new 1 (λ (entries : List Entry). entries ≡ Write (c ∷ []) ∷ []) (writing_direct (key_of c) old.knows.participant) (wrote_direct (key_of c) old.knows.participant) why → Holds z new h
+  log_leaves why f = refused_holds z old new 1 (λ (entries : List Entry). entries ≡ Write (c ∷ []) ∷ []) (writing_direct (key_of c) old.knows.participant) (wrote_direct (key_of c) old.knows.participant) refl refl refl why f h has
+
+  pub written_holds : (answer : Result ℕ TxnError) → WritesDirect z old c answer new → Holds z new h
+  written_holds (Ok n) w = holds_still z old new _ refl refl refl w.1.1.goes_on h has
+  written_holds (Err (Busy by)) f = holds_still z old new _ refl refl refl f.goes_on h has
+  written_holds (Err Memory) f = ⊎_elim (λ (k : Keeps z old new). keeps_holds z old new k h has) (λ (k : Continues z old new (wrote_direct (key_of c) old.knows.participant)). holds_still z old new _ refl refl refl k h has) f
+  written_holds (Err (NumbersFull published limit)) f = log_leaves (NumbersFull published limit) f.0
+  written_holds (Err (Stopped n)) f = log_leaves (Stopped n) f.0
+  written_holds (Err LogFault) f = log_leaves LogFault f.0
+  written_holds (Err (Taken name)) f = absurd f.0
+  written_holds (Err TooMany) f = absurd f.0
+  written_holds (Err Silent) f = absurd f.0
+  written_holds (Err (Unknown name at)) f = absurd f.0
+  written_holds (Err (InUse name)) f = absurd f.0

@@ -1,0 +1,131 @@
+use Rattle.std.proofs.Common.{sym, subst}
+use Rattle.wp_text.specs.declared.script.Command.TheVariants as command
+use Rattle.wp_answers.specs.Holdings.{client_of, Holds}
+use Rattle.wp_answers.proofs.WholeClients.{whole_answers, whole_breaks, any_answers, held_answers, any_breaks, kept_breaks, whole_holds}
+use Rattle.wp_answers.proofs.Staying.{keeps_holds}
+use Rattle.wp_answers.proofs.answering.obey.Goals as goal
+
+pub put-requires : goal.put-requires
+put-requires g c = (subst (Holds c.args.store.now c.args.seat.now) (sym c.held.view_is) c.requires).txn
+
+pub returns-in-Put-clause-holds : goal.returns-in-Put-clause-holds
+returns-in-Put-clause-holds g c = whole_holds c.args.store.now c.args.seat.now c.put.new.seat c.held.inside.txn c.put.new.txn c.held.inside.snapshots.items c.put.ensures.holds (subst (Holds c.args.store.now c.args.seat.now) (sym c.held.view_is) c.requires)
+
+pub returns-in-Put-clause-answered : goal.returns-in-Put-clause-answered
+returns-in-Put-clause-answered g c = rw (c.in-Put.is, ← c.held.view_is)
+    (whole_answers c.args.store.now c.args.seat.now c.put.new.seat (command.Put c.in-Put.key c.in-Put.value) c.put.result c.held.inside.txn c.put.new.txn c.held.inside.snapshots.items c.put.ensures.answered)
+
+pub returns-in-Put-clause-err : goal.returns-in-Put-clause-err
+returns-in-Put-clause-err g c = rw (c.in-Put.is, ← c.held.view_is)
+    (whole_breaks c.args.store.now c.args.seat.now c.put.new.seat (command.Put c.in-Put.key c.in-Put.value) c.put.result c.held.inside.txn c.put.new.txn c.held.inside.snapshots.items c.put.ensures.err)
+
+pub del-requires : goal.del-requires
+del-requires g c = (subst (Holds c.args.store.now c.args.seat.now) (sym c.held-in-Del.view_is) c.requires).txn
+
+pub returns-in-Del-clause-holds : goal.returns-in-Del-clause-holds
+returns-in-Del-clause-holds g c = whole_holds c.args.store.now c.args.seat.now c.del.new.seat c.held-in-Del.inside.txn c.del.new.txn c.held-in-Del.inside.snapshots.items c.del.ensures.holds (subst (Holds c.args.store.now c.args.seat.now) (sym c.held-in-Del.view_is) c.requires)
+
+pub returns-in-Del-clause-answered : goal.returns-in-Del-clause-answered
+returns-in-Del-clause-answered g c = rw (c.in-Del.is, ← c.held-in-Del.view_is)
+    (whole_answers c.args.store.now c.args.seat.now c.del.new.seat (command.Del c.in-Del.key) c.del.result c.held-in-Del.inside.txn c.del.new.txn c.held-in-Del.inside.snapshots.items c.del.ensures.answered)
+
+pub returns-in-Del-clause-err : goal.returns-in-Del-clause-err
+returns-in-Del-clause-err g c = rw (c.in-Del.is, ← c.held-in-Del.view_is)
+    (whole_breaks c.args.store.now c.args.seat.now c.del.new.seat (command.Del c.in-Del.key) c.del.result c.held-in-Del.inside.txn c.del.new.txn c.held-in-Del.inside.snapshots.items c.del.ensures.err)
+
+pub get-requires : goal.get-requires
+get-requires g c = (subst (Holds c.args.store.now c.args.seat.now) (sym c.held-in-Get.view_is) c.requires).txn
+
+pub returns-in-Get-clause-holds : goal.returns-in-Get-clause-holds
+returns-in-Get-clause-holds g c = rw (← c.held-in-Get.view_is) (keeps_holds c.args.store.now c.args.seat.now c.get.new.seat c.get.ensures.goes_on (record { txn = c.held-in-Get.inside.txn; snapshots = c.held-in-Get.inside.snapshots.items }) (subst (Holds c.args.store.now c.args.seat.now) (sym c.held-in-Get.view_is) c.requires))
+
+pub returns-in-Get-clause-answered : goal.returns-in-Get-clause-answered
+returns-in-Get-clause-answered g c = rw (c.in-Get.is, ← c.held-in-Get.view_is)
+    (whole_answers c.args.store.now c.args.seat.now c.get.new.seat (command.Get c.in-Get.key) c.get.result c.held-in-Get.inside.txn c.held-in-Get.inside.txn c.held-in-Get.inside.snapshots.items c.get.ensures.answered)
+
+pub returns-in-Get-clause-err : goal.returns-in-Get-clause-err
+returns-in-Get-clause-err g c = kept_breaks c.args.store.now c.args.seat.now c.get.new.seat c.args.command.now c.get.result (client_of c.args.held.now) c.get.ensures.goes_on
+
+pub returns-in-GetAt-clause-holds : goal.returns-in-GetAt-clause-holds
+returns-in-GetAt-clause-holds g c = keeps_holds c.args.store.now c.args.seat.now c.get_at.new.seat c.get_at.ensures.goes_on c.args.held.now c.requires
+
+pub returns-in-GetAt-clause-answered : goal.returns-in-GetAt-clause-answered
+returns-in-GetAt-clause-answered g c = rw c.in-GetAt.is c.get_at.ensures.answered
+
+pub returns-in-GetAt-clause-err : goal.returns-in-GetAt-clause-err
+returns-in-GetAt-clause-err g c = kept_breaks c.args.store.now c.args.seat.now c.get_at.new.seat c.args.command.now c.get_at.result (client_of c.args.held.now) c.get_at.ensures.goes_on
+
+pub returns-in-Snap-clause-answered : goal.returns-in-Snap-clause-answered
+returns-in-Snap-clause-answered g c = rw c.in-Snap.is c.snap.ensures.answered
+
+pub returns-in-Snap-clause-err : goal.returns-in-Snap-clause-err
+returns-in-Snap-clause-err g c = rw c.in-Snap.is c.snap.ensures.err
+
+pub returns-in-Free-clause-answered : goal.returns-in-Free-clause-answered
+returns-in-Free-clause-answered g c = rw c.in-Free.is c.free.ensures.answered
+
+pub returns-in-Free-clause-err : goal.returns-in-Free-clause-err
+returns-in-Free-clause-err g c = rw c.in-Free.is c.free.ensures.err
+
+pub tell-requires : goal.tell-requires
+tell-requires g c = c.requires.txn.free
+
+pub returns-in-Tell-clause-holds : goal.returns-in-Tell-clause-holds
+returns-in-Tell-clause-holds g c = c.tell.ensures.holds c.args.held.now c.requires
+
+pub returns-in-Tell-clause-answered : goal.returns-in-Tell-clause-answered
+returns-in-Tell-clause-answered g c = rw c.in-Tell.is (any_answers c.args.store.now c.args.seat.now c.tell.new.seat (command.Tell c.in-Tell.label) c.tell.result (client_of c.args.held.now) c.tell.ensures.answered)
+
+pub returns-in-Tell-clause-err : goal.returns-in-Tell-clause-err
+returns-in-Tell-clause-err g c = rw c.in-Tell.is (any_breaks c.args.store.now c.args.seat.now c.tell.new.seat (command.Tell c.in-Tell.label) c.tell.result (client_of c.args.held.now) c.tell.ensures.err)
+
+pub hear-requires : goal.hear-requires
+hear-requires g c = c.requires.txn.free
+
+pub returns-in-Hear-clause-holds : goal.returns-in-Hear-clause-holds
+returns-in-Hear-clause-holds g c = c.hear.ensures.holds c.args.held.now c.requires
+
+pub returns-in-Hear-clause-answered : goal.returns-in-Hear-clause-answered
+returns-in-Hear-clause-answered g c = rw c.in-Hear.is (any_answers c.args.store.now c.args.seat.now c.hear.new.seat (command.Hear c.in-Hear.label) c.hear.result (client_of c.args.held.now) c.hear.ensures.answered)
+
+pub returns-in-Hear-clause-err : goal.returns-in-Hear-clause-err
+returns-in-Hear-clause-err g c = rw c.in-Hear.is (any_breaks c.args.store.now c.args.seat.now c.hear.new.seat (command.Hear c.in-Hear.label) c.hear.result (client_of c.args.held.now) c.hear.ensures.err)
+
+pub change_txn-requires-clause-has : goal.change_txn-requires-clause-has
+change_txn-requires-clause-has g c = (subst (Holds c.args.store.now c.args.seat.now) (sym c.held-in-Begin.view_is) c.requires).txn
+
+pub returns-in-Begin-clause-holds : goal.returns-in-Begin-clause-holds
+returns-in-Begin-clause-holds g c =
+    whole_holds c.args.store.now c.args.seat.now c.change_txn.new.seat c.held-in-Begin.inside.txn c.change_txn.new.txn c.held-in-Begin.inside.snapshots.items c.change_txn.ensures.holds (subst (Holds c.args.store.now c.args.seat.now) (sym c.held-in-Begin.view_is) c.requires)
+
+pub returns-in-Begin-clause-answered : goal.returns-in-Begin-clause-answered
+returns-in-Begin-clause-answered g c = rw (← c.held-in-Begin.view_is)
+    (whole_answers c.args.store.now c.args.seat.now c.change_txn.new.seat c.args.command.now c.change_txn.result c.held-in-Begin.inside.txn c.change_txn.new.txn c.held-in-Begin.inside.snapshots.items c.change_txn.ensures.answered)
+
+pub returns-in-Begin-clause-err : goal.returns-in-Begin-clause-err
+returns-in-Begin-clause-err g c = rw (← c.held-in-Begin.view_is)
+    (whole_breaks c.args.store.now c.args.seat.now c.change_txn.new.seat c.args.command.now c.change_txn.result c.held-in-Begin.inside.txn c.change_txn.new.txn c.held-in-Begin.inside.snapshots.items c.change_txn.ensures.err)
+
+pub flush-requires : goal.flush-requires
+flush-requires g c = c.requires.txn.free
+
+pub returns-in-Flush-clause-holds : goal.returns-in-Flush-clause-holds
+returns-in-Flush-clause-holds g c = c.flush.ensures.holds c.args.held.now c.requires
+
+pub returns-in-Flush-clause-answered : goal.returns-in-Flush-clause-answered
+returns-in-Flush-clause-answered g c = rw c.in-Flush.is (any_answers c.args.store.now c.args.seat.now c.flush.new.seat command.Flush c.flush.result (client_of c.args.held.now) c.flush.ensures.answered)
+
+pub returns-in-Flush-clause-err : goal.returns-in-Flush-clause-err
+returns-in-Flush-clause-err g c = rw c.in-Flush.is (any_breaks c.args.store.now c.args.seat.now c.flush.new.seat command.Flush c.flush.result (client_of c.args.held.now) c.flush.ensures.err)
+
+pub compact-requires : goal.compact-requires
+compact-requires g c = c.requires.txn.free
+
+pub returns-in-Compact-clause-holds : goal.returns-in-Compact-clause-holds
+returns-in-Compact-clause-holds g c = c.compact.ensures.holds c.args.held.now c.requires
+
+pub returns-in-Compact-clause-answered : goal.returns-in-Compact-clause-answered
+returns-in-Compact-clause-answered g c = rw c.in-Compact.is (held_answers c.args.store.now c.args.seat.now c.compact.new.seat command.Compact c.compact.result c.args.held.now c.requires c.compact.ensures.answered)
+
+pub returns-in-Compact-clause-err : goal.returns-in-Compact-clause-err
+returns-in-Compact-clause-err g c = rw c.in-Compact.is (any_breaks c.args.store.now c.args.seat.now c.compact.new.seat command.Compact c.compact.result (client_of c.args.held.now) c.compact.ensures.err)

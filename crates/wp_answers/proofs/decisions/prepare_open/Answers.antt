@@ -1,0 +1,38 @@
+use Rattle.std.proofs.Common.{◌≡◌, [], Some, ap}
+use Rattle.std.proofs.lemmas.Result.{IfOk-weaker, on_err_weaker}
+use Rattle.wp_model.specs.declared.entry.Entry.TheVariants as entry
+use Rattle.wp_text.specs.declared.reply.Reply.TheVariants as reply
+use Rattle.wp_text.specs.declared.script.Command.TheVariants as command
+use Rattle.wp_answers.specs.declared.holdings.HeldTxn.TheVariants as held
+use Rattle.wp_answers.specs.Answers.{AnswersFrom}
+use Rattle.wp_answers.specs.Replies.{refusal}
+use Rattle.wp_answers.proofs.Clients.{answers_from, breaks_from}
+use Rattle.wp_answers.proofs.Decides.{prepared_answers, prepared_holds, open_refused_answers, prepare_refused_due, open_refused_named, open_refused_breaks, open_refused_holds, prepare_logged}
+use Rattle.wp_answers.proofs.decisions.prepare_open.Goals as goal
+
+pub returns-in-Ok-clause-holds : goal.returns-in-Ok-clause-holds
+returns-in-Ok-clause-holds g c = let z = c.args.store.now in let s = c.args.seat.now in let t = c.prepare.new.seat in let was = c.args.txn in prepared_holds z s t was c.in-Ok.prepared c.in-Ok.n c.requires c.in-Ok.ensures.ok
+
+pub returns-in-Ok-clause-answered : goal.returns-in-Ok-clause-answered
+returns-in-Ok-clause-answered g c = let z = c.args.store.now in let s = c.args.seat.now in let t = c.prepare.new.seat in let was = c.args.txn in
+    answers_from z s t (held.Open was) (held.Prepared c.in-Ok.prepared) command.Prepare (reply.Prepared c.in-Ok.n) (λ snapshots. prepared_answers z s t snapshots was c.in-Ok.prepared c.in-Ok.n c.in-Ok.ensures.ok)
+
+pub returns-in-Err-clause-holds : goal.returns-in-Err-clause-holds
+returns-in-Err-clause-holds g c = let z = c.args.store.now in let s = c.args.seat.now in let t = c.prepare.new.seat in let was = c.args.txn in let left = c.in-Err.field-0.txn in let why = c.in-Err.field-0.why in open_refused_holds z s t why was left (entry.Prepare was.name was.batch) c.in-Err.ensures.refused
+
+pub returns-in-Err-clause-answered : goal.returns-in-Err-clause-answered
+returns-in-Err-clause-answered g c = let z = c.args.store.now in let s = c.args.seat.now in let t = c.prepare.new.seat in let was = c.args.txn in let left = c.in-Err.field-0.txn in let why = c.in-Err.field-0.why in
+    IfOk-weaker c.refusal.result (λ r. refusal why ≡ Some r) (AnswersFrom z s t (held.Open was) (held.Open left) command.Prepare)
+    (λ r is. answers_from z s t (held.Open was) (held.Open left) command.Prepare r (λ snapshots. (
+      open_refused_answers z s t why command.Prepare was left (entry.Prepare was.name was.batch) snapshots (prepare_logged snapshots was) c.in-Err.ensures.refused r is,
+      prepare_refused_due z s t why r is snapshots was left c.in-Err.ensures.refused,
+    )))
+    c.refusal.ensures.answered
+
+pub returns-in-Err-clause-err : goal.returns-in-Err-clause-err
+returns-in-Err-clause-err g c = let z = c.args.store.now in let s = c.args.seat.now in let t = c.prepare.new.seat in let was = c.args.txn in let left = c.in-Err.field-0.txn in let why = c.in-Err.field-0.why in
+    on_err_weaker c.refusal.result (λ none. breaks_from s t (held.Open was) (held.Open left) command.Prepare (ap held.Open c.in-Err.ensures.refused.0) (λ snapshots. open_refused_breaks z s t why command.Prepare was left (entry.Prepare was.name was.batch) snapshots (prepare_logged snapshots was) c.in-Err.ensures.refused none)) c.refusal.ensures.err
+
+pub refusal-requires : goal.refusal-requires
+refusal-requires g c = let z = c.args.store.now in let s = c.args.seat.now in let t = c.prepare.new.seat in let was = c.args.txn in let left = c.in-Err.field-0.txn in let why = c.in-Err.field-0.why in
+    open_refused_named z s t why command.Prepare was left (entry.Prepare was.name was.batch) [] (prepare_logged [] was) c.in-Err.ensures.refused

@@ -1,0 +1,38 @@
+use Rattle.std.proofs.Common.{◌≡◌, [], Some, ap}
+use Rattle.std.proofs.lemmas.Result.{IfOk-weaker, on_err_weaker}
+use Rattle.wp_text.specs.declared.reply.Reply.TheVariants as reply
+use Rattle.wp_text.specs.declared.script.Command.TheVariants as command
+use Rattle.wp_txn.specs.Writes.{AsksRollback}
+use Rattle.wp_answers.specs.declared.holdings.HeldTxn.TheVariants as held
+use Rattle.wp_answers.specs.Answers.{AnswersFrom}
+use Rattle.wp_answers.specs.Replies.{refusal}
+use Rattle.wp_answers.proofs.Clients.{answers_from, breaks_from}
+use Rattle.wp_answers.proofs.Decides.{rolled_back_answers, rolled_back_holds, prepared_refused_answers, rollback_refused_due, prepared_refused_named, prepared_refused_breaks, prepared_refused_holds, rollback_logged}
+use Rattle.wp_answers.proofs.decisions.rollback_prepared.Goals as goal
+
+pub returns-in-Ok-clause-holds : goal.returns-in-Ok-clause-holds
+returns-in-Ok-clause-holds g c = let z = c.args.store.now in let s = c.args.seat.now in let t = c.rollback.new.seat in let was = c.args.txn in rolled_back_holds z s t was c.in-Ok.n c.requires c.in-Ok.ensures.ok
+
+pub returns-in-Ok-clause-answered : goal.returns-in-Ok-clause-answered
+returns-in-Ok-clause-answered g c = let z = c.args.store.now in let s = c.args.seat.now in let t = c.rollback.new.seat in let was = c.args.txn in
+    answers_from z s t (held.Prepared was) (held.Idle) command.Rollback (reply.RolledBack c.in-Ok.n) (λ snapshots. rolled_back_answers z s t was c.in-Ok.n snapshots c.in-Ok.ensures.ok c.requires.has)
+
+pub returns-in-Err-clause-holds : goal.returns-in-Err-clause-holds
+returns-in-Err-clause-holds g c = let z = c.args.store.now in let s = c.args.seat.now in let t = c.rollback.new.seat in let was = c.args.txn in let left = c.in-Err.field-0.txn in let why = c.in-Err.field-0.why in prepared_refused_holds z s t why was left 2 AsksRollback c.in-Err.ensures.refused
+
+pub returns-in-Err-clause-answered : goal.returns-in-Err-clause-answered
+returns-in-Err-clause-answered g c = let z = c.args.store.now in let s = c.args.seat.now in let t = c.rollback.new.seat in let was = c.args.txn in let left = c.in-Err.field-0.txn in let why = c.in-Err.field-0.why in
+    IfOk-weaker c.refusal.result (λ r. refusal why ≡ Some r) (AnswersFrom z s t (held.Prepared was) (held.Prepared left) command.Rollback)
+    (λ r is. answers_from z s t (held.Prepared was) (held.Prepared left) command.Rollback r (λ snapshots. (
+      prepared_refused_answers z s t why command.Rollback was left 2 AsksRollback snapshots (rollback_logged snapshots t.knows.participant.seen was) c.in-Err.ensures.refused r is,
+      rollback_refused_due z s t why r is snapshots was left c.requires.has c.in-Err.ensures.refused,
+    )))
+    c.refusal.ensures.answered
+
+pub returns-in-Err-clause-err : goal.returns-in-Err-clause-err
+returns-in-Err-clause-err g c = let z = c.args.store.now in let s = c.args.seat.now in let t = c.rollback.new.seat in let was = c.args.txn in let left = c.in-Err.field-0.txn in let why = c.in-Err.field-0.why in
+    on_err_weaker c.refusal.result (λ none. breaks_from s t (held.Prepared was) (held.Prepared left) command.Rollback (ap held.Prepared c.in-Err.ensures.refused.0) (λ snapshots. prepared_refused_breaks z s t why command.Rollback was left 2 AsksRollback snapshots (rollback_logged snapshots t.knows.participant.seen was) c.in-Err.ensures.refused none)) c.refusal.ensures.err
+
+pub refusal-requires : goal.refusal-requires
+refusal-requires g c = let z = c.args.store.now in let s = c.args.seat.now in let t = c.rollback.new.seat in let was = c.args.txn in let left = c.in-Err.field-0.txn in let why = c.in-Err.field-0.why in
+    prepared_refused_named z s t why command.Rollback was left 2 AsksRollback [] (rollback_logged [] t.knows.participant.seen was) c.in-Err.ensures.refused

@@ -1,0 +1,166 @@
+//! One command of a client.
+ghost use Rattle.std.specs.Prelude.{◌≡◌, true, IfOk, OnErr};
+ghost use Rattle.wp_answers.specs.declared.holdings.HeldTxn.TheVariants as held;
+ghost use Rattle.wp_model.specs.Flushed.{InstalledEdit};
+ghost use Rattle.wp_core.specs.World.{World};
+ghost use Rattle.wp_rule.specs.Shows.{WasLast};
+ghost use Rattle.wp_parts.specs.Parts.{content};
+ghost use Rattle.wp_shared.specs.Seats.{Stands};
+ghost use Rattle.wp_replies.specs.Due.{Store};
+ghost use Rattle.wp_sole_client.specs.Alone.{IsOnly, IsStoreOf, AnswersAlone};
+ghost use Rattle.wp_answers.specs.Answers.{Answers, IsAnswered, AnswersFrom, BreaksOff, BreaksOffFrom};
+ghost use Rattle.wp_answers.specs.Fresh.{NamesPublished};
+ghost use Rattle.wp_answers.specs.Holdings.{client_of, HoldsTxn, Holds, HoldsFrom};
+ghost use Rattle.wp_answers.specs.Replies.{is_of_txn};
+
+use crate::board::{hear, tell};
+use crate::changes::{del, put};
+use crate::decisions::{commit, leave, prepare, rollback};
+use crate::holdings::{HeldTxn, Holdings};
+use crate::maintenance::{compact, flush};
+use crate::naming::{begin, take};
+use crate::reads::{get, get_at};
+use crate::snapshots::{free, snap};
+use std::alloc::{AllocError, Global};
+use std::mem;
+use std::sync::Wait;
+use wp_outside::Disk;
+use wp_shared::{Seat, Shared};
+use wp_text::{Command, Reply};
+
+/// Takes the transaction out, and leaves none.
+fn take_out(place: &mut HeldTxn) -> HeldTxn
+    ensures value { result ≡ place.old }
+    ensures left { place.new ≡ held.Idle }
+{
+    mem::replace(place, HeldTxn::Idle)
+}
+
+/// Puts the transaction where none is.
+fn put_back(place: &mut HeldTxn, txn: HeldTxn)
+    requires { place.old ≡ held.Idle }
+    ensures { place.new ≡ txn }
+{
+    match mem::replace(place, txn) {
+        HeldTxn::Idle => {}
+        HeldTxn::Open(_open) => unreachable!(),
+        HeldTxn::Prepared(_prepared) => unreachable!(),
+    }
+}
+
+/// A command that may change which transaction the client has.
+fn decide<D: Disk + Drop, R: Wait>(
+    store: &Shared<D>,
+    rt: &R,
+    alloc: Global,
+    seat: &mut Seat<D>,
+    txn: HeldTxn,
+    command: &Command,
+) -> (HeldTxn, Result<Reply, AllocError>)
+    requires has { HoldsTxn store.now seat.old txn }
+    requires of_txn { is_of_txn command.now ≡ true }
+    ensures holds { HoldsFrom store.now seat.old seat.new txn result.0 }
+    ensures answered { IfOk result.1 (AnswersFrom store.now seat.old seat.new txn result.0 command.now) }
+    ensures err { OnErr result.1 (BreaksOffFrom seat.old seat.new txn result.0 command.now) }
+{
+    match command {
+        Command::Begin(name) => begin(store, rt, alloc, seat, txn, name),
+        Command::Take(name) => take(store, rt, alloc, seat, txn, name),
+        Command::Prepare => prepare(store, rt, alloc, seat, txn),
+        Command::Commit => commit(store, rt, alloc, seat, txn),
+        Command::Rollback => rollback(store, rt, alloc, seat, txn),
+        Command::Leave => {
+            let (left, reply) = leave(store, rt, seat, txn);
+            (left, Ok(reply))
+        }
+        _ => unreachable!(),
+    }
+}
+
+/// The same, in the client's holdings.
+fn change_txn<D: Disk + Drop, R: Wait>(
+    store: &Shared<D>,
+    rt: &R,
+    alloc: Global,
+    seat: &mut Seat<D>,
+    txn: &mut HeldTxn,
+    command: &Command,
+) -> Result<Reply, AllocError>
+    requires has { HoldsTxn store.now seat.old txn.old }
+    requires of_txn { is_of_txn command.now ≡ true }
+    ensures holds { HoldsFrom store.now seat.old seat.new txn.old txn.new }
+    ensures answered { IfOk result (AnswersFrom store.now seat.old seat.new txn.old txn.new command.now) }
+    ensures err { OnErr result (BreaksOffFrom seat.old seat.new txn.old txn.new command.now) }
+{
+    let (left, outcome) = decide(store, rt, alloc, seat, take_out(txn), command);
+    put_back(txn, left);
+    outcome
+}
+
+/// Does what the command asks for.
+fn obey<D: Disk + Drop, R: Wait>(
+    store: &Shared<D>,
+    rt: &R,
+    alloc: Global,
+    seat: &mut Seat<D>,
+    held: &mut Holdings,
+    command: &Command,
+) -> Result<Reply, AllocError>
+    requires { Holds store.now seat.old held.old }
+    ensures holds { Holds store.now seat.new held.new }
+    ensures answered { IfOk result (λ answer. IsAnswered store.now seat.old seat.new (client_of held.old) (client_of held.new) command.now answer) }
+    ensures published { IfOk result (NamesPublished store.now seat.old seat.new command.now) }
+    ensures err { OnErr result (BreaksOff seat.old seat.new (client_of held.old) command.now) }
+    ensures kept { OnErr result (held.new ≡ held.old) }
+{
+    match command {
+        Command::Put(key, value) => put(store, rt, alloc, seat, &mut held.txn, key, value),
+        Command::Del(key) => del(store, rt, alloc, seat, &mut held.txn, key),
+        Command::Get(key) => get(store, rt, alloc, seat, &held.txn, key),
+        Command::GetAt(key, label) => get_at(store, rt, alloc, seat, held, key, label),
+        Command::Snap(label) => snap(store, rt, alloc, seat, held, label),
+        Command::Free(label) => free(store, rt, alloc, seat, held, label),
+        Command::Tell(label) => tell(store, rt, alloc, seat, label),
+        Command::Hear(label) => hear(store, rt, alloc, seat, label),
+        Command::Begin(_)
+        | Command::Take(_)
+        | Command::Prepare
+        | Command::Commit
+        | Command::Rollback
+        | Command::Leave => change_txn(store, rt, alloc, seat, &mut held.txn, command),
+        Command::Flush => flush(store, rt, seat),
+        Command::Compact => compact(store, rt, alloc, seat),
+    }
+}
+
+/// For the proof alone: the seat stands in a world of the store.
+fn stand<D: Disk + Drop>(store: &Shared<D>, seat: &mut Seat<D>)
+    requires { seat.old.table ≡ store.now.table }
+    ensures same { seat.new ≡ seat.old }
+    ensures stands { (w : World) × Stands store.now seat.new w }
+{
+    store.max(seat);
+}
+
+/// Answers a command. Want of memory is no answer.
+pub fn answer<D: Disk + Drop, R: Wait>(
+    store: &Shared<D>,
+    rt: &R,
+    alloc: Global,
+    seat: &mut Seat<D>,
+    held: &mut Holdings,
+    command: &Command,
+) -> Result<Reply, AllocError>
+    requires { Holds store.now seat.old held.old }
+    ensures holds { Holds store.now seat.new held.new }
+    ensures answered { IfOk result (λ answer. Answers store.now seat.old seat.new (client_of held.old) (client_of held.new) command.now answer) }
+    ensures alone { IfOk result (λ answer. IsOnly seat.old → (first : InstalledEdit) → WasLast content store.now.first first → (s : Store) → IsStoreOf store.now first seat.old.knows.participant s
+        → AnswersAlone store.now first seat.old seat.new (client_of held.old) (client_of held.new) command.now answer s) }
+    ensures published { IfOk result (NamesPublished store.now seat.old seat.new command.now) }
+    ensures err { OnErr result (BreaksOff seat.old seat.new (client_of held.old) command.now) }
+    ensures kept { OnErr result (held.new ≡ held.old) }
+{
+    let outcome = obey(store, rt, alloc, seat, held, command);
+    stand(store, seat);
+    outcome
+}

@@ -1,0 +1,69 @@
+//! What stands in memory is flushed to a table, and tables are merged. The client's transaction does not count.
+ghost use Rattle.std.specs.Prelude.{◌≡◌, Some, None, IfOk, OnErr};
+ghost use Rattle.wp_text.specs.declared.script.Command.TheVariants.{Flush, Compact};
+ghost use Rattle.wp_replies.specs.Client.{Client};
+ghost use Rattle.wp_shared.specs.Seats.{IsFree};
+ghost use Rattle.wp_answers.specs.Answers.{BreaksOff, IsAnswered};
+ghost use Rattle.wp_answers.specs.Holdings.{HoldingsState, client_of, Holds};
+ghost use Rattle.wp_answers.specs.Replies.{tables_refusal};
+
+use std::alloc::{AllocError, Global};
+use std::sync::Wait;
+use wp_maint::MaintError;
+use wp_outside::Disk;
+use wp_shared::{Seat, Shared};
+use wp_text::Reply;
+
+/// Why no table was made, unless memory was wanting.
+fn tables_refusal(why: MaintError) -> Result<Reply, AllocError>
+    ensures answered { IfOk result (λ answer. tables_refusal why ≡ Some answer) }
+    ensures err { OnErr result (tables_refusal why ≡ None) }
+{
+    match why {
+        MaintError::Memory => Err(AllocError),
+        MaintError::Nothing => Ok(Reply::Nothing),
+        MaintError::TableFault => Ok(Reply::FaultTables),
+        MaintError::TablesStopped(flushed) => Ok(Reply::Halted(flushed)),
+    }
+}
+
+/// Flushes what stands in memory.
+pub(crate) fn flush<D: Disk + Drop, R: Wait>(
+    store: &Shared<D>,
+    rt: &R,
+    seat: &mut Seat<D>,
+) -> Result<Reply, AllocError>
+    requires { IsFree store.now.table seat.old }
+    ensures holds { (h : HoldingsState) → Holds store.now seat.old h → Holds store.now seat.new h }
+    ensures answered { IfOk result (λ answer. (client : Client) → IsAnswered store.now seat.old seat.new client client Flush answer) }
+    ensures err { OnErr result ((client : Client) → BreaksOff seat.old seat.new client Flush) }
+{
+    match wp_maint::flush(store, rt, seat) {
+        Ok(done) => Ok(Reply::Flushed {
+            at: done.at,
+            versions: done.versions,
+        }),
+        Err(why) => tables_refusal(why),
+    }
+}
+
+/// Merges the tables. What the client's snapshots need stays.
+pub(crate) fn compact<D: Disk + Drop, R: Wait>(
+    store: &Shared<D>,
+    rt: &R,
+    alloc: Global,
+    seat: &mut Seat<D>,
+) -> Result<Reply, AllocError>
+    requires { IsFree store.now.table seat.old }
+    ensures holds { (h : HoldingsState) → Holds store.now seat.old h → Holds store.now seat.new h }
+    ensures answered { IfOk result (λ answer. (h : HoldingsState) → Holds store.now seat.old h → IsAnswered store.now seat.old seat.new (client_of h) (client_of h) Compact answer) }
+    ensures err { OnErr result ((client : Client) → BreaksOff seat.old seat.new client Compact) }
+{
+    match wp_maint::compact(store, rt, alloc, seat) {
+        Ok(done) => Ok(Reply::Compacted {
+            at: done.at,
+            versions: done.versions,
+        }),
+        Err(why) => tables_refusal(why),
+    }
+}

@@ -1,0 +1,11 @@
+use Rattle.wp_args.proofs.Literals.{help_refused, many_bits_refused, no_limit_refused}
+use Rattle.wp_args.proofs.laws.other_words_are_refused.Goals as goal
+
+pub returns-clause-help : goal.returns-clause-help
+returns-clause-help c = help_refused
+
+pub returns-clause-many_bits : goal.returns-clause-many_bits
+returns-clause-many_bits c = many_bits_refused
+
+pub returns-clause-no_limit : goal.returns-clause-no_limit
+returns-clause-no_limit c = no_limit_refused

@@ -1,0 +1,84 @@
+//! What a command line chooses.
+
+ghost use Rattle.std.specs.Prelude.{◌≡◌, ℕ, IfNone, IfOk, IfSome, map, string_bytes};
+ghost use Rattle.clap.specs.Words.{found_of, rows_of, subcommand_rows_of};
+ghost use Rattle.wp_args.specs.Choice.{HasNumber, IsChoice, IsEntered, IsTaken, command_name};
+
+use crate::command_set::command_set;
+use crate::number::number_of;
+use clap::ArgMatches;
+use clap::error::ErrorKind;
+use std::alloc::{AllocError, Global};
+
+/// What the program is asked to do.
+#[derive(Clone, Copy, Debug, Drop, PartialEq, Eq)]
+pub enum Action {
+    /// Run the script on standard input.
+    Run,
+    /// Show the store, as a run of the empty script does.
+    Show,
+}
+
+/// A command with the numbers of its options, given or default.
+#[derive(Clone, Copy, Debug, Drop, PartialEq, Eq)]
+pub struct Choice {
+    pub action: Action,
+    /// The commit cache has two to this power places; 0 to 16.
+    pub bits: u32,
+    /// The greatest number that an entry may have; 1 to 4294967295.
+    pub limit: u64,
+    /// The number of the store, which its log and its manifest bear; 1 to 4294967295.
+    pub id: u32,
+}
+
+/// What the words choose, or `None` where they are refused. The first word is the program's name and is not
+/// looked at. The error is want of memory, which may also come before a refusal.
+pub fn choice_of(alloc: Global, words: &[String]) -> Result<Option<Choice>, AllocError>
+    ensures taken { IfOk result (λ answer. IfSome answer (IsChoice (map string_bytes words.now))) }
+    ensures refused { IfOk result (λ answer. IfNone answer (¬ IsTaken (map string_bytes words.now))) }
+{
+    match command_set(alloc)?.try_get_matches_from(words) {
+        Ok(matches) => Ok(choice_in(&matches)),
+        Err(error) if error.kind() == ErrorKind::OutOfMemory => Err(AllocError),
+        Err(_) => Ok(None),
+    }
+}
+
+/// What matches choose, if their command and its numbers are the program's.
+fn choice_in(matches: &ArgMatches<'_>) -> Option<Choice>
+    ensures entered { IfSome result (IsEntered (subcommand_rows_of matches.now)) }
+    ensures none { IfNone result ((choice : _) → ¬ IsEntered (subcommand_rows_of matches.now) choice) }
+{
+    let (name, entries) = matches.subcommand()?;
+    Some(Choice {
+        action: action_of(name)?,
+        bits: number_in(entries, "bits", 0, 16)? as u32,
+        limit: number_in(entries, "limit", 1, 4_294_967_295)?,
+        id: number_in(entries, "id", 1, 4_294_967_295)? as u32,
+    })
+}
+
+fn action_of(name: &str) -> Option<Action>
+    ensures named { IfSome result (λ action. name.now ≡ command_name action) }
+    ensures none { IfNone result ((action : _) → ¬ (name.now ≡ command_name action)) }
+{
+    match name {
+        "run" => Some(Action::Run),
+        "show" => Some(Action::Show),
+        _ => None,
+    }
+}
+
+/// The number of an option's entry, if it is one and lies in its range.
+fn number_in(entries: &ArgMatches<'_>, name: &str, least: u64, most: u64) -> Option<u64>
+    ensures number { IfSome result (HasNumber (rows_of (found_of entries.now)) name.now least most) }
+    ensures none { IfNone result ((number : ℕ)
+        → ¬ HasNumber (rows_of (found_of entries.now)) name.now least most number) }
+{
+    let number = number_of(entries.get_str(name)?)?;
+    if least <= number && number <= most {
+        Some(number)
+    } else {
+        None
+    }
+}

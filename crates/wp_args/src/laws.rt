@@ -1,0 +1,30 @@
+//! What single command lines choose, and that words choose one thing at most.
+
+ghost use Rattle.std.specs.Prelude.{◌≡◌, List, [], ◌∷◌, codes};
+ghost use Rattle.clap.specs.Words.{Text};
+ghost use Rattle.wp_args.specs.Choice.{IsChoice, IsTaken};
+
+use crate::Action;
+
+/// A command alone is taken, and each option has its default.
+pub fn commands_alone_are_taken()
+    ensures run { IsChoice (codes "wp" ∷ codes "run" ∷ [])
+        (record { action = Action.Run; bits = 10; limit = 4294967295; id = 1 }) }
+    ensures show { IsChoice (codes "wp" ∷ codes "show" ∷ [])
+        (record { action = Action.Show; bits = 10; limit = 4294967295; id = 1 }) }
+{}
+
+/// Words without a command, a request for help and a number out of its range are refused.
+pub fn other_words_are_refused()
+    ensures no_words { ¬ IsTaken [] }
+    ensures no_command { ¬ IsTaken (codes "wp" ∷ []) }
+    ensures help { ¬ IsTaken (codes "wp" ∷ codes "--help" ∷ []) }
+    ensures many_bits { ¬ IsTaken (codes "wp" ∷ codes "run" ∷ codes "--bits" ∷ codes "17" ∷ []) }
+    ensures no_limit { ¬ IsTaken (codes "wp" ∷ codes "run" ∷ codes "--limit" ∷ codes "0" ∷ []) }
+{}
+
+/// Words choose one thing at most.
+pub fn words_choose_once()
+    ensures { (words : List Text) (one other : _)
+        → IsChoice words one → IsChoice words other → one ≡ other }
+{}

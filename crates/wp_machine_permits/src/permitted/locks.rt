@@ -1,0 +1,162 @@
+//! Whether a step with the locks turn may be made.
+ghost use Rattle.std.specs.Prelude.{◌≡◌, true, Some, None, IfOk, IfSome, option_map};
+ghost use Rattle.std.specs.FinMap as finite;
+ghost use Rattle.wp_core.specs.World.{Actor};
+ghost use Rattle.wp_core.specs.Steps as step;
+ghost use Rattle.wp_model.specs.History.{named, holder_of};
+ghost use Rattle.wp_machine.specs.Machine.{locks_step};
+ghost use Rattle.wp_machine_needs.specs.Each.{Each};
+ghost use Rattle.wp_machine_needs.specs.Offered.{IsOffered};
+ghost use Rattle.wp_machine_permits.specs.Permits.{MayBeLeft};
+
+use crate::permitted::history::history_of;
+use crate::permitted::publishing::{has_locked, has_transaction};
+use std::alloc::AllocError;
+use wp_history::History;
+use wp_machine::{Actor, LocksStep, Transaction, Turn, World};
+use wp_model::{Key, Name, Seq};
+
+/// The name is that of the undecided prepare with this number.
+fn is_named(world: &World, name: &Name, p: Seq) -> Result<bool, AllocError>
+    ensures { IfOk result (λ yes. yes ≡ true → named world.now.writes.history name.now ≡ Some p) }
+{
+    let Some(history) = history_of(world)? else {
+        return Ok(false);
+    };
+    Ok(history.named(name) == Some(p))
+}
+
+/// The undecided prepare with that number holds each of the keys.
+fn are_of(history: &History, keys: &[Key], p: Seq) -> bool
+    ensures { result ≡ true → Each (λ key. holder_of history.now.entries key ≡ Some p) keys.now }
+{
+    for key in keys {
+        if history.holder_of(key) != Some(p) {
+            return false;
+        }
+    }
+    true
+}
+
+/// An undecided prepare has the name, and changes each key that the transaction locked.
+fn may_be_left(world: &World, transaction: &Transaction, name: &Name) -> Result<bool, AllocError>
+    ensures { IfOk result (λ yes. yes ≡ true → MayBeLeft world.now.writes.history name.now transaction.now) }
+{
+    let Some(history) = history_of(world)? else {
+        return Ok(false);
+    };
+    match history.named(name) {
+        Some(p) => Ok(are_of(&history, &transaction.locked, p)),
+        None => Ok(false),
+    }
+}
+
+/// No undecided prepare has the name.
+fn is_unprepared(world: &World, name: &Name) -> Result<bool, AllocError>
+    ensures { IfOk result (λ yes. yes ≡ true → named world.now.writes.history name.now ≡ None) }
+{
+    let Some(history) = history_of(world)? else {
+        return Ok(false);
+    };
+    Ok(history.named(name).is_none())
+}
+
+fn may_take_name(world: &World, by: usize, name: &Name, p: Seq) -> Result<bool, AllocError>
+    ensures { IfOk result (λ yes. yes ≡ true → (a : Actor) → IsOffered world.now by a (Some (step.take_name name.now p))) }
+{
+    if !world.holders.holds(Turn::Locks, by) || !world.locks.is_left(name) {
+        return Ok(false);
+    }
+    let named = is_named(world, name, p)?;
+    Ok(named)
+}
+
+fn may_leave_name(world: &World, by: usize, actor: &Actor, name: &Name) -> Result<bool, AllocError>
+    ensures { IfOk result (λ yes. yes ≡ true → IsOffered world.now by actor.now (Some (step.leave_name name.now))) }
+{
+    let Some(transaction) = actor.participant.transaction(name) else {
+        return Ok(false);
+    };
+    if !world.holders.holds(Turn::Locks, by) {
+        return Ok(false);
+    }
+    let left = may_be_left(world, transaction, name)?;
+    Ok(left)
+}
+
+fn may_free_transaction(
+    world: &World,
+    by: usize,
+    actor: &Actor,
+    name: &Name,
+) -> Result<bool, AllocError>
+    ensures { IfOk result (λ yes. yes ≡ true → IsOffered world.now by actor.now (Some (step.free_transaction name.now))) }
+{
+    if !world.holders.holds(Turn::Locks, by) || !has_transaction(actor, name) {
+        return Ok(false);
+    }
+    let unprepared = is_unprepared(world, name)?;
+    Ok(unprepared)
+}
+
+fn may_free_key(
+    world: &World,
+    by: usize,
+    actor: &Actor,
+    name: &Name,
+    key: &Key,
+) -> Result<bool, AllocError>
+    ensures { IfOk result (λ yes. yes ≡ true → IsOffered world.now by actor.now (option_map (λ t. step.free_key name.now t key.now) (finite.get actor.now.participant.transactions name.now))) }
+{
+    let Some(transaction) = actor.participant.transaction(name) else {
+        return Ok(false);
+    };
+    if !world.holders.holds(Turn::Locks, by) || !has_locked(transaction, key) {
+        return Ok(false);
+    }
+    let unprepared = is_unprepared(world, name)?;
+    Ok(unprepared)
+}
+
+pub(super) fn locks(
+    world: &World,
+    by: usize,
+    actor: &Actor,
+    kind: &LocksStep,
+) -> Result<bool, AllocError>
+    ensures { IfOk result (λ yes. yes ≡ true → IsOffered world.now by actor.now (locks_step world.now actor.now.participant kind.now)) }
+{
+    match kind {
+        LocksStep::TakeName(name, p) => may_take_name(world, by, name, *p),
+        LocksStep::LeaveName(name) => may_leave_name(world, by, actor, name),
+        LocksStep::FreeTransaction(name) => may_free_transaction(world, by, actor, name),
+        LocksStep::FreeKey(name, key) => may_free_key(world, by, actor, name, key),
+        _ => Ok(claims(world, by, actor, kind)),
+    }
+}
+
+/// The steps that ask no history.
+fn claims(world: &World, by: usize, actor: &Actor, kind: &LocksStep) -> bool
+    ensures { result ≡ true → IsOffered world.now by actor.now (locks_step world.now actor.now.participant kind.now) }
+{
+    if !world.holders.holds(Turn::Locks, by) {
+        return false;
+    }
+    match kind {
+        LocksStep::ClaimName(name) => world.locks.name(name).is_none() && actor.live,
+        LocksStep::LockKey(name, key) => {
+            actor.participant.transaction(name).is_some() && world.locks.holder(key).is_none()
+        }
+        LocksStep::LockDirect(key) => {
+            actor.participant.direct.is_none() && world.locks.holder(key).is_none()
+        }
+        LocksStep::FreeDirect(key) => actor.participant.direct.as_ref() == Some(key),
+        LocksStep::Tell(_) => true,
+        LocksStep::Hear(label) => world.locks.told(label).is_some(),
+        LocksStep::TakeName(_, _)
+        | LocksStep::LeaveName(_)
+        | LocksStep::FreeTransaction(_)
+        | LocksStep::FreeKey(_, _)
+        | LocksStep::FindHolder(_, _, _) => false,
+    }
+}

@@ -1,0 +1,269 @@
+//! Whether the first of the pending entries may be published.
+ghost use Rattle.std.specs.Prelude.{◌≡◌, ◌∷◌, true, Some, ℕ, List, Option, length, suc, option_map, IfOk};
+ghost use Rattle.std.specs.Option.{option_copied};
+ghost use Rattle.std.specs.FinSet as set;
+ghost use Rattle.std.specs.FinMap as finite;
+ghost use Rattle.wp_model.specs.Batch.{key_of, value_of, change_to};
+ghost use Rattle.wp_model.specs.History.{is_changed};
+ghost use Rattle.wp_model.specs.Legal.{IsLegalNext};
+ghost use Rattle.wp_model.specs.Versions.{version_at};
+ghost use Rattle.wp_model.specs.Decision.{version_in};
+ghost use Rattle.wp_model.specs.declared.entry.Entry.{Entry};
+ghost use Rattle.wp_model.specs.declared.holder.Holder.TheVariants.{Txn};
+ghost use Rattle.wp_judge.specs.Words.{CommitPair};
+ghost use Rattle.wp_core.specs.Cache.{cached};
+ghost use Rattle.wp_core.specs.Conditions.{IsHeldFor, IsOwn, IsPrepare, MayPublish, HasTransaction};
+ghost use Rattle.wp_core.specs.Entries.{changes_under, transaction_of, pair_by, pending_pair};
+ghost use Rattle.wp_core.specs.Sound.Views.{IsInMemory};
+ghost use Rattle.wp_machine.specs.Machine.{published_step};
+ghost use Rattle.wp_machine_needs.specs.Offered.{IsOffered};
+ghost use Rattle.wp_machine_needs.specs.Each.{Each};
+ghost use Rattle.wp_machine_permits.specs.Permits.{IsEntitled, IsHeldKey, IsLocked, IsMade, IsOwned, IsOwner};
+
+use crate::permitted::evicting::cached;
+use crate::permitted::history::{history_of, may_follow};
+use std::alloc::AllocError;
+use wp_history::History;
+use wp_machine::{Actor, Transaction, Turn, World};
+use wp_model::{Batch, Change, Entry, Holder, Key, Name, Seq, Value, Version};
+
+/// The changes whose keys the entry needs.
+fn changes_under<'a>(history: &'a History, entry: &'a Entry) -> &'a Batch
+    requires { IsLegalNext history.now.entries entry.now }
+    ensures { result.now ≡ changes_under history.now.entries entry.now }
+{
+    match entry {
+        Entry::Write(batch) | Entry::Prepare(_, batch) | Entry::Undo(_, batch) => batch,
+        Entry::Commit(p) | Entry::Close(p) => history.batch_at(*p),
+    }
+}
+
+/// The transaction that the entry is of, if it is of one.
+fn transaction_of<'a>(history: &'a History, entry: &'a Entry) -> Option<&'a Name>
+    requires { IsLegalNext history.now.entries entry.now }
+    ensures { option_copied result ≡ transaction_of history.now.entries entry.now }
+{
+    match entry {
+        Entry::Write(_) => None,
+        Entry::Prepare(name, _) => Some(name),
+        Entry::Commit(p) | Entry::Undo(p, _) | Entry::Close(p) => Some(history.name_at(*p)),
+    }
+}
+
+// ---- versions
+
+fn version_at<'a>(versions: &'a [Version], key: &Key, n: Seq) -> Option<Option<&'a Value>>
+    ensures { option_map option_copied result ≡ version_at versions.now key.now n }
+{
+    for version in versions {
+        if &version.key == key && version.number == n {
+            return Some(version.value.as_ref());
+        }
+    }
+    None
+}
+
+/// The version that the change leaves under the number is there.
+fn has_version(versions: &[Version], change: &Change, n: Seq) -> bool
+    ensures { result ≡ true → version_at versions.now (key_of change.now) n ≡ Some (value_of change.now) }
+{
+    match version_at(versions, change.key(), n) {
+        Some(value) => value == change.value(),
+        None => false,
+    }
+}
+
+fn have_versions(versions: &[Version], changes: &[Change], n: Seq) -> bool
+    ensures { result ≡ true → Each (λ change. version_at versions.now (key_of change) n ≡ Some (value_of change)) changes.now }
+{
+    for change in changes {
+        if !has_version(versions, change, n) {
+            return false;
+        }
+    }
+    true
+}
+
+/// The versions that the batch leaves under the number are in memory.
+fn have_all(memory: &[Version], batch: &Batch, n: Seq) -> bool
+    ensures { result ≡ true → (key : List ℕ) (value : Option (List ℕ)) → change_to batch.now key ≡ Some value → version_at memory.now key n ≡ Some value }
+{
+    have_versions(memory, batch.changes(), n)
+}
+
+/// The versions of the entry are in memory under the number.
+fn is_in_memory(memory: &[Version], entry: &Entry, n: Seq) -> bool
+    ensures { result ≡ true → (key : List ℕ) (value : Option (List ℕ)) → version_in (Some entry.now) key ≡ Some value → version_at memory.now key n ≡ Some value }
+{
+    match entry {
+        Entry::Write(batch) | Entry::Prepare(_, batch) | Entry::Undo(_, batch) => {
+            have_all(memory, batch, n)
+        }
+        Entry::Commit(_) | Entry::Close(_) => true,
+    }
+}
+
+// ---- keys
+
+/// The key is the one of the actor's direct write, and the client is the actor's.
+fn is_direct(actor: &Actor, key: &Key, client: &Name) -> bool
+    ensures { result ≡ true → (actor.now.participant.direct ≡ Some key.now) × (actor.now.participant.client ≡ client.now) }
+{
+    actor.participant.direct.as_ref() == Some(key)
+        && actor.participant.client.as_ref() == Some(client)
+}
+
+/// The transaction is the actor's.
+pub(super) fn has_transaction(actor: &Actor, name: &Name) -> bool
+    ensures { result ≡ true → IsOwned actor.now name.now }
+{
+    actor.participant.transaction(name).is_some()
+}
+
+/// The key is held for the actor.
+fn is_held_for(world: &World, actor: &Actor, key: &Key) -> bool
+    ensures { result ≡ true → IsHeldKey world.now actor.now key.now }
+{
+    match world.locks.holder(key) {
+        Some(Holder::Txn(name)) => has_transaction(actor, name),
+        Some(Holder::Client(client)) => is_direct(actor, key, client),
+        None => false,
+    }
+}
+
+fn are_held_for(world: &World, actor: &Actor, changes: &[Change]) -> bool
+    ensures { result ≡ true → Each (λ change. IsHeldKey world.now actor.now (key_of change)) changes.now }
+{
+    for change in changes {
+        if !is_held_for(world, actor, change.key()) {
+            return false;
+        }
+    }
+    true
+}
+
+/// Each key that the batch changes is held for the actor.
+fn has_keys(world: &World, actor: &Actor, batch: &Batch) -> bool
+    ensures { result ≡ true → (key : List ℕ) → is_changed batch.now key ≡ true → IsHeldFor world.now actor.now key }
+{
+    are_held_for(world, actor, batch.changes())
+}
+
+// ---- the transaction
+
+/// The table has the transaction as the holder of the key.
+fn is_held_by(world: &World, key: &Key, name: &Name) -> bool
+    ensures { result ≡ true → finite.get world.now.locks.keys key.now ≡ Some (Txn name.now) }
+{
+    match world.locks.holder(key) {
+        Some(Holder::Txn(other)) => other == name,
+        Some(Holder::Client(_)) | None => false,
+    }
+}
+
+/// The transaction locked the key.
+pub(super) fn has_locked(transaction: &Transaction, key: &Key) -> bool
+    ensures { result ≡ set.contains transaction.now.locked key.now }
+{
+    transaction.locked.contains(key)
+}
+
+fn are_locked(world: &World, transaction: &Transaction, name: &Name, changes: &[Change]) -> bool
+    ensures { result ≡ true → Each (λ change. IsLocked world.now transaction.now name.now (key_of change)) changes.now }
+{
+    for change in changes {
+        if !has_locked(transaction, change.key()) {
+            return false;
+        }
+        if !is_held_by(world, change.key(), name) {
+            return false;
+        }
+    }
+    true
+}
+
+/// The entry's transaction is the actor's, and the keys that the batch changes are held for it.
+fn is_own(world: &World, actor: &Actor, name: &Name, batch: &Batch) -> bool
+    ensures { result ≡ true → IsOwner world.now actor.now name.now batch.now }
+{
+    match actor.participant.transaction(name) {
+        Some(transaction) => are_locked(world, transaction, name, batch.changes()),
+        None => false,
+    }
+}
+
+fn is_of_own(world: &World, actor: &Actor, of: Option<&Name>, batch: &Batch) -> bool
+    ensures { result ≡ true → (name : List ℕ) → option_copied of.entry ≡ Some name → IsOwner world.now actor.now name batch.now }
+{
+    match of {
+        Some(name) => is_own(world, actor, name, batch),
+        None => true,
+    }
+}
+
+/// The entry may come next, its keys are held for the actor, and its transaction is the actor's.
+fn is_entitled(world: &World, actor: &Actor, entry: &Entry) -> Result<bool, AllocError>
+    ensures { IfOk result (λ entitled. entitled ≡ true → IsEntitled world.now actor.now entry.now) }
+{
+    let Some(history) = history_of(world)? else {
+        return Ok(false);
+    };
+    if !may_follow(&history, entry) {
+        return Ok(false);
+    }
+    let batch = changes_under(&history, entry);
+    if !has_keys(world, actor, batch) {
+        return Ok(false);
+    }
+    Ok(is_of_own(world, actor, transaction_of(&history, entry), batch))
+}
+
+// ---- what was made of it
+
+/// The number of a Prepare is in the heap.
+fn is_in_heap(world: &World, entry: &Entry, n: Seq) -> bool
+    ensures { result ≡ true → IsPrepare entry.now → set.contains world.now.prepared.heap n ≡ true }
+{
+    match entry {
+        Entry::Prepare(_, _) => world.prepared.is_in_heap(n),
+        Entry::Write(_) | Entry::Commit(_) | Entry::Undo(_, _) | Entry::Close(_) => true,
+    }
+}
+
+/// The pair of any other entry is in its word.
+fn is_in_word(world: &World, entry: &Entry, n: Seq) -> bool
+    ensures { result ≡ true → (pair : CommitPair) → pair_by n entry.now ≡ Some pair → cached world.now.cache pair.number ≡ Some pair.decision }
+{
+    match entry {
+        Entry::Prepare(_, _) => true,
+        Entry::Write(_) | Entry::Undo(_, _) => cached(&world.cache, n) == Some(n),
+        Entry::Commit(p) | Entry::Close(p) => cached(&world.cache, *p) == Some(n),
+    }
+}
+
+fn is_made(world: &World, entry: &Entry) -> Result<bool, AllocError>
+    ensures { IfOk result (λ made. made ≡ true → IsMade world.now entry.now) }
+{
+    let n = world.writes.next_number()?;
+    Ok(
+        is_in_memory(&world.store.memory, entry, n)
+            && is_in_heap(world, entry, n)
+            && is_in_word(world, entry, n),
+    )
+}
+
+pub(super) fn may_publish(world: &World, by: usize, actor: &Actor) -> Result<bool, AllocError>
+    ensures { IfOk result (λ yes. yes ≡ true → IsOffered world.now by actor.now (published_step world.now.writes.pending)) }
+{
+    if !world.holders.holds(Turn::Write, by) || !world.writes.logged {
+        return Ok(false);
+    }
+    let Some(entry) = world.writes.pending.first() else {
+        return Ok(false);
+    };
+    if !is_entitled(world, actor, entry)? {
+        return Ok(false);
+    }
+    let made = is_made(world, entry)?;
+    Ok(made)
+}

@@ -1,0 +1,52 @@
+//! Whether a turn may be taken or given.
+ghost use Rattle.std.specs.Prelude.{◌≡◌, true};
+ghost use Rattle.wp_core.specs.Conditions.{MayGive};
+ghost use Rattle.wp_core.specs.Tables.{NoneDelayed, NoOldCommits};
+ghost use Rattle.wp_machine.specs.Parts.{turn_of};
+ghost use Rattle.wp_machine.specs.Machine.{turn_step};
+ghost use Rattle.wp_machine_needs.specs.Offered.{IsOffered};
+
+use crate::permitted::empty::{has_no_old_commits, none_delayed};
+use wp_machine::{Actor, Turn, TurnStep, World};
+use wp_machine_needs::has_last_tables;
+
+/// With nothing delayed the flag is down.
+fn delayed_flag_is_right(world: &World) -> bool
+    ensures { result ≡ true → NoneDelayed world.now.prepared → world.now.delayed_flag ≡ 0 }
+{
+    if world.delayed_flag == 0 {
+        return true;
+    }
+    !none_delayed(&world.prepared)
+}
+
+/// With the old commit map empty the flag is down.
+fn old_flag_is_right(world: &World) -> bool
+    ensures { result ≡ true → NoOldCommits world.now.snapshots → world.now.old_flag ≡ 0 }
+{
+    if world.old_flag == 0 {
+        return true;
+    }
+    !has_no_old_commits(&world.snapshots)
+}
+
+fn may_give(world: &World, turn: Turn) -> bool
+    ensures { result ≡ true → MayGive world.now (turn_of turn) }
+{
+    match turn {
+        Turn::Write => world.writes.pending.is_empty(),
+        Turn::Prepared => delayed_flag_is_right(world),
+        Turn::Snapshots => old_flag_is_right(world),
+        Turn::Store | Turn::Locks => true,
+        Turn::Tables => has_last_tables(world),
+    }
+}
+
+pub(super) fn turn(world: &World, by: usize, actor: &Actor, kind: &TurnStep) -> bool
+    ensures { result ≡ true → IsOffered world.now by actor.now (turn_step kind.now) }
+{
+    match kind {
+        TurnStep::Take(turn) => world.holders.of(*turn).is_none() && actor.live,
+        TurnStep::Give(turn) => world.holders.holds(*turn, by) && may_give(world, *turn),
+    }
+}

@@ -1,0 +1,267 @@
+-- An opened store is an opening world of the machine.
+use Rattle.std.proofs.Common.{◌≡◌, ◌⊎◌, inl, inr, ℕ, ◌+◌, ◌<◌, ◌≤◌, true, false, true≢false, List, [], ◌∷◌, ◌++◌, length, replicate, Option, Some, None, is_some, refl, sym, ap, ◌∙◌, subst, append-nil, arith}
+use mathlib.Core.Option.{some}
+use lib.ListN.{get_elem?}
+use Rattle.std.proofs.lemmas.Bool.{cases_lt}
+use Rattle.std.proofs.lemmas.List.{length-replicate}
+use Rattle.std.proofs.lemmas.List.Elements.{All-replicate}
+use Rattle.std.proofs.lemmas.List.FromFn.{length-range_with_len, get_or-range_with_len}
+use Rattle.std.proofs.lemmas.List.Kept.{IsStrictlyIncreasing-filter}
+use Rattle.std.specs.FinMap as finite
+use Rattle.std.specs.List.{range_with_len}
+use Rattle.std.specs.List.Sorted.{IsStrictlyIncreasing}
+use Rattle.std.specs.Option.{option_or}
+use Rattle.std.specs.Ordering.{nat_cmp}
+use Rattle.wp_model.specs.declared.entry.Entry.{Entry}
+use Rattle.wp_model.specs.declared.entry.Entry.TheVariants as entry
+use Rattle.wp_model.specs.declared.version.Version.{Version}
+use Rattle.wp_model.specs.Covered.{IsCovered, is_among}
+use Rattle.wp_model.specs.Flushed.{InstalledEdit, IsEditCovered, later_versions}
+use Rattle.wp_model.specs.History.{is_undecided, undecided}
+use Rattle.wp_model.specs.Legal.{undone_last}
+use Rattle.wp_model.specs.LockTables.{LockTables}
+use Rattle.wp_model.specs.PreparedTables.{PreparedTables}
+use Rattle.wp_model.specs.Versions.{version_at}
+use Rattle.wp_model.proofs.Entries.{undone_after}
+use Rattle.wp_outside.specs.Disk.{Moment, IfKnown, added, after_sync}
+use Rattle.wp_entry.specs.Record.{FormRecord}
+use Rattle.wp_manifest.specs.Edit.{Edit}
+use Rattle.wp_manifest.specs.Manifest.{ManifestState}
+use Rattle.wp_merge.specs.Merge.{first_at, joined, sorted_of}
+use Rattle.wp_merge.proofs.Merged.{or_none}
+use Rattle.wp_merge.proofs.Sorted.{at_sorted, merged_is_sorted}
+use Rattle.wp_open.specs.Opens.{installed_of}
+use Rattle.wp_open.specs.Parts.{PartsOpened}
+use Rattle.wp_open.proofs.Later.{at_append}
+use Rattle.wp_store.specs.Store.{StoreParts}
+use Rattle.wp_table.specs.File.{HasTables}
+use Rattle.wp_tableset.specs.Set.{RestsWith}
+use Rattle.wp_wal.specs.Spelling.{AreEntries}
+use Rattle.wp_wal.specs.Wal.{WalState}
+use Rattle.wp_core.specs.Turns.{Turn, write_turn, prepared_turn, snapshots_turn, store_turn, locks_turn, tables_turn, all_free}
+use Rattle.wp_core.specs.Changes.{turn_index}
+use Rattle.wp_core.specs.Runs.{IsOpening, AreOpened}
+use Rattle.wp_core.specs.Sound.Store.{IsStored, NoneFlushed}
+use Rattle.wp_core.specs.Tables.{Installed, live_numbers, up_to}
+use Rattle.wp_core.specs.World.{World, new_actor, content_of}
+use Rattle.wp_core.proofs.PendingVersions.{covers_same}
+use Rattle.wp_core.proofs.PublishesVersions.{up_to_within, up_to_past}
+use Rattle.wp_core.proofs.SnapshotsStep.{among_live}
+use Rattle.wp_core.proofs.Tests.{none_some}
+use Rattle.wp_rule.specs.Shows.{Founds, IsPart}
+use Rattle.wp_parts.specs.Log.{log_state}
+use Rattle.wp_parts.specs.Stock.{store_table}
+use Rattle.wp_parts.specs.Edits.{edits_state}
+use Rattle.wp_parts.specs.Opening.{AreDelayed, IsFlagOf, running_set, slots_of}
+use Rattle.wp_parts.specs.Parts.{content, Tells, tells}
+use Rattle.wp_parts.specs.declared.part.Part.{Part}
+use Rattle.wp_parts.specs.declared.part.Part.TheVariants as part
+use Rattle.wp_parts.proofs.StockLemmas.{at_parts}
+use Rattle.wp_parts.proofs.EditsLemmas.{none_asked}
+use Rattle.wp_parts.proofs.LaterVersions.{later_none, later_each, later_past, tables_none}
+
+abbrev Found : Type 0
+Found = Option (Option (List ℕ))
+
+-- ---- what the log spells ends in no undo
+
+record_closes : (first : ℕ) (entries : List Entry) → FormRecord first entries → undone_last entries ≡ None
+record_closes first (entry.Write batch ∷ []) form = refl
+record_closes first (entry.Prepare name batch ∷ []) form = refl
+record_closes first (entry.Commit p ∷ []) form = refl
+record_closes first (entry.Undo p batch ∷ entry.Close q ∷ []) form = refl
+record_closes first others form = absurd form
+
+closes_after : (front rest : List Entry) → undone_last front ≡ None → undone_last rest ≡ None → undone_last (front ++ rest) ≡ None
+closes_after front [] closed rest_closed = ap undone_last (append-nil front) ∙ closed
+closes_after front (e ∷ rest) closed rest_closed = undone_after front rest e ∙ rest_closed
+
+pub all_close : (first : ℕ) (records : List (List ℕ)) (entries : List Entry) → AreEntries first records entries → undone_last entries ≡ None
+all_close first [] entries is = ap undone_last is
+all_close first (r ∷ records) entries (front, rest, parts, is, bytes, more) =
+    ap undone_last parts ∙ closes_after front rest (record_closes first front is.form) (all_close (first + length front) records rest more)
+
+-- ---- the tables at rest
+
+synced_rests : (id : ℕ) (edit : Edit) (parts : List (List Version)) (old new : List Moment) → new ≡ added after_sync old → IfKnown old (λ m. HasTables id edit.flushed m.reads edit.tables parts) → IfKnown new (RestsWith id edit parts)
+synced_rests id edit parts [] new is there = rw is tt
+synced_rests id edit parts (m ∷ past) new is there = rw is (record { bytes = m.reads; on_disk = refl; tables = there })
+
+-- ---- the undecided numbers
+
+pub undecided_rise : (history : List Entry) → IsStrictlyIncreasing (undecided history)
+undecided_rise history = IsStrictlyIncreasing-filter (is_undecided history) (range_with_len 1 (length history)) rise
+  where
+    rise : IsStrictlyIncreasing (range_with_len 1 (length history))
+    rise k within =
+        let size : length (range_with_len 1 (length history)) ≡ length history = length-range_with_len 1 (length history) in
+        rw (get_or-range_with_len 1 (length history) k 0 (omega (arith, within, size)), get_or-range_with_len 1 (length history) (k + 1) 0 (omega (arith, within, size))) (omega arith)
+
+-- ---- versions
+
+either_order : (a b : Found) → (a ≡ None) ⊎ (b ≡ None) → option_or a b ≡ option_or b a
+either_order None None none = refl
+either_order None (Some v) none = refl
+either_order (Some v) None none = refl
+either_order (Some v) (Some u) (inl none) = absurd cc
+either_order (Some v) (Some u) (inr none) = absurd cc
+
+none_live : (n : ℕ) → is_among (live_numbers finite.empty) n ≡ true → ⊥
+none_live n among = true≢false (sym among ∙ among_live finite.empty n ∙ ap is_some (finite.get-empty nat_cmp n))
+
+module _ (asked : ℕ) (log manifest tables : List Moment) (wal : WalState) (history : List Entry) (edits : ManifestState) (now : List Moment) (store : StoreParts) (opened : PartsOpened asked log manifest tables wal history edits now store) where
+  pub rests : IfKnown now (RestsWith edits.log.id edits.edit store.tables)
+  rests = rw opened.installed.id_is (synced_rests wal.id edits.edit store.tables tables now opened.synced opened.there)
+
+  abbrev flushed : ℕ
+  flushed = edits.edit.flushed
+
+  abbrev memory : List Version
+  memory = sorted_of (joined (store.memory ∷ store.frozen))
+
+  abbrev in_tables : List Version
+  in_tables = sorted_of (joined store.tables)
+
+  abbrev later : List Version
+  later = later_versions history flushed
+
+  abbrev last : InstalledEdit
+  last = installed_of edits.edit store.tables
+
+  covered : IsEditCovered history last
+  covered = subst (λ (vs : List Version). IsEditCovered history (record { flushed = flushed; versions = vs; tables = length store.tables })) (merged_is_sorted store.tables opened.store.covering.all opened.store.covering.merged) opened.store.covering.covered
+
+  at_memory : (key : List ℕ) (p : ℕ) → version_at memory key p ≡ version_at later key p
+  at_memory key p =
+      at_parts (store.memory ∷ store.frozen) key p
+      ∙ ap (λ (parts : List (List Version)). option_or (version_at store.memory key p) (first_at parts key p)) opened.store.frozen
+      ∙ or_none key p (version_at store.memory key p)
+      ∙ ap (λ (vs : List Version). version_at vs key p) opened.store.memory
+      ∙ at_sorted later key p
+
+  at_tables : (key : List ℕ) (p : ℕ) → flushed < p → version_at in_tables key p ≡ None
+  at_tables key p above = at_parts store.tables key p ∙ tables_none wal.id flushed store.tables opened.are key p above
+
+  -- memory and tables have what the edit and the later versions have
+  at_all : (key : List ℕ) (p : ℕ) → version_at (memory ++ in_tables) key p ≡ version_at (in_tables ++ later) key p
+  at_all key p =
+      at_append memory in_tables key p
+      ∙ ap (λ (o : Found). option_or o (version_at in_tables key p)) (at_memory key p)
+      ∙ either_order (version_at later key p) (version_at in_tables key p) (apart (cases_lt flushed p))
+      ∙ sym (at_append in_tables later key p)
+    where
+      apart : (flushed < p) ⊎ (p ≤ flushed) → (version_at later key p ≡ None) ⊎ (version_at in_tables key p ≡ None)
+      apart (inl above) = inr (at_tables key p above)
+      apart (inr low) = inl (later_none history flushed key p low)
+
+  memory_past : (key : List ℕ) (p : ℕ) → length history < p → version_at memory key p ≡ None
+  memory_past key p above = at_memory key p ∙ later_past history flushed key p opened.legal covered.flushed above
+
+  within : (key : List ℕ) (p : ℕ) → version_at (up_to (length history) (memory ++ in_tables)) key p ≡ version_at (in_tables ++ later) key p
+  within key p = elim (cases_lt (length history) p) [
+    | inr low ↦ up_to_within (length history) (memory ++ in_tables) key p low ∙ at_all key p
+    | inl above ↦
+        up_to_past (length history) (memory ++ in_tables) key p above
+        ∙ sym (at_append in_tables later key p ∙ ap (λ (o : Found). option_or o (version_at later key p)) (at_tables key p (omega (arith, above, covered.flushed))) ∙ later_past history flushed key p opened.legal covered.flushed above)
+  ]
+
+  shown : IsCovered (up_to (length history) (memory ++ in_tables)) history [] (length history)
+  shown = covers_same (in_tables ++ later) (up_to (length history) (memory ++ in_tables)) history [] (length history) within covered.covered
+
+  in_edit : (key : List ℕ) (p : ℕ) (value : Option (List ℕ)) → version_at in_tables key p ≡ Some value → version_at (in_tables ++ later) key p ≡ Some value
+  in_edit key p value is = at_append in_tables later key p ∙ ap (λ (o : Found). option_or o (version_at later key p)) is
+
+  stored : (failed : Option InstalledEdit) → failed ≡ None → IsStored history [] finite.empty (record { memory = memory; tables = in_tables; floor = length history }) (record { last = last; failed = failed; halted = false })
+  stored failed none = record {
+    covered = record { part = shown.part; undecided = shown.undecided; undone = shown.undone; listed = λ key n among. absurd (none_live n among); later = shown.later };
+    floor = omega arith;
+    next = λ key p value above is. absurd (none_some (version_at memory key p) value (memory_past key p above) is);
+    tables = λ key p value is. covered.covered.part key p value (in_edit key p value is);
+    last = covered;
+    failed = λ edit is. absurd (none_some failed edit none is);
+    in_memory = λ key p value above is. at_memory key p ∙ later_each history flushed key p opened.legal above ∙ is;
+  }
+
+  none_flushed : NoneFlushed memory flushed
+  none_flushed key p low = at_memory key p ∙ later_none history flushed key p low
+
+  -- ---- the world
+
+  module _ (faults : ℕ) (t : PreparedTables) (names : LockTables) (delayed : AreDelayed history t) (are_opened : AreOpened history names) (client : List ℕ) (cells flag : ℕ) (some_cells : 1 ≤ cells) (flagged : IsFlagOf history flag) where
+    abbrev installed : Installed
+    installed = (edits_state (running_set edits now faults) (running_set edits now faults) store.tables None).table
+
+    abbrev opened_world : World
+    opened_world = record {
+      opened = history;
+      max_evicted = length history;
+      delayed_flag = flag;
+      old_flag = 0;
+      cache = replicate cells 0;
+      holders = all_free;
+      writes = (log_state wal wal history [] false []).table;
+      prepared = t;
+      snapshots = finite.empty;
+      store = store_table (record { parts = store; floor = length history });
+      locks = names;
+      installed = installed;
+      first_edit = last;
+      actors = new_actor true client history ∷ [];
+    }
+
+    none_failed : installed.failed ≡ None
+    none_failed = none_asked edits.log.closed store.tables
+
+    opens : IsOpening opened_world
+    opens = record {
+      legal = opened.legal;
+      closed_undo = all_close 1 opened.stores.records history opened.stores.spelled;
+      history = refl;
+      pending = refl;
+      log = refl;
+      running_log = opened.running;
+      none_failed = refl;
+      max_evicted = refl;
+      words = rw length-replicate some_cells;
+      cache = All-replicate (λ word. word ≡ 0) cells 0 refl;
+      holders = refl;
+      heap = delayed.heap;
+      delayed = delayed.delayed;
+      delayed_commits = delayed.delayed_commits;
+      delayed_flag = flagged.0;
+      delayed_free = flagged.1;
+      old_flag = refl;
+      snapshots = refl;
+      versions = stored installed.failed none_failed;
+      settled = (none_flushed, refl);
+      first_edit = refl;
+      not_failed = none_failed;
+      running = refl;
+      locks = are_opened;
+      client = client;
+      actors = refl;
+    }
+
+    module _ {D : Type 0} (slots : List (Part D)) (are : slots ≡ slots_of wal history store (running_set edits now faults) t names) (log_told : Tells {D = D} (part.Write (log_state wal wal history [] false []))) (set_told : Tells {D = D} (part.Tables (edits_state (running_set edits now faults) (running_set edits now faults) store.tables None))) where
+      abbrev list : List (Part D)
+      list = slots_of wal history store (running_set edits now faults) t names
+
+      each : (turn : Turn) → (x : Part D) × (get_elem? list (turn_index turn) ≡ some x) × IsPart content (tells list) x (content_of opened_world turn)
+      each write_turn = (part.Write (log_state wal wal history [] false []), refl, (refl, (log_told, refl)))
+      each prepared_turn = (part.Prepared t, refl, (refl, (tt, tt)))
+      each snapshots_turn = (part.Snapshots finite.empty, refl, (refl, (tt, tt)))
+      each store_turn = (part.Store (record { parts = store; floor = length history }), refl, (refl, (tt, tt)))
+      each locks_turn = (part.Locks names, refl, (refl, (tt, tt)))
+      each tables_turn = (part.Tables (edits_state (running_set edits now faults) (running_set edits now faults) store.tables None), refl, (refl, (set_told, refl)))
+
+      pub founds : Founds content (tells slots) client history cells flag slots
+      founds = subst (λ (xs : List (Part D)). Founds content (tells xs) client history cells flag xs) (sym are) record {
+        world = opened_world;
+        opening = opens;
+        opened_is = refl;
+        cells_are = length-replicate cells 0;
+        flag_is = refl;
+        actors_are = refl;
+        deep = refl;
+        parts = each;
+      }

@@ -1,0 +1,10 @@
+use Rattle.wp_parts.proofs.OpeningLemmas.{undecided_rise}
+use Rattle.wp_parts.proofs.opening.room_for.Goals as goal
+
+pub delaying-requires : goal.delaying-requires
+delaying-requires g c = rw c.undecided.ensures (undecided_rise c.args.parts.now.history.entries)
+
+pub returns-clause-prepared : goal.returns-clause-prepared
+returns-clause-prepared g c =
+    let t = c.in_ok-prepared.ensures in
+    record { heap = t.heap; delayed = rw c.undecided.ensures at t.delayed; delayed_commits = t.delayed_commits }

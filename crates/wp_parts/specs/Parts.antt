@@ -1,0 +1,57 @@
+-- What lies behind the turns, and what it was when the table of the words was made.
+use Rattle.std.specs.Prelude.{◌≡◌, List, Option, Some, None}
+use mathlib.Core.Option.{some}
+use mathlib.Core.Option as maybe
+use lib.ListN.{get_elem?}
+use Rattle.wp_outside.specs.Disk.{images}
+use Rattle.wp_tableset.specs.Set.{TableSetState}
+use Rattle.wp_wal.specs.Wal.{WalState}
+use Rattle.wp_core.specs.Images.{LogTells, ManifestTells, TablesTell}
+use Rattle.wp_core.specs.Tables.{Content, writes, prepared, snapshots, store, locks, installed}
+use Rattle.wp_parts.specs.Log.{spells}
+use Rattle.wp_parts.specs.Stock.{store_table}
+use Rattle.wp_parts.specs.Edits.{IsNamed, HasTablesOf}
+use Rattle.wp_parts.specs.declared.part.Part.{Part}
+use Rattle.wp_parts.specs.declared.part.Part.TheVariants as part
+
+-- the table of the machine that it is; none where it only stands in for one
+abbrev pub content : {D : Type 0} → Part D → Option Content
+content part.Away = None
+content (part.Write log) = Some (writes log.table)
+content (part.Prepared tables) = Some (prepared tables)
+content (part.Snapshots tables) = Some (snapshots tables)
+content (part.Store stock) = Some (store (store_table stock))
+content (part.Locks tables) = Some (locks tables)
+content (part.Tables edits) = Some (installed edits.table)
+
+-- what a crash leaves of its devices is as its table says
+abbrev pub Tells : {D : Type 0} → Part D → Type 0
+Tells (part.Write log) = LogTells (images log.wal.moments) (spells log) log.table
+Tells (part.Tables edits) = ManifestTells (images edits.set.manifest.log.moments) (IsNamed edits) edits.table × TablesTell (images edits.set.moments) (HasTablesOf edits) edits.table
+Tells other = Unit {0}
+
+-- ---- as it was opened
+
+abbrev pub opened_log : {D : Type 0} → maybe.Option (Part D) → Option WalState
+opened_log (some (part.Write log)) = Some log.first
+opened_log other = None
+
+abbrev pub opened_set : {D : Type 0} → maybe.Option (Part D) → Option TableSetState
+opened_set (some (part.Tables edits)) = Some edits.first
+opened_set other = None
+
+-- of the values behind the turns, in the turns' order: the log as it was opened, and the set of tables
+abbrev pub log_first : {D : Type 0} → List (Part D) → Option WalState
+log_first slots = opened_log (get_elem? slots 0)
+
+abbrev pub set_first : {D : Type 0} → List (Part D) → Option TableSetState
+set_first slots = opened_set (get_elem? slots 5)
+
+-- its devices were opened as these were
+abbrev pub IsAnchored : {D : Type 0} → List (Part D) → Part D → Type 0
+IsAnchored first (part.Write log) = log_first first ≡ Some log.first
+IsAnchored first (part.Tables edits) = set_first first ≡ Some edits.first
+IsAnchored first other = Unit {0}
+
+abbrev pub tells : {D : Type 0} → List (Part D) → Part D → Type 0
+tells first x = Tells x × IsAnchored first x

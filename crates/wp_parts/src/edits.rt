@@ -1,0 +1,206 @@
+//! What the tables turn guards: the tables on their two devices.
+ghost use Rattle.std.specs.Prelude.{◌≡◌, ◌≤◌, ◌<◌, ◌^◌, true, false, [], ◌∷◌, None, List, length, vec_capacity, IfOk, IfErr, OnOk};
+ghost use Rattle.std.specs.Arc.{arc_value};
+ghost use Rattle.std.specs.List.{list_all};
+ghost use Rattle.std.specs.Option.{option_map};
+ghost use Rattle.wp_outside.specs.Disk.{images};
+ghost use Rattle.wp_manifest.specs.Edit.{Edit, no_edit};
+ghost use Rattle.wp_merge.specs.Merge.{joined, sorted_of};
+ghost use Rattle.wp_store.specs.Store.{with_newest};
+ghost use Rattle.wp_table.specs.Table.{is_flushed, is_numbered};
+ghost use Rattle.wp_tableset.specs.Changes.{compacted_parts, one_part};
+ghost use Rattle.wp_tableset.specs.Set.{StoresTables};
+ghost use Rattle.wp_core.specs.Images.{ManifestTells, TablesTell};
+ghost use Rattle.wp_parts.specs.Edits.{IsEdits, IsNamed, HasTablesOf, edits_state};
+ghost use Rattle.wp_parts.specs.Installs.{with_table, in_one_table, HadCause, IsRefused, SurvivesInstall};
+
+use crate::table_versions::TableVersions;
+use std::marker::Model;
+use std::snapshot::Snapshot;
+use std::sync::Arc;
+use wp_core::HoldsEdit;
+use wp_model::{Seq, Versions};
+use wp_outside::Disk;
+use wp_store::Gone;
+use wp_table::Table;
+use wp_tableset::{SetDisks, TableSet, TableSetError};
+
+/// What an install that was refused asked for: a table of these versions in place of what was to go, and the flushed number.
+#[derive(Drop)]
+pub struct FailedInstall {
+    flushed: Seq,
+    gone: Gone,
+    versions: Snapshot<Versions>,
+}
+
+/// The set of tables, and what the tables of its last edit have, the newest first. Clauses see the table of the machine that it
+/// is, the set, the versions of each table, and the set as it was when this value was made.
+#[derive(Drop)]
+pub struct Edits<D: Disk> {
+    set: TableSet<D>,
+    tables: Vec<TableVersions>,
+    failed: Option<FailedInstall>,
+    first: Snapshot<TableSet<D>>,
+}
+
+impl<D: Disk> Model for Edits<D> {
+    ghost use Rattle.wp_parts.specs.Edits.{EditsState, edits_state, IsEdits};
+
+    ghost Value = { EditsState };
+
+    ghost view = { λ e. edits_state e.set e.first.value e.tables.items e.failed };
+
+    ghost invariant = { λ e. IsEdits (edits_state e.set e.first.value e.tables.items e.failed) };
+}
+
+impl<D: Disk> HoldsEdit for Edits<D> {
+    ghost installed = { λ edits. edits.table };
+
+    ghost manifest_images = { λ edits. images edits.set.manifest.log.moments };
+
+    ghost names = { IsNamed };
+
+    ghost tables_images = { λ edits. images edits.set.moments };
+
+    ghost has_tables = { HasTablesOf };
+}
+
+/// What the tables have, where this one, if there is one, is in place of all.
+fn put_alone(tables: &mut Vec<TableVersions>, table: &Option<Arc<Table>>)
+    requires room { 1 ≤ vec_capacity tables.old }
+    ensures { tables.new.items ≡ with_newest (option_map arc_value table.now) [] }
+{
+    tables.clear();
+    if let Some(table) = table {
+        tables.push(TableVersions::of(table)).unwrap();
+    }
+}
+
+impl<D: Disk> Edits<D> {
+    /// The set as an opening gives it, with what the tables of its last edit have, the newest first.
+    pub fn new(set: TableSet<D>, tables: Vec<TableVersions>) -> Edits<D>
+        requires stores { (edits : List Edit) × StoresTables set edits no_edit tables.items [] }
+        requires flushed { list_all (is_flushed set.manifest.edit.flushed) (sorted_of (joined tables.items)) ≡ true }
+        requires running { set.halted ≡ false }
+        ensures { result ≡ edits_state set set tables.items None }
+    {
+        set.is_halted();
+        Edits {
+            first: Snapshot::of(&set),
+            set,
+            tables,
+            failed: None,
+        }
+    }
+
+    /// Whether a device of the tables has failed.
+    pub fn is_halted(&self) -> bool
+        ensures { result ≡ self.now.table.halted }
+    {
+        self.set.is_halted()
+    }
+
+    /// The number up to which entries were flushed.
+    pub fn flushed(&self) -> Seq
+        ensures number { result ≡ self.now.table.last.flushed }
+        ensures tables { list_all (is_flushed result) self.now.table.last.versions ≡ true }
+    {
+        self.set.edit().flushed
+    }
+
+    /// How many tables there are.
+    pub fn table_count(&self) -> usize
+        ensures { result ≡ self.now.table.last.tables }
+    {
+        self.tables.len()
+    }
+
+    /// Writes a table of these versions, and installs an edit with it, the newest table. The entries up to `flushed` are in the
+    /// tables then, more than before. The table is for readers.
+    pub fn flush(&mut self, versions: &Versions, flushed: Seq) -> Result<Arc<Table>, TableSetError>
+        requires running { self.old.table.halted ≡ false }
+        requires some { 1 ≤ length versions.now }
+        requires numbered { list_all is_numbered versions.now ≡ true }
+        requires flushed { list_all (is_flushed flushed) versions.now ≡ true }
+        requires later { self.old.table.last.flushed < flushed }
+        requires fits { flushed < 2 ^ 32 }
+        ensures table { IfOk result (λ table. arc_value table ≡ versions.now) }
+        ensures installed { OnOk result (self.new.table ≡ record self.old.table { last = with_table versions.now flushed self.old.table.last }) }
+        ensures parts { OnOk result (self.new.parts ≡ versions.now ∷ self.old.parts) }
+        ensures refused { IfErr result (IsRefused self.old.table self.new.table (with_table versions.now flushed self.old.table.last)) }
+        ensures cause { IfErr result (HadCause self.old.set self.new.set) }
+        ensures survives { SurvivesInstall self.old self.new (with_table versions.now flushed self.old.table.last) }
+        ensures first { self.new.first ≡ self.old.first }
+    {
+        self.tables.reserve(1)?;
+        match self.set.flush(versions, flushed) {
+            Ok(table) => {
+                self.set.is_halted();
+                self.tables.insert(0, TableVersions::of(&table)).unwrap();
+                Ok(table)
+            }
+            Err(why) => {
+                self.failed = Some(FailedInstall {
+                    flushed,
+                    gone: Gone::Frozen,
+                    versions: Snapshot::of(versions),
+                });
+                Err(why)
+            }
+        }
+    }
+
+    /// Writes a table of these versions, and installs an edit with it in place of all tables. Without a version the edit has no
+    /// table, and the tables' device is not called. The table, if there is one, is for readers.
+    pub fn compact(&mut self, versions: &Versions) -> Result<Option<Arc<Table>>, TableSetError>
+        requires running { self.old.table.halted ≡ false }
+        requires numbered { list_all is_numbered versions.now ≡ true }
+        requires flushed { list_all (is_flushed self.old.table.last.flushed) versions.now ≡ true }
+        ensures table { IfOk result (λ table. option_map arc_value table ≡ one_part versions.now) }
+        ensures installed { OnOk result (self.new.table ≡ record self.old.table { last = in_one_table versions.now self.old.table.last }) }
+        ensures parts { OnOk result (self.new.parts ≡ compacted_parts versions.now) }
+        ensures refused { IfErr result (IsRefused self.old.table self.new.table (in_one_table versions.now self.old.table.last)) }
+        ensures cause { IfErr result (HadCause self.old.set self.new.set) }
+        ensures survives { SurvivesInstall self.old self.new (in_one_table versions.now self.old.table.last) }
+        ensures uncalled { versions.now ≡ [] → (self.new.set.moments ≡ self.old.set.moments) × (self.new.set.faults ≡ self.old.set.faults) }
+        ensures first { self.new.first ≡ self.old.first }
+    {
+        versions.as_slice();
+        let flushed = self.set.edit().flushed;
+        self.tables.reserve(1)?;
+        match self.set.compact(versions) {
+            Ok(table) => {
+                self.set.is_halted();
+                put_alone(&mut self.tables, &table);
+                Ok(table)
+            }
+            Err(why) => {
+                self.failed = Some(FailedInstall {
+                    flushed,
+                    gone: Gone::Tables,
+                    versions: Snapshot::of(versions),
+                });
+                Err(why)
+            }
+        }
+    }
+
+    /// For the proof alone: what a crash leaves of the devices is as the table says.
+    pub fn told(&self)
+        ensures manifest { ManifestTells (images self.now.set.manifest.log.moments) (IsNamed self.now) self.now.table }
+        ensures tables { TablesTell (images self.now.set.moments) (HasTablesOf self.now) self.now.table }
+        ensures edits { IsEdits self.now }
+    {
+        let _ = &self.set;
+    }
+
+    /// The two devices.
+    pub fn into_disks(self) -> SetDisks<D>
+        ensures manifest { (D.moments result.manifest ≡ self.set.manifest.log.moments) × (D.faults result.manifest ≡ self.set.manifest.log.faults) }
+        ensures tables { (D.moments result.tables ≡ self.set.moments) × (D.faults result.tables ≡ self.set.faults) }
+        ensures edits { IsEdits self }
+    {
+        let Edits { set, .. } = self;
+        set.into_disks()
+    }
+}

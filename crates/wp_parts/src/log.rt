@@ -1,0 +1,196 @@
+//! What the write turn guards: the history with its pending record, and the log.
+ghost use Rattle.std.specs.Prelude.{◌≡◌, ◌≢◌, ◌≤◌, ◌<◌, ◌^◌, true, false, List, [], ◌∷◌, ◌++◌, length, IfErr, OnOk, OnErr};
+ghost use Rattle.wp_model.specs.declared.entry.Entry.{Entry};
+ghost use Rattle.wp_model.specs.Legal.{IsLegal};
+ghost use Rattle.wp_outside.specs.Disk.{images, Passes};
+ghost use Rattle.wp_outside.specs.Faults.{Rose};
+ghost use Rattle.wp_gatelog.specs.Moments.{Leaves};
+ghost use Rattle.wp_wal.specs.Spelling.{IsLogOrNext};
+ghost use Rattle.wp_wal.specs.Wal.{LosesNothing, StoresHistory, reserved_of};
+ghost use Rattle.wp_core.specs.Effects.{with_entry};
+ghost use Rattle.wp_core.specs.Entries.{IsOneRecord};
+ghost use Rattle.wp_core.specs.Images.{LogTells};
+ghost use Rattle.wp_parts.specs.Log.{IsLog, log_state, spells};
+
+use std::alloc::Global;
+use std::marker::Model;
+use std::mem;
+use std::snapshot::Snapshot;
+use wp_core::HoldsLog;
+use wp_gatelog::AppendError;
+use wp_history::History;
+use wp_model::{Entry, Seq};
+use wp_outside::{Disk, Failed};
+use wp_wal::Wal;
+
+/// The history, with the record that is pending, and the log. Clauses see the table of the machine that it is, the log, and
+/// the log as it was when this value was made.
+///
+/// A record is made pending with all the memory that it will need. From then on it is appended, and its entries join the
+/// history one by one; or it is dropped.
+#[derive(Drop)]
+pub struct Log<D: Disk> {
+    alloc: Global,
+    wal: Wal<D>,
+    history: History,
+    pending: Vec<Entry>,
+    logged: bool,
+    closed: bool,
+    failed: Snapshot<Vec<Entry>>,
+    first: Snapshot<Wal<D>>,
+}
+
+impl<D: Disk> Model for Log<D> {
+    ghost use Rattle.wp_parts.specs.Log.{LogState, log_state, IsKept};
+
+    ghost Value = { LogState };
+
+    ghost view = { λ l. log_state l.wal l.first.value l.history.entries l.pending.items l.logged l.failed.value.items };
+
+    ghost invariant = { λ l. IsKept (log_state l.wal l.first.value l.history.entries l.pending.items l.logged l.failed.value.items) l.history.room l.closed };
+}
+
+impl<D: Disk> HoldsLog for Log<D> {
+    ghost writes = { λ first log. log.table };
+
+    ghost images = { λ log. images log.wal.moments };
+
+    ghost spells = { spells };
+}
+
+impl<D: Disk> Log<D> {
+    /// The log as an opening gives it, with nothing pending.
+    pub fn new(alloc: Global, wal: Wal<D>, history: History) -> Log<D>
+        requires stores { StoresHistory wal history.entries [] }
+        requires running { wal.closed ≡ false }
+        ensures { result ≡ log_state wal wal history.entries [] false [] }
+    {
+        history.entries();
+        let pending = Vec::new(alloc);
+        Log {
+            alloc,
+            failed: Snapshot::of(&pending),
+            first: Snapshot::of(&wal),
+            wal,
+            history,
+            pending,
+            logged: false,
+            closed: false,
+        }
+    }
+
+    /// The history, without what is pending.
+    pub fn history(&self) -> &History
+        ensures { result.now.entries ≡ self.now.table.history }
+    {
+        &self.history
+    }
+
+    /// The number of the last entry of the history.
+    pub fn published(&self) -> Seq
+        ensures value { result ≡ length self.now.table.history }
+        ensures few { result < 2 ^ 32 }
+    {
+        self.history.published()
+    }
+
+    /// Whether an append has failed.
+    pub fn is_closed(&self) -> bool
+        ensures { result ≡ self.now.table.closed }
+    {
+        self.closed
+    }
+
+    /// Makes the entries pending, which are one record and may come next, and takes all the memory that they need. Where it is
+    /// wanting they come back.
+    pub fn reserve(&mut self, entries: Vec<Entry>) -> Result<(), Vec<Entry>>
+        requires running { self.old.table.closed ≡ false }
+        requires nothing { self.old.table.pending ≡ [] }
+        requires one { IsOneRecord entries.items }
+        requires legal { IsLegal (self.old.table.history ++ entries.items) }
+        ensures ok { OnOk result (self.new.table ≡ record self.old.table { pending = entries.items; logged = false }) }
+        ensures reserved { OnOk result (self.new.wal ≡ record self.old.wal { reserved = self.new.wal.reserved }) }
+        ensures err { IfErr result (λ back. (back ≡ entries) × (self.new ≡ self.old)) }
+        ensures first { self.new.first ≡ self.old.first }
+    {
+        let Ok(()) = self.history.reserve(entries.len()) else {
+            return Err(entries);
+        };
+        let Ok(()) = self.wal.reserve(&entries) else {
+            return Err(entries);
+        };
+        self.pending = entries;
+        self.logged = false;
+        Ok(())
+    }
+
+    /// Appends the pending record to the log. It takes no memory. After a fault of the device the log is closed for good, and
+    /// may have the record or not.
+    pub fn append(&mut self) -> Result<(), Failed>
+        requires running { self.old.table.closed ≡ false }
+        requires some { self.old.table.pending ≢ [] }
+        requires unlogged { self.old.table.logged ≡ false }
+        ensures ok { OnOk result (self.new.table ≡ record self.old.table { logged = true; log = self.old.table.log ++ self.old.table.pending }) }
+        ensures err { OnErr result (self.new.table ≡ record self.old.table { closed = true; failed = self.old.table.pending }) }
+        ensures cause { OnErr result (Rose self.old.wal.faults self.new.wal.faults) }
+        ensures later { self.old.wal.faults ≤ self.new.wal.faults }
+        ensures id { self.new.wal.id ≡ self.old.wal.id }
+        ensures first { self.new.first ≡ self.old.first }
+
+        // At each moment since its beginning a crash leaves the history, or it and the record, whole; and what each crash at
+        // one moment would leave acknowledged, each crash at a later moment leaves too.
+        ensures passed { Passes (Leaves (IsLogOrNext self.old.wal.id self.old.table.history self.old.table.pending)) self.old.wal.moments self.new.wal.moments }
+        ensures durable { LosesNothing self.old.wal.moments self.new.wal.moments }
+    {
+        match self.wal.append() {
+            Ok(()) => {
+                self.logged = true;
+                Ok(())
+            }
+            Err(AppendError::DiskFault) => {
+                self.closed = true;
+                self.failed = Snapshot::of(&self.pending);
+                Err(Failed)
+            }
+            Err(AppendError::Closed(_)) => unreachable!(),
+        }
+    }
+
+    /// Puts the first of the pending entries into the history. It takes no memory.
+    pub fn publish(&mut self)
+        requires some { self.old.table.pending ≢ [] }
+        requires logged { self.old.table.logged ≡ true }
+        ensures { (entry : Entry) (others : List Entry) → self.old.table.pending ≡ entry ∷ others
+            → self.new ≡ record self.old { table = with_entry self.old.table entry others } }
+    {
+        let entry = self.pending.remove(0);
+        self.history.push(entry);
+    }
+
+    /// Takes back what is pending, which was not logged.
+    pub fn drop_pending(&mut self) -> Vec<Entry>
+        requires { self.old.table.logged ≡ false }
+        ensures entries { result.items ≡ self.old.table.pending }
+        ensures table { self.new ≡ record self.old { table = record self.old.table { pending = [] } } }
+    {
+        mem::replace(&mut self.pending, Vec::new(self.alloc))
+    }
+
+    /// For the proof alone: what a crash leaves of the device is as the table says.
+    pub fn told(&self)
+        ensures tells { LogTells (images self.now.wal.moments) (spells self.now) self.now.table }
+        ensures log { IsLog self.now }
+    {
+        let _ = &self.wal;
+    }
+
+    /// The log, and the history.
+    pub fn into_parts(self) -> (Wal<D>, History)
+        ensures wal { result.0 ≡ self.wal }
+        ensures history { result.1.entries ≡ self.table.history }
+        ensures log { IsLog self }
+    {
+        let Log { wal, history, .. } = self;
+        (wal, history)
+    }
+}

@@ -1,5 +1,0 @@
-use Rattle.std.proofs.Common.{◌≡◌, true, false}
-use Rattle.wp_permits.proofs.permitted.turn.old_flag_is_right.Goals as goal
-
-pub returns : goal.returns
-returns c there nothing = let apart : false ≡ true = rw (c.has_no_old_commits.ensures.1 (rw (← c.world.view_is) at nothing)) at there in absurd cc

@@ -1,9 +1,0 @@
-use Rattle.wp_publish.proofs.Stock.{not_inserted, inserted}
-use Rattle.wp_publish.proofs.stages.insert_versions.Goals as goal
-
-pub returns-in_err-insert-clause-seat : goal.returns-in_err-insert-clause-seat
-returns-in_err-insert-clause-seat g c = not_inserted c.args.seat.now c.args.log.now.table c.args.stock.now c.insert.new.self c.requires.held c.in_err-insert.ensures.err
-
-pub add_versions-requires-clause-held : goal.add_versions-requires-clause-held
-add_versions-requires-clause-held g c =
-    inserted c.args.seat.now c.args.log.now.table c.args.stock.now c.insert.new.self c.requires.held c.args.n c.args.batch.now c.requires.number c.requires.entry c.requires.nowhere c.insert.ensures.others c.in_ok-insert.ensures.entry

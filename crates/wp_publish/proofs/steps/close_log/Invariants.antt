@@ -1,7 +1,0 @@
-use Rattle.std.specs.Prelude.{[], ◌∷◌}
-use Rattle.wp_core.specs.Steps.{close_log}
-use Rattle.wp_shared.specs.Seats.{place_at}
-use Rattle.wp_publish.proofs.steps.close_log.Given as goal
-
-abbrev pub ghosts-make : goal.ghosts-make
-ghosts-make g a = record { place = place_at a.self.now a.seat.now.by; steps = λ w. close_log ∷ [] }

@@ -1,0 +1,57 @@
+-- Entries that became pending, and are dropped again.
+use Rattle.std.proofs.Common.{◌≡◌, false, List, [], ◌∷◌, ◌++◌, length, refl, sym, subst, ap, ◌∙◌}
+use Rattle.wp_model.specs.declared.entry.Entry.{Entry}
+use Rattle.wp_model.specs.Legal.{IsLegal}
+use Rattle.wp_core.specs.Entries.{IsOneRecord}
+use Rattle.wp_core.specs.Tables.{WriteTable, writes}
+use Rattle.wp_core.specs.Views.{versions_nowhere, number_not_in_heap}
+use Rattle.wp_rule.specs.Knows.{Noted}
+use Rattle.wp_parts.specs.Log.{LogState}
+use Rattle.wp_shared.specs.Seats.{SharedState, SeatState}
+use Rattle.wp_commits.specs.Notes.{GoesOn}
+use Rattle.wp_commits.proofs.Goes.{wider}
+use Rattle.wp_records.specs.Writing.{KnowsWords, HoldsWrite}
+use Rattle.wp_records.specs.Stages.{is_of_pending, is_guarded, HoldsPending, IsBegun}
+use Rattle.wp_records.proofs.Facts.{not_pending}
+use Rattle.wp_records.proofs.Holding.{holds_with, as_pending, as_write, words_kept}
+
+module _ (log left : LogState) (entries : List Entry) (is : left.table ≡ record log.table { pending = entries; logged = false }) where
+  pending_is : left.table.pending ≡ entries
+  pending_is = ap (λ (t : WriteTable). t.pending) is
+
+  history_is : left.table.history ≡ log.table.history
+  history_is = ap (λ (t : WriteTable). t.history) is
+
+  pub begins_as : left.table ≡ record log.table { pending = left.table.pending; logged = false }
+  begins_as = is ∙ ap (λ (e : List Entry). record log.table { pending = e; logged = false }) (sym pending_is)
+
+  pub begins_one : IsOneRecord entries → IsOneRecord left.table.pending
+  begins_one one = subst IsOneRecord (sym pending_is) one
+
+  pub begins_legal : IsLegal (log.table.history ++ entries) → IsLegal (left.table.history ++ left.table.pending)
+  begins_legal legal = subst (λ (x : List Entry × List Entry). IsLegal (x.0 ++ x.1)) (λ i. (sym history_is i, sym pending_is i)) legal
+
+  pub begun : {D : Type 0} (z : SharedState D) (old new : SeatState) → HoldsWrite z old log → left.first ≡ log.first → left.wal ≡ record log.wal { reserved = left.wal.reserved } → GoesOn is_of_pending (writes left.table ∷ []) old.turns old new → Noted new.knows versions_nowhere → Noted new.knows number_not_in_heap
+      → IsBegun z old log entries new left
+  begun z old new h first wal k nowhere below = record {
+    holds = holds_with z old new log left (as_pending z old log h) is_of_pending k first history_is (words_kept is_of_pending old new (writes left.table ∷ []) old.turns (length log.table.history) (λ bound words. refl) k h.words);
+    seat = wider is_of_pending old new new is_guarded (writes left.table ∷ []) old.turns not_pending k;
+    table = is;
+    wal = wal;
+    nowhere = nowhere;
+    below = below;
+  }
+
+module _ {D : Type 0} (z : SharedState D) (old new : SeatState) (log left : LogState) (h : HoldsPending z old log) (is : left ≡ record log { table = record log.table { pending = [] } }) where
+  pub words_before : KnowsWords old.knows (length left.table.history)
+  words_before = subst (λ (e : List Entry). KnowsWords old.knows (length e)) (sym (ap (λ (x : LogState). x.table.history) is)) h.words
+
+  module _ (k : GoesOn is_of_pending (writes left.table ∷ []) old.turns old new) where
+    pub dropped_holds : HoldsWrite z new left
+    dropped_holds =
+        as_write z new left
+        (holds_with z old new log left h is_of_pending k (ap (λ (x : LogState). x.first) is) (ap (λ (x : LogState). x.table.history) is) (words_kept is_of_pending old new (writes left.table ∷ []) old.turns (length log.table.history) (λ bound words. refl) k h.words))
+        (ap (λ (x : LogState). x.table.pending) is)
+
+    pub dropped_goes : GoesOn is_guarded (writes left.table ∷ []) old.turns old new
+    dropped_goes = wider is_of_pending old new new is_guarded (writes left.table ∷ []) old.turns not_pending k

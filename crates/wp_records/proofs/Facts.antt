@@ -1,0 +1,99 @@
+-- Which facts outlast a stage, and stages one after another.
+use Rattle.std.proofs.Common.{◌≡◌, ℕ, Bool, true, false, true≢false, ◌||◌, List, refl, ap, subst, ◌∙◌, None, is_some}
+use Rattle.std.specs.Prelude.{Result, Ok, Err, OnErr}
+use Rattle.wp_model.specs.declared.entry.Entry.{Entry}
+use Rattle.wp_core.specs.Sound.Views.{guarded_by}
+use Rattle.wp_core.specs.Entries.{transaction_of}
+use Rattle.wp_core.specs.Tables.{Content}
+use Rattle.wp_core.specs.Views.{Fact, passed, in_old_commits, apart, words_stay, versions_in_memory, versions_nowhere, number_in_heap, number_not_in_heap, delayed_flag_stays, old_flag_stays}
+use Rattle.wp_shared.specs.Seats.{SeatState}
+use Rattle.wp_commits.specs.Notes.{is_flag, is_of_words, is_of_place, GoesOn}
+use Rattle.wp_records.specs.Records.{is_about}
+use Rattle.wp_records.specs.Stages.{no_fact, is_of_versions, is_of_heap, is_of_number, is_of_pending, is_guarded, is_over, may_end}
+
+-- ---- what no turn guards is in none of the tests
+
+pub not_words : (fact : Fact) → is_guarded fact ≡ false → is_of_words fact ≡ false
+not_words (words_stay bound words) e = absurd (true≢false e)
+not_words (delayed_flag_stays value) e = absurd (true≢false e)
+not_words (old_flag_stays value) e = absurd (true≢false e)
+not_words other e = refl
+
+pub not_versions : (fact : Fact) → is_guarded fact ≡ false → is_of_versions fact ≡ false
+not_versions versions_in_memory e = absurd (true≢false e)
+not_versions versions_nowhere e = absurd (true≢false e)
+not_versions other e = refl
+
+pub not_number : (fact : Fact) → is_guarded fact ≡ false → is_of_number fact ≡ false
+not_number number_in_heap e = absurd (true≢false e)
+not_number number_not_in_heap e = absurd (true≢false e)
+not_number (delayed_flag_stays value) e = absurd (true≢false e)
+not_number (old_flag_stays value) e = absurd (true≢false e)
+not_number other e = refl
+
+pub not_pending : (fact : Fact) → is_guarded fact ≡ false → is_of_pending fact ≡ false
+not_pending versions_in_memory e = absurd (true≢false e)
+not_pending versions_nowhere e = absurd (true≢false e)
+not_pending number_in_heap e = absurd (true≢false e)
+not_pending number_not_in_heap e = absurd (true≢false e)
+not_pending other e = refl
+
+not_place : (place : ℕ) (fact : Fact) → is_guarded fact ≡ false → is_of_place place fact ≡ false
+not_place place (passed i pair) e = absurd (true≢false e)
+not_place place (in_old_commits i pair) e = absurd (true≢false e)
+not_place place (apart i pair) e = absurd (true≢false e)
+not_place place (words_stay bound words) e = absurd (true≢false e)
+not_place place (delayed_flag_stays value) e = absurd (true≢false e)
+not_place place (old_flag_stays value) e = absurd (true≢false e)
+not_place place other e = refl
+
+-- ---- nor is what outlasts the entry
+
+pub neither : (a b : Bool) → (a || b) ≡ false → (a ≡ false) × (b ≡ false)
+neither false b e = (refl, e)
+neither true b e = absurd (true≢false e)
+
+module _ (history : List Entry) (entry : Entry) (fact : Fact) (e : may_end history entry fact ≡ false) where
+  stays : (is_guarded fact ≡ false) × (is_about (transaction_of history entry) fact ≡ false)
+  stays = neither (is_guarded fact) (is_about (transaction_of history entry) fact) e
+
+  pub still_over : is_over history entry fact ≡ false
+  still_over = λ i. not_pending fact stays.0 i || stays.1 i
+
+  pub still_placed : (place : ℕ) → is_of_place place fact ≡ false
+  still_placed place = not_place place fact stays.0
+
+pub heap_alone : (fact : Fact) → is_of_number fact ≡ false → is_of_heap fact ≡ false
+heap_alone fact e = (neither (is_of_heap fact) (is_flag fact) e).0
+
+pub flag_alone : (fact : Fact) → is_of_number fact ≡ false → is_flag fact ≡ false
+flag_alone fact e = (neither (is_of_heap fact) (is_flag fact) e).1
+
+pub none_too : (test : Fact → Bool) (fact : Fact) → test fact ≡ false → no_fact fact ≡ false
+none_too test fact e = refl
+
+pub unguarded : (fact : Fact) → guarded_by fact ≡ None → is_guarded fact ≡ false
+unguarded fact e = ap is_some e
+
+-- ---- one after another
+
+module _ (test one two : Fact → Bool) (less : (fact : Fact) → test fact ≡ false → one fact ≡ false) (more : (fact : Fact) → test fact ≡ false → two fact ≡ false) (s t u : SeatState) where
+  pub and_then : (h k : List Content) (m n : List ℕ) → GoesOn one h m s t → GoesOn two k n t u → GoesOn test k n s u
+  and_then h k m n first second = record {
+    same = second.same ∙ ap (λ (x : SeatState). record x { knows = record x.knows { held = k; notes = u.knows.notes }; turns = n }) first.same;
+    noted = λ fact other there. second.noted fact (more fact other) (first.noted fact (less fact other) there);
+  }
+
+  -- where the second leaves the tables and the turns as they are
+  pub and_still : (h : List Content) (m : List ℕ) → GoesOn one h m s t → GoesOn two t.knows.held t.turns t u → GoesOn test h m s u
+  and_still h m first second =
+      subst (λ (x : List Content × List ℕ). GoesOn test x.0 x.1 s u) (λ i. (ap (λ (x : SeatState). x.knows.held) first.same i, ap (λ (x : SeatState). x.turns) first.same i))
+      (and_then h t.knows.held m t.turns first second)
+
+  -- where the second leaves the turns as they are
+  pub and_with : (h k : List Content) (m : List ℕ) → GoesOn one h m s t → GoesOn two k t.turns t u → GoesOn test k m s u
+  and_with h k m first second = subst (λ (x : List ℕ). GoesOn test k x s u) (ap (λ (x : SeatState). x.turns) first.same) (and_then h k m t.turns first second)
+
+pub on_err : {T E : Type 0} (r : Result T E) (P Q : Type 0) → (P → Q) → OnErr r P → OnErr r Q
+on_err (Ok x) P Q f h = tt
+on_err (Err e) P Q f h = f h

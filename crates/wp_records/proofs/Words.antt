@@ -1,0 +1,110 @@
+-- The words of the cache, whose pairs are published.
+use Rattle.std.proofs.Common.{◌≡◌, ◌≢◌, inl, inr, ℕ, suc, ◌==◌, ◌/◌, ◌%◌, ◌^◌, ◌≤◌, ◌&&◌, nat_le, Bool, true, false, cond, List, [], ◌∷◌, length, slice_index, refl, sym, subst, ap, ◌∙◌, Option, Some, None, arith}
+use Rattle.std.proofs.Math.Nat.{mul-add-mod_self_right, mod-le}
+use Rattle.std.proofs.lemmas.Bool.{cases_lt, cases_eq}
+use Rattle.std.proofs.lemmas.List.{get_or-set_same, get_or-set_other, get_or_past, set_past}
+use Rattle.wp_model.specs.declared.entry.Entry.{Entry}
+use Rattle.wp_model.specs.declared.entry.Entry.TheVariants.{Write, Prepare, Commit, Undo, Close}
+use Rattle.wp_model.specs.Decision.{decision_of}
+use Rattle.wp_judge.specs.Words.{CommitPair, word_of, pair_with, pair_of, decision_if}
+use Rattle.wp_core.specs.Cache.{cache_place, cached, pair_at, with_pair}
+use Rattle.wp_core.specs.Conditions.{IsPrepare}
+use Rattle.wp_core.specs.Entries.{pair_by, pending_pair, extended}
+use Rattle.wp_core.specs.Tables.{WriteTable}
+use Rattle.wp_core.specs.World.{Actor, World}
+use Rattle.wp_core.specs.IsSound.{IsSound}
+use Rattle.wp_core.proofs.HistoryLaws.{decision_within}
+use Rattle.wp_core.proofs.Tests.{same_some, some_none}
+use Rattle.wp_commits.specs.Cleared.{IsUnentered}
+use Rattle.wp_records.specs.Writing.{ArePublished, KnowsWords}
+
+-- ---- the pair of the pending entry
+
+pub decides_last : (n : ℕ) (entry : Entry) (pair : CommitPair) → pair_by n entry ≡ Some pair → pair.decision ≡ n
+decides_last n (Write batch) pair e = ap (λ (x : CommitPair). x.decision) (sym (same_some (record { number = n; decision = n }) pair e))
+decides_last n (Undo p batch) pair e = ap (λ (x : CommitPair). x.decision) (sym (same_some (record { number = n; decision = n }) pair e))
+decides_last n (Commit p) pair e = ap (λ (x : CommitPair). x.decision) (sym (same_some (record { number = p; decision = n }) pair e))
+decides_last n (Close p) pair e = ap (λ (x : CommitPair). x.decision) (sym (same_some (record { number = p; decision = n }) pair e))
+decides_last n (Prepare name batch) pair e = let no : None ≡ Some pair = e in absurd (cc)
+
+pub no_prepare : (n : ℕ) (entry : Entry) (pair : CommitPair) → pair_by n entry ≡ Some pair → IsPrepare entry → ⊥
+no_prepare n (Prepare name batch) pair e is = let no : None ≡ Some pair = e in absurd (cc)
+no_prepare n (Write batch) pair e is = is
+no_prepare n (Undo p batch) pair e is = is
+no_prepare n (Commit p) pair e is = is
+no_prepare n (Close p) pair e is = is
+
+pending_decides : (history pending : List Entry) (pair : CommitPair) → pending_pair history pending ≡ Some pair → pair.decision ≡ suc (length history)
+pending_decides history [] pair e = let no : None ≡ Some pair = e in absurd (cc)
+pending_decides history (entry ∷ others) pair e = decides_last (suc (length history)) entry pair e
+
+-- it is in no word
+pub unentered : (a : Actor) (cells : ℕ) (d : WriteTable) → KnowsWords a (length d.history) → IsUnentered a cells d
+unentered a cells d k pair is = (
+  k.bound,
+  k.words,
+  k.noted,
+  λ there. let low = k.are_published (cache_place cells pair.number) pair there in let next = pending_decides d.history d.pending pair is in absurd (omega (arith, low, next)),
+)
+
+decided_as : (found : CommitPair) (p c : ℕ) → decision_if p (Some found) ≡ Some c → found.decision ≡ c
+decided_as found p c e = by_test (found.number == p) e
+  where
+    by_test : (b : Bool) → cond b (Some found.decision) None ≡ Some c → found.decision ≡ c
+    by_test true h = same_some found.decision c h
+    by_test false h = let no : None ≡ Some c = h in absurd (cc)
+
+pub uncached : (a : Actor) (d : WriteTable) (k : KnowsWords a (length d.history)) (pair : CommitPair) → pending_pair d.history d.pending ≡ Some pair → cached k.words pair.number ≢ Some pair.decision
+uncached a d k pair is there = by_pair (pair_at k.words (cache_place (length k.words) pair.number)) refl there
+  where
+    by_pair : (o : Option CommitPair) → pair_at k.words (cache_place (length k.words) pair.number) ≡ o → decision_if pair.number o ≡ Some pair.decision → ⊥
+    by_pair None at e = let no : None ≡ Some pair.decision = e in absurd (cc)
+    by_pair (Some found) at e =
+        let low = k.are_published (cache_place (length k.words) pair.number) found at in let next = pending_decides d.history d.pending pair is in let same = decided_as found pair.number pair.decision e in absurd (omega (arith, low, next, same))
+
+-- ---- words once a pair is entered
+
+found_of : (p c : ℕ) (found : CommitPair) → pair_with p c ≡ Some found → found.decision ≡ c
+found_of p c found e = by_test (nat_le 1 p && nat_le p c) e
+  where
+    by_test : (b : Bool) → cond b (Some (record { number = p; decision = c })) None ≡ Some found → found.decision ≡ c
+    by_test true h = ap (λ (x : CommitPair). x.decision) (sym (same_some (record { number = p; decision = c }) found h))
+    by_test false h = let no : None ≡ Some found = h in absurd (cc)
+
+-- what a pair's word has is decided no later
+stored_low : (pair found : CommitPair) → pair_of (word_of pair) ≡ Some found → found.decision ≤ pair.decision
+stored_low pair found e =
+    let last = found_of (word_of pair / 2 ^ 32) (word_of pair % 2 ^ 32) found e in
+    let rest = mul-add-mod_self_right pair.number (2 ^ 32) pair.decision in
+    let low = mod-le pair.decision (2 ^ 32) in
+    subst (λ (c : ℕ). c ≤ pair.decision) (sym (last ∙ rest)) low
+
+pub entered_published : (m n : ℕ) (words : List ℕ) (pair : CommitPair) → m ≤ n → pair.decision ≤ n → ArePublished m words → ArePublished n (with_pair words pair)
+entered_published m n words pair le low k place found at =
+    let i : ℕ = cache_place (length words) pair.number in
+    elim (cases_eq place i) [
+      | inl same ↦
+          elim (cases_lt i (length words)) [
+            | inl within ↦
+                let here : slice_index (with_pair words pair) place ≡ word_of pair = ap (slice_index (with_pair words pair)) same ∙ get_or-set_same words i (word_of pair) _ within in
+                let last = stored_low pair found (ap pair_of (sym here) ∙ at) in omega (arith, last, low)
+            | inr past ↦ let last = k place found (ap (λ (x : List ℕ). pair_at x place) (sym (set_past words i (word_of pair) past)) ∙ at) in omega (arith, last, le)
+          ]
+      | inr other ↦
+          let there : slice_index (with_pair words pair) place ≡ slice_index words place = get_or-set_other words i place (word_of pair) _ other in
+          let last = k place found (ap pair_of (sym there) ∙ at) in omega (arith, last, le)
+    ]
+
+pub published_later : (m n : ℕ) (words : List ℕ) → m ≤ n → ArePublished m words → ArePublished n words
+published_later m n words le k place found at = let low = k place found at in omega (arith, low, le)
+
+-- ---- words of a world in which nothing is pending
+
+pub world_published : (w : World) → IsSound w → w.writes.pending ≡ [] → ArePublished (length w.writes.history) w.cache
+world_published w s none place found at =
+    elim (cases_lt place (length w.cache)) [
+      | inl within ↦
+          let known = s.cache.pairs place found within at in
+          decision_within w.writes.history found.number found.decision (subst (λ (e : List Entry). decision_of (extended w.writes.history e) found.number ≡ Some found.decision) none known.decided)
+      | inr past ↦ let empty : slice_index w.cache place ≡ 0 = get_or_past w.cache place _ past in let no : pair_of 0 ≡ Some found = ap pair_of (sym empty) ∙ at in absurd (some_none found (sym no))
+    ]

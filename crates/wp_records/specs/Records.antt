@@ -1,0 +1,103 @@
+-- What a record needs, and what it leaves: its entries in the history, or nothing of it.
+use Rattle.std.specs.Prelude.{◌≡◌, ℕ, suc, Bool, true, false, List, [], ◌∷◌, ◌++◌, length, Option, Some, None, Result, Ok, Err}
+use Rattle.std.specs.FinSet as set
+use Rattle.wp_model.specs.declared.entry.Entry.{Entry}
+use Rattle.wp_model.specs.History.{is_changed}
+use Rattle.wp_model.specs.Legal.{IsLegal}
+use Rattle.wp_outside.specs.Disk.{Passes}
+use Rattle.wp_outside.specs.Faults.{Rose}
+use Rattle.wp_gatelog.specs.Moments.{Leaves}
+use Rattle.wp_wal.specs.Spelling.{IsLogOrNext}
+use Rattle.wp_wal.specs.Wal.{LosesNothing}
+use Rattle.wp_core.specs.Conditions.{HasTransaction}
+use Rattle.wp_core.specs.Entries.{transaction_of, changes_under}
+use Rattle.wp_core.specs.Lists.{IsIn}
+use Rattle.wp_core.specs.Notes.{is_name}
+use Rattle.wp_core.specs.Sound.Views.{guarded_by}
+use Rattle.wp_core.specs.Tables.{writes}
+use Rattle.wp_core.specs.Views.{Fact, log_failed, undecided_at, prior_values, unprepared}
+use Rattle.wp_core.specs.World.{Transaction, Actor, Participant}
+use Rattle.wp_rule.specs.Knows.{KnowsHeld}
+use Rattle.wp_parts.specs.Log.{LogState}
+use Rattle.wp_shared.specs.Seats.{SharedState, SeatState}
+use Rattle.wp_records.specs.declared.error.WriteError.{WriteError}
+use Rattle.wp_records.specs.declared.error.WriteError.TheVariants.{Memory, LogFault}
+use Rattle.wp_records.specs.Writing.{HoldsWrite}
+
+-- ---- before
+
+-- The keys that an entry behind this history needs are held for the seat, and its transaction is the seat's, and has them locked.
+pub record OwnsEntry (a : Actor) (history : List Entry) (entry : Entry) : Type 0 where
+  pub keys : (key : List ℕ) → is_changed (changes_under history entry) key ≡ true → KnowsHeld a key
+  pub transaction : (name : List ℕ) → transaction_of history entry ≡ Some name
+      → (x : Transaction) × HasTransaction a name x × ((key : List ℕ) → is_changed (changes_under history entry) key ≡ true → set.contains x.locked key ≡ true)
+
+-- of each entry behind those before it
+abbrev pub OwnsEntries : Actor → List Entry → List Entry → Type 0
+OwnsEntries a history [] = Unit {0}
+OwnsEntries a history (entry ∷ entries) = OwnsEntry a history entry × OwnsEntries a (history ++ entry ∷ []) entries
+
+-- the entries may be put behind this history
+pub record MayPut (a : Actor) (history entries : List Entry) : Type 0 where
+  pub legal : IsLegal (history ++ entries)
+  pub owned : OwnsEntries a history entries
+
+-- ---- after
+
+-- the numbers of entries behind so many
+abbrev pub numbers_behind : ℕ → List Entry → List ℕ
+numbers_behind n [] = []
+numbers_behind n (entry ∷ entries) = suc n ∷ numbers_behind (suc n) entries
+
+-- the participant once it put the entries behind this history
+abbrev pub putting : List Entry → List Entry → Participant → Participant
+putting history entries p = record p { seen = history ++ entries; own = p.own ++ numbers_behind (length history) entries }
+
+-- the transaction that a record behind this history is of, if it is of one
+abbrev pub transaction_behind : List Entry → List Entry → Option (List ℕ)
+transaction_behind history [] = None
+transaction_behind history (entry ∷ entries) = transaction_of history entry
+
+-- the fact is about the transaction of this name
+abbrev pub is_about : Option (List ℕ) → Fact → Bool
+is_about name (undecided_at other p) = is_name name other
+is_about name (prior_values other p batch) = is_name name other
+is_about name (unprepared other) = is_name name other
+is_about name other = false
+
+-- The entries stand behind the history, and the seat put them there. What it noted without a turn it has noted still, but for what
+-- was about the record's transaction.
+pub record IsPut {D : Type 0} (z : SharedState D) (old : SeatState) (log : LogState) (entries : List Entry) (new : SeatState) (left : LogState) : Type 0 where
+  pub holds : HoldsWrite z new left
+  pub same_by : new.by ≡ old.by
+  pub history : left.table.history ≡ log.table.history ++ entries
+  pub running : left.table.closed ≡ false
+  pub knows : new.knows ≡ record old.knows { participant = putting log.table.history entries old.knows.participant; learned = []; held = writes left.table ∷ []; notes = new.knows.notes }
+  pub notes : (fact : Fact) → guarded_by fact ≡ None → is_about (transaction_behind log.table.history entries) fact ≡ false → IsIn fact old.knows.notes → IsIn fact new.knows.notes
+
+-- The history is as it was, and nothing is pending. The log is closed now, or it is not.
+pub record IsNotPut {D : Type 0} (z : SharedState D) (old : SeatState) (log : LogState) (closed : Bool) (after : Participant) (new : SeatState) (left : LogState) : Type 0 where
+  pub holds : HoldsWrite z new left
+  pub same_by : new.by ≡ old.by
+  pub history : left.table.history ≡ log.table.history
+  pub closed_is : left.table.closed ≡ closed
+  pub knows : new.knows ≡ record old.knows { participant = after; held = writes left.table ∷ []; notes = new.knows.notes }
+  pub notes : (fact : Fact) → guarded_by fact ≡ None → IsIn fact old.knows.notes → IsIn fact new.knows.notes
+
+-- the participant, to which the log call for these entries failed
+abbrev pub failing : List Entry → Participant → Participant
+failing entries p = record p { past = p.past ++ log_failed entries ∷ [] }
+
+-- The append of these entries failed: the count of the log's device rose, and the log is closed for good. A crash at any moment of it
+-- left the history, or it and the entries, whole, and lost nothing that was acknowledged.
+pub record FailsAppend (log : LogState) (entries : List Entry) (left : LogState) : Type 0 where
+  pub table : left.table ≡ record log.table { pending = []; logged = false; closed = true; failed = entries }
+  pub rose : Rose log.wal.faults left.wal.faults
+  pub passed : Passes (Leaves (IsLogOrNext log.wal.id log.table.history entries)) log.wal.moments left.wal.moments
+  pub durable : LosesNothing log.wal.moments left.wal.moments
+
+-- what a call answers that puts these entries behind the history, and what it leaves
+abbrev pub Puts : {D : Type 0} → SharedState D → SeatState → LogState → List Entry → Result (Unit {0}) WriteError → SeatState → LogState → Type 0
+Puts z old log entries (Ok done) new left = IsPut z old log entries new left
+Puts z old log entries (Err Memory) new left = IsNotPut z old log false old.knows.participant new left
+Puts z old log entries (Err LogFault) new left = IsNotPut z old log true (failing entries old.knows.participant) new left × FailsAppend log entries left

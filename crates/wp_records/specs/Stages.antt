@@ -1,0 +1,191 @@
+-- A record between its making and the history: what the seat holds and has noted, and what each stage leaves of it.
+use Rattle.std.specs.Prelude.{◌≡◌, ◌≢◌, ℕ, suc, Bool, true, false, ◌||◌, List, [], ◌∷◌, ◌++◌, length, is_some, Some, Result, Ok, Err}
+use Rattle.wp_judge.specs.Words.{CommitPair}
+use Rattle.wp_model.specs.declared.change.Change.{Change}
+use Rattle.wp_model.specs.declared.entry.Entry.{Entry}
+use Rattle.wp_model.specs.declared.entry.Entry.TheVariants.{Prepare, Undo, Close}
+use Rattle.wp_model.specs.Legal.{IsLegal}
+use Rattle.wp_core.specs.Cache.{cache_place, pair_at}
+use Rattle.wp_core.specs.Changes.{turn_index, remembers}
+use Rattle.wp_core.specs.Conditions.{IsPrepare}
+use Rattle.wp_core.specs.Effects.{with_entry, publishes}
+use Rattle.wp_core.specs.Entries.{pair_by, transaction_of}
+use Rattle.wp_core.specs.Sound.Views.{guarded_by}
+use Rattle.wp_core.specs.Tables.{WriteTable, writes}
+use Rattle.wp_core.specs.Turns.{write_turn}
+use Rattle.wp_core.specs.Views.{Fact, versions_in_memory, versions_nowhere, number_in_heap, number_not_in_heap, words_stay, log_failed}
+use Rattle.wp_core.specs.World.{Actor}
+use Rattle.wp_rule.specs.Knows.{Noted}
+use Rattle.wp_parts.specs.Log.{LogState}
+use Rattle.wp_parts.specs.Parts.{log_first}
+use Rattle.wp_shared.specs.Seats.{SharedState, SeatState}
+use Rattle.wp_commits.specs.Cleared.{IsCleared, IsReadyAt}
+use Rattle.wp_commits.specs.Notes.{is_flag, GoesOn}
+use Rattle.wp_records.specs.declared.reached.Reached.{Reached}
+use Rattle.wp_records.specs.declared.reached.Reached.TheVariants.{Pending, InHeap}
+use Rattle.wp_records.specs.declared.error.WriteError.{WriteError}
+use Rattle.wp_records.specs.Writing.{KnowsWords}
+use Rattle.wp_records.specs.Records.{OwnsEntry, is_about, Puts}
+
+-- ---- which facts
+
+-- none
+abbrev pub no_fact : Fact → Bool
+no_fact fact = false
+
+-- where the versions of the pending entry are
+abbrev pub is_of_versions : Fact → Bool
+is_of_versions versions_in_memory = true
+is_of_versions versions_nowhere = true
+is_of_versions other = false
+
+-- whether its number is in the prepared heap
+abbrev pub is_of_heap : Fact → Bool
+is_of_heap number_in_heap = true
+is_of_heap number_not_in_heap = true
+is_of_heap other = false
+
+-- that, or what a flag is
+abbrev pub is_of_number : Fact → Bool
+is_of_number fact = is_of_heap fact || is_flag fact
+
+-- any of the pending entry
+abbrev pub is_of_pending : Fact → Bool
+is_of_pending fact = is_of_versions fact || is_of_heap fact
+
+-- a turn guards it
+abbrev pub is_guarded : Fact → Bool
+is_guarded fact = is_some (guarded_by fact)
+
+-- what the entry ends that joins this history: what is of the pending entry, and what is about its transaction
+abbrev pub is_over : List Entry → Entry → Fact → Bool
+is_over history entry fact = is_of_pending fact || is_about (transaction_of history entry) fact
+
+-- that, or what a turn guards
+abbrev pub may_end : List Entry → Entry → Fact → Bool
+may_end history entry fact = is_guarded fact || is_about (transaction_of history entry) fact
+
+-- ---- the seat
+
+-- the seat with this log as the one table that it holds
+abbrev pub holding : WriteTable → SeatState → SeatState
+holding t s = record s { knows = record s.knows { held = writes t ∷ [] } }
+
+-- the seat, to which the log call for these entries failed
+abbrev pub as_failed : List Entry → SeatState → SeatState
+as_failed entries s = record s { knows = remembers s.knows (log_failed entries) }
+
+-- the seat, which put the entry behind this history
+abbrev pub as_published : List Entry → Entry → SeatState → SeatState
+as_published history entry s = record s { knows = publishes history entry s.knows }
+
+-- The seat holds the write turn alone, with this log, whatever is pending there. It has seen the whole history, and each pair of the
+-- words that it noted is published.
+pub record HoldsPending {D : Type 0} (z : SharedState D) (s : SeatState) (log : LogState) : Type 0 where
+  pub same_table : s.table ≡ z.table
+  pub live : s.knows.live ≡ true
+  pub held : s.knows.held ≡ writes log.table ∷ []
+  pub turns : s.turns ≡ turn_index write_turn ∷ []
+  pub seen : s.knows.participant.seen ≡ log.table.history
+  pub of_store : log_first z.first ≡ Some log.first
+  pub words : KnowsWords s.knows (length log.table.history)
+
+-- ---- before the log call
+
+-- something is pending that is not logged, and the log is not closed
+pub record IsUnlogged (d : WriteTable) : Type 0 where
+  pub some : d.pending ≢ []
+  pub unlogged : d.logged ≡ false
+  pub running : d.closed ≡ false
+
+-- a Prepare is pending
+abbrev pub HasPrepare : WriteTable → Type 0
+HasPrepare d = (name : List ℕ) × (batch : List Change) × (others : List Entry) × (d.pending ≡ Prepare name batch ∷ others)
+
+-- of a record that came so far, what is noted of its versions
+abbrev pub MemoryAt : Reached → Actor → Type 0
+MemoryAt Pending a = Noted a versions_nowhere
+MemoryAt other a = Unit {0}
+
+-- ... and what is noted of its number
+abbrev pub HeapAt : Reached → Actor → WriteTable → Type 0
+HeapAt InHeap a d = HasPrepare d
+HeapAt other a d = Noted a number_not_in_heap
+
+-- the entries were made pending, and nothing of them is anywhere
+pub record IsBegun {D : Type 0} (z : SharedState D) (old : SeatState) (log : LogState) (entries : List Entry) (new : SeatState) (left : LogState) : Type 0 where
+  pub holds : HoldsPending z new left
+  pub seat : GoesOn is_guarded (writes left.table ∷ []) old.turns old new
+  pub table : left.table ≡ record log.table { pending = entries; logged = false }
+  pub wal : left.wal ≡ record log.wal { reserved = left.wal.reserved }
+  pub nowhere : Noted new.knows versions_nowhere
+  pub below : Noted new.knows number_not_in_heap
+
+-- ---- the log call
+
+-- the pending record is logged
+pub record IsLogged {D : Type 0} (z : SharedState D) (old : SeatState) (log : LogState) (new : SeatState) (left : LogState) : Type 0 where
+  pub holds : HoldsPending z new left
+  pub seat : new ≡ holding left.table old
+  pub table : left.table ≡ record log.table { logged = true; log = log.table.log ++ log.table.pending }
+
+-- what the log call leaves of the pending record: it is logged, or taken back
+abbrev pub Logs : {D : Type 0} → SharedState D → SeatState → LogState → Result (Unit {0}) WriteError → SeatState → LogState → Type 0
+Logs z old log (Ok done) new left = IsLogged z old log new left
+Logs z old log (Err why) new left = Puts z old log log.table.pending (Err why) new left
+
+-- ---- behind it
+
+-- the first of the pending entries may join the history, as far as its word and its number may be there
+pub record IsNext (a : Actor) (d : WriteTable) (entry : Entry) (others : List Entry) : Type 0 where
+  pub pending : d.pending ≡ entry ∷ others
+  pub logged : d.logged ≡ true
+  pub legal : IsLegal (d.history ++ entry ∷ [])
+  pub versions : Noted a versions_in_memory
+  pub owned : OwnsEntry a d.history entry
+
+-- the number of a Prepare is in the heap, and the pair of any other entry is in its word
+pub record IsInPlace (a : Actor) (cells : ℕ) (d : WriteTable) (entry : Entry) : Type 0 where
+  pub number : IsPrepare entry → Noted a number_in_heap
+  pub pair : (pair : CommitPair) → pair_by (suc (length d.history)) entry ≡ Some pair → (bound : ℕ) × (words : List ℕ) × Noted a (words_stay bound words) × (pair_at words (cache_place cells pair.number) ≡ Some pair)
+
+-- the entry joined the history, and these are pending
+pub record IsPublished (old : SeatState) (log : LogState) (entry : Entry) (others : List Entry) (new : SeatState) (left : LogState) : Type 0 where
+  pub seat : GoesOn (is_over log.table.history entry) (writes left.table ∷ []) old.turns (as_published log.table.history entry old) new
+  pub log_is : left ≡ record log { table = with_entry log.table entry others }
+
+-- ... and the seat knows the words as published ones again
+pub record HasJoined {D : Type 0} (z : SharedState D) (old : SeatState) (log : LogState) (entry : Entry) (others : List Entry) (new : SeatState) (left : LogState) : Type 0 where
+  pub holds : HoldsPending z new left
+  pub seat : GoesOn (may_end log.table.history entry) (writes left.table ∷ []) old.turns (as_published log.table.history entry old) new
+  pub log_is : left ≡ record log { table = with_entry log.table entry others }
+
+-- the first of the pending entries may join the history as this number, once its pair is entered, which comes first of those that
+-- were cleared for
+pub record MayDecide (a : Actor) (cells : ℕ) (d : WriteTable) (n : ℕ) (cleared : List ℕ) : Type 0 where
+  pub entry : Entry
+  pub others : List Entry
+  pub next : IsNext a d entry others
+  pub number : ℕ
+  pub pair : pair_by n entry ≡ Some (record { number = number; decision = n })
+  pub waiting : List ℕ
+  pub cleared_is : cleared ≡ number ∷ waiting
+  pub ready : IsReadyAt a (length d.history) (cache_place cells number)
+
+-- one entry is pending, which will have this number and decides a version, for whose pair the word is cleared
+pub record DecidesOne (a : Actor) (cells : ℕ) (d : WriteTable) (n : ℕ) (cleared : List ℕ) : Type 0 where
+  pub entry : Entry
+  pub pending : d.pending ≡ entry ∷ []
+  pub number : ℕ
+  pub pair : pair_by n entry ≡ Some (record { number = number; decision = n })
+  pub cleared_is : cleared ≡ number ∷ []
+  pub ready : IsCleared a (cache_place cells number)
+
+-- an Undo and its Close are pending, for whose pairs the words are cleared
+pub record RollsBack (a : Actor) (cells : ℕ) (d : WriteTable) (n : ℕ) (cleared : List ℕ) : Type 0 where
+  pub number : ℕ
+  pub batch : List Change
+  pub pending : d.pending ≡ Undo number batch ∷ Close number ∷ []
+  pub cleared_is : cleared ≡ n ∷ number ∷ []
+  pub first : IsCleared a (cache_place cells n)
+  pub second : IsCleared a (cache_place cells number)

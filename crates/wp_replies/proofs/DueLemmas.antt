@@ -1,0 +1,326 @@
+-- Replies that are due at moments of the history, one after another, are a session.
+use Rattle.std.proofs.Common.{◌≡◌, ℕ, ◌+◌, ◌-◌, ◌≤◌, ◌⊎◌, Bool, true, false, true≢false, List, [], ◌∷◌, ◌++◌, length, take, drop, Option, Some, None, refl, sym, ap, ◌∙◌, subst, append_assoc, length-append, arith, inl, inr}
+use Rattle.std.specs.Prelude.{IfSome, is_some, nat_le, unwrap_or}
+use Rattle.std.specs.FinMap as map
+use Rattle.std.proofs.lemmas.Bool.{cases_Bool}
+use Rattle.std.proofs.lemmas.Slice.Eq.{bytes_eq-Decides}
+use Rattle.std.proofs.lemmas.List.{take-append-drop}
+use Rattle.wp_model.specs.declared.change.Change.{Change}
+use Rattle.wp_model.specs.declared.change.Change.TheVariants as change
+use Rattle.wp_model.specs.declared.entry.Entry.{Entry}
+use Rattle.wp_model.specs.declared.entry.Entry.TheVariants as entry
+use Rattle.wp_model.specs.declared.holder.Holder.{Holder}
+use Rattle.wp_model.specs.declared.holder.Holder.TheVariants as holder
+use Rattle.wp_model.specs.Batch.{key_of, change_to}
+use Rattle.wp_model.specs.History.{entry_at, name_at, batch_at, named, holder_of, value_at}
+use Rattle.wp_model.specs.Legal.{prior}
+use Rattle.wp_text.specs.declared.script.Command.{Command}
+use Rattle.wp_text.specs.declared.script.Command.TheVariants as command
+use Rattle.wp_text.specs.declared.reply.Reply.{Reply}
+use Rattle.wp_text.specs.declared.reply.Reply.TheVariants as reply
+use Rattle.wp_replies.specs.declared.client.TheConstants.{MOST_SNAPSHOTS}
+use Rattle.wp_replies.specs.declared.client.Txn.{Txn}
+use Rattle.wp_replies.specs.declared.client.Txn.TheVariants.{Idle, Open, Prepared}
+use Rattle.wp_replies.specs.declared.plan.Plan.{Plan}
+use Rattle.wp_replies.specs.declared.plan.Plan.TheVariants.{Say, Log, RollBack}
+use Rattle.wp_replies.specs.Client.{Client, AreWithin, number_of, own_batch, has_no_room}
+use Rattle.wp_replies.specs.After.{with_staged, labels_after}
+use Rattle.wp_replies.specs.Kind.{is_logged, fresh_in}
+use Rattle.wp_replies.specs.Progress.{Progress, knows_label, progress_after}
+use Rattle.wp_replies.specs.Replies.{WasTold, Evidence, IsKnown, refusal_of, refuses_change, IsLoggedAt, WasUndecided, IsBusy, TxnIsOpen, TxnIsWithin, OwnSays, needed, AsksFor, unless_labelled, unless_idle, unless_open, if_idle, unless_prepared, PreparesAt, CommitsAt, RollsBackAt, UnlessRefused}
+use Rattle.wp_replies.specs.Plan.{plan, asked_of, next, busy_or, change_plan, read_reply, get_reply, get_at_reply, free_reply, begin_reply, begin_plan, prepare_plan, commit_plan, rollback_plan, leave_plan, take_reply, take_plan}
+use Rattle.wp_replies.specs.Due.{heard, reply_to, due, taken, client_after}
+use Rattle.wp_replies.specs.Moments.{AreDueFrom}
+use Rattle.wp_replies.specs.Session.{IsSession}
+use Rattle.wp_model.proofs.Found.{found_holder, found_named}
+use Rattle.wp_model.proofs.Entries.{undecided_within, batch_at_old}
+use Rattle.wp_replies.proofs.SaidLemmas.{within_same, within_filter, within_more, number_within}
+use Rattle.wp_replies.proofs.Rows.{snapshots_after}
+use Rattle.wp_replies.proofs.Scenes.{entry_in_front, next_entry, value_in_front, Scene, front, store_in, RowOf, IsAllowed, front_size, front_fresh, say_refused, say_allowed, board_allowed, log_allowed, entries_in, one_allowed}
+use Rattle.wp_replies.proofs.DueTables.{flush_allowed, compact_allowed}
+
+-- ---- put, del
+
+busy_in : {client : Client} {c : Command} {answer : Reply} (s : Scene client c answer) (key : List ℕ) (p : ℕ) → holder_of (front s) key ≡ Some p → IsBusy s.evidence s.progress.last key (holder.Txn (name_at (front s) p))
+busy_in s key p is =
+    let found = found_holder (front s) key p is in
+    let fresh = front_fresh s in
+    inl (p, record { at = s.given.before; fresh = (omega (arith, fresh.0, front_size s), omega (arith, fresh.1, front_size s)); undecided = found.0; named = refl }, found.1)
+
+option_cases : {A : Type 0} (o : Option A) → (o ≡ None) ⊎ ((a : A) × (o ≡ Some a))
+option_cases None = inl refl
+option_cases (Some a) = inr (a, refl)
+
+change_allowed : {client : Client} {c : Command} {answer : Reply} (s : Scene client c answer) (change : Change) (made : Reply)
+    → plan (front s) client c ≡ change_plan (front s) client.txn change made → refusal_of client c ≡ refuses_change client.txn (key_of change) → (client.txn ≡ Idle → needed client.txn c ≡ 1) → (client.txn ≡ Idle → AsksFor client.txn c (entry.Write (change ∷ []) ∷ [])) → is_logged made ≡ true
+    → (client.txn ≡ Idle → IsLoggedAt s.evidence.history s.progress.last (next (front s)) (entry.Write (change ∷ [])) → RowOf s made)
+    → ((by : Holder) → IsBusy s.evidence s.progress.last (key_of change) by → RowOf s (reply.Busy by))
+    → (TxnIsOpen client.txn → RowOf s reply.Held) → IsAllowed s
+change_allowed {client = client} {c = c} s change made plan_is refusal_is needs asks logs row busy held = by client.txn refl
+  where
+    on_holder : (other : Plan) → plan (front s) client c ≡ busy_or (front s) (holder_of (front s) (key_of change)) other → refusal_of client c ≡ None → (plan (front s) client c ≡ other → IsAllowed s) → IsAllowed s
+    on_holder other is free rest =
+        elim (option_cases (holder_of (front s) (key_of change))) [
+          | inl none ↦ rest (is ∙ ap (λ (o : Option ℕ). busy_or (front s) o other) none)
+          | inr found ↦ say_allowed s (reply.Busy (holder.Txn (name_at (front s) found.0))) (is ∙ ap (λ (o : Option ℕ). busy_or (front s) o other) found.1) refl free (busy _ (busy_in s (key_of change) found.0 found.1))
+        ]
+
+    by : (txn : Txn) → client.txn ≡ txn → IsAllowed s
+    by Idle is =
+        let asked : plan (front s) client c ≡ change_plan (front s) Idle change made = plan_is ∙ ap (λ (t : Txn). change_plan (front s) t change made) is in
+        let free : refusal_of client c ≡ None = refusal_is ∙ ap (λ (t : Txn). refuses_change t (key_of change)) is in
+        on_holder (Log (entry.Write (change ∷ [])) made) asked free (λ log. one_allowed s (entry.Write (change ∷ [])) made log logs free (needs is) (asks is) (row is))
+    by (Open name batch) is =
+        let asked : plan (front s) client c ≡ change_plan (front s) (Open name batch) change made = plan_is ∙ ap (λ (t : Txn). change_plan (front s) t change made) is in
+        let refuses : refusal_of client c ≡ refuses_change (Open name batch) (key_of change) = refusal_is ∙ ap (λ (t : Txn). refuses_change t (key_of change)) is in
+        elim (cases_Bool (has_no_room batch (key_of change))) [
+          | inl full ↦ say_refused s reply.TooMany (rw full at asked) refl (rw full at refuses)
+          | inr room ↦
+              let free : refusal_of client c ≡ None = rw room at refuses in
+              on_holder (Say reply.Held) (rw room at asked) free (λ says. say_allowed s reply.Held says refl free (held (subst TxnIsOpen (sym is) tt)))
+        ]
+    by (Prepared p) is =
+        say_refused s reply.State (plan_is ∙ ap (λ (t : Txn). change_plan (front s) t change made) is) refl (refusal_is ∙ ap (λ (t : Txn). refuses_change t (key_of change)) is)
+
+-- ---- get
+
+own_in : {client : Client} {c : Command} {answer : Reply} (s : Scene client c answer) (key : List ℕ) → OwnSays s.evidence.history client.txn key (change_to (own_batch (front s) client.txn) key)
+own_in {client = client} s key = by client.txn s.txn
+  where
+    by : (txn : Txn) → TxnIsWithin s.from txn → OwnSays s.evidence.history txn key (change_to (own_batch (front s) txn) key)
+    by Idle within = (tt, refl)
+    by (Open name batch) within = (tt, refl)
+    by (Prepared p) within =
+        let published : p ≤ length (front s) = omega (arith, front_size s, within, s.given.earlier) in
+        let same : batch_at s.evidence.history p ≡ batch_at (front s) p = subst (λ (xs : List Entry). batch_at xs p ≡ batch_at (front s) p) (take-append-drop s.given.before s.evidence.history) (batch_at_old (front s) (drop s.given.before s.evidence.history) p published) in
+        (omega (arith, within, s.given.earlier, s.given.grows, s.given.within), ap (λ (b : List Change). change_to b key) same)
+
+get_allowed : {client : Client} {answer : Reply} (key : List ℕ) (s : Scene client (command.Get key) answer) → IsAllowed s
+get_allowed {client = client} key s = by (change_to (own_batch (front s) client.txn) key) refl
+  where
+    by_value : (value : Option (List ℕ)) → value_at (front s) key (length (front s)) ≡ value → change_to (own_batch (front s) client.txn) key ≡ None → IsAllowed s
+    by_value value is none =
+        let own : OwnSays s.evidence.history client.txn key None = subst (OwnSays s.evidence.history client.txn key) none (own_in s key) in
+        let here : value_at s.evidence.history key (length (front s)) ≡ value = sym (value_in_front s.evidence.history key (length (front s)) s.given.before (omega (arith, front_size s))) ∙ is in
+        let says : plan (front s) client (command.Get key) ≡ Say (read_reply value (length (front s))) = ap (λ (o : Option (Option (List ℕ))). Say (get_reply (front s) o key)) none ∙ ap (λ (v : Option (List ℕ)). Say (read_reply v (length (front s)))) is in
+        read value says own here
+      where
+        read : (v : Option (List ℕ)) → plan (front s) client (command.Get key) ≡ Say (read_reply v (length (front s))) → OwnSays s.evidence.history client.txn key None → value_at s.evidence.history key (length (front s)) ≡ v → IsAllowed s
+        read (Some v) says own here = say_allowed s (reply.Got v (length (front s))) says refl refl (own, front_fresh s, here)
+        read None says own here = say_allowed s (reply.Missing (length (front s))) says refl refl (own, front_fresh s, here)
+
+    by : (own : Option (Option (List ℕ))) → change_to (own_batch (front s) client.txn) key ≡ own → IsAllowed s
+    by (Some (Some value)) is = say_allowed s (reply.GotOwn value) (ap (λ (o : Option (Option (List ℕ))). Say (get_reply (front s) o key)) is) refl refl (subst (OwnSays s.evidence.history client.txn key) is (own_in s key))
+    by (Some None) is = say_allowed s reply.MissingOwn (ap (λ (o : Option (Option (List ℕ))). Say (get_reply (front s) o key)) is) refl refl (subst (OwnSays s.evidence.history client.txn key) is (own_in s key))
+    by None is = by_value (value_at (front s) key (length (front s))) refl is
+
+get_at_allowed : {client : Client} {answer : Reply} (key label : List ℕ) (s : Scene client (command.GetAt key label) answer) → IsAllowed s
+get_at_allowed {client = client} key label s = by (number_of client.snapshots label) refl
+  where
+    read : (n : ℕ) (value : Option (List ℕ)) → plan (front s) client (command.GetAt key label) ≡ Say (read_reply value n) → number_of client.snapshots label ≡ Some n → n ≤ length s.evidence.history → value_at s.evidence.history key n ≡ value → IsAllowed s
+    read n (Some v) says is within here = say_allowed s (reply.Got v n) says refl (ap (λ (o : Option ℕ). unless_labelled o label) is) ((is, within), here)
+    read n None says is within here = say_allowed s (reply.Missing n) says refl (ap (λ (o : Option ℕ). unless_labelled o label) is) ((is, within), here)
+
+    by : (number : Option ℕ) → number_of client.snapshots label ≡ number → IsAllowed s
+    by None is = say_refused s (reply.UnknownSnapshot label) (ap (λ (o : Option ℕ). Say (get_at_reply (front s) o key label)) is) refl (ap (λ (o : Option ℕ). unless_labelled o label) is)
+    by (Some n) is =
+        let low : n ≤ s.from = subst (λ (o : Option ℕ). IfSome o (λ m. m ≤ s.from)) is (number_within s.from client.snapshots label s.snapshots) in
+        read n (value_at (front s) key n) (ap (λ (o : Option ℕ). Say (get_at_reply (front s) o key label)) is) is (omega (arith, low, s.given.earlier, s.given.grows, s.given.within)) (sym (value_in_front s.evidence.history key n s.given.before (omega (arith, low, s.given.earlier))))
+
+-- ---- snapshots
+
+snap_allowed : {client : Client} {answer : Reply} (label : List ℕ) (s : Scene client (command.Snap label) answer) → IsAllowed s
+snap_allowed {client = client} label s =
+    elim (cases_Bool (is_some (number_of client.snapshots label))) [
+      | inl has ↦ say_refused s (reply.Taken label) (rw has refl) refl (rw has refl)
+      | inr new ↦ elim (cases_Bool (nat_le MOST_SNAPSHOTS (length client.snapshots))) [
+        | inl full ↦ say_refused s reply.TooMany (rw (new, full) refl) refl (rw (new, full) refl)
+        | inr room ↦ say_allowed s (reply.Snapped (length (front s))) (rw (new, room) refl) refl (rw (new, room) refl) (front_fresh s)
+      ]
+    ]
+
+free_allowed : {client : Client} {answer : Reply} (label : List ℕ) (s : Scene client (command.Free label) answer) → IsAllowed s
+free_allowed {client = client} label s = by (number_of client.snapshots label) refl
+  where
+    by : (number : Option ℕ) → number_of client.snapshots label ≡ number → IsAllowed s
+    by None is = say_refused s (reply.UnknownSnapshot label) (ap (λ (o : Option ℕ). Say (free_reply o label)) is) refl (ap (λ (o : Option ℕ). unless_labelled o label) is)
+    by (Some n) is = say_allowed s reply.Freed (ap (λ (o : Option ℕ). Say (free_reply o label)) is) refl (ap (λ (o : Option ℕ). unless_labelled o label) is) tt
+
+-- ---- transactions
+
+was_in : {client : Client} {c : Command} {answer : Reply} (s : Scene client c answer) (name : List ℕ) (p : ℕ) → named (front s) name ≡ Some p → WasUndecided s.evidence.history s.progress.last name p
+was_in s name p is =
+    let found = found_named (front s) name p is in
+    let fresh = front_fresh s in
+    record { at = s.given.before; fresh = (omega (arith, fresh.0, front_size s), omega (arith, fresh.1, front_size s)); undecided = found.0; named = (bytes_eq-Decides _ _).0 found.1 }
+
+begin_allowed : {client : Client} {answer : Reply} (name : List ℕ) (s : Scene client (command.Begin name) answer) → IsAllowed s
+begin_allowed {client = client} name s = by client.txn refl
+  where
+    by_holder : (holder : Option ℕ) → named (front s) name ≡ holder → client.txn ≡ Idle → IsAllowed s
+    by_holder None is idle = say_allowed s reply.Begun (ap (λ (t : Txn). begin_plan (front s) t name) idle ∙ ap (λ (o : Option ℕ). Say (begin_reply o name)) is) refl (ap unless_idle idle) tt
+    by_holder (Some p) is idle = say_allowed s (reply.Taken name) (ap (λ (t : Txn). begin_plan (front s) t name) idle ∙ ap (λ (o : Option ℕ). Say (begin_reply o name)) is) refl (ap unless_idle idle) (refl, inl (p, was_in s name p is))
+
+    by : (txn : Txn) → client.txn ≡ txn → IsAllowed s
+    by Idle is = by_holder (named (front s) name) refl is
+    by (Open other batch) is = say_refused s reply.State (ap (λ (t : Txn). begin_plan (front s) t name) is) refl (ap unless_idle is)
+    by (Prepared p) is = say_refused s reply.State (ap (λ (t : Txn). begin_plan (front s) t name) is) refl (ap unless_idle is)
+
+prepare_allowed : {client : Client} {answer : Reply} (s : Scene client command.Prepare answer) → IsAllowed s
+prepare_allowed {client = client} s = by client.txn refl
+  where
+    by : (txn : Txn) → client.txn ≡ txn → IsAllowed s
+    by Idle is = say_refused s reply.State (ap (prepare_plan (front s)) is) refl (ap unless_open is)
+    by (Open name batch) is = one_allowed s (entry.Prepare name batch) (reply.Prepared (next (front s))) (ap (prepare_plan (front s)) is) refl (ap unless_open is) (ap (λ (t : Txn). needed t command.Prepare) is) (subst (λ (t : Txn). AsksFor t command.Prepare (entry.Prepare name batch ∷ [])) (sym is) refl) (λ here. subst (λ (t : Txn). PreparesAt s.evidence.history s.progress.last t (next (front s))) (sym is) here)
+    by (Prepared p) is = say_refused s reply.State (ap (prepare_plan (front s)) is) refl (ap unless_open is)
+
+commit_allowed : {client : Client} {answer : Reply} (s : Scene client command.Commit answer) → IsAllowed s
+commit_allowed {client = client} s = by client.txn refl
+  where
+    by : (txn : Txn) → client.txn ≡ txn → IsAllowed s
+    by Idle is = say_refused s reply.State (ap (commit_plan (front s)) is) refl (ap if_idle is)
+    by (Open name batch) is = one_allowed s (entry.Write batch) (reply.Committed (next (front s))) (ap (commit_plan (front s)) is) refl (ap if_idle is) (ap (λ (t : Txn). needed t command.Commit) is) (subst (λ (t : Txn). AsksFor t command.Commit (entry.Write batch ∷ [])) (sym is) refl) (λ here. subst (λ (t : Txn). CommitsAt s.evidence.history s.progress.last t (next (front s))) (sym is) here)
+    by (Prepared p) is = one_allowed s (entry.Commit p) (reply.Committed (next (front s))) (ap (commit_plan (front s)) is) refl (ap if_idle is) (ap (λ (t : Txn). needed t command.Commit) is) (subst (λ (t : Txn). AsksFor t command.Commit (entry.Commit p ∷ [])) (sym is) refl) (λ here. subst (λ (t : Txn). CommitsAt s.evidence.history s.progress.last t (next (front s))) (sym is) here)
+
+rollback_allowed : {client : Client} {answer : Reply} (s : Scene client command.Rollback answer) → IsAllowed s
+rollback_allowed {client = client} {answer = answer} s = by client.txn refl
+  where
+    rolled : (p : ℕ) → client.txn ≡ Prepared p → answer ≡ reply.RolledBack (next (front s) + 1) → RollsBackAt s.evidence.history s.progress.last (Prepared p) (next (front s) + 1)
+    rolled p is answered =
+        let n = next (front s) + 1 in
+        let batch = prior (front s) (batch_at (front s) p) in
+        let all : take s.given.after s.evidence.history ≡ front s ++ entry.Undo p batch ∷ entry.Close p ∷ [] = entries_in s (RollBack p batch (reply.RolledBack n)) (reply.RolledBack n) (ap (rollback_plan (front s)) is) refl answered in
+        let split : take s.given.after s.evidence.history ≡ (front s ++ entry.Undo p batch ∷ []) ++ entry.Close p ∷ [] = all ∙ sym (append_assoc (front s) (entry.Undo p batch ∷ []) (entry.Close p ∷ [])) in
+        let closed : entry_at s.evidence.history n ≡ Some (entry.Close p) = entry_in_front s.evidence.history s.given.after n (entry.Close p) (subst (λ (xs : List Entry). entry_at xs n ≡ Some (entry.Close p)) (sym split) (next_entry (front s ++ entry.Undo p batch ∷ []) [] (entry.Close p) n (omega (arith, length-append (front s) (entry.Undo p batch ∷ []))))) in
+        let undone : entry_at s.evidence.history (n - 1) ≡ Some (entry.Undo p batch) = entry_in_front s.evidence.history s.given.after (n - 1) (entry.Undo p batch) (subst (λ (xs : List Entry). entry_at xs (n - 1) ≡ Some (entry.Undo p batch)) (sym all) (next_entry (front s) (entry.Close p ∷ []) (entry.Undo p batch) (n - 1) (omega arith))) in
+        ((omega (arith, (front_fresh s).0), closed), (batch, (omega (arith, (front_fresh s).0), undone)))
+
+    by : (txn : Txn) → client.txn ≡ txn → IsAllowed s
+    by Idle is = say_refused s reply.State (ap (rollback_plan (front s)) is) refl (ap if_idle is)
+    by (Open name batch) is = say_allowed s reply.Dropped (ap (rollback_plan (front s)) is) refl (ap if_idle is) (subst TxnIsOpen (sym is) tt)
+    by (Prepared p) is = log_allowed s 2 (reply.RolledBack (next (front s) + 1)) (ap if_idle is) (ap (λ (t : Txn). needed t command.Rollback) is) (omega arith) (subst (λ (t : Txn). AsksFor t command.Rollback (asked_of (rollback_plan (front s) t))) (sym is) (prior (front s) (batch_at (front s) p), refl)) (ap (λ (t : Txn). reply_to (store_in s) client (rollback_plan (front s) t)) is) refl (λ answered. subst (λ (t : Txn). RollsBackAt s.evidence.history s.progress.last t (next (front s) + 1)) (sym is) (rolled p is answered))
+
+leave_allowed : {client : Client} {answer : Reply} (s : Scene client command.Leave answer) → IsAllowed s
+leave_allowed {client = client} s = by client.txn refl
+  where
+    by : (txn : Txn) → client.txn ≡ txn → IsAllowed s
+    by Idle is = say_refused s reply.State (ap leave_plan is) refl (ap unless_prepared is)
+    by (Open name batch) is = say_refused s reply.State (ap leave_plan is) refl (ap unless_prepared is)
+    by (Prepared p) is = say_allowed s reply.Left (ap leave_plan is) refl (ap unless_prepared is) tt
+
+take_allowed : {client : Client} {answer : Reply} (name : List ℕ) (s : Scene client (command.Take name) answer) → IsAllowed s
+take_allowed {client = client} name s = by client.txn refl
+  where
+    by_holder : (holder : Option ℕ) → named (front s) name ≡ holder → client.txn ≡ Idle → IsAllowed s
+    by_holder None is idle =
+        let same : take (length (front s)) s.evidence.history ≡ front s = ap (λ (n : ℕ). take n s.evidence.history) (front_size s) in
+        say_allowed s (reply.Unknown name (length (front s))) (ap (λ (t : Txn). take_plan (front s) t name) idle ∙ ap (λ (o : Option ℕ). Say (take_reply (front s) o name)) is) refl (ap unless_idle idle) (refl, front_fresh s, ap (λ (xs : List Entry). named xs name) same ∙ is)
+    by_holder (Some p) is idle =
+        let takes : taken (front s) (command.Take name) ≡ p = ap (λ (o : Option ℕ). unwrap_or o 0) is in
+        say_allowed s reply.Took (ap (λ (t : Txn). take_plan (front s) t name) idle ∙ ap (λ (o : Option ℕ). Say (take_reply (front s) o name)) is) refl (ap unless_idle idle) (subst (WasUndecided s.evidence.history s.progress.last name) (sym takes) (was_in s name p is))
+
+    by : (txn : Txn) → client.txn ≡ txn → IsAllowed s
+    by Idle is = by_holder (named (front s) name) refl is
+    by (Open other batch) is = say_refused s reply.State (ap (λ (t : Txn). take_plan (front s) t name) is) refl (ap unless_idle is)
+    by (Prepared p) is = say_refused s reply.State (ap (λ (t : Txn). take_plan (front s) t name) is) refl (ap unless_idle is)
+
+-- ---- the board
+
+hear_allowed : {client : Client} {answer : Reply} (label : List ℕ) (s : Scene client (command.Hear label) answer) → IsAllowed s
+hear_allowed {client = client} label s = by (map.get s.given.devices.board label) refl
+  where
+    unknown : map.get s.given.devices.board label ≡ None → (b : Bool) → knows_label s.progress.labels label ≡ b → b ≡ false
+    unknown none true knows = absurd (true≢false (sym (s.given.known.heard label knows) ∙ ap is_some none))
+    unknown none false knows = refl
+
+    by : (told : Option ℕ) → map.get s.given.devices.board label ≡ told → IsAllowed s
+    by None is = board_allowed s (reply.Silent label) (ap (λ (o : Option ℕ). heard (length (front s)) o label) is) refl refl (refl, unknown is (knows_label s.progress.labels label) refl)
+    by (Some n) is =
+        board_allowed s (reply.Heard (length (front s))) (ap (λ (o : Option ℕ). heard (length (front s)) o label) is) refl refl
+        (front_fresh s, subst (λ (m : ℕ). IsKnown s.evidence (WasTold label m)) (sym (front_size s)) (s.given.known.told label n is))
+
+-- ---- all commands
+
+due_allowed : (client : Client) (c : Command) (answer : Reply) (s : Scene client c answer) → IsAllowed s
+due_allowed client (command.Put key value) answer s = change_allowed s (change.Put key value) (reply.Put (next (front s))) refl refl (λ is. ap (λ (t : Txn). needed t (command.Put key value)) is) (λ is. subst (λ (t : Txn). AsksFor t (command.Put key value) (entry.Write (change.Put key value ∷ []) ∷ [])) (sym is) refl) refl (λ is here. (is, here)) (λ by busy. busy) (λ opened. opened)
+due_allowed client (command.Del key) answer s = change_allowed s (change.Del key) (reply.Del (next (front s))) refl refl (λ is. ap (λ (t : Txn). needed t (command.Del key)) is) (λ is. subst (λ (t : Txn). AsksFor t (command.Del key) (entry.Write (change.Del key ∷ []) ∷ [])) (sym is) refl) refl (λ is here. (is, here)) (λ by busy. busy) (λ opened. opened)
+due_allowed client (command.Get key) answer s = get_allowed key s
+due_allowed client (command.GetAt key label) answer s = get_at_allowed key label s
+due_allowed client (command.Snap label) answer s = snap_allowed label s
+due_allowed client (command.Free label) answer s = free_allowed label s
+due_allowed client (command.Begin name) answer s = begin_allowed name s
+due_allowed client command.Prepare answer s = prepare_allowed s
+due_allowed client command.Commit answer s = commit_allowed s
+due_allowed client command.Rollback answer s = rollback_allowed s
+due_allowed client command.Leave answer s = leave_allowed s
+due_allowed client (command.Take name) answer s = take_allowed name s
+due_allowed client command.Flush answer s = flush_allowed s
+due_allowed client command.Compact answer s = compact_allowed s
+due_allowed client (command.Tell label) answer s = board_allowed s (reply.Told (length (front s))) refl refl refl (front_fresh s)
+due_allowed client (command.Hear label) answer s = hear_allowed label s
+
+-- ---- what the reply leaves
+
+staged_within : (n : ℕ) (txn : Txn) (change : Change) → TxnIsWithin n txn → TxnIsWithin n (with_staged txn change)
+staged_within n Idle change within = within
+staged_within n (Open name batch) change within = within
+staged_within n (Prepared p) change within = within
+
+txn_more : (n m : ℕ) (txn : Txn) → n ≤ m → TxnIsWithin n txn → TxnIsWithin m txn
+txn_more n m Idle le within = tt
+txn_more n m (Open name batch) le within = tt
+txn_more n m (Prepared p) le within = omega (arith, le, within)
+
+taken_within : (h : List Entry) (c : Command) → taken h c ≤ length h
+taken_within h (command.Take name) = by (named h name) refl
+  where
+    by : (holder : Option ℕ) → named h name ≡ holder → unwrap_or (named h name) 0 ≤ length h
+    by None is = rw is (omega arith)
+    by (Some p) is = rw is (undecided_within h p (found_named h name p is).0).1
+taken_within h other = omega arith
+
+prepared_fresh : (client : Client) (c : Command) (n : ℕ) (s : Scene client c (reply.Prepared n)) → IsAllowed s → fresh_in c (reply.Prepared n) ≡ Some n
+prepared_fresh client (command.GetAt key label) n s allowed = absurd (by (number_of client.snapshots label) allowed)
+  where
+    by : (number : Option ℕ) → UnlessRefused (unless_labelled number label) (reply.Prepared n) ⊥ → ⊥
+    by None is = absurd cc
+    by (Some m) is = is
+prepared_fresh client other n s allowed = refl
+
+txn_within : (client : Client) (c : Command) (answer : Reply) (s : Scene client c answer) → IsAllowed s → TxnIsWithin s.given.after client.txn → TxnIsWithin s.given.after (client_after (front s) client c answer).txn
+txn_within client (command.Put key value) reply.Held s allowed within = staged_within s.given.after client.txn (change.Put key value) within
+txn_within client (command.Del key) reply.Held s allowed within = staged_within s.given.after client.txn (change.Del key) within
+txn_within client (command.Begin name) reply.Begun s allowed within = tt
+txn_within client (command.Take name) reply.Took s allowed within = omega (arith, taken_within (front s) (command.Take name), front_size s, s.given.grows)
+txn_within client c (reply.Prepared n) s allowed within = (subst (λ (o : Option ℕ). IfSome o (λ m. (s.given.before ≤ m) × (m ≤ s.given.after))) (prepared_fresh client c n s allowed) s.given.fresh).1
+txn_within client c (reply.Committed n) s allowed within = tt
+txn_within client c reply.Dropped s allowed within = tt
+txn_within client c (reply.RolledBack n) s allowed within = tt
+txn_within client c reply.Left s allowed within = tt
+txn_within client c answer s allowed within = within
+
+labels_within : (client : Client) (c : Command) (answer : Reply) (s : Scene client c answer) → AreWithin s.given.after client.snapshots → AreWithin s.given.after (labels_after client.snapshots c answer)
+labels_within client (command.Snap label) (reply.Snapped n) s within = within_same s.given.after client.snapshots _ within (s.given.fresh.1, tt)
+labels_within client (command.Free label) reply.Freed s within = within_filter s.given.after _ client.snapshots within
+labels_within client c answer s within = within
+
+last_within : (last before after : ℕ) (number : Option ℕ) → last ≤ before → before ≤ after → IfSome number (λ n. (before ≤ n) × (n ≤ after)) → unwrap_or number last ≤ after
+last_within last before after (Some n) low grows fresh = fresh.1
+last_within last before after None low grows fresh = omega (arith, low, grows)
+
+pub due_session : (e : Evidence) (from : ℕ) (progress : Progress) (client : Client) (cs : List Command) (rs : List Reply) → progress.last ≤ from → TxnIsWithin from client.txn → AreWithin from client.snapshots → AreDueFrom e from progress client cs rs → IsSession e progress client cs rs
+due_session e from progress client [] [] low txn snapshots due = tt
+due_session e from progress client [] (r ∷ rs) low txn snapshots due = absurd due
+due_session e from progress client (c ∷ cs) [] low txn snapshots due = absurd due
+due_session e from progress client (c ∷ cs) (r ∷ rs) low txn snapshots (given, rest) =
+    let s : Scene client c r = record { evidence = e; from = from; progress = progress; low = low; txn = txn; snapshots = snapshots; given = given } in
+    let later : from ≤ given.after = omega (arith, given.earlier, given.grows) in
+    let allowed = due_allowed client c r s in (
+      taken (take given.before e.history) c,
+      allowed,
+      due_session e given.after (progress_after progress c r) (client_after (take given.before e.history) client c r) cs rs
+          (last_within progress.last given.before given.after (fresh_in c r) (omega (arith, low, given.earlier)) given.grows given.fresh)
+          (txn_within client c r s allowed (txn_more from given.after client.txn later txn))
+          (subst (AreWithin given.after) (sym (snapshots_after (taken (take given.before e.history) c) client c r)) (labels_within client c r s (within_more from given.after client.snapshots later snapshots)))
+          rest,
+    )

@@ -1,0 +1,196 @@
+-- The rows of the table stay true as the history grows, and as more is known of the other clients.
+use Rattle.std.proofs.Common.{◌≡◌, ℕ, zero, suc, ◌-◌, ◌≤◌, Bool, true, List, [], ◌∷◌, ◌++◌, length, take, Option, Some, None, refl, sym, ap, ◌∙◌, subst, arith, length-append, inl, inr}
+use Rattle.std.specs.Prelude.{slice_get, IfSome}
+use Rattle.std.proofs.lemmas.List.{take-append-le}
+use Rattle.wp_model.specs.declared.entry.Entry.{Entry}
+use Rattle.wp_model.specs.declared.holder.Holder.{Holder}
+use Rattle.wp_model.specs.declared.holder.Holder.TheVariants as holder
+use Rattle.wp_model.specs.Batch.{change_to}
+use Rattle.wp_model.specs.Flushed.{later_versions}
+use Rattle.wp_model.specs.History.{entry_at, name_at, batch_at, is_undecided, is_changed, named, newest}
+use Rattle.wp_model.proofs.Entries.{batch_at_old}
+use Rattle.wp_text.specs.declared.script.Command.{Command}
+use Rattle.wp_text.specs.declared.script.Command.TheVariants as command
+use Rattle.wp_text.specs.declared.reply.Reply.{Reply}
+use Rattle.wp_text.specs.declared.reply.Reply.TheVariants as reply
+use Rattle.wp_replies.specs.declared.client.Txn.{Txn}
+use Rattle.wp_replies.specs.declared.client.Txn.TheVariants.{Idle, Open, Prepared}
+use Rattle.wp_replies.specs.Client.{Client}
+use Rattle.wp_replies.specs.After.{labels_after, after_reply}
+use Rattle.wp_replies.specs.Progress.{Progress, progress_after}
+use Rattle.wp_replies.specs.Replies.{Claim, Evidence, IsKnown, HasName, HasKey, WritesKey, WasTold, LogFailed, WasFlushed, TablesFailed, OtherCompacted, refusal_of, IsFresh, IsLoggedAt, WasUndecided, IsBusy, IsNameTaken, OwnSays, PreparesAt, CommitsAt, RollsBackAt, IsFlushCount, HasNothingToFlush, HasNothingToMerge, FailsFlush, FailsCompaction, IsHaltedAt, Row, UnlessRefused}
+use Rattle.wp_replies.specs.Session.{IsSession}
+use Rattle.wp_replies.specs.Tables.{unflushed, after_flush, after_compaction}
+
+-- ---- entries
+
+pub slice_get_more : (xs ys : List Entry) (k : ℕ) (x : Entry) → slice_get xs k ≡ Some x → slice_get (xs ++ ys) k ≡ Some x
+slice_get_more [] ys k x e = absurd cc
+slice_get_more (y ∷ xs) ys zero x e = e
+slice_get_more (y ∷ xs) ys (suc k) x e = slice_get_more xs ys k x e
+
+entry_more : (h more : List Entry) (n : ℕ) (e : Entry) → entry_at h n ≡ Some e → entry_at (h ++ more) n ≡ Some e
+entry_more h more zero e is = absurd cc
+entry_more h more (suc n) e is = slice_get_more h more n e is
+
+longer : (h more : List Entry) (n : ℕ) → n ≤ length h → n ≤ length (h ++ more)
+longer h more n le = omega (arith, le, length-append h more)
+
+-- ---- what rows say
+
+fresh_more : (h more : List Entry) (last n : ℕ) → IsFresh h last n → IsFresh (h ++ more) last n
+fresh_more h more last n f = (f.0, longer h more n f.1)
+
+logged_more : (h more : List Entry) (last n : ℕ) (e : Entry) → IsLoggedAt h last n e → IsLoggedAt (h ++ more) last n e
+logged_more h more last n e l = (l.0, entry_more h more n e l.1)
+
+-- what is true of the first n entries
+front_more : (P : List Entry → Type 0) (h more : List Entry) (n : ℕ) → n ≤ length h → P (take n h) → P (take n (h ++ more))
+front_more P h more n le holds = subst P (sym (take-append-le n h more le)) holds
+
+was_more : (h more : List Entry) (last : ℕ) (name : List ℕ) (p : ℕ) → WasUndecided h last name p → WasUndecided (h ++ more) last name p
+was_more h more last name p w = record {
+  at = w.at;
+  fresh = fresh_more h more last w.at w.fresh;
+  undecided = front_more (λ f. is_undecided f p ≡ true) h more w.at w.fresh.1 w.undecided;
+  named = front_more (λ f. name_at f p ≡ name) h more w.at w.fresh.1 w.named;
+}
+
+-- the history with more entries, and with more known of the others
+abbrev grown : Evidence → List Entry → (Claim → Bool) → Evidence
+grown e more later = record e { history = e.history ++ more; known = later }
+
+abbrev KnowsMore : Evidence → (Claim → Bool) → Type 0
+KnowsMore e later = (claim : Claim) → IsKnown e claim → later claim ≡ true
+
+busy_more : (e : Evidence) (more : List Entry) (later : Claim → Bool) → KnowsMore e later → (last : ℕ) (key : List ℕ) (by : Holder) → IsBusy e last key by → IsBusy (grown e more later) last key by
+unfolding was_more
+busy_more e more later f last key (holder.Txn name) (inl (p, was, changed)) = inl (p, was_more e.history more last name p was, front_more (λ f. is_changed (batch_at f p) key ≡ true) e.history more was.at was.fresh.1 changed)
+busy_more e more later f last key (holder.Txn name) (inr claims) = inr (f (HasName name) claims.0, f (HasKey name key) claims.1)
+busy_more e more later f last key (holder.Client name) claim = f (WritesKey name key) claim
+
+taken_more : (e : Evidence) (more : List Entry) (later : Claim → Bool) → KnowsMore e later → (last : ℕ) (name : List ℕ) → IsNameTaken e last name → IsNameTaken (grown e more later) last name
+taken_more e more later f last name (inl (p, was)) = inl (p, was_more e.history more last name p was)
+taken_more e more later f last name (inr claim) = inr (f (HasName name) claim)
+
+own_more : (h more : List Entry) (txn : Txn) (key : List ℕ) (said : Option (Option (List ℕ))) → OwnSays h txn key said → OwnSays (h ++ more) txn key said
+own_more h more Idle key said s = s
+own_more h more (Open name batch) key said s = s
+own_more h more (Prepared p) key said s = (longer h more p s.0, ap (λ b. change_to b key) (batch_at_old h more p s.0) ∙ s.1)
+
+value_more : (h more : List Entry) (key : List ℕ) (n : ℕ) (value : Option (List ℕ)) → n ≤ length h → newest (take n h) key ≡ value → newest (take n (h ++ more)) key ≡ value
+value_more h more key n value le is = front_more (λ f. newest f key ≡ value) h more n le is
+
+prepares_more : (h more : List Entry) (last : ℕ) (txn : Txn) (n : ℕ) → PreparesAt h last txn n → PreparesAt (h ++ more) last txn n
+prepares_more h more last (Open name batch) n l = logged_more h more last n _ l
+prepares_more h more last _ n l = absurd l
+
+commits_more : (h more : List Entry) (last : ℕ) (txn : Txn) (n : ℕ) → CommitsAt h last txn n → CommitsAt (h ++ more) last txn n
+commits_more h more last Idle n l = absurd l
+commits_more h more last (Open name batch) n l = logged_more h more last n _ l
+commits_more h more last (Prepared p) n l = logged_more h more last n _ l
+
+rolls_more : (h more : List Entry) (last : ℕ) (txn : Txn) (n : ℕ) → RollsBackAt h last txn n → RollsBackAt (h ++ more) last txn n
+rolls_more h more last (Prepared p) n (closed, (batch, undone)) = (logged_more h more last n _ closed, (batch, logged_more h more last (n - 1) _ undone))
+rolls_more h more last _ n l = absurd l
+
+-- ---- tables
+
+flush_count_more : (e : Evidence) (more : List Entry) (later : Claim → Bool) → KnowsMore e later → (n versions : ℕ) → n ≤ length e.history → IsFlushCount e n versions → IsFlushCount (grown e more later) n versions
+flush_count_more e more later f n versions le (flushed, was, count) = (flushed, f (WasFlushed flushed) was, front_more (λ h. length (later_versions h flushed) ≡ versions) e.history more n le count)
+
+nothing_to_flush_more : (e : Evidence) (more : List Entry) (later : Claim → Bool) → KnowsMore e later → (last : ℕ) → HasNothingToFlush e last → HasNothingToFlush (grown e more later) last
+nothing_to_flush_more e more later f last (le, (flushed, was, none)) = (longer e.history more last le, (flushed, f (WasFlushed flushed) was, front_more (λ h. later_versions h flushed ≡ []) e.history more last le none))
+
+nothing_to_merge_more : (e : Evidence) (more : List Entry) (later : Claim → Bool) → KnowsMore e later → (tables : ℕ) → HasNothingToMerge e tables → HasNothingToMerge (grown e more later) tables
+nothing_to_merge_more e more later f tables (inl few) = inl few
+nothing_to_merge_more e more later f tables (inr claim) = inr (f OtherCompacted claim)
+
+halted_more : (e : Evidence) (more : List Entry) (later : Claim → Bool) → KnowsMore e later → (flushed : ℕ) → IsHaltedAt e flushed → IsHaltedAt (grown e more later) flushed
+halted_more e more later f flushed (was, failed) = (f (WasFlushed flushed) was, f TablesFailed failed)
+
+flush_fails_more : (e : Evidence) (more : List Entry) (later : Claim → Bool) (last : ℕ) → FailsFlush e last → FailsFlush (grown e more later) last
+flush_fails_more e more later last f = record {
+  at = f.at;
+  fresh = fresh_more e.history more last f.at f.fresh;
+  some = front_more (λ h. 1 ≤ length (unflushed h e.installed)) e.history more f.at f.fresh.1 f.some;
+  edit = front_more (λ h. IfSome e.failed.edit (λ edit. edit ≡ after_flush h e.installed)) e.history more f.at f.fresh.1 f.edit;
+}
+
+compaction_fails_more : (e : Evidence) (more : List Entry) (later : Claim → Bool) (last : ℕ) (client : Client) → FailsCompaction e last client → FailsCompaction (grown e more later) last client
+compaction_fails_more e more later last client f = record {
+  at = f.at;
+  fresh = fresh_more e.history more last f.at f.fresh;
+  two = f.two;
+  snapshots = f.snapshots;
+  own = f.own;
+  edit = front_more (λ h. IfSome e.failed.edit (λ edit. edit ≡ after_compaction h f.snapshots e.installed)) e.history more f.at f.fresh.1 f.edit;
+}
+
+-- ---- the client
+
+-- the snapshots change as the labels do
+pub snapshots_after : (p : ℕ) (client : Client) (c : Command) (r : Reply) → (after_reply p client c r).snapshots ≡ labels_after client.snapshots c r
+snapshots_after p client (command.Put key value) reply.Held = refl
+snapshots_after p client (command.Del key) reply.Held = refl
+snapshots_after p client (command.Begin name) reply.Begun = refl
+snapshots_after p client (command.Take name) reply.Took = refl
+snapshots_after p client (command.Snap label) (reply.Snapped n) = refl
+snapshots_after p client (command.Free label) reply.Freed = refl
+snapshots_after p client c (reply.Prepared n) = refl
+snapshots_after p client c r = refl
+
+-- ---- the rows
+
+row_more : (e : Evidence) (more : List Entry) (later : Claim → Bool) → KnowsMore e later → (progress : Progress) (client : Client) (p : ℕ) (c : Command) (r : Reply) → Row e progress client p c r → Row (grown e more later) progress client p c r
+row_more e more later f progress client p c (reply.Full published most) k = (k.0, fresh_more e.history more progress.last published k.1, k.2, k.3)
+row_more e more later f progress client p c reply.FaultLog k = k
+row_more e more later f progress client p c (reply.Stopped n) k = (k.0, fresh_more e.history more progress.last n k.1, f (LogFailed n) k.2)
+row_more e more later f progress client p (command.Put key value) (reply.Put n) k = (k.0, logged_more e.history more progress.last n _ k.1)
+row_more e more later f progress client p (command.Put key value) reply.Held k = k
+row_more e more later f progress client p (command.Put key value) (reply.Busy holder) k = busy_more e more later f progress.last key holder k
+row_more e more later f progress client p (command.Del key) (reply.Del n) k = (k.0, logged_more e.history more progress.last n _ k.1)
+row_more e more later f progress client p (command.Del key) reply.Held k = k
+row_more e more later f progress client p (command.Del key) (reply.Busy holder) k = busy_more e more later f progress.last key holder k
+row_more e more later f progress client p (command.Get key) (reply.Got value n) k = (own_more e.history more client.txn key _ k.0, fresh_more e.history more progress.last n k.1, value_more e.history more key n _ k.1.1 k.2)
+row_more e more later f progress client p (command.Get key) (reply.Missing n) k = (own_more e.history more client.txn key _ k.0, fresh_more e.history more progress.last n k.1, value_more e.history more key n _ k.1.1 k.2)
+row_more e more later f progress client p (command.Get key) (reply.GotOwn value) k = own_more e.history more client.txn key _ k
+row_more e more later f progress client p (command.Get key) reply.MissingOwn k = own_more e.history more client.txn key _ k
+row_more e more later f progress client p (command.GetAt key label) (reply.Got value n) k = ((k.0.0, longer e.history more n k.0.1), value_more e.history more key n _ k.0.1 k.1)
+row_more e more later f progress client p (command.GetAt key label) (reply.Missing n) k = ((k.0.0, longer e.history more n k.0.1), value_more e.history more key n _ k.0.1 k.1)
+row_more e more later f progress client p (command.Snap label) (reply.Snapped n) k = fresh_more e.history more progress.last n k
+row_more e more later f progress client p (command.Free label) reply.Freed k = k
+row_more e more later f progress client p (command.Begin name) reply.Begun k = k
+row_more e more later f progress client p (command.Begin name) (reply.Taken other) k = (k.0, taken_more e more later f progress.last name k.1)
+row_more e more later f progress client p command.Prepare (reply.Prepared n) k = prepares_more e.history more progress.last client.txn n k
+row_more e more later f progress client p command.Commit (reply.Committed n) k = commits_more e.history more progress.last client.txn n k
+row_more e more later f progress client p command.Rollback reply.Dropped k = k
+row_more e more later f progress client p command.Rollback (reply.RolledBack n) k = rolls_more e.history more progress.last client.txn n k
+row_more e more later f progress client p command.Leave reply.Left k = k
+row_more e more later f progress client p (command.Take name) reply.Took k = was_more e.history more progress.last name p k
+row_more e more later f progress client p (command.Take name) (reply.Unknown other n) k = (k.0, fresh_more e.history more progress.last n k.1, front_more (λ f. named f name ≡ None) e.history more n k.1.1 k.2)
+row_more e more later f progress client p (command.Take name) (reply.InUse other) k = (k.0, f (HasName name) k.1)
+row_more e more later f progress client p command.Flush (reply.Flushed n versions) k = (fresh_more e.history more progress.last n k.0, k.1, flush_count_more e more later f n versions k.0.1 k.2)
+row_more e more later f progress client p command.Flush reply.Nothing k = nothing_to_flush_more e more later f progress.last k
+row_more e more later f progress client p command.Flush (reply.Halted flushed) k = halted_more e more later f flushed k
+row_more e more later f progress client p command.Flush reply.FaultTables k = flush_fails_more e more later progress.last k
+row_more e more later f progress client p command.Compact (reply.Compacted n versions) k = (fresh_more e.history more progress.last n k.0, front_more (λ h. versions ≤ length (later_versions h 0)) e.history more n k.0.1 k.1)
+row_more e more later f progress client p command.Compact reply.Nothing k = nothing_to_merge_more e more later f progress.tables k
+row_more e more later f progress client p command.Compact (reply.Halted flushed) k = halted_more e more later f flushed k
+row_more e more later f progress client p command.Compact reply.FaultTables k = compaction_fails_more e more later progress.last client k
+row_more e more later f progress client p (command.Tell label) (reply.Told n) k = fresh_more e.history more progress.last n k
+row_more e more later f progress client p (command.Hear label) (reply.Heard n) k = (fresh_more e.history more progress.last n k.0, f (WasTold label n) k.1)
+row_more e more later f progress client p (command.Hear label) (reply.Silent other) k = k
+row_more e more later f progress client p c r k = absurd k
+
+unless_refused_more : (refusal : Option Reply) (r : Reply) (A B : Type 0) → (A → B) → UnlessRefused refusal r A → UnlessRefused refusal r B
+unless_refused_more None r A B f a = f a
+unless_refused_more (Some refusal) r A B f is = is
+
+-- a session over a history that grows, with more known of the others
+pub session_more : (e : Evidence) (more : List Entry) (later : Claim → Bool) → KnowsMore e later → (progress : Progress) (client : Client) (cs : List Command) (rs : List Reply) → IsSession e progress client cs rs → IsSession (grown e more later) progress client cs rs
+session_more e more later f progress client [] [] s = tt
+session_more e more later f progress client [] (r ∷ rs) s = absurd s
+session_more e more later f progress client (c ∷ cs) [] s = absurd s
+session_more e more later f progress client (c ∷ cs) (r ∷ rs) (p, allowed, rest) =
+    (p, unless_refused_more (refusal_of client c) r _ _ (row_more e more later f progress client p c r) allowed, session_more e more later f (progress_after progress c r) (after_reply p client c r) cs rs rest)

@@ -1,0 +1,191 @@
+-- What is true of every session: of its reads, its numbers and its entries.
+use Rattle.std.proofs.Common.{◌≡◌, ℕ, suc, zero, ◌≤◌, List, [], ◌∷◌, length, Option, Some, None, refl, sym, ap, ◌∙◌, subst, arith, rules, inl, inr}
+use Rattle.std.specs.Prelude.{IfSome, is_some, nat_le}
+use Rattle.std.proofs.lemmas.Bool.{cases_Bool}
+use Rattle.std.proofs.lemmas.Option.{slice_get_within}
+use Rattle.wp_model.specs.declared.entry.Entry.{Entry}
+use Rattle.wp_model.specs.declared.entry.Entry.TheVariants as entry
+use Rattle.wp_model.specs.declared.change.Change.TheVariants as change
+use Rattle.wp_model.specs.History.{entry_at}
+use Rattle.wp_text.specs.declared.script.Command.{Command}
+use Rattle.wp_text.specs.declared.script.Command.TheVariants as command
+use Rattle.wp_text.specs.declared.reply.Reply.{Reply}
+use Rattle.wp_text.specs.declared.reply.Reply.TheVariants as reply
+use Rattle.wp_replies.specs.declared.client.TheConstants.{MOST_SNAPSHOTS}
+use Rattle.wp_replies.specs.declared.client.LabelledSnapshot.{LabelledSnapshot}
+use Rattle.wp_replies.specs.declared.client.Txn.{Txn}
+use Rattle.wp_replies.specs.declared.client.Txn.TheVariants.{Idle, Open, Prepared}
+use Rattle.wp_replies.specs.Client.{Client, number_of, has_no_room}
+use Rattle.wp_replies.specs.After.{after_reply}
+use Rattle.wp_replies.specs.Kind.{Plain, kind, number_of_kind, numbers_logged, acknowledged, fresh_in, last_after}
+use Rattle.wp_replies.specs.Progress.{Progress, progress_after}
+use Rattle.wp_replies.specs.Replies.{Evidence, refuses_change, unless_idle, unless_open, unless_prepared, if_idle, unless_labelled, refuses_label, refusal_of, IsFresh, IsLoggedAt, PreparesAt, CommitsAt, RollsBackAt, Row, UnlessRefused, Allows}
+use Rattle.wp_replies.specs.Session.{IsSession}
+use Rattle.wp_replies.specs.Laws.{ReadsValue, AreReads, NeverFall, AsksLog, AreAsked, Takes, AreLogged}
+use Rattle.wp_replies.proofs.Rows.{snapshots_after}
+
+-- ---- refusals speak of no entry
+
+abbrev pub IsPlainIfSome : Option Reply → Type 0
+IsPlainIfSome refusal = IfSome refusal (λ r. kind r ≡ Plain)
+
+change_plain : (txn : Txn) (key : List ℕ) → IsPlainIfSome (refuses_change txn key)
+change_plain Idle key = tt
+change_plain (Open name batch) key = elim (cases_Bool (has_no_room batch key)) [ inl full ↦ rw full refl | inr room ↦ rw room tt ]
+change_plain (Prepared p) key = refl
+
+labelled_plain : (number : Option ℕ) (label : List ℕ) → IsPlainIfSome (unless_labelled number label)
+labelled_plain (Some n) label = tt
+labelled_plain None label = refl
+
+label_plain : (snapshots : List LabelledSnapshot) (label : List ℕ) → IsPlainIfSome (refuses_label snapshots label)
+label_plain snapshots label =
+    elim (cases_Bool (is_some (number_of snapshots label))) [
+      | inl has ↦ rw has refl
+      | inr new ↦ elim (cases_Bool (nat_le MOST_SNAPSHOTS (length snapshots))) [ inl full ↦ rw (new, full) refl | inr room ↦ rw (new, room) tt ]
+    ]
+
+idle_plain : (txn : Txn) → IsPlainIfSome (unless_idle txn) × IsPlainIfSome (unless_open txn) × IsPlainIfSome (unless_prepared txn) × IsPlainIfSome (if_idle txn)
+idle_plain Idle = (tt, refl, refl, refl)
+idle_plain (Open name batch) = (refl, tt, refl, tt)
+idle_plain (Prepared p) = (refl, refl, tt, tt)
+
+refusal_plain : (client : Client) (c : Command) → IsPlainIfSome (refusal_of client c)
+refusal_plain client (command.Put key value) = change_plain client.txn key
+refusal_plain client (command.Del key) = change_plain client.txn key
+refusal_plain client (command.Get key) = tt
+refusal_plain client (command.GetAt key label) = labelled_plain (number_of client.snapshots label) label
+refusal_plain client (command.Snap label) = label_plain client.snapshots label
+refusal_plain client (command.Free label) = labelled_plain (number_of client.snapshots label) label
+refusal_plain client (command.Begin name) = (idle_plain client.txn).0
+refusal_plain client command.Prepare = (idle_plain client.txn).1
+refusal_plain client command.Commit = (idle_plain client.txn).3
+refusal_plain client command.Rollback = (idle_plain client.txn).3
+refusal_plain client command.Leave = (idle_plain client.txn).2
+refusal_plain client (command.Take name) = (idle_plain client.txn).0
+refusal_plain client command.Flush = tt
+refusal_plain client command.Compact = tt
+refusal_plain client (command.Tell label) = tt
+refusal_plain client (command.Hear label) = tt
+
+-- what is true by the row, and where the reply speaks of no entry
+allowed_gives : (Q : Type 0) (refusal : Option Reply) (r : Reply) (row : Type 0) → IsPlainIfSome refusal → (row → Q) → (kind r ≡ Plain → Q) → UnlessRefused refusal r row → Q
+allowed_gives Q None r row plain by_row by_kind allowed = by_row allowed
+allowed_gives Q (Some refusal) r row plain by_row by_kind allowed = by_kind (ap kind allowed ∙ plain)
+
+-- ---- reads
+
+allowed_read : (e : Evidence) (progress : Progress) (client : Client) (p : ℕ) (c : Command) (r : Reply) → Allows e progress client p c r → ReadsValue e.history progress.last client.snapshots c r
+allowed_read e progress client p (command.Get key) (reply.Got value n) a = (a.1, a.2)
+allowed_read e progress client p (command.Get key) (reply.Missing n) a = (a.1, a.2)
+allowed_read e progress client p (command.GetAt key label) (reply.Got value n) a = allowed_gives _ (unless_labelled (number_of client.snapshots label) label) (reply.Got value n) _ (labelled_plain (number_of client.snapshots label) label) (λ row. (row.0.0, row.0.1, row.1)) (λ plain. absurd cc) a
+allowed_read e progress client p (command.GetAt key label) (reply.Missing n) a = allowed_gives _ (unless_labelled (number_of client.snapshots label) label) (reply.Missing n) _ (labelled_plain (number_of client.snapshots label) label) (λ row. (row.0.0, row.0.1, row.1)) (λ plain. absurd cc) a
+allowed_read e progress client p c r a = tt
+
+pub session_reads : (e : Evidence) (progress : Progress) (client : Client) (cs : List Command) (rs : List Reply) → IsSession e progress client cs rs → AreReads e.history progress.last client.snapshots cs rs
+session_reads e progress client [] [] s = tt
+session_reads e progress client [] (r ∷ rs) s = tt
+session_reads e progress client (c ∷ cs) [] s = tt
+session_reads e progress client (c ∷ cs) (r ∷ rs) (p, allowed, rest) = (
+  allowed_read e progress client p c r allowed,
+  subst (λ (snapshots : List LabelledSnapshot). AreReads e.history (last_after progress.last c r) snapshots cs rs) (snapshots_after p client c r) (session_reads e (progress_after progress c r) (after_reply p client c r) cs rs rest),
+)
+
+-- ---- numbers
+
+entry_within : (h : List Entry) (n : ℕ) (e : Entry) → entry_at h n ≡ Some e → n ≤ length h
+entry_within h zero e is = omega arith
+entry_within h (suc n) e is = omega (arith, slice_get_within h n e is)
+
+logged_fresh : (h : List Entry) (last n : ℕ) (e : Entry) → IsLoggedAt h last n e → IsFresh h last n
+logged_fresh h last n e l = (omega (arith, l.0), entry_within h n e l.1)
+
+prepares_fresh : (h : List Entry) (last : ℕ) (txn : Txn) (n : ℕ) → PreparesAt h last txn n → IsFresh h last n
+prepares_fresh h last (Open name batch) n l = logged_fresh h last n _ l
+prepares_fresh h last _ n l = absurd l
+
+commits_fresh : (h : List Entry) (last : ℕ) (txn : Txn) (n : ℕ) → CommitsAt h last txn n → IsFresh h last n
+commits_fresh h last Idle n l = absurd l
+commits_fresh h last (Open name batch) n l = logged_fresh h last n _ l
+commits_fresh h last (Prepared p) n l = logged_fresh h last n _ l
+
+rolls_fresh : (h : List Entry) (last : ℕ) (txn : Txn) (n : ℕ) → RollsBackAt h last txn n → IsFresh h last n
+rolls_fresh h last (Prepared p) n l = logged_fresh h last n _ l.0
+rolls_fresh h last _ n l = absurd l
+
+row_fresh : (e : Evidence) (progress : Progress) (client : Client) (p : ℕ) (c : Command) (r : Reply) → Row e progress client p c r → IfSome (fresh_in c r) (IsFresh e.history progress.last)
+row_fresh e progress client p (command.Put key value) (reply.Put n) k = logged_fresh e.history progress.last n _ k.1
+row_fresh e progress client p (command.Del key) (reply.Del n) k = logged_fresh e.history progress.last n _ k.1
+row_fresh e progress client p (command.Get key) (reply.Got value n) k = k.1
+row_fresh e progress client p (command.Get key) (reply.Missing n) k = k.1
+row_fresh e progress client p (command.GetAt key label) r k = tt
+row_fresh e progress client p (command.Snap label) (reply.Snapped n) k = k
+row_fresh e progress client p command.Prepare (reply.Prepared n) k = prepares_fresh e.history progress.last client.txn n k
+row_fresh e progress client p command.Commit (reply.Committed n) k = commits_fresh e.history progress.last client.txn n k
+row_fresh e progress client p command.Rollback (reply.RolledBack n) k = rolls_fresh e.history progress.last client.txn n k
+row_fresh e progress client p (command.Take name) (reply.Unknown other n) k = k.1
+row_fresh e progress client p command.Flush (reply.Flushed n versions) k = k.0
+row_fresh e progress client p command.Compact (reply.Compacted n versions) k = k.0
+row_fresh e progress client p (command.Tell label) (reply.Told n) k = k
+row_fresh e progress client p (command.Hear label) (reply.Heard n) k = k.0
+row_fresh e progress client p c reply.Held k = tt
+row_fresh e progress client p c r k = first_of (search rules, cc)
+
+fresh_none : (h : List Entry) (last : ℕ) (c : Command) (r : Reply) → kind r ≡ Plain → IfSome (fresh_in c r) (IsFresh h last)
+fresh_none h last (command.GetAt key label) r plain = tt
+fresh_none h last c r plain = subst (λ (o : Option ℕ). IfSome o (IsFresh h last)) (sym (ap number_of_kind plain)) tt
+
+pub session_numbers : (e : Evidence) (progress : Progress) (client : Client) (cs : List Command) (rs : List Reply) → IsSession e progress client cs rs → NeverFall e.history progress.last cs rs
+session_numbers e progress client [] [] s = tt
+session_numbers e progress client [] (r ∷ rs) s = tt
+session_numbers e progress client (c ∷ cs) [] s = tt
+session_numbers e progress client (c ∷ cs) (r ∷ rs) (p, allowed, rest) = (
+  allowed_gives _ (refusal_of client c) r _ (refusal_plain client c) (row_fresh e progress client p c r) (fresh_none e.history progress.last c r) allowed,
+  session_numbers e (progress_after progress c r) (after_reply p client c r) cs rs rest,
+)
+
+-- ---- entries
+
+prepares_asked : (h : List Entry) (last : ℕ) (txn : Txn) (n : ℕ) → PreparesAt h last txn n → AreAsked h last txn command.Prepare (n ∷ [])
+prepares_asked h last (Open name batch) n l = ((_, l, refl), tt)
+prepares_asked h last _ n l = absurd l
+
+commits_asked : (h : List Entry) (last : ℕ) (txn : Txn) (n : ℕ) → CommitsAt h last txn n → AreAsked h last txn command.Commit (n ∷ [])
+commits_asked h last Idle n l = absurd l
+commits_asked h last (Open name batch) n l = ((_, l, refl), tt)
+commits_asked h last (Prepared p) n l = ((_, l, refl), tt)
+
+rolls_asked : (h : List Entry) (last : ℕ) (txn : Txn) (n : ℕ) → RollsBackAt h last txn n → AreAsked h last txn command.Rollback (acknowledged (reply.RolledBack n))
+rolls_asked h last (Prepared p) n (closed, (batch, undone)) = ((_, undone, inr (batch, refl)), ((_, closed, inl refl), tt))
+rolls_asked h last _ n l = absurd l
+
+row_asked : (e : Evidence) (progress : Progress) (client : Client) (p : ℕ) (c : Command) (r : Reply) → Row e progress client p c r → AreAsked e.history progress.last client.txn c (acknowledged r)
+row_asked e progress client p (command.Put key value) (reply.Put n) k = ((entry.Write (change.Put key value ∷ []), k.1, subst (λ (t : Txn). AsksLog t (command.Put key value) (entry.Write (change.Put key value ∷ []))) (sym k.0) refl), tt)
+row_asked e progress client p (command.Del key) (reply.Del n) k = ((entry.Write (change.Del key ∷ []), k.1, subst (λ (t : Txn). AsksLog t (command.Del key) (entry.Write (change.Del key ∷ []))) (sym k.0) refl), tt)
+row_asked e progress client p command.Prepare (reply.Prepared n) k = prepares_asked e.history progress.last client.txn n k
+row_asked e progress client p command.Commit (reply.Committed n) k = commits_asked e.history progress.last client.txn n k
+row_asked e progress client p command.Rollback (reply.RolledBack n) k = rolls_asked e.history progress.last client.txn n k
+row_asked e progress client p c reply.Held k = tt
+row_asked e progress client p c r k = first_of (search rules, cc)
+
+asked_none : (h : List Entry) (last : ℕ) (txn : Txn) (c : Command) (r : Reply) → kind r ≡ Plain → AreAsked h last txn c (acknowledged r)
+asked_none h last txn c r plain = subst (AreAsked h last txn c) (sym (ap numbers_logged plain)) tt
+
+-- only an idle client is answered `took`
+took_by_row : (txn : Txn) (row : Type 0) → UnlessRefused (unless_idle txn) reply.Took row → row
+took_by_row Idle row a = a
+took_by_row (Open name batch) row a = absurd cc
+took_by_row (Prepared p) row a = absurd cc
+
+allowed_takes : (e : Evidence) (progress : Progress) (client : Client) (p : ℕ) (c : Command) (r : Reply) → Allows e progress client p c r → Takes e.history progress.last p c r
+allowed_takes e progress client p (command.Take name) reply.Took a = took_by_row client.txn _ a
+allowed_takes e progress client p c r a = tt
+
+pub session_logged : (e : Evidence) (progress : Progress) (client : Client) (cs : List Command) (rs : List Reply) → IsSession e progress client cs rs → AreLogged e.history progress.last client cs rs
+session_logged e progress client [] [] s = tt
+session_logged e progress client [] (r ∷ rs) s = tt
+session_logged e progress client (c ∷ cs) [] s = tt
+session_logged e progress client (c ∷ cs) (r ∷ rs) (p, allowed, rest) = (
+  allowed_gives _ (refusal_of client c) r _ (refusal_plain client c) (row_asked e progress client p c r) (asked_none e.history progress.last client.txn c r) allowed,
+  (p, allowed_takes e progress client p c r allowed, session_logged e (progress_after progress c r) (after_reply p client c r) cs rs rest),
+)

@@ -1,0 +1,58 @@
+-- What a reply leaves of the client.
+use Rattle.std.specs.Prelude.{ℕ, List, [], ◌∷◌, ◌++◌}
+use Rattle.wp_model.specs.declared.change.Change.{Change}
+use Rattle.wp_model.specs.declared.change.Change.TheVariants as change
+use Rattle.wp_model.specs.Batch.{with_change}
+use Rattle.wp_text.specs.declared.script.Command.{Command}
+use Rattle.wp_text.specs.declared.script.Command.TheVariants as command
+use Rattle.wp_text.specs.declared.reply.Reply.{Reply}
+use Rattle.wp_text.specs.declared.reply.Reply.TheVariants as reply
+use Rattle.wp_replies.specs.declared.client.LabelledSnapshot.{LabelledSnapshot}
+use Rattle.wp_replies.specs.declared.client.Txn.{Txn}
+use Rattle.wp_replies.specs.declared.client.Txn.TheVariants.{Idle, Open, Prepared}
+use Rattle.wp_replies.specs.Client.{Client, without_label}
+
+-- an open transaction with one change more
+abbrev pub with_staged : Txn → Change → Txn
+with_staged (Open name batch) change = Open name (with_change batch change)
+with_staged other change = other
+
+abbrev pub after_staged : Client → Command → Client
+after_staged client (command.Put key value) = record client { txn = with_staged client.txn (change.Put key value) }
+after_staged client (command.Del key) = record client { txn = with_staged client.txn (change.Del key) }
+after_staged client other = client
+
+abbrev pub after_begun : Client → Command → Client
+after_begun client (command.Begin name) = record client { txn = Open name [] }
+after_begun client other = client
+
+abbrev pub after_took : ℕ → Client → Command → Client
+after_took p client (command.Take name) = record client { txn = Prepared p }
+after_took p client other = client
+
+-- a decision, or a prepare, changes the transaction by its reply alone
+abbrev pub after_decision : Client → Reply → Client
+after_decision client (reply.Prepared n) = record client { txn = Prepared n }
+after_decision client (reply.Committed n) = record client { txn = Idle }
+after_decision client reply.Dropped = record client { txn = Idle }
+after_decision client (reply.RolledBack n) = record client { txn = Idle }
+after_decision client reply.Left = record client { txn = Idle }
+after_decision client other = client
+
+-- the snapshots once the client has the reply
+abbrev pub labels_after : List LabelledSnapshot → Command → Reply → List LabelledSnapshot
+labels_after snapshots (command.Snap label) (reply.Snapped n) = snapshots ++ record { label = label; number = n } ∷ []
+labels_after snapshots (command.Free label) reply.Freed = without_label snapshots label
+labels_after snapshots other answer = snapshots
+
+abbrev pub with_labels_after : Client → Command → Reply → Client
+with_labels_after client command answer = record client { snapshots = labels_after client.snapshots command answer }
+
+-- the client once it has the reply; `took` gives it the prepare with the number p
+abbrev pub after_reply : ℕ → Client → Command → Reply → Client
+after_reply p client command reply.Held = after_staged client command
+after_reply p client command (reply.Snapped n) = with_labels_after client command (reply.Snapped n)
+after_reply p client command reply.Freed = with_labels_after client command reply.Freed
+after_reply p client command reply.Begun = after_begun client command
+after_reply p client command reply.Took = after_took p client command
+after_reply p client command other = after_decision client other

@@ -1,0 +1,28 @@
+-- What the devices failed to take was asked for by the very command that was answered so, where nobody else changes the store.
+use Rattle.std.specs.Prelude.{◌≡◌, ◌⊎◌, Bool, true, List, ◌∷◌, Option, IfSome}
+use Rattle.wp_model.specs.declared.entry.Entry.{Entry}
+use Rattle.wp_model.specs.Flushed.{InstalledEdit}
+use Rattle.wp_text.specs.declared.script.Command.{Command}
+use Rattle.wp_text.specs.declared.reply.Reply.{Reply}
+use Rattle.wp_replies.specs.Client.{Client}
+use Rattle.wp_replies.specs.Due.{Store, edit_of, store_after, client_after}
+use Rattle.wp_replies.specs.Plan.{plan, asked_of}
+
+-- the command asks the log for these entries
+abbrev pub AsksLog : List Entry → Store → Client → Command → Type 0
+AsksLog entries store client command = entries ≡ asked_of (plan store.history client command)
+
+-- it asks the tables for this edit
+abbrev pub AsksTables : InstalledEdit → Store → Client → Command → Type 0
+AsksTables edit store client command = edit ≡ edit_of store client (plan store.history client command)
+
+-- likewise, where it came as far as an edit
+abbrev pub AsksEdit : Option InstalledEdit → Store → Client → Command → Type 0
+AsksEdit edit store client command = IfSome edit (λ next. AsksTables next store client command)
+
+-- one of a client's commands was answered by such a fault, and asked so
+abbrev pub FaultAsks : (is_failed : Reply → Bool) (Asks : Store → Client → Command → Type 0) → Store → Client → List Command → List Reply → Type 0
+FaultAsks is_failed Asks store client (first ∷ commands) (answer ∷ answers) =
+    ((is_failed answer ≡ true) × Asks store client first)
+    ⊎ FaultAsks is_failed Asks (store_after store client first answer) (client_after store.history client first answer) commands answers
+FaultAsks is_failed Asks store client commands answers = ⊥

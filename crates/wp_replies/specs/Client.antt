@@ -1,0 +1,59 @@
+-- A client between two of its commands: its transaction, and its snapshots.
+use Rattle.std.specs.Prelude.{◌≡◌, ℕ, ◌≤◌, Bool, true, ◌&&◌, not, nat_le, List, [], ◌∷◌, length, map, Option, None}
+use Rattle.std.specs.List.{filter, find}
+use Rattle.std.specs.Option.{option_map}
+use Rattle.std.specs.Str.{bytes_eq}
+use Rattle.wp_model.specs.declared.batch.TheConstants.{MOST_KEYS}
+use Rattle.wp_model.specs.declared.change.Change.{Change}
+use Rattle.wp_model.specs.declared.entry.Entry.{Entry}
+use Rattle.wp_model.specs.History.{is_undecided, is_changed, named, batch_at}
+use Rattle.wp_model.specs.Legal.{AreFree}
+use Rattle.wp_replies.specs.declared.client.LabelledSnapshot.{LabelledSnapshot}
+use Rattle.wp_replies.specs.declared.client.Txn.{Txn}
+use Rattle.wp_replies.specs.declared.client.Txn.TheVariants.{Idle, Open, Prepared}
+
+pub record Client : Type 0 where
+  pub txn : Txn
+  pub snapshots : List LabelledSnapshot
+
+-- as each session begins
+abbrev pub new_client : Client
+new_client = record { txn = Idle; snapshots = [] }
+
+-- the number of the snapshot with that label
+abbrev pub number_of : List LabelledSnapshot → List ℕ → Option ℕ
+number_of snapshots label = option_map (λ s. s.number) (find (λ s. bytes_eq s.label label) snapshots)
+
+-- the numbers of the snapshots
+abbrev pub numbers_of : List LabelledSnapshot → List ℕ
+numbers_of snapshots = map (λ s. s.number) snapshots
+
+-- the snapshots but the one with that label
+abbrev pub without_label : List LabelledSnapshot → List ℕ → List LabelledSnapshot
+without_label snapshots label = filter (λ s. not (bytes_eq s.label label)) snapshots
+
+-- what the client's own transaction has changed so far
+abbrev pub own_batch : List Entry → Txn → List Change
+own_batch history Idle = []
+own_batch history (Open name batch) = batch
+own_batch history (Prepared p) = batch_at history p
+
+-- as many keys as a transaction may change are changed, and this is none of them
+abbrev pub has_no_room : List Change → List ℕ → Bool
+has_no_room batch key = nat_le MOST_KEYS (length batch) && not (is_changed batch key)
+
+-- The transaction goes with the history: one that is open has a name and keys that are free; one that is prepared is
+-- undecided.
+abbrev pub TxnFits : List Entry → Txn → Type 0
+TxnFits history Idle = Unit {0}
+TxnFits history (Open name batch) = AreFree history batch × (named history name ≡ None)
+TxnFits history (Prepared p) = is_undecided history p ≡ true
+
+-- each number is one of the history's
+abbrev pub AreWithin : ℕ → List LabelledSnapshot → Type 0
+AreWithin published [] = Unit {0}
+AreWithin published (first ∷ others) = (first.number ≤ published) × AreWithin published others
+
+pub record ClientFits (history : List Entry) (client : Client) : Type 0 where
+  pub txn : TxnFits history client.txn
+  pub snapshots : AreWithin (length history) client.snapshots

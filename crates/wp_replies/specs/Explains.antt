@@ -1,0 +1,97 @@
+-- What the replies of all clients say of the one history and of the last edit.
+use Rattle.std.specs.Prelude.{◌≡◌, ◌⊎◌, ℕ, ◌<◌, ◌≤◌, ◌==◌, true, false, List, [], ◌∷◌, ◌++◌, length, count_by}
+use Rattle.std.specs.List.{flat_map, list_any}
+use Rattle.wp_model.specs.declared.entry.Entry.{Entry}
+use Rattle.wp_model.specs.Flushed.{InstalledEdit}
+use Rattle.wp_model.specs.Legal.{IsLegal}
+use Rattle.wp_text.specs.declared.script.Command.{Command}
+use Rattle.wp_text.specs.declared.script.Part.{Part}
+use Rattle.wp_text.specs.declared.reply.Reply.{Reply}
+use Rattle.wp_replies.specs.Client.{Client, new_client}
+use Rattle.wp_replies.specs.Kind.{acknowledged, is_fault, is_stopped, is_flushed, is_installed, is_tables_fault, is_halted}
+use Rattle.wp_replies.specs.Session.{IsSession}
+use Rattle.wp_replies.specs.Replies.{Failed, Evidence}
+use Rattle.wp_replies.specs.Known.{StoredState, Dialogue, evidence_of, known_at_first}
+use Rattle.wp_replies.specs.Due.{Store}
+use Rattle.wp_replies.specs.Current.{opened_store, RunsAlone}
+use Rattle.wp_replies.specs.Asked.{AsksLog, AsksEdit, FaultAsks}
+
+abbrev pub stored_in : Store → StoredState
+stored_in store = record { history = store.history; edit = store.installed }
+
+-- how often the log failed under a command, and the tables did
+pub record Faults : Type 0 where
+  pub log : ℕ
+  pub tables : ℕ
+
+-- all replies, one client's after the other's
+abbrev pub all_replies : List (List Reply) → List Reply
+all_replies sessions = flat_map (λ answers. answers) sessions
+
+-- a client's dialogue
+abbrev pub dialogue : Part → List Reply → Dialogue
+dialogue part answers = record { part = part; answers = answers }
+
+-- each client's
+abbrev pub dialogues : List Part → List (List Reply) → List Dialogue
+dialogues (part ∷ parts) (answers ∷ others) = dialogue part answers ∷ dialogues parts others
+dialogues parts sessions = []
+
+-- what a client's replies are judged by, with the dialogues of the clients before it and after it
+abbrev pub judged_by : (left : StoredState) → ℕ → Failed → (found : StoredState) → List Dialogue → Dialogue → List Dialogue → Evidence
+judged_by left limit failed found before own others = evidence_of left limit failed found (before ++ own ∷ others) (before ++ others)
+
+-- ---- what was answered of a script
+
+-- the client's first commands
+abbrev pub IsFirstPart : Part → Part → Type 0
+IsFirstPart part first = (first.client ≡ part.client) × (rest : List Command) × (part.commands ≡ first.commands ++ rest)
+
+-- each client's first commands
+abbrev pub AreFirstParts : List Part → List Part → Type 0
+AreFirstParts [] [] = Unit {0}
+AreFirstParts [] (first ∷ firsts) = ⊥
+AreFirstParts (part ∷ parts) [] = ⊥
+AreFirstParts (part ∷ parts) (first ∷ firsts) = IsFirstPart part first × AreFirstParts parts firsts
+
+-- Each part has one session, which begins with what was found, of those of its commands that have run. The dialogues before them
+-- come first. A session is judged by the whole parts: where memory was wanting for a command, others may have met it.
+abbrev pub AreSessions : (left : StoredState) → ℕ → Failed → (found : StoredState) → List Dialogue → (script run : List Part) → List (List Reply) → Type 0
+AreSessions left limit failed found before [] [] [] = Unit {0}
+AreSessions left limit failed found before (part ∷ parts) (first ∷ firsts) (answers ∷ others) =
+    IsSession (judged_by left limit failed found before (dialogue part answers) (dialogues parts others)) (known_at_first found) new_client first.commands answers
+    × AreSessions left limit failed found (before ++ dialogue part answers ∷ []) parts firsts others
+AreSessions left limit failed found before script run sessions = ⊥
+
+-- With one client, nobody else changes the store: what is left is what its replies leave, and what a device failed to take
+-- is what the very command asked for that was answered so.
+abbrev pub IsExact : ℕ → (found left : StoredState) → Failed → List Part → List (List Reply) → Type 0
+IsExact limit found left failed (part ∷ []) (answers ∷ []) =
+    (last : Store) × (client : Client) × RunsAlone (opened_store limit found) new_client part.commands answers last client × (left ≡ stored_in last)
+    × (last.stopped ≡ true → FaultAsks is_fault (AsksLog failed.entries) (opened_store limit found) new_client part.commands answers)
+    × (last.halted ≡ true → FaultAsks is_tables_fault (AsksEdit failed.edit) (opened_store limit found) new_client part.commands answers)
+IsExact limit found left failed script sessions = Unit {0}
+
+-- What the replies say of the last edit. Its flushed number is the one that was found or that of a `flushed` reply, and is
+-- less than none of these; where no reply says that an edit was installed, it is the edit that was found.
+pub record IsLastEdit (found left : InstalledEdit) (answers : List Reply) : Type 0 where
+  pub said : (left.flushed ≡ found.flushed) ⊎ (list_any (is_flushed left.flushed) answers ≡ true)
+  pub kept : found.flushed ≤ left.flushed
+  pub greatest : (n : ℕ) → list_any (is_flushed n) answers ≡ true → n ≤ left.flushed
+  pub unchanged : list_any is_installed answers ≡ false → left ≡ found
+
+-- The replies are explained by the history that is left, which begins with the one that was found, by the last edit, and by
+-- what the devices failed to take, which the commands of these replies asked for. So many replies tell a fault of the log, and of
+-- the tables. Each part of the script has one session, of the commands in its place of those that ran.
+pub record Explains (limit : ℕ) (faults : Faults) (script run : List Part) (found left : StoredState) (failed : Failed) (sessions : List (List Reply)) : Type 0 where
+  pub legal : IsLegal left.history
+  pub begins : (added : List Entry) × (left.history ≡ found.history ++ added)
+  pub answered : AreSessions left limit failed found [] script run sessions
+  -- each entry after the opening history is that of exactly one reply, an Undo together with its Close
+  pub paired : (n : ℕ) → length found.history < n → n ≤ length left.history → count_by (λ m. m == n) (flat_map acknowledged (all_replies sessions)) ≡ 1
+  pub log_failed : count_by is_fault (all_replies sessions) ≡ faults.log
+  pub stopped : list_any is_stopped (all_replies sessions) ≡ true → 1 ≤ faults.log
+  pub tables_failed : count_by is_tables_fault (all_replies sessions) ≡ faults.tables
+  pub halted : list_any is_halted (all_replies sessions) ≡ true → 1 ≤ faults.tables
+  pub edit : IsLastEdit found.edit left.edit (all_replies sessions)
+  pub exact : IsExact limit found left failed run sessions

@@ -1,0 +1,101 @@
+-- What is known of the others: what one history says, and what all clients were answered.
+use Rattle.std.specs.Prelude.{ℕ, ◌==◌, ◌&&◌, ◌||◌, Bool, false, nat_le, List, [], ◌∷◌, length, Option, Some, None}
+use Rattle.std.specs.List.{filter, flat_map, list_any}
+use Rattle.std.specs.Str.{bytes_eq}
+use Rattle.wp_model.specs.declared.entry.Entry.{Entry}
+use Rattle.wp_model.specs.Flushed.{InstalledEdit}
+use Rattle.wp_model.specs.History.{batch_at, is_changed, named}
+use Rattle.wp_text.specs.declared.script.Command.{Command}
+use Rattle.wp_text.specs.declared.script.Command.TheVariants as command
+use Rattle.wp_text.specs.declared.script.Part.{Part}
+use Rattle.wp_text.specs.declared.reply.Reply.{Reply}
+use Rattle.wp_text.specs.declared.reply.Reply.TheVariants as reply
+use Rattle.wp_replies.specs.declared.client.Txn.{Txn}
+use Rattle.wp_replies.specs.declared.client.Txn.TheVariants.{Idle, Open}
+use Rattle.wp_replies.specs.Client.{Client, new_client}
+use Rattle.wp_replies.specs.After.{after_reply}
+use Rattle.wp_replies.specs.Kind.{is_fault, is_flushed, is_compacted, is_tables_fault}
+use Rattle.wp_replies.specs.Progress.{Progress}
+use Rattle.wp_replies.specs.Replies.{Claim, HasName, HasKey, WritesKey, WasTold, LogFailed, WasFlushed, TablesFailed, OtherCompacted, Failed, Evidence}
+
+-- what a store has on its devices: a history, and the last edit of the tables
+pub record StoredState : Type 0 where
+  pub history : List Entry
+  pub edit : InstalledEdit
+
+-- what a client knows as its session begins
+abbrev pub known_at_first : StoredState → Progress
+known_at_first found = record { last = length found.history; tables = found.edit.tables; labels = [] }
+
+-- a client with its commands, and the replies to the first of these
+pub record Dialogue : Type 0 where
+  pub part : Part
+  pub answers : List Reply
+
+-- the replies of all dialogues
+abbrev pub answers_in : List Dialogue → List Reply
+answers_in dialogues = flat_map (λ d. d.answers) dialogues
+
+-- ---- what a client comes to
+
+-- A client comes to such a command, in such a state of its transaction and with such a reply; the first command that was
+-- not answered has none. Which prepare it took does not count.
+abbrev pub comes_to : (Txn → Command → Option Reply → Bool) → Client → List Command → List Reply → Bool
+comes_to is_such client [] answers = false
+comes_to is_such client (first ∷ commands) [] = is_such client.txn first None
+comes_to is_such client (first ∷ commands) (answer ∷ answers) = is_such client.txn first (Some answer) || comes_to is_such (after_reply 0 client first answer) commands answers
+
+-- one of the clients does
+abbrev pub one_comes_to : (Txn → Command → Option Reply → Bool) → List Dialogue → Bool
+one_comes_to is_such dialogues = list_any (λ d. comes_to is_such new_client d.part.commands d.answers) dialogues
+
+-- it was answered `begun` or `took` for the name
+abbrev pub gets_name : List ℕ → Txn → Command → Option Reply → Bool
+gets_name name txn (command.Begin other) (Some reply.Begun) = bytes_eq other name
+gets_name name txn (command.Take other) (Some reply.Took) = bytes_eq other name
+gets_name name txn command answer = false
+
+-- it puts or deletes the key
+abbrev pub changes_key : List ℕ → Command → Bool
+changes_key key (command.Put other value) = bytes_eq other key
+changes_key key (command.Del other) = bytes_eq other key
+changes_key key command = false
+
+-- it was answered `held` for the key, in the open transaction of that name
+abbrev pub stages_key : (name key : List ℕ) → Txn → Command → Option Reply → Bool
+stages_key name key (Open own batch) command (Some reply.Held) = bytes_eq own name && changes_key key command
+stages_key name key txn command answer = false
+
+-- it writes the key at once, and is not answered that somebody else holds it
+abbrev pub writes_key : List ℕ → Txn → Command → Option Reply → Bool
+writes_key key Idle command (Some (reply.Busy holder)) = false
+writes_key key Idle command answer = changes_key key command
+writes_key key txn command answer = false
+
+-- it was answered `told` for the label, with a number of at most n
+abbrev pub tells : List ℕ → ℕ → Txn → Command → Option Reply → Bool
+tells label n txn (command.Tell other) (Some (reply.Told told)) = bytes_eq other label && nat_le told n
+tells label n txn command answer = false
+
+-- ---- claims
+
+-- the undecided prepare, where there is one, has the key
+abbrev pub prepare_has : List Entry → Option ℕ → List ℕ → Bool
+prepare_has history None key = false
+prepare_has history (Some p) key = is_changed (batch_at history p) key
+
+-- The claim is said by the history, by what the store was opened with, by the dialogues of all clients, or by those of the
+-- other clients.
+abbrev pub is_said : List Entry → StoredState → List Dialogue → List Dialogue → Claim → Bool
+is_said history found all others (HasName name) = one_comes_to (gets_name name) others
+is_said history found all others (HasKey name key) = prepare_has found.history (named found.history name) key || one_comes_to (stages_key name key) all
+is_said history found all others (WritesKey name key) = one_comes_to (writes_key key) (filter (λ d. bytes_eq d.part.client name) others)
+is_said history found all others (WasTold label n) = one_comes_to (tells label n) all
+is_said history found all others (LogFailed n) = (n == length history) && list_any is_fault (answers_in all)
+is_said history found all others (WasFlushed n) = (n == found.edit.flushed) || list_any (is_flushed n) (answers_in all)
+is_said history found all others TablesFailed = list_any is_tables_fault (answers_in all)
+is_said history found all others OtherCompacted = list_any is_compacted (answers_in others)
+
+-- what a client's replies are judged by: what is left, what was found, the dialogues of all clients, and those of the others
+abbrev pub evidence_of : (left : StoredState) → ℕ → Failed → (found : StoredState) → List Dialogue → List Dialogue → Evidence
+evidence_of left limit failed found all others = record { history = left.history; installed = left.edit; limit = limit; failed = failed; known = is_said left.history found all others }

@@ -1,0 +1,61 @@
+-- A session whose replies are due at moments of the history, one after another.
+use Rattle.std.specs.Prelude.{◌≡◌, ◌⊎◌, ℕ, ◌≤◌, Bool, true, List, [], ◌∷◌, ◌++◌, length, take, Some, is_some, IfSome}
+use Rattle.std.specs.FinMap as map
+use Rattle.wp_model.specs.Flushed.{InstalledEdit, later_versions}
+use Rattle.wp_model.specs.LockTables.{Labels}
+use Rattle.wp_text.specs.declared.script.Command.{Command}
+use Rattle.wp_text.specs.declared.reply.Reply.{Reply}
+use Rattle.wp_replies.specs.Client.{Client}
+use Rattle.wp_replies.specs.Due.{Store, IsReply, logged_entries, edit_of, client_after}
+use Rattle.wp_replies.specs.Kind.{is_fault, is_tables_fault, fresh_in}
+use Rattle.wp_replies.specs.Plan.{plan, asked_of}
+use Rattle.wp_replies.specs.Progress.{Progress, knows_label, progress_after}
+use Rattle.wp_replies.specs.Replies.{WasTold, LogFailed, WasFlushed, TablesFailed, OtherCompacted, Evidence, IsKnown}
+
+-- what a store has beside its history
+pub record Devices : Type 0 where
+  pub stopped : Bool  -- the log has failed
+  pub installed : InstalledEdit  -- the last edit of the tables
+  pub halted : Bool  -- the manifest's device or the tables' has failed
+  pub board : Labels  -- what was told last under each label
+
+-- the store when so many entries of the history were published
+abbrev pub store_at : Evidence → Devices → ℕ → Store
+store_at evidence devices at = record { history = take at evidence.history; stopped = devices.stopped; limit = evidence.limit; installed = devices.installed; halted = devices.halted; board = devices.board }
+
+-- What is known of the others fits the devices when so many entries were published: what has failed, and which number
+-- the edit has. The edit has as many tables as the client knows of, unless another client made them one, and no more
+-- versions than these entries. What is on the board was told, and each label is there that the client knows.
+pub record AreKnown (evidence : Evidence) (at : ℕ) (progress : Progress) (devices : Devices) : Type 0 where
+  pub stopped : devices.stopped ≡ true → IsKnown evidence (LogFailed at)
+  pub halted : devices.halted ≡ true → IsKnown evidence TablesFailed
+  pub flushed : IsKnown evidence (WasFlushed devices.installed.flushed)
+  pub counted : (progress.tables ≤ devices.installed.tables) ⊎ IsKnown evidence OtherCompacted
+  pub few : length devices.installed.versions ≤ length (later_versions (take at evidence.history) 0)
+  pub told : (label : List ℕ) (n : ℕ) → map.get devices.board label ≡ Some n → IsKnown evidence (WasTold label at)
+  pub heard : (label : List ℕ) → knows_label progress.labels label ≡ true → is_some (map.get devices.board label) ≡ true
+
+-- The command's reply is the one that is due over the entries published before it, and its own entries are all that
+-- were published until it was answered. From is how many were published earlier.
+pub record IsDueFrom (evidence : Evidence) (from : ℕ) (progress : Progress) (client : Client) (command : Command) (answer : Reply) : Type 0 where
+  pub before : ℕ
+  pub after : ℕ
+  pub earlier : from ≤ before
+  pub grows : before ≤ after
+  pub within : after ≤ length evidence.history
+  pub devices : Devices
+  pub known : AreKnown evidence before progress devices
+  pub replied : IsReply (store_at evidence devices before) client command answer
+  pub logged : take after evidence.history ≡ take before evidence.history ++ logged_entries (store_at evidence devices before) client command answer
+  pub fresh : IfSome (fresh_in command answer) (λ n. (before ≤ n) × (n ≤ after))
+  -- what the log failed to take is what the command asked for
+  pub asked : is_fault answer ≡ true → evidence.failed.entries ≡ asked_of (plan (take before evidence.history) client command)
+  -- likewise the tables, which have the last edit then
+  pub asked_edit : is_tables_fault answer ≡ true → IfSome evidence.failed.edit (λ edit. edit ≡ edit_of (store_at evidence devices before) client (plan (take before evidence.history) client command)) × (devices.installed ≡ evidence.installed)
+
+abbrev pub AreDueFrom : Evidence → ℕ → Progress → Client → List Command → List Reply → Type 0
+AreDueFrom evidence from progress client [] [] = Unit {0}
+AreDueFrom evidence from progress client [] (answer ∷ answers) = ⊥
+AreDueFrom evidence from progress client (first ∷ commands) [] = ⊥
+AreDueFrom evidence from progress client (first ∷ commands) (answer ∷ answers) =
+    (given : IsDueFrom evidence from progress client first answer) × AreDueFrom evidence given.after (progress_after progress first answer) (client_after (take given.before evidence.history) client first answer) commands answers

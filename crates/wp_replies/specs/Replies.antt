@@ -1,0 +1,283 @@
+-- The table of replies: each reply is given only where its row says so, over a history, with what is known of the other
+-- clients. Each row stays true as the history grows, and as more is known of the others.
+use Rattle.std.specs.Prelude.{◌≡◌, ◌⊎◌, ℕ, ◌+◌, ◌-◌, ◌<◌, ◌≤◌, ◌==◌, Bool, true, false, nat_le, List, [], ◌∷◌, length, take, Option, Some, None, is_some, IfSome, if◌then◌else◌}
+use Rattle.std.specs.List.{list_any}
+use Rattle.wp_model.specs.declared.change.Change.{Change}
+use Rattle.wp_model.specs.declared.change.Change.TheVariants as change
+use Rattle.wp_model.specs.declared.entry.Entry.{Entry}
+use Rattle.wp_model.specs.declared.entry.Entry.TheVariants as entry
+use Rattle.wp_model.specs.declared.holder.Holder.{Holder}
+use Rattle.wp_model.specs.declared.holder.Holder.TheVariants as holder
+use Rattle.wp_model.specs.Batch.{change_to}
+use Rattle.wp_model.specs.Flushed.{InstalledEdit, later_versions}
+use Rattle.wp_model.specs.History.{entry_at, name_at, batch_at, is_undecided, is_changed, named, value_at}
+use Rattle.wp_text.specs.declared.script.Command.{Command}
+use Rattle.wp_text.specs.declared.script.Command.TheVariants as command
+use Rattle.wp_text.specs.declared.reply.Reply.{Reply}
+use Rattle.wp_text.specs.declared.reply.Reply.TheVariants as reply
+use Rattle.wp_replies.specs.declared.client.TheConstants.{MOST_SNAPSHOTS}
+use Rattle.wp_replies.specs.declared.client.LabelledSnapshot.{LabelledSnapshot}
+use Rattle.wp_replies.specs.declared.client.Txn.{Txn}
+use Rattle.wp_replies.specs.declared.client.Txn.TheVariants.{Idle, Open, Prepared}
+use Rattle.wp_replies.specs.Client.{Client, number_of, numbers_of, own_batch, has_no_room}
+use Rattle.wp_replies.specs.Progress.{Progress, knows_label}
+use Rattle.wp_replies.specs.Tables.{unflushed, after_flush, after_compaction}
+
+-- ---- what is known of the others
+
+-- what a row may say of the other clients, of the log and of the tables
+pub data Claim : Type 0 where
+  HasName : List ℕ → Claim  -- another client was answered `begun` or `took` for the name
+  HasKey : List ℕ → List ℕ → Claim  -- the transaction of this name has the key: a client was answered `held` in it for the key, or it was undecided at opening
+  WritesKey : List ℕ → List ℕ → Claim  -- another client, of this name, came to write the key at once
+  WasTold : List ℕ → ℕ → Claim  -- a client was answered `told` for the label, with a number of at most this
+  LogFailed : ℕ → Claim  -- a client was answered `fault log`, and so many entries are all of the history
+  WasFlushed : ℕ → Claim  -- this was the flushed number at opening, or a client was answered `flushed` with it
+  TablesFailed : Claim  -- a client was answered `fault tables`
+  OtherCompacted : Claim  -- another client was answered `compacted`
+
+-- what the devices failed to take
+pub record Failed : Type 0 where
+  pub entries : List Entry  -- of one record, for the log
+  pub edit : Option InstalledEdit  -- for the manifest's device and the tables'; none where one failed before the manifest was called
+
+-- what a reply is judged by
+pub record Evidence : Type 0 where
+  pub history : List Entry
+  pub installed : InstalledEdit  -- the last edit of the tables
+  pub limit : ℕ  -- the greatest number that an entry may have
+  pub failed : Failed
+  pub known : Claim → Bool  -- what is known of the other clients, of the log and of the tables
+
+abbrev pub IsKnown : Evidence → Claim → Type 0
+IsKnown evidence claim = evidence.known claim ≡ true
+
+-- ---- what the client's own transaction and snapshots refuse, whatever the store has
+
+abbrev pub refuses_change : Txn → List ℕ → Option Reply
+refuses_change Idle key = None
+refuses_change (Open name batch) key = if has_no_room batch key then Some reply.TooMany else None
+refuses_change (Prepared p) key = Some reply.State
+
+abbrev pub unless_idle : Txn → Option Reply
+unless_idle Idle = None
+unless_idle other = Some reply.State
+
+abbrev pub unless_open : Txn → Option Reply
+unless_open (Open name batch) = None
+unless_open other = Some reply.State
+
+abbrev pub unless_prepared : Txn → Option Reply
+unless_prepared (Prepared p) = None
+unless_prepared other = Some reply.State
+
+abbrev pub if_idle : Txn → Option Reply
+if_idle Idle = Some reply.State
+if_idle other = None
+
+abbrev pub unless_labelled : Option ℕ → List ℕ → Option Reply
+unless_labelled (Some n) label = None
+unless_labelled None label = Some (reply.UnknownSnapshot label)
+
+abbrev pub refuses_label : List LabelledSnapshot → List ℕ → Option Reply
+refuses_label snapshots label =
+    if is_some (number_of snapshots label) then Some (reply.Taken label)
+    else (if nat_le MOST_SNAPSHOTS (length snapshots) then Some reply.TooMany else None)
+
+abbrev pub refusal_of : Client → Command → Option Reply
+refusal_of client (command.Put key value) = refuses_change client.txn key
+refusal_of client (command.Del key) = refuses_change client.txn key
+refusal_of client (command.Get key) = None
+refusal_of client (command.GetAt key label) = unless_labelled (number_of client.snapshots label) label
+refusal_of client (command.Snap label) = refuses_label client.snapshots label
+refusal_of client (command.Free label) = unless_labelled (number_of client.snapshots label) label
+refusal_of client (command.Begin name) = unless_idle client.txn
+refusal_of client command.Prepare = unless_open client.txn
+refusal_of client command.Commit = if_idle client.txn
+refusal_of client command.Rollback = if_idle client.txn
+refusal_of client command.Leave = unless_prepared client.txn
+refusal_of client (command.Take name) = unless_idle client.txn
+refusal_of client command.Flush = None
+refusal_of client command.Compact = None
+refusal_of client (command.Tell label) = None
+refusal_of client (command.Hear label) = None
+
+-- ---- what a row says of the history
+
+-- the number may be answered: the client has seen nothing later
+abbrev pub IsFresh : List Entry → ℕ → ℕ → Type 0
+IsFresh history last n = (last ≤ n) × (n ≤ length history)
+
+-- the entry is logged with the number, later than all that the client has seen
+abbrev pub IsLoggedAt : List Entry → ℕ → ℕ → Entry → Type 0
+IsLoggedAt history last n entry = (last < n) × (entry_at history n ≡ Some entry)
+
+-- The prepare with the number p, of that name, was undecided when so many entries were published, and the client had
+-- seen nothing later.
+pub record WasUndecided (history : List Entry) (last : ℕ) (name : List ℕ) (p : ℕ) : Type 0 where
+  pub at : ℕ
+  pub fresh : IsFresh history last at
+  pub undecided : is_undecided (take at history) p ≡ true
+  pub named : name_at (take at history) p ≡ name
+
+-- the transaction has the key in its batch, and was undecided or is another client's; or the other client writes the key
+abbrev pub IsBusy : Evidence → ℕ → List ℕ → Holder → Type 0
+IsBusy evidence last key (holder.Txn name) =
+    ((p : ℕ) × (was : WasUndecided evidence.history last name p) × (is_changed (batch_at (take was.at evidence.history) p) key ≡ true))
+    ⊎ (IsKnown evidence (HasName name) × IsKnown evidence (HasKey name key))
+IsBusy evidence last key (holder.Client name) = IsKnown evidence (WritesKey name key)
+
+-- the name was that of an undecided prepare, or it is another client's
+abbrev pub IsNameTaken : Evidence → ℕ → List ℕ → Type 0
+IsNameTaken evidence last name = ((p : ℕ) × WasUndecided evidence.history last name p) ⊎ IsKnown evidence (HasName name)
+
+-- ---- what a row says of the client
+
+abbrev pub TxnIsOpen : Txn → Type 0
+TxnIsOpen (Open name batch) = Unit {0}
+TxnIsOpen other = ⊥
+
+-- the number of a prepared transaction is at most n
+abbrev pub TxnIsWithin : ℕ → Txn → Type 0
+TxnIsWithin n (Prepared p) = p ≤ n
+TxnIsWithin n other = Unit {0}
+
+-- what the batch of the client's own transaction says of the key
+abbrev pub OwnSays : List Entry → Txn → List ℕ → Option (Option (List ℕ)) → Type 0
+OwnSays history txn key said = TxnIsWithin (length history) txn × (change_to (own_batch history txn) key ≡ said)
+
+-- the client's snapshot of that label has the number
+abbrev pub IsSnapshot : List Entry → Client → List ℕ → ℕ → Type 0
+IsSnapshot history client label n = (number_of client.snapshots label ≡ Some n) × (n ≤ length history)
+
+-- how many numbers the command needs in the log: none where it is not logged
+abbrev pub needed : Txn → Command → ℕ
+needed Idle (command.Put key value) = 1
+needed Idle (command.Del key) = 1
+needed (Open name batch) command.Prepare = 1
+needed (Open name batch) command.Commit = 1
+needed (Prepared p) command.Commit = 1
+needed (Prepared p) command.Rollback = 2
+needed txn other = 0
+
+-- the entries that the command asks the log for, as one record
+abbrev pub AsksFor : Txn → Command → List Entry → Type 0
+AsksFor Idle (command.Put key value) entries = entries ≡ entry.Write (change.Put key value ∷ []) ∷ []
+AsksFor Idle (command.Del key) entries = entries ≡ entry.Write (change.Del key ∷ []) ∷ []
+AsksFor (Open name batch) command.Prepare entries = entries ≡ entry.Prepare name batch ∷ []
+AsksFor (Open name batch) command.Commit entries = entries ≡ entry.Write batch ∷ []
+AsksFor (Prepared p) command.Commit entries = entries ≡ entry.Commit p ∷ []
+AsksFor (Prepared p) command.Rollback entries = (batch : List Change) × (entries ≡ entry.Undo p batch ∷ entry.Close p ∷ [])
+AsksFor txn other entries = ⊥
+
+-- ---- transactions in the log
+
+abbrev pub PreparesAt : List Entry → ℕ → Txn → ℕ → Type 0
+PreparesAt history last (Open name batch) n = IsLoggedAt history last n (entry.Prepare name batch)
+PreparesAt history last other n = ⊥
+
+-- from an open transaction all of its changes are one Write
+abbrev pub CommitsAt : List Entry → ℕ → Txn → ℕ → Type 0
+CommitsAt history last Idle n = ⊥
+CommitsAt history last (Open name batch) n = IsLoggedAt history last n (entry.Write batch)
+CommitsAt history last (Prepared p) n = IsLoggedAt history last n (entry.Commit p)
+
+-- n is the number of the Close, right after its Undo
+abbrev pub RollsBackAt : List Entry → ℕ → Txn → ℕ → Type 0
+RollsBackAt history last (Prepared p) n = IsLoggedAt history last n (entry.Close p) × ((batch : List Change) × IsLoggedAt history last (n - 1) (entry.Undo p batch))
+RollsBackAt history last other n = ⊥
+
+-- ---- tables
+
+-- So many versions are numbered above a number that was the flushed one, and up to n.
+abbrev pub IsFlushCount : Evidence → ℕ → ℕ → Type 0
+IsFlushCount evidence n versions = (flushed : ℕ) × IsKnown evidence (WasFlushed flushed) × (length (later_versions (take n evidence.history) flushed) ≡ versions)
+
+-- there are that many versions up to n, or more
+abbrev pub IsCompactionCount : List Entry → ℕ → ℕ → Type 0
+IsCompactionCount history n versions = versions ≤ length (later_versions (take n history) 0)
+
+-- Nothing was to be flushed: no version is numbered above a number that was the flushed one, and up to what the client
+-- had seen.
+abbrev pub HasNothingToFlush : Evidence → ℕ → Type 0
+HasNothingToFlush evidence last = (last ≤ length evidence.history) × ((flushed : ℕ) × IsKnown evidence (WasFlushed flushed) × (later_versions (take last evidence.history) flushed ≡ []))
+
+-- Nothing was to be merged: the client knows of fewer than two tables, or another client made them one.
+abbrev pub HasNothingToMerge : Evidence → ℕ → Type 0
+HasNothingToMerge evidence tables = (tables < 2) ⊎ IsKnown evidence OtherCompacted
+
+-- The edit that the devices failed to take is a flush's: of the versions that stood in memory when so many entries were
+-- published, and the client had seen nothing later.
+pub record FailsFlush (evidence : Evidence) (last : ℕ) : Type 0 where
+  pub at : ℕ
+  pub fresh : IsFresh evidence.history last at
+  pub some : 1 ≤ length (unflushed (take at evidence.history) evidence.installed)
+  pub edit : IfSome evidence.failed.edit (λ edit. edit ≡ after_flush (take at evidence.history) evidence.installed)
+
+-- It is a compaction's: of what readers needed then, with the client's snapshots or more of them.
+pub record FailsCompaction (evidence : Evidence) (last : ℕ) (client : Client) : Type 0 where
+  pub at : ℕ
+  pub fresh : IsFresh evidence.history last at
+  pub two : 2 ≤ evidence.installed.tables
+  pub snapshots : List ℕ
+  pub own : (n : ℕ) → list_any (λ m. m == n) (numbers_of client.snapshots) ≡ true → list_any (λ m. m == n) snapshots ≡ true
+  pub edit : IfSome evidence.failed.edit (λ edit. edit ≡ after_compaction (take at evidence.history) snapshots evidence.installed)
+
+-- the manifest's device or the tables' failed, and the number was the flushed one
+abbrev pub IsHaltedAt : Evidence → ℕ → Type 0
+IsHaltedAt evidence flushed = IsKnown evidence (WasFlushed flushed) × IsKnown evidence TablesFailed
+
+-- ---- the rows
+
+-- A row for each command and reply, by what the client knows then; `took` gives the prepare with the number p. Of `held`,
+-- `freed`, `begun`, `dropped` and `left` the client's state alone decides.
+abbrev pub Row : Evidence → Progress → Client → ℕ → Command → Reply → Type 0
+Row evidence progress client p command (reply.Full published most) = (1 ≤ needed client.txn command) × IsFresh evidence.history progress.last published × (most ≡ evidence.limit) × (evidence.limit < published + needed client.txn command)
+Row evidence progress client p command reply.FaultLog = AsksFor client.txn command evidence.failed.entries
+Row evidence progress client p command (reply.Stopped n) = (1 ≤ needed client.txn command) × IsFresh evidence.history progress.last n × IsKnown evidence (LogFailed n)
+Row evidence progress client p (command.Put key value) (reply.Put n) = (client.txn ≡ Idle) × IsLoggedAt evidence.history progress.last n (entry.Write (change.Put key value ∷ []))
+Row evidence progress client p (command.Put key value) reply.Held = TxnIsOpen client.txn
+Row evidence progress client p (command.Put key value) (reply.Busy holder) = IsBusy evidence progress.last key holder
+Row evidence progress client p (command.Del key) (reply.Del n) = (client.txn ≡ Idle) × IsLoggedAt evidence.history progress.last n (entry.Write (change.Del key ∷ []))
+Row evidence progress client p (command.Del key) reply.Held = TxnIsOpen client.txn
+Row evidence progress client p (command.Del key) (reply.Busy holder) = IsBusy evidence progress.last key holder
+Row evidence progress client p (command.Get key) (reply.Got value n) = OwnSays evidence.history client.txn key None × IsFresh evidence.history progress.last n × (value_at evidence.history key n ≡ Some value)
+Row evidence progress client p (command.Get key) (reply.Missing n) = OwnSays evidence.history client.txn key None × IsFresh evidence.history progress.last n × (value_at evidence.history key n ≡ None)
+Row evidence progress client p (command.Get key) (reply.GotOwn value) = OwnSays evidence.history client.txn key (Some (Some value))
+Row evidence progress client p (command.Get key) reply.MissingOwn = OwnSays evidence.history client.txn key (Some None)
+Row evidence progress client p (command.GetAt key label) (reply.Got value n) = IsSnapshot evidence.history client label n × (value_at evidence.history key n ≡ Some value)
+Row evidence progress client p (command.GetAt key label) (reply.Missing n) = IsSnapshot evidence.history client label n × (value_at evidence.history key n ≡ None)
+Row evidence progress client p (command.Snap label) (reply.Snapped n) = IsFresh evidence.history progress.last n
+Row evidence progress client p (command.Free label) reply.Freed = Unit {0}
+Row evidence progress client p (command.Begin name) reply.Begun = Unit {0}
+Row evidence progress client p (command.Begin name) (reply.Taken other) = (other ≡ name) × IsNameTaken evidence progress.last name
+Row evidence progress client p command.Prepare (reply.Prepared n) = PreparesAt evidence.history progress.last client.txn n
+Row evidence progress client p command.Commit (reply.Committed n) = CommitsAt evidence.history progress.last client.txn n
+Row evidence progress client p command.Rollback reply.Dropped = TxnIsOpen client.txn
+Row evidence progress client p command.Rollback (reply.RolledBack n) = RollsBackAt evidence.history progress.last client.txn n
+Row evidence progress client p command.Leave reply.Left = Unit {0}
+Row evidence progress client p (command.Take name) reply.Took = WasUndecided evidence.history progress.last name p
+Row evidence progress client p (command.Take name) (reply.Unknown other n) = (other ≡ name) × IsFresh evidence.history progress.last n × (named (take n evidence.history) name ≡ None)
+Row evidence progress client p (command.Take name) (reply.InUse other) = (other ≡ name) × IsKnown evidence (HasName name)
+Row evidence progress client p command.Flush (reply.Flushed n versions) = IsFresh evidence.history progress.last n × (1 ≤ versions) × IsFlushCount evidence n versions
+Row evidence progress client p command.Flush reply.Nothing = HasNothingToFlush evidence progress.last
+Row evidence progress client p command.Flush (reply.Halted flushed) = IsHaltedAt evidence flushed
+Row evidence progress client p command.Flush reply.FaultTables = FailsFlush evidence progress.last
+Row evidence progress client p command.Compact (reply.Compacted n versions) = IsFresh evidence.history progress.last n × IsCompactionCount evidence.history n versions
+Row evidence progress client p command.Compact reply.Nothing = HasNothingToMerge evidence progress.tables
+Row evidence progress client p command.Compact (reply.Halted flushed) = IsHaltedAt evidence flushed
+Row evidence progress client p command.Compact reply.FaultTables = FailsCompaction evidence progress.last client
+Row evidence progress client p (command.Tell label) (reply.Told n) = IsFresh evidence.history progress.last n
+Row evidence progress client p (command.Hear label) (reply.Heard n) = IsFresh evidence.history progress.last n × IsKnown evidence (WasTold label n)
+Row evidence progress client p (command.Hear label) (reply.Silent other) = (other ≡ label) × (knows_label progress.labels label ≡ false)
+Row evidence progress client p command answer = ⊥
+
+-- the reply is the refusal, where there is one
+abbrev pub UnlessRefused : Option Reply → Reply → Type 0 → Type 0
+UnlessRefused None answer row = row
+UnlessRefused (Some refusal) answer row = answer ≡ refusal
+
+-- `state`, `toomany`, `taken S` and `unknown S` come exactly where the client's state and labels say so; else the row
+-- has the last word.
+abbrev pub Allows : Evidence → Progress → Client → ℕ → Command → Reply → Type 0
+Allows evidence progress client p command answer = UnlessRefused (refusal_of client command) answer (Row evidence progress client p command answer)

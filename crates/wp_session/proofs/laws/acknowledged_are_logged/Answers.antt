@@ -1,5 +1,0 @@
-use Rattle.wp_session.proofs.SessionLemmas.{session_logged}
-use Rattle.wp_session.proofs.laws.acknowledged_are_logged.Goals as goal
-
-pub returns : goal.returns
-returns c = session_logged

@@ -1,5 +1,0 @@
-use Rattle.wp_session.proofs.SessionLemmas.{session_numbers}
-use Rattle.wp_session.proofs.laws.fresh_numbers_never_fall.Goals as goal
-
-pub returns : goal.returns
-returns c = session_numbers

@@ -1,5 +1,0 @@
-use Rattle.wp_session.proofs.Rows.{session_more}
-use Rattle.wp_session.proofs.laws.session_grows.Goals as goal
-
-pub returns : goal.returns
-returns c = λ evidence more later progress client commands answers grows session. session_more evidence more later grows progress client commands answers session

@@ -1,0 +1,215 @@
+-- What is answered to a command that asks the log for entries: they are put there, or it refuses them, or it fails.
+use Rattle.std.proofs.Common.{◌≡◌, ⊎_elim, inl, inr, ℕ, ◌+◌, ◌<◌, ◌≤◌, Bool, true, false, nat_lt, List, [], ◌∷◌, ◌++◌, length, refl, sym, subst, ap, ◌∙◌, append-nil, append_assoc, length-append, Some, arith}
+use Rattle.std.specs.Prelude.{if◌then◌else◌}
+use Rattle.std.proofs.lemmas.Bool.Decides.{nat_tests}
+use Rattle.wp_model.specs.declared.entry.Entry.{Entry}
+use Rattle.wp_model.specs.Flushed.{InstalledEdit}
+use Rattle.wp_model.specs.Legal.{IsLegal}
+use Rattle.wp_model.specs.LockTables.{Labels}
+use Rattle.wp_history.proofs.Growth.{legal_before}
+use Rattle.wp_text.specs.declared.script.Command.{Command}
+use Rattle.wp_text.specs.declared.reply.Reply.{Reply}
+use Rattle.wp_text.specs.declared.reply.Reply.TheVariants as reply
+use Rattle.wp_core.specs.Lists.{IsIn, one_if}
+use Rattle.wp_core.specs.World.{Participant, World}
+use Rattle.wp_core.specs.Sound.Pasts.{is_log_fault, is_tables_fault}
+use Rattle.wp_core.specs.Views.{Event, Fact, log_failed, tables_failed, stopped}
+use Rattle.wp_core.proofs.EachStep.{reached_is_sound}
+use Rattle.wp_records.specs.Writing.{FoundLog}
+use Rattle.wp_records.specs.Records.{numbers_behind}
+use Rattle.wp_shared.specs.Seats.{SharedState, SeatState, Stands}
+use Rattle.wp_txn.specs.declared.error.TxnError.TheVariants.{NumbersFull, LogFault, Stopped}
+use Rattle.wp_txn.specs.Writes.{HasPut, Refuses}
+use Rattle.wp_replies.specs.Client.{Client}
+use Rattle.wp_replies.specs.Due.{Store, logged, due, edit_of, board_after, store_after, client_after}
+use Rattle.wp_replies.specs.Kind.{is_logged, is_fault, is_installed}
+use Rattle.wp_replies.specs.Kind as kind
+use Rattle.wp_replies.specs.Plan.{plan, asked_of}
+use Rattle.wp_sole_client.specs.Alone.{log_faults, IsOnly, IsStoreOf, AnswersAlone}
+use Rattle.wp_sole_client.proofs.Published.{total_both, none_if, if_one, in_both, in_behind, not_counted}
+use Rattle.wp_sole_client.proofs.Worlds.{has_seen, no_log_fault, only_of, was_stopped}
+use Rattle.wp_sole_client.proofs.Seated.{LeaveTables, AreQuiet, one_quiet, one_leaves, both_leave, both_quiet, Follows, follows, follows_on, is_alone, begins_opened, log_now, log_still, past_still, seen_still, few_now, few_put, put_behind}
+use Rattle.wp_sole_client.proofs.Quiet.{LeavesStore, quiet_answers}
+
+-- ---- what is due
+
+log_takes : (store : Store) (needed : ℕ) (r : Reply) → store.stopped ≡ false → length store.history + needed ≤ store.limit → logged store needed r ≡ r
+log_takes store needed r running room =
+    let few : nat_lt store.limit (length store.history + needed) ≡ false = grind (arith, nat_tests) in
+    ap (λ (b : Bool). if b then reply.Stopped (length store.history) else (if nat_lt store.limit (length store.history + needed) then reply.Full (length store.history) store.limit else r)) running
+    ∙ ap (λ (b : Bool). if b then reply.Full (length store.history) store.limit else r) few
+
+log_is_full : (store : Store) (needed : ℕ) (r : Reply) → store.stopped ≡ false → store.limit < length store.history + needed → logged store needed r ≡ reply.Full (length store.history) store.limit
+log_is_full store needed r running full =
+    let many : nat_lt store.limit (length store.history + needed) ≡ true = grind (arith, nat_tests) in
+    ap (λ (b : Bool). if b then reply.Stopped (length store.history) else (if nat_lt store.limit (length store.history + needed) then reply.Full (length store.history) store.limit else r)) running
+    ∙ ap (λ (b : Bool). if b then reply.Full (length store.history) store.limit else r) many
+
+log_is_stopped : (store : Store) (needed : ℕ) (r : Reply) → store.stopped ≡ true → logged store needed r ≡ reply.Stopped (length store.history)
+log_is_stopped store needed r failed = ap (λ (b : Bool). if b then reply.Stopped (length store.history) else (if nat_lt store.limit (length store.history + needed) then reply.Full (length store.history) store.limit else r)) failed
+
+-- the command comes to these entries, so many, which that reply acknowledges
+pub record AsksFor (store : Store) (was : Client) (c : Command) (needed : ℕ) (r : Reply) (entries : List Entry) : Type 0 where
+  pub due_is : due store was c ≡ logged store needed r
+  pub asked : asked_of (plan store.history was c) ≡ entries
+  pub logged : is_logged r ≡ true
+  pub fault : is_fault r ≡ false
+  pub installed : is_installed r ≡ false
+  pub tables : kind.is_tables_fault r ≡ false
+  pub board : (b : Labels) (answer : Reply) → board_after b c answer ≡ b
+
+-- the store with the entries
+store_with : (store : Store) (was : Client) (c : Command) (needed : ℕ) (r : Reply) (entries : List Entry) → AsksFor store was c needed r entries → store_after store was c r ≡ record store { history = store.history ++ entries }
+store_with store was c needed r entries a = λ i. record {
+  history = (ap (λ (b : Bool). store.history ++ (if b then asked_of (plan store.history was c) else [])) a.logged ∙ ap (λ (es : List Entry). store.history ++ es) a.asked) i;
+  stopped = ap (λ (b : Bool). if b then true else store.stopped) a.fault i;
+  limit = store.limit;
+  installed = ap (λ (b : Bool). if b then edit_of store was (plan store.history was c) else store.installed) a.installed i;
+  halted = ap (λ (b : Bool). if b then true else store.halted) a.tables i;
+  board = a.board store.board r i;
+}
+
+-- the store with its log failed
+store_failed : (store : Store) (was : Client) (c : Command) (needed : ℕ) (r : Reply) (entries : List Entry) → AsksFor store was c needed r entries → store_after store was c reply.FaultLog ≡ record store { stopped = true }
+store_failed store was c needed r entries a = λ i. record {
+  history = append-nil store.history i;
+  stopped = true;
+  limit = store.limit;
+  installed = store.installed;
+  halted = store.halted;
+  board = a.board store.board reply.FaultLog i;
+}
+
+of_last : (others es : List Entry) → IsIn (log_failed others) (log_failed es ∷ []) → others ≡ es
+of_last others es (inl same) = let e : log_failed es ≡ log_failed others = same in cc
+of_last others es (inr none) = absurd none
+
+module _ {D : Type 0} (z : SharedState D) (first : InstalledEdit) (old new : SeatState) (only : IsOnly old) (store : Store) (is : IsStoreOf z first old.knows.participant store) where
+  -- the log was found running, so it had not failed before
+  pub not_failed : (found : Participant) (history : List Entry) (pre : List Event) → found.past ≡ old.knows.participant.past ++ pre → FoundLog z old.by found history false → log_faults old.knows.participant.past ≡ 0
+  not_failed found history pre past k =
+      let none = no_log_fault k.world k.there.reached old.by k.actor k.there.there k.closed_is in
+      let both = total_both (λ (e : Event). one_if (is_log_fault e)) old.knows.participant.past pre in
+      let same : log_faults k.actor.participant.past ≡ log_faults (old.knows.participant.past ++ pre) = ap log_faults (ap (λ (q : Participant). q.past) k.participant ∙ past) in omega (arith, none, both, same)
+
+  pub store_runs : (found : Participant) (history : List Entry) (pre : List Event) → found.past ≡ old.knows.participant.past ++ pre → FoundLog z old.by found history false → store.stopped ≡ false
+  store_runs found history pre past k = none_if store.stopped (is.stopped ∙ not_failed found history pre past k)
+
+  module _ (stood : (w : World) × Stands z new w) where
+    abbrev behind_it : World
+    behind_it = stood.0
+
+    legal_seen : IsLegal new.knows.participant.seen
+    legal_seen =
+        let s = reached_is_sound behind_it stood.1.reached in let k = has_seen behind_it stood.1.reached new.by new.knows stood.1.there in
+        legal_before new.knows.participant.seen k.0 (subst IsLegal k.1 s.history.legal)
+
+    -- ---- the entries are put
+
+    module _ (Stays : Fact → Type 0) (found after : Participant) (pre : List Event) (found_past : found.past ≡ old.knows.participant.past ++ pre) (after_own : after.own ≡ old.knows.participant.own)
+        (after_past : after.past ≡ old.knows.participant.past ++ pre) (quiet : AreQuiet pre) where
+      put_follows : (history entries : List Entry) → HasPut Stays z old new found after history entries → Follows old new (numbers_behind (length history) entries) pre
+      put_follows history entries put =
+          follows Stays z old new _ put.goes_on (numbers_behind (length history) entries) pre (ap (λ (own : List ℕ). own ++ numbers_behind (length history) entries) after_own) after_past
+
+      pub put_answers : (history entries : List Entry) → HasPut Stays z old new found after history entries → (was now : Client) (c : Command) (r : Reply)
+          → (history ≡ store.history → IsLegal (history ++ entries) → AsksFor store was c (length entries) r entries) → now ≡ client_after store.history was c r → AnswersAlone z first old new was now c r store
+      put_answers history entries put was now c r asks client =
+          let f = put_follows history entries put in
+          let behind = put_behind z first old new only store is stood history entries pre f put.grown put.seen in
+          let a = asks behind (subst IsLegal put.seen legal_seen) in
+          let running = store_runs found history pre found_past put.found_log in
+          let room : length store.history + length entries ≤ store.limit =
+          (let size : length history ≡ length store.history = ap (λ (h : List Entry). length h) behind in let both = length-append history entries in let most = put.within in let limit = is.limit in omega (arith, size, both, most, limit)) in
+          let still = past_still z first old new only store is stood (numbers_behind (length history) entries) pre f quiet.leave in
+          let grown : IsStoreOf z first new.knows.participant (record store { history = store.history ++ entries }) = record {
+            history = ap (λ (h : List Entry). h ++ entries) (sym behind) ∙ sym put.seen;
+            opened = begins_opened z first old new only store is stood (numbers_behind (length history) entries) pre f;
+            own = few_put z first old new only store is stood history entries pre f put.grown put.seen;
+            stopped = log_still z first old new only store is stood (numbers_behind (length history) entries) pre f quiet.log;
+            limit = is.limit;
+            installed = still.installed;
+            halted = still.halted;
+            board = still.board;
+          } in record {
+            replied = inl (sym (a.due_is ∙ log_takes store (length entries) r running room));
+            store_is = subst (λ (x : Store). IsStoreOf z first new.knows.participant x) (sym (store_with store was c (length entries) r entries a)) grown;
+            client = client;
+            events = pre;
+            past = f.past;
+            asked = λ es there. absurd (not_counted is_log_fault pre (log_failed es) quiet.log there refl);
+            asked_edit = λ last edit there. absurd (not_counted is_tables_fault pre (tables_failed last (Some edit)) quiet.leave.tables there refl);
+          }
+
+      -- ---- they are refused
+
+      module _ (needed : ℕ) (Asks : List Entry → Type 0) (was : Client) (c : Command) (r : Reply) (entries : List Entry)
+          (asks : (closed : Bool) → FoundLog z old.by found new.knows.participant.seen closed → new.knows.participant.seen ≡ store.history → AsksFor store was c needed r entries) where
+        leaves_for : (answer : Reply) → is_logged answer ≡ false → is_fault answer ≡ false → is_installed answer ≡ false → kind.is_tables_fault answer ≡ false → AsksFor store was c needed r entries → LeavesStore c answer
+        leaves_for answer l f i t a = record { logged = l; fault = f; installed = i; tables = t; board = λ b. a.board b answer }
+
+        pub stopped_answers : (n : ℕ) → Refuses z old new needed Asks found after (Stopped n) → was ≡ client_after store.history was c (reply.Stopped n) → AnswersAlone z first old new was was c (reply.Stopped n) store
+        stopped_answers n k client =
+            let events : List Event = pre ++ stopped n ∷ [] in
+            let all_quiet : AreQuiet events = both_quiet pre (stopped n ∷ []) quiet (one_quiet (stopped n) refl refl (λ edit. refl) (λ label m e. absurd cc)) in
+            let f = follows_on _ z old new _ k.2 events after_own (ap (λ (es : List Event). es ++ stopped n ∷ []) after_past ∙ append_assoc old.knows.participant.past pre (stopped n ∷ [])) in
+            let seen = seen_still z first old new only store is stood events f in
+            let a = asks true k.1 seen in
+            let alone = is_alone z first old new only store is stood [] events f in
+            let there : IsIn (stopped n) new.knows.participant.past = subst (IsIn (stopped n)) (sym f.past) (in_behind (stopped n) old.knows.participant.past events (in_behind (stopped n) pre (stopped n ∷ []) (inl refl))) in
+            let closed = (was_stopped behind_it stood.1.reached new.knows alone n there).0 in
+            let failed : store.stopped ≡ true = if_one store.stopped (log_still z first old new only store is stood [] events f all_quiet.log ∙ ((only_of behind_it stood.1.reached new.knows alone).closed ∙ ap one_if closed)) in
+            quiet_answers z first old new only store is stood events f all_quiet was was c (reply.Stopped n) (leaves_for (reply.Stopped n) refl refl refl refl a)
+            (inl (sym (a.due_is ∙ (log_is_stopped store needed r failed ∙ ap reply.Stopped (sym (k.0 ∙ ap (λ (h : List Entry). length h) seen)))))) client
+
+        pub full_answers : (published limit : ℕ) → Refuses z old new needed Asks found after (NumbersFull published limit) → was ≡ client_after store.history was c (reply.Full published limit) → AnswersAlone z first old new was was c (reply.Full published limit) store
+        full_answers published limit k client =
+            let f = follows_on _ z old new _ k.4 pre after_own after_past in
+            let seen = seen_still z first old new only store is stood pre f in
+            let a = asks false k.3 seen in
+            let running = store_runs found new.knows.participant.seen pre found_past k.3 in
+            let size : published ≡ length store.history = k.0 ∙ ap (λ (h : List Entry). length h) seen in
+            let most : limit ≡ store.limit = k.1 ∙ sym is.limit in
+            let full : store.limit < length store.history + needed = (let over = k.2 in omega (arith, size, most, over)) in
+            quiet_answers z first old new only store is stood pre f quiet was was c (reply.Full published limit) (leaves_for (reply.Full published limit) refl refl refl refl a)
+            (inl (sym (a.due_is ∙ (log_is_full store needed r running full ∙ ap (λ (x : ℕ × ℕ). reply.Full x.0 x.1) (λ i. (sym size i, sym most i)))))) client
+
+        pub fault_answers : ((es : List Entry) → new.knows.participant.seen ≡ store.history → Asks es → es ≡ entries) → Refuses z old new needed Asks found after LogFault → was ≡ client_after store.history was c reply.FaultLog → AnswersAlone z first old new was was c reply.FaultLog store
+        fault_answers same k client =
+            let es = k.2.0 in let asks_it = k.2.1 in
+            let events : List Event = pre ++ log_failed es ∷ [] in
+            let leave : LeaveTables events = both_leave pre (log_failed es ∷ []) quiet.leave (one_leaves (log_failed es) refl (λ edit. refl) (λ label m e. absurd cc)) in
+            let f = follows_on _ z old new _ k.2.2 events after_own (ap (λ (xs : List Event). xs ++ log_failed es ∷ []) after_past ∙ append_assoc old.knows.participant.past pre (log_failed es ∷ [])) in
+            let seen = seen_still z first old new only store is stood events f in
+            let a = asks false k.1 seen in
+            let running = store_runs found new.knows.participant.seen pre found_past k.1 in
+            let size : length new.knows.participant.seen ≡ length store.history = ap (λ (h : List Entry). length h) seen in
+            let room : length store.history + needed ≤ store.limit = (let most = k.0 in let limit = is.limit in omega (arith, most, size, limit)) in
+            let still = past_still z first old new only store is stood [] events f leave in
+            let once : one_if true ≡ log_faults new.knows.participant.past =
+            (let now = log_now z first old new only store is stood [] events f in let both = total_both (λ (e : Event). one_if (is_log_fault e)) pre (log_failed es ∷ []) in let none = quiet.log in let not : one_if store.stopped ≡ 0 = ap one_if running in
+            omega (arith, now, both, none, not)) in
+            let failed : IsStoreOf z first new.knows.participant (record store { stopped = true }) = record {
+              history = sym seen;
+              opened = begins_opened z first old new only store is stood [] events f;
+              own = few_now z first old new only store is stood events f;
+              stopped = once;
+              limit = is.limit;
+              installed = still.installed;
+              halted = still.halted;
+              board = still.board;
+            } in record {
+              replied = inr (inl (refl, ap is_logged (a.due_is ∙ log_takes store needed r running room) ∙ a.logged));
+              store_is = subst (λ (x : Store). IsStoreOf z first new.knows.participant x) (sym (store_failed store was c needed r entries a)) failed;
+              client = client;
+              events = events;
+              past = f.past;
+              asked = λ others there. (
+                refl,
+                ⊎_elim
+                    (λ (k : IsIn (log_failed others) pre). absurd (not_counted is_log_fault pre (log_failed others) quiet.log k refl))
+                    (λ (k : IsIn (log_failed others) (log_failed es ∷ [])). of_last others es k ∙ (same es seen asks_it ∙ sym a.asked))
+                    (in_both (log_failed others) pre (log_failed es ∷ []) there),
+              );
+              asked_edit = λ last edit there. absurd (not_counted is_tables_fault events (tables_failed last (Some edit)) leave.tables there refl);
+            }

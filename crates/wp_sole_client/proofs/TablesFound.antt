@@ -1,0 +1,187 @@
+-- What a client is answered that is alone and asks something of the tables: an edit is installed, or there is nothing to do, or the
+-- devices fail, or have failed before.
+use Rattle.std.proofs.Common.{◌≡◌, inl, inr, ℕ, Bool, true, false, List, [], ◌∷◌, ◌++◌, refl, sym, subst, ap, ◌∙◌, append-nil, Option, Some, arith}
+use Rattle.std.specs.Prelude.{IfSome, if◌then◌else◌}
+use Rattle.wp_model.specs.Flushed.{InstalledEdit}
+use Rattle.wp_model.specs.LockTables.{Labels}
+use Rattle.wp_text.specs.declared.script.Command.{Command}
+use Rattle.wp_text.specs.declared.reply.Reply.{Reply}
+use Rattle.wp_text.specs.declared.reply.Reply.TheVariants as reply
+use Rattle.wp_core.specs.Alone.{IsAlone}
+use Rattle.wp_core.specs.Lists.{IsIn, one_if, total}
+use Rattle.wp_core.specs.Sound.Pasts.{is_log_fault, is_tables_fault, last_installed}
+use Rattle.wp_core.specs.Tables.{Installed, installed}
+use Rattle.wp_core.specs.Views.{Event, log_failed, tables_failed, found_edit, told}
+use Rattle.wp_core.specs.Views as event
+use Rattle.wp_core.specs.World.{World}
+use Rattle.wp_rule.specs.Shows.{WasLast}
+use Rattle.wp_rule.proofs.Knows.{held_is, one_was_first}
+use Rattle.wp_parts.specs.Parts.{content}
+use Rattle.wp_shared.specs.Calls.{Continues, remembering}
+use Rattle.wp_shared.specs.Seats.{SharedState, SeatState, Stands, place_at}
+use Rattle.wp_maint.specs.Calls.{Finds, found_by}
+use Rattle.wp_replies.specs.Client.{Client}
+use Rattle.wp_replies.specs.Due.{Store, due, unless_halted, edit_of, board_after, store_after}
+use Rattle.wp_replies.specs.Kind.{is_logged, is_fault, is_installed}
+use Rattle.wp_replies.specs.Kind as kind
+use Rattle.wp_replies.specs.Plan.{plan, asked_of}
+use Rattle.wp_sole_client.specs.Alone.{IsOnly, IsStoreOf, AnswersAlone}
+use Rattle.wp_sole_client.proofs.Published.{none_if, if_one, not_counted}
+use Rattle.wp_sole_client.proofs.Worlds.{only_of}
+use Rattle.wp_sole_client.proofs.Seated.{last_over, AreQuiet, one_quiet, Follows, follows_on, alone_at, begins_opened, few_now, log_still, edit_still, tables_now, board_still, seen_still}
+use Rattle.wp_sole_client.proofs.Quiet.{quiet_answers}
+use Rattle.wp_replies.specs.Due.{client_after}
+
+-- where the tables are not halted, the command is answered so, and has the tables take this edit
+pub record AsksTablesFor (store : Store) (was : Client) (c : Command) (ready : Reply) (next : InstalledEdit) : Type 0 where
+  pub due_is : due store was c ≡ unless_halted store ready
+  pub edit_is : edit_of store was (plan store.history was c) ≡ next
+  pub board : (b : Labels) (r : Reply) → board_after b c r ≡ b
+
+-- the store with the edit
+store_with : (store : Store) (was : Client) (c : Command) (ready : Reply) (next : InstalledEdit) (r : Reply) → AsksTablesFor store was c ready next → is_logged r ≡ false → is_fault r ≡ false → is_installed r ≡ true → kind.is_tables_fault r ≡ false
+    → store_after store was c r ≡ record store { installed = next }
+store_with store was c ready next r a logged fault takes tables = λ i. record {
+  history = (ap (λ (b : Bool). store.history ++ (if b then asked_of (plan store.history was c) else [])) logged ∙ append-nil store.history) i;
+  stopped = ap (λ (b : Bool). if b then true else store.stopped) fault i;
+  limit = store.limit;
+  installed = (ap (λ (b : Bool). if b then edit_of store was (plan store.history was c) else store.installed) takes ∙ a.edit_is) i;
+  halted = ap (λ (b : Bool). if b then true else store.halted) tables i;
+  board = a.board store.board r i;
+}
+
+-- the store with its tables halted
+store_halted : (store : Store) (was : Client) (c : Command) (ready : Reply) (next : InstalledEdit) → AsksTablesFor store was c ready next → store_after store was c reply.FaultTables ≡ record store { halted = true }
+store_halted store was c ready next a = λ i. record { history = append-nil store.history i; stopped = store.stopped; limit = store.limit; installed = store.installed; halted = true; board = a.board store.board reply.FaultTables i }
+
+module _ {D : Type 0} (z : SharedState D) (first : InstalledEdit) (old new : SeatState) (only : IsOnly old) (store : Store) (is : IsStoreOf z first old.knows.participant store) (stood : (w : World) × Stands z new w) (was_last : WasLast content z.first first) where
+  module _ (e : Installed) (f : Finds z old new e) where
+    alone_found : IsAlone f.world f.actor
+    alone_found = alone_at z old.by f.actor f.world f.there only.by (f.made ∙ only.made) (f.joined ∙ only.joined)
+
+    table_is : f.world.installed ≡ e
+    table_is = let same : installed f.world.installed ≡ installed e = (held_is (place_at z old.by) f.actor f.world (installed e) f.there f.held).1 in cc
+
+    -- the last edit is the store's
+    pub last_is : e.last ≡ store.installed
+    last_is =
+        let k = only_of f.world f.there.reached f.actor alone_found in
+        let began : f.world.first_edit ≡ first = one_was_first content z.first f.world.first_edit first f.there.first_edit was_last in
+        ap (λ (t : Installed). t.last) (sym table_is) ∙ (k.edit ∙ (ap (λ (edit : InstalledEdit). last_installed edit f.actor.participant.past) began ∙ (ap (last_installed first) f.past_is ∙ sym is.installed)))
+
+    -- and the tables are halted where the store's are
+    halted_is : one_if e.halted ≡ one_if store.halted
+    halted_is =
+        let k = only_of f.world f.there.reached f.actor alone_found in
+        ap (λ (t : Installed). one_if t.halted) (sym table_is) ∙ (sym k.halted ∙ (ap (λ (past : List Event). total (λ (x : Event). one_if (is_tables_fault x)) past) f.past_is ∙ sym is.halted))
+
+    pub runs : e.halted ≡ false → store.halted ≡ false
+    runs running = none_if store.halted (sym halted_is ∙ ap one_if running)
+
+    pub stopped : e.halted ≡ true → store.halted ≡ true
+    stopped halted = if_one store.halted (sym halted_is ∙ ap one_if halted)
+
+    abbrev found_event : Event
+    found_event = found_by z old new e f
+
+    -- ---- what is answered
+
+    module _ (was : Client) (c : Command) (ready : Reply) (next : InstalledEdit) (asks : new.knows.participant.seen ≡ store.history → AsksTablesFor store was c ready next) where
+      found_quiet : AreQuiet (found_event ∷ [])
+      found_quiet = one_quiet found_event refl refl (λ edit. refl) (λ label n same. absurd cc)
+
+      found_follows : Continues z old new (remembering (found_event ∷ []) old.knows.participant) → Follows old new [] (found_event ∷ [])
+      found_follows goes = follows_on _ z old new _ goes (found_event ∷ []) refl refl
+
+      -- a device had failed
+      pub halted_answers : (flushed : ℕ) → flushed ≡ e.last.flushed → e.halted ≡ true → Continues z old new (remembering (found_event ∷ []) old.knows.participant) → AnswersAlone z first old new was was c (reply.Halted flushed) store
+      halted_answers flushed flushed_is halted goes =
+          let f = found_follows goes in
+          let a = asks (seen_still z first old new only store is stood (found_event ∷ []) f) in
+          let number : flushed ≡ store.installed.flushed = flushed_is ∙ ap (λ (x : InstalledEdit). x.flushed) last_is in
+          quiet_answers z first old new only store is stood (found_event ∷ []) f found_quiet was was c (reply.Halted flushed)
+          (record { logged = refl; fault = refl; installed = refl; tables = refl; board = λ b. a.board b (reply.Halted flushed) })
+          (inl (ap reply.Halted number ∙ sym (a.due_is ∙ ap (λ (b : Bool). if b then reply.Halted store.installed.flushed else ready) (stopped halted)))) refl
+
+      -- there was nothing to do
+      pub nothing_answers : ready ≡ reply.Nothing → e.halted ≡ false → Continues z old new (remembering (found_event ∷ []) old.knows.participant) → AnswersAlone z first old new was was c reply.Nothing store
+      nothing_answers none running goes =
+          let f = found_follows goes in
+          let a = asks (seen_still z first old new only store is stood (found_event ∷ []) f) in
+          quiet_answers z first old new only store is stood (found_event ∷ []) f found_quiet was was c reply.Nothing
+          (record { logged = refl; fault = refl; installed = refl; tables = refl; board = λ b. a.board b reply.Nothing })
+          (inl (sym (a.due_is ∙ (ap (λ (b : Bool). if b then reply.Halted store.installed.flushed else ready) (runs running) ∙ none)))) refl
+
+      -- the edit is installed
+      pub installs_answers : (r : Reply) → ready ≡ r → is_logged r ≡ false → is_fault r ≡ false → is_installed r ≡ true → kind.is_tables_fault r ≡ false → was ≡ client_after store.history was c r → e.halted ≡ false
+          → (edit : InstalledEdit) (compacts : Bool) → edit ≡ next → Continues z old new (remembering (found_event ∷ event.installed edit compacts ∷ []) old.knows.participant) → AnswersAlone z first old new was was c r store
+      installs_answers r ready_is logged fault takes tables client running edit compacts edit_is goes =
+          let events : List Event = found_event ∷ event.installed edit compacts ∷ [] in
+          let f = follows_on _ z old new _ goes events refl refl in
+          let seen = seen_still z first old new only store is stood events f in
+          let a = asks seen in
+          let last : last_installed first new.knows.participant.past ≡ edit = ap (last_installed first) f.past ∙ last_over first old.knows.participant.past events in
+          let has : IsStoreOf z first new.knows.participant (record store { installed = next }) = record {
+            history = sym seen;
+            opened = begins_opened z first old new only store is stood [] events f;
+            own = few_now z first old new only store is stood events f;
+            stopped = log_still z first old new only store is stood [] events f refl;
+            limit = is.limit;
+            installed = sym (last ∙ edit_is);
+            halted = let now = tables_now z first old new only store is stood [] events f in omega (arith, now);
+            board = board_still z first old new only store is stood [] events f (λ label n there. untold label n compacts edit there);
+          } in record {
+            replied = inl (sym (a.due_is ∙ (ap (λ (b : Bool). if b then reply.Halted store.installed.flushed else ready) (runs running) ∙ ready_is)));
+            store_is = subst (λ (x : Store). IsStoreOf z first new.knows.participant x) (sym (store_with store was c ready next r a logged fault takes tables)) has;
+            client = client;
+            events = events;
+            past = f.past;
+            asked = λ entries there. absurd (not_counted is_log_fault events (log_failed entries) refl there refl);
+            asked_edit = λ last edit there. absurd (not_counted is_tables_fault events (tables_failed last (Some edit)) refl there refl);
+          }
+        where
+          untold : (label : List ℕ) (n : ℕ) (b : Bool) (x : InstalledEdit) → IsIn (told label n) (found_event ∷ event.installed x b ∷ []) → ⊥
+          untold label n b x (inl same) = let k : found_event ≡ told label n = same in absurd cc
+          untold label n b x (inr (inl same)) = let k : event.installed x b ≡ told label n = same in absurd cc
+          untold label n b x (inr (inr none)) = none
+
+      -- a device failed
+      pub failed_answers : is_installed ready ≡ true → e.halted ≡ false → (asked : Option InstalledEdit) → (new.knows.participant.seen ≡ store.history → IfSome asked (λ edit. edit ≡ next))
+          → Continues z old new (remembering (found_event ∷ tables_failed e.last asked ∷ []) old.knows.participant) → AnswersAlone z first old new was was c reply.FaultTables store
+      failed_answers installs running asked edit_is goes =
+          let events : List Event = found_event ∷ tables_failed e.last asked ∷ [] in
+          let f = follows_on _ z old new _ goes events refl refl in
+          let seen = seen_still z first old new only store is stood events f in
+          let a = asks seen in
+          let not : one_if store.halted ≡ 0 = ap one_if (runs running) in
+          let has : IsStoreOf z first new.knows.participant (record store { halted = true }) = record {
+            history = sym seen;
+            opened = begins_opened z first old new only store is stood [] events f;
+            own = few_now z first old new only store is stood events f;
+            stopped = log_still z first old new only store is stood [] events f refl;
+            limit = is.limit;
+            installed = edit_still z first old new only store is stood [] events f (λ edit. refl);
+            halted = let now = tables_now z first old new only store is stood [] events f in omega (arith, now, not);
+            board = board_still z first old new only store is stood [] events f (λ label n there. untold label n there);
+          } in record {
+            replied = inr (inr (refl, ap is_installed (a.due_is ∙ ap (λ (b : Bool). if b then reply.Halted store.installed.flushed else ready) (runs running)) ∙ installs));
+            store_is = subst (λ (x : Store). IsStoreOf z first new.knows.participant x) (sym (store_halted store was c ready next a)) has;
+            client = refl;
+            events = events;
+            past = f.past;
+            asked = λ entries there. absurd (not_counted is_log_fault events (log_failed entries) refl there refl);
+            asked_edit = λ last edit there. (refl, of_asked last edit asked (edit_is seen) there ∙ sym a.edit_is);
+          }
+        where
+          untold : (label : List ℕ) (n : ℕ) → IsIn (told label n) (found_event ∷ tables_failed e.last asked ∷ []) → ⊥
+          untold label n (inl same) = let k : found_event ≡ told label n = same in absurd cc
+          untold label n (inr (inl same)) = let k : tables_failed e.last asked ≡ told label n = same in absurd cc
+          untold label n (inr (inr none)) = none
+
+          is_edit : (o : Option InstalledEdit) (edit : InstalledEdit) → o ≡ Some edit → IfSome o (λ x. x ≡ next) → edit ≡ next
+          is_edit o edit same k = subst (λ (x : Option InstalledEdit). IfSome x (λ y. y ≡ next)) same k
+
+          of_asked : (last edit : InstalledEdit) (o : Option InstalledEdit) → IfSome o (λ x. x ≡ next) → IsIn (tables_failed last (Some edit)) (found_event ∷ tables_failed e.last o ∷ []) → edit ≡ next
+          of_asked last edit o k (inl same) = let q : found_event ≡ tables_failed last (Some edit) = same in absurd cc
+          of_asked last edit o k (inr (inl same)) = let q : tables_failed e.last o ≡ tables_failed last (Some edit) = same in let r : o ≡ Some edit = cc in is_edit o edit r k
+          of_asked last edit o k (inr (inr none)) = absurd none

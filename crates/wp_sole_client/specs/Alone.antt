@@ -1,0 +1,62 @@
+-- What a client is answered whose seat is the only one: the store is as its own commands leave it.
+use Rattle.std.specs.Prelude.{◌≡◌, ◌↔◌, ℕ, ◌≤◌, true, List, [], ◌++◌, length, Some, is_some}
+use Rattle.std.specs.FinMap as finite
+use Rattle.wp_model.specs.declared.entry.Entry.{Entry}
+use Rattle.wp_model.specs.Flushed.{InstalledEdit}
+use Rattle.wp_text.specs.declared.script.Command.{Command}
+use Rattle.wp_text.specs.declared.reply.Reply.{Reply}
+use Rattle.wp_core.specs.Lists.{IsIn, one_if, total}
+use Rattle.wp_core.specs.Sound.Actors.{StartsWith}
+use Rattle.wp_core.specs.Sound.Pasts.{is_log_fault, last_installed}
+use Rattle.wp_core.specs.Sound.Pasts as pasts
+use Rattle.wp_core.specs.Views.{Event, told, log_failed, tables_failed}
+use Rattle.wp_core.specs.World.{Participant, World}
+use Rattle.wp_shared.specs.Seats.{SharedState, SeatState}
+use Rattle.wp_replies.specs.Asked.{AsksLog, AsksTables}
+use Rattle.wp_replies.specs.Client.{Client}
+use Rattle.wp_replies.specs.Due.{Store, IsReply, store_after, client_after}
+use Rattle.wp_replies.specs.Kind.{is_fault, is_tables_fault}
+
+-- how often the log failed in this past, and the devices of the tables
+abbrev pub log_faults : List Event → ℕ
+log_faults past = total (λ e. one_if (is_log_fault e)) past
+
+abbrev pub tables_faults : List Event → ℕ
+tables_faults past = total (λ e. one_if (pasts.is_tables_fault e)) past
+
+-- it is the first seat, which made and took in no other
+pub record IsOnly (s : SeatState) : Type 0 where
+  pub by : s.by ≡ 0
+  pub made : s.knows.made ≡ 0
+  pub joined : s.knows.joined ≡ []
+
+-- The store is as the participant's doings tell, where it was opened with this edit: the history is what it has seen, which begins
+-- with what was opened; the devices failed where it met that; the last edit is the last one that it installed; and on the board is
+-- what it told.
+pub record IsStoreOf {D : Type 0} (z : SharedState D) (first : InstalledEdit) (p : Participant) (store : Store) : Type 0 where
+  pub history : store.history ≡ p.seen
+  pub opened : StartsWith p.seen z.opened
+  pub own : (n : ℕ) → IsIn n p.own → n ≤ length p.seen
+  pub stopped : one_if store.stopped ≡ log_faults p.past
+  pub limit : store.limit ≡ z.limit
+  pub installed : store.installed ≡ last_installed first p.past
+  pub halted : one_if store.halted ≡ tables_faults p.past
+  pub board : (label : List ℕ) → (is_some (finite.get store.board label) ≡ true) ↔ ((n : ℕ) × IsIn (told label n) p.past)
+
+-- the world is as the store has it: its history, whether its log is closed and its tables are halted, and its last edit
+pub record IsAsStored (store : Store) (w : World) : Type 0 where
+  pub history : w.writes.history ≡ store.history
+  pub closed : w.writes.closed ≡ store.stopped
+  pub halted : w.installed.halted ≡ store.halted
+  pub edit : w.installed.last ≡ store.installed
+
+-- The store was so, the command's reply is one that is due, or a fault, and the store and the client are so now. What a device
+-- failed to take is what the command asked for.
+pub record AnswersAlone {D : Type 0} (z : SharedState D) (first : InstalledEdit) (old new : SeatState) (was now : Client) (command : Command) (answer : Reply) (store : Store) : Type 0 where
+  pub replied : IsReply store was command answer
+  pub store_is : IsStoreOf z first new.knows.participant (store_after store was command answer)
+  pub client : now ≡ client_after store.history was command answer
+  pub events : List Event
+  pub past : new.knows.participant.past ≡ old.knows.participant.past ++ events
+  pub asked : (entries : List Entry) → IsIn (log_failed entries) events → (is_fault answer ≡ true) × AsksLog entries store was command
+  pub asked_edit : (last edit : InstalledEdit) → IsIn (tables_failed last (Some edit)) events → (is_tables_fault answer ≡ true) × AsksTables edit store was command

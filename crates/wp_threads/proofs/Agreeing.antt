@@ -1,0 +1,191 @@
+-- What the replies of all clients say at the end agrees with each seat.
+use Rattle.std.proofs.Common.{◌≡◌, ◌≢◌, ◌⊎◌, inl, inr, ℕ, ◌≤◌, ◌<◌, Bool, true, false, List, ◌∷◌, ◌++◌, length, map, take, Option, Some, None, refl, sym, subst, ap, ◌∙◌, arith}
+use Rattle.std.specs.Prelude.{◌==◌, ◌&&◌, nat_le}
+use Rattle.std.specs.List.{list_any}
+use Rattle.std.specs.Str.{bytes_eq}
+use Rattle.std.proofs.lemmas.Bool.{eq-eqb, le-leb, leb-true}
+use Rattle.std.proofs.lemmas.Slice.Eq.{bytes_eq-Decides}
+use mathlib.Core.Option.{some}
+use lib.ListN.{get_elem?}
+use Rattle.wp_model.specs.declared.entry.Entry.{Entry}
+use Rattle.wp_model.specs.declared.holder.Holder.{Holder}
+use Rattle.wp_model.specs.declared.holder.Holder.TheVariants.{Txn, Client}
+use Rattle.wp_model.specs.History.{name_at, named, holder_of}
+use Rattle.wp_model.specs.Legal.{IsLegal}
+use Rattle.wp_model.proofs.Found.{found_holder, found_named}
+use Rattle.wp_history.proofs.Growth.{legal_before}
+use Rattle.wp_text.specs.declared.script.Command.{Command}
+use Rattle.wp_text.specs.declared.script.Command.TheVariants as command
+use Rattle.wp_text.specs.declared.script.Part.{Part}
+use Rattle.wp_text.specs.declared.reply.Reply.{Reply}
+use Rattle.wp_text.specs.declared.reply.Reply.TheVariants as reply
+use Rattle.wp_core.specs.Lists.{IsIn}
+use Rattle.wp_core.specs.Sound.Actors.{seen_of}
+use Rattle.wp_core.specs.Sound.Locks.{prepare_holding}
+use Rattle.wp_core.specs.Sound.Pasts.{HasDone, IsPast, Makes, IsAccounted, WasLocked, WasInstalled, past_of}
+use Rattle.wp_core.specs.Views.{Account, own, another, prepare_at, Event, claimed, took, locked, told, heard, installed, log_failed, tables_failed, stopped, found_edit, found}
+use Rattle.wp_core.specs.World.{Participant}
+use Rattle.wp_core.proofs.Tests.{some_none}
+use Rattle.wp_shared.specs.Devices.{DevicesLeft}
+use Rattle.wp_shared.specs.Ended.{IsEnded, of_seats}
+use Rattle.wp_shared.specs.Ending.{participant_of}
+use Rattle.wp_shared.specs.Seats.{SharedState, SeatState}
+use Rattle.wp_core.proofs.OneHolder.{name_is}
+use Rattle.wp_replies.specs.declared.client.Txn as session_txn
+use Rattle.wp_replies.specs.Client.{new_client}
+use Rattle.wp_replies.specs.Explains.{dialogues, judged_by}
+use Rattle.wp_replies.specs.Kind.{is_fault, is_flushed, is_compacted}
+use Rattle.wp_replies.specs.Known.{Dialogue, answers_in, comes_to, one_comes_to, gets_name, stages_key, writes_key, tells, prepare_has}
+use Rattle.wp_replies.specs.Replies.{HasName, HasKey, WasTold, WasFlushed, TablesFailed, OtherCompacted, Evidence, IsKnown}
+use Rattle.wp_answers.specs.Agrees.{IsAnother, IsPrepares, KnowsHolder, Knows, Agrees}
+use Rattle.wp_threads.specs.Explained.{found_in, left_in, failed_in}
+use Rattle.wp_threads.specs.Over.{Answered, AreOver, replies_of}
+use Rattle.wp_threads.proofs.Coming.{comes_wider, comes_answered, answers_any}
+use Rattle.wp_threads.proofs.Doings.{Did, did, got_name, wrote_key}
+use Rattle.wp_threads.proofs.Lists.{or_left, or_right, both_so, at_map, any_at, any_other, any_filter}
+
+-- a number that was told is at most each greater one
+tells_more : (label : List ℕ) (n m : ℕ) → n ≤ m → (t : session_txn.Txn) (c : Command) (a : Option Reply) → tells label n t c a ≡ true → tells label m t c a ≡ true
+tells_more label n m le t (command.Tell other) (Some (reply.Told k)) is =
+    let parts = both_true (bytes_eq other label) (nat_le k n) is in
+    let low : k ≤ n = leb-true k n parts.1 in
+    rw (parts.0, le-leb k m (omega (arith, low, le))) refl
+  where
+    both_true : (a b : Bool) → (a && b) ≡ true → (a ≡ true) × (b ≡ true)
+    both_true true b is = (refl, is)
+    both_true false b is = absurd cc
+tells_more label n m le t c a is = absurd cc
+
+-- a prepare that held a key at the opening has it
+prepare_has_key : (opened : List Entry) (key name : List ℕ) → IsLegal opened → prepare_holding opened (holder_of opened key) ≡ Some (Txn name) → prepare_has opened (named opened name) key ≡ true
+prepare_has_key opened key name legal is = by (holder_of opened key) refl is
+  where
+    same_name : (a b : List ℕ) → Some (Txn a) ≡ Some (Txn b) → a ≡ b
+    same_name a b e = cc
+
+    by : (o : Option ℕ) → holder_of opened key ≡ o → prepare_holding opened o ≡ Some (Txn name) → prepare_has opened (named opened name) key ≡ true
+    by None e h = absurd (some_none (Txn name) (sym h))
+    by (Some p) e h =
+        let k = found_holder opened key p e in
+        rw (subst (λ (n : List ℕ). named opened n ≡ Some p) (same_name (name_at opened p) name h) (name_is opened legal p k.0)) k.1
+
+module _ {D : Type 0} {z : SharedState D} {seats : List SeatState} {history : List Entry} {left : DevicesLeft} (ended : IsEnded z seats history left) (parts : List Part) (answered : List Answered) (over : AreOver z (found_in ended) parts answered seats) (before : List Dialogue) (mine : Dialogue) (after : List Dialogue)
+    (split : dialogues parts (replies_of answered) ≡ before ++ mine ∷ after) where
+  abbrev pub evidence : Evidence
+  evidence = judged_by (left_in ended) z.limit (failed_in ended) (found_in ended) before mine after
+
+  abbrev all : List Dialogue
+  all = dialogues parts (replies_of answered)
+
+  done_by : (j i : ℕ) (event : Event) → HasDone (of_seats past_of seats) j i event → (j ≡ 0) × Did all i event
+  done_by = did z (found_in ended) parts answered seats over
+
+  there_now : (i : ℕ) (d : Dialogue) → get_elem? all i ≡ some d → get_elem? (before ++ mine ∷ after) i ≡ some d
+  there_now i d at = subst (λ (ds : List Dialogue). get_elem? ds i ≡ some d) split at
+
+  one_did : (p : Dialogue → Bool) (i : ℕ) (d : Dialogue) → get_elem? all i ≡ some d → p d ≡ true → list_any p (before ++ mine ∷ after) ≡ true
+  one_did p i d at is = any_at p (before ++ mine ∷ after) i d (there_now i d at) is
+
+  other_did : (p : Dialogue → Bool) (i : ℕ) (d : Dialogue) → get_elem? all i ≡ some d → i ≢ length before → p d ≡ true → list_any p (before ++ after) ≡ true
+  other_did p i d at ne is = any_other p before mine after i d (there_now i d at) ne is
+
+  -- ---- holders
+
+  opened_legal : IsLegal z.opened
+  opened_legal = legal_before z.opened ended.grown.0 (subst IsLegal ended.grown.1 ended.legal)
+
+  has_key : (key name : List ℕ) → WasLocked z.opened (of_seats past_of seats) key (Txn name) → IsKnown evidence (HasKey name key)
+  has_key key name (inl (j, i, h)) =
+      let d = (done_by j i (locked key (Txn name)) h).1 in
+      or_right (prepare_has z.opened (named z.opened name) key) (one_comes_to (stages_key name key) (before ++ mine ∷ after)) (one_did (λ (x : Dialogue). comes_to (stages_key name key) new_client x.part.commands x.answers) i d.own d.there d.told)
+  has_key key name (inr held) = or_left (prepare_has z.opened (named z.opened name) key) (one_comes_to (stages_key name key) (before ++ mine ∷ after)) (prepare_has_key z.opened key name opened_legal held)
+
+  -- another one than this made the holder
+  abbrev MadeByOther : Option (List ℕ) → Holder → Type 0
+  MadeByOther key holder = (k l : ℕ) × (e : Event) × ((k ≢ 0) ⊎ (l ≢ length before)) × Makes e key holder × HasDone (of_seats past_of seats) k l e
+
+  elsewhere : (k l : ℕ) → k ≡ 0 → (k ≢ 0) ⊎ (l ≢ length before) → l ≢ length before
+  elsewhere k l same (inl ne) = absurd (ne same)
+  elsewhere k l same (inr ne) = ne
+
+  has_name : (key : Option (List ℕ)) (name : List ℕ) → MadeByOther key (Txn name) → IsKnown evidence (HasName name)
+  has_name key name (k, l, e, ne, makes, h) =
+      let d = done_by k l e h in
+      other_did (λ (x : Dialogue). comes_to (gets_name name) new_client x.part.commands x.answers) l d.1.own d.1.there (elsewhere k l d.0 ne) (got_name all l e key name makes d.1)
+
+  is_another : (key : Option (List ℕ)) (holder : Holder) → MadeByOther key holder → ((k : List ℕ) → key ≡ Some k → WasLocked z.opened (of_seats past_of seats) k holder) → IsAnother evidence key holder
+  is_another None (Txn name) made locks = has_name None name made
+  is_another (Some key) (Txn name) made locks = (has_name (Some key) name made, has_key key name (locks key refl))
+  is_another (Some key) (Client name) (k, l, e, ne, makes, h) locks =
+      let d = done_by k l e h in
+      any_filter (λ (x : Dialogue). comes_to (writes_key key) new_client x.part.commands x.answers) (λ (x : Dialogue). bytes_eq x.part.client name) (before ++ after)
+      (other_did (λ (x : Dialogue). bytes_eq x.part.client name && comes_to (writes_key key) new_client x.part.commands x.answers) l d.1.own d.1.there (elsewhere k l d.0 ne) (wrote_key all l e key name makes d.1))
+  is_another None (Client name) made locks = tt
+
+  is_prepares : (i : ℕ) (key : Option (List ℕ)) (holder : Holder) (seen n : ℕ) → IsAccounted history (of_seats past_of seats) 0 i key holder seen (prepare_at n) → IsPrepares evidence key holder seen
+  is_prepares i key (Txn name) seen n (low, high, (p, is, has)) =
+      let f = found_named (take n history) name p is in
+      (p, record { at = n; fresh = (low, high); undecided = f.0; named = (bytes_eq-Decides (name_at (take n history) p) name).0 f.1 }, has)
+  is_prepares i key (Client name) seen n none = tt
+
+  -- ---- the tables
+
+  was_flushed : (n : ℕ) → WasInstalled ended.first_edit (of_seats past_of seats) n → IsKnown evidence (WasFlushed n)
+  was_flushed n (inl first) = or_left (n == ended.first_edit.flushed) (list_any (is_flushed n) (answers_in (before ++ mine ∷ after))) (eq-eqb n ended.first_edit.flushed first)
+  was_flushed n (inr (edit, same, (j, i, h))) =
+      let d = (done_by j i (installed edit false) h).1 in
+      let said = comes_answered (is_flushed edit.flushed) new_client d.own.part.commands d.own.answers d.told in
+      or_right (n == ended.first_edit.flushed) (list_any (is_flushed n) (answers_in (before ++ mine ∷ after)))
+      (answers_any (is_flushed n) (before ++ mine ∷ after) (one_did (λ (x : Dialogue). list_any (is_flushed n) x.answers) i d.own d.there (subst (λ (m : ℕ). list_any (is_flushed m) d.own.answers ≡ true) same said)))
+
+  -- ---- the seat
+
+  module _ (p : Participant) (at : get_elem? (map participant_of seats) (length before) ≡ some p) (closed_said : ended.writes.closed ≡ true → list_any is_fault (answers_in (before ++ mine ∷ after)) ≡ true) (halted_said : ended.edits.halted ≡ true → IsKnown evidence TablesFailed) where
+    mine_did : (event : Event) → IsIn event p.past → HasDone (of_seats past_of seats) 0 (length before) event
+    mine_did event there = (p.past, (map past_of (map participant_of seats), refl, at_map past_of (map participant_of seats) (length before) p at), there)
+
+    past_is : (event : Event) → IsIn event p.past → IsPast (of_seats past_of seats) event
+    past_is event there = (0, length before, mine_did event there)
+
+    knows_holder : (key : Option (List ℕ)) (holder : Holder) (seen : ℕ) (account : Account) → IsIn (found key holder seen account) p.past → KnowsHolder evidence key holder seen account
+    knows_holder key holder seen own there = tt
+    knows_holder key holder seen another there = is_another key holder (ended.holders.found 0 (length before) key holder seen another (mine_did (found key holder seen another) there))
+        (λ k same. ended.holders.found_keys k holder seen another (past_is (found (Some k) holder seen another) (subst (λ (o : Option (List ℕ)). IsIn (found o holder seen another) p.past) same there)))
+    knows_holder key holder seen (prepare_at n) there = is_prepares (length before) key holder seen n (ended.holders.found 0 (length before) key holder seen (prepare_at n) (mine_did (found key holder seen (prepare_at n)) there))
+
+    was_told : (label : List ℕ) (n m : ℕ) → n ≤ m → IsPast (of_seats past_of seats) (told label n) → IsKnown evidence (WasTold label m)
+    was_told label n m le (j, i, h) =
+        let d = (done_by j i (told label n) h).1 in
+        one_did (λ (x : Dialogue). comes_to (tells label m) new_client x.part.commands x.answers) i d.own d.there (comes_wider (tells label n) (tells label m) (tells_more label n m le) new_client d.own.part.commands d.own.answers d.told)
+
+    other_compacted : (tables due n : ℕ) (halted : Bool) → IsIn (found_edit n tables due halted) p.past → tables < due → IsKnown evidence OtherCompacted
+    other_compacted tables due n halted there lt =
+        let o = ended.installed.few 0 (length before) n tables due halted (mine_did (found_edit n tables due halted) there) lt in
+        let d = done_by o.1.0 o.1.1 (installed o.0 true) o.1.3 in
+        answers_any is_compacted (before ++ after) (other_did (λ (x : Dialogue). list_any is_compacted x.answers) o.1.1 d.1.own d.1.there (elsewhere o.1.0 o.1.1 d.0 o.1.2) (comes_answered is_compacted new_client d.1.own.part.commands d.1.own.answers d.1.told))
+
+    knows : (event : Event) → IsIn event p.past → Knows evidence event
+    knows (found key holder seen account) there = knows_holder key holder seen account there
+    knows (heard label n) there = λ m le. was_told label n m le (ended.board.heard label n (past_is (heard label n) there))
+    knows (stopped n) there =
+        let k = ended.faults.stopped n (past_is (stopped n) there) in
+        both_so (n == length history) (list_any is_fault (answers_in (before ++ mine ∷ after))) (eq-eqb n (length history) (k.1 ∙ ap (λ (h : List Entry). length h) ended.history_is)) (closed_said k.0)
+    knows (log_failed entries) there = (ended.faults.failed entries (past_is (log_failed entries) there)).1
+    knows (tables_failed last edit) there = let f = ended.installed.failed last edit (past_is (tables_failed last edit) there) in (f.1, f.2)
+    knows (found_edit n tables due halted) there = (
+      was_flushed n (ended.installed.found n tables due halted (past_is (found_edit n tables due halted) there)),
+      (λ is. halted_said (ended.faults.found_halted n tables due (past_is (found_edit n tables due true) (subst (λ (b : Bool). IsIn (found_edit n tables due b) p.past) is there)))),
+      (λ lt. other_compacted tables due n halted there lt),
+    )
+    knows (claimed name) there = tt
+    knows (took name) there = tt
+    knows (locked key holder) there = tt
+    knows (told label n) there = tt
+    knows (installed edit compacts) there = tt
+
+    pub agrees : Agrees evidence z p
+    agrees = record {
+      seen = ended.seen 0 (length before) p.seen (map seen_of (map participant_of seats), refl, at_map seen_of (map participant_of seats) (length before) p at);
+      limit = refl;
+      past = knows;
+    }

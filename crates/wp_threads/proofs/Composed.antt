@@ -1,0 +1,139 @@
+-- What all sessions say of the history that is left.
+use Rattle.std.proofs.Common.{◌≡◌, ℕ, suc, ◌+◌, ◌≤◌, Bool, true, List, [], ◌∷◌, ◌++◌, length, length-append, map, refl, sym, subst, ap, ◌∙◌, append_assoc, arith}
+use Rattle.std.specs.Prelude.{count_by}
+use Rattle.std.specs.List.{list_any}
+use mathlib.Core.List.{append-nil}
+use mathlib.Core.Option.{some}
+use lib.ListN.{get_elem?}
+use Rattle.wp_model.specs.declared.entry.Entry.{Entry}
+use Rattle.wp_text.specs.declared.script.Part.{Part}
+use Rattle.wp_text.specs.declared.reply.Reply.{Reply}
+use Rattle.wp_text.specs.declared.reply.Reply.TheVariants as reply
+use Rattle.wp_core.specs.Lists.{IsIn, one_if}
+use Rattle.wp_core.specs.Sound.Pasts.{is_log_fault, is_tables_fault, past_of}
+use Rattle.wp_core.specs.Views.{Event, stopped, found_edit}
+use Rattle.wp_core.specs.World.{Participant}
+use Rattle.wp_shared.specs.Devices.{DevicesLeft}
+use Rattle.wp_shared.specs.Ended.{IsEnded}
+use Rattle.wp_shared.specs.Ending.{AreAll, participant_of}
+use Rattle.wp_shared.specs.Seats.{SharedState, SeatState}
+use Rattle.wp_replies.specs.Explains.{dialogue, dialogues, all_replies, AreFirstParts, AreSessions, IsExact, Explains}
+use Rattle.wp_replies.specs.Kind.{is_fault, is_stopped, is_halted}
+use Rattle.wp_replies.specs.Kind as kinds
+use Rattle.wp_replies.specs.Known.{StoredState, Dialogue, answers_in}
+use Rattle.wp_answers.specs.Answers.{IsRemembered}
+use Rattle.wp_threads.specs.Explained.{found_in, left_in, failed_in, faults_in, AreWholeParts, HaveRun}
+use Rattle.wp_threads.specs.Over.{Answered, AreOver, replies_of}
+use Rattle.wp_threads.proofs.Agreeing.{agrees}
+use Rattle.wp_threads.proofs.Counted.{once_after, same_replies, weighed, acknowledged_as_owned, remembers}
+use Rattle.wp_threads.proofs.Exact.{exact}
+use Rattle.wp_threads.proofs.LastEdit.{last_edit}
+use Rattle.wp_threads.proofs.Lists.{count_any}
+
+-- ---- the commands that ran
+
+abbrev pub firsts : {D : Type 0} (z : SharedState D) (found : StoredState) (parts : List Part) (answered : List Answered) (seats : List SeatState) → AreOver z found parts answered seats → List Part
+firsts z found (p ∷ parts) (a ∷ answered) (s ∷ seats) over = record { client = p.client; commands = over.0.done } ∷ firsts z found parts answered seats over.1
+firsts z found _ _ _ over = []
+
+module _ {D : Type 0} (z : SharedState D) (found : StoredState) where
+  pub are_first : (parts : List Part) (answered : List Answered) (seats : List SeatState) (over : AreOver z found parts answered seats) → AreFirstParts parts (firsts z found parts answered seats over)
+  are_first [] [] [] over = tt
+  are_first (p ∷ parts) (a ∷ answered) (s ∷ seats) over = ((refl, over.0.rest, over.0.commands), are_first parts answered seats over.1)
+  are_first _ _ _ over = absurd over
+
+  -- of a session that did not break off they are all
+  pub all_ran : (parts : List Part) (answered : List Answered) (seats : List SeatState) (over : AreOver z found parts answered seats) → AreWholeParts parts (firsts z found parts answered seats over) answered
+  all_ran [] [] [] over = tt
+  all_ran (p ∷ parts) (a ∷ answered) (s ∷ seats) over = (
+    (λ whole. let same : over.0.done ≡ p.commands = sym (append-nil over.0.done) ∙ (ap (λ (cs : List _). over.0.done ++ cs) (sym (over.0.all whole)) ∙ sym over.0.commands) in λ i. record { client = p.client; commands = same i }),
+    all_ran parts answered seats over.1,
+  )
+  all_ran _ _ _ over = absurd over
+
+-- ---- what replies remember
+
+stopped_there : (past : List Event) (r : Reply) → is_stopped r ≡ true → IsRemembered past r → (n : ℕ) × IsIn (stopped n) past
+stopped_there past (reply.Stopped n) is there = (n, there)
+stopped_there past other is there = absurd cc
+
+halted_there : (past : List Event) (r : Reply) → is_halted r ≡ true → IsRemembered past r → (n tables due : ℕ) × IsIn (found_edit n tables due true) past
+halted_there past (reply.Halted n) is (tables, due, there) = (n, tables, due, there)
+halted_there past other is there = absurd cc
+
+one_at_least : (b : Bool) → b ≡ true → 1 ≤ one_if b
+one_at_least b is = rw is (omega arith)
+
+first_past : (seats : List SeatState) → AreAll seats → (past : List Event) × (get_elem? (map past_of (map participant_of seats)) 0 ≡ some past)
+first_past [] all = absurd all
+first_past (s ∷ seats) all = (s.knows.participant.past, refl)
+
+exact_of : {D : Type 0} {z : SharedState D} {history : List Entry} {left : DevicesLeft} (parts : List Part) (answered : List Answered) (seats : List SeatState) (ended : IsEnded z seats history left) (over : AreOver z (found_in ended) parts answered seats) → AreAll seats
+    → IsExact z.limit (found_in ended) (left_in ended) (failed_in ended) (firsts z (found_in ended) parts answered seats over) (replies_of answered)
+exact_of [] [] [] ended over all = tt
+exact_of (p ∷ []) (a ∷ []) (s ∷ []) ended over all = exact ended p a over.0 all
+exact_of (p ∷ q ∷ parts) (a ∷ b ∷ answered) (s ∷ t ∷ seats) ended over all = tt
+exact_of (p ∷ parts) (a ∷ answered) (s ∷ seats) ended over all = absurd over.1
+exact_of _ _ _ ended over all = absurd over
+
+module _ {D : Type 0} {z : SharedState D} {seats : List SeatState} {history : List Entry} {left : DevicesLeft} (ended : IsEnded z seats history left) (parts : List Part) (answered : List Answered) (over : AreOver z (found_in ended) parts answered seats) where
+  abbrev replies : List Reply
+  replies = all_replies (replies_of answered)
+
+  log_counted : count_by is_fault replies ≡ one_if ended.writes.closed
+  log_counted =
+      let all = weighed z (found_in ended) is_fault is_log_fault (λ p a s o. o.log_failed) parts answered seats over in let met = ended.faults.log in omega (arith, all, met)
+
+  tables_counted : count_by kinds.is_tables_fault replies ≡ one_if ended.edits.halted
+  tables_counted =
+      let all = weighed z (found_in ended) kinds.is_tables_fault is_tables_fault (λ p a s o. o.tables_failed) parts answered seats over in let met = ended.faults.tables in omega (arith, all, met)
+
+  -- a fault that was met was answered
+  fault_said : (is_such : Reply → Bool) (met : Bool) → count_by is_such replies ≡ one_if met → (ds : List Dialogue) → dialogues parts (replies_of answered) ≡ ds → met ≡ true → list_any is_such (answers_in ds) ≡ true
+  fault_said is_such met counted ds split up =
+      let one = one_at_least met up in
+      subst (λ (xs : List Reply). list_any is_such xs ≡ true) (sym (same_replies z (found_in ended) parts answered seats over) ∙ ap answers_in split) (count_any is_such replies (omega (arith, counted, one)))
+
+  sessions : (before : List Dialogue) (ps : List Part) (others : List Answered) (ss : List SeatState) (o : AreOver z (found_in ended) ps others ss) → dialogues parts (replies_of answered) ≡ before ++ dialogues ps (replies_of others)
+      → ((i j : ℕ) (p : Participant) → j ≡ length before + i → get_elem? (map participant_of ss) i ≡ some p → get_elem? (map participant_of seats) j ≡ some p)
+      → AreSessions (left_in ended) z.limit (failed_in ended) (found_in ended) before ps (firsts z (found_in ended) ps others ss o) (replies_of others)
+  sessions before [] [] [] o split at = tt
+  sessions before (p ∷ ps) (a ∷ others) (s ∷ ss) o split at =
+      let mine = dialogue p a.replies in
+      let after = dialogues ps (replies_of others) in (
+        o.0.session _ (agrees ended parts answered over before mine after split s.knows.participant (at 0 (length before) s.knows.participant (omega arith) refl)
+            (fault_said is_fault ended.writes.closed log_counted (before ++ mine ∷ after) split) (fault_said kinds.is_tables_fault ended.edits.halted tables_counted (before ++ mine ∷ after) split)),
+        sessions (before ++ mine ∷ []) ps others ss o.1 (split ∙ sym (append_assoc before (mine ∷ []) after))
+            (λ i j q same there. at (suc i) j q (let longer = length-append before (mine ∷ []) in omega (arith, same, longer)) there),
+      )
+  sessions before _ _ _ o split at = absurd o
+
+  pub explains : AreAll seats → Explains z.limit (faults_in ended) parts (firsts z (found_in ended) parts answered seats over) (found_in ended) (left_in ended) (failed_in ended) (replies_of answered)
+  explains all = record {
+    legal = ended.legal;
+    begins = ended.grown;
+    answered = sessions [] parts answered seats over refl (λ i j p same there. subst (λ (k : ℕ). get_elem? (map participant_of seats) k ≡ some p) (let e : i ≡ j = omega (arith, same) in e) there);
+    paired = λ n low high.
+        let each = acknowledged_as_owned z (found_in ended) n parts answered seats over in let owned = ended.owned n in let once = once_after z.opened history n low high in omega (arith, each, owned, once);
+    log_failed = log_counted;
+    stopped = λ said.
+        let k = remembers z (found_in ended) is_stopped parts answered seats over said in let n = stopped_there k.past k.answer k.is k.remembered in
+        one_at_least ended.writes.closed (ended.faults.stopped n.0 (0, k.place, (k.past, (map past_of (map participant_of seats), refl, k.there), n.1))).0;
+    tables_failed = tables_counted;
+    halted = λ said.
+        let k = remembers z (found_in ended) is_halted parts answered seats over said in let n = halted_there k.past k.answer k.is k.remembered in
+        one_at_least ended.edits.halted (ended.faults.found_halted n.0 n.1 n.2 (0, k.place, (k.past, (map past_of (map participant_of seats), refl, k.there), n.3)));
+    edit = let first = first_past seats all in last_edit ended parts answered over first.0 first.1;
+    exact = exact_of parts answered seats ended over all;
+  }
+
+  -- the sessions of a script, all of whose seats were handed in
+  pub have_run : AreAll seats → HaveRun z parts answered history left
+  have_run all = record {
+    seats = seats;
+    ended = ended;
+    run = firsts z (found_in ended) parts answered seats over;
+    first = are_first z (found_in ended) parts answered seats over;
+    whole = all_ran z (found_in ended) parts answered seats over;
+    explained = explains all;
+  }

@@ -1,0 +1,76 @@
+-- A store that was ended with its first seat alone, at which nothing was done.
+use Rattle.std.proofs.Common.{◌≡◌, inl, inr, ℕ, zero, suc, List, [], ◌∷◌, length, refl, sym, subst, ap, ◌∙◌, arith}
+use mathlib.Core.Option.{some-injective, some-ne-none}
+use lib.ListN.{get_elem?}
+use Rattle.wp_model.specs.declared.entry.Entry.{Entry}
+use Rattle.wp_model.specs.Flushed.{InstalledEdit}
+use Rattle.wp_text.specs.declared.script.Part.{Part}
+use Rattle.wp_core.specs.Lists.{IsIn, one_if}
+use Rattle.wp_core.specs.Sound.Actors.{once}
+use Rattle.wp_core.specs.Sound.Pasts.{HasDone}
+use Rattle.wp_core.specs.Views.{Event}
+use Rattle.wp_shared.specs.Devices.{DevicesLeft}
+use Rattle.wp_shared.specs.Ended.{IsEnded}
+use Rattle.wp_shared.specs.Seats.{SharedState, SeatState}
+use Rattle.wp_replies.specs.Explains.{Explains}
+use Rattle.wp_threads.specs.Explained.{found_in, left_in, failed_in, faults_in, HaveRun}
+use Rattle.wp_threads.specs.New.{first_seat}
+use Rattle.wp_threads.specs.Over.{Answered}
+use Rattle.wp_threads.proofs.Counted.{once_after}
+
+abbrev one_past : List (List (List Event))
+one_past = ([] ∷ []) ∷ []
+
+nothing_done : (j i : ℕ) (event : Event) → HasDone one_past j i event → ⊥
+nothing_done zero zero event (past, (pasts, at, there), is) =
+    let past_is : [] ≡ past = some-injective [] past (ap (λ (x : List (List Event)). get_elem? x 0) (some-injective ([] ∷ []) pasts at) ∙ there) in
+    absurd (subst (IsIn event) (sym past_is) is)
+nothing_done zero (suc i) event (past, (pasts, at, there), is) = absurd (some-ne-none past (sym (ap (λ (x : List (List Event)). get_elem? x (suc i)) (some-injective ([] ∷ []) pasts at) ∙ there)))
+nothing_done (suc j) i event (past, (pasts, at, there), is) = absurd (some-ne-none pasts (sym at))
+
+module _ {D : Type 0} {z : SharedState D} (client : List ℕ) {history : List Entry} {left : DevicesLeft} (ended : IsEnded z (first_seat z client ∷ []) history left) where
+  same_edit : ended.edits.last ≡ ended.first_edit
+  same_edit = elim (ended.installed.edit 0 0 [] ([] ∷ [], refl, refl)) [
+    | inl is ↦ is
+    | inr other ↦ absurd (nothing_done other.2.0 other.2.1 _ other.2.3)
+  ]
+
+  not_closed : 0 ≡ one_if ended.writes.closed
+  not_closed = ended.faults.log
+
+  not_halted : 0 ≡ one_if ended.edits.halted
+  not_halted = ended.faults.tables
+
+  none_published : (n : ℕ) → 0 ≡ once z.opened history n
+  none_published n = ended.owned n
+
+  explains_none : Explains z.limit (faults_in ended) [] [] (found_in ended) (left_in ended) (failed_in ended) []
+  explains_none = record {
+    legal = ended.legal;
+    begins = ended.grown;
+    answered = tt;
+    paired = λ n low high. let none = none_published n in let one = once_after z.opened history n low high in absurd (omega (arith, none, one));
+    log_failed = not_closed;
+    stopped = λ said. absurd cc;
+    tables_failed = not_halted;
+    halted = λ said. absurd cc;
+    edit = record {
+      said = inl (ap (λ (e : InstalledEdit). e.flushed) same_edit);
+      kept = ended.installed.rises ended.first_edit.flushed (inl refl);
+      greatest = λ n said. absurd cc;
+      unchanged = λ none. same_edit;
+    };
+    exact = tt;
+  }
+
+  none_ran : HaveRun z [] [] history left
+  none_ran = record { seats = first_seat z client ∷ []; ended = ended; run = []; first = tt; whole = tt; explained = explains_none }
+
+-- so nothing of a script without parts ran, and that is all of it
+pub unused_run : {D : Type 0} (z : SharedState D) (client : List ℕ) (seats : List SeatState) (history : List Entry) (left : DevicesLeft) → seats ≡ first_seat z client ∷ [] → IsEnded z seats history left → HaveRun z [] [] history left
+unused_run z client seats history left is ended = none_ran client (subst (λ (ss : List SeatState). IsEnded z ss history left) is ended)
+
+-- the same of a script that has no part
+pub run_of_none : {D : Type 0} (z : SharedState D) (parts : List Part) (answered : List Answered) (history : List Entry) (left : DevicesLeft) → length parts ≡ 0 → answered ≡ [] → HaveRun z [] [] history left → HaveRun z parts answered history left
+run_of_none z [] answered history left none nothing run = subst (λ (a : List Answered). HaveRun z [] a history left) (sym nothing) run
+run_of_none z (part ∷ parts) answered history left none nothing run = absurd (omega (arith, none))

@@ -1,0 +1,43 @@
+-- What the sessions of a script leave: replies, a history and devices, and that the one history explains the replies.
+use Rattle.std.specs.Prelude.{◌≡◌, true, List, [], ◌∷◌}
+use Rattle.wp_model.specs.declared.entry.Entry.{Entry}
+use Rattle.wp_text.specs.declared.script.Part.{Part}
+use Rattle.wp_core.specs.Lists.{one_if}
+use Rattle.wp_shared.specs.Devices.{DevicesLeft}
+use Rattle.wp_shared.specs.Ended.{IsEnded}
+use Rattle.wp_shared.specs.Seats.{SharedState, SeatState}
+use Rattle.wp_replies.specs.Explains.{Faults, AreFirstParts, Explains}
+use Rattle.wp_replies.specs.Known.{StoredState}
+use Rattle.wp_replies.specs.Replies.{Failed}
+use Rattle.wp_threads.specs.Over.{Answered, replies_of}
+
+module _ {D : Type 0} {z : SharedState D} {seats : List SeatState} {history : List Entry} {left : DevicesLeft} (ended : IsEnded z seats history left) where
+  -- what the store was opened to, and what is left of it
+  abbrev pub found_in : StoredState
+  found_in = record { history = z.opened; edit = ended.first_edit }
+
+  abbrev pub left_in : StoredState
+  left_in = record { history = history; edit = ended.edits.last }
+
+  -- what its devices failed to take, and how often they failed
+  abbrev pub failed_in : Failed
+  failed_in = record { entries = ended.writes.failed; edit = ended.edits.failed }
+
+  abbrev pub faults_in : Faults
+  faults_in = record { log = one_if ended.writes.closed; tables = one_if ended.edits.halted }
+
+-- where a client's answers are whole, all commands of its part have run
+abbrev pub AreWholeParts : List Part → List Part → List Answered → Type 0
+AreWholeParts [] [] [] = Unit {0}
+AreWholeParts (part ∷ parts) (first ∷ firsts) (a ∷ answered) = (a.whole ≡ true → first ≡ part) × AreWholeParts parts firsts answered
+AreWholeParts parts firsts answered = ⊥
+
+-- The store ended, with all its seats handed in. The clients were answered so, each to the first of its commands, which are all
+-- where its answers are whole; and the history and the devices that are left explain the replies.
+pub record HaveRun {D : Type 0} (z : SharedState D) (script : List Part) (answered : List Answered) (history : List Entry) (left : DevicesLeft) : Type 0 where
+  pub seats : List SeatState
+  pub ended : IsEnded z seats history left
+  pub run : List Part
+  pub first : AreFirstParts script run
+  pub whole : AreWholeParts script run answered
+  pub explained : Explains z.limit (faults_in ended) script run (found_in ended) (left_in ended) (failed_in ended) (replies_of answered)
