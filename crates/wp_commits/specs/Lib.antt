@@ -3,3 +3,4 @@ pub mod Notes
 pub mod Making
 pub mod Gone
 pub mod Cleared
+pub mod PairNotes

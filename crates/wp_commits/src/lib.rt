@@ -25,6 +25,7 @@ mod clear;
 mod cleared;
 mod entering;
 pub mod laws;
+mod pair_note;
 mod steps;
 
 pub use bound::bound_past;

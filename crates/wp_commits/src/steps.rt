@@ -19,14 +19,16 @@ ghost use Rattle.wp_rule.specs.Knows.{Holding, Noted, KnowsFact};
 ghost use Rattle.wp_shared.specs.Seats.{place_at};
 ghost use Rattle.wp_commits.specs.Gone.{HasLeft};
 ghost use Rattle.wp_commits.specs.Cleared.{IsThere, IsCleared, IsReadyAt, IsUnentered};
+ghost use Rattle.wp_commits.specs.PairNotes.{fact_of};
 ghost use Rattle.wp_commits.specs.Making.{noting_all, noted_all, delaying, keeping};
 ghost use Rattle.wp_commits.specs.Notes.{noting, is_flag, is_of_words, is_of_place, GoesOn, FlagTells, DelayedFlagTells, OldFlagTells};
 
+use crate::pair_note::PairNote;
 use std::alloc::AllocError;
 use std::marker::Brand;
 use std::sync::Wait;
+use wp_actor::Turn;
 use wp_judge::{pack, unpack};
-use wp_machine::{Fact, Turn};
 use wp_model::Seq;
 use wp_outside::Disk;
 use wp_parts::{Log, Part};
@@ -67,24 +69,24 @@ pub fn pair<D: Disk + Drop>(
 
 // ---- notes
 
-/// Notes the fact, which the seat knows, as the steps that are picked say.
-fn note_by<D: Disk + Drop, J: Moves>(store: &Shared<D>, seat: &mut Seat<D>, fact: &Fact)
+/// Notes this of a pair, which the seat knows, as the steps that are picked say.
+fn note_by<D: Disk + Drop, J: Moves>(store: &Shared<D>, seat: &mut Seat<D>, what: PairNote)
     requires seat { (seat.old.table ≡ store.now.table) × (seat.old.knows.live ≡ true) }
     requires place { J.place ≡ place_at store.now seat.old.by }
-    requires steps { J.steps ≡ (λ w. step.note fact.now ∷ []) }
-    requires known { KnowsFact seat.old.knows fact.now }
-    ensures { seat.new ≡ noting fact.now seat.old }
+    requires steps { J.steps ≡ (λ w. step.note (fact_of what) ∷ []) }
+    requires known { KnowsFact seat.old.knows (fact_of what) }
+    ensures { seat.new ≡ noting (fact_of what) seat.old }
 {
     store.make::<J>(seat);
 }
 
-/// Notes the fact, which the seat knows.
-fn note<D: Disk + Drop>(store: &Shared<D>, seat: &mut Seat<D>, fact: &Fact)
+/// Notes this of a pair, which the seat knows.
+fn note<D: Disk + Drop>(store: &Shared<D>, seat: &mut Seat<D>, what: PairNote)
     requires seat { (seat.old.table ≡ store.now.table) × (seat.old.knows.live ≡ true) }
-    requires known { KnowsFact seat.old.knows fact.now }
-    ensures { seat.new ≡ noting fact.now seat.old }
+    requires known { KnowsFact seat.old.knows (fact_of what) }
+    ensures { seat.new ≡ noting (fact_of what) seat.old }
 {
-    note_by::<D, Brand>(store, seat, fact);
+    note_by::<D, Brand>(store, seat, what);
 }
 
 /// Notes that the bound has come to the decision of the pair of the word at this place.
@@ -101,11 +103,7 @@ pub fn note_passed<D: Disk + Drop>(
     requires passed { (k : IsThere seat.old.knows log.now.table.history place p c) × (c ≤ k.bound) }
     ensures { seat.new ≡ noting (passed place (record { number = p; decision = c })) seat.old }
 {
-    note(
-        store,
-        seat,
-        &Fact::of(wp_machine::Noted::Passed(place, p, c)),
-    );
+    note(store, seat, PairNote::Passed(place, p, c));
 }
 
 /// Notes that no prepared table needs the pair of the word at this place any more.
@@ -124,11 +122,7 @@ pub fn note_apart<D: Disk + Drop>(
     requires apart { IsApart tables.now (record { number = p; decision = c }) }
     ensures { seat.new ≡ noting (apart place (record { number = p; decision = c })) seat.old }
 {
-    note(
-        store,
-        seat,
-        &Fact::of(wp_machine::Noted::Apart(place, p, c)),
-    );
+    note(store, seat, PairNote::Apart(place, p, c));
 }
 
 /// Notes that the old commit map has the pair of the word at this place under each live number that overlaps it.
@@ -147,11 +141,7 @@ pub fn note_in_old_commits<D: Disk + Drop>(
     requires kept { IsInOldCommits snaps.now p c }
     ensures { seat.new ≡ noting (in_old_commits place (record { number = p; decision = c })) seat.old }
 {
-    note(
-        store,
-        seat,
-        &Fact::of(wp_machine::Noted::InOldCommits(place, p, c)),
-    );
+    note(store, seat, PairNote::InOldCommits(place, p, c));
 }
 
 fn note_own_by<D: Disk + Drop, J: Moves>(

@@ -1,6 +1,6 @@
 -- An actor is taken out of a world, makes its step, and is put back.
 use Rattle.std.specs.Prelude.{slice_get, option_map}
-use Rattle.std.proofs.Common.{◌≡◌, ◌≢◌, unwrap_or, ℕ, zero, suc, ◌<◌, ◌≤◌, List, [], ◌∷◌, length, set, get_or, OnOk, Ok, Err, Result, refl, sym, subst, ap, ◌∙◌, arith, ◌++◌, filter, not, Option, Some, None, IfOk, true, false}
+use Rattle.std.proofs.Common.{◌≡◌, ◌≢◌, unwrap_or, ℕ, zero, suc, ◌<◌, ◌≤◌, List, [], ◌∷◌, length, set, get_or, OnOk, Ok, Err, Result, refl, sym, subst, ap, ◌∙◌, arith, ◌++◌, filter, not, Option, Some, None, true, false}
 use mathlib.Core.Option.{some-injective}
 use Rattle.std.proofs.lemmas.List.{set-set}
 use Rattle.wp_core.specs.World.{World, Actor, new_actor}
@@ -46,10 +46,6 @@ pub at_within : {X : Type 0} (xs : List X) (i : ℕ) (x : X) → get_elem? xs i 
 at_within [] i x e = absurd cc
 at_within (y ∷ xs) zero x e = omega arith
 at_within (y ∷ xs) (suc i) x e = let l = at_within xs i x e in omega arith
-
-pub if_ok : {X : Type 0} (r : Result X AllocError) (P Q : X → Type 0) → ((x : X) → P x → Q x) → IfOk r P → IfOk r Q
-if_ok (Ok x) P Q f p = f x p
-if_ok (Err e) P Q f p = p
 
 same_actor : (w : World) (by : ℕ) (a b : Actor) → get_elem? w.actors by ≡ some a → get_elem? w.actors by ≡ some b → b ≡ a
 same_actor w by a b at at2 = some-injective b a (sym at2 ∙ at)

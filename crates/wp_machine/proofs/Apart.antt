@@ -13,7 +13,8 @@ use Rattle.wp_core.specs.Changes.{with_actor}
 use Rattle.wp_core.specs.Effects.{done}
 use Rattle.wp_core.specs.Steps.{Step}
 use Rattle.wp_core.specs.Steps as step
-use Rattle.wp_machine.specs.Parts.{turn_of, account_of}
+use Rattle.wp_actor.specs.Turns.{turn_of}
+use Rattle.wp_machine.specs.Parts.{account_of}
 use Rattle.wp_machine.specs.declared.step.Kind.{Kind}
 use Rattle.wp_machine.specs.declared.step.Kind.TheVariants as kind
 use Rattle.wp_machine.specs.declared.step.ReaderStep.{ReaderStep}

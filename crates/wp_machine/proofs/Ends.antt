@@ -15,7 +15,8 @@ use Rattle.wp_core.specs.Notes as notes
 use Rattle.wp_core.specs.Views as view
 use Rattle.wp_core.specs.Views.{Fact}
 use Rattle.wp_core.specs.Sound.Views.{guarded_by}
-use Rattle.wp_machine.specs.Parts.{turn_of, account_of}
+use Rattle.wp_actor.specs.Turns.{turn_of}
+use Rattle.wp_machine.specs.Parts.{account_of}
 use Rattle.wp_machine.specs.declared.step.Kind.{Kind}
 use Rattle.wp_machine.specs.declared.step.Kind.TheVariants as kind
 use Rattle.wp_machine.specs.declared.step.ReaderStep.{ReaderStep}

@@ -10,7 +10,7 @@ use Rattle.wp_core.specs.Entries.{transaction_of, pending_pair}
 use Rattle.wp_core.specs.Views.{Fact, passed, in_old_commits, apart, words_stay, versions_in_memory, versions_nowhere, number_in_heap, number_not_in_heap, undecided_at, prior_values, unprepared, direct_free, tables_stay, live_listed, nothing_flushed, frozen_stay, delayed_flag_stays, old_flag_stays}
 use Rattle.wp_core.specs.Sound.Views.{guarded_by}
 use Rattle.wp_core.specs.Notes.{is_name}
-use Rattle.wp_machine.specs.Parts.{turn_of}
+use Rattle.wp_actor.specs.Turns.{turn_of}
 use Rattle.wp_machine.specs.declared.ending.Ending.{Ending}
 use Rattle.wp_machine.specs.declared.ending.Ending.TheVariants as ending
 use Rattle.wp_machine.specs.declared.step.Kind.{Kind}

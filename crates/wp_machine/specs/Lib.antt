@@ -1,5 +1,4 @@
 pub mod Parts
-pub mod Codes
 pub mod Client
 pub mod Machine
 pub mod Effect

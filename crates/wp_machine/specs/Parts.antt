@@ -1,6 +1,4 @@
 -- What the enums of the code are in the machine.
-use Rattle.wp_machine.specs.declared.turn.Turn as code
-use Rattle.wp_machine.specs.declared.turn.Turn.TheVariants as turn
 use Rattle.wp_machine.specs.declared.content.Guarded.{Guarded}
 use Rattle.wp_machine.specs.declared.content.Guarded.TheVariants as table
 use Rattle.wp_machine.specs.declared.views.Account as code_account
@@ -9,19 +7,10 @@ use Rattle.wp_machine.specs.declared.views.Found.{Found}
 use Rattle.wp_machine.specs.declared.views.Found.TheVariants as found
 use Rattle.wp_machine.specs.declared.views.Noted.{Noted}
 use Rattle.wp_machine.specs.declared.views.Noted.TheVariants as noted
-use Rattle.wp_core.specs.Turns.{Turn, write_turn, prepared_turn, snapshots_turn, store_turn, locks_turn, tables_turn}
 use Rattle.wp_core.specs.Tables.{Content}
 use Rattle.wp_core.specs.Tables as content
 use Rattle.wp_core.specs.Views.{Account, Event, Fact}
 use Rattle.wp_core.specs.Views as view
-
-abbrev pub turn_of : code.Turn → Turn
-turn_of turn.Write = write_turn
-turn_of turn.Prepared = prepared_turn
-turn_of turn.Snapshots = snapshots_turn
-turn_of turn.Store = store_turn
-turn_of turn.Locks = locks_turn
-turn_of turn.Tables = tables_turn
 
 abbrev pub content_of : Guarded → Content
 content_of (table.Writes t) = content.writes t

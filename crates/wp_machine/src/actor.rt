@@ -15,16 +15,16 @@ ghost use Rattle.wp_core.specs.Tables as tables;
 ghost use Rattle.wp_core.specs.World.{new_participant, new_actor};
 ghost use Rattle.wp_core.specs.Changes.{sees, remembers, joined_actor, has_direct, held_with, held_without, registers, has_transaction, has_no_transaction, turn_index, made_one, informed, joins};
 ghost use Rattle.wp_machine.specs.Client.{client_of};
-ghost use Rattle.wp_machine.specs.Parts.{turn_of};
+ghost use Rattle.wp_actor.specs.Turns.{turn_of};
 ghost use Rattle.wp_machine.specs.HeldTables.{place_from};
 
 use crate::content::Content;
 use crate::copies::copy_entries;
 use crate::ending::Ending;
-use crate::turn::Turn;
 use crate::views::{Event, Fact};
 use std::alloc::{AllocError, Global};
 use std::marker::Model;
+use wp_actor::Turn;
 use wp_judge::Observed;
 use wp_model::{Batch, Entry, Key, Name, Seq};
 
@@ -56,7 +56,7 @@ pub struct Transaction {
 impl Model for Transaction {
     ghost use Rattle.std.specs.FinSet as set;
     ghost use Rattle.wp_core.specs.World.{Transaction};
-    ghost use Rattle.wp_machine.specs.Codes.{transaction_code};
+    ghost use Rattle.wp_actor.specs.Codes.{transaction_code};
 
     ghost Value = { Transaction };
 
@@ -83,7 +83,7 @@ impl Model for Participant {
     ghost use Rattle.std.specs.Coded.{codes};
     ghost use Rattle.std.specs.FinMap as map;
     ghost use Rattle.wp_core.specs.World.{Participant};
-    ghost use Rattle.wp_machine.specs.Codes.{transactions_code};
+    ghost use Rattle.wp_actor.specs.Codes.{transactions_code};
     ghost use Rattle.wp_machine.specs.Client.{client_of};
 
     ghost Value = { Participant };
@@ -112,7 +112,7 @@ impl Model for Actor {
     ghost use Rattle.wp_model.specs.PreparedTables.{prepared_tables_code};
     ghost use Rattle.wp_model.specs.Snapshots.{snapshots_code};
     ghost use Rattle.wp_model.specs.LockTables.{lock_tables_code};
-    ghost use Rattle.wp_machine.specs.Codes.{transactions_code};
+    ghost use Rattle.wp_actor.specs.Codes.{transactions_code};
 
     ghost Value = { Actor };
 

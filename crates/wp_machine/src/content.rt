@@ -2,15 +2,15 @@ ghost use Rattle.std.specs.Prelude.{◌≡◌};
 ghost use Rattle.wp_core.specs.Tables.{turn_of};
 ghost use Rattle.wp_core.specs.Changes.{turn_index};
 ghost use Rattle.wp_core.specs.Tables as content;
-ghost use Rattle.wp_machine.specs.Parts as parts;
+ghost use Rattle.wp_actor.specs.Turns as turns;
 
 use crate::locks::LockTables;
 use crate::prepared::PreparedTables;
 use crate::snapshots::Snapshots;
 use crate::store::{Installed, StoreTable};
-use crate::turn::Turn;
 use crate::writes::WriteTable;
 use std::marker::Model;
+use wp_actor::Turn;
 
 /// The table of one turn.
 #[derive(Drop)]
@@ -47,7 +47,7 @@ impl Model for Content {
 
 impl Content {
     pub fn turn(&self) -> Turn
-        ensures { parts.turn_of result ≡ turn_of self.now }
+        ensures { turns.turn_of result ≡ turn_of self.now }
     {
         match &self.table {
             Guarded::Writes(_) => Turn::Write,

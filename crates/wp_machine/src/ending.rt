@@ -8,6 +8,7 @@ ghost use Rattle.wp_core.specs.Notes.{is_name, ends, forgets};
 ghost use Rattle.wp_core.specs.Entries.{transaction_of};
 ghost use Rattle.wp_core.specs.Sound.Views.{guarded_by};
 ghost use Rattle.wp_machine.specs.Machine.{step_of};
+ghost use Rattle.wp_actor.specs.Turns as turns;
 ghost use Rattle.wp_machine.specs.Parts as parts;
 ghost use Rattle.wp_machine.specs.Endings as endings;
 
@@ -15,12 +16,12 @@ use crate::actor::{Actor, Participant};
 use crate::step::{
     Kind, LocksStep, PreparedStep, StoreStep, TablesStep, TurnStep, WordStep, WriteStep,
 };
-use crate::turn::Turn;
 use crate::views::{Fact, Noted};
 use crate::world::World;
 use crate::writes::entry_at;
 use std::alloc::{AllocError, Global};
 use std::marker::Model;
+use wp_actor::Turn;
 use wp_model::{Entry, Name};
 
 /// The bytes of a name, or none.
@@ -182,7 +183,7 @@ pub fn ending_of(world: &World, kind: &Kind) -> Result<Ending, AllocError>
 
 impl Ending {
     fn ends_guard(&self, turn: Turn) -> bool
-        ensures { result ≡ endings.ends_guard self.now (parts.turn_of turn) }
+        ensures { result ≡ endings.ends_guard self.now (turns.turn_of turn) }
     {
         match self {
             Ending::Guard(given) => turn.index() == given.index(),

@@ -49,8 +49,9 @@ pub use step::{
     TablesStep, TurnStep, WordStep, WriteStep,
 };
 pub use store::{Installed, InstalledEdit, StoreTable};
-pub use turn::{Holders, Turn};
+pub use turn::Holders;
 pub use versions::versions_of_next;
 pub use views::{Account, Event, Fact, Found, Noted};
 pub use world::World;
+pub use wp_actor::Turn;
 pub use writes::WriteTable;

@@ -1,6 +1,6 @@
 use crate::store::InstalledEdit;
-use crate::turn::Turn;
 use crate::views::{Account, Fact};
+use wp_actor::Turn;
 use wp_judge::Load;
 use wp_model::{Batch, Entry, Holder, Key, Name, Seq, Version};
 

@@ -1,26 +1,9 @@
 ghost use Rattle.std.specs.Prelude.{◌≡◌, true};
 ghost use Rattle.wp_core.specs.Turns.{turn_holder, with_holder, Holds, all_free};
-ghost use Rattle.wp_core.specs.Changes.{turn_index};
-ghost use Rattle.wp_machine.specs.Parts.{turn_of};
+ghost use Rattle.wp_actor.specs.Turns.{turn_of};
 
 use std::marker::Model;
-
-/// One of the six turns. Who holds it reads and changes the table that it guards, and nobody else does.
-#[derive(Clone, Copy, Debug, PartialEq, Eq)]
-pub enum Turn {
-    /// The history and its log.
-    Write,
-    /// The tables of prepared transactions.
-    Prepared,
-    /// The live snapshots with the old commit map.
-    Snapshots,
-    /// The versions.
-    Store,
-    /// Names, keys and labels.
-    Locks,
-    /// The manifest and the table files.
-    Tables,
-}
+use wp_actor::Turn;
 
 /// Of each turn the actor that holds it, if one does.
 #[derive(Clone, Copy)]
@@ -41,21 +24,6 @@ impl Model for Holders {
     ghost view = { λ h. record { write = h.write; prepared = h.prepared; snapshots = h.snapshots; store = h.store; locks = h.locks; tables = h.tables } };
 
     ghost inverse = { λ h. record { write = h.write; prepared = h.prepared; snapshots = h.snapshots; store = h.store; locks = h.locks; tables = h.tables } };
-}
-
-impl Turn {
-    pub fn index(self) -> u8
-        ensures { result ≡ turn_index (turn_of self) }
-    {
-        match self {
-            Turn::Write => 0,
-            Turn::Prepared => 1,
-            Turn::Snapshots => 2,
-            Turn::Store => 3,
-            Turn::Locks => 4,
-            Turn::Tables => 5,
-        }
-    }
 }
 
 impl Holders {

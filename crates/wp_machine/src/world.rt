@@ -47,7 +47,7 @@ impl Model for World {
     ghost use Rattle.wp_model.specs.Snapshots.{snapshots_code};
     ghost use Rattle.wp_model.specs.LockTables.{lock_tables_code};
     ghost use Rattle.wp_core.specs.World.{World};
-    ghost use Rattle.wp_machine.specs.Codes.{transactions_code};
+    ghost use Rattle.wp_actor.specs.Codes.{transactions_code};
 
     ghost Value = { World };
 

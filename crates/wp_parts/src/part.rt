@@ -1,7 +1,7 @@
 //! What lies in the slot of a turn.
 ghost use Rattle.std.specs.Prelude.{◌≡◌, true, List, is_some, IfSome};
 ghost use Rattle.wp_core.specs.Tables as table;
-ghost use Rattle.wp_machine.specs.Parts.{turn_of};
+ghost use Rattle.wp_actor.specs.Turns.{turn_of};
 ghost use Rattle.wp_parts.specs.declared.part.Part.{Part};
 ghost use Rattle.wp_parts.specs.Parts.{content, tells, IsAnchored};
 

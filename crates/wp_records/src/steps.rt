@@ -20,7 +20,7 @@ ghost use Rattle.wp_records.specs.Writing.{KnowsWords};
 
 use std::marker::Brand;
 use std::sync::Wait;
-use wp_machine::Turn;
+use wp_actor::Turn;
 use wp_model::Seq;
 use wp_outside::Disk;
 use wp_parts::{Log, Part, Stock};

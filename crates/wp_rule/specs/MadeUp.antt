@@ -10,8 +10,8 @@ use Rattle.wp_model.specs.PreparedTables.{nothing_prepared}
 use Rattle.wp_core.specs.Turns.{all_free}
 use Rattle.wp_core.specs.Tables.{Content}
 use Rattle.wp_core.specs.World.{World, new_actor, content_of}
-use Rattle.wp_machine.specs.declared.turn.Turn as code
-use Rattle.wp_machine.specs.Parts.{turn_of}
+use Rattle.wp_actor.specs.declared.turn.Turn as code
+use Rattle.wp_actor.specs.Turns.{turn_of}
 
 -- k gets the value v
 abbrev pub one_write : List Entry

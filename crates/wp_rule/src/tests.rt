@@ -1,7 +1,7 @@
 //! Words over a made-up store. What lies in a slot is the name of its turn.
 ghost use Rattle.std.specs.Prelude.{◌≡◌, [], ◌∷◌, IfOk, true};
 ghost use Rattle.wp_core.specs.World.{new_actor};
-ghost use Rattle.wp_machine.specs.declared.turn.Turn.TheVariants as turn;
+ghost use Rattle.wp_actor.specs.declared.turn.Turn.TheVariants as turn;
 ghost use Rattle.wp_rule.specs.MadeUp.{made_up_table, one_write, client};
 
 use crate::{HoldsPart, Parts, Turn, WordSeat, Words};

@@ -1,7 +1,7 @@
 //! Turns: a seat takes a turn with the value behind it, and gives both.
 ghost use Rattle.std.specs.Prelude.{◌≡◌, ◌∷◌, true};
 ghost use Rattle.wp_core.specs.Changes.{turn_index};
-ghost use Rattle.wp_machine.specs.Parts.{turn_of};
+ghost use Rattle.wp_actor.specs.Turns.{turn_of};
 ghost use Rattle.wp_shared.specs.Turns.{Taken, MayBeGiven, Given};
 
 use crate::held::Held;

@@ -16,10 +16,10 @@ use crate::actor::{Actor, Transaction};
 use crate::effects::turn::hold;
 use crate::locks::LockTables;
 use crate::step::LocksStep;
-use crate::turn::Turn;
 use crate::views::{Account, Event, Found};
 use crate::world::World;
 use std::alloc::{AllocError, Global};
+use wp_actor::Turn;
 use wp_model::{Holder, Key, Name, Seq};
 
 /// The transaction is the actor's, and what made it so stays in its past.

@@ -7,9 +7,9 @@ ghost use Rattle.wp_machine.specs.Effect.{IsEffect};
 use crate::actor::Actor;
 use crate::effects::turn::hold;
 use crate::step::PreparedStep;
-use crate::turn::Turn;
 use crate::world::World;
 use std::alloc::AllocError;
+use wp_actor::Turn;
 
 pub(crate) fn prepared(
     world: &mut World,

@@ -10,9 +10,9 @@ ghost use Rattle.wp_machine.specs.Effect.{IsEffect};
 use crate::actor::{Actor, Registration};
 use crate::effects::turn::hold;
 use crate::step::ReaderStep;
-use crate::turn::Turn;
 use crate::world::World;
 use std::alloc::AllocError;
+use wp_actor::Turn;
 use wp_judge::{InPrepared, Load, Observed};
 use wp_model::Seq;
 

@@ -8,9 +8,9 @@ ghost use Rattle.wp_machine.specs.Effect.{IsEffect, released_world};
 use crate::actor::{Actor, Registration};
 use crate::effects::turn::hold;
 use crate::step::SnapshotsStep;
-use crate::turn::Turn;
 use crate::world::World;
 use std::alloc::AllocError;
+use wp_actor::Turn;
 use wp_model::Seq;
 
 fn register_again(world: &mut World, actor: &mut Actor, number: Seq) -> Result<(), AllocError>

@@ -7,10 +7,10 @@ ghost use Rattle.wp_machine.specs.Effect.{IsEffect};
 use crate::actor::Actor;
 use crate::effects::turn::hold;
 use crate::step::StoreStep;
-use crate::turn::Turn;
 use crate::versions::versions_of_next;
 use crate::world::World;
 use std::alloc::AllocError;
+use wp_actor::Turn;
 use wp_model::{Seq, Version};
 
 fn add_versions(world: &mut World, actor: &mut Actor) -> Result<(), AllocError>

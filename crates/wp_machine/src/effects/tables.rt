@@ -9,10 +9,10 @@ use crate::due::tables_due;
 use crate::effects::turn::hold;
 use crate::step::TablesStep;
 use crate::store::{InstalledEdit, copy_edit};
-use crate::turn::Turn;
 use crate::views::{Event, Found};
 use crate::world::World;
 use std::alloc::AllocError;
+use wp_actor::Turn;
 
 fn install(
     world: &mut World,

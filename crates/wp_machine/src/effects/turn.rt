@@ -3,16 +3,16 @@ ghost use Rattle.std.specs.Prelude.{◌≡◌, IfOk, OnOk, Some};
 ghost use Rattle.wp_core.specs.World.{content_of};
 ghost use Rattle.wp_core.specs.Changes.{held_with};
 ghost use Rattle.wp_core.specs.Steps as step;
-ghost use Rattle.wp_machine.specs.Parts.{turn_of};
+ghost use Rattle.wp_actor.specs.Turns.{turn_of};
 ghost use Rattle.wp_machine.specs.Machine.{turn_step};
 ghost use Rattle.wp_machine.specs.Effect.{IsEffect};
 
 use crate::actor::Actor;
 use crate::content::Content;
 use crate::step::TurnStep;
-use crate::turn::Turn;
 use crate::world::World;
 use std::alloc::AllocError;
+use wp_actor::Turn;
 
 /// The table that the turn guards.
 fn content_of(world: &World, turn: Turn) -> Result<Content, AllocError>

@@ -10,9 +10,9 @@ ghost use Rattle.wp_machine.specs.Effect.{IsEffect, published_world};
 use crate::actor::Actor;
 use crate::effects::turn::hold;
 use crate::step::WordStep;
-use crate::turn::Turn;
 use crate::world::World;
 use std::alloc::AllocError;
+use wp_actor::Turn;
 use wp_model::Seq;
 
 fn store_published(world: &mut World, actor: &mut Actor) -> Result<(), AllocError>

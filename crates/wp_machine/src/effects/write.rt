@@ -8,10 +8,10 @@ use crate::actor::Actor;
 use crate::copies::copy_entries;
 use crate::effects::turn::hold;
 use crate::step::WriteStep;
-use crate::turn::Turn;
 use crate::views::{Event, Found};
 use crate::world::World;
 use std::alloc::AllocError;
+use wp_actor::Turn;
 use wp_model::{Entry, Seq};
 
 fn make_pending(world: &mut World, actor: &mut Actor, entries: Vec<Entry>) -> Result<(), AllocError>

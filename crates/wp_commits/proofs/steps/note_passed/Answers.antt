@@ -1,7 +1,5 @@
-use Rattle.std.proofs.Common.{sym, subst}
-use Rattle.wp_rule.specs.Knows.{KnowsFact}
 use Rattle.wp_commits.proofs.Going.{knows_passed}
 use Rattle.wp_commits.proofs.steps.note_passed.Goals as goal
 
 pub note-requires-clause-known : goal.note-requires-clause-known
-note-requires-clause-known g c = subst (KnowsFact c.args.seat.now.knows) (sym c.of.ensures) (knows_passed c.args.seat.now.knows c.args.log.now.table c.args.place c.args.p c.args.c c.requires.held c.requires.passed)
+note-requires-clause-known g c = knows_passed c.args.seat.now.knows c.args.log.now.table c.args.place c.args.p c.args.c c.requires.held c.requires.passed

@@ -1,4 +1,4 @@
-use Rattle.wp_machine.specs.Parts.{turn_of}
+use Rattle.wp_actor.specs.Turns.{turn_of}
 use Rattle.wp_rule.specs.Words.{place_under}
 use Rattle.wp_rule.proofs.words.Words.claim.Given as goal
 

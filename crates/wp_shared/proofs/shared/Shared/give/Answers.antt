@@ -5,7 +5,7 @@ use Rattle.wp_core.specs.Tables.{Content}
 use Rattle.wp_core.specs.Tables as table
 use Rattle.wp_core.specs.World.{Actor}
 use Rattle.wp_core.specs.Changes.{turn_index}
-use Rattle.wp_machine.specs.Parts.{turn_of}
+use Rattle.wp_actor.specs.Turns.{turn_of}
 use Rattle.wp_parts.specs.declared.part.Part.{Part}
 use Rattle.wp_parts.specs.declared.part.Part.TheVariants as part
 use Rattle.wp_shared.specs.Seats.{SeatState}

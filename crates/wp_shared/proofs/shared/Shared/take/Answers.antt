@@ -1,7 +1,7 @@
 use Rattle.std.proofs.Common.{◌≡◌, ℕ, List, sym, ap, subst, ◌∙◌}
 use Rattle.atomic_table.specs.Table.{Me}
 use Rattle.wp_core.specs.World.{Actor}
-use Rattle.wp_machine.specs.Parts.{turn_of}
+use Rattle.wp_actor.specs.Turns.{turn_of}
 use Rattle.wp_rule.specs.Words.{place_of}
 use Rattle.wp_parts.specs.declared.part.Part.{Part}
 use Rattle.wp_parts.specs.Parts.{content}

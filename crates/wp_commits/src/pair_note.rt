@@ -1,0 +1,12 @@
+use wp_model::Seq;
+
+/// What is noted of the pair of the word at this place, before it may be evicted.
+#[derive(Clone, Copy, Debug, PartialEq, Eq)]
+pub(crate) enum PairNote {
+    /// Its decision is at most the bound.
+    Passed(usize, Seq, Seq),
+    /// The old commit map has it under each live snapshot that it overlaps.
+    InOldCommits(usize, Seq, Seq),
+    /// It is of no prepared transaction, or a delayed commit.
+    Apart(usize, Seq, Seq),
+}
