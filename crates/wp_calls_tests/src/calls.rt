@@ -3,13 +3,11 @@ ghost use Rattle.wp_calls_tests.specs.Ready.{IsReady, GoesOn};
 
 use crate::clients::Client;
 use crate::outcomes::Outcome;
-use crate::reads::{Deciding, decide, get, max, release, snap};
-use crate::transactions::{
-    abandon, begin, commit, commit_now, del, hear, leave, prepare, put, rollback, take, tell, write,
-};
+use crate::reads::{Deciding, decide, get, release, snap};
+use crate::transactions::{begin, commit, leave, prepare, put, rollback, take, write};
 use std::alloc::Global;
 use std::sync::Wait;
-use wp_outside::MemDisk;
+use wp_memory::MemDisk;
 use wp_shared::Shared;
 
 /// A call of a client.
@@ -17,26 +15,19 @@ use wp_shared::Shared;
 pub(super) enum Call {
     Begin(&'static [u8]),
     Put(&'static [u8], &'static [u8]),
-    Del(&'static [u8]),
-    Abandon,
     Prepare,
-    /// The open transaction is committed.
-    CommitNow,
-    /// The prepared one is.
+    /// The prepared transaction is committed.
     Commit,
     Rollback,
     Leave,
     Take(&'static [u8]),
     Write(&'static [u8], &'static [u8]),
-    Tell(&'static [u8]),
-    Hear(&'static [u8]),
     Snap,
     Release,
     /// At the client's snapshot, or at one for this alone.
     Get(&'static [u8]),
     /// The client's version, at its snapshot.
     Decide(Deciding),
-    Max,
 }
 
 fn call_once<R: Wait>(
@@ -52,22 +43,16 @@ fn call_once<R: Wait>(
     match call {
         Call::Begin(name) => begin(store, rt, alloc, client, name),
         Call::Put(key, value) => put(store, rt, alloc, client, key, value),
-        Call::Del(key) => del(store, rt, alloc, client, key),
-        Call::Abandon => abandon(store, rt, client),
         Call::Prepare => prepare(store, rt, alloc, client),
-        Call::CommitNow => commit_now(store, rt, alloc, client),
         Call::Commit => commit(store, rt, alloc, client),
         Call::Rollback => rollback(store, rt, alloc, client),
         Call::Leave => leave(store, rt, client),
         Call::Take(name) => take(store, rt, alloc, client, name),
         Call::Write(key, value) => write(store, rt, alloc, client, key, value),
-        Call::Tell(label) => tell(store, rt, alloc, client, label),
-        Call::Hear(label) => hear(store, rt, alloc, client, label),
         Call::Snap => snap(store, rt, client),
         Call::Release => release(store, rt, client),
         Call::Get(key) => get(store, rt, alloc, client, key),
         Call::Decide(how) => decide(store, rt, client, how),
-        Call::Max => max(store, client),
     }
 }
 

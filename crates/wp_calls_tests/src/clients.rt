@@ -3,8 +3,8 @@ ghost use Rattle.std.specs.Prelude.{None};
 ghost use Rattle.wp_calls_tests.specs.Ready.{IsReady, GoesOn};
 
 use std::sync::Wait;
+use wp_memory::MemDisk;
 use wp_model::Seq;
-use wp_outside::MemDisk;
 use wp_read::Snapshot;
 use wp_shared::{Seat, Shared};
 use wp_txn::{OpenTxn, PreparedTxn};

@@ -1,30 +1,23 @@
 //! Tests of the calls on a shared store, over devices in memory.
 //!
 //! A script is a list of lines: a call of one of two clients, whose seats are on one thread, and what it says. A store is opened,
-//! the lines are played, and the first line that says something else is the answer, with the history that is left. A call that is
-//! refused for want of memory is made again: so each script also tells, where an allocation fails, whether the store goes on.
+//! the lines are played, and the first line that says something else is the answer. A call that is refused for want of memory is
+//! made again: so each script also tells, where an allocation fails, whether the store goes on. What clients of the program can
+//! be answered is said by cases; here a reader's loads stand apart, and others come between them.
 //!
 //! The crate has tests alone. They stand above what they test, so that a check of the tests proves nothing of it again.
 #![tactic(auto)]
 
 #[cfg(test)]
-mod bounds;
-#[cfg(test)]
 mod calls;
 #[cfg(test)]
 mod clients;
-#[cfg(test)]
-mod keys;
-#[cfg(test)]
-mod logs;
 #[cfg(test)]
 mod outcomes;
 #[cfg(test)]
 mod readers;
 #[cfg(test)]
 mod reads;
-#[cfg(test)]
-mod rows;
 #[cfg(test)]
 mod scripts;
 #[cfg(test)]

@@ -1,5 +1,5 @@
 //! What a call gives, and what it is to say.
-use wp_model::{Holder, Seq, Value};
+use wp_model::{Seq, Value};
 use wp_txn::TxnError;
 
 /// What is to be loaded next, where a version is not decided yet.
@@ -32,13 +32,6 @@ impl Outcome {
         }
     }
 
-    pub(super) fn at(answer: Result<Seq, TxnError>) -> Outcome {
-        match answer {
-            Ok(n) => Outcome::At(n),
-            Err(why) => Outcome::Refused(why),
-        }
-    }
-
     /// Memory was wanting.
     pub(super) fn no_memory() -> Outcome {
         Outcome::Refused(TxnError::Memory)
@@ -58,38 +51,6 @@ pub(super) enum Said {
     Missing,
     Decided(bool),
     Asks(Next),
-    State,
-    Taken(&'static [u8]),
-    BusyTxn(&'static [u8]),
-    BusyClient(&'static [u8]),
-    TooMany,
-    Silent,
-    Unknown(&'static [u8], Seq),
-    InUse(&'static [u8]),
-    /// The published number and the limit.
-    Full(Seq, Seq),
-    LogFault,
-    Stopped(Seq),
-}
-
-fn is_refused_so(why: &TxnError, said: Said) -> bool {
-    match (why, said) {
-        (TxnError::Taken(name), Said::Taken(wanted)) => name.bytes() == wanted,
-        (TxnError::Busy(Holder::Txn(name)), Said::BusyTxn(wanted)) => name.bytes() == wanted,
-        (TxnError::Busy(Holder::Client(name)), Said::BusyClient(wanted)) => name.bytes() == wanted,
-        (TxnError::TooMany, Said::TooMany) => true,
-        (TxnError::Silent, Said::Silent) => true,
-        (TxnError::Unknown { name, at }, Said::Unknown(wanted, n)) => {
-            name.bytes() == wanted && *at == n
-        }
-        (TxnError::InUse(name), Said::InUse(wanted)) => name.bytes() == wanted,
-        (TxnError::NumbersFull { published, limit }, Said::Full(n, most)) => {
-            *published == n && *limit == most
-        }
-        (TxnError::LogFault, Said::LogFault) => true,
-        (TxnError::Stopped(n), Said::Stopped(wanted)) => *n == wanted,
-        _ => false,
-    }
 }
 
 /// Whether the outcome is what is to be said.
@@ -101,8 +62,6 @@ pub(super) fn is_so(outcome: &Outcome, said: Said) -> bool {
         (Outcome::Found(None), Said::Missing) => true,
         (Outcome::Decided(visible), Said::Decided(wanted)) => *visible == wanted,
         (Outcome::Asks(next), Said::Asks(wanted)) => *next == wanted,
-        (Outcome::State, Said::State) => true,
-        (Outcome::Refused(why), _) => is_refused_so(why, said),
         _ => false,
     }
 }

@@ -7,7 +7,6 @@ use crate::calls::Call;
 use crate::outcomes::{Next, Said};
 use crate::reads::Deciding;
 use crate::scripts::{Line, Step, played};
-use crate::stores::empty;
 use std::test::*;
 
 const PREPARE_AT_3: &[Line] = &[
@@ -263,8 +262,7 @@ const CASES: [(&str, &[Line]); 6] = [
 #[test]
 fn a_split_reader_decides_as_at_once(rt: HostRuntime) -> Result<(), Fail> {
     for (name, lines) in CASES {
-        let (wrong, _) = played(&rt, rt.alloc(), empty(0), lines)?;
-        assert_eq!(rt; wrong, None, "{name}");
+        assert_eq!(rt; played(&rt, rt.alloc(), lines)?, None, "{name}");
     }
     Ok(())
 }

@@ -10,8 +10,8 @@ use crate::clients::Client;
 use crate::outcomes::{Next, Outcome};
 use std::alloc::Global;
 use std::sync::Wait;
+use wp_memory::MemDisk;
 use wp_model::{Key, Seq};
-use wp_outside::MemDisk;
 use wp_read::{Free, Look, Snapshot};
 use wp_shared::{Note, Seat, Shared};
 
@@ -260,31 +260,6 @@ pub(super) fn decide<R: Wait>(
             Outcome::State,
         ),
     }
-}
-
-/// Loads the evicted bound.
-pub(super) fn max(store: &Shared<MemDisk>, client: Client) -> (Client, Outcome)
-    requires { IsReady store.now client.seat client.begun client.prepared client.snapshot client.version }
-    ensures { GoesOn store.now client.seat result.0.seat result.0.begun result.0.prepared result.0.snapshot result.0.version }
-{
-    let Client {
-        mut seat,
-        begun,
-        prepared,
-        snapshot,
-        version,
-    } = client;
-    let m = store.max(&mut seat);
-    (
-        Client {
-            seat,
-            begun,
-            prepared,
-            snapshot,
-            version,
-        },
-        Outcome::At(m),
-    )
 }
 
 /// A note of what the client has seen.

@@ -5,12 +5,11 @@ use crate::calls::{Call, make_call};
 use crate::clients::{Client, let_go};
 use crate::outcomes::{Outcome, Said, is_so};
 use crate::reads::{learn, noted};
-use crate::stores::{Given, ended, opened};
+use crate::stores::{ended, opened};
 use std::alloc::Global;
 use std::sync::Wait;
 use std::test::Fail;
-use wp_history::History;
-use wp_outside::MemDisk;
+use wp_memory::MemDisk;
 use wp_shared::Shared;
 
 /// What comes next.
@@ -91,18 +90,16 @@ fn play<R: Wait>(
     (one, two, None)
 }
 
-/// Opens a store, plays the lines and ends it. The answer is the place of the first line that says something else, and the history
-/// that is left.
+/// Opens a store, plays the lines and ends it. The answer is the place of the first line that says something else.
 pub(super) fn played<R: Wait>(
     rt: &R,
     alloc: Global,
-    given: Given,
     lines: &[Line],
-) -> Result<(Option<usize>, History), Fail> {
-    let (store, first, second) = opened(alloc, given)?;
+) -> Result<Option<usize>, Fail> {
+    let (store, first, second) = opened(alloc)?;
     let (first, second, wrong) = play(&store, rt, alloc, first, second, lines);
     let first = let_go(&store, rt, first);
     let second = let_go(&store, rt, second);
-    let history = ended(alloc, store, first, second)?;
-    Ok((wrong, history))
+    ended(alloc, store, first, second)?;
+    Ok(wrong)
 }

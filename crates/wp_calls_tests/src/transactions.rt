@@ -6,8 +6,8 @@ use crate::clients::Client;
 use crate::outcomes::Outcome;
 use std::alloc::Global;
 use std::sync::Wait;
+use wp_memory::MemDisk;
 use wp_model::{Change, Key, Name, Value};
-use wp_outside::MemDisk;
 use wp_shared::Shared;
 use wp_txn::Refused;
 
@@ -122,93 +122,6 @@ pub(super) fn put<R: Wait>(
     }
 }
 
-/// Deletes the key, in the open transaction.
-pub(super) fn del<R: Wait>(
-    store: &Shared<MemDisk>,
-    rt: &R,
-    alloc: Global,
-    client: Client,
-    key: &'static [u8],
-) -> (Client, Outcome)
-    requires { IsReady store.now client.seat client.begun client.prepared client.snapshot client.version }
-    ensures { GoesOn store.now client.seat result.0.seat result.0.begun result.0.prepared result.0.snapshot result.0.version }
-{
-    let Ok(key) = Key::read(alloc, key) else {
-        return (client, Outcome::no_memory());
-    };
-    let Client {
-        mut seat,
-        begun,
-        prepared,
-        snapshot,
-        version,
-    } = client;
-    match begun {
-        Some(mut txn) => {
-            let outcome = Outcome::of(wp_txn::del(store, rt, alloc, &mut seat, &mut txn, &key));
-            (
-                Client {
-                    seat,
-                    begun: Some(txn),
-                    prepared,
-                    snapshot,
-                    version,
-                },
-                outcome,
-            )
-        }
-        None => (
-            Client {
-                seat,
-                begun: None,
-                prepared,
-                snapshot,
-                version,
-            },
-            Outcome::State,
-        ),
-    }
-}
-
-/// Drops the open transaction.
-pub(super) fn abandon<R: Wait>(store: &Shared<MemDisk>, rt: &R, client: Client) -> (Client, Outcome)
-    requires { IsReady store.now client.seat client.begun client.prepared client.snapshot client.version }
-    ensures { GoesOn store.now client.seat result.0.seat result.0.begun result.0.prepared result.0.snapshot result.0.version }
-{
-    let Client {
-        mut seat,
-        begun,
-        prepared,
-        snapshot,
-        version,
-    } = client;
-    match begun {
-        Some(txn) => {
-            wp_txn::abandon(store, rt, &mut seat, txn);
-            (
-                Client {
-                    seat,
-                    begun: None,
-                    prepared,
-                    snapshot,
-                    version,
-                },
-                Outcome::Done,
-            )
-        }
-        None => (
-            Client {
-                seat,
-                begun: None,
-                prepared,
-                snapshot,
-                version,
-            },
-            Outcome::State,
-        ),
-    }
-}
-
 /// Leaves the prepared transaction.
 pub(super) fn leave<R: Wait>(store: &Shared<MemDisk>, rt: &R, client: Client) -> (Client, Outcome)
     requires { IsReady store.now client.seat client.begun client.prepared client.snapshot client.version }
@@ -308,74 +221,6 @@ pub(super) fn take<R: Wait>(
     }
 }
 
-/// Tells under the label how much the client has seen.
-pub(super) fn tell<R: Wait>(
-    store: &Shared<MemDisk>,
-    rt: &R,
-    alloc: Global,
-    client: Client,
-    label: &'static [u8],
-) -> (Client, Outcome)
-    requires { IsReady store.now client.seat client.begun client.prepared client.snapshot client.version }
-    ensures { GoesOn store.now client.seat result.0.seat result.0.begun result.0.prepared result.0.snapshot result.0.version }
-{
-    let Ok(label) = Name::read(alloc, label) else {
-        return (client, Outcome::no_memory());
-    };
-    let Client {
-        mut seat,
-        begun,
-        prepared,
-        snapshot,
-        version,
-    } = client;
-    let outcome = Outcome::at(wp_txn::tell(store, rt, alloc, &mut seat, &label));
-    (
-        Client {
-            seat,
-            begun,
-            prepared,
-            snapshot,
-            version,
-        },
-        outcome,
-    )
-}
-
-/// Hears what is under the label.
-pub(super) fn hear<R: Wait>(
-    store: &Shared<MemDisk>,
-    rt: &R,
-    alloc: Global,
-    client: Client,
-    label: &'static [u8],
-) -> (Client, Outcome)
-    requires { IsReady store.now client.seat client.begun client.prepared client.snapshot client.version }
-    ensures { GoesOn store.now client.seat result.0.seat result.0.begun result.0.prepared result.0.snapshot result.0.version }
-{
-    let Ok(label) = Name::read(alloc, label) else {
-        return (client, Outcome::no_memory());
-    };
-    let Client {
-        mut seat,
-        begun,
-        prepared,
-        snapshot,
-        version,
-    } = client;
-    let outcome = Outcome::at(wp_txn::hear(store, rt, &mut seat, &label));
-    (
-        Client {
-            seat,
-            begun,
-            prepared,
-            snapshot,
-            version,
-        },
-        outcome,
-    )
-}
-
 /// Puts the value under the key at once.
 pub(super) fn write<R: Wait>(
     store: &Shared<MemDisk>,
@@ -470,59 +315,6 @@ pub(super) fn prepare<R: Wait>(
             Client {
                 seat,
                 begun,
-                prepared,
-                snapshot,
-                version,
-            },
-            Outcome::State,
-        ),
-    }
-}
-
-/// Commits the open transaction.
-pub(super) fn commit_now<R: Wait>(
-    store: &Shared<MemDisk>,
-    rt: &R,
-    alloc: Global,
-    client: Client,
-) -> (Client, Outcome)
-    requires { IsReady store.now client.seat client.begun client.prepared client.snapshot client.version }
-    ensures { GoesOn store.now client.seat result.0.seat result.0.begun result.0.prepared result.0.snapshot result.0.version }
-{
-    let Client {
-        mut seat,
-        begun,
-        prepared,
-        snapshot,
-        version,
-    } = client;
-    match begun {
-        Some(txn) => match wp_txn::commit_now(store, rt, alloc, &mut seat, txn) {
-            Ok(n) => (
-                Client {
-                    seat,
-                    begun: None,
-                    prepared,
-                    snapshot,
-                    version: Some(n),
-                },
-                Outcome::At(n),
-            ),
-            Err(Refused { txn, why }) => (
-                Client {
-                    seat,
-                    begun: Some(txn),
-                    prepared,
-                    snapshot,
-                    version,
-                },
-                Outcome::Refused(why),
-            ),
-        },
-        None => (
-            Client {
-                seat,
-                begun: None,
                 prepared,
                 snapshot,
                 version,

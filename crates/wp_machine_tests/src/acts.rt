@@ -3,8 +3,8 @@ use std::alloc::Global;
 use std::test::Fail;
 use wp_judge::Load;
 use wp_machine::{
-    ActorsStep, Kind, LocksStep, OwnStep, PreparedStep, ReaderStep, SnapshotsStep, StoreStep, Turn,
-    TurnStep, WordStep, WriteStep,
+    ActorsStep, Fact, Kind, LocksStep, Noted, OwnStep, PreparedStep, ReaderStep, SnapshotsStep,
+    StoreStep, Turn, TurnStep, WordStep, WriteStep,
 };
 use wp_model::{Batch, Change, Entry, Key, Name, Seq, Value};
 
@@ -30,6 +30,8 @@ pub(super) enum Act {
     AddOldCommit(Seq, Seq),
     AddDelayedCommit(Seq, Seq),
     TakeOut(Seq),
+    /// It is noted that the number left the prepared tables.
+    NoteLeft(Seq),
     LoadPublished,
     /// The published number is registered with this smallest.
     Register(Seq),
@@ -194,6 +196,7 @@ pub(super) fn kind_of(alloc: Global, act: Act) -> Result<Kind, Fail> {
         Act::Lock(locking) => Ok(Kind::Locks(locks_step(alloc, locking)?)),
         Act::Pend(pending) => make_pending(alloc, pending),
         Act::SetBatch => set_batch(alloc),
+        Act::NoteLeft(p) => Ok(Kind::Own(OwnStep::Note(Fact::of(Noted::HasLeft(p))))),
         Act::AddVersions => Ok(Kind::Store(StoreStep::AddVersions)),
         Act::TakeVersions => Ok(Kind::Store(StoreStep::TakeVersions)),
         Act::Log => Ok(Kind::Write(WriteStep::LogPending)),

@@ -62,7 +62,9 @@ const TAKEN_OUT_BEFORE_PUBLISHED: &[Line] = &[
     ]),
     Line::Refused(Act::TakeOut(1)),
     Line::Play(&[&[Act::StoreWord, Act::Publish]]),
-    Line::Permitted(Act::TakeOut(1)),
+    Line::Refused(Act::NoteLeft(1)),
+    Line::Play(&[&[Act::TakeOut(1)]]),
+    Line::Permitted(Act::NoteLeft(1)),
 ];
 
 const GIVE: Act = Act::Give(Turn::Prepared);

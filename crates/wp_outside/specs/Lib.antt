@@ -1,12 +1,6 @@
-pub mod Counter
 pub mod Disk
 pub mod Faults
-pub mod Fits
 pub mod Images
-pub mod MemDisk
-pub mod MemSink
-pub mod MemSource
-pub mod Replay
 pub mod Sink
 pub mod Source
 pub mod Whole

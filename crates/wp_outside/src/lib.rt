@@ -1,21 +1,14 @@
 //! The outside of the store: where bytes come from, where they go, and the devices that keep them.
 //!
 //! Whatever is there may refuse a call, and says so by one refusal whose cause is a count of faults that rose.
-//! What it holds is known or not: the forms in memory show it, files and standard streams don't. A disk shows each
+//! What it holds is known or not: the forms of `wp_memory` show it, files and standard streams don't. A disk shows each
 //! of its moments: what a read gives, and what a crash may leave. Everything that the store promises about a crash
 //! is said of those.
 #![tactic(auto)]
 
-mod copy;
-mod counter;
 mod disk;
 mod failed;
 mod gate;
-mod gate_disk;
-mod hold_gate;
-mod mem_disk;
-mod mem_sink;
-mod mem_source;
 mod sink;
 mod source;
 mod whole;
@@ -23,14 +16,6 @@ mod whole;
 pub use disk::{Device, Disk, Disks};
 pub use failed::Failed;
 pub use gate::{Gate, OpenGate};
-pub use gate_disk::GateDisk;
-pub use hold_gate::{Hold, HoldGate, Until};
-pub use mem_disk::MemDisk;
-pub use mem_sink::MemSink;
-pub use mem_source::MemSource;
 pub use sink::Sink;
 pub use source::{Got, Source};
 pub use whole::{ReadError, read_all, write_all};
-
-#[cfg(test)]
-mod tests;

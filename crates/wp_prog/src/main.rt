@@ -8,9 +8,6 @@ use wp_outside::{Disks, OpenGate};
 use wp_real::{FileDisk, StdinSource, StdoutSink};
 use wp_run::{Status, run};
 
-#[cfg(test)]
-mod tests;
-
 /// The command line, the program's name first.
 fn words<R: Env + AllocGlobal>(rt: &R) -> Result<Vec<String>, Status> {
     match env::args(rt) {

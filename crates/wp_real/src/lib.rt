@@ -11,8 +11,6 @@ mod file_disk;
 mod read;
 mod stdin_source;
 mod stdout_sink;
-#[cfg(test)]
-mod tests;
 
 pub use file_disk::FileDisk;
 pub use stdin_source::StdinSource;

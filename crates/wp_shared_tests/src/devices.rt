@@ -5,8 +5,9 @@ ghost use Rattle.wp_open.specs.Parts.{PartsOpened};
 
 use std::alloc::Global;
 use std::test::Fail;
+use wp_memory::MemDisk;
 use wp_open::{Parts, open_parts};
-use wp_outside::{Disk, Disks, MemDisk};
+use wp_outside::{Disk, Disks};
 
 /// The log, with the put of `1` under `k`.
 pub(super) const LOG: &[u8; 32] =
@@ -20,36 +21,25 @@ pub(super) const MANIFEST: &[u8; 44] =
 pub(super) const TABLE: &[u8; 53] = b"WPTB\x01\0\0\0\x01\0\0\0\0\0\0\0\x01\0\0\0\0\0\0\0\x01\
     \0\x01\x01k\0\0\0\x01\x01\0\x011\0\0\0\0\0\0\0\x19\0\0\0\0\0\0\0\x25";
 
-/// A device with these bytes, whose calls with these numbers fail, counted from 1.
-pub(super) fn device(alloc: Global, bytes: &[u8], fails: &[u64]) -> Result<MemDisk, Fail> {
-    Ok(MemDisk::new(
-        alloc,
-        bytes.to_vec(alloc)?,
-        1000,
-        1000,
-        fails.to_vec(alloc)?,
-    )?)
+/// A device with these bytes.
+fn device(alloc: Global, bytes: &[u8]) -> Result<MemDisk, Fail> {
+    Ok(MemDisk::new(alloc, bytes.to_vec(alloc)?, 1000, 1000, Vec::new(alloc))?)
 }
 
-pub(super) fn devices(
-    alloc: Global,
-    log: &[u8],
-    manifest: &[u8],
-    tables: &[u8],
-) -> Result<Disks<MemDisk>, Fail> {
+fn devices(alloc: Global) -> Result<Disks<MemDisk>, Fail> {
     Ok(Disks {
-        log: device(alloc, log, &[])?,
-        manifest: device(alloc, manifest, &[])?,
-        tables: device(alloc, tables, &[])?,
+        log: device(alloc, LOG)?,
+        manifest: device(alloc, MANIFEST)?,
+        tables: device(alloc, TABLE)?,
     })
 }
 
-/// The parts of a store that has to open.
-pub(super) fn opened(alloc: Global, disks: Disks<MemDisk>) -> Result<Parts<MemDisk>, Fail>
+/// The parts of the store.
+pub(super) fn opened(alloc: Global) -> Result<Parts<MemDisk>, Fail>
     ensures { IfOk result (λ parts. (asked : ℕ) × (log : List Moment) × (manifest : List Moment) × (tables : List Moment)
         × PartsOpened asked log manifest tables parts.wal parts.history.entries parts.manifest (⟦<MemDisk as Disk>⟧.moments parts.tables) parts.store) }
 {
-    match open_parts(alloc, disks, 1) {
+    match open_parts(alloc, devices(alloc)?, 1) {
         Ok(parts) => Ok(parts),
         Err(refused) => Err(Fail::from(refused.why)),
     }

@@ -2,16 +2,20 @@
 ghost use Rattle.std.specs.Prelude.{◌≡◌, ◌∷◌, [], IfOk};
 ghost use Rattle.wp_shared.specs.Seats.{IsFree};
 
-use crate::devices::{LOG, MANIFEST, TABLE, devices, opened};
+use crate::devices::{LOG, MANIFEST, TABLE, opened};
 use std::alloc::Global;
 use std::sync::Wait;
 use std::test::*;
 use std::thread;
 use std::thread::Threads;
+use wp_locks::Locks;
+use wp_memory::MemDisk;
 use wp_model::Name;
-use wp_outside::{Disk, MemDisk};
-use wp_rule::Turn;
+use wp_outside::Disk;
+use wp_parts::{BehindTurn, Edits, Log, Part, Stock};
+use wp_prepared::Prepared;
 use wp_shared::{Finished, Note, Seat, Shared};
+use wp_snaps::Snaps;
 
 /// The store, and its first seat.
 fn shared(alloc: Global) -> Result<(Shared<MemDisk>, Seat<MemDisk>), Fail>
@@ -19,13 +23,7 @@ fn shared(alloc: Global) -> Result<(Shared<MemDisk>, Seat<MemDisk>), Fail>
     ensures free { IfOk result (λ r. IsFree r.0.table r.1) }
     ensures first { IfOk result (λ r. (r.1.by ≡ 0) × (r.1.knows.joined ≡ []) × (r.1.knows.made ≡ 0)) }
 {
-    match Shared::new(
-        alloc,
-        Name::read(alloc, b"a")?,
-        opened(alloc, devices(alloc, LOG, MANIFEST, TABLE)?)?,
-        0,
-        1000,
-    ) {
+    match Shared::new(alloc, Name::read(alloc, b"a")?, opened(alloc)?, 0, 1000) {
         Ok(made) => Ok(made),
         Err(_) => Err(Fail::from("no memory for the store")),
     }
@@ -83,48 +81,28 @@ fn seats_tell_each_other(rt: HostRuntime) -> Result<(), Fail> {
     Ok(())
 }
 
-/// Takes the turn, and gives it.
-fn pass<R: Wait>(rt: &R, store: &Shared<MemDisk>, seat: &mut Seat<MemDisk>, turn: Turn)
+/// Takes the value's turn, and gives it.
+fn pass<G: BehindTurn<Part<MemDisk>>, R: Wait>(
+    rt: &R,
+    store: &Shared<MemDisk>,
+    seat: &mut Seat<MemDisk>,
+)
     requires { IsFree store.now.table seat.old }
     ensures { IsFree store.now.table seat.new }
 {
-    let held = store.take(rt, seat, turn);
-    store.give(seat, held);
-}
-
-fn pass_often<R: Wait>(rt: &R, store: &Shared<MemDisk>, seat: &mut Seat<MemDisk>, turn: Turn)
-    requires { IsFree store.now.table seat.old }
-{
-    for _ in 0..200 {
-        pass(rt, store, seat, turn);
-    }
-}
-
-/// Takes the six turns in the order in which a call holds them, and gives them in the opposite order.
-fn hold_six<R: Wait>(rt: &R, store: &Shared<MemDisk>, seat: &mut Seat<MemDisk>)
-    requires { IsFree store.now.table seat.old }
-    ensures { seat.new.turns ≡ [] }
-{
-    let tables = store.take(rt, seat, Turn::Tables);
-    let log = store.take(rt, seat, Turn::Write);
-    let prepared = store.take(rt, seat, Turn::Prepared);
-    let snaps = store.take(rt, seat, Turn::Snapshots);
-    let stock = store.take(rt, seat, Turn::Store);
-    let locks = store.take(rt, seat, Turn::Locks);
-    store.give(seat, locks);
-    store.give(seat, stock);
-    store.give(seat, snaps);
-    store.give(seat, prepared);
-    store.give(seat, log);
-    store.give(seat, tables);
+    let value = store.take_turn::<G, R>(rt, seat);
+    store.give_turn(seat, value);
 }
 
 #[test]
 fn turns_are_taken_and_given(rt: HostRuntime) -> Result<(), Fail> {
     let (store, mut seat) = shared(rt.alloc())?;
-    pass_often(&rt, &store, &mut seat, Turn::Write);
-    let (store, mut seat) = shared(rt.alloc())?;
-    hold_six(&rt, &store, &mut seat);
+    pass::<Log<MemDisk>, HostRuntime>(&rt, &store, &mut seat);
+    pass::<Prepared, HostRuntime>(&rt, &store, &mut seat);
+    pass::<Snaps, HostRuntime>(&rt, &store, &mut seat);
+    pass::<Stock, HostRuntime>(&rt, &store, &mut seat);
+    pass::<Locks, HostRuntime>(&rt, &store, &mut seat);
+    pass::<Edits<MemDisk>, HostRuntime>(&rt, &store, &mut seat);
     Ok(())
 }
 

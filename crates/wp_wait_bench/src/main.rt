@@ -12,10 +12,8 @@ use crate::writers::count_written;
 use std::alloc::Global;
 use std::process::ExitCode;
 use std::time::Clock;
-use wp_outside::{Disks, MemDisk};
-
-#[cfg(test)]
-mod tests;
+use wp_memory::MemDisk;
+use wp_outside::Disks;
 
 const THREADS: usize = 8;
 

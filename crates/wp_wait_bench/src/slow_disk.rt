@@ -1,9 +1,10 @@
-ghost use Rattle.wp_outside.specs.MemDisk.{moments_of};
-ghost use Rattle.wp_outside.specs.Images.{reads_itself};
+ghost use Rattle.wp_memory.specs.MemDisk.{moments_of};
+ghost use Rattle.wp_memory.specs.Images.{reads_itself};
 
 use std::thread;
 use std::time::{Clock, Duration};
-use wp_outside::{Disk, Failed, MemDisk};
+use wp_memory::MemDisk;
+use wp_outside::{Disk, Failed};
 
 /// A disk in memory whose sync takes a millisecond and some.
 #[derive(Drop)]

@@ -1,0 +1,4 @@
+pub mod Room
+pub mod Reading
+pub mod Replayed
+pub mod Writes
