@@ -13,6 +13,3 @@ mod number;
 
 pub use choice::{Action, Choice, choice_of};
 pub use laws::{commands_alone_are_taken, other_words_are_refused, words_choose_once};
-
-#[cfg(test)]
-mod tests;

@@ -16,5 +16,3 @@ mod decisions;
 mod present;
 mod shown;
 mod store;
-#[cfg(test)]
-mod tests;

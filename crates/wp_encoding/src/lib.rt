@@ -16,6 +16,3 @@ pub use error::EncodingError;
 pub use laws::{batches_are_read, values_are_read, words_are_read};
 pub use reading::{read_batch, read_value, read_word};
 pub use writing::{push_batch, push_value, push_word};
-
-#[cfg(test)]
-mod tests;

@@ -15,6 +15,3 @@ pub use error::RecordError;
 pub use laws::{records_are_read, spellings_differ};
 pub use reading::read_record;
 pub use writing::write_record;
-
-#[cfg(test)]
-mod tests;

@@ -12,6 +12,3 @@ mod push;
 pub use fields::Fields;
 pub use laws::{numbers_have_one_spelling, pushed_numbers_are_read};
 pub use push::{push_piece, push_u8, push_u16, push_u32, push_u64};
-
-#[cfg(test)]
-mod tests;

@@ -24,6 +24,3 @@ pub use error::{DiskRefused, LogError};
 pub use laws::{acknowledged_records_come_first, bytes_are_read_in_one_way};
 pub use log::{AppendError, GateLog};
 pub use record::{Record, frame};
-
-#[cfg(test)]
-mod tests;

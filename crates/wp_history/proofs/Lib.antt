@@ -7,3 +7,4 @@ pub mod Counting
 pub mod Held
 pub mod Above
 pub mod NewestVersion
+pub mod Opened

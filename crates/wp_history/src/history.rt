@@ -81,14 +81,6 @@ impl History {
         &self.entries
     }
 
-    /// The entries as a list of their own, in the memory that they have.
-    pub fn into_entries(self) -> Vec<Entry>
-        ensures value { result.items ≡ self.entries }
-        ensures legal { IsLegal self.entries }
-    {
-        self.entries
-    }
-
     /// The number of the last entry.
     pub fn published(&self) -> Seq
         ensures value { result ≡ length self.now.entries }

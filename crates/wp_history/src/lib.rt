@@ -10,8 +10,6 @@ mod history;
 pub mod laws;
 mod legality;
 mod prepares;
-#[cfg(test)]
-mod tests;
 mod values;
 
 pub use history::History;

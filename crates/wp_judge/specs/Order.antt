@@ -1,5 +1,5 @@
 -- In which order a reader loads, and what it concludes. Each definition has the rest of the order after one load.
-use Rattle.std.specs.Prelude.{ℕ, nat_lt, nat_le, ◌==◌, Bool, true, false, not, Option, Some, None, IsSome, if◌then◌else◌}
+use Rattle.std.specs.Prelude.{ℕ, nat_lt, nat_le, ◌==◌, Bool, true, false, not, Option, Some, None, if◌then◌else◌}
 use Rattle.wp_judge.specs.declared.observed.Observed.{Observed}
 use Rattle.wp_judge.specs.declared.observed.Load.TheVariants.{FirstWord, FirstMax, DelayedFlag, SecondWord, SecondMax, OldFlag, IsOldCommit}
 use Rattle.wp_judge.specs.declared.observed.Load.TheVariants as load
@@ -66,7 +66,3 @@ answer_of (Answer visible) = Some visible
 -- whether the version is visible at the snapshot; none while a load is wanting
 abbrev pub judgement : Observed → Option Bool
 judgement r = answer_of (ask r)
-
--- all is loaded that the judgement needs
-abbrev pub IsJudged : Observed → Type 0
-IsJudged r = IsSome (judgement r)

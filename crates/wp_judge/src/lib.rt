@@ -11,10 +11,8 @@
 
 mod observed;
 mod order;
-#[cfg(test)]
-mod tests;
 mod words;
 
 pub use observed::{Asked, InPrepared, Load, Observed};
-pub use order::{ask, judge};
+pub use order::ask;
 pub use words::{pack, unpack};

@@ -1,4 +1,4 @@
-ghost use Rattle.std.specs.Prelude.{◌≡◌, Some};
+ghost use Rattle.std.specs.Prelude.{◌≡◌};
 ghost use Rattle.wp_judge.specs.Order as order;
 ghost use Rattle.wp_judge.specs.Words.{decision_in_word};
 
@@ -106,16 +106,5 @@ fn decision_in(word: u64, version: Seq) -> Option<Seq>
     match unpack(word) {
         Some((p, c)) if p == version => Some(c),
         _ => None,
-    }
-}
-
-/// Whether the version is visible at the snapshot, by all that its reader had to load.
-pub fn judge(seen: &Observed) -> bool
-    requires { order.IsJudged seen.now }
-    ensures { order.judgement seen.now ≡ Some result }
-{
-    match ask(seen) {
-        Asked::Answer(visible) => visible,
-        Asked::Load(_) => unreachable!(),
     }
 }

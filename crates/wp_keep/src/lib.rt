@@ -17,5 +17,3 @@ mod pair;
 mod remaining;
 mod retained;
 mod staying;
-#[cfg(test)]
-mod tests;

@@ -16,6 +16,3 @@ pub use edit::Edit;
 pub use error::{InstallError, ManifestError};
 pub use laws::{a_manifest_is_read_in_one_way, edits_have_one_spelling};
 pub use manifest::Manifest;
-
-#[cfg(test)]
-mod tests;

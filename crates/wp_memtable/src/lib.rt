@@ -13,5 +13,3 @@ mod found;
 mod key_versions;
 mod memtable;
 mod places;
-#[cfg(test)]
-mod tests;

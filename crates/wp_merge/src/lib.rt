@@ -10,6 +10,4 @@ pub use merge::Merge;
 
 mod laws;
 mod merge;
-#[cfg(test)]
-mod tests;
 mod two;

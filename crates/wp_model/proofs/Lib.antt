@@ -3,3 +3,4 @@ pub mod Entries
 pub mod VersionLists
 pub mod Found
 pub mod Words
+pub mod Numbers

@@ -1,5 +1,5 @@
 -- The tables of prepared transactions: the prepared heap, the delayed set and the delayed commits.
-use Rattle.std.specs.Prelude.{◌≡◌, ℕ, ◌≤◌, Bool, false, ◌||◌, IsTrue, if◌then◌else◌, refl}
+use Rattle.std.specs.Prelude.{◌≡◌, ℕ, ◌≤◌, Bool, false, ◌||◌, None, IsTrue, if◌then◌else◌, refl}
 use Rattle.std.specs.Ordering.{nat_cmp}
 use Rattle.std.specs.Coded.{Coded, code_by, coded×, coded_ℕ}
 use Rattle.std.specs.FinSet as set
@@ -40,3 +40,7 @@ pub record IsSmallest (t : PreparedTables) (p : ℕ) : Type 0 where
 -- no number is prepared
 abbrev pub NonePrepared : PreparedTables → Type 0
 NonePrepared t = (p : ℕ) → is_prepared t p ≡ false
+
+-- nothing is delayed
+abbrev pub NoneDelayed : PreparedTables → Type 0
+NoneDelayed t = ((p : ℕ) → set.contains t.delayed p ≡ false) × ((p : ℕ) → map.get t.delayed_commits p ≡ None)

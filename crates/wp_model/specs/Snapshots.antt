@@ -31,6 +31,10 @@ IsLive m s = IsSome (map.get m s)
 abbrev pub is_old_commit : Snapshots → ℕ → ℕ → Bool
 is_old_commit m s p = option_map_or (λ x. set.contains x.old_commits p) (map.get m s) false
 
+-- the old commit map is empty
+abbrev pub NoOldCommits : Snapshots → Type 0
+NoOldCommits m = (s p : ℕ) → is_old_commit m s p ≡ false
+
 -- one registration more: the first makes a number live, with nothing under it
 abbrev pub after_register : Option Snapshot → Option Snapshot
 after_register None = Some (record { registrations = 1; old_commits = set.empty })

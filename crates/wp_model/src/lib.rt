@@ -10,8 +10,7 @@ mod batch;
 mod change;
 mod entry;
 mod holder;
-#[cfg(test)]
-mod tests;
+mod limits;
 mod version;
 mod versions;
 mod word;
@@ -20,6 +19,7 @@ pub use batch::{Batch, MOST_KEYS, SetError};
 pub use change::Change;
 pub use entry::Entry;
 pub use holder::Holder;
+pub use limits::limits_are;
 pub use version::{Version, copy_value};
 pub use versions::Versions;
 pub use word::{

@@ -34,7 +34,7 @@ use Rattle.wp_replies.specs.Moments.{AreDueFrom}
 use Rattle.wp_replies.specs.Session.{IsSession}
 use Rattle.wp_model.proofs.Found.{found_holder, found_named}
 use Rattle.wp_model.proofs.Entries.{undecided_within, batch_at_old}
-use Rattle.wp_replies.proofs.SaidLemmas.{within_same, within_filter, within_more, number_within}
+use Rattle.wp_replies.proofs.Within.{within_same, within_filter, within_more, number_within}
 use Rattle.wp_replies.proofs.Rows.{snapshots_after}
 use Rattle.wp_replies.proofs.Scenes.{entry_in_front, next_entry, value_in_front, Scene, front, store_in, RowOf, IsAllowed, front_size, front_fresh, say_refused, say_allowed, board_allowed, log_allowed, entries_in, one_allowed}
 use Rattle.wp_replies.proofs.DueTables.{flush_allowed, compact_allowed}

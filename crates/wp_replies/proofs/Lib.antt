@@ -1,10 +1,6 @@
-pub mod PlanLemmas
-pub mod SaidLemmas
-pub mod BoardLemmas
+pub mod Within
 pub mod Rows
 pub mod Scenes
 pub mod DueTables
 pub mod DueLemmas
 pub mod SessionLemmas
-pub mod TablesLemmas
-pub mod Counts

@@ -83,9 +83,6 @@ front_size s = size s.evidence.history s.given.before (omega (arith, s.given.gro
 pub front_fresh : {client : Client} {c : Command} {answer : Reply} (s : Scene client c answer) → IsFresh s.evidence.history s.progress.last (length (front s))
 front_fresh s = (omega (arith, front_size s, s.low, s.given.earlier), omega (arith, front_size s, s.given.grows, s.given.within))
 
-said_is : (made answer : Reply) → Say made ≡ Say answer → made ≡ answer
-said_is made answer is = cc
-
 -- a device may fail in place of the reply
 abbrev pub may_fail : Reply → Bool
 may_fail r = is_logged r || is_installed r

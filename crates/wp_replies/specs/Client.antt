@@ -1,13 +1,12 @@
 -- A client between two of its commands: its transaction, and its snapshots.
-use Rattle.std.specs.Prelude.{◌≡◌, ℕ, ◌≤◌, Bool, true, ◌&&◌, not, nat_le, List, [], ◌∷◌, length, map, Option, None}
+use Rattle.std.specs.Prelude.{ℕ, ◌≤◌, Bool, ◌&&◌, not, nat_le, List, [], ◌∷◌, length, map, Option}
 use Rattle.std.specs.List.{filter, find}
 use Rattle.std.specs.Option.{option_map}
 use Rattle.std.specs.Str.{bytes_eq}
 use Rattle.wp_model.specs.declared.batch.TheConstants.{MOST_KEYS}
 use Rattle.wp_model.specs.declared.change.Change.{Change}
 use Rattle.wp_model.specs.declared.entry.Entry.{Entry}
-use Rattle.wp_model.specs.History.{is_undecided, is_changed, named, batch_at}
-use Rattle.wp_model.specs.Legal.{AreFree}
+use Rattle.wp_model.specs.History.{is_changed, batch_at}
 use Rattle.wp_replies.specs.declared.client.LabelledSnapshot.{LabelledSnapshot}
 use Rattle.wp_replies.specs.declared.client.Txn.{Txn}
 use Rattle.wp_replies.specs.declared.client.Txn.TheVariants.{Idle, Open, Prepared}
@@ -42,18 +41,7 @@ own_batch history (Prepared p) = batch_at history p
 abbrev pub has_no_room : List Change → List ℕ → Bool
 has_no_room batch key = nat_le MOST_KEYS (length batch) && not (is_changed batch key)
 
--- The transaction goes with the history: one that is open has a name and keys that are free; one that is prepared is
--- undecided.
-abbrev pub TxnFits : List Entry → Txn → Type 0
-TxnFits history Idle = Unit {0}
-TxnFits history (Open name batch) = AreFree history batch × (named history name ≡ None)
-TxnFits history (Prepared p) = is_undecided history p ≡ true
-
 -- each number is one of the history's
 abbrev pub AreWithin : ℕ → List LabelledSnapshot → Type 0
 AreWithin published [] = Unit {0}
 AreWithin published (first ∷ others) = (first.number ≤ published) × AreWithin published others
-
-pub record ClientFits (history : List Entry) (client : Client) : Type 0 where
-  pub txn : TxnFits history client.txn
-  pub snapshots : AreWithin (length history) client.snapshots

@@ -7,17 +7,11 @@ use Rattle.wp_model.specs.Legal.{IsLegal}
 use Rattle.wp_text.specs.declared.script.Command.{Command}
 use Rattle.wp_text.specs.declared.script.Part.{Part}
 use Rattle.wp_text.specs.declared.reply.Reply.{Reply}
-use Rattle.wp_replies.specs.Client.{Client, new_client}
+use Rattle.wp_replies.specs.Client.{new_client}
 use Rattle.wp_replies.specs.Kind.{acknowledged, is_fault, is_stopped, is_flushed, is_installed, is_tables_fault, is_halted}
 use Rattle.wp_replies.specs.Session.{IsSession}
 use Rattle.wp_replies.specs.Replies.{Failed, Evidence}
 use Rattle.wp_replies.specs.Known.{StoredState, Dialogue, evidence_of, known_at_first}
-use Rattle.wp_replies.specs.Due.{Store}
-use Rattle.wp_replies.specs.Current.{opened_store, RunsAlone}
-use Rattle.wp_replies.specs.Asked.{AsksLog, AsksEdit, FaultAsks}
-
-abbrev pub stored_in : Store → StoredState
-stored_in store = record { history = store.history; edit = store.installed }
 
 -- how often the log failed under a command, and the tables did
 pub record Faults : Type 0 where
@@ -63,15 +57,6 @@ AreSessions left limit failed found before (part ∷ parts) (first ∷ firsts) (
     × AreSessions left limit failed found (before ++ dialogue part answers ∷ []) parts firsts others
 AreSessions left limit failed found before script run sessions = ⊥
 
--- With one client, nobody else changes the store: what is left is what its replies leave, and what a device failed to take
--- is what the very command asked for that was answered so.
-abbrev pub IsExact : ℕ → (found left : StoredState) → Failed → List Part → List (List Reply) → Type 0
-IsExact limit found left failed (part ∷ []) (answers ∷ []) =
-    (last : Store) × (client : Client) × RunsAlone (opened_store limit found) new_client part.commands answers last client × (left ≡ stored_in last)
-    × (last.stopped ≡ true → FaultAsks is_fault (AsksLog failed.entries) (opened_store limit found) new_client part.commands answers)
-    × (last.halted ≡ true → FaultAsks is_tables_fault (AsksEdit failed.edit) (opened_store limit found) new_client part.commands answers)
-IsExact limit found left failed script sessions = Unit {0}
-
 -- What the replies say of the last edit. Its flushed number is the one that was found or that of a `flushed` reply, and is
 -- less than none of these; where no reply says that an edit was installed, it is the edit that was found.
 pub record IsLastEdit (found left : InstalledEdit) (answers : List Reply) : Type 0 where
@@ -94,4 +79,3 @@ pub record Explains (limit : ℕ) (faults : Faults) (script run : List Part) (fo
   pub tables_failed : count_by is_tables_fault (all_replies sessions) ≡ faults.tables
   pub halted : list_any is_halted (all_replies sessions) ≡ true → 1 ≤ faults.tables
   pub edit : IsLastEdit found.edit left.edit (all_replies sessions)
-  pub exact : IsExact limit found left failed run sessions

@@ -12,6 +12,5 @@ pub mod Moments
 pub mod Current
 pub mod Asked
 pub mod Explains
-pub mod Room
-pub mod Next
+pub mod Exact
 pub mod Laws

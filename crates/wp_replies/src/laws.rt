@@ -1,4 +1,6 @@
 //! What is true of every session.
+ghost use Rattle.std.specs.Prelude.{◌≡◌};
+ghost use Rattle.wp_replies.specs.declared.client.TheConstants.{MOST_SNAPSHOTS};
 ghost use Rattle.wp_replies.specs.Laws.{SessionGrows, DueIsSession, ReadsAreValues, FreshNumbersNeverFall, AcknowledgedAreLogged};
 
 /// A session stays one as the history grows, and as more is known of the other clients.
@@ -27,4 +29,9 @@ pub fn fresh_numbers_never_fall()
 /// that it took, which had the name that it gave and was undecided.
 pub fn acknowledged_are_logged()
     ensures { AcknowledgedAreLogged }
+{}
+
+/// A client has at most 64 snapshots.
+pub fn limits_are()
+    ensures { MOST_SNAPSHOTS ≡ 64 }
 {}

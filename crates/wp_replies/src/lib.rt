@@ -1,17 +1,16 @@
-//! A client's session: what each of its commands is answered, and what it leaves of the client.
+//! A client's session: what each of its commands may be answered, and what that leaves of the client.
 //!
 //! A session has a transaction and snapshots. `specs/Replies.antt` is the table of replies: each is given only where its
-//! row says so of the history. Where nobody else changes the store, `plan_of` says exactly what a command asks of it, and
-//! `Client::take` what the reply leaves of the client. The laws tie the exact replies to the table, and say what follows
-//! from the table for reads and for acknowledged entries.
+//! row says so of the history. Where nobody else changes the store, `specs/Plan.antt` says exactly what a command asks of
+//! it, and `specs/Due.antt` what the reply leaves. The laws tie the exact replies to the table, and say what follows from the
+//! table for reads and for acknowledged entries.
+//!
+//! It has definitions and laws alone: `Txn`, `LabelledSnapshot` and `Plan` stand in clauses, and nothing makes one.
 #![tactic(auto)]
 
 mod client;
 pub mod laws;
 mod plan;
 
-pub use client::{Client, LabelledSnapshot, MOST_SNAPSHOTS, Txn};
-pub use plan::{Plan, plan_of};
-
-#[cfg(test)]
-mod tests;
+pub use client::{LabelledSnapshot, MOST_SNAPSHOTS, Txn};
+pub use plan::Plan;

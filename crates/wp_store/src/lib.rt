@@ -14,5 +14,3 @@ mod gone;
 mod newest;
 mod sources;
 mod store;
-#[cfg(test)]
-mod tests;

@@ -3,7 +3,9 @@
 ghost use Rattle.std.specs.Prelude.{◌≡◌, ◌≢◌, ◌↔◌, ◌<◌, ◌⊎◌, ℕ, List, Ok, Err, slice_index};
 ghost use Rattle.wp_model.specs.declared.version.Version.{Version};
 ghost use Rattle.wp_table.specs.declared.error.TableError.{TableError};
+ghost use Rattle.wp_table.specs.declared.layout.TheConstants.{BLOCK};
 ghost use Rattle.wp_table.specs.declared.error.TableError.TheVariants.{Stranger};
+ghost use Rattle.wp_table.specs.declared.layout.TheConstants.{BLOCK};
 ghost use Rattle.wp_table.specs.Table.{IsTable, table_bytes};
 ghost use Rattle.wp_table.specs.Faults.{IsTableFault};
 ghost use Rattle.wp_table.specs.Reading.{table_at};
@@ -36,4 +38,9 @@ pub fn bytes_are_read_in_one_way()
 pub fn tables_have_one_store()
     ensures { (id other flushed : ℕ) (versions : List Version) → IsTable other flushed versions → other ≢ id
         → table_at id flushed (table_bytes other versions) ≡ Err (Stranger other) }
+{}
+
+/// A block has at most 16 versions.
+pub fn limits_are()
+    ensures { BLOCK ≡ 16 }
 {}

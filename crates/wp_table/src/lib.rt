@@ -11,12 +11,10 @@ mod laws;
 mod layout;
 mod reading;
 mod table;
-#[cfg(test)]
-mod tests;
 mod writing;
 
 pub use error::TableError;
 pub use found::{Found, VersionRef};
-pub use laws::{bytes_are_read_in_one_way, tables_are_read, tables_have_one_store};
+pub use laws::{bytes_are_read_in_one_way, limits_are, tables_are_read, tables_have_one_store};
 pub use table::Table;
 pub use writing::build;

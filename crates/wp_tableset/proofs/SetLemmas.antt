@@ -221,10 +221,6 @@ pub table_next : (old : TableSetState) (mid : List Moment) (faults : ℕ) (versi
 table_next old mid faults versions flushed place others grows end syncs is (after, remain) =
     λ parts left. (versions ∷ after parts, table_left old.manifest.log.id old.manifest.edit parts versions flushed place others after old.moments mid grows end syncs is remain left)
 
--- an edit without tables
-pub none_next : (set : TableSetState) (flushed : ℕ) → LeavesNext set (record { flushed = flushed; tables = [] })
-none_next set flushed = λ parts left. ([], known_map (LeavesTables set.manifest.log.id set.manifest.edit parts) (LeavesTables set.manifest.log.id (record { flushed = flushed; tables = [] }) []) (λ m leaves image h. tt) set.moments left)
-
 pub none_ready : (old : TableSetState) (flushed : ℕ) → old.halted ≡ false → Ready old old.moments (record { flushed = flushed; tables = [] }) (λ _. [])
 none_ready old flushed running = record {
   was_running = running;

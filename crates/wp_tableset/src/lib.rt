@@ -10,8 +10,6 @@ mod device;
 mod error;
 mod prepare;
 mod set;
-#[cfg(test)]
-mod tests;
 
 pub use error::TableSetError;
 pub use set::{SetDisks, TableSet};

@@ -9,6 +9,7 @@
 
 mod fault;
 mod keyword;
+mod limits;
 mod line;
 mod lines;
 mod read;
@@ -16,11 +17,9 @@ mod reply;
 mod script;
 
 pub use fault::{Fault, ScriptError, Why};
+pub use limits::limits_are;
 pub use line::MOST_LINE_BYTES;
 pub use lines::{client_line, end_line, history_line, reply_line};
 pub use read::{MOST_BYTES, MOST_CLIENTS, one_reading, read_script};
 pub use reply::Reply;
 pub use script::{Command, Commands, Part, Script};
-
-#[cfg(test)]
-mod tests;

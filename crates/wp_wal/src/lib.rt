@@ -19,6 +19,3 @@ pub use laws::{
     a_log_is_read_in_one_way, acknowledged_history_comes_first, stored_history_is_acknowledged,
 };
 pub use wal::Wal;
-
-#[cfg(test)]
-mod tests;
