@@ -1,5 +1,5 @@
 -- There is an opening: on the empty history.
-use Rattle.std.proofs.Common.{◌≡◌, ℕ, zero, suc, ◌<◌, List, [], ◌∷◌, Some, None, refl, slice_index_or, arith}
+use Rattle.std.proofs.Common.{◌≡◌, ℕ, zero, suc, ◌<◌, [], ◌∷◌, Some, None, refl, slice_index_or, arith}
 use Rattle.wp_model.specs.Legal.{IsLegal}
 use Rattle.wp_core.specs.Runs.{IsOpening}
 use Rattle.wp_core.specs.World.{World}

@@ -23,9 +23,9 @@ use Rattle.std.specs.FinMap as finite
 use Rattle.wp_core.specs.Cache.{cached}
 use Rattle.wp_core.specs.Reading.{Registration}
 use Rattle.wp_judge.specs.declared.observed.Observed.{Observed}
-use Rattle.wp_core.specs.Views.{passed, apart, words_stay, number_in_heap, number_not_in_heap}
-use Rattle.wp_model.specs.PreparedTables.{PreparedTables, is_prepared}
-use Rattle.wp_core.specs.Tables.{NoneDelayed, with_moved}
+use Rattle.wp_core.specs.Views.{passed, apart, words_stay, has_left, number_in_heap, number_not_in_heap}
+use Rattle.wp_model.specs.PreparedTables.{PreparedTables, is_prepared, NoneDelayed}
+use Rattle.wp_core.specs.Tables.{with_moved}
 use Rattle.wp_core.specs.Sound.History.{IsHistory}
 use Rattle.wp_core.specs.Sound.Prepared.{AreDecided, AreUndecided, AreDelayed, IsPassed}
 use Rattle.wp_core.specs.Sound.Reader.{IsPassedBy, IsReader}
@@ -129,6 +129,7 @@ so_after : (w : World) (m : ℕ) (a : Participant) (fact : Fact) → w.max_evict
 so_after w m a (passed place pair) le low stays k = record { place_within = k.place_within; there = k.there; published_by = k.published_by; so = le_trans k.so le }
 so_after w m a (apart place pair) le low stays k = record { place_within = k.place_within; there = k.there; published_by = k.published_by; so = ⊎_elim (λ (e : is_prepared w.prepared pair.number ≡ false). inl (same_prepared w.prepared m pair.number ∙ e)) (λ (e : finite.get w.prepared.delayed_commits pair.number ≡ Some pair.decision). inr e) k.so }
 so_after w m a (words_stay max cache) le low stays k = absurd (stays_not write_turn stays)
+so_after w m a (has_left p) le low stays k = (k.0, same_prepared w.prepared m p ∙ k.1)
 so_after w m a number_in_heap le low stays k = let n : ℕ = suc (length w.writes.history) in in_heap w.prepared m n ∙ (λ i. k i && not (above_is n m (omega arith) i))
 so_after w m a number_not_in_heap le low stays k = let n : ℕ = suc (length w.writes.history) in in_heap w.prepared m n ∙ (λ i. k i && not (nat_le n m))
 so_after w m a fact le low stays k = k

@@ -11,13 +11,12 @@ use Rattle.std.specs.FinMap as finite
 use Rattle.wp_model.specs.declared.entry.Entry.{Entry}
 use Rattle.wp_model.specs.Decision.{decision_of}
 use Rattle.wp_model.specs.History.{is_undecided}
-use Rattle.wp_model.specs.Snapshots.{Snapshot, Snapshots, IsLive, after_register}
+use Rattle.wp_model.specs.Snapshots.{Snapshot, Snapshots, IsLive, after_register, NoOldCommits}
 use Rattle.wp_core.proofs.PastsGrow.{in_front, in_either}
 use Rattle.wp_core.proofs.AllParticipants.{mine}
 use Rattle.wp_core.proofs.KeepsSeen.{shorter}
 use Rattle.wp_core.specs.Lists.{IsIn, one_if, total}
 use Rattle.wp_core.specs.Reading.{Registration, snapshot_of}
-use Rattle.wp_core.specs.Tables.{NoOldCommits}
 use Rattle.wp_core.specs.World.{Actor, World}
 use Rattle.wp_core.specs.Steps.{register, register_again}
 use Rattle.wp_core.specs.Changes.{placed, with_registered}
@@ -32,7 +31,7 @@ use Rattle.wp_core.specs.IsSound.{IsSound}
 use Rattle.wp_core.proofs.Frames.{at_map}
 use Rattle.wp_core.proofs.Participants.{each_person_set, total_person_set}
 use Rattle.wp_core.proofs.HistoryLaws.{decided_or_undecided, decision_within}
-use Rattle.wp_core.proofs.Numbers.{get_inserted, get_inserted_else, get_removed, get_removed_else}
+use Rattle.wp_model.proofs.Numbers.{get_inserted, get_inserted_else, get_removed, get_removed_else}
 use Rattle.wp_core.proofs.Readings.{below_smallest}
 use Rattle.wp_core.proofs.SnapshotsStep.{SnapshotsGrow, ViewsGrow, with_view, snapshots_step}
 use Rattle.wp_core.proofs.Tests.{same_some}

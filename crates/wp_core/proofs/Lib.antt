@@ -18,7 +18,6 @@ pub mod HoldersChange
 pub mod Quiet
 pub mod TakesTurn
 pub mod StoresFlag
-pub mod Numbers
 pub mod SnapshotsStep
 pub mod KeepsSnapshots
 pub mod OldCommits

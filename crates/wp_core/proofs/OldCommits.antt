@@ -25,7 +25,7 @@ use Rattle.wp_core.specs.Sound.Snapshots.{registered_of, AreRegistered, count_of
 use Rattle.wp_core.specs.Sound.Reader.{reader_of}
 use Rattle.wp_core.specs.IsSound.{IsSound}
 use Rattle.wp_core.proofs.Frames.{at_map}
-use Rattle.wp_core.proofs.Numbers.{in_inserted, in_inserted_else}
+use Rattle.wp_model.proofs.Numbers.{in_inserted, in_inserted_else}
 use Rattle.wp_core.proofs.Registered.{registered_there}
 use Rattle.wp_core.proofs.KeepsSnapshots.{has_old, live_there, at_number, sum_append, in_with, in_middle, below_all, grows_at, none_at, registered_at}
 use Rattle.wp_core.proofs.SnapshotsStep.{SnapshotsGrow, with_view, snapshots_step}

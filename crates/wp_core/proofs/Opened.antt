@@ -16,7 +16,7 @@ use Rattle.wp_model.specs.History.{is_undecided, name_at, batch_at, undecided, n
 use Rattle.wp_model.specs.Legal.{IsLegal, undone_last}
 use Rattle.wp_model.specs.Snapshots as snaps
 use Rattle.wp_model.specs.LockTables.{LockTables}
-use Rattle.wp_model.specs.PreparedTables.{PreparedTables, is_prepared}
+use Rattle.wp_model.specs.PreparedTables.{PreparedTables, is_prepared, NoneDelayed}
 use Rattle.wp_model.proofs.Entries.{undecided_prepared, undecided_within}
 use Rattle.wp_history.proofs.Undecided.{is_undecided_by_list}
 use Rattle.wp_judge.specs.Words.{CommitPair, pair_of}
@@ -25,17 +25,18 @@ use Rattle.wp_model.proofs.Found.{found_holder}
 use Rattle.wp_core.specs.Lists.{IsIn}
 use Rattle.wp_core.specs.Turns.{Turn, write_turn, prepared_turn, snapshots_turn, store_turn, locks_turn, tables_turn, Holds, all_free}
 use Rattle.wp_core.specs.Entries.{batch_of_name}
-use Rattle.wp_core.specs.Tables.{StoreTable, Installed, NoneDelayed}
+use Rattle.wp_core.specs.Tables.{StoreTable, Installed}
 use Rattle.wp_model.specs.Flushed.{InstalledEdit}
 use Rattle.wp_core.specs.Reading.{Registration}
 use Rattle.wp_core.specs.Views as event
 use Rattle.wp_core.specs.Views.{Event, Fact, told, heard, log_failed, tables_failed, stopped, found_edit, found}
 use Rattle.wp_core.specs.World.{World, Actor, Participant, Transaction, new_actor, new_participant, content_of}
-use Rattle.wp_core.specs.Runs.{IsOpening, AreOpened, named_by}
+use Rattle.wp_core.specs.Runs.{IsOpening}
+use Rattle.wp_history.specs.Opened.{AreOpened, named_by, prepare_holding}
 use Rattle.wp_core.specs.Sound.Actors.{StartsWith, once, AreHeld, Role, IsParticipantAt}
 use Rattle.wp_core.specs.Sound.Snapshots.{count_of, HasSeen}
 use Rattle.wp_core.specs.Sound.Store.{IsStored, IsOfEdit}
-use Rattle.wp_core.specs.Sound.Locks.{prepare_holding, Owner, owner_of, IsOwner}
+use Rattle.wp_core.specs.Sound.Locks.{Owner, owner_of, IsOwner}
 use Rattle.wp_core.specs.Sound.Pasts.{IsPast, tables_due, last_installed}
 use Rattle.wp_core.specs.IsSound.{IsSound}
 use Rattle.wp_core.proofs.HistoryLaws.{decision_within, undecided_not_decided}

@@ -15,19 +15,19 @@ use Rattle.wp_model.specs.PreparedTables.{PreparedTables, is_prepared}
 use Rattle.wp_judge.specs.Words.{CommitPair}
 use Rattle.wp_core.specs.Entries.{extended}
 use Rattle.wp_core.specs.Turns.{Holds, write_turn, prepared_turn}
-use Rattle.wp_core.specs.Views.{Fact, apart, number_in_heap, number_not_in_heap}
+use Rattle.wp_core.specs.Views.{Fact, apart, has_left, number_in_heap, number_not_in_heap}
 use Rattle.wp_core.specs.World.{Participant, Actor, World}
 use Rattle.wp_core.specs.Steps.{add_prepared, take_pending_prepared}
 use Rattle.wp_core.specs.Effects.{done}
 use Rattle.wp_core.specs.Needs.{Needs}
 use Rattle.wp_core.specs.Notes.{forgets}
 use Rattle.wp_core.specs.Sound.Prepared.{AreFlags, AreUndecided, AreDelayed}
-use Rattle.wp_core.specs.Sound.Views.{IsApart, IsClearing}
+use Rattle.wp_core.specs.Sound.Views.{IsApart, HasLeft, IsClearing}
 use Rattle.wp_core.specs.IsSound.{IsSound}
 use Rattle.wp_history.proofs.Growth.{entry_at_next}
 use Rattle.wp_model.proofs.Entries.{undecided_within}
 use Rattle.wp_core.proofs.HistoryLaws.{decided_within}
-use Rattle.wp_core.proofs.Numbers.{in_inserted, in_inserted_else, in_removed, in_removed_else}
+use Rattle.wp_model.proofs.Numbers.{in_inserted, in_inserted_else, in_removed, in_removed_else}
 use Rattle.wp_core.proofs.Quiet.{Stays, stays_not, notes_by, prepared_changes}
 use Rattle.wp_core.proofs.PreparedSteps.{SoWith, clearing_decided}
 use Rattle.wp_core.proofs.AllParts.{SoIn}
@@ -78,6 +78,9 @@ module _ (w : World) (s : IsSound w) (heap : finset.FinSet nat_cmp) (same : (p :
         (λ (e : finite.get w.prepared.delayed_commits pair.number ≡ Some pair.decision). inr e) k.so;
   }
 
+  heap_left : (p : ℕ) → HasLeft w.writes.history w.prepared p → HasLeft w.writes.history t p
+  heap_left p k = (k.0, decided_else p k.0.0 k.0.1 ∙ k.1)
+
 -- ---- it comes
 
 module _ (w : World) (s : IsSound w) where
@@ -95,6 +98,7 @@ module _ (w : World) (s : IsSound w) where
 
   so_with : (a : Participant) (fact : Fact) → Stays w add_prepared write_turn fact → SoIn w a fact → SoWith w (record w.prepared { heap = more }) a fact
   so_with a (apart place pair) stays k = heap_apart w s more more_else place pair k
+  so_with a (has_left p) stays k = heap_left w s more more_else p k
   so_with a number_in_heap stays k = in_inserted w.prepared.heap (suc (length w.writes.history))
   so_with a number_not_in_heap stays k = absurd (stays_not write_turn stays)
   so_with a fact stays k = k
@@ -127,6 +131,7 @@ module _ (w : World) (s : IsSound w) where
 
   so_without : (a : Participant) (fact : Fact) → Stays w take_pending_prepared write_turn fact → SoIn w a fact → SoWith w (record w.prepared { heap = less }) a fact
   so_without a (apart place pair) stays k = heap_apart w s less less_else place pair k
+  so_without a (has_left p) stays k = heap_left w s less less_else p k
   so_without a number_in_heap stays k = absurd (stays_not write_turn stays)
   so_without a number_not_in_heap stays k = in_removed w.prepared.heap (suc (length w.writes.history))
   so_without a fact stays k = k

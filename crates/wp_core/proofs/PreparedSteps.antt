@@ -14,7 +14,7 @@ use Rattle.wp_judge.specs.Words.{CommitPair}
 use Rattle.wp_core.specs.Cache.{cached}
 use Rattle.wp_core.specs.Tables.{without_prepared}
 use Rattle.wp_core.specs.Turns.{Holds, prepared_turn}
-use Rattle.wp_core.specs.Views.{Fact, apart, number_in_heap, number_not_in_heap}
+use Rattle.wp_core.specs.Views.{Fact, apart, has_left, number_in_heap, number_not_in_heap}
 use Rattle.wp_core.specs.World.{Participant, Actor, World}
 use Rattle.wp_core.specs.Steps.{add_delayed_commit, take_out}
 use Rattle.wp_core.specs.Effects.{done}
@@ -24,7 +24,7 @@ use Rattle.wp_core.specs.Sound.Prepared.{AreFlags, AreUndecided, AreDelayed}
 use Rattle.wp_core.specs.Sound.Views.{IsSo, IsApart, IsClearing}
 use Rattle.wp_core.specs.IsSound.{IsSound}
 use Rattle.wp_core.proofs.HistoryLaws.{decided_within, undecided_not_decided}
-use Rattle.wp_core.proofs.Numbers.{in_removed, in_removed_else, get_inserted, get_inserted_else, get_removed, get_removed_else}
+use Rattle.wp_model.proofs.Numbers.{in_removed, in_removed_else, get_inserted, get_inserted_else, get_removed, get_removed_else}
 use Rattle.wp_core.proofs.Quiet.{notes_all, prepared_changes}
 use Rattle.wp_core.proofs.ReaderFacts.{pair_ordered, extended_was}
 use Rattle.wp_core.proofs.AllParts.{SoIn}
@@ -111,6 +111,7 @@ module _ (w : World) (p c : ℕ) (s : IsSound w) (decided : decision_of w.writes
 
   out_so : (a : Participant) (fact : Fact) → SoIn w a fact → SoWith w (without_prepared w.prepared p) a fact
   out_so a (apart place pair) k = record { place_within = k.place_within; there = k.there; published_by = k.published_by; so = out_apart pair k.so }
+  out_so a (has_left q) k = (k.0, dite (ℕ_discrete q p) (λ (e : q ≡ p). ap (is_prepared (without_prepared w.prepared p)) e ∙ out_gone) (λ (ne : q ≢ p). out_there q ne ∙ k.1))
   out_so a number_in_heap k = in_removed_else w.prepared.heap p (suc (length w.writes.history)) next_is_not ∙ k
   out_so a number_not_in_heap k = not_in_removed w.prepared.heap (suc (length w.writes.history)) k
   out_so a fact k = k

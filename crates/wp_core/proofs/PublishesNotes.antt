@@ -21,16 +21,17 @@ use Rattle.wp_core.specs.Conditions.{MayPublish}
 use Rattle.wp_core.specs.Entries.{transaction_of, changes_under}
 use Rattle.wp_core.specs.Turns.{write_turn}
 use Rattle.wp_core.specs.Tables.{WriteTable}
-use Rattle.wp_core.specs.Views.{Fact, passed, in_old_commits, apart, versions_in_memory, versions_nowhere, number_in_heap, number_not_in_heap, undecided_at, prior_values, unprepared, direct_free, live_listed, frozen_stay}
+use Rattle.wp_core.specs.Views.{Fact, passed, in_old_commits, apart, has_left, versions_in_memory, versions_nowhere, number_in_heap, number_not_in_heap, undecided_at, prior_values, unprepared, direct_free, live_listed, frozen_stay}
 use Rattle.wp_core.specs.World.{Participant, Actor, World}
 use Rattle.wp_core.specs.Steps.{store_published}
 use Rattle.wp_core.specs.Effects.{with_entry}
 use Rattle.wp_core.specs.Notes.{ends, is_name}
 use Rattle.wp_core.specs.Sound.Actors.{IsParticipantAt}
 use Rattle.wp_core.specs.Sound.Locks.{owner_of, IsOwner}
-use Rattle.wp_core.specs.Sound.Views.{IsClearing, Owns, IsGuarded}
+use Rattle.wp_core.specs.Sound.Views.{IsClearing, HasLeft, Owns, IsGuarded}
 use Rattle.wp_core.specs.IsSound.{IsSound, participants}
 use Rattle.wp_core.proofs.AllParticipants.{mine}
+use Rattle.wp_core.proofs.HistoryLaws.{decision_stays}
 use Rattle.wp_core.proofs.HistoryGrows.{none_is, grown_length, after, named_stays, unnamed_stays, free_stays, batch_at_grown, newest_kept, prior_same}
 use Rattle.wp_core.proofs.PendingSteps.{SoPending}
 use Rattle.wp_core.proofs.PublishesLocks.{prepare_of, not_decided, batch_new}
@@ -63,6 +64,9 @@ module _ (w : World) (by : ℕ) (a : Actor) (entry : Entry) (others : List Entry
 
   pub own_there : IsParticipantAt (participants owner_of w) by 0 (owner_of a.participant)
   own_there = mine owner_of w.actors by a a at refl
+
+  left_grows : (p : ℕ) → HasLeft history w.prepared p → HasLeft grown w.prepared p
+  left_grows p k = ((k.0.0, decision_stays history (entry ∷ []) p k.0.0 k.0.1), k.1)
 
   -- a key that the entry prepares is held for its transaction
   pub prepares_held : (name : List ℕ) (batch : List Change) (key : List ℕ) → entry ≡ Prepare name batch → is_changed batch key ≡ true → finite.get w.locks.keys key ≡ Some (Txn name)
@@ -136,6 +140,7 @@ module _ (w : World) (by : ℕ) (a : Actor) (entry : Entry) (others : List Entry
   mine_grows (passed place pair) left k = clearing_grows (length history) (length grown) w.cache place pair _ longer k
   mine_grows (in_old_commits place pair) left k = clearing_grows (length history) (length grown) w.cache place pair _ longer k
   mine_grows (apart place pair) left k = clearing_grows (length history) (length grown) w.cache place pair _ longer k
+  mine_grows (has_left p) left k = left_grows p k
   mine_grows versions_in_memory left k = absurd (true≢false (sym left))
   mine_grows versions_nowhere left k = absurd (true≢false (sym left))
   mine_grows number_in_heap left k = absurd (true≢false (sym left))
@@ -161,6 +166,7 @@ module _ (w : World) (by : ℕ) (a : Actor) (entry : Entry) (others : List Entry
     others_grow (passed place pair) guard k = clearing_grows (length history) (length grown) w.cache place pair _ longer k
     others_grow (in_old_commits place pair) guard k = clearing_grows (length history) (length grown) w.cache place pair _ longer k
     others_grow (apart place pair) guard k = clearing_grows (length history) (length grown) w.cache place pair _ longer k
+    others_grow (has_left p) guard k = left_grows p k
     others_grow versions_in_memory guard k = absurd (not_theirs w.holders write_turn by j n.turn ne (guard write_turn refl))
     others_grow versions_nowhere guard k = absurd (not_theirs w.holders write_turn by j n.turn ne (guard write_turn refl))
     others_grow number_in_heap guard k = absurd (not_theirs w.holders write_turn by j n.turn ne (guard write_turn refl))

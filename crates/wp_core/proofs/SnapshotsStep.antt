@@ -13,14 +13,14 @@ use Rattle.std.specs.FinMap.Entries.{is_some-find}
 use Rattle.wp_model.specs.declared.entry.Entry.{Entry}
 use Rattle.wp_model.specs.Covered.{is_among}
 use Rattle.wp_model.specs.Decision.{decision_of}
-use Rattle.wp_model.specs.Snapshots.{Snapshots, IsLive, is_old_commit}
+use Rattle.wp_model.specs.Snapshots.{Snapshots, IsLive, is_old_commit, NoOldCommits}
 use Rattle.wp_judge.specs.declared.observed.Observed.{Observed}
 use Rattle.wp_judge.specs.Order.{judgement}
 use Rattle.wp_core.specs.Cache.{cached}
 use Rattle.wp_core.specs.Lists.{IsIn}
 use Rattle.wp_core.specs.Reading.{Registration, snapshot_of}
 use Rattle.wp_core.specs.Turns.{Holds, snapshots_turn}
-use Rattle.wp_core.specs.Tables.{Content, snapshots, live_numbers, NoOldCommits}
+use Rattle.wp_core.specs.Tables.{Content, snapshots, live_numbers}
 use Rattle.wp_core.specs.Views.{Fact, in_old_commits, live_listed}
 use Rattle.wp_core.specs.World.{Participant, Actor, World, with_content}
 use Rattle.wp_core.specs.Steps.{Step}

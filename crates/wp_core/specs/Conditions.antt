@@ -14,8 +14,9 @@ use Rattle.wp_model.specs.declared.holder.Holder.TheVariants.{Txn, Client}
 use Rattle.wp_core.specs.Turns.{Turn, write_turn, prepared_turn, snapshots_turn, tables_turn, Holds}
 use Rattle.wp_judge.specs.Words.{CommitPair}
 use Rattle.wp_core.specs.Cache.{cached}
-use Rattle.wp_model.specs.PreparedTables.{is_prepared}
-use Rattle.wp_core.specs.Tables.{StoreTable, Installed, NoneDelayed, NoOldCommits}
+use Rattle.wp_model.specs.PreparedTables.{is_prepared, NoneDelayed}
+use Rattle.wp_core.specs.Tables.{StoreTable, Installed}
+use Rattle.wp_model.specs.Snapshots.{NoOldCommits}
 use Rattle.wp_judge.specs.declared.observed.Observed.{Observed}
 use Rattle.wp_judge.specs.declared.observed.Load.{Load}
 use Rattle.wp_judge.specs.declared.observed.Load.TheVariants.{InPrepared, IsOldCommit}

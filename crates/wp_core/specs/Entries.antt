@@ -1,5 +1,6 @@
 -- What an entry that comes next is about: its versions, its pair, its keys, its transaction.
 use Rattle.std.specs.Prelude.{◌≡◌, ℕ, suc, ◌==◌, List, [], ◌∷◌, ◌++◌, length, Option, Some, None, unwrap_or, if◌then◌else◌}
+use Rattle.std.specs.List.{cons_option}
 use Rattle.wp_model.specs.declared.change.Change.{Change}
 use Rattle.wp_model.specs.declared.entry.Entry.{Entry}
 use Rattle.wp_model.specs.declared.entry.Entry.TheVariants.{Write, Prepare, Commit, Undo, Close}
@@ -30,6 +31,11 @@ extended history (entry ∷ others) = history ++ entry ∷ []
 abbrev pub pending_pair : List Entry → List Entry → Option CommitPair
 pending_pair history [] = None
 pending_pair history (entry ∷ others) = pair_by (suc (length history)) entry
+
+-- all pairs that these entries decide, of which the first has this number
+abbrev pub pairs_of : ℕ → List Entry → List CommitPair
+pairs_of n [] = []
+pairs_of n (entry ∷ others) = cons_option (pair_by n entry) (pairs_of (suc n) others)
 
 -- the transaction that an entry is of, if it is of one
 abbrev pub transaction_of : List Entry → Entry → Option (List ℕ)

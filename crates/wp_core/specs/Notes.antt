@@ -3,7 +3,7 @@ use Rattle.std.specs.Prelude.{ℕ, Bool, true, false, ◌||◌, ◌==◌, not, L
 use Rattle.wp_model.specs.declared.entry.Entry.{Entry}
 use Rattle.wp_core.specs.Turns.{Turn}
 use Rattle.wp_core.specs.Cache.{cache_place}
-use Rattle.wp_core.specs.Views.{Fact, passed, in_old_commits, apart, words_stay, versions_in_memory, versions_nowhere, number_in_heap, number_not_in_heap, undecided_at, prior_values, unprepared, direct_free, tables_stay, live_listed, nothing_flushed, frozen_stay, delayed_flag_stays, old_flag_stays}
+use Rattle.wp_core.specs.Views.{Fact, passed, in_old_commits, apart, words_stay, has_left, versions_in_memory, versions_nowhere, number_in_heap, number_not_in_heap, undecided_at, prior_values, unprepared, direct_free, tables_stay, live_listed, nothing_flushed, frozen_stay, delayed_flag_stays, old_flag_stays}
 use Rattle.wp_core.specs.Entries.{transaction_of}
 use Rattle.wp_core.specs.World.{Actor}
 use Rattle.wp_core.specs.Steps.{Step, store_published, store_max_evicted, store_word, store_delayed_flag, store_old_flag, give_turn, make_pending, drop_pending, add_prepared, take_pending_prepared, add_versions, take_versions, move_versions, replace_versions, install, free_transaction, leave_name, free_direct}
@@ -87,6 +87,7 @@ ends_itself history words step (passed place pair) = stores_at words place step
 ends_itself history words step (in_old_commits place pair) = stores_at words place step
 ends_itself history words step (apart place pair) = stores_at words place step
 ends_itself history words step (words_stay max cache) = stores_words step
+ends_itself history words step (has_left p) = false
 ends_itself history words step versions_in_memory = ends_pending step || takes_versions step
 ends_itself history words step versions_nowhere = ends_pending step || adds_versions step
 ends_itself history words step number_in_heap = ends_pending step || takes_prepared step

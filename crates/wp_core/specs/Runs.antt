@@ -1,36 +1,23 @@
 -- The worlds that steps of any actors reach.
-use Rattle.std.specs.Prelude.{◌≡◌, ℕ, ◌≤◌, true, false, List, [], ◌∷◌, length, Option, Some, None, All}
+use Rattle.std.specs.Prelude.{◌≡◌, ℕ, ◌≤◌, true, false, List, [], ◌∷◌, length, None, All}
 use mathlib.Core.Option.{some}
 use lib.ListN.{get_elem?}
 use Rattle.std.specs.FinSet as set
 use Rattle.std.specs.FinMap as finite
-use Rattle.wp_model.specs.declared.entry.Entry.{Entry}
-use Rattle.wp_model.specs.History.{named, undecided, holder_of}
+use Rattle.wp_model.specs.History.{undecided}
 use Rattle.wp_model.specs.Legal.{IsLegal, undone_last}
 use Rattle.wp_core.specs.Turns.{all_free}
-use Rattle.wp_model.specs.LockTables.{LockTables}
 use Rattle.wp_core.specs.World.{Actor, World, new_actor}
 use Rattle.wp_core.specs.Steps.{Step}
 use Rattle.wp_core.specs.Effects.{done}
 use Rattle.wp_core.specs.Needs.{Needs}
 use Rattle.wp_core.specs.Notes.{forgets}
-use Rattle.wp_core.specs.Sound.Locks.{prepare_holding}
+use Rattle.wp_history.specs.Opened.{AreOpened}
 use Rattle.wp_core.specs.Sound.Store.{IsStored, IsOfEdit}
 
 -- one step of an actor
 abbrev pub IsStep : World → ℕ → Step → World → Type 0
 IsStep w by step next = (a : Actor) × (get_elem? w.actors by ≡ some a) × Needs w by a step × (next ≡ done w by (forgets w.writes.history (length w.cache) step a) step)
-
--- under the name of an undecided prepare, no client
-abbrev pub named_by : Option ℕ → Option (Option (List ℕ))
-named_by None = None
-named_by (Some p) = Some None
-
--- just the names of undecided prepares are live, had by nobody, and just their keys are held
-pub record AreOpened (history : List Entry) (t : LockTables) : Type 0 where
-  pub names : (name : List ℕ) → finite.get t.names name ≡ named_by (named history name)
-  pub keys : (key : List ℕ) → finite.get t.keys key ≡ prepare_holding history (holder_of history key)
-  pub labels : t.labels ≡ finite.empty
 
 -- a world as it is opened: on a legal history that ends in no undo
 pub record IsOpening (w : World) : Type 0 where

@@ -1,12 +1,12 @@
 -- The tables that the turns guard. Those of prepared transactions, of snapshots, and of names and keys are the same that
 -- the crates of these tables show; here are the others, and what the machine asks of all.
-use Rattle.std.specs.Prelude.{◌≡◌, ℕ, nat_le, not, Bool, false, List, ◌++◌, filter, Option, None}
+use Rattle.std.specs.Prelude.{ℕ, nat_le, not, Bool, List, ◌++◌, filter, Option}
 use Rattle.std.specs.FinSet as set
 use Rattle.std.specs.FinMap as map
 use Rattle.wp_model.specs.declared.entry.Entry.{Entry}
 use Rattle.wp_model.specs.declared.version.Version.{Version}
 use Rattle.wp_model.specs.PreparedTables.{PreparedTables}
-use Rattle.wp_model.specs.Snapshots.{Snapshots, is_old_commit}
+use Rattle.wp_model.specs.Snapshots.{Snapshots}
 use Rattle.wp_model.specs.LockTables.{LockTables}
 use Rattle.wp_model.specs.Flushed.{InstalledEdit}
 use Rattle.wp_core.specs.Turns.{Turn, write_turn, prepared_turn, snapshots_turn, store_turn, locks_turn, tables_turn}
@@ -34,19 +34,11 @@ without_prepared t p = record { heap = set.remove t.heap p; delayed = set.remove
 abbrev pub with_moved : PreparedTables → ℕ → PreparedTables
 with_moved t m = record t { heap = set.retain t.heap (λ p. not (nat_le p m)); delayed = set.union t.delayed (set.retain t.heap (λ p. nat_le p m)) }
 
--- nothing is delayed
-abbrev pub NoneDelayed : PreparedTables → Type 0
-NoneDelayed t = ((p : ℕ) → set.contains t.delayed p ≡ false) × ((p : ℕ) → map.get t.delayed_commits p ≡ None)
-
 -- ---- the snapshots turn
 
 -- the live numbers
 abbrev pub live_numbers : Snapshots → List ℕ
 live_numbers snapshots = map.keys snapshots
-
--- the old commit map is empty
-abbrev pub NoOldCommits : Snapshots → Type 0
-NoOldCommits snapshots = (s p : ℕ) → is_old_commit snapshots s p ≡ false
 
 -- ---- the store turn
 

@@ -44,6 +44,8 @@ pub data Fact : Type 0 where
   apart : ℕ → CommitPair → Fact
   -- nobody else changes the bound or a word
   words_stay : ℕ → List ℕ → Fact
+  -- this number is decided, and in neither the heap nor the delayed set
+  has_left : ℕ → Fact
   -- of the pending entry
   versions_in_memory : Fact
   versions_nowhere : Fact

@@ -18,7 +18,4 @@
 //! and what each reader knows by its loads so far.
 #![tactic(auto)]
 
-mod holds;
 pub mod laws;
-
-pub use holds::{HoldsEdit, HoldsLocks, HoldsLog, HoldsPrepared, HoldsSnaps, HoldsVersions};

@@ -180,6 +180,7 @@ by_itself h n e s is (view.passed place pair) = is.place place
 by_itself h n e s is (view.in_old_commits place pair) = is.place place
 by_itself h n e s is (view.apart place pair) = is.place place
 by_itself h n e s is (view.words_stay max cache) = is.words
+by_itself h n e s is (view.has_left p) = refl
 by_itself h n e s is view.versions_in_memory = either _ _ _ _ is.pending is.take_versions
 by_itself h n e s is view.versions_nowhere = either _ _ _ _ is.pending is.add_versions
 by_itself h n e s is view.number_in_heap = either _ _ _ _ is.pending is.take_prepared

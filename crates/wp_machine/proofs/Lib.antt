@@ -1,8 +1,6 @@
 pub mod Maps
 pub mod NameMaps
 pub mod Held
-pub mod Published
-pub mod Released
 pub mod Ends
 pub mod Apart
 pub mod StayNoted

@@ -10,6 +10,7 @@ none_ends (view.passed place pair) = refl
 none_ends (view.in_old_commits place pair) = refl
 none_ends (view.apart place pair) = refl
 none_ends (view.words_stay max cache) = refl
+none_ends (view.has_left p) = refl
 none_ends view.versions_in_memory = refl
 none_ends view.versions_nowhere = refl
 none_ends view.number_in_heap = refl

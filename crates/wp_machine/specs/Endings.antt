@@ -7,7 +7,7 @@ use Rattle.wp_core.specs.Turns.{Turn}
 use Rattle.wp_core.specs.Changes.{turn_index}
 use Rattle.wp_core.specs.Cache.{cache_place}
 use Rattle.wp_core.specs.Entries.{transaction_of, pending_pair}
-use Rattle.wp_core.specs.Views.{Fact, passed, in_old_commits, apart, words_stay, versions_in_memory, versions_nowhere, number_in_heap, number_not_in_heap, undecided_at, prior_values, unprepared, direct_free, tables_stay, live_listed, nothing_flushed, frozen_stay, delayed_flag_stays, old_flag_stays}
+use Rattle.wp_core.specs.Views.{Fact, passed, in_old_commits, apart, words_stay, has_left, versions_in_memory, versions_nowhere, number_in_heap, number_not_in_heap, undecided_at, prior_values, unprepared, direct_free, tables_stay, live_listed, nothing_flushed, frozen_stay, delayed_flag_stays, old_flag_stays}
 use Rattle.wp_core.specs.Sound.Views.{guarded_by}
 use Rattle.wp_core.specs.Notes.{is_name}
 use Rattle.wp_actor.specs.Turns.{turn_of}
@@ -160,6 +160,7 @@ ends_itself e (passed place pair) = ends_place e place
 ends_itself e (in_old_commits place pair) = ends_place e place
 ends_itself e (apart place pair) = ends_place e place
 ends_itself e (words_stay max cache) = ends_words e
+ends_itself e (has_left p) = false
 ends_itself e versions_in_memory = ends_pending e || is_take_versions e
 ends_itself e versions_nowhere = ends_pending e || is_add_versions e
 ends_itself e number_in_heap = ends_pending e || is_take_prepared e

@@ -43,6 +43,7 @@ fact_of (noted.Passed place p c) = view.passed place (record { number = p; decis
 fact_of (noted.InOldCommits place p c) = view.in_old_commits place (record { number = p; decision = c })
 fact_of (noted.Apart place p c) = view.apart place (record { number = p; decision = c })
 fact_of (noted.WordsStay max words) = view.words_stay max words.items
+fact_of (noted.HasLeft p) = view.has_left p
 fact_of noted.VersionsInMemory = view.versions_in_memory
 fact_of noted.VersionsNowhere = view.versions_nowhere
 fact_of noted.NumberInHeap = view.number_in_heap

@@ -242,7 +242,7 @@ impl Ending {
             Noted::TablesStay(_, _) => {
                 matches!(self, Ending::MoveVersions | Ending::ReplaceVersions)
             }
-            Noted::LiveListed(_, _) => false,
+            Noted::HasLeft(_) | Noted::LiveListed(_, _) => false,
             Noted::NothingFlushed => matches!(self, Ending::MoveVersions | Ending::Install),
             Noted::FrozenStay(_, _) => matches!(self, Ending::MoveVersions),
             Noted::DelayedFlagStays(_) => matches!(self, Ending::DelayedFlag),

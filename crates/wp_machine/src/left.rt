@@ -3,7 +3,7 @@ ghost use Rattle.std.specs.Prelude.{◌≡◌, ◌++◌, map, IfOk, OnOk};
 ghost use Rattle.std.specs.Option.{option_copied};
 ghost use Rattle.wp_model.specs.Batch.{key_of};
 ghost use Rattle.wp_model.specs.declared.holder.Holder.TheVariants.{Txn};
-ghost use Rattle.wp_core.proofs.Openings.{name_left, keys_left, names_of, keys_of};
+ghost use Rattle.wp_history.proofs.Opened.{name_left, keys_left, names_of, keys_of};
 
 use std::alloc::{AllocError, Global};
 use wp_history::History;

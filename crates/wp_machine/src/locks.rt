@@ -5,7 +5,7 @@ ghost use Rattle.std.specs.FinMap as finite;
 ghost use Rattle.wp_model.specs.Batch.{key_cmp};
 ghost use Rattle.wp_model.specs.declared.holder.Holder.TheVariants.{Txn};
 ghost use Rattle.wp_core.specs.Changes.{with_name, with_key, without_key, without_transaction, with_label, is_held_by, keys_of_holder};
-ghost use Rattle.wp_core.proofs.Openings.{names_of, keys_of};
+ghost use Rattle.wp_history.proofs.Opened.{names_of, keys_of};
 ghost use Rattle.wp_machine.specs.Pairs.{newest_under};
 
 use crate::left::{keys_left, names_left};

@@ -74,6 +74,8 @@ pub enum Noted {
     Apart(usize, Seq, Seq),
     /// Nobody else changes the bound or a word.
     WordsStay(Seq, Vec<u64>),
+    /// This number is decided, and in neither the heap nor the delayed set.
+    HasLeft(Seq),
     VersionsInMemory,
     VersionsNowhere,
     NumberInHeap,
@@ -123,7 +125,8 @@ impl Fact {
         ensures { option_map turn_of result ≡ guarded_by self.now }
     {
         match &self.says {
-            Noted::UndecidedAt(_, _)
+            Noted::HasLeft(_)
+            | Noted::UndecidedAt(_, _)
             | Noted::PriorValues(_, _, _)
             | Noted::Unprepared(_)
             | Noted::DirectFree(_)

@@ -5,7 +5,8 @@ ghost use Rattle.wp_model.specs.History.{undecided};
 ghost use Rattle.wp_model.specs.Legal.{IsLegal, undone_last};
 ghost use Rattle.wp_core.specs.Runs.{IsOpening};
 ghost use Rattle.wp_core.specs.World.{new_actor};
-ghost use Rattle.wp_core.proofs.Openings.{opened_world, flag_of, all_in_memory, names_of, keys_of};
+ghost use Rattle.wp_core.proofs.Openings.{opened_world, flag_of, all_in_memory};
+ghost use Rattle.wp_history.proofs.Opened.{names_of, keys_of};
 
 use crate::actor::Actor;
 use crate::cache::Cache;

@@ -40,20 +40,6 @@ all_had versions others each key p value is = each_at (λ k q. version_at others
 pub had_all : (versions others : List Version) → HasAll versions others → AreAmong versions others versions
 had_all versions others has = at_each (λ k q. version_at others k q ≡ version_at versions k q) versions (λ key p value is. has key p value is ∙ sym is)
 
-pub same_from : (versions others : List Version) → HasAll versions others → HasAll others versions → AreSame versions others
-same_from versions others there back key p = by (version_at versions key p) refl (version_at others key p) refl
-  where
-    by : (a : Option (Option (List ℕ))) → version_at versions key p ≡ a → (b : Option (Option (List ℕ))) → version_at others key p ≡ b → version_at versions key p ≡ version_at others key p
-    by None e None f = e ∙ sym f
-    by (Some x) e b f = e ∙ sym (there key p x e)
-    by None e (Some y) f = let got = back key p y f in absurd cc
-
-pub same_there : (versions others : List Version) → AreSame versions others → HasAll versions others
-same_there versions others same key p value is = sym (same key p) ∙ is
-
-pub same_back : (versions others : List Version) → AreSame versions others → HasAll others versions
-same_back versions others same key p value is = same key p ∙ is
-
 -- ---- numbers
 
 abbrev pub AreNotAt : ℕ → List Version → Type 0

@@ -1,5 +1,5 @@
 -- Versions that are in order, of their entries, or later ones.
-use Rattle.std.proofs.Common.{◌≡◌, ℕ, zero, suc, ◌<◌, Bool, true, false, cond, nat_eq, List, [], ◌∷◌, ◌++◌, length, drop, map, Option, Some, None, is_some, ◌||◌, inl, inr, refl, sym, ap, ◌∙◌, arith}
+use Rattle.std.proofs.Common.{◌≡◌, ℕ, zero, suc, ◌<◌, Bool, true, false, cond, nat_eq, List, [], ◌∷◌, ◌++◌, length, drop, map, Option, Some, None, is_some, ◌||◌, refl, sym, ap, ◌∙◌, arith}
 use Rattle.std.specs.Option.{option_or}
 use Rattle.std.specs.List.{list_any}
 use Rattle.std.specs.List.Sorted.{IsStrictlySortedBy}
@@ -10,7 +10,7 @@ use Rattle.wp_model.specs.declared.entry.Entry.{Entry}
 use Rattle.wp_model.specs.declared.version.Version.{Version}
 use Rattle.wp_model.specs.Decision.{version_in, entry_version}
 use Rattle.wp_model.specs.Versions.{AreInOrder, version_at}
-use Rattle.wp_model.specs.Covered.{GivesStore, IsCovered, is_among}
+use Rattle.wp_model.specs.Covered.{IsCovered, is_among}
 use Rattle.wp_model.specs.Snapshots.{Snapshots}
 use Rattle.wp_merge.specs.Merge.{first_at}
 use Rattle.wp_core.specs.Entries.{next_of}
@@ -18,7 +18,7 @@ use Rattle.wp_core.specs.Tables.{live_numbers}
 use Rattle.wp_model.specs.Flushed.{versions_after}
 use Rattle.wp_machine_needs.specs.Each.{Each}
 use Rattle.wp_machine.specs.Machine.{versions_of_next}
-use Rattle.wp_machine_needs.specs.VersionLists.{AreSame, AreOf, AreNext}
+use Rattle.wp_machine_needs.specs.VersionLists.{AreOf, AreNext}
 use Rattle.wp_cover.proofs.Order.{is_here}
 use Rattle.wp_machine_needs.proofs.ListFacts.{each_at, at_each}
 
@@ -37,19 +37,6 @@ of_singles [] key n = refl
 of_singles (v ∷ versions) key n = or_cond (is_here key n v) v.value (first_at (map (λ (w : Version). w ∷ []) versions) key n) ∙ ap (λ o. cond (is_here key n v) (Some v.value) o) (of_singles versions key n)
 
 -- ---- covered
-
-pub covered_same : (versions others : List Version) (history : List Entry) (numbers : List ℕ) (from : ℕ) → AreSame others versions → IsCovered versions history numbers from → IsCovered others history numbers from
-covered_same versions others history numbers from same c = record {
-  part = λ key p value is. c.part key p value (sym (same key p) ∙ is);
-  undecided = λ key p value undecided is. same key p ∙ c.undecided key p value undecided is;
-  undone = λ key p value undone is. same key (length history) ∙ c.undone key p value undone is;
-  listed = λ key n among. gives key n (c.listed key n among);
-  later = λ key n above within. gives key n (c.later key n above within);
-}
-  where
-    gives : (key : List ℕ) (n : ℕ) → GivesStore versions history key n → GivesStore others history key n
-    gives key n (inl g) = inl (record { number = g.number; value = g.value; there = same key g.number ∙ g.there; committed = g.committed; newest = λ q above by. same key q ∙ g.newest q above by; stored = g.stored })
-    gives key n (inr g) = inr (record { none = λ p by. same key p ∙ g.none p by; missing = g.missing })
 
 tied_number : (p q : ℕ) → eq_by_cmp nat_cmp q p ≡ nat_eq p q
 tied_number p q = (eq_by_cmp_equiv nat_cmp_total).symm q p ∙ unsigned_tied p q

@@ -10,6 +10,7 @@ ghost use Rattle.wp_machine.specs.Machine.{step_of, store_step, tables_step};
 ghost use Rattle.wp_machine_needs.specs.Offered.{IsOffered};
 
 mod clearing;
+mod decided;
 mod edits;
 mod finding;
 mod listed;
@@ -26,7 +27,9 @@ mod versions;
 use crate::finding::may_find;
 use crate::moves::{may_halt, may_install, may_move_versions, may_replace_versions};
 use crate::note::may_note;
+pub use decided::{decision_in, is_decided};
 pub use edits::has_last_tables;
+pub use read::history_of;
 use std::alloc::AllocError;
 use wp_machine::{Actor, Kind, LocksStep, OwnStep, StoreStep, TablesStep, World};
 

@@ -3,11 +3,12 @@ ghost use Rattle.std.specs.Prelude.{◌≡◌, ◌↔◌, ◌≤◌, true, lengt
 ghost use Rattle.wp_core.specs.Steps as step;
 ghost use Rattle.wp_core.specs.Needs.{Needs};
 ghost use Rattle.wp_core.specs.Sound.Prepared.{IsInOldCommits};
-ghost use Rattle.wp_core.specs.Sound.Views.{IsGuarded, IsClearing, IsApart};
+ghost use Rattle.wp_core.specs.Sound.Views.{IsGuarded, IsClearing, IsApart, HasLeft};
 ghost use Rattle.wp_machine_needs.specs.VersionLists.{AreListed, StayUpTo};
 ghost use Rattle.wp_machine_needs.specs.Said.{IsSaid};
 
 use crate::clearing::{is_apart, is_in_old_commits, is_published_at};
+use crate::decided::is_decided;
 use crate::listed::{live_listed, stay_up_to};
 use crate::pending::{is_in_heap, is_in_memory, is_nowhere};
 use crate::transactions::{has_prior, is_direct_free, is_undecided_at, is_unprepared};
@@ -70,6 +71,15 @@ fn words_stay(world: &World, max: Seq, words: &[u64]) -> bool
     world.cache.words() == words
 }
 
+fn has_left(world: &World, p: Seq) -> Result<bool, AllocError>
+    ensures { IfOk result (λ yes. yes ≡ true → HasLeft world.now.writes.history world.now.prepared p) }
+{
+    if world.prepared.is_prepared(p) {
+        return Ok(false);
+    }
+    is_decided(world.writes.entries(), p, world.alloc)
+}
+
 fn tables_stay(store: &StoreTable, versions: &[Version], floor: Seq) -> bool
     ensures { (result ≡ true) ↔ ((store.now.tables ≡ versions.now) × (store.now.floor ≡ floor)) }
 {
@@ -109,6 +119,7 @@ fn is_so(world: &World, participant: &Participant, fact: &Fact) -> Result<bool, 
         Noted::InOldCommits(place, p, c) => is_kept(world, *place, *p, *c),
         Noted::Apart(place, p, c) => Ok(is_decided_apart(world, *place, *p, *c)),
         Noted::WordsStay(max, words) => Ok(words_stay(world, *max, words)),
+        Noted::HasLeft(p) => has_left(world, *p),
         Noted::VersionsInMemory => is_in_memory(&world.writes, &world.store),
         Noted::VersionsNowhere => is_nowhere(&world.writes, &world.store),
         Noted::NumberInHeap => is_in_heap(&world.writes, &world.prepared),

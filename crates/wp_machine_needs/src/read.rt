@@ -9,7 +9,7 @@ use wp_model::Entry;
 const FEW: u64 = 4294967296;
 
 /// The entries as a history. None where they are not legal.
-pub(crate) fn history_of(entries: &[Entry], alloc: Global) -> Result<Option<History>, AllocError>
+pub fn history_of(entries: &[Entry], alloc: Global) -> Result<Option<History>, AllocError>
     ensures { IfOk result (λ read. IfSome read (λ history. history.entries ≡ entries.now)) }
 {
     let mut history = History::new(alloc);

@@ -12,10 +12,9 @@ use Rattle.std.specs.Option.{is_some}
 use Rattle.std.proofs.lemmas.Bool.{eqb-true, eq-eqb}
 use Rattle.wp_model.specs.declared.version.Version.{Version}
 use Rattle.wp_model.specs.Versions.{version_at}
-use Rattle.wp_model.specs.PreparedTables.{PreparedTables}
-use Rattle.wp_model.specs.Snapshots.{Snapshot, is_old_commit}
+use Rattle.wp_model.specs.PreparedTables.{PreparedTables, NoneDelayed}
+use Rattle.wp_model.specs.Snapshots.{Snapshot, is_old_commit, NoOldCommits}
 use Rattle.wp_model.specs.Batch.{key_cmp}
-use Rattle.wp_core.specs.Tables.{NoneDelayed, NoOldCommits}
 use Rattle.wp_core.specs.Sound.Prepared.{IsInOldCommits}
 use Rattle.wp_machine_needs.specs.Each.{Each}
 use Rattle.wp_machine_permits.specs.Permits.{IsKeptAt}

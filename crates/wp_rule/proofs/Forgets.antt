@@ -2,7 +2,7 @@
 use Rattle.std.proofs.Common.{◌≡◌, ℕ, Bool, false, not, filter, List, [], ◌∷◌, refl, ap, Some}
 use Rattle.wp_model.specs.declared.entry.Entry.{Entry}
 use Rattle.wp_core.specs.Turns.{Turn, write_turn, prepared_turn, snapshots_turn, tables_turn}
-use Rattle.wp_core.specs.Views.{Fact, passed, in_old_commits, apart, words_stay, versions_in_memory, versions_nowhere, number_in_heap, number_not_in_heap, undecided_at, prior_values, unprepared, direct_free, tables_stay, live_listed, nothing_flushed, frozen_stay, delayed_flag_stays, old_flag_stays}
+use Rattle.wp_core.specs.Views.{Fact, passed, in_old_commits, apart, words_stay, has_left, versions_in_memory, versions_nowhere, number_in_heap, number_not_in_heap, undecided_at, prior_values, unprepared, direct_free, tables_stay, live_listed, nothing_flushed, frozen_stay, delayed_flag_stays, old_flag_stays}
 use Rattle.wp_core.specs.World.{Actor}
 use Rattle.wp_core.specs.Steps.{Step, load_published, take_turn, note, make_seat, learn, join_seat}
 use Rattle.wp_core.specs.Notes.{ends, forgets, gives_guard, stores_at, stores_words, stores_delayed_flag, stores_old_flag, ends_pending, adds_versions, takes_versions, adds_prepared, takes_prepared, ends_transaction, frees_direct, moves_versions, replaces_versions, installs}
@@ -29,6 +29,7 @@ none_ends history words step e (passed place pair) = rw (e.guard write_turn, e.p
 none_ends history words step e (in_old_commits place pair) = rw (e.guard write_turn, e.place words place) refl
 none_ends history words step e (apart place pair) = rw (e.guard write_turn, e.place words place) refl
 none_ends history words step e (words_stay max cache) = rw (e.guard write_turn, e.words) refl
+none_ends history words step e (has_left p) = refl
 none_ends history words step e versions_in_memory = rw (e.guard write_turn, e.pending, e.takes) refl
 none_ends history words step e versions_nowhere = rw (e.guard write_turn, e.pending, e.adds) refl
 none_ends history words step e number_in_heap = rw (e.guard write_turn, e.pending, e.unprepared) refl

@@ -1,5 +1,6 @@
 pub mod Forgets
 pub mod Quiet
+pub mod Bound
 pub mod Knows
 pub mod Maintenance
 pub mod Needed
@@ -11,7 +12,6 @@ pub mod Seats
 pub mod Founds
 pub mod OnlyFirst
 pub mod Ends
-pub mod MadeUp
 pub mod TurnsTaken
 pub mod Accounts
 pub mod MayBeMade

@@ -21,7 +21,7 @@ use Rattle.wp_core.specs.Lists.{IsIn}
 use Rattle.wp_core.specs.Turns.{Turn, write_turn, prepared_turn, snapshots_turn, store_turn, locks_turn, tables_turn, Holds}
 use Rattle.wp_core.specs.Cache.{cache_place, cached, pair_at}
 use Rattle.wp_core.specs.Tables.{Content, WriteTable, StoreTable, Installed, writes, prepared, snapshots, store, locks, installed}
-use Rattle.wp_core.specs.Views.{Fact, passed, in_old_commits, apart, words_stay, versions_in_memory, versions_nowhere, number_in_heap, number_not_in_heap, undecided_at, prior_values, unprepared, direct_free, tables_stay, live_listed, nothing_flushed, frozen_stay, delayed_flag_stays, old_flag_stays}
+use Rattle.wp_core.specs.Views.{Fact, passed, in_old_commits, apart, words_stay, has_left, versions_in_memory, versions_nowhere, number_in_heap, number_not_in_heap, undecided_at, prior_values, unprepared, direct_free, tables_stay, live_listed, nothing_flushed, frozen_stay, delayed_flag_stays, old_flag_stays}
 use Rattle.wp_core.specs.World.{Transaction, Actor, World}
 use Rattle.wp_core.specs.Entries.{next_of, batch_of_name, extended}
 use Rattle.wp_core.specs.Conditions.{IsHeldFor, MayPublish, MayLook, MayBeEvicted, MayGive}
@@ -42,7 +42,8 @@ use Rattle.wp_core.proofs.HistoryLaws.{decision_stays}
 use Rattle.wp_core.proofs.KeepsSeen.{shorter}
 use Rattle.wp_core.proofs.Tests.{none_some}
 use Rattle.wp_rule.specs.Words.{Place, IsAt}
-use Rattle.wp_rule.specs.Knows.{Holding, Noted, IsUp, KnowsLook, KnowsCleared, KnowsTables, KnowsGive, KnowsPair, HasNoVersions, KnowsFact, KnowsHeld, KnowsPublish, Knows}
+use Rattle.wp_rule.specs.Knows.{Holding, Noted, IsUp, KnowsLook, KnowsCleared, KnowsTables, KnowsGive, KnowsPair, IsRise, HasNoVersions, KnowsFact, KnowsHeld, KnowsPublish, Knows}
+use Rattle.wp_rule.proofs.Bound.{past_reaches, past_published}
 use Rattle.wp_rule.proofs.Knows.{at_sound, held_is, seen_is, noted_is}
 use Rattle.wp_rule.proofs.Maintenance.{edit_later, moved, next_stays, replaced, installed_now, halted_now, halted_only}
 
@@ -218,6 +219,7 @@ module _ (p : Place) (a : Actor) (w : World) (k : IsAt p a w) where
   facts (passed place pair) n = let h = has_writes _ n in (guarded write_turn h.0, clearing place pair (λ max. pair.decision ≤ max) h.1)
   facts (in_old_commits place pair) n = let h = has_writes _ n in let g = has_snapshots _ h.1 in (guarded write_turn h.0, clearing place pair (λ max. IsInOldCommits w.snapshots pair.number pair.decision) g.1)
   facts (apart place pair) n = let h = has_writes _ n in let g = has_prepared _ h.1 in (guarded write_turn h.0, clearing place pair (λ max. IsApart w.prepared pair) g.1)
+  facts (has_left q) n = let h = has_prepared _ n in (alone, ((h.1.0.0, decided_now q h.1.0.0 h.1.0.1), h.1.1))
   facts versions_in_memory n = let h = has_writes _ n in (guarded write_turn h.0, ⊎_elim none_in_memory (λ m. (has_store _ m).1) h.1)
   facts versions_nowhere n = let h = has_writes _ n in (guarded write_turn h.0, ⊎_elim nowhere (λ m. (has_store _ m).1) h.1)
   facts number_in_heap n = let h = has_writes _ n in let g = has_prepared _ h.1 in (guarded write_turn h.0, g.1)
@@ -233,6 +235,13 @@ module _ (p : Place) (a : Actor) (w : World) (k : IsAt p a w) where
   facts (words_stay max words) n = absurd n
   facts (delayed_flag_stays value) n = absurd n
   facts (old_flag_stays value) n = absurd n
+
+  -- the bound rises, and not above the published number
+  rises : (m : ℕ) → IsRise a p.cells w.writes m → (w.max_evicted ≤ m) × (m ≤ length w.writes.history)
+  rises m r =
+      let c = clearing (cache_place p.cells r.pair.number) r.gone (λ bound. bound < r.gone.decision) r.there in
+      let above = c.so in let reached = past_reaches p.cells (length w.writes.history) r.gone.decision in let is = r.past in
+      (omega (arith, above, reached, is), subst (λ x. x ≤ length w.writes.history) (sym is) (past_published p.cells (length w.writes.history) r.gone.decision c.published_by))
 
   -- ---- publishing
 
@@ -278,8 +287,8 @@ module _ (p : Place) (a : Actor) (w : World) (k : IsAt p a w) where
   needed (load which) n = (n.0, n.1, n.2, looks which n.3)
   needed end_reading n = tt
   needed (store_max_evicted m) n =
-      let h = has_writes _ n in let g = has_prepared _ h.1 in let s = is_so (words_stay g.1.0.0 g.1.0.1) g.1.0.2 in
-      (h.0, g.0, subst (λ x. x ≤ m) (sym s.0) g.1.0.3, g.1.1, ⊎_elim (λ up. inl (delayed_up up)) (λ low. inr low) g.1.2)
+      let h = has_writes _ n in let g = has_prepared _ h.1 in let r = rises m g.1.0 in
+      (h.0, g.0, r.0, r.1, ⊎_elim (λ up. inl (delayed_up up)) (λ low. inr low) g.1.1)
   needed (store_word pair) n = let h = has_writes _ n in (h.0, h.1.0, cleared pair h.1.1)
   needed (store_delayed_flag value) n = has_prepared _ n
   needed (store_old_flag value) n = has_snapshots _ n

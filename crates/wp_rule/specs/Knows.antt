@@ -13,8 +13,8 @@ use Rattle.wp_model.specs.Decision.{decision_of, version_in}
 use Rattle.wp_model.specs.History.{named, batch_at, is_changed, is_prepare}
 use Rattle.wp_model.specs.Versions.{version_at}
 use Rattle.wp_model.specs.Legal.{IsLegal, prior}
-use Rattle.wp_model.specs.PreparedTables.{is_prepared}
-use Rattle.wp_model.specs.Snapshots.{IsLive}
+use Rattle.wp_model.specs.PreparedTables.{is_prepared, NoneDelayed}
+use Rattle.wp_model.specs.Snapshots.{IsLive, NoOldCommits}
 use Rattle.wp_judge.specs.Words.{CommitPair}
 use Rattle.wp_judge.specs.Order.{ask}
 use Rattle.wp_judge.specs.declared.observed.Asked.TheVariants as asked
@@ -24,16 +24,17 @@ use Rattle.wp_judge.specs.declared.observed.Load.TheVariants.{InPrepared, IsOldC
 use Rattle.wp_core.specs.Lists.{IsIn}
 use Rattle.wp_core.specs.Turns.{Turn, write_turn, prepared_turn, snapshots_turn, store_turn, locks_turn, tables_turn}
 use Rattle.wp_core.specs.Cache.{cached, cache_place, pair_at}
-use Rattle.wp_core.specs.Tables.{WriteTable, StoreTable, Installed, Content, writes, prepared, snapshots, store, locks, installed, up_to, NoneDelayed, NoOldCommits}
-use Rattle.wp_core.specs.Views.{Fact, passed, in_old_commits, apart, words_stay, versions_in_memory, versions_nowhere, number_in_heap, number_not_in_heap, undecided_at, prior_values, unprepared, direct_free, tables_stay, live_listed, nothing_flushed, frozen_stay, delayed_flag_stays, old_flag_stays}
+use Rattle.wp_core.specs.Tables.{WriteTable, StoreTable, Installed, Content, writes, prepared, snapshots, store, locks, installed, up_to}
+use Rattle.wp_core.specs.Views.{Fact, passed, in_old_commits, apart, words_stay, has_left, versions_in_memory, versions_nowhere, number_in_heap, number_not_in_heap, undecided_at, prior_values, unprepared, direct_free, tables_stay, live_listed, nothing_flushed, frozen_stay, delayed_flag_stays, old_flag_stays}
 use Rattle.wp_core.specs.World.{Transaction, Actor}
-use Rattle.wp_core.specs.Entries.{next_of, pair_by, pending_pair, transaction_of, changes_under, IsOneRecord, HasVersionsAt}
+use Rattle.wp_core.specs.Entries.{next_of, pair_by, pending_pair, pairs_of, transaction_of, changes_under, IsOneRecord, HasVersionsAt}
 use Rattle.wp_core.specs.Conditions.{HasTransaction, IsPrepare}
 use Rattle.wp_core.specs.Sound.Prepared.{IsInOldCommits}
 use Rattle.wp_core.specs.Sound.Snapshots.{has_versions_at}
 use Rattle.wp_core.specs.Sound.Store.{NoneFlushed}
-use Rattle.wp_core.specs.Sound.Views.{IsApart, IsInMemory, IsNowhere, Owns}
+use Rattle.wp_core.specs.Sound.Views.{IsApart, HasLeft, IsInMemory, IsNowhere, Owns}
 use Rattle.wp_core.specs.Steps.{Step, load_published, register, begin_reading, load, end_reading, store_published, store_max_evicted, store_word, store_delayed_flag, store_old_flag, give_turn, make_pending, log_pending, close_log, find_log_closed, drop_pending, add_prepared, take_pending_prepared, add_delayed_commit, take_out, register_again, release, add_old_commit, add_versions, take_versions, move_versions, replace_versions, install, halt, find_edit, claim_name, take_name, leave_name, free_transaction, lock_key, free_key, lock_direct, free_direct, tell, hear, set_batch, note, set_client}
+use Rattle.wp_rule.specs.Bound.{bound_past}
 use Rattle.wp_rule.specs.Words.{Place}
 
 -- the view has a table of this kind, of which this is so
@@ -79,6 +80,16 @@ KnowsGive a tables_turn = Holding a installed (λ e. KnowsTables a e.last)
 abbrev pub KnowsPair : Actor → ℕ → ℕ → CommitPair → (ℕ → Type 0) → Type 0
 KnowsPair a published place pair so = (max : ℕ) × (words : List ℕ) × Noted a (words_stay max words) × (place < length words) × (pair_at words place ≡ Some pair) × (pair.decision ≤ published) × so max
 
+-- The bound may rise to m. One of the pairs that are left of the pending record is to come into its word, where one stands that is
+-- published and that the bound has not reached; and m is as far as the bound rises past that one. So it rises for no word but one of
+-- the record that is pending then, and no further.
+pub record IsRise (a : Actor) (cells : ℕ) (d : WriteTable) (m : ℕ) : Type 0 where
+  pub pair : CommitPair
+  pub pending : IsIn pair (pairs_of (suc (length d.history)) d.pending)
+  pub gone : CommitPair
+  pub there : KnowsPair a (length d.history) (cache_place cells pair.number) gone (λ bound. bound < gone.decision)
+  pub past : m ≡ bound_past cells (length d.history) gone.decision
+
 -- the entry, if there is one, has no versions
 abbrev pub HasNoVersions : Option Entry → Type 0
 HasNoVersions entry = (key : List ℕ) → version_in entry key ≡ None
@@ -88,6 +99,7 @@ abbrev pub KnowsFact : Actor → Fact → Type 0
 KnowsFact a (passed place pair) = Holding a writes (λ d. KnowsPair a (length d.history) place pair (λ max. pair.decision ≤ max))
 KnowsFact a (in_old_commits place pair) = Holding a writes (λ d. Holding a snapshots (λ m. KnowsPair a (length d.history) place pair (λ max. IsInOldCommits m pair.number pair.decision)))
 KnowsFact a (apart place pair) = Holding a writes (λ d. Holding a prepared (λ t. KnowsPair a (length d.history) place pair (λ max. IsApart t pair)))
+KnowsFact a (has_left q) = Holding a prepared (λ t. HasLeft a.participant.seen t q)
 KnowsFact a versions_in_memory = Holding a writes (λ d. HasNoVersions (next_of d.pending) ⊎ Holding a store (λ t. IsInMemory d t))
 KnowsFact a versions_nowhere = Holding a writes (λ d. HasNoVersions (next_of d.pending) ⊎ Holding a store (λ t. IsNowhere d t))
 KnowsFact a number_in_heap = Holding a writes (λ d. Holding a prepared (λ t. set.contains t.heap (suc (length d.history)) ≡ true))
@@ -161,8 +173,7 @@ Knows p a (load which) = (r : Observed) × (a.reading ≡ Some r) × (ask r ≡ 
 Knows p a end_reading = Unit {0}
 Knows p a (store_published entry others) = Holding a writes (λ d. KnowsPublish a d entry others)
 Knows p a (store_max_evicted m) =
-    Holding a writes (λ d. Holding a prepared (λ t. ((max : ℕ) × (words : List ℕ) × Noted a (words_stay max words) × (max ≤ m)) × (m ≤ length d.history)
-    × (IsUp a delayed_flag_stays ⊎ ((q : ℕ) → set.contains t.heap q ≡ true → m < q))))
+    Holding a writes (λ d. Holding a prepared (λ t. IsRise a p.cells d m × (IsUp a delayed_flag_stays ⊎ ((q : ℕ) → set.contains t.heap q ≡ true → m < q))))
 Knows p a (store_word pair) = Holding a writes (λ d. (pending_pair d.history d.pending ≡ Some pair) × KnowsCleared a p.cells pair)
 Knows p a (store_delayed_flag value) = Holding a prepared (λ t. value ≡ 0 → NoneDelayed t)
 Knows p a (store_old_flag value) = Holding a snapshots (λ m. value ≡ 0 → NoOldCommits m)

@@ -44,6 +44,10 @@ pub record SharedWords (S : Type 0) : Type 0 where
   pub cells : ℕ
   pub first : List S
 
+-- those of a table, by what its rule is told
+abbrev pub shared_words : {S : Type 0} → TableId → Opening S → SharedWords S
+shared_words table key = record { table = table; opened = key.entries.value.entries; cells = key.cells; first = key.first.value.items }
+
 -- the last edit, where it is the table of the tables turn
 abbrev pub last_edit_in : Option Content → Option InstalledEdit
 last_edit_in (Some (installed t)) = Some t.last
@@ -67,10 +71,6 @@ pub record Place : Type 0 where
 -- the place of a seat with this number
 abbrev pub place_of : {S : Type 0} → (S → Option Content) → SharedWords S → ℕ → Place
 place_of content words by = record { opened = words.opened; cells = words.cells; first_edit = first_edit_of content words.first; by = by }
-
--- the same, by what the rule is told
-abbrev pub place_under : {S : Type 0} → (S → Option Content) → Opening S → ℕ → Place
-place_under content key by = record { opened = key.entries.value.entries; cells = key.cells; first_edit = first_edit_of content key.first.value.items; by = by }
 
 -- a reached world of these words, in which the seat's actor is this one
 pub record IsAt (p : Place) (a : Actor) (w : World) : Type 0 where

@@ -1,8 +1,8 @@
 //! The rule over the shared words: what threads do to an `atomic_table` is what actors do in the machine of `wp_core`.
 //!
-//! The words are the published number, the evicted bound, the delayed flag, the old-map flag, six turns, and from the eleventh
-//! on those of the commit cache. Behind each turn lies a slot with the value that the turn guards. A seat is an actor: what
-//! it knows, its view, is the actor's state in the machine, under the seat's number.
+//! The words are the published number, the evicted bound, the delayed flag and the old-map flag, in one line of memory; six
+//! turns, in a line each; and from word 56 on those of the commit cache. Behind each turn lies a slot with the value that the
+//! turn guards. A seat is an actor: what it knows, its view, is the actor's state in the machine, under the seat's number.
 //!
 //! The rule says that the table shows a world, and has the run of the machine that led to it. So each load, store, claim and
 //! unclaim is steps of the machine by the seat's actor, and all that is proved of reached worlds holds of the table at
@@ -22,8 +22,6 @@ mod part;
 mod plays;
 mod rule;
 mod steps;
-#[cfg(test)]
-mod tests;
 mod words;
 
 pub use part::{HoldsPart, Parts};

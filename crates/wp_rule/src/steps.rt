@@ -3,7 +3,7 @@ ghost use Rattle.std.specs.Prelude.{◌≡◌, ◌+◌, ◌<◌, [], ◌∷◌, 
 ghost use Rattle.atomic_table.specs.Table.{rest};
 ghost use Rattle.wp_core.specs.Steps.{give_turn};
 ghost use Rattle.wp_actor.specs.Turns.{turn_of};
-ghost use Rattle.wp_rule.specs.Words.{words_of, turn_place, place_under};
+ghost use Rattle.wp_rule.specs.Words.{words_of, turn_place, shared_words, place_of};
 ghost use Rattle.wp_rule.specs.Moves.{MayMake, MayStore, Moved};
 ghost use Rattle.wp_rule.specs.Plays.{Claimed, WasHeld, MayUnclaim};
 
@@ -26,7 +26,7 @@ pub(crate) fn load<S: HoldsPart, J: Moves>(
     seat: &mut Seat<S, Actor>,
     word: usize,
 ) -> u64
-    requires seat { (seat.old.table_id ≡ table.now.table_id) × (J.place ≡ place_under S.content table.now.key seat.old.id) }
+    requires seat { (seat.old.table_id ≡ table.now.table_id) × (J.place ≡ place_of S.content (shared_words table.now.table_id table.now.key) seat.old.id) }
     requires word { word < table.now.table_id.words }
     requires may { MayMake J.place seat.old.me.0 J.steps }
     ensures same { (seat.new.table_id ≡ seat.old.table_id) × (seat.new.id ≡ seat.old.id) × (seat.new.me.1 ≡ seat.old.me.1) }
@@ -41,7 +41,7 @@ pub(crate) fn store<S: HoldsPart, J: Moves>(
     word: usize,
     n: u64,
 )
-    requires seat { (seat.old.table_id ≡ table.now.table_id) × (J.place ≡ place_under S.content table.now.key seat.old.id) }
+    requires seat { (seat.old.table_id ≡ table.now.table_id) × (J.place ≡ place_of S.content (shared_words table.now.table_id table.now.key) seat.old.id) }
     requires word { word < table.now.table_id.words }
     requires may { MayStore J.place seat.old.me.0 J.steps word n }
     ensures same { (seat.new.table_id ≡ seat.old.table_id) × (seat.new.id ≡ seat.old.id) × (seat.new.me.1 ≡ seat.old.me.1) }
@@ -63,7 +63,7 @@ pub(crate) fn claim<S: HoldsPart, J: OfTurn<S>>(
     seat: &mut Seat<S, Actor>,
     turn: Turn,
 ) -> bool
-    requires seat { (seat.old.table_id ≡ table.now.table_id) × (J.place ≡ place_under S.content table.now.key seat.old.id) }
+    requires seat { (seat.old.table_id ≡ table.now.table_id) × (J.place ≡ place_of S.content (shared_words table.now.table_id table.now.key) seat.old.id) }
     requires turn { (J.turn ≡ turn_of turn) × (48 < table.now.table_id.words) }
     requires first { J.first ≡ table.now.key.first.value.items }
     requires live { seat.old.me.0.live ≡ true }
@@ -79,7 +79,7 @@ pub(crate) fn unclaim<S: HoldsPart, J: OfTurn<S>>(
     seat: &mut Seat<S, Actor>,
     turn: Turn,
 )
-    requires seat { (seat.old.table_id ≡ table.now.table_id) × (J.place ≡ place_under S.content table.now.key seat.old.id) }
+    requires seat { (seat.old.table_id ≡ table.now.table_id) × (J.place ≡ place_of S.content (shared_words table.now.table_id table.now.key) seat.old.id) }
     requires turn { (J.turn ≡ turn_of turn) × (48 < table.now.table_id.words) }
     requires held { MayUnclaim S.content (S.tells table.now.key.first.value.items) J.place J.turn seat.old.me }
     ensures same { (seat.new.table_id ≡ seat.old.table_id) × (seat.new.id ≡ seat.old.id) × (seat.new.me.1 ≡ rest seat.old.me.1) }

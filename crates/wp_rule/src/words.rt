@@ -10,6 +10,7 @@ ghost use Rattle.wp_core.specs.Changes.{sees, made_one, joins, turn_index};
 ghost use Rattle.wp_core.specs.Sound.Actors.{StartsWith};
 ghost use Rattle.wp_core.specs.Views.{delayed_flag_stays, old_flag_stays};
 ghost use Rattle.wp_actor.specs.Turns.{turn_of};
+ghost use Rattle.wp_rule.specs.Knows.{Knows};
 ghost use Rattle.wp_rule.specs.Words.{place_of, SawAll};
 ghost use Rattle.wp_rule.specs.Moves.{MayMake, MayStep, MayPublishAs, Moved, storing_max, storing_word};
 ghost use Rattle.wp_rule.specs.Shows.{Founds, Leaves};
@@ -55,11 +56,11 @@ pub struct Words<S: HoldsPart + Drop> {
 
 impl<S: HoldsPart + Drop> Model for Words<S> {
     ghost use Rattle.std.specs.Prelude.{◌≡◌, ◌+◌, ◌≤◌};
-    ghost use Rattle.wp_rule.specs.Words.{SharedWords};
+    ghost use Rattle.wp_rule.specs.Words.{SharedWords, shared_words};
 
     ghost Value = { SharedWords S };
 
-    ghost view = { λ w. record { table = w.table.shared.table_id; opened = w.table.shared.key.entries.value.entries; cells = w.table.shared.key.cells; first = w.table.shared.key.first.value.items } };
+    ghost view = { λ w. shared_words w.table.shared.table_id w.table.shared.key };
 
     ghost invariant = { λ w. (w.table.shared.table_id.words ≡ w.table.shared.key.cells + 56) × (w.table.shared.table_id.slots ≡ 6) × (w.table.shared.key.cells ≤ 65536) };
 }
@@ -200,11 +201,11 @@ impl<S: HoldsPart + Drop> Words<S> {
         steps::store::<S, Brand>(&self.table.shared, seat, PUBLISHED, p);
     }
 
-    /// Raises the evicted bound; in the same step each number of the prepared heap up to it moves to the delayed set. The seat
-    /// notes the bound with the words of the cache.
+    /// Raises the evicted bound by its rule, for a pair of the pending record; in the same step each number of the prepared heap up
+    /// to it moves to the delayed set. The seat notes the bound with the words of the cache.
     pub fn store_max(&self, seat: &mut WordSeat<S>, m: Seq)
         requires seat { seat.old.table_id ≡ self.now.table }
-        requires may { MayStep (place_of S.content self.now seat.old.id) seat.old.me.0 (store_max_evicted m) }
+        requires rises { Knows (place_of S.content self.now seat.old.id) seat.old.me.0 (store_max_evicted m) }
         ensures same { (seat.new.table_id ≡ seat.old.table_id) × (seat.new.id ≡ seat.old.id) × (seat.new.me.1 ≡ seat.old.me.1) }
         ensures moved { Moved (place_of S.content self.now seat.old.id) (storing_max m) (λ w. Unit {0}) seat.old.me.0 seat.new.me.0 }
     {

@@ -4,7 +4,6 @@ use Rattle.std.specs.FinSet as set
 use Rattle.std.specs.FinMap as finite
 use Rattle.wp_model.specs.declared.entry.Entry.{Entry}
 use Rattle.wp_model.specs.History.{is_undecided, is_changed, name_at, batch_at, named}
-use Rattle.wp_model.specs.declared.holder.Holder.{Holder}
 use Rattle.wp_model.specs.declared.holder.Holder.TheVariants.{Txn, Client}
 use Rattle.wp_core.specs.Lists.{IsIn}
 use Rattle.wp_core.specs.Entries.{batch_of_name}
@@ -12,11 +11,6 @@ use Rattle.wp_model.specs.LockTables.{LockTables}
 use Rattle.wp_core.specs.Views.{Event, claimed, took, locked}
 use Rattle.wp_core.specs.World.{Transaction, Transactions, Participant}
 use Rattle.wp_core.specs.Sound.Actors.{IsParticipantAt, EachParticipant}
-
--- the transaction that holds the key by an undecided prepare
-abbrev pub prepare_holding : List Entry → Option ℕ → Option Holder
-prepare_holding history None = None
-prepare_holding history (Some p) = Some (Txn (name_at history p))
 
 -- what one of the participants has of names and keys, and its past
 pub record Owner : Type 0 where

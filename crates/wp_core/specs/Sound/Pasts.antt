@@ -12,7 +12,7 @@ use Rattle.wp_model.specs.Flushed.{InstalledEdit}
 use Rattle.wp_core.specs.Views.{Account, own, another, prepare_at, Event, claimed, took, locked, told, heard, installed, log_failed, tables_failed, stopped, found_edit, found}
 use Rattle.wp_core.specs.World.{Participant}
 use Rattle.wp_core.specs.Sound.Actors.{IsParticipantAt, total_participants}
-use Rattle.wp_core.specs.Sound.Locks.{prepare_holding}
+use Rattle.wp_history.specs.Opened.{prepare_holding}
 
 abbrev pub past_of : Participant → List Event
 past_of p = p.past

@@ -5,12 +5,10 @@ use Rattle.std.specs.FinMap as finite
 use Rattle.wp_model.specs.declared.entry.Entry.{Entry}
 use Rattle.wp_model.specs.History.{entry_at, is_prepare, is_undecided}
 use Rattle.wp_model.specs.Decision.{decision_of}
-use Rattle.wp_model.specs.Snapshots.{IsLive, is_old_commit}
+use Rattle.wp_model.specs.Snapshots.{IsLive, is_old_commit, Snapshots, NoOldCommits}
 use Rattle.wp_judge.specs.Words.{CommitPair}
 use Rattle.wp_core.specs.Cache.{cache_place, cached, pair_at}
-use Rattle.wp_model.specs.PreparedTables.{PreparedTables, is_prepared}
-use Rattle.wp_model.specs.Snapshots.{Snapshots}
-use Rattle.wp_core.specs.Tables.{NoneDelayed, NoOldCommits}
+use Rattle.wp_model.specs.PreparedTables.{PreparedTables, is_prepared, NoneDelayed}
 use Rattle.wp_core.specs.Entries.{extended}
 
 -- ---- the cache

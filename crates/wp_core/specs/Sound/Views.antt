@@ -2,22 +2,22 @@
 use Rattle.std.specs.Prelude.{◌≡◌, ◌⊎◌, ℕ, suc, ◌≤◌, ◌<◌, true, false, List, length, Option, Some, None}
 use Rattle.std.specs.FinSet as set
 use Rattle.std.specs.FinMap as finite
+use Rattle.wp_model.specs.declared.entry.Entry.{Entry}
 use Rattle.wp_model.specs.History.{named, batch_at, is_changed, holder_of}
 use Rattle.wp_model.specs.Legal.{prior}
-use Rattle.wp_model.specs.Decision.{version_in}
+use Rattle.wp_model.specs.Decision.{decision_of, version_in}
 use Rattle.wp_model.specs.Versions.{version_at}
 use Rattle.wp_model.specs.Covered.{is_among}
-use Rattle.wp_model.specs.Snapshots.{IsLive}
+use Rattle.wp_model.specs.Snapshots.{IsLive, Snapshots}
 use Rattle.wp_model.specs.declared.holder.Holder.TheVariants.{Txn, Client}
 use Rattle.wp_core.specs.Lists.{EachAt, IsIn}
 use Rattle.wp_core.specs.Turns.{Turn, write_turn, prepared_turn, snapshots_turn, tables_turn, Holders, Holds}
 use Rattle.wp_judge.specs.Words.{CommitPair}
 use Rattle.wp_core.specs.Cache.{pair_at}
 use Rattle.wp_model.specs.PreparedTables.{PreparedTables, is_prepared}
-use Rattle.wp_model.specs.Snapshots.{Snapshots}
 use Rattle.wp_model.specs.LockTables.{LockTables}
 use Rattle.wp_core.specs.Tables.{WriteTable, StoreTable, Installed}
-use Rattle.wp_core.specs.Views.{Fact, passed, in_old_commits, apart, words_stay, versions_in_memory, versions_nowhere, number_in_heap, number_not_in_heap, undecided_at, prior_values, unprepared, direct_free, tables_stay, live_listed, nothing_flushed, frozen_stay, delayed_flag_stays, old_flag_stays}
+use Rattle.wp_core.specs.Views.{Fact, passed, in_old_commits, apart, words_stay, has_left, versions_in_memory, versions_nowhere, number_in_heap, number_not_in_heap, undecided_at, prior_values, unprepared, direct_free, tables_stay, live_listed, nothing_flushed, frozen_stay, delayed_flag_stays, old_flag_stays}
 use Rattle.wp_core.specs.Entries.{next_of}
 use Rattle.wp_core.specs.World.{Transaction, Participant, Actor}
 use Rattle.wp_core.specs.Sound.Prepared.{IsInOldCommits}
@@ -27,6 +27,7 @@ use Rattle.wp_core.specs.Sound.Store.{NoneFlushed}
 
 -- while this turn is held the fact stays; none: without a turn
 abbrev pub guarded_by : Fact → Option Turn
+guarded_by (has_left p) = None
 guarded_by (undecided_at name p) = None
 guarded_by (prior_values name p batch) = None
 guarded_by (unprepared name) = None
@@ -56,6 +57,11 @@ pub record IsClearing (published : ℕ) (cache : List ℕ) (place : ℕ) (pair :
 abbrev pub IsApart : PreparedTables → CommitPair → Type 0
 IsApart t pair = (is_prepared t pair.number ≡ false) ⊎ (finite.get t.delayed_commits pair.number ≡ Some pair.decision)
 
+-- The number is decided, and in neither the heap nor the delayed set. So it stays: a number comes into the heap as the next one
+-- alone, and into the delayed set out of the heap. The delayed commits say nothing here: they may get a decided number at any time.
+abbrev pub HasLeft : List Entry → PreparedTables → ℕ → Type 0
+HasLeft history t p = ((c : ℕ) × (decision_of history p ≡ Some c)) × (is_prepared t p ≡ false)
+
 -- the versions of the pending entry are in memory
 abbrev pub IsInMemory : WriteTable → StoreTable → Type 0
 IsInMemory d t = (key : List ℕ) (value : Option (List ℕ)) → version_in (next_of d.pending) key ≡ Some value → version_at t.memory key (suc (length d.history)) ≡ Some value
@@ -72,6 +78,7 @@ IsSo delayed_flag old_flag max cache d t m s l e a (passed place pair) = IsClear
 IsSo delayed_flag old_flag max cache d t m s l e a (in_old_commits place pair) = IsClearing (length d.history) cache place pair (IsInOldCommits m pair.number pair.decision)
 IsSo delayed_flag old_flag max cache d t m s l e a (apart place pair) = IsClearing (length d.history) cache place pair (IsApart t pair)
 IsSo delayed_flag old_flag max cache d t m s l e a (words_stay bound words) = (max ≡ bound) × (cache ≡ words)
+IsSo delayed_flag old_flag max cache d t m s l e a (has_left p) = HasLeft d.history t p
 IsSo delayed_flag old_flag max cache d t m s l e a versions_in_memory = IsInMemory d s
 IsSo delayed_flag old_flag max cache d t m s l e a versions_nowhere = IsNowhere d s
 IsSo delayed_flag old_flag max cache d t m s l e a number_in_heap = set.contains t.heap (suc (length d.history)) ≡ true

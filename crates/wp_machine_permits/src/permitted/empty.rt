@@ -1,9 +1,9 @@
 //! Whether what a flag or a turn stands for is empty.
 ghost use Rattle.std.specs.Prelude.{◌≡◌, ◌↔◌, ◌≤◌, ◌<◌, ◌≢◌, true, false, ℕ, List, length, ◌==◌, None, MatchOption};
 ghost use Rattle.std.specs.FinSet as set;
-ghost use Rattle.wp_model.specs.Snapshots.{is_old_commit};
+ghost use Rattle.wp_model.specs.Snapshots.{is_old_commit, NoOldCommits};
 ghost use Rattle.wp_model.specs.Versions.{version_at};
-ghost use Rattle.wp_core.specs.Tables.{NoneDelayed, NoOldCommits};
+ghost use Rattle.wp_model.specs.PreparedTables.{NoneDelayed};
 ghost use Rattle.wp_machine_needs.specs.Each.{Each};
 
 use wp_machine::{PreparedTables, Snapshot, Snapshots};

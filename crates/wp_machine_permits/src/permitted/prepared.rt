@@ -1,15 +1,14 @@
 //! Whether a step with the prepared turn may be made.
-ghost use Rattle.std.specs.Prelude.{◌≡◌, true, ℕ, Some, IfOk, IfSome};
+ghost use Rattle.std.specs.Prelude.{◌≡◌, true, Some, IfOk};
 ghost use Rattle.wp_core.specs.World.{Actor};
 ghost use Rattle.wp_core.specs.Conditions.{IsPreparePending};
 ghost use Rattle.wp_core.specs.Steps as step;
-ghost use Rattle.wp_model.specs.Decision.{decision_of};
 ghost use Rattle.wp_machine.specs.Machine.{prepared_step};
 ghost use Rattle.wp_machine_needs.specs.Offered.{IsOffered};
 
-use crate::permitted::history::decision_in;
-use std::alloc::{AllocError, Global};
+use std::alloc::AllocError;
 use wp_machine::{PreparedStep, Turn, World};
+use wp_machine_needs::{decision_in, is_decided};
 use wp_model::{Entry, Seq};
 
 fn is_prepare_pending(world: &World, by: usize) -> bool
@@ -34,14 +33,6 @@ fn may_add_delayed_commit(world: &World, by: usize, p: Seq, c: Seq) -> Result<bo
     }
     let decision = decision_in(world.writes.entries(), p, world.alloc)?;
     Ok(decision == Some(c))
-}
-
-/// The entries are legal, and decide the version.
-fn is_decided(entries: &[Entry], p: Seq, alloc: Global) -> Result<bool, AllocError>
-    ensures { IfOk result (λ decided. decided ≡ true → (c : ℕ) × (decision_of entries.now p ≡ Some c)) }
-{
-    let decision = decision_in(entries, p, alloc)?;
-    Ok(decision.is_some())
 }
 
 /// Only a number whose decision is published is taken out.

@@ -1,7 +1,7 @@
 use Rattle.std.proofs.Common.{◌≡◌, take}
 use Rattle.std.specs.List.{flat_map}
 use Rattle.wp_model.specs.History.{entry_at, undecided}
-use Rattle.wp_core.proofs.Openings.{name_left}
+use Rattle.wp_history.proofs.Opened.{name_left}
 use Rattle.wp_machine.proofs.left.names_left.Given as goal
 
 abbrev pub invariant-loop-p : goal.invariant-loop-p

@@ -1,6 +1,6 @@
-use Rattle.wp_rule.specs.Words.{place_under}
+use Rattle.wp_rule.specs.Words.{shared_words, place_of}
 use Rattle.wp_rule.specs.Moves.{storing_max}
 use Rattle.wp_rule.proofs.words.Words.store_max.Given as goal
 
 abbrev pub ghosts-store : goal.ghosts-store
-ghosts-store g a = record { place = place_under g.S.HoldsPart.content a.table.now.key a.seat.now.id; steps = storing_max a.n }
+ghosts-store g a = record { place = place_of g.S.HoldsPart.content (shared_words a.table.now.table_id a.table.now.key) a.seat.now.id; steps = storing_max a.n }

@@ -1,6 +1,6 @@
 use Rattle.wp_actor.specs.Turns.{turn_of}
-use Rattle.wp_rule.specs.Words.{place_under}
+use Rattle.wp_rule.specs.Words.{shared_words, place_of}
 use Rattle.wp_rule.proofs.words.Words.unclaim.Given as goal
 
 abbrev pub ghosts-unclaim : goal.ghosts-unclaim
-ghosts-unclaim g a = record { place = place_under g.S.HoldsPart.content a.table.now.key a.seat.now.id; turn = turn_of a.turn; first = a.table.now.key.first.value.items }
+ghosts-unclaim g a = record { place = place_of g.S.HoldsPart.content (shared_words a.table.now.table_id a.table.now.key) a.seat.now.id; turn = turn_of a.turn; first = a.table.now.key.first.value.items }
