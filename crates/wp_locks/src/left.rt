@@ -6,7 +6,7 @@ ghost use Rattle.std.specs.Option.{option_copied};
 ghost use Rattle.std.specs.FinMap.{from_entries};
 ghost use Rattle.wp_model.specs.Batch.{key_cmp, key_of};
 ghost use Rattle.wp_model.specs.declared.holder.Holder.TheVariants.{Txn};
-ghost use Rattle.wp_core.proofs.Openings.{name_left, keys_left, names_of, keys_of};
+ghost use Rattle.wp_history.proofs.Opened.{name_left, keys_left, names_of, keys_of};
 ghost use Rattle.wp_locks.specs.Locks.{Joins};
 
 use std::alloc::{AllocError, Global};

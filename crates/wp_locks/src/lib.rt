@@ -12,5 +12,3 @@ pub use locks::Locks;
 mod error;
 mod left;
 mod locks;
-#[cfg(test)]
-mod tests;

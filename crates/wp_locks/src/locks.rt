@@ -2,14 +2,13 @@ ghost use Rattle.std.specs.Prelude.{◌≡◌, IfOk, OnOk, OnErr};
 ghost use Rattle.std.specs.FinMap as map;
 ghost use Rattle.wp_locks.specs.Locks.{Claims, TakesName, Locking, names_left, FreesAllOf};
 ghost use Rattle.wp_model.specs.LockTables.{nothing_locked};
-ghost use Rattle.wp_core.specs.Runs.{AreOpened};
+ghost use Rattle.wp_history.specs.Opened.{AreOpened};
 
 use crate::error::{LockError, TakeRefused};
 use crate::left::{keys_of, names_of};
 use std::alloc::{AllocError, Global};
 use std::collections::BTreeMap;
 use std::marker::Model;
-use wp_core::HoldsLocks;
 use wp_history::History;
 use wp_model::{Holder, Key, Name, Seq};
 
@@ -32,10 +31,6 @@ impl Model for Locks {
     ghost coded = { lock_tables_code };
 
     ghost view = { λ l. record { names = map.from_entries l.names.entries; keys = map.from_entries l.keys.entries; labels = map.from_entries l.labels.entries } };
-}
-
-impl HoldsLocks for Locks {
-    ghost locks = { λ l. l };
 }
 
 impl Locks {

@@ -15,19 +15,19 @@ use Rattle.wp_core.specs.World.{Participant}
 use Rattle.wp_rule.specs.Knows.{KnowsTables}
 use Rattle.wp_parts.specs.Edits.{EditsState}
 use Rattle.wp_parts.specs.Installs.{SurvivesInstall}
-use Rattle.wp_shared.specs.Calls.{remembering}
+use Rattle.wp_shared.specs.Calls.{GoesOnAs, remembering}
+use Rattle.wp_shared.specs.Notes.{no_fact, GoesOn}
 use Rattle.wp_shared.specs.Seats.{SharedState, SeatState}
-use Rattle.wp_commits.specs.Notes.{GoesOn}
+use Rattle.wp_shared.proofs.Onward.{starts_equal, loose_none, goes_none, goes_same, goes_still}
 use Rattle.wp_maint.specs.declared.error.MaintError.{MaintError}
 use Rattle.wp_maint.specs.declared.error.MaintError.TheVariants.{Memory, Nothing, TableFault, TablesStopped}
 use Rattle.wp_maint.specs.declared.frozen.Frozen.{Frozen}
 use Rattle.wp_maint.specs.Calls.{found_by, SawWhole, HasFlushed, HasNewest, FlushesFrom}
 use Rattle.wp_maint.specs.Flush.{HasFrozen, MayPut}
 use Rattle.wp_maint.specs.Installs.{HasInstalled, NotInstalled}
-use Rattle.wp_maint.specs.Holding.{no_fact, is_of_flushed, is_of_tables, being, GoesOnAs, HoldsEdits}
-use Rattle.wp_maint.proofs.Found.{failed_last}
+use Rattle.wp_maint.specs.Holding.{is_of_flushed, is_of_tables, HoldsEdits}
 use Rattle.wp_maint.proofs.Installed.{same_edit}
-use Rattle.wp_maint.proofs.Onward.{changed_seat, held_left, found_later, starts_equal, starts_same, none_free, flushed_free, tables_free, goes_as, goes_still}
+use Rattle.wp_maint.proofs.Onward.{changed_seat, held_left, found_later, flushed_free, tables_free, goes_remembering}
 
 module _ {D : Type 0} (z : SharedState D) (s u : SeatState) (e left : EditsState) (f : Frozen) (frozen : HasFrozen s.knows e.table f) where
   abbrev next : InstalledEdit
@@ -48,15 +48,14 @@ module _ {D : Type 0} (z : SharedState D) (s u : SeatState) (e left : EditsState
       last = ap (λ (x : Installed). x.last.versions) k.table ∙ sym (ap (λ (x : InstalledEdit). x.versions) (same_edit s.knows e.table f frozen));
     }
 
-    pub has_flushed : HoldsEdits z s e → SawWhole z s s.knows.participant.seen → HasNewest f.versions e left → (v : SeatState) → GoesOn is_of_tables (installed left.table ∷ []) u.turns u v → e.table.halted ≡ false → (n : ℕ) → n ≡ length f.versions → HasFlushed (GoesOnAs s v) z s v e.table (record { at = f.at; versions = n })
-    has_flushed holds whole parts v put running n counted =
+    pub has_flushed : HoldsEdits z s e → SawWhole z s s.knows.participant.seen → HasNewest f.versions e left → (v : SeatState) (turns : List ℕ) → GoesOn is_of_tables (installed left.table ∷ []) turns u v → e.table.halted ≡ false → (n : ℕ) → n ≡ length f.versions → HasFlushed (GoesOnAs s v) z s v e.table (record { at = f.at; versions = n })
+    has_flushed holds whole parts v turns put running n counted =
         let before : u.knows.participant.seen ≡ s.knows.participant.seen = ap (λ (x : SeatState). x.knows.participant.seen) k.changes.goes.same in
         let seen : v.knows.participant.seen ≡ s.knows.participant.seen = ap (λ (x : SeatState). x.knows.participant.seen) put.same ∙ before in
         let found = found_later z s u v e.table (starts_equal u.knows.participant.seen v.knows.participant.seen (ap (λ (x : SeatState). x.knows.participant.seen) put.same)) k.changes.found in
         let after : InstalledEdit → Participant = λ edit. remembering (found_by z s v e.table found ∷ event.installed edit false ∷ []) s.knows.participant in
-        let first : GoesOnAs s u (after next) =
-        goes_as s (being (after next) s) u is_of_flushed (installed left.table ∷ []) s.turns k.changes.goes refl refl refl (starts_same s.knows.participant.seen) flushed_free in
-        let second : GoesOnAs u v u.knows.participant = goes_as u u v is_of_tables (installed left.table ∷ []) u.turns put refl refl refl (starts_same u.knows.participant.seen) tables_free in
+        let first : GoesOnAs s u (after next) = goes_remembering s u (found_by z s v e.table found ∷ event.installed next false ∷ []) is_of_flushed (installed left.table ∷ []) s.turns k.changes.goes flushed_free in
+        let second : GoesOnAs u v u.knows.participant = goes_same u v is_of_tables (installed left.table ∷ []) turns tables_free put in
         record {
           found = found;
           running = running;
@@ -65,7 +64,7 @@ module _ {D : Type 0} (z : SharedState D) (s u : SeatState) (e left : EditsState
           some = let o = frozen.some in omega (arith, o, counted);
           versions = counted ∙ frozen.count ∙ ap (λ (h : List Entry). length (unflushed h e.table.last)) (sym seen);
           left = held_left z s u v (record e.table { last = after_flush v.knows.participant.seen e.table.last }) k.stands (changed_seat z s u e.table left.table k.changes) before (ap (λ (x : SeatState). x.knows.participant) put.same)
-              (subst (λ (t : Installed). IsIn (installed t) u.knows.held) (k.table ∙ ap (λ (h : List Entry). record e.table { last = after_flush h e.table.last }) (sym seen)) (subst (IsIn (installed left.table)) (sym k.holds.held) (inl refl)));
+              (subst (λ (t : Installed). IsIn (installed t) u.knows.held) (k.table ∙ ap (λ (h : List Entry). record e.table { last = after_flush h e.table.last }) (sym seen)) (subst (IsIn (installed left.table)) (sym k.holds.turn.held) (inl refl)));
           table = record {
             before = e;
             after = left;
@@ -83,17 +82,8 @@ module _ {D : Type 0} (z : SharedState D) (s u : SeatState) (e left : EditsState
 
   -- ---- it was refused
 
-  pub settled_still : (why : MaintError) → NotInstalled z s e next why u left → KnowsTables s.knows e.table.last → KnowsTables u.knows left.table.last
-  settled_still Memory k there = subst (λ (x : SeatState × Installed). KnowsTables x.0.knows x.1.last) (sym (λ i. (k.0 i, k.1 i))) there
-  settled_still TableFault k there =
-      let last : left.table.last ≡ e.table.last = ap (λ (x : Installed). x.last) k.table ∙ failed_last e.table left.table.failed in
-      subst (KnowsTables u.knows) (sym last) (k.changes.goes.noted nothing_flushed refl there.0, (there.1.0, k.changes.goes.noted (tables_stay e.table.last.versions there.1.0) refl there.1.1))
-  settled_still Nothing k there = absurd k
-  settled_still (TablesStopped flushed) k there = absurd k
-
   pub not_flushed : HoldsEdits z s e → SawWhole z s s.knows.participant.seen → (why : MaintError) → NotInstalled z s e next why u left → e.table.halted ≡ false → FlushesFrom (GoesOnAs s u) z s e.table (Err why) u
-  not_flushed holds whole Memory k running = subst (λ (x : SeatState). GoesOnAs s x s.knows.participant) (sym k.0)
-      (record { same_table = refl; same_by = refl; live = refl; seen = starts_same s.knows.participant.seen; participant = refl; notes = λ fact guard there. there; made = refl; joined = refl })
+  not_flushed holds whole Memory k running = subst (λ (x : SeatState). GoesOnAs s x s.knows.participant) (sym k.0) (goes_none s)
   not_flushed holds whole TableFault k running = let seen : u.knows.participant.seen ≡ s.knows.participant.seen = ap (λ (x : SeatState). x.knows.participant.seen) k.changes.goes.same in (
     subst (SawWhole z s) (sym seen) whole,
     record {
@@ -103,10 +93,10 @@ module _ {D : Type 0} (z : SharedState D) (s u : SeatState) (e left : EditsState
       asked = left.table.failed;
       next = subst (λ (h : List Entry). IfSome left.table.failed (λ edit. edit ≡ after_flush h e.table.last)) (sym seen) k.asked;
       left = held_left z s u u (with_failed e.table left.table.failed) k.stands (changed_seat z s u e.table left.table k.changes) seen refl
-          (subst (λ (t : Installed). IsIn (installed t) u.knows.held) k.table (subst (IsIn (installed left.table)) (sym k.holds.held) (inl refl)));
+          (subst (λ (t : Installed). IsIn (installed t) u.knows.held) k.table (subst (IsIn (installed left.table)) (sym k.holds.turn.held) (inl refl)));
       fault = record { before = e; after = left; of_store = holds.of_store; still_of_store = k.holds.of_store; before_is = refl; after_is = k.table; edits = k.edits; still_edits = k.still_edits; so = k.fault };
       survives = (next, ap (λ (h : List Entry). after_flush h e.table.last) (sym seen), k.survives);
-      goes_on = goes_as s (being (remembering (found_by z s u e.table k.changes.found ∷ tables_failed e.table.last left.table.failed ∷ []) s.knows.participant) s) u no_fact (installed left.table ∷ []) s.turns k.changes.goes refl refl refl (starts_same s.knows.participant.seen) none_free;
+      goes_on = goes_remembering s u (found_by z s u e.table k.changes.found ∷ tables_failed e.table.last left.table.failed ∷ []) no_fact (installed left.table ∷ []) s.turns k.changes.goes loose_none;
     },
   )
   not_flushed holds whole Nothing k running = absurd k

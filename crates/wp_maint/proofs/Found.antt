@@ -4,15 +4,19 @@ use Rattle.wp_model.specs.Flushed.{InstalledEdit}
 use Rattle.wp_core.specs.Effects.{with_failed}
 use Rattle.wp_core.specs.Lists.{IsIn}
 use Rattle.wp_core.specs.Tables.{Installed, installed}
-use Rattle.wp_core.specs.Views.{Event, Fact}
-use Rattle.wp_rule.specs.Knows.{KnowsInstalled}
+use Rattle.wp_core.specs.Views.{Event, Fact, tables_stay, nothing_flushed}
+use Rattle.wp_rule.specs.Knows.{KnowsTables, KnowsInstalled}
+use Rattle.wp_parts.specs.Edits.{EditsState}
 use Rattle.wp_shared.specs.Calls.{remembering}
+use Rattle.wp_shared.specs.Notes.{being, GoesOn}
 use Rattle.wp_shared.specs.Seats.{SharedState, SeatState}
-use Rattle.wp_commits.specs.Notes.{GoesOn}
+use Rattle.wp_shared.proofs.Onward.{starts_equal}
+use Rattle.wp_maint.specs.declared.error.MaintError.{MaintError}
+use Rattle.wp_maint.specs.declared.error.MaintError.TheVariants.{Memory, Nothing, TableFault, TablesStopped}
 use Rattle.wp_maint.specs.Calls.{found_by}
 use Rattle.wp_maint.specs.Finding.{Remembers, Changes}
-use Rattle.wp_maint.specs.Holding.{being}
-use Rattle.wp_maint.proofs.Onward.{starts_equal, found_later}
+use Rattle.wp_maint.specs.Installs.{NotInstalled}
+use Rattle.wp_maint.proofs.Onward.{found_later}
 
 pub held_first : (s : SeatState) (t : Installed) → s.knows.held ≡ installed t ∷ [] → IsIn (installed t) s.knows.held
 held_first s t held = subst (IsIn (installed t)) (sym held) (inl refl)
@@ -43,3 +47,12 @@ then_changes z s u v t k left event test goes =
       found = found;
       goes = subst (λ (b : SeatState). GoesOn test (installed left ∷ []) s.turns b v) both (subst (λ (x : SeatState). GoesOn test (installed left ∷ []) x.turns (being (remembering (event ∷ []) u.knows.participant) u) v) k.is goes);
     }
+
+-- what was noted of the tables is so still where the edit was refused
+pub settled_refused : {D : Type 0} (z : SharedState D) (s u : SeatState) (e left : EditsState) (next : InstalledEdit) (why : MaintError) → NotInstalled z s e next why u left → KnowsTables s.knows e.table.last → KnowsTables u.knows left.table.last
+settled_refused z s u e left next Memory k there = subst (λ (x : SeatState × Installed). KnowsTables x.0.knows x.1.last) (sym (λ i. (k.0 i, k.1 i))) there
+settled_refused z s u e left next TableFault k there =
+    let last : left.table.last ≡ e.table.last = ap (λ (x : Installed). x.last) k.table ∙ failed_last e.table left.table.failed in
+    subst (KnowsTables u.knows) (sym last) (k.changes.goes.noted nothing_flushed refl there.0, (there.1.0, k.changes.goes.noted (tables_stay e.table.last.versions there.1.0) refl there.1.1))
+settled_refused z s u e left next Nothing k there = absurd k
+settled_refused z s u e left next (TablesStopped flushed) k there = absurd k

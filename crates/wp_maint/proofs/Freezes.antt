@@ -1,5 +1,5 @@
 -- What is frozen, and what the seat then knows of it.
-use Rattle.std.proofs.Common.{◌≡◌, inl, inr, ℕ, ◌≤◌, Bool, false, List, [], ◌∷◌, length, Option, Some, None, refl, sym, subst, ap, ◌∙◌, arith}
+use Rattle.std.proofs.Common.{◌≡◌, inl, inr, ℕ, ◌≤◌, Bool, List, [], ◌∷◌, length, Option, Some, None, refl, sym, subst, ap, ◌∙◌, arith}
 use Rattle.std.specs.Prelude.{Result, Ok, Err, IfOk}
 use Rattle.wp_model.specs.declared.entry.Entry.{Entry}
 use Rattle.wp_model.specs.declared.version.Version.{Version}
@@ -9,7 +9,6 @@ use Rattle.wp_model.specs.Versions.{version_at}
 use Rattle.wp_merge.specs.Merge.{joined, sorted_of}
 use Rattle.wp_merge.proofs.Sorted.{in_order_sorted}
 use Rattle.wp_replies.specs.Tables.{unflushed, after_flush}
-use Rattle.wp_core.specs.Changes.{held_without}
 use Rattle.wp_core.specs.IsSound.{IsSound}
 use Rattle.wp_core.specs.Lists.{IsIn}
 use Rattle.wp_core.specs.Sound.Actors.{StartsWith}
@@ -19,18 +18,22 @@ use Rattle.wp_core.specs.Views.{Fact, tables_stay, nothing_flushed, frozen_stay}
 use Rattle.wp_core.specs.World.{Actor, World}
 use Rattle.wp_rule.specs.Knows.{KnowsTables}
 use Rattle.wp_rule.proofs.Knows.{at_sound, noted_is}
+use Rattle.wp_rule.specs.Words.{IsAt}
+use Rattle.wp_parts.specs.Edits.{EditsState}
+use Rattle.wp_parts.specs.Log.{LogState}
 use Rattle.wp_parts.specs.Stock.{StockState, store_table}
+use Rattle.wp_shared.specs.Notes.{no_fact, is_under, noting, seeing, GoesOn}
 use Rattle.wp_shared.specs.Seats.{SharedState, SeatState, Stands, place_at}
-use Rattle.wp_commits.specs.Notes.{noting, GoesOn}
-use Rattle.wp_commits.proofs.Goes.{then, wider}
-use Rattle.wp_commits.proofs.Held.{writes_are}
+use Rattle.wp_shared.specs.Turns.{HoldsTurn, Taken, TookLog, Given}
+use Rattle.wp_shared.proofs.Goes.{then, wider, none_too, none_under_store}
+use Rattle.wp_shared.proofs.Onward.{holds_on, holds_next, holds_two}
+use Rattle.wp_shared.proofs.Tables.{held_table}
 use Rattle.wp_maint.specs.declared.frozen.Frozen.{Frozen}
 use Rattle.wp_maint.specs.Flush.{HasCopied, HasFrozen, Freezes}
-use Rattle.wp_maint.specs.Calls.{NoneInMemory}
-use Rattle.wp_maint.specs.Holding.{no_fact, is_under, seeing}
+use Rattle.wp_maint.specs.Calls.{NoneInMemory, SawWhole}
+use Rattle.wp_maint.specs.Holding.{HoldsEdits}
 use Rattle.wp_maint.proofs.Memory.{memory_is, all_numbered, all_flushed, count_is, rises, flush_covered, none_in_memory, sorted_none}
 use Rattle.wp_maint.proofs.Onward.{settled_on}
-use Rattle.wp_maint.proofs.TakesTurns.{installed_are, stores_are}
 
 module _ {D : Type 0} (z : SharedState D) (s : SeatState) (d : WriteTable) (stock : StockState) (e : Installed) (held : s.knows.held ≡ store (store_table stock) ∷ writes d ∷ installed e ∷ [])
     (none : d.pending ≡ []) (seen : s.knows.participant.seen ≡ d.history) (settled : KnowsTables s.knows e.last) (w : World) (stands : Stands z s w) where
@@ -41,13 +44,13 @@ module _ {D : Type 0} (z : SharedState D) (s : SeatState) (d : WriteTable) (stoc
   sound = at_sound (place_at z s.by) s.knows w stands
 
   store_here : w.store ≡ t
-  store_here = stores_are z s w t stands (subst (IsIn (store t)) (sym held) (inl refl))
+  store_here = held_table (place_at z s.by) s.knows w (store t) stands (subst (IsIn (store t)) (sym held) (inl refl))
 
   writes_here : w.writes ≡ d
-  writes_here = writes_are (place_at z s.by) s.knows w stands d (subst (IsIn (writes d)) (sym held) (inr (inl refl)))
+  writes_here = held_table (place_at z s.by) s.knows w (writes d) stands (subst (IsIn (writes d)) (sym held) (inr (inl refl)))
 
   installed_here : w.installed ≡ e
-  installed_here = installed_are z s w e stands (subst (IsIn (installed e)) (sym held) (inr (inr (inl refl))))
+  installed_here = held_table (place_at z s.by) s.knows w (installed e) stands (subst (IsIn (installed e)) (sym held) (inr (inr (inl refl))))
 
   history_is : w.writes.history ≡ s.knows.participant.seen
   history_is = ap (λ (x : WriteTable). x.history) writes_here ∙ sym seen
@@ -105,102 +108,98 @@ module _ {D : Type 0} (z : SharedState D) (s : SeatState) (d : WriteTable) (stoc
 
 -- ---- the turns are taken and given
 
-abbrev unders : Fact → Bool
-unders = is_under write_turn
+module _ {D : Type 0} {z : SharedState D} {s0 s1 s2 : SeatState} {e : EditsState} {log : LogState} {t : StoreTable} (holds : HoldsEdits z s0 e) (first : TookLog z s0 s1 log) (second : Taken z s1 s2 (store t)) where
+  holds_log : HoldsTurn z s1 (writes log.table) (installed e.table ∷ []) (5 ∷ [])
+  holds_log = record { same_table = first.holds.same_table; live = first.holds.live; held = first.holds.held ∙ ap (λ (l : List Content). writes log.table ∷ l) holds.turn.held; turns = first.holds.turns ∙ ap (λ (l : List ℕ). 0 ∷ l) holds.turn.turns }
 
-fewer : (fact : Fact) → unders fact ≡ false → no_fact fact ≡ false
-fewer fact other = refl
+  holds_stock : HoldsTurn z s2 (store t) (writes log.table ∷ installed e.table ∷ []) (0 ∷ 5 ∷ [])
+  holds_stock = holds_two holds_log second
 
-module _ (s0 s1 s2 : SeatState) (d : WriteTable) (t : StoreTable) (e : Installed) (held : s0.knows.held ≡ installed e ∷ [])
-    (a : GoesOn no_fact (writes d ∷ s0.knows.held) (0 ∷ s0.turns) (seeing d.history s0) s1) (b : GoesOn no_fact (store t ∷ s1.knows.held) (3 ∷ s1.turns) s1 s2) where
-  held_one : s1.knows.held ≡ writes d ∷ installed e ∷ []
-  held_one = ap (λ (x : SeatState). x.knows.held) a.same ∙ ap (λ (l : List Content). writes d ∷ l) held
+  seen_two : s2.knows.participant.seen ≡ log.table.history
+  seen_two = ap (λ (x : SeatState). x.knows.participant.seen) second.goes.same ∙ first.seen
 
-  pub held_two : s2.knows.held ≡ store t ∷ writes d ∷ installed e ∷ []
-  held_two = ap (λ (x : SeatState). x.knows.held) b.same ∙ ap (λ (l : List Content). store t ∷ l) held_one
-
-  turns_two : s2.turns ≡ 3 ∷ 0 ∷ s0.turns
-  turns_two = ap (λ (x : SeatState). x.turns) b.same ∙ ap (λ (x : SeatState). 3 ∷ x.turns) a.same
-
-  pub seen_two : s2.knows.participant.seen ≡ d.history
-  seen_two = ap (λ (x : SeatState). x.knows.participant.seen) b.same ∙ ap (λ (x : SeatState). x.knows.participant.seen) a.same
-
-  pub place_two : (s2.table ≡ s0.table) × (s2.knows.live ≡ s0.knows.live)
-  place_two = (ap (λ (x : SeatState). x.table) b.same ∙ ap (λ (x : SeatState). x.table) a.same, ap (λ (x : SeatState). x.knows.live) b.same ∙ ap (λ (x : SeatState). x.knows.live) a.same)
-
-  pub settled_two : KnowsTables s0.knows e.last → KnowsTables s2.knows e.last
+  pub settled_two : KnowsTables s0.knows e.table.last → KnowsTables s2.knows e.table.last
   settled_two k =
-      settled_on s1 s2 no_fact (store t ∷ s1.knows.held) (3 ∷ s1.turns) refl (λ versions floor. refl) b e.last (settled_on (seeing d.history s0) s1 no_fact (writes d ∷ s0.knows.held) (0 ∷ s0.turns) refl (λ versions floor. refl) a e.last k)
+      settled_on s1 s2 no_fact (store t ∷ s1.knows.held) (3 ∷ s1.turns) refl (λ versions floor. refl) second.goes e.table.last
+      (settled_on (seeing log.table.history s0) s1 no_fact (writes log.table ∷ s0.knows.held) (0 ∷ s0.turns) refl (λ versions floor. refl) first.goes e.table.last k)
 
-  module _ (s3 s4 : SeatState) (c : GoesOn no_fact s2.knows.held s2.turns s2 s3) where
-    held_three : s3.knows.held ≡ store t ∷ writes d ∷ installed e ∷ []
-    held_three = ap (λ (x : SeatState). x.knows.held) c.same ∙ held_two
+  pub saw_whole : SawWhole z s0 log.table.history
+  saw_whole = record {
+    world = first.world;
+    actor = s1.knows;
+    there = subst (λ (b : ℕ). IsAt (place_at z b) s1.knows first.world) (ap (λ (x : SeatState). x.by) first.seat) first.stands;
+    held = subst (λ (d : WriteTable). IsIn (writes d) s1.knows.held) (sym first.is) (subst (IsIn (writes log.table)) (sym first.holds.held) (inl refl));
+    history_is = ap (λ (d : WriteTable). d.history) first.is;
+    seen_is = first.seen;
+    past_is = ap (λ (x : SeatState). x.knows.participant.past) first.seat;
+    made = ap (λ (x : SeatState). x.knows.made) first.seat;
+    joined = ap (λ (x : SeatState). x.knows.joined) first.seat;
+  }
 
-    pub stock_held : IsIn (store t) s3.knows.held
-    stock_held = subst (IsIn (store t)) (sym held_three) (inl refl)
+  -- the log is shown, and the versions are lent
+  module _ {log1 : LogState} (shown : log1 ≡ log) where
+    pub holds_lent : {t1 : StoreTable} → t1 ≡ t → HoldsTurn z s2 (store t1) (writes log1.table ∷ installed e.table ∷ []) (0 ∷ 5 ∷ [])
+    holds_lent lent = subst (λ (x : LogState × StoreTable). HoldsTurn z s2 (store x.1) (writes x.0.table ∷ installed e.table ∷ []) (0 ∷ 5 ∷ [])) (λ i. ((sym shown) i, (sym lent) i)) holds_stock
 
-    pub turns_three : s3.turns ≡ 3 ∷ 0 ∷ s0.turns
-    turns_three = ap (λ (x : SeatState). x.turns) c.same ∙ turns_two
+    pub none_shown : log1.table.pending ≡ []
+    none_shown = ap (λ (x : LogState). x.table.pending) shown ∙ first.knows.0
 
-    pub table_three : s3.table ≡ s0.table
-    table_three = ap (λ (x : SeatState). x.table) c.same ∙ place_two.0
+    pub seen_shown : s2.knows.participant.seen ≡ log1.table.history
+    seen_shown = seen_two ∙ ap (λ (x : LogState). x.table.history) (sym shown)
 
-    module _ (f : GoesOn no_fact (held_without s3.knows.held store_turn) (0 ∷ s0.turns) s3 s4) where
-      held_four : s4.knows.held ≡ writes d ∷ installed e ∷ []
-      held_four = ap (λ (x : SeatState). x.knows.held) f.same ∙ ap (λ (l : List Content). held_without l store_turn) held_three
+  -- the versions that are given are those that were taken
+  pub holds_given : {s3 : SeatState} → GoesOn no_fact s2.knows.held s2.turns s2 s3 → (left : StoreTable) → left ≡ t → HoldsTurn z s3 (store left) (writes log.table ∷ installed e.table ∷ []) (0 ∷ 5 ∷ [])
+  holds_given {s3 = s3} third left same = subst (λ (x : StoreTable). HoldsTurn z s3 (store x) (writes log.table ∷ installed e.table ∷ []) (0 ∷ 5 ∷ [])) (sym same) (holds_on holds_stock third)
 
-      pub log_held : IsIn (writes d) s4.knows.held
-      log_held = subst (IsIn (writes d)) (sym held_four) (inl refl)
+  module _ {s3 s4 : SeatState} (third : GoesOn no_fact s2.knows.held s2.turns s2 s3) (gave : Given z store_turn s3 s4 (writes log.table ∷ installed e.table ∷ []) (0 ∷ 5 ∷ [])) where
+    pub holds_left : HoldsTurn z s4 (writes log.table) (installed e.table ∷ []) (5 ∷ [])
+    holds_left = holds_next (holds_on holds_stock third) gave.goes
 
-      pub turns_four : s4.turns ≡ 0 ∷ s0.turns
-      turns_four = ap (λ (x : SeatState). x.turns) f.same
+    module _ {s5 : SeatState} (last : Given z write_turn s4 s5 (installed e.table ∷ []) (5 ∷ [])) where
+      abbrev test : Fact → Bool
+      test = is_under write_turn
 
-      pub table_four : s4.table ≡ s0.table
-      table_four = ap (λ (x : SeatState). x.table) f.same ∙ table_three
+      whole : GoesOn test (installed e.table ∷ []) (5 ∷ []) (seeing log.table.history s0) s5
+      whole =
+          let base = seeing log.table.history s0 in let two = writes log.table ∷ installed e.table ∷ [] in
+          let ab = then no_fact base s1 s2 (writes log.table ∷ s0.knows.held) (store t ∷ s1.knows.held) (0 ∷ s0.turns) (3 ∷ s1.turns) first.goes second.goes in
+          let abc = then no_fact base s2 s3 (store t ∷ s1.knows.held) s2.knows.held (3 ∷ s1.turns) s2.turns ab third in
+          let four : GoesOn test two (0 ∷ 5 ∷ []) s3 s4 = wider (is_under store_turn) s3 s4 s4 test two (0 ∷ 5 ∷ []) (λ fact other. none_under_store fact) gave.goes in
+          let abcd = then test base s3 s4 s2.knows.held two s2.turns (0 ∷ 5 ∷ []) (wider no_fact base s3 s3 test s2.knows.held s2.turns (none_too test) abc) four in
+          then test base s4 s5 two (installed e.table ∷ []) (0 ∷ 5 ∷ []) (5 ∷ []) abcd last.goes
 
-      module _ (s5 : SeatState) (g : GoesOn unders (held_without s4.knows.held write_turn) s0.turns s4 s5) where
-        last : GoesOn unders (installed e ∷ []) s0.turns s4 s5
-        last = subst (λ (l : List Content). GoesOn unders l s0.turns s4 s5) (ap (λ (l : List Content). held_without l write_turn) held_four) g
+      seen_five : s5.knows.participant.seen ≡ log.table.history
+      seen_five = ap (λ (x : SeatState). x.knows.participant.seen) whole.same
 
-        through : GoesOn no_fact (held_without s3.knows.held store_turn) (0 ∷ s0.turns) (seeing d.history s0) s4
-        through =
-            let ab = then no_fact (seeing d.history s0) s1 s2 (writes d ∷ s0.knows.held) (store t ∷ s1.knows.held) (0 ∷ s0.turns) (3 ∷ s1.turns) a b in
-            let abc = then no_fact (seeing d.history s0) s2 s3 (store t ∷ s1.knows.held) s2.knows.held (3 ∷ s1.turns) s2.turns ab c in
-            then no_fact (seeing d.history s0) s3 s4 s2.knows.held (held_without s3.knows.held store_turn) s2.turns (0 ∷ s0.turns) abc f
+      pub goes_five : GoesOn test (installed e.table ∷ []) (5 ∷ []) (seeing s5.knows.participant.seen s0) s5
+      goes_five = subst (λ (h : List Entry). GoesOn test (installed e.table ∷ []) (5 ∷ []) (seeing h s0) s5) (sym seen_five) whole
 
-        whole : GoesOn unders (installed e ∷ []) s0.turns (seeing d.history s0) s5
-        whole = then unders (seeing d.history s0) s4 s5 (held_without s3.knows.held store_turn) (installed e ∷ []) (0 ∷ s0.turns) s0.turns
-            (wider no_fact (seeing d.history s0) s4 s5 unders (held_without s3.knows.held store_turn) (0 ∷ s0.turns) fewer through) last
+      pub grown_five : StartsWith s5.knows.participant.seen s0.knows.participant.seen
+      grown_five = subst (λ (h : List Entry). StartsWith h s0.knows.participant.seen) (sym seen_five) first.grown
 
-        seen_five : s5.knows.participant.seen ≡ d.history
-        seen_five = ap (λ (x : SeatState). x.knows.participant.seen) whole.same
+      pub whole_five : SawWhole z s0 s5.knows.participant.seen
+      whole_five = subst (SawWhole z s0) (sym seen_five) saw_whole
 
-        pub goes_five : GoesOn unders (installed e ∷ []) s0.turns (seeing s5.knows.participant.seen s0) s5
-        goes_five = subst (λ (h : List Entry). GoesOn unders (installed e ∷ []) s0.turns (seeing h s0) s5) (sym seen_five) whole
+      seen_same : s3.knows.participant.seen ≡ s5.knows.participant.seen
+      seen_same = sym (ap (λ (x : SeatState). x.knows.participant.seen) last.goes.same ∙ ap (λ (x : SeatState). x.knows.participant.seen) gave.goes.same)
 
-        pub grown_five : StartsWith d.history s0.knows.participant.seen → StartsWith s5.knows.participant.seen s0.knows.participant.seen
-        grown_five k = subst (λ (h : List Entry). StartsWith h s0.knows.participant.seen) (sym seen_five) k
+      freezes_still : (frozen : Option Frozen) → Freezes s3.knows e.table frozen → Freezes s5.knows e.table frozen
+      freezes_still (Some x) k = record {
+        at = k.at ∙ ap (λ (h : List Entry). length h) seen_same;
+        versions = k.versions ∙ ap (λ (h : List Entry). sorted_of (unflushed h e.table.last)) seen_same;
+        count = k.count ∙ ap (λ (h : List Entry). length (unflushed h e.table.last)) seen_same;
+        some = k.some;
+        numbered = k.numbered;
+        flushed = k.flushed;
+        later = k.later;
+        fits = k.fits;
+        tables = k.tables;
+        room = k.room;
+        covered = subst (λ (h : List Entry). IsEditCovered h (after_flush h e.table.last)) seen_same k.covered;
+        noted = last.goes.noted (frozen_stay x.at x.versions) refl (gave.goes.noted (frozen_stay x.at x.versions) refl k.noted);
+      }
+      freezes_still None k = subst (λ (h : List Entry). NoneInMemory h e.table.last) seen_same k
 
-        seen_same : s5.knows.participant.seen ≡ s3.knows.participant.seen
-        seen_same = ap (λ (x : SeatState). x.knows.participant.seen) g.same ∙ ap (λ (x : SeatState). x.knows.participant.seen) f.same
-
-        freezes_still : (frozen : Option Frozen) → Freezes s3.knows e frozen → Freezes s5.knows e frozen
-        freezes_still (Some x) k = record {
-          at = k.at ∙ ap (λ (h : List Entry). length h) (sym seen_same);
-          versions = k.versions ∙ ap (λ (h : List Entry). sorted_of (unflushed h e.last)) (sym seen_same);
-          count = k.count ∙ ap (λ (h : List Entry). length (unflushed h e.last)) (sym seen_same);
-          some = k.some;
-          numbered = k.numbered;
-          flushed = k.flushed;
-          later = k.later;
-          fits = k.fits;
-          tables = k.tables;
-          room = k.room;
-          covered = subst (λ (h : List Entry). IsEditCovered h (after_flush h e.last)) (sym seen_same) k.covered;
-          noted = g.noted (frozen_stay x.at x.versions) refl (f.noted (frozen_stay x.at x.versions) refl k.noted);
-        }
-        freezes_still None k = subst (λ (h : List Entry). NoneInMemory h e.last) (sym seen_same) k
-
-        pub frozen_five : {E : Type 0} (result : Result (Option Frozen) E) → IfOk result (λ frozen. Freezes s3.knows e frozen) → IfOk result (λ frozen. Freezes s5.knows e frozen)
-        frozen_five (Ok frozen) k = freezes_still frozen k
-        frozen_five (Err why) k = tt
+      pub frozen_five : {E : Type 0} (result : Result (Option Frozen) E) → IfOk result (λ frozen. Freezes s3.knows e.table frozen) → IfOk result (λ frozen. Freezes s5.knows e.table frozen)
+      frozen_five (Ok frozen) k = freezes_still frozen k
+      frozen_five (Err why) k = tt

@@ -20,13 +20,13 @@ use Rattle.wp_core.proofs.Tests.{none_some}
 use Rattle.wp_rule.specs.Knows.{Noted, KnowsMoved, KnowsInstalled}
 use Rattle.wp_rule.proofs.Knows.{noted_is}
 use Rattle.wp_parts.specs.Edits.{EditsState}
+use Rattle.wp_shared.specs.Notes.{being, GoesOn}
 use Rattle.wp_shared.specs.Seats.{SharedState, SeatState, Stands, place_at}
-use Rattle.wp_commits.specs.Notes.{GoesOn}
+use Rattle.wp_shared.proofs.Tables.{held_table}
 use Rattle.wp_maint.specs.declared.frozen.Frozen.{Frozen}
 use Rattle.wp_parts.specs.Installs.{with_table}
 use Rattle.wp_maint.specs.Flush.{HasFrozen, MayPut}
-use Rattle.wp_maint.specs.Holding.{being, HoldsEdits}
-use Rattle.wp_maint.proofs.TakesTurns.{stores_are}
+use Rattle.wp_maint.specs.Holding.{HoldsEdits}
 use Rattle.wp_maint.proofs.Retained.{none_past}
 use Rattle.wp_maint.proofs.Versions.{Found, same_sorted}
 
@@ -60,10 +60,12 @@ asked_is edit next failed is (inr some) = subst (λ (o : Option InstalledEdit). 
 
 pub still_holds : {D : Type 0} (z : SharedState D) (s u : SeatState) (e left : EditsState) (p : Participant) (test : Fact → Bool) → HoldsEdits z s e → GoesOn test (installed left.table ∷ []) s.turns (being p s) u → left.first ≡ e.first → HoldsEdits z u left
 still_holds z s u e left p test h k first = record {
-  same_table = ap (λ (x : SeatState). x.table) k.same ∙ h.same_table;
-  live = ap (λ (x : SeatState). x.knows.live) k.same ∙ h.live;
-  held = ap (λ (x : SeatState). x.knows.held) k.same;
-  turns = ap (λ (x : SeatState). x.turns) k.same ∙ h.turns;
+  turn = record {
+    same_table = ap (λ (x : SeatState). x.table) k.same ∙ h.turn.same_table;
+    live = ap (λ (x : SeatState). x.knows.live) k.same ∙ h.turn.live;
+    held = ap (λ (x : SeatState). x.knows.held) k.same;
+    turns = ap (λ (x : SeatState). x.turns) k.same ∙ h.turn.turns;
+  };
   of_store = h.of_store ∙ ap Some (sym first);
 }
 
@@ -76,7 +78,7 @@ module _ {D : Type 0} (z : SharedState D) (s : SeatState) (e : Installed) (f : F
     (notes : (fact : Fact) → Noted s.knows fact → Noted u.knows fact) (t : StoreTable) (held : u.knows.held ≡ store t ∷ installed e ∷ [])
     (now : StoreTable) (memory : (key : List ℕ) (p : ℕ) → version_at now.memory key p ≡ cond (nat_le p f.at) None (version_at t.memory key p)) (tables : List Version) (tables_is : now.tables ≡ sorted_of (versions ++ tables)) (before : sorted_of tables ≡ may.before) where
   here : w.store ≡ t
-  here = stores_are z u w t stands (subst (IsIn (store t)) (sym held) (inl refl))
+  here = held_table (place_at z u.by) u.knows w (store t) stands (subst (IsIn (store t)) (sym held) (inl refl))
 
   frozen_at : (key : List ℕ) (q : ℕ) → q ≤ f.at → version_at t.memory key q ≡ version_at f.versions key q
   frozen_at key q low = ap (λ (x : StoreTable). version_at x.memory key q) (sym here) ∙ (noted_is (place_at z u.by) u.knows w (frozen_stay f.at f.versions) stands (notes (frozen_stay f.at f.versions) may.frozen)).is_so.1 key q low

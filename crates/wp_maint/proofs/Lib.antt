@@ -1,4 +1,3 @@
-pub mod TakesTurns
 pub mod Found
 pub mod Made
 pub mod Versions

@@ -27,23 +27,16 @@ use Rattle.wp_rule.proofs.Needed.{guarded, needed}
 use Rattle.wp_rule.proofs.Outlasting.{outlasts}
 use Rattle.wp_rule.proofs.Stores.{holder_is_live}
 use Rattle.wp_shared.specs.Calls.{remembering}
+use Rattle.wp_shared.specs.Notes.{no_fact, being, GoesOn}
 use Rattle.wp_shared.specs.Seats.{SharedState, SeatState, Stands, place_at}
 use Rattle.wp_shared.proofs.OneStep.{made, becomes}
-use Rattle.wp_commits.specs.Notes.{GoesOn}
-use Rattle.wp_commits.proofs.Goes.{goes_with}
-use Rattle.wp_commits.proofs.Turns.{note_ends_none}
+use Rattle.wp_shared.proofs.Goes.{goes_with}
+use Rattle.wp_shared.proofs.Noting.{note_ends_none}
+use Rattle.wp_shared.proofs.Onward.{starts_same, starts_equal}
+use Rattle.wp_shared.proofs.Tables.{held_table}
 use Rattle.wp_maint.specs.Finding.{Remembers}
-use Rattle.wp_maint.specs.Holding.{no_fact, is_of_flushed, is_of_tables, being}
+use Rattle.wp_maint.specs.Holding.{is_of_flushed, is_of_tables}
 use Rattle.wp_maint.proofs.Found.{failed_last}
-use Rattle.wp_maint.proofs.Onward.{starts_same, starts_equal}
-
-abbrev installed_in : Installed → Content → Installed
-installed_in t (installed d) = d
-installed_in t other = t
-
-abbrev store_in : StoreTable → Content → StoreTable
-store_in t (store d) = d
-store_in t other = t
 
 -- ---- what is left of the seat
 
@@ -80,7 +73,7 @@ pub found : {D : Type 0} (z : SharedState D) (so : World → Type 0) (s u : Seat
 found z so s u same t held m =
     let step = made (place_at z s.by) find_edit so s.knows u.knows find_ends m in
     let p : Participant = s.knows.participant in
-    let table : step.world.installed ≡ t = ap (installed_in t) (held_is (place_at z s.by) s.knows step.world (installed t) step.before held).1 in
+    let table : step.world.installed ≡ t = held_table (place_at z s.by) s.knows step.world (installed t) step.before held in
     let is : u ≡ being (remembering (find_of step.world.first_edit t p ∷ []) p) s = becomes s u (record s.knows { participant = remembering (find_of step.world.first_edit t p ∷ []) p }) same (step.actor ∙ ap (λ (x : Installed). record s.knows { participant = remembering (find_of step.world.first_edit x p ∷ []) p }) table) in
     record {
       found = record {
@@ -117,7 +110,7 @@ may_install p a t edit compacts held known = known_made p a (install edit compac
 
 module _ (p : Place) (so : World → Type 0) (s u : SeatState) (same : (u.table ≡ s.table) × (u.by ≡ s.by) × (u.turns ≡ s.turns)) (t e : Installed) (held : s.knows.held ≡ installed t ∷ []) where
   table_is : (w : World) → IsAt p s.knows w → w.installed ≡ t
-  table_is w k = ap (installed_in t) (held_is p s.knows w (installed t) k (first_held s.knows (installed t) [] held)).1
+  table_is w k = held_table p s.knows w (installed t) k (first_held s.knows (installed t) [] held)
 
   pub was_installed : (compacts : Bool) → e ≡ record t { last = e.last } → Moved p (λ w. install e.last compacts ∷ []) so s.knows u.knows
       → GoesOn is_of_flushed (installed e ∷ []) s.turns (being (remembering (event.installed e.last compacts ∷ []) s.knows.participant) s) u
@@ -151,7 +144,7 @@ pub may_compact : (p : Place) (a : Actor) (t : Installed) (edit : InstalledEdit)
 may_compact p a t edit held known gone w k =
     let there = first_held a (installed t) [] held in
     let n = needed p a w k (install edit true) (record { table = t; held = there; so_is = known }) in
-    let same : edit.flushed ≡ w.installed.last.flushed = known.keeps refl ∙ ap (λ (x : Installed). x.last.flushed) (sym (ap (installed_in t) (held_is p a w (installed t) k there).1)) in
+    let same : edit.flushed ≡ w.installed.last.flushed = known.keeps refl ∙ ap (λ (x : Installed). x.last.flushed) (sym (held_table p a w (installed t) k there)) in
     ((tt, (tt, tt)), (n, ((holder_is_live p a w tables_turn k n.0, guarded p a w k tables_turn n.0, subst (NoneFlushed w.store.memory) (sym same) (noted_is p a w nothing_flushed k gone).is_so), tt)))
 
 module _ (p : Place) (so : World → Type 0) (s u : SeatState) (same : (u.table ≡ s.table) × (u.by ≡ s.by) × (u.turns ≡ s.turns)) (t e : Installed) (held : s.knows.held ≡ installed t ∷ []) (m : Moved p (compacting e.last) so s.knows u.knows) where
@@ -183,7 +176,7 @@ moving t w = move_versions t.memory t.tables ∷ note nothing_flushed ∷ note (
 
 module _ (p : Place) (a : Actor) (t now : StoreTable) (e : Installed) (held : a.held ≡ store t ∷ installed e ∷ []) (floor : now.floor ≡ t.floor) where
   both_are : (w : World) → IsAt p a w → (w.installed ≡ e) × (w.store ≡ t)
-  both_are w k = (ap (installed_in e) (held_is p a w (installed e) k (second_held a (store t) (installed e) held)).1, ap (store_in t) (held_is p a w (store t) k (first_held a (store t) (installed e ∷ []) held)).1)
+  both_are w k = (held_table p a w (installed e) k (second_held a (store t) (installed e) held), held_table p a w (store t) k (first_held a (store t) (installed e ∷ []) held))
 
   pub may_move : KnowsMoved t e.last.flushed now.memory now.tables → NoneFlushed now.memory e.last.flushed → MayMake p a (moving now)
   may_move known gone w k =
@@ -237,7 +230,7 @@ module _ (p : Place) (so : World → Type 0) (s u : SeatState) (same : (u.table 
 
   kept_held : held_with s.knows.held (store (record x.store { tables = now.tables; floor = now.floor })) ≡ store now ∷ installed e ∷ []
   kept_held =
-      let table : x.store ≡ t = ap (store_in t) (held_is p s.knows x (store t) m.before (first_held s.knows (store t) (installed e ∷ []) held)).1 in
+      let table : x.store ≡ t = held_table p s.knows x (store t) m.before (first_held s.knows (store t) (installed e ∷ []) held) in
       (λ i. held_with (held i) (store (record (table i) { tables = now.tables; floor = now.floor }))) ∙ ap (λ (l : List Version). store (record { memory = l; tables = now.tables; floor = now.floor }) ∷ installed e ∷ []) (sym memory)
 
   pub was_replaced : GoesOn is_of_tables (store now ∷ installed e ∷ []) s.turns s u

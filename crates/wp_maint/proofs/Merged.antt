@@ -18,21 +18,21 @@ use Rattle.wp_core.specs.Tables.{Installed, installed}
 use Rattle.wp_core.specs.Views.{tables_failed, tables_stay, live_listed, nothing_flushed}
 use Rattle.wp_core.specs.Views as event
 use Rattle.wp_core.specs.World.{Participant}
-use Rattle.wp_rule.specs.Knows.{Noted, KnowsTables}
+use Rattle.wp_rule.specs.Knows.{Noted}
 use Rattle.wp_parts.specs.Edits.{EditsState}
 use Rattle.wp_parts.specs.Installs.{in_one_table, SurvivesInstall}
-use Rattle.wp_shared.specs.Calls.{remembering}
+use Rattle.wp_shared.specs.Calls.{GoesOnAs, remembering}
+use Rattle.wp_shared.specs.Notes.{no_fact, GoesOn}
 use Rattle.wp_shared.specs.Seats.{SharedState, SeatState}
-use Rattle.wp_commits.specs.Notes.{GoesOn}
+use Rattle.wp_shared.proofs.Onward.{starts_equal, loose_none, goes_none, goes_same, goes_still}
 use Rattle.wp_read.specs.Registers.{numbers_of}
 use Rattle.wp_maint.specs.declared.error.MaintError.{MaintError}
 use Rattle.wp_maint.specs.declared.error.MaintError.TheVariants.{Memory, Nothing, TableFault, TablesStopped}
 use Rattle.wp_maint.specs.Calls.{found_by, HasAlone, HasCompacted, IsCompactionOf, CompactsFrom, SeveralTables}
 use Rattle.wp_maint.specs.Compaction.{IsPin, MayReplace}
-use Rattle.wp_maint.specs.Holding.{no_fact, is_of_flushed, is_of_tables, being, GoesOnAs, HoldsEdits}
+use Rattle.wp_maint.specs.Holding.{is_of_flushed, is_of_tables, HoldsEdits}
 use Rattle.wp_maint.specs.Installs.{HasInstalled, NotInstalled}
-use Rattle.wp_maint.proofs.Found.{failed_last}
-use Rattle.wp_maint.proofs.Onward.{changed_seat, held_left, found_later, same_seat, starts_equal, starts_same, none_free, flushed_free, tables_free, goes_as, goes_still}
+use Rattle.wp_maint.proofs.Onward.{changed_seat, held_left, found_later, flushed_free, tables_free, goes_remembering}
 use Rattle.wp_maint.proofs.Replaces.{in_one_is}
 use Rattle.wp_maint.proofs.Versions.{sorted_same}
 
@@ -85,15 +85,15 @@ module _ {D : Type 0} (z : SharedState D) (s u : SeatState) (e left : EditsState
       left_kept ∙ kept_is ∙ ap (λ (h : List Entry). retained (take floor h) numbers e.table.last) (sym seen),
     )
 
-    pub has_compacted : HoldsEdits z s e → HasAlone kept e left → (v : SeatState) → GoesOn is_of_tables (installed left.table ∷ []) u.turns u v → e.table.halted ≡ false → SeveralTables e.table.last → length kept ≤ length (later_versions (take floor s.knows.participant.seen) 0) → (n : ℕ) → n ≡ length kept
+    pub has_compacted : HoldsEdits z s e → HasAlone kept e left → (v : SeatState) (turns : List ℕ) → GoesOn is_of_tables (installed left.table ∷ []) turns u v → e.table.halted ≡ false → SeveralTables e.table.last → length kept ≤ length (later_versions (take floor s.knows.participant.seen) 0) → (n : ℕ) → n ≡ length kept
         → HasCompacted (GoesOnAs s v) (IsPin floor numbers) z s v e.table (record { at = floor; versions = n })
-    has_compacted holds parts v put running several few n counted =
+    has_compacted holds parts v turns put running several few n counted =
         let then : v.knows.participant.seen ≡ s.knows.participant.seen = ap (λ (x : SeatState). x.knows.participant.seen) put.same ∙ seen in
         let named : next ≡ after_compaction (take floor v.knows.participant.seen) numbers e.table.last = in_one_is (take floor s.knows.participant.seen) numbers e.table.last kept kept_is ∙ ap (λ (h : List Entry). after_compaction (take floor h) numbers e.table.last) (sym then) in
         let found = found_later z s u v e.table (starts_equal u.knows.participant.seen v.knows.participant.seen (ap (λ (x : SeatState). x.knows.participant.seen) put.same)) k.changes.found in
         let after : InstalledEdit → Participant = λ edit. remembering (found_by z s v e.table found ∷ event.installed edit true ∷ []) s.knows.participant in
-        let first : GoesOnAs s u (after next) = goes_as s (being (after next) s) u is_of_flushed (installed left.table ∷ []) s.turns k.changes.goes refl refl refl (starts_same s.knows.participant.seen) flushed_free in
-        let second : GoesOnAs u v u.knows.participant = goes_as u u v is_of_tables (installed left.table ∷ []) u.turns put refl refl refl (starts_same u.knows.participant.seen) tables_free in
+        let first : GoesOnAs s u (after next) = goes_remembering s u (found_by z s v e.table found ∷ event.installed next true ∷ []) is_of_flushed (installed left.table ∷ []) s.turns k.changes.goes flushed_free in
+        let second : GoesOnAs u v u.knows.participant = goes_same u v is_of_tables (installed left.table ∷ []) turns tables_free put in
         record {
           found = found;
           running = running;
@@ -103,7 +103,7 @@ module _ {D : Type 0} (z : SharedState D) (s u : SeatState) (e left : EditsState
           versions = counted ∙ ap (λ (l : List Version). length l) kept_is ∙ ap (λ (h : List Entry). length (retained (take floor h) numbers e.table.last)) (sym then);
           few = subst (λ (h : List Entry). n ≤ length (later_versions (take floor h) 0)) (sym then) (omega (arith, few, counted));
           left = held_left z s u v (record e.table { last = after_compaction (take floor v.knows.participant.seen) numbers e.table.last }) k.stands (changed_seat z s u e.table left.table k.changes) seen (ap (λ (x : SeatState). x.knows.participant) put.same)
-              (subst (λ (t : Installed). IsIn (installed t) u.knows.held) (k.table ∙ ap (λ (edit : InstalledEdit). record e.table { last = edit }) named) (subst (IsIn (installed left.table)) (sym k.holds.held) (inl refl)));
+              (subst (λ (t : Installed). IsIn (installed t) u.knows.held) (k.table ∙ ap (λ (edit : InstalledEdit). record e.table { last = edit }) named) (subst (IsIn (installed left.table)) (sym k.holds.turn.held) (inl refl)));
           table = record {
             before = e;
             after = left;
@@ -121,14 +121,6 @@ module _ {D : Type 0} (z : SharedState D) (s u : SeatState) (e left : EditsState
 
   -- ---- it was refused
 
-  pub settled_refused : (why : MaintError) → NotInstalled z s e next why u left → KnowsTables s.knows e.table.last → KnowsTables u.knows left.table.last
-  settled_refused Memory k there = subst (λ (x : SeatState × Installed). KnowsTables x.0.knows x.1.last) (sym (λ i. (k.0 i, k.1 i))) there
-  settled_refused TableFault k there =
-      let last : left.table.last ≡ e.table.last = ap (λ (x : Installed). x.last) k.table ∙ failed_last e.table left.table.failed in
-      subst (KnowsTables u.knows) (sym last) (k.changes.goes.noted nothing_flushed refl there.0, (there.1.0, k.changes.goes.noted (tables_stay e.table.last.versions there.1.0) refl there.1.1))
-  settled_refused Nothing k there = absurd k
-  settled_refused (TablesStopped flushed) k there = absurd k
-
   asked_so : (failed : Option InstalledEdit) → IfSome failed (λ edit. edit ≡ next) → (seen : u.knows.participant.seen ≡ s.knows.participant.seen) → IfSome failed (IsCompactionOf (IsPin floor numbers) u e.table.last)
   asked_so None k same = tt
   asked_so (Some edit) k same = record {
@@ -139,7 +131,7 @@ module _ {D : Type 0} (z : SharedState D) (s u : SeatState) (e left : EditsState
   }
 
   pub not_compacted : HoldsEdits z s e → (why : MaintError) → NotInstalled z s e next why u left → e.table.halted ≡ false → SeveralTables e.table.last → CompactsFrom (GoesOnAs s u) (IsPin floor numbers) z s e.table (Err why) u
-  not_compacted holds Memory k running several = subst (λ (x : SeatState). GoesOnAs s x s.knows.participant) (sym k.0) (same_seat s)
+  not_compacted holds Memory k running several = subst (λ (x : SeatState). GoesOnAs s x s.knows.participant) (sym k.0) (goes_none s)
   not_compacted holds TableFault k running several =
       let same : u.knows.participant.seen ≡ s.knows.participant.seen = ap (λ (x : SeatState). x.knows.participant.seen) k.changes.goes.same in record {
         found = k.changes.found;
@@ -148,10 +140,10 @@ module _ {D : Type 0} (z : SharedState D) (s u : SeatState) (e left : EditsState
         asked = left.table.failed;
         next = asked_so left.table.failed k.asked same;
         left = held_left z s u u (with_failed e.table left.table.failed) k.stands (changed_seat z s u e.table left.table k.changes) same refl
-            (subst (λ (t : Installed). IsIn (installed t) u.knows.held) k.table (subst (IsIn (installed left.table)) (sym k.holds.held) (inl refl)));
+            (subst (λ (t : Installed). IsIn (installed t) u.knows.held) k.table (subst (IsIn (installed left.table)) (sym k.holds.turn.held) (inl refl)));
         fault = record { before = e; after = left; of_store = holds.of_store; still_of_store = k.holds.of_store; before_is = refl; after_is = k.table; edits = k.edits; still_edits = k.still_edits; so = k.fault };
         survives = (next, asked_so (Some next) refl same, k.survives);
-        goes_on = goes_as s (being (remembering (found_by z s u e.table k.changes.found ∷ tables_failed e.table.last left.table.failed ∷ []) s.knows.participant) s) u no_fact (installed left.table ∷ []) s.turns k.changes.goes refl refl refl (starts_same s.knows.participant.seen) none_free;
+        goes_on = goes_remembering s u (found_by z s u e.table k.changes.found ∷ tables_failed e.table.last left.table.failed ∷ []) no_fact (installed left.table ∷ []) s.turns k.changes.goes loose_none;
       }
   not_compacted holds Nothing k running several = absurd k
   not_compacted holds (TablesStopped flushed) k running several = absurd k

@@ -1,5 +1,5 @@
 -- A seat that goes on, from one stage to the next.
-use Rattle.std.proofs.Common.{◌≡◌, ℕ, ◌≤◌, Bool, false, true, List, [], ◌∷◌, ◌++◌, append_assoc, append-nil, length, take, refl, sym, subst, ap, ◌∙◌, Option, Some, None}
+use Rattle.std.proofs.Common.{◌≡◌, ℕ, ◌≤◌, Bool, false, true, List, [], ◌∷◌, length, take, refl, sym, subst, ap, ◌∙◌, Option, Some, None}
 use Rattle.std.specs.Prelude.{Result, Ok, Err, IfSome}
 use Rattle.wp_model.specs.declared.entry.Entry.{Entry}
 use Rattle.wp_model.specs.declared.version.Version.{Version}
@@ -7,80 +7,42 @@ use Rattle.wp_model.specs.Flushed.{InstalledEdit, later_versions}
 use Rattle.wp_merge.specs.Merge.{sorted_of}
 use Rattle.wp_replies.specs.Tables.{unflushed, retained, after_flush, after_compaction}
 use Rattle.wp_core.specs.Lists.{IsIn}
-use Rattle.wp_core.specs.Notes.{gives_guard}
 use Rattle.wp_core.specs.Sound.Actors.{StartsWith}
-use Rattle.wp_core.specs.Sound.Views.{guarded_by}
-use Rattle.wp_core.specs.Steps.{give_turn}
 use Rattle.wp_core.specs.Tables.{Content, Installed, installed}
-use Rattle.wp_core.specs.Turns.{Turn}
 use Rattle.wp_core.specs.Sound.Pasts.{tables_due}
 use Rattle.wp_core.specs.Views.{Fact, Event, tables_failed, found_edit, tables_stay, nothing_flushed, frozen_stay}
 use Rattle.wp_core.specs.Views as event
-use Rattle.wp_core.specs.World.{Participant, Actor, World}
-use Rattle.wp_core.proofs.Tests.{none_some}
-use Rattle.wp_rule.specs.Knows.{Noted, KnowsTables}
+use Rattle.wp_core.specs.World.{Participant, World}
+use Rattle.wp_rule.specs.Knows.{KnowsTables}
 use Rattle.wp_rule.specs.Words.{IsAt}
 use Rattle.wp_tableset.specs.Changes.{compacted_parts}
 use Rattle.wp_parts.specs.Edits.{EditsState}
 use Rattle.wp_parts.specs.Installs.{SurvivesInstall}
-use Rattle.wp_shared.specs.Calls.{Continues, remembering}
-use Rattle.wp_shared.specs.Seats.{SharedState, SeatState, IsFree, Stands, place_at}
-use Rattle.wp_commits.specs.Notes.{GoesOn}
+use Rattle.wp_shared.specs.Calls.{IsLoose, GoesOnAs, remembering}
+use Rattle.wp_shared.specs.Notes.{seeing, being, GoesOn}
+use Rattle.wp_shared.specs.Seats.{SharedState, SeatState, Stands, place_at}
+use Rattle.wp_shared.proofs.Onward.{starts_on, starts_equal, starts_same, goes_same, goes_then, goes_still, goes_seeing, goes_being}
 use Rattle.wp_maint.specs.declared.done.Done.{Done}
 use Rattle.wp_maint.specs.declared.error.MaintError.{MaintError}
 use Rattle.wp_maint.specs.declared.error.MaintError.TheVariants.{Memory, Nothing, TableFault, TablesStopped}
 use Rattle.wp_maint.specs.Calls.{HeldTables, SawWhole, Finds, HasNothing, FlushesFrom, NoneInMemory, FewTables, CompactsFrom, IsCompactionOf, found_by}
 use Rattle.wp_maint.specs.Compaction.{EndsRoundFrom}
 use Rattle.wp_maint.specs.Finding.{Remembers, Changes}
-use Rattle.wp_maint.specs.Holding.{no_fact, is_under, is_of_flushed, is_of_tables, seeing, being, GoesOnAs, HoldsEdits}
-
--- ---- what was seen
-
-pub starts_on : (one two three : List Entry) → StartsWith two one → StartsWith three two → StartsWith three one
-starts_on one two three first second = (first.0 ++ second.0, second.1 ∙ ap (λ (h : List Entry). h ++ second.0) first.1 ∙ append_assoc one first.0 second.0)
-
-pub starts_equal : (one two : List Entry) → two ≡ one → StartsWith two one
-starts_equal one two same = ([], same ∙ sym (append-nil one))
-
-pub starts_same : (one : List Entry) → StartsWith one one
-starts_same one = starts_equal one one refl
+use Rattle.wp_maint.specs.Holding.{is_of_flushed, is_of_tables, HoldsEdits}
 
 -- ---- which facts stay
 
-some_guard : (fact : Fact) (turn : Turn) → guarded_by fact ≡ Some turn → guarded_by fact ≡ None → ⊥
-some_guard fact turn some none = none_some (guarded_by fact) turn none some
-
-pub none_free : (fact : Fact) → guarded_by fact ≡ None → no_fact fact ≡ false
-none_free fact e = refl
-
-pub under_free : (turn : Turn) (fact : Fact) → guarded_by fact ≡ None → is_under turn fact ≡ false
-under_free turn fact e = ap (λ (g : Option Turn). gives_guard g (give_turn turn)) e
-
-pub flushed_free : (fact : Fact) → guarded_by fact ≡ None → is_of_flushed fact ≡ false
+pub flushed_free : (fact : Fact) → IsLoose fact → is_of_flushed fact ≡ false
 flushed_free nothing_flushed e = absurd cc
 flushed_free other e = refl
 
-pub tables_free : (fact : Fact) → guarded_by fact ≡ None → is_of_tables fact ≡ false
+pub tables_free : (fact : Fact) → IsLoose fact → is_of_tables fact ≡ false
 tables_free (tables_stay versions floor) e = absurd cc
 tables_free (frozen_stay n versions) e = absurd cc
 tables_free nothing_flushed e = absurd cc
 tables_free other e = refl
 
 -- ---- stages
-
-pub goes_as : (old base new : SeatState) (test : Fact → Bool) (held : List Content) (turns : List ℕ) → GoesOn test held turns base new → base.table ≡ old.table → base.by ≡ old.by → base.knows ≡ record old.knows { participant = base.knows.participant; learned = base.knows.learned }
-    → StartsWith base.knows.participant.seen old.knows.participant.seen → ((fact : Fact) → guarded_by fact ≡ None → test fact ≡ false) → GoesOnAs old new base.knows.participant
-goes_as old base new test held turns k table by knows starts free =
-    let participant : new.knows.participant ≡ base.knows.participant = ap (λ (x : SeatState). x.knows.participant) k.same in record {
-      same_table = ap (λ (x : SeatState). x.table) k.same ∙ table;
-      same_by = ap (λ (x : SeatState). x.by) k.same ∙ by;
-      live = ap (λ (x : SeatState). x.knows.live) k.same ∙ ap (λ (a : Actor). a.live) knows;
-      seen = subst (λ (p : Participant). StartsWith p.seen old.knows.participant.seen) (sym participant) starts;
-      participant = participant ∙ ap (λ (h : List Entry). record base.knows.participant { seen = h }) (sym (ap (λ (p : Participant). p.seen) participant));
-      notes = λ fact guard there. k.noted fact (free fact guard) (subst (λ (a : Actor). Noted a fact) (sym knows) there);
-      made = ap (λ (x : SeatState). x.knows.made) k.same ∙ ap (λ (a : Actor). a.made) knows;
-      joined = ap (λ (x : SeatState). x.knows.joined) k.same ∙ ap (λ (a : Actor). a.joined) knows;
-    }
 
 -- the other is in the same place, and made and took in as many others
 abbrev pub IsSeat : SeatState → SeatState → Type 0
@@ -92,56 +54,25 @@ seat_still s t p k = (k.same_by, k.made, k.joined)
 pub changed_seat : {D : Type 0} {event : Event} {test : Fact → Bool} (z : SharedState D) (s u : SeatState) (e left : Installed) → Changes z s e left event test u → IsSeat s u
 changed_seat z s u e left k = let same = k.goes.same in (ap (λ (x : SeatState). x.by) same, ap (λ (x : SeatState). x.knows.made) same, ap (λ (x : SeatState). x.knows.joined) same)
 
-module _ (s t u : SeatState) (p : Participant) (first : GoesOnAs s t p) where
-  pub goes_more : (events : List Event) → GoesOnAs t u (remembering events t.knows.participant) → GoesOnAs s u (remembering events p)
-  goes_more events second = record {
-    same_table = second.same_table ∙ first.same_table;
-    same_by = second.same_by ∙ first.same_by;
-    live = second.live ∙ first.live;
-    seen = starts_on s.knows.participant.seen t.knows.participant.seen u.knows.participant.seen first.seen second.seen;
-    participant = second.participant ∙ ap (λ (x : Participant). record x { past = x.past ++ events; seen = u.knows.participant.seen }) first.participant;
-    notes = λ fact guard there. second.notes fact guard (first.notes fact guard there);
-    made = second.made ∙ first.made;
-    joined = second.joined ∙ first.joined;
-  }
+pub goes_more : (s t u : SeatState) (p : Participant) → GoesOnAs s t p → (events : List Event) → GoesOnAs t u (remembering events t.knows.participant) → GoesOnAs s u (remembering events p)
+goes_more s t u p first events second = goes_then s t u p (remembering events) (λ x h k. refl) first second
 
-  pub goes_still : GoesOnAs t u t.knows.participant → GoesOnAs s u p
-  goes_still second = record {
-    same_table = second.same_table ∙ first.same_table;
-    same_by = second.same_by ∙ first.same_by;
-    live = second.live ∙ first.live;
-    seen = starts_on s.knows.participant.seen t.knows.participant.seen u.knows.participant.seen first.seen second.seen;
-    participant = second.participant ∙ ap (λ (x : Participant). record x { seen = u.knows.participant.seen }) first.participant;
-    notes = λ fact guard there. second.notes fact guard (first.notes fact guard there);
-    made = second.made ∙ first.made;
-    joined = second.joined ∙ first.joined;
-  }
+-- it has seen more, and is as it was but for what it holds and noted
+pub goes_saw : (s u : SeatState) (test : Fact → Bool) (held : List Content) (turns : List ℕ) → GoesOn test held turns (seeing u.knows.participant.seen s) u → StartsWith u.knows.participant.seen s.knows.participant.seen → ((fact : Fact) → IsLoose fact → test fact ≡ false) → GoesOnAs s u s.knows.participant
+goes_saw s u test held turns k grown free = let h = u.knows.participant.seen in goes_still s (seeing h s) u s.knows.participant (goes_seeing s h grown) (goes_same (seeing h s) u test held turns free k)
 
--- it has seen this history, and is as it was but for that
-pub goes_seeing : (old new : SeatState) (h : List Entry) (test : Fact → Bool) (held : List Content) (turns : List ℕ) → GoesOn test held turns (seeing h old) new → StartsWith h old.knows.participant.seen → ((fact : Fact) → guarded_by fact ≡ None → test fact ≡ false) → GoesOnAs old new old.knows.participant
-goes_seeing old new h test held turns k starts free =
-    let g = goes_as old (seeing h old) new test held turns k refl refl refl starts free in
-    record { same_table = g.same_table; same_by = g.same_by; live = g.live; seen = g.seen; participant = g.participant; notes = g.notes; made = g.made; joined = g.joined }
-
-pub same_seat : (s : SeatState) → GoesOnAs s s s.knows.participant
-same_seat s = record { same_table = refl; same_by = refl; live = refl; seen = starts_same s.knows.participant.seen; participant = refl; notes = λ fact guard there. there; made = refl; joined = refl }
+-- it remembers these events more, and is as it was but for that, and for what it holds and noted
+pub goes_remembering : (s u : SeatState) (events : List Event) (test : Fact → Bool) (held : List Content) (turns : List ℕ) → GoesOn test held turns (being (remembering events s.knows.participant) s) u → ((fact : Fact) → IsLoose fact → test fact ≡ false) → GoesOnAs s u (remembering events s.knows.participant)
+goes_remembering s u events test held turns k free =
+    let p : Participant = remembering events s.knows.participant in goes_still s (being p s) u p (goes_being s p refl) (goes_same (being p s) u test held turns free k)
 
 -- it remembers these events more, and is as it was but for that
 module _ {D : Type 0} (z : SharedState D) (s u : SeatState) (events : List Event) (is : u ≡ being (remembering events s.knows.participant) s) where
-  pub goes_being : GoesOnAs s u (remembering events s.knows.participant)
-  goes_being = subst (λ (x : SeatState). GoesOnAs s x (remembering events s.knows.participant)) (sym is) (record {
-    same_table = refl;
-    same_by = refl;
-    live = refl;
-    seen = starts_same s.knows.participant.seen;
-    participant = refl;
-    notes = λ fact guard there. there;
-    made = refl;
-    joined = refl;
-  })
+  pub goes_is : GoesOnAs s u (remembering events s.knows.participant)
+  goes_is = let p : Participant = remembering events s.knows.participant in subst (λ (x : SeatState). GoesOnAs s x p) (sym is) (goes_being s p refl)
 
   pub holds_being : (e : EditsState) → HoldsEdits z s e → HoldsEdits z u e
-  holds_being e h = subst (λ (x : SeatState). HoldsEdits z x e) (sym is) (record { same_table = h.same_table; live = h.live; held = h.held; turns = h.turns; of_store = h.of_store })
+  holds_being e h = subst (λ (x : SeatState). HoldsEdits z x e) (sym is) (record { turn = record { same_table = h.turn.same_table; live = h.turn.live; held = h.turn.held; turns = h.turn.turns }; of_store = h.of_store })
 
   pub settled_being : (edit : InstalledEdit) → KnowsTables s.knows edit → KnowsTables u.knows edit
   settled_being edit k = subst (λ (x : SeatState). KnowsTables x.knows edit) (sym is) k
@@ -151,10 +82,6 @@ pub settled_on : (s u : SeatState) (test : Fact → Bool) (held : List Content) 
     → (edit : InstalledEdit) → KnowsTables s.knows edit → KnowsTables u.knows edit
 settled_on s u test held turns gone named k edit settled =
     (k.noted nothing_flushed gone settled.0, (settled.1.0, k.noted (tables_stay edit.versions settled.1.0) (named edit.versions settled.1.0) settled.1.1))
-
--- the turn was given
-pub as_continues : {D : Type 0} (z : SharedState D) (s u : SeatState) (p : Participant) → GoesOnAs s u p → IsFree z.table u → Continues z s u p
-as_continues z s u p k free = record { free = free; same_by = k.same_by; seen = k.seen; participant = k.participant; notes = k.notes; made = k.made; joined = k.joined }
 
 -- ---- the tables that it held
 
@@ -328,7 +255,7 @@ module _ {D : Type 0} (z : SharedState D) (s u v : SeatState) (e : Installed) (f
   past_still = ap (λ (p : Participant). p.past) first.participant
 
   found_then : GoesOnAs u v (remembering (found_by z u v e k.found ∷ []) u.knows.participant)
-  found_then = goes_being z u v (found_by z u v e k.found ∷ []) k.is
+  found_then = goes_is z u v (found_by z u v e k.found ∷ []) k.is
 
   seen_then : u.knows.participant.seen ≡ v.knows.participant.seen
   seen_then = sym (ap (λ (x : SeatState). x.knows.participant.seen) k.is)

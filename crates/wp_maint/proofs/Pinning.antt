@@ -12,33 +12,8 @@ use Rattle.wp_core.specs.World.{Participant, World}
 use Rattle.wp_rule.proofs.Knows.{at_sound}
 use Rattle.wp_shared.specs.Calls.{Continues}
 use Rattle.wp_shared.specs.Seats.{SharedState, SeatState, IsFree, place_at}
+use Rattle.wp_shared.proofs.Onward.{starts_same, continues_then}
 use Rattle.wp_read.specs.Registers.{IsPinned, numbers_of}
-use Rattle.wp_maint.specs.Holding.{GoesOnAs}
-use Rattle.wp_maint.proofs.Onward.{starts_on, starts_same}
-
--- ---- calls one after another
-
-module _ {D : Type 0} (z : SharedState D) (s t u : SeatState) (p : Participant) (first : Continues z s t p) (change : Participant → Participant) (commutes : (q : Participant) (h : List Entry) → change (record q { seen = h }) ≡ record (change q) { seen = h })
-    (second : Continues z t u (change t.knows.participant)) where
-  pub continues_then : Continues z s u (change p)
-  continues_then = record {
-    free = second.free;
-    same_by = second.same_by ∙ first.same_by;
-    seen = starts_on s.knows.participant.seen t.knows.participant.seen u.knows.participant.seen first.seen second.seen;
-    participant =
-        second.participant
-        ∙ ap (λ (q : Participant). record (change q) { seen = u.knows.participant.seen }) first.participant
-        ∙ ap (λ (q : Participant). record q { seen = u.knows.participant.seen }) (commutes p t.knows.participant.seen);
-    notes = λ fact guard there. second.notes fact guard (first.notes fact guard there);
-    made = second.made ∙ first.made;
-    joined = second.joined ∙ first.joined;
-  }
-
-pub continues_on : {D : Type 0} (z : SharedState D) (s t u : SeatState) (p : Participant) → Continues z s t p → Continues z t u t.knows.participant → Continues z s u p
-continues_on z s t u p first second = continues_then z s t u p first (λ q. q) (λ q h. refl) second
-
-pub continues_as : {D : Type 0} (z : SharedState D) (s t : SeatState) (p : Participant) → IsFree z.table s → Continues z s t p → GoesOnAs s t p
-continues_as z s t p free k = record { same_table = k.free.same_table ∙ sym free.same_table; same_by = k.same_by; live = k.free.live ∙ sym free.live; seen = k.seen; participant = k.participant; notes = k.notes; made = k.made; joined = k.joined }
 
 -- ---- the last registration
 
@@ -73,15 +48,12 @@ module _ {D : Type 0} (z : SharedState D) (s t u : SeatState) (front : List Regi
   released_last first k =
       let had : t.knows.participant.registered ≡ front ++ r ∷ [] = ap (λ (q : Participant). q.registered) first.participant in
       let left : k.0 ++ k.1 ≡ front = last_one front k.0 k.1 r (sym had ∙ k.2) k.3 in
-      continues_then z s t u (record p { registered = front ++ r ∷ [] }) first (λ q. record q { registered = front }) (λ q h. refl) (subst (λ (rs : List Registration). Continues z t u (record t.knows.participant { registered = rs })) left k.4)
+      continues_then z s t u (record p { registered = front ++ r ∷ [] }) (λ q. record q { registered = front }) (λ q h k. refl) first (subst (λ (rs : List Registration). Continues z t u (record t.knows.participant { registered = rs })) left k.4)
 
 -- the registrations of the seat are these
 pub continues_with : {D : Type 0} (z : SharedState D) (s : SeatState) (registered : List Registration) → IsFree z.table s → s.knows.participant.registered ≡ registered → Continues z s s (record s.knows.participant { registered = registered })
 continues_with z s registered free is =
     record { free = free; same_by = refl; seen = starts_same s.knows.participant.seen; participant = ap (λ (rs : List Registration). record s.knows.participant { registered = rs }) is; notes = λ fact guard there. there; made = refl; joined = refl }
-
-pub continues_none : {D : Type 0} (z : SharedState D) (s : SeatState) → IsFree z.table s → Continues z s s s.knows.participant
-continues_none z s free = continues_with z s s.knows.participant.registered free refl
 
 module _ {D : Type 0} (z : SharedState D) (s t : SeatState) (p : Participant) (front rest live : List Registration) (r : Registration) (is : live ≡ rest ++ r ∷ []) (k : Continues z s t (record p { registered = front ++ live })) where
   -- the last of them stands behind the others

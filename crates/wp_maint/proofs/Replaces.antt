@@ -25,12 +25,12 @@ use Rattle.wp_core.proofs.Registered.{registered_live}
 use Rattle.wp_rule.specs.Knows.{Noted, KnowsInstalled}
 use Rattle.wp_rule.proofs.Knows.{at_sound, noted_is, seen_is}
 use Rattle.wp_shared.specs.Seats.{SharedState, SeatState, Stands, place_at}
+use Rattle.wp_shared.proofs.Onward.{starts_on}
+use Rattle.wp_shared.proofs.Tables.{held_table}
 use Rattle.wp_read.specs.Registers.{numbers_of}
 use Rattle.wp_maint.specs.Compaction.{MayReplace}
 use Rattle.wp_parts.specs.Installs.{in_one_table}
 use Rattle.wp_maint.proofs.Covering.{kept_keeps}
-use Rattle.wp_maint.proofs.Onward.{starts_on}
-use Rattle.wp_maint.proofs.TakesTurns.{installed_are}
 
 -- ---- what was seen up to the floor
 
@@ -65,7 +65,7 @@ module _ {D : Type 0} (z : SharedState D) (s : SeatState) (e : Installed) (floor
   sound = at_sound (place_at z u.by) u.knows w stands
 
   edit_here : w.installed ≡ e
-  edit_here = installed_are z u w e stands (subst (IsIn (installed e)) (sym held) (inr (inl refl)))
+  edit_here = held_table (place_at z u.by) u.knows w (installed e) stands (subst (IsIn (installed e)) (sym held) (inr (inl refl)))
 
   abbrev front : List Entry
   front = take floor s.knows.participant.seen

@@ -17,9 +17,11 @@ use Rattle.wp_core.specs.Views.{Event, tables_failed, live_listed}
 use Rattle.wp_core.specs.Views as event
 use Rattle.wp_core.specs.World.{Participant, Actor}
 use Rattle.wp_rule.specs.Words.{IsAt}
-use Rattle.wp_shared.specs.Calls.{Continues, remembering}
+use Rattle.wp_shared.specs.Calls.{GoesOnAs, Continues, remembering}
+use Rattle.wp_shared.specs.Notes.{no_fact, is_under, seeing}
 use Rattle.wp_shared.specs.Seats.{SharedState, SeatState, IsFree, place_at}
-use Rattle.wp_commits.specs.Notes.{GoesOn}
+use Rattle.wp_shared.specs.Turns.{Taken, Given}
+use Rattle.wp_shared.proofs.Onward.{starts_on, starts_same, loose_none, loose_under, goes_same, goes_still, goes_free, goes_of, continues_then, continues_still}
 use Rattle.wp_read.specs.Registers.{IsPinned, numbers_of}
 use Rattle.wp_maint.specs.declared.done.Done.{Done}
 use Rattle.wp_maint.specs.declared.error.MaintError.{MaintError}
@@ -28,10 +30,9 @@ use Rattle.wp_maint.specs.Calls.{CompactsFrom, Compacts, FewTables, HasPinned, f
 use Rattle.wp_maint.specs.Compaction.{HasDecided, IsPin, KnowsLive, EndsRoundFrom, EndsRound}
 use Rattle.wp_maint.specs.Decided.{ArePinned, Decides, version_numbers}
 use Rattle.wp_maint.specs.Finding.{Remembers}
-use Rattle.wp_maint.specs.Holding.{no_fact, is_under, seeing, GoesOnAs}
 use Rattle.wp_maint.proofs.Decisions.{decided_same}
-use Rattle.wp_maint.proofs.Onward.{starts_on, starts_same, none_free, under_free, goes_as, goes_more, goes_still, goes_being, IsSeat, seat_still, as_continues, compacts_so, ends_so}
-use Rattle.wp_maint.proofs.Pinning.{continues_then, continues_on, continues_as, in_middle, pinned_low, take_seen, grown_length}
+use Rattle.wp_maint.proofs.Onward.{goes_more, goes_is, IsSeat, seat_still, compacts_so, ends_so}
+use Rattle.wp_maint.proofs.Pinning.{in_middle, pinned_low, take_seen, grown_length}
 use Rattle.wp_maint.proofs.Replaces.{length_front}
 use Rattle.wp_maint.proofs.Retained.{retained_same}
 use Rattle.wp_maint.proofs.StillTabled.{decided_still}
@@ -83,7 +84,7 @@ kept_retained a floor live versions pairs last k same kept is =
 -- ---- there is nothing to do
 
 pub found_few : {D : Type 0} (z : SharedState D) (s v : SeatState) (e : Installed) (Pinned : ℕ → List ℕ → Type 0) → Remembers z s e v → e.halted ≡ false → FewTables e.last → CompactsFrom (GoesOnAs s v) Pinned z s e (Err Nothing) v
-found_few z s v e Pinned k running few = record { found = k.found; running = running; idle = few; goes_on = goes_being z s v (found_by z s v e k.found ∷ []) k.is }
+found_few z s v e Pinned k running few = record { found = k.found; running = running; idle = few; goes_on = goes_is z s v (found_by z s v e k.found ∷ []) k.is }
 
 -- ---- under the tables turn
 
@@ -93,23 +94,24 @@ ends_then z s u v e Pinned first result k =
     ends_so (GoesOnAs u v) (GoesOnAs s v) z s u v v e (seat_still s u s.knows.participant first) (ap (λ (p : Participant). p.past) first.participant) first.seen refl (starts_same v.knows.participant.seen) (goes_more s u v s.knows.participant first) (goes_still s u v s.knows.participant first)
     Pinned Pinned (λ floor live pinned. (pinned, refl)) result k
 
-module _ {D : Type 0} (z : SharedState D) (s d t : SeatState) (e : Installed) (free : IsFree z.table s) (first : Continues z s d s.knows.participant) (taken : GoesOn no_fact (installed e ∷ []) (5 ∷ []) d t) where
+module _ {D : Type 0} {z : SharedState D} {s d t : SeatState} {e : Installed} (free : IsFree z.table s) (first : Continues z s d s.knows.participant) (taken : Taken z d t (installed e)) where
   pub goes_taken : GoesOnAs s t s.knows.participant
-  goes_taken = goes_still s d t s.knows.participant (continues_as z s d s.knows.participant free first) (goes_as d d t no_fact (installed e ∷ []) (5 ∷ []) taken refl refl refl (starts_same d.knows.participant.seen) none_free)
+  goes_taken = goes_still s d t s.knows.participant (goes_of z s d s.knows.participant free first) (goes_same d t no_fact (installed e ∷ d.knows.held) (5 ∷ d.turns) loose_none taken.goes)
 
   pub decided_taken : d.knows.participant ≡ s.knows.participant → (floor : Registration) (live : List Registration) (versions : List Version) (pairs : List Pair) → HasDecided s.knows floor live versions pairs → HasDecided t.knows floor live versions pairs
-  decided_taken same floor live versions pairs k = decided_still s.knows t.knows floor live versions pairs (ap (λ (x : SeatState). x.knows.participant) taken.same ∙ same) goes_taken.notes k
+  decided_taken same floor live versions pairs k = decided_still s.knows t.knows floor live versions pairs (ap (λ (x : SeatState). x.knows.participant) taken.goes.same ∙ same) goes_taken.notes k
 
-  -- the turn is given
-  pub ends_given : (u v : SeatState) → GoesOn (is_under tables_turn) [] [] u v → IsFree z.table v → (floor : ℕ) (live : List ℕ) (result : Option (Result Done MaintError)) → EndsRoundFrom (GoesOnAs t u) (IsPin floor live) z t e result u → EndsRound (Continues z s v) (IsPin floor live) z s result v
-  ends_given u v given freed floor live result k =
+  -- the turn is given, with what was told of these tables
+  pub ends_given : (told : Installed) (u v : SeatState) → Given z tables_turn u v [] [] → (floor : ℕ) (live : List ℕ) (result : Option (Result Done MaintError)) → EndsRoundFrom (GoesOnAs t u) (IsPin floor live) z t told result u → EndsRound (Continues z s v) (IsPin floor live) z s result v
+  ends_given told u v given floor live result k =
       let p : Participant = s.knows.participant in
-      let last = goes_as u u v (is_under tables_turn) [] [] given refl refl refl (starts_same u.knows.participant.seen) (under_free tables_turn) in
-      let same : v.knows.participant ≡ u.knows.participant = ap (λ (x : SeatState). x.knows.participant) given.same in (
-        e,
-        ends_so (GoesOnAs t u) (Continues z s v) z s t u v e (seat_still s t s.knows.participant goes_taken) (ap (λ (x : Participant). x.past) goes_taken.participant) goes_taken.seen (sym (ap (λ (x : Participant). x.past) same)) last.seen
-            (λ events w. as_continues z s v (remembering events p) (goes_still s u v (remembering events p) (goes_more s t u p goes_taken events w) last) freed)
-            (λ w. as_continues z s v p (goes_still s u v p (goes_still s t u p goes_taken w) last) freed)
+      let last : GoesOnAs u v u.knows.participant = goes_same u v (is_under tables_turn) [] [] (loose_under tables_turn) given.goes in
+      let freed = given.free refl refl in
+      let same : v.knows.participant ≡ u.knows.participant = ap (λ (x : SeatState). x.knows.participant) given.goes.same in (
+        told,
+        ends_so (GoesOnAs t u) (Continues z s v) z s t u v told (seat_still s t s.knows.participant goes_taken) (ap (λ (x : Participant). x.past) goes_taken.participant) goes_taken.seen (sym (ap (λ (x : Participant). x.past) same)) last.seen
+            (λ events w. goes_free z s v (remembering events p) freed (goes_still s u v (remembering events p) (goes_more s t u p goes_taken events w) last))
+            (λ w. goes_free z s v p freed (goes_still s u v p (goes_still s t u p goes_taken w) last))
             (IsPin floor live) (IsPin floor live) (λ f l pinned. (pinned, ap (λ (x : Participant). take f x.seen) (sym same))) result k,
       )
 
@@ -171,10 +173,10 @@ module _ {D : Type 0} (z : SharedState D) (s t u v : SeatState) (floor : Registr
   module _ (last : Continues z u v (record u.knows.participant { registered = s.knows.participant.registered })) where
     unpinned : (events : List Event) → Continues z t u (remembering events t.knows.participant) → Continues z s v (remembering events s.knows.participant)
     unpinned events second =
-        continues_then z s u v (remembering events pins) (continues_then z s t u pins first (remembering events) (λ q h. refl) second) (λ q. record q { registered = s.knows.participant.registered }) (λ q h. refl) last
+        continues_then z s u v (remembering events pins) (λ q. record q { registered = s.knows.participant.registered }) (λ q h k. refl) (continues_then z s t u pins (remembering events) (λ q h k. refl) first second) last
 
     unpinned_still : Continues z t u t.knows.participant → Continues z s v s.knows.participant
-    unpinned_still second = continues_then z s u v pins (continues_on z s t u pins first second) (λ q. record q { registered = s.knows.participant.registered }) (λ q h. refl) last
+    unpinned_still second = continues_then z s u v pins (λ q. record q { registered = s.knows.participant.registered }) (λ q h k. refl) (continues_still z s t u pins first second) last
 
     seen_last : StartsWith v.knows.participant.seen t.knows.participant.seen
     seen_last = starts_on t.knows.participant.seen u.knows.participant.seen v.knows.participant.seen went.1.seen last.seen
@@ -228,6 +230,6 @@ module _ {D : Type 0} (z : SharedState D) (s t v : SeatState) (first : Continues
   pub compacts_since : (result : Result Done MaintError) → EndsRound (Continues z t v) (HasPinned z t v) z t (Some result) v → Compacts z s result v
   compacts_since result k = (
     k.0,
-    compacts_so (Continues z t v) (Continues z s v) z s t v v k.0 (first.same_by, first.made, first.joined) (ap (λ (p : Participant). p.past) first.participant) first.seen refl (starts_same v.knows.participant.seen) (λ events second. continues_then z s t v s.knows.participant first (remembering events) (λ q h. refl) second) (continues_on z s t v s.knows.participant first)
+    compacts_so (Continues z t v) (Continues z s v) z s t v v k.0 (first.same_by, first.made, first.joined) (ap (λ (p : Participant). p.past) first.participant) first.seen refl (starts_same v.knows.participant.seen) (λ events second. continues_then z s t v s.knows.participant (remembering events) (λ q h k. refl) first second) (continues_still z s t v s.knows.participant first)
         (HasPinned z t v) (HasPinned z s v) pinned_since result k.1,
   )

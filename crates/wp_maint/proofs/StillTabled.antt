@@ -1,5 +1,5 @@
 -- The tables are still those that were decided, so what is kept of them may be installed.
-use Rattle.std.proofs.Common.{◌≡◌, inl, inr, ℕ, ◌≤◌, true, List, [], ◌∷◌, append-nil, length, length-append, take, refl, sym, subst, ap, ◌∙◌, None, arith}
+use Rattle.std.proofs.Common.{◌≡◌, inl, inr, ℕ, ◌≤◌, Bool, true, List, [], ◌∷◌, append-nil, length, length-append, take, refl, sym, subst, ap, ◌∙◌, None, arith}
 use Rattle.std.specs.List.{list_all}
 use Rattle.wp_model.specs.declared.entry.Entry.{Entry}
 use Rattle.wp_model.specs.declared.version.Version.{Version}
@@ -10,7 +10,6 @@ use Rattle.wp_merge.specs.Merge.{joined}
 use Rattle.wp_merge.proofs.Sorted.{in_order_sorted}
 use Rattle.wp_replies.specs.Tables.{retained, after_compaction}
 use Rattle.wp_table.specs.Table.{is_flushed}
-use Rattle.wp_core.specs.Changes.{sees, held_without}
 use Rattle.wp_core.specs.IsSound.{IsSound}
 use Rattle.wp_core.specs.Lists.{IsIn}
 use Rattle.wp_core.specs.Reading.{Registration}
@@ -22,30 +21,33 @@ use Rattle.wp_core.specs.Turns.{store_turn}
 use Rattle.wp_core.specs.Views.{Fact, tables_stay, live_listed, nothing_flushed}
 use Rattle.wp_core.specs.World.{Participant, Actor, World}
 use Rattle.wp_rule.specs.Knows.{Noted, KnowsTables}
-use Rattle.wp_rule.specs.Words.{SawAll}
 use Rattle.wp_rule.proofs.Knows.{at_sound, noted_is}
 use Rattle.wp_parts.specs.Edits.{EditsState}
 use Rattle.wp_parts.specs.Stock.{StockState, store_table}
+use Rattle.wp_shared.specs.Notes.{no_fact, is_under, noting_only, seeing, GoesOn, SawHistory}
 use Rattle.wp_shared.specs.Seats.{SharedState, SeatState, place_at}
+use Rattle.wp_shared.specs.Turns.{HoldsTurn, Taken, Given}
+use Rattle.wp_shared.proofs.Goes.{then, wider, none_under_store}
+use Rattle.wp_shared.proofs.Tables.{held_table}
 use Rattle.wp_read.specs.Registers.{numbers_of}
-use Rattle.wp_commits.specs.Notes.{GoesOn}
-use Rattle.wp_commits.proofs.Goes.{goes_with, then}
 use Rattle.wp_keep.specs.declared.pair.Pair.{Pair}
 use Rattle.wp_maint.specs.Compaction.{HasDecided, KnowsLive, MayMerge, MayReplace}
 use Rattle.wp_maint.specs.Decided.{Decides, version_numbers}
-use Rattle.wp_maint.specs.Holding.{no_fact, seeing, HoldsEdits}
+use Rattle.wp_maint.specs.Holding.{HoldsEdits}
 use Rattle.wp_maint.proofs.Covering.{kept_is_covered, kept_few, versions_numbered}
 use Rattle.wp_maint.proofs.Pinning.{take_grown}
-use Rattle.wp_maint.proofs.Puts.{held_taken}
+use Rattle.wp_maint.proofs.Puts.{holds_taken}
 use Rattle.wp_maint.proofs.Replaces.{length_front, front_starts, number_of}
-use Rattle.wp_maint.proofs.TakesTurns.{installed_are, stores_are}
 
 -- the seat has seen this history, and is as it was but for that
-pub goes_saw : (s u : SeatState) → (u.table ≡ s.table) × (u.by ≡ s.by) × (u.turns ≡ s.turns) → u.knows ≡ sees u.knows.participant.seen s.knows → GoesOn no_fact s.knows.held s.turns (seeing u.knows.participant.seen s) u
-goes_saw s u same rest = record {
-  same = goes_with (seeing u.knows.participant.seen s) u s.knows.held s.turns s.knows.notes same.0 same.1 same.2 rest;
-  noted = λ fact other there. subst (λ (a : Actor). Noted a fact) (sym rest) there;
-}
+pub saw_more : {D : Type 0} {z : SharedState D} {s u : SeatState} → SawHistory z s u → GoesOn no_fact s.knows.held s.turns (seeing u.knows.participant.seen s) u
+saw_more {s = s} {u = u} k =
+    let seen : u.knows.participant.seen ≡ k.history = ap (λ (x : SeatState). x.knows.participant.seen) k.seat in
+    subst (λ (h : List Entry). GoesOn no_fact s.knows.held s.turns (seeing h s) u) (sym seen)
+    (record { same = k.seat ∙ ap (λ (notes : List Fact). noting_only notes (seeing k.history s)) (sym (ap (λ (x : SeatState). x.knows.notes) k.seat)); noted = λ fact other there. subst (λ (x : SeatState). Noted x.knows fact) (sym k.seat) there })
+
+pub saw_grown : {D : Type 0} {z : SharedState D} {s u : SeatState} → SawHistory z s u → StartsWith u.knows.participant.seen s.knows.participant.seen
+saw_grown {s = s} k = subst (λ (x : SeatState). StartsWith x.knows.participant.seen s.knows.participant.seen) (sym k.seat) k.grown
 
 -- what is live is known still, when more was seen
 pub live_later : (s u : Actor) (floor : ℕ) (live : List Registration) → KnowsLive s floor live → u.participant ≡ record s.participant { seen = u.participant.seen } → StartsWith u.participant.seen s.participant.seen → Noted u (live_listed floor (numbers_of live)) → KnowsLive u floor live
@@ -55,25 +57,42 @@ live_later s u floor live k same grown listed = record {
   listed = listed;
 }
 
-module _ {D : Type 0} (z : SharedState D) (u : SeatState) (e : Installed) (stock : StockState) (held : u.knows.held ≡ store (store_table stock) ∷ installed e ∷ []) (settled : KnowsTables u.knows e.last) (floor : ℕ) (live : List Registration) (k : KnowsLive u.knows floor live)
-    (n : ℕ) (saw : SawAll (place_at z u.by) u.knows n) (low_tables : list_all (is_flushed e.last.flushed) e.last.versions ≡ true) (flushed_low : e.last.flushed ≤ floor) (given_up : stock.floor ≤ floor) where
+module _ {D : Type 0} {z : SharedState D} {s u : SeatState} {e : Installed} {beneath : List ℕ} (stock : StockState) (floor : ℕ) (live : List Registration) (saw : SawHistory z s u) (holds : HoldsTurn z s (store (store_table stock)) (installed e ∷ []) beneath) (settled_then : KnowsTables s.knows e.last) (known : KnowsLive s.knows floor live)
+    (low_tables : list_all (is_flushed e.last.flushed) e.last.versions ≡ true) (flushed_low : e.last.flushed ≤ floor) (given_up : stock.floor ≤ floor) where
   abbrev w : World
   w = saw.world
 
+  holds_both : u.knows.held ≡ store (store_table stock) ∷ installed e ∷ []
+  holds_both = ap (λ (x : SeatState). x.knows.held) saw.seat ∙ holds.held
+
+  settled : KnowsTables u.knows e.last
+  settled = subst (λ (x : SeatState). KnowsTables x.knows e.last) (sym saw.seat) settled_then
+
+  seen : u.knows.participant.seen ≡ saw.history
+  seen = ap (λ (x : SeatState). x.knows.participant.seen) saw.seat
+
+  all_seen : w.writes.history ≡ u.knows.participant.seen
+  all_seen = saw.is ∙ sym seen
+
+  k : KnowsLive u.knows floor live
+  k =
+      live_later s.knows u.knows floor live known (ap (λ (x : SeatState). x.knows.participant) saw.seat ∙ ap (λ (h : List Entry). record s.knows.participant { seen = h }) (sym seen)) (saw_grown saw)
+      (subst (λ (x : SeatState). Noted x.knows (live_listed floor (numbers_of live))) (sym saw.seat) known.listed)
+
   sound : IsSound w
-  sound = at_sound (place_at z u.by) u.knows w saw.there
+  sound = at_sound (place_at z u.by) u.knows w saw.stands
 
   edit_here : w.installed ≡ e
-  edit_here = installed_are z u w e saw.there (subst (IsIn (installed e)) (sym held) (inr (inl refl)))
+  edit_here = held_table (place_at z u.by) u.knows w (installed e) saw.stands (subst (IsIn (installed e)) (sym holds_both) (inr (inl refl)))
 
   store_here : w.store ≡ store_table stock
-  store_here = stores_are z u w (store_table stock) saw.there (subst (IsIn (store (store_table stock))) (sym held) (inl refl))
+  store_here = held_table (place_at z u.by) u.knows w (store (store_table stock)) saw.stands (subst (IsIn (store (store_table stock))) (sym holds_both) (inl refl))
 
   named : (w.store.tables ≡ e.last.versions) × (w.store.floor ≡ settled.1.0)
-  named = (noted_is (place_at z u.by) u.knows w (tables_stay e.last.versions settled.1.0) saw.there settled.1.1).is_so
+  named = (noted_is (place_at z u.by) u.knows w (tables_stay e.last.versions settled.1.0) saw.stands settled.1.1).is_so
 
   gone : NoneFlushed w.store.memory w.installed.last.flushed
-  gone = (noted_is (place_at z u.by) u.knows w nothing_flushed saw.there settled.0).is_so
+  gone = (noted_is (place_at z u.by) u.knows w nothing_flushed saw.stands settled.0).is_so
 
   -- they are in order, as the store has them
   pub tables_here : (store_table stock).tables ≡ e.last.versions
@@ -103,7 +122,7 @@ module _ {D : Type 0} (z : SharedState D) (u : SeatState) (e : Installed) (stock
   front_is = length_front floor u.knows.participant.seen k.within
 
   starts : StartsWith w.writes.history front
-  starts = front_starts floor u.knows.participant.seen w.writes.history (subst (λ (h : List Entry). StartsWith h u.knows.participant.seen) (sym saw.seen) ([], sym (append-nil u.knows.participant.seen)))
+  starts = front_starts floor u.knows.participant.seen w.writes.history (subst (λ (h : List Entry). StartsWith h u.knows.participant.seen) (sym all_seen) ([], sym (append-nil u.knows.participant.seen)))
 
   low : (m : ℕ) → is_among (numbers_of live) m ≡ true → m ≤ length front
   low m among = let x = number_of live m among in let l = (k.registered x.r x.there).1 in let i = x.is in let f = front_is in omega (arith, l, i, f)
@@ -121,7 +140,7 @@ module _ {D : Type 0} (z : SharedState D) (u : SeatState) (e : Installed) (stock
   may_merge = record {
     replace = replace_here;
     numbered = versions_numbered w sound front starts (numbers_of live) low e.last.versions named.0 in_order low_here gone given_up_here;
-    covered = subst (λ (x : Installed × List Entry). IsEditCovered x.1 (after_compaction front (numbers_of live) x.0.last)) (λ i. (edit_here i, saw.seen i))
+    covered = subst (λ (x : Installed × List Entry). IsEditCovered x.1 (after_compaction front (numbers_of live) x.0.last)) (λ i. (edit_here i, all_seen i))
         (kept_is_covered w sound front starts (numbers_of live) low e.last.versions named.0 in_order low_here gone given_up_here length_here (ap (λ (x : Installed). x.last.versions) (sym edit_here)));
     few = kept_few w sound front starts (numbers_of live) low e.last.versions named.0 in_order low_here gone given_up_here (let f = front_is in let q = ap (λ (x : Installed). x.last.flushed) edit_here in omega (arith, f, q, flushed_low));
   }
@@ -163,39 +182,41 @@ may_merge_still s t e floor live same notes k = let r = k.replace in record {
 
 -- ---- a look at the store
 
-module _ (s t u v : SeatState) (before : StoreTable) (e : Installed) (held : s.knows.held ≡ installed e ∷ []) (first : GoesOn no_fact (store before ∷ s.knows.held) (3 ∷ s.turns) s t) (second : GoesOn no_fact t.knows.held t.turns (seeing u.knows.participant.seen t) u) where
-  pub held_looked : u.knows.held ≡ store before ∷ installed e ∷ []
-  held_looked = ap (λ (x : SeatState). x.knows.held) second.same ∙ held_taken s t u v before before e held first
+module _ {D : Type 0} {z : SharedState D} {s t u : SeatState} {e : EditsState} {before : StoreTable} (holds : HoldsEdits z s e) (first : Taken z s t (store before)) (second : GoesOn no_fact t.knows.held t.turns (seeing u.knows.participant.seen t) u) where
+  pub holds_seen : HoldsTurn z u (store before) (installed e.table ∷ []) (5 ∷ [])
+  holds_seen = let h = holds_taken holds first in record {
+    same_table = ap (λ (x : SeatState). x.table) second.same ∙ h.same_table;
+    live = ap (λ (x : SeatState). x.knows.live) second.same ∙ h.live;
+    held = ap (λ (x : SeatState). x.knows.held) second.same ∙ h.held;
+    turns = ap (λ (x : SeatState). x.turns) second.same ∙ h.turns;
+  }
 
-  pub turns_looked : u.turns ≡ 3 ∷ s.turns
-  turns_looked = ap (λ (x : SeatState). x.turns) second.same ∙ ap (λ (x : SeatState). x.turns) first.same
-
-  module _ (third : GoesOn no_fact (held_without u.knows.held store_turn) s.turns u v) where
-    gave_back : GoesOn no_fact (installed e ∷ []) s.turns u v
-    gave_back = subst (λ (h : List Content). GoesOn no_fact (held_without h store_turn) s.turns u v) held_looked third
-
+  module _ {v : SeatState} (third : Given z store_turn u v (installed e.table ∷ []) (5 ∷ [])) where
     pub same_looked : v.knows.participant ≡ u.knows.participant
-    same_looked = ap (λ (x : SeatState). x.knows.participant) third.same
+    same_looked = ap (λ (x : SeatState). x.knows.participant) third.goes.same
 
-    pub looked : GoesOn no_fact (installed e ∷ []) s.turns (seeing v.knows.participant.seen s) v
+    pub looked : GoesOn no_fact (installed e.table ∷ []) (5 ∷ []) (seeing v.knows.participant.seen s) v
     looked =
         let h = u.knows.participant.seen in
-        let one : GoesOn no_fact (store before ∷ s.knows.held) (3 ∷ s.turns) (seeing h s) (seeing h t) = record { same = ap (seeing h) first.same; noted = λ fact other there. first.noted fact other there } in
+        let one : GoesOn no_fact (store before ∷ s.knows.held) (3 ∷ s.turns) (seeing h s) (seeing h t) = record { same = ap (seeing h) first.goes.same; noted = λ fact other there. first.goes.noted fact other there } in
         let two = then no_fact (seeing h s) (seeing h t) u (store before ∷ s.knows.held) t.knows.held (3 ∷ s.turns) t.turns one second in
-        let three = then no_fact (seeing h s) u v t.knows.held (installed e ∷ []) t.turns s.turns two gave_back in
-        subst (λ (p : Participant). GoesOn no_fact (installed e ∷ []) s.turns (seeing p.seen s) v) (sym same_looked) three
+        let back : GoesOn no_fact (installed e.table ∷ []) (5 ∷ []) u v = wider (is_under store_turn) u v v no_fact (installed e.table ∷ []) (5 ∷ []) (λ fact other. none_under_store fact) third.goes in
+        let three = then no_fact (seeing h s) u v t.knows.held (installed e.table ∷ []) t.turns (5 ∷ []) two back in
+        subst (λ (p : Participant). GoesOn no_fact (installed e.table ∷ []) (5 ∷ []) (seeing p.seen s) v) (sym same_looked) three
 
     pub grown_looked : StartsWith u.knows.participant.seen t.knows.participant.seen → StartsWith v.knows.participant.seen s.knows.participant.seen
-    grown_looked grown = subst (λ (x : Participant × Participant). StartsWith x.0.seen x.1.seen) (λ i. (sym same_looked i, ap (λ (x : SeatState). x.knows.participant) first.same i)) grown
+    grown_looked grown = subst (λ (x : Participant × Participant). StartsWith x.0.seen x.1.seen) (λ i. (sym same_looked i, ap (λ (x : SeatState). x.knows.participant) first.goes.same i)) grown
 
--- the seat that looked holds the tables still
-pub holds_looked : {D : Type 0} (z : SharedState D) (s u : SeatState) (e : EditsState) → GoesOn no_fact (installed e.table ∷ []) s.turns (seeing u.knows.participant.seen s) u → HoldsEdits z s e → HoldsEdits z u e
-holds_looked z s u e k h = record {
-  same_table = ap (λ (x : SeatState). x.table) k.same ∙ h.same_table;
-  live = ap (λ (x : SeatState). x.knows.live) k.same ∙ h.live;
-  held = ap (λ (x : SeatState). x.knows.held) k.same;
-  turns = ap (λ (x : SeatState). x.turns) k.same ∙ h.turns;
-  of_store = h.of_store;
+-- a seat that goes on with the tables turn alone holds the same tables still
+pub still_edits : {D : Type 0} {z : SharedState D} {s u : SeatState} {test : Fact → Bool} {e : EditsState} {h : List Entry} → HoldsEdits z s e → GoesOn test (installed e.table ∷ []) s.turns (seeing h s) u → HoldsEdits z u e
+still_edits holds k = record {
+  turn = record {
+    same_table = ap (λ (x : SeatState). x.table) k.same ∙ holds.turn.same_table;
+    live = ap (λ (x : SeatState). x.knows.live) k.same ∙ holds.turn.live;
+    held = ap (λ (x : SeatState). x.knows.held) k.same;
+    turns = ap (λ (x : SeatState). x.turns) k.same ∙ holds.turn.turns;
+  };
+  of_store = holds.of_store;
 }
 
 -- what was decided is known still by a seat that has seen more

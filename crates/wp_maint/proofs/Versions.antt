@@ -33,10 +33,6 @@ pub empty_list : (versions : List Version) → ((key : List ℕ) (p : ℕ) → v
 empty_list [] none = refl
 empty_list (v ∷ versions) none = let there = own_value v versions in let gone = none v.key v.number in absurd cc
 
-pub some_of : (versions : List Version) (key : List ℕ) (p : ℕ) (value : Option (List ℕ)) → version_at versions key p ≡ Some value → 1 ≤ length versions
-some_of [] key p value there = absurd cc
-some_of (v ∷ versions) key p value there = omega arith
-
 -- what each version in order has, where it is found
 pub all_found : (P : Version → Bool) (versions : List Version) → AreInOrder versions → ((v : Version) → version_at versions v.key v.number ≡ Some v.value → P v ≡ true) → list_all P versions ≡ true
 all_found P [] in_order passes = refl

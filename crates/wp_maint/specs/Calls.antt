@@ -21,9 +21,9 @@ use Rattle.wp_parts.specs.Edits.{EditsState, IsEdits}
 use Rattle.wp_parts.specs.Installs.{HadCause, SurvivesInstall}
 use Rattle.wp_parts.specs.Parts.{set_first}
 use Rattle.wp_shared.specs.Calls.{Continues, remembering}
+use Rattle.wp_shared.specs.Notes.{seeing}
 use Rattle.wp_shared.specs.Seats.{SharedState, SeatState, place_at}
 use Rattle.wp_read.specs.Registers.{IsPinned, numbers_of}
-use Rattle.wp_maint.specs.Holding.{seeing}
 use Rattle.wp_maint.specs.declared.done.Done.{Done}
 use Rattle.wp_maint.specs.declared.error.MaintError.{MaintError}
 use Rattle.wp_maint.specs.declared.error.MaintError.TheVariants.{Memory, Nothing, TableFault, TablesStopped}

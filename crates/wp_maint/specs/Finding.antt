@@ -3,10 +3,9 @@ use Rattle.std.specs.Prelude.{◌≡◌, [], ◌∷◌, Bool}
 use Rattle.wp_core.specs.Tables.{Installed, installed}
 use Rattle.wp_core.specs.Views.{Event, Fact}
 use Rattle.wp_shared.specs.Calls.{remembering}
+use Rattle.wp_shared.specs.Notes.{being, GoesOn}
 use Rattle.wp_shared.specs.Seats.{SharedState, SeatState}
-use Rattle.wp_commits.specs.Notes.{GoesOn}
 use Rattle.wp_maint.specs.Calls.{Finds, found_by}
-use Rattle.wp_maint.specs.Holding.{being}
 
 -- it held these tables in a world of the store, and is as it was but that it remembers them
 pub record Remembers {D : Type 0} (z : SharedState D) (old : SeatState) (e : Installed) (new : SeatState) : Type 0 where

@@ -7,12 +7,13 @@ use Rattle.wp_core.specs.Views as event
 use Rattle.wp_core.specs.World.{World}
 use Rattle.wp_parts.specs.Edits.{EditsState, IsEdits}
 use Rattle.wp_parts.specs.Installs.{SurvivesInstall}
+use Rattle.wp_shared.specs.Notes.{no_fact}
 use Rattle.wp_shared.specs.Seats.{SharedState, SeatState, Stands}
 use Rattle.wp_maint.specs.declared.error.MaintError.{MaintError}
 use Rattle.wp_maint.specs.declared.error.MaintError.TheVariants.{Memory, TableFault}
 use Rattle.wp_maint.specs.Calls.{HasFault}
 use Rattle.wp_maint.specs.Finding.{Changes}
-use Rattle.wp_maint.specs.Holding.{no_fact, is_of_flushed, HoldsEdits}
+use Rattle.wp_maint.specs.Holding.{is_of_flushed, HoldsEdits}
 
 -- the edit was installed; true for a compaction
 pub record HasInstalled {D : Type 0} (z : SharedState D) (old : SeatState) (e : EditsState) (next : InstalledEdit) (compacts : Bool) (new : SeatState) (left : EditsState) : Type 0 where

@@ -2,12 +2,12 @@
 ghost use Rattle.std.specs.Prelude.{◌≡◌, false, length};
 ghost use Rattle.wp_core.specs.Lists.{IsIn};
 ghost use Rattle.wp_rule.specs.Knows.{KnowsTables};
-ghost use Rattle.wp_shared.specs.Calls.{Continues};
+ghost use Rattle.wp_shared.specs.Calls.{Continues, GoesOnAs};
 ghost use Rattle.wp_shared.specs.Seats.{IsFree};
 ghost use Rattle.wp_read.specs.Registers.{numbers_of};
 ghost use Rattle.wp_maint.specs.Calls.{Compacts, HasPinned, SeveralTables};
 ghost use Rattle.wp_maint.specs.Compaction.{HasDecided, IsPin, KnowsLive, EndsRoundFrom, EndsRound};
-ghost use Rattle.wp_maint.specs.Holding.{GoesOnAs, HoldsEdits};
+ghost use Rattle.wp_maint.specs.Holding.{HoldsEdits};
 
 use crate::decided::{Decided, decide_tables};
 use crate::done::Done;
@@ -15,7 +15,6 @@ use crate::error::MaintError;
 use crate::merging::merge;
 use crate::pins::unpin;
 use crate::steps::find_edits;
-use crate::turns::{give_edits, take_edits};
 use crate::unchanged::are_unchanged;
 use std::alloc::Global;
 use std::sync::Wait;
@@ -115,9 +114,9 @@ fn compact_pinned<D: Disk + Drop, R: Wait>(
     let Ok(decided) = decide_tables(store, rt, alloc, seat, pinned) else {
         return Some(Err(MaintError::Memory));
     };
-    let mut edits = take_edits(store, rt, seat);
+    let mut edits = store.take_turn::<Edits<D>, R>(rt, seat);
     let result = compact_in(store, rt, alloc, seat, &mut edits, pinned, &decided);
-    give_edits(store, seat, edits);
+    store.give_turn::<Edits<D>>(seat, edits);
     result
 }
 

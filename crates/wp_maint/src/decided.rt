@@ -8,12 +8,12 @@ ghost use Rattle.wp_shared.specs.Seats.{IsFree};
 ghost use Rattle.wp_read.specs.Registers.{numbers_of};
 ghost use Rattle.wp_maint.specs.Decided.{ArePinned, AreSeen, Decides, version_numbers};
 
-use crate::turns::{give_stock, take_stock};
 use std::alloc::{AllocError, Global};
 use std::sync::Wait;
 use wp_keep::Pair;
 use wp_model::{Seq, Version, Versions};
 use wp_outside::Disk;
+use wp_parts::Stock;
 use wp_read::{Pinned, Snapshot, visible};
 use wp_shared::{Seat, Shared};
 
@@ -36,9 +36,9 @@ fn tabled<D: Disk + Drop, R: Wait>(
     ensures same { seat.new.knows.participant ≡ seat.old.knows.participant }
     ensures seen { IfOk result (AreSeen seat.old.knows.participant.seen) }
 {
-    let stock = take_stock(store, rt, seat);
+    let stock = store.take_turn::<Stock, R>(rt, seat);
     let versions = stock.in_tables();
-    give_stock(store, seat, stock);
+    store.give_turn::<Stock>(seat, stock);
     versions
 }
 

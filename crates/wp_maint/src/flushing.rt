@@ -4,21 +4,21 @@ ghost use Rattle.std.specs.Arc.{arc_value};
 ghost use Rattle.wp_replies.specs.Tables.{after_flush};
 ghost use Rattle.wp_core.specs.Tables.{installed};
 ghost use Rattle.wp_rule.specs.Knows.{KnowsTables};
+ghost use Rattle.wp_shared.specs.Calls.{GoesOnAs};
+ghost use Rattle.wp_shared.specs.Notes.{GoesOn};
 ghost use Rattle.wp_shared.specs.Seats.{IsFree};
-ghost use Rattle.wp_commits.specs.Notes.{GoesOn};
 ghost use Rattle.wp_maint.specs.Calls.{Flushes, FlushesFrom, HasNewest, SawWhole};
 ghost use Rattle.wp_maint.specs.Flush.{HasFrozen, MayPut};
 ghost use Rattle.wp_maint.specs.Installs.{HasInstalled, NotInstalled};
-ghost use Rattle.wp_maint.specs.Holding.{is_of_tables, GoesOnAs, HoldsEdits};
+ghost use Rattle.wp_maint.specs.Holding.{is_of_tables, HoldsEdits};
 
 use crate::done::Done;
 use crate::error::MaintError;
 use crate::frozen::{Frozen, freeze_all};
 use crate::steps::{find_edits, halt, install_flush, move_versions};
-use crate::turns::{give_edits, give_stock, take_edits, take_stock};
 use std::sync::{Arc, Wait};
 use wp_outside::Disk;
-use wp_parts::Edits;
+use wp_parts::{Edits, Stock};
 use wp_shared::{Seat, Shared};
 use wp_table::Table;
 use wp_tableset::TableSetError;
@@ -39,16 +39,16 @@ fn install<D: Disk + Drop>(
     ensures parts { OnOk result (HasNewest frozen.now.versions edits.old edits.new) }
     ensures refused { IfErr result (λ why. NotInstalled store.now seat.old edits.old (after_flush seat.old.knows.participant.seen edits.old.table.last) why seat.new edits.new) }
 {
-    edits.told();
+    edits.shows_told();
     match edits.flush(&frozen.versions, frozen.at) {
         Ok(table) => {
-            edits.told();
+            edits.shows_told();
             install_flush(store, seat, edits);
             Ok(table)
         }
         Err(TableSetError::Memory) => Err(MaintError::Memory),
         Err(TableSetError::Fault) => {
-            edits.told();
+            edits.shows_told();
             halt(store, seat, edits);
             Err(MaintError::TableFault)
         }
@@ -81,10 +81,10 @@ fn put_table<D: Disk + Drop, R: Wait>(
 {
     let Frozen { at, tables, .. } = frozen;
     let tables = with_first(tables, table);
-    let mut stock = take_stock(store, rt, seat);
-    stock.settle(at, tables);
+    let mut stock = store.take_turn::<Stock, R>(rt, seat);
+    stock.install_flushed(at, tables);
     move_versions(store, seat, edits, &stock);
-    give_stock(store, seat, stock);
+    store.give_turn::<Stock>(seat, stock);
 }
 
 /// Writes what is frozen, and puts it into tables.
@@ -171,8 +171,8 @@ pub fn flush<D: Disk + Drop, R: Wait>(
     requires { IsFree store.now.table seat.old }
     ensures { Flushes store.now seat.old result seat.new }
 {
-    let mut edits = take_edits(store, rt, seat);
+    let mut edits = store.take_turn::<Edits<D>, R>(rt, seat);
     let result = flush_in(store, rt, seat, &mut edits);
-    give_edits(store, seat, edits);
+    store.give_turn::<Edits<D>>(seat, edits);
     result
 }

@@ -1,5 +1,5 @@
 //! What stands in memory is frozen, for a flush to write.
-ghost use Rattle.std.specs.Prelude.{◌≡◌, [], ◌∷◌, true, IfOk};
+ghost use Rattle.std.specs.Prelude.{◌≡◌, [], ◌∷◌, IfOk};
 ghost use Rattle.wp_core.specs.Sound.Actors.{StartsWith};
 ghost use Rattle.wp_core.specs.Tables.{installed, writes};
 ghost use Rattle.wp_core.specs.Tables as table;
@@ -7,14 +7,14 @@ ghost use Rattle.wp_core.specs.Turns.{write_turn};
 ghost use Rattle.wp_core.specs.World.{World};
 ghost use Rattle.wp_rule.specs.Knows.{KnowsTables};
 ghost use Rattle.wp_parts.specs.Stock.{store_table};
+ghost use Rattle.wp_shared.specs.Notes.{no_fact, is_under, seeing, GoesOn};
 ghost use Rattle.wp_shared.specs.Seats.{Stands};
-ghost use Rattle.wp_commits.specs.Notes.{GoesOn};
+ghost use Rattle.wp_shared.specs.Turns.{HoldsTurn};
 ghost use Rattle.wp_maint.specs.Calls.{SawWhole};
 ghost use Rattle.wp_maint.specs.Flush.{Freezes, IsCopied};
-ghost use Rattle.wp_maint.specs.Holding.{no_fact, is_under, seeing, HoldsEdits};
+ghost use Rattle.wp_maint.specs.Holding.{HoldsEdits};
 
 use crate::steps::note_frozen;
-use crate::turns::{give_log, give_stock, take_log, take_stock};
 use std::alloc::AllocError;
 use std::sync::{Arc, Wait};
 use wp_model::{Seq, Versions};
@@ -59,8 +59,7 @@ fn freeze_in<D: Disk + Drop>(
     log: &Log<D>,
     stock: &mut Stock,
 ) -> Result<Option<Frozen>, AllocError>
-    requires seat { (seat.old.table ≡ store.now.table) × (seat.old.knows.live ≡ true) }
-    requires held { seat.old.knows.held ≡ table.store (store_table stock.old) ∷ writes log.now.table ∷ installed edits.now.table ∷ [] }
+    requires holds { HoldsTurn store.now seat.old (table.store (store_table stock.old)) (writes log.now.table ∷ installed edits.now.table ∷ []) (0 ∷ 5 ∷ []) }
     requires pending { log.now.table.pending ≡ [] }
     requires seen { seat.old.knows.participant.seen ≡ log.now.table.history }
     requires settled { KnowsTables seat.old.knows edits.now.table.last }
@@ -91,10 +90,10 @@ pub(crate) fn freeze_all<D: Disk + Drop, R: Wait>(
     ensures whole { SawWhole store.now seat.old seat.new.knows.participant.seen }
     ensures frozen { IfOk result (λ frozen. Freezes seat.new.knows edits.now.table frozen) }
 {
-    let log = take_log(store, rt, seat);
-    let mut stock = take_stock(store, rt, seat);
+    let log = store.take_log(rt, seat);
+    let mut stock = store.take_turn::<Stock, R>(rt, seat);
     let frozen = freeze_in(store, seat, edits, &log, &mut stock);
-    give_stock(store, seat, stock);
-    give_log(store, seat, log);
+    store.give_turn::<Stock>(seat, stock);
+    store.give_turn::<Log<D>>(seat, log);
     frozen
 }

@@ -25,7 +25,6 @@ mod frozen;
 mod merging;
 mod pins;
 mod steps;
-mod turns;
 mod unchanged;
 
 pub use compacting::compact;

@@ -15,12 +15,13 @@ ghost use Rattle.wp_core.specs.Tables.{installed};
 ghost use Rattle.wp_core.specs.Views.{nothing_flushed};
 ghost use Rattle.wp_keep.specs.Keep.{is_committed, retained_of};
 ghost use Rattle.wp_rule.specs.Knows.{Noted, KnowsTables};
+ghost use Rattle.wp_shared.specs.Calls.{GoesOnAs};
+ghost use Rattle.wp_shared.specs.Notes.{GoesOn};
 ghost use Rattle.wp_read.specs.Registers.{numbers_of};
-ghost use Rattle.wp_commits.specs.Notes.{GoesOn};
 ghost use Rattle.wp_maint.specs.Calls.{CompactsFrom, HasAlone, SeveralTables};
 ghost use Rattle.wp_maint.specs.Compaction.{HasDecided, IsPin, MayMerge, MayReplace};
 ghost use Rattle.wp_parts.specs.Installs.{in_one_table};
-ghost use Rattle.wp_maint.specs.Holding.{is_of_tables, GoesOnAs, HoldsEdits};
+ghost use Rattle.wp_maint.specs.Holding.{is_of_tables, HoldsEdits};
 ghost use Rattle.wp_maint.specs.Installs.{HasInstalled, NotInstalled};
 
 use crate::decided::Decided;
@@ -28,13 +29,12 @@ use crate::done::Done;
 use crate::error::MaintError;
 use crate::pins::numbers_of;
 use crate::steps::{halt, install_compaction, replace_versions};
-use crate::turns::{give_stock, take_stock};
 use std::alloc::{AllocError, Global};
 use std::sync::{Arc, Wait};
 use wp_keep::keep;
 use wp_model::{Seq, Versions};
 use wp_outside::Disk;
-use wp_parts::Edits;
+use wp_parts::{Edits, Stock};
 use wp_read::Pinned;
 use wp_shared::{Seat, Shared};
 use wp_table::Table;
@@ -73,16 +73,16 @@ fn install<D: Disk + Drop>(
     ensures gone { OnOk result (Noted seat.new.knows nothing_flushed) }
     ensures refused { IfErr result (λ why. NotInstalled store.now seat.old edits.old (in_one_table kept.now edits.old.table.last) why seat.new edits.new) }
 {
-    edits.told();
+    edits.shows_told();
     match edits.compact(kept) {
         Ok(table) => {
-            edits.told();
+            edits.shows_told();
             install_compaction(store, seat, edits);
             Ok(table)
         }
         Err(TableSetError::Memory) => Err(MaintError::Memory),
         Err(TableSetError::Fault) => {
-            edits.told();
+            edits.shows_told();
             halt(store, seat, edits);
             Err(MaintError::TableFault)
         }
@@ -117,10 +117,10 @@ fn put_tables<D: Disk + Drop, R: Wait>(
     ensures goes { GoesOn is_of_tables (installed edits.now.table ∷ []) seat.old.turns seat.old seat.new }
     ensures settled { KnowsTables seat.new.knows edits.now.table.last }
 {
-    let mut stock = take_stock(store, rt, seat);
+    let mut stock = store.take_turn::<Stock, R>(rt, seat);
     stock.replace(tables, floor);
     replace_versions(store, seat, edits, &stock);
-    give_stock(store, seat, stock);
+    store.give_turn::<Stock>(seat, stock);
 }
 
 /// Installs the edit with these versions, and puts their table in place of all.

@@ -14,9 +14,9 @@ ghost use Rattle.wp_core.specs.World.{World};
 ghost use Rattle.wp_rule.specs.Knows.{Noted, KnowsMoved, KnowsInstalled};
 ghost use Rattle.wp_parts.specs.Stock.{store_table};
 ghost use Rattle.wp_shared.specs.Calls.{remembering};
+ghost use Rattle.wp_shared.specs.Notes.{no_fact, being, noting, GoesOn};
 ghost use Rattle.wp_shared.specs.Seats.{Stands};
-ghost use Rattle.wp_commits.specs.Notes.{noting, GoesOn};
-ghost use Rattle.wp_maint.specs.Holding.{no_fact, is_of_flushed, is_of_tables, being};
+ghost use Rattle.wp_maint.specs.Holding.{is_of_flushed, is_of_tables};
 ghost use Rattle.wp_maint.specs.Finding.{Changes, Remembers};
 
 use crate::frozen::Frozen;

@@ -5,12 +5,12 @@ ghost use Rattle.wp_core.specs.Tables.{installed};
 ghost use Rattle.wp_core.specs.Tables as table;
 ghost use Rattle.wp_parts.specs.Stock.{store_table};
 ghost use Rattle.wp_rule.specs.Knows.{KnowsTables};
-ghost use Rattle.wp_commits.specs.Notes.{GoesOn};
+ghost use Rattle.wp_shared.specs.Notes.{no_fact, seeing, GoesOn};
+ghost use Rattle.wp_shared.specs.Turns.{HoldsTurn};
 ghost use Rattle.wp_maint.specs.Compaction.{HasDecided, MayMerge};
-ghost use Rattle.wp_maint.specs.Holding.{no_fact, seeing, HoldsEdits};
+ghost use Rattle.wp_maint.specs.Holding.{HoldsEdits};
 
 use crate::decided::Decided;
-use crate::turns::{give_stock, take_stock};
 use std::alloc::AllocError;
 use std::sync::Wait;
 use wp_model::Version;
@@ -50,8 +50,7 @@ fn is_unchanged<D: Disk + Drop>(
     pinned: &Pinned,
     decided: &Decided,
 ) -> Result<bool, AllocError>
-    requires seat { seat.old.table ≡ store.now.table }
-    requires held { seat.old.knows.held ≡ table.store (store_table stock.now) ∷ installed edits.now.table ∷ [] }
+    requires holds { HoldsTurn store.now seat.old (table.store (store_table stock.now)) (installed edits.now.table ∷ []) (5 ∷ []) }
     requires settled { KnowsTables seat.old.knows edits.now.table.last }
     requires decided { HasDecided seat.old.knows pinned.now.floor pinned.now.live.items decided.now.versions decided.now.committed.items }
     ensures goes { GoesOn no_fact seat.old.knows.held seat.old.turns (seeing seat.new.knows.participant.seen seat.old) seat.new }
@@ -60,7 +59,7 @@ fn is_unchanged<D: Disk + Drop>(
     ensures may { IfOk result (λ same. same ≡ true → MayMerge seat.new.knows edits.now.table pinned.now.floor.number pinned.now.live.items) }
 {
     let floor = pinned.floor.number();
-    store.published(seat);
+    store.shows_history(seat);
     if edits.flushed() > floor {
         return Ok(false);
     }
@@ -88,8 +87,8 @@ pub(crate) fn are_unchanged<D: Disk + Drop, R: Wait>(
     ensures same { IfOk result (λ same. same ≡ true → decided.now.versions ≡ edits.now.table.last.versions) }
     ensures may { IfOk result (λ same. same ≡ true → MayMerge seat.new.knows edits.now.table pinned.now.floor.number pinned.now.live.items) }
 {
-    let stock = take_stock(store, rt, seat);
+    let stock = store.take_turn::<Stock, R>(rt, seat);
     let same = is_unchanged(store, seat, edits, &stock, pinned, decided);
-    give_stock(store, seat, stock);
+    store.give_turn::<Stock>(seat, stock);
     same
 }

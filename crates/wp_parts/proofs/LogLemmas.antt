@@ -26,9 +26,6 @@ pub known_image : (P : List ℕ → Type 0) (moments : List Moment) (image : Lis
 known_image P [] image at left = elim at [ ]
 known_image P (m ∷ past) image at left = left image at
 
-pub none_lost : (magic : List ℕ) (moments : List Moment) → LosesNothing moments moments
-none_lost magic moments id records = ([], refl, tt)
-
 pub loses_on : (old mid new : List Moment) → LosesNothing old mid → LosesNothing mid new → LosesNothing old new
 loses_on old mid new first second id records = preserves_on _ old mid new (first id records) (second id records)
 
@@ -67,22 +64,6 @@ abbrev with_record : WalState → List Entry → WalState
 with_record wal entries = record wal { reserved = Some (reserved_of wal.due entries) }
 
 -- ---- the calls
-
-pub opened : (wal : WalState) (history : List Entry) (room : ℕ) → StoresHistory wal history [] → IsLegal history → wal.closed ≡ false → IsKept (log_state wal wal history [] false []) room false
-opened wal history room stores legal running = record {
-  log = record {
-    stores = stores;
-    legal = subst IsLegal (sym (append-nil history)) legal;
-    none_failed = λ _. refl;
-    whole = λ closed. absurd cc;
-    id = refl;
-    later = omega arith;
-    cause = λ closed. absurd cc;
-    durable = none_lost MAGIC wal.moments;
-  };
-  ready = record { reserved = λ some. absurd (some refl); fits = omega arith };
-  noted = sym running;
-}
 
 module _ (wal first : WalState) (history pending failed : List Entry) (logged closed : Bool) (room : ℕ) (kept : IsKept (log_state wal first history pending logged failed) room closed) where
   -- nothing is pending, and the entries may come next

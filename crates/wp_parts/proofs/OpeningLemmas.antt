@@ -21,6 +21,7 @@ use Rattle.wp_model.specs.History.{is_undecided, undecided}
 use Rattle.wp_model.specs.Legal.{undone_last}
 use Rattle.wp_model.specs.LockTables.{LockTables}
 use Rattle.wp_model.specs.PreparedTables.{PreparedTables}
+use Rattle.wp_model.specs.Snapshots.{Snapshots}
 use Rattle.wp_model.specs.Versions.{version_at}
 use Rattle.wp_model.proofs.Entries.{undone_after}
 use Rattle.wp_outside.specs.Disk.{Moment, IfKnown, added, after_sync}
@@ -40,20 +41,22 @@ use Rattle.wp_wal.specs.Spelling.{AreEntries}
 use Rattle.wp_wal.specs.Wal.{WalState}
 use Rattle.wp_core.specs.Turns.{Turn, write_turn, prepared_turn, snapshots_turn, store_turn, locks_turn, tables_turn, all_free}
 use Rattle.wp_core.specs.Changes.{turn_index}
-use Rattle.wp_core.specs.Runs.{IsOpening, AreOpened}
+use Rattle.wp_core.specs.Runs.{IsOpening}
+use Rattle.wp_history.specs.Opened.{AreOpened}
 use Rattle.wp_core.specs.Sound.Store.{IsStored, NoneFlushed}
 use Rattle.wp_core.specs.Tables.{Installed, live_numbers, up_to}
+use Rattle.wp_core.specs.Tables as table
 use Rattle.wp_core.specs.World.{World, new_actor, content_of}
 use Rattle.wp_core.proofs.PendingVersions.{covers_same}
 use Rattle.wp_core.proofs.PublishesVersions.{up_to_within, up_to_past}
 use Rattle.wp_core.proofs.SnapshotsStep.{among_live}
 use Rattle.wp_core.proofs.Tests.{none_some}
 use Rattle.wp_rule.specs.Shows.{Founds, IsPart}
-use Rattle.wp_parts.specs.Log.{log_state}
-use Rattle.wp_parts.specs.Stock.{store_table}
-use Rattle.wp_parts.specs.Edits.{edits_state}
-use Rattle.wp_parts.specs.Opening.{AreDelayed, IsFlagOf, running_set, slots_of}
-use Rattle.wp_parts.specs.Parts.{content, Tells, tells}
+use Rattle.wp_parts.specs.Log.{LogState, log_state}
+use Rattle.wp_parts.specs.Stock.{StockState, store_table}
+use Rattle.wp_parts.specs.Edits.{EditsState, edits_state}
+use Rattle.wp_parts.specs.Opening.{AreDelayed, AreFilled, IsFlagOf, running_set}
+use Rattle.wp_parts.specs.Parts.{content, LogStands, EditsStand, tells}
 use Rattle.wp_parts.specs.declared.part.Part.{Part}
 use Rattle.wp_parts.specs.declared.part.Part.TheVariants as part
 use Rattle.wp_parts.proofs.StockLemmas.{at_parts}
@@ -242,20 +245,21 @@ module _ (asked : ℕ) (log manifest tables : List Moment) (wal : WalState) (his
       actors = refl;
     }
 
-    module _ {D : Type 0} (slots : List (Part D)) (are : slots ≡ slots_of wal history store (running_set edits now faults) t names) (log_told : Tells {D = D} (part.Write (log_state wal wal history [] false []))) (set_told : Tells {D = D} (part.Tables (edits_state (running_set edits now faults) (running_set edits now faults) store.tables None))) where
+    module _ {D : Type 0} (slots : List (Part D)) (f : AreFilled wal history (running_set edits now faults) store.tables slots) (tables_are : f.prepared.value ≡ t) (none : f.snaps.value ≡ finite.empty)
+        (stock_is : f.stock.value ≡ record { parts = store; floor = length history }) (names_are : f.locks.value ≡ names) (log_told : LogStands f.log.value) (set_told : EditsStand f.edits.value) where
       abbrev list : List (Part D)
-      list = slots_of wal history store (running_set edits now faults) t names
+      list = part.Write f.log ∷ part.Prepared f.prepared ∷ part.Snapshots f.snaps ∷ part.Store f.stock ∷ part.Locks f.locks ∷ part.Tables f.edits ∷ []
 
       each : (turn : Turn) → (x : Part D) × (get_elem? list (turn_index turn) ≡ some x) × IsPart content (tells list) x (content_of opened_world turn)
-      each write_turn = (part.Write (log_state wal wal history [] false []), refl, (refl, (log_told, refl)))
-      each prepared_turn = (part.Prepared t, refl, (refl, (tt, tt)))
-      each snapshots_turn = (part.Snapshots finite.empty, refl, (refl, (tt, tt)))
-      each store_turn = (part.Store (record { parts = store; floor = length history }), refl, (refl, (tt, tt)))
-      each locks_turn = (part.Locks names, refl, (refl, (tt, tt)))
-      each tables_turn = (part.Tables (edits_state (running_set edits now faults) (running_set edits now faults) store.tables None), refl, (refl, (set_told, refl)))
+      each write_turn = (part.Write f.log, refl, (ap (λ (l : LogState). Some (table.writes l.table)) f.log_is, (log_told, refl)))
+      each prepared_turn = (part.Prepared f.prepared, refl, (ap (λ (p : PreparedTables). Some (table.prepared p)) tables_are, (tt, tt)))
+      each snapshots_turn = (part.Snapshots f.snaps, refl, (ap (λ (m : Snapshots). Some (table.snapshots m)) none, (tt, tt)))
+      each store_turn = (part.Store f.stock, refl, (ap (λ (s : StockState). Some (table.store (store_table s))) stock_is, (tt, tt)))
+      each locks_turn = (part.Locks f.locks, refl, (ap (λ (l : LockTables). Some (table.locks l)) names_are, (tt, tt)))
+      each tables_turn = (part.Tables f.edits, refl, (ap (λ (e : EditsState). Some (table.installed e.table)) f.edits_are, (set_told, refl)))
 
       pub founds : Founds content (tells slots) client history cells flag slots
-      founds = subst (λ (xs : List (Part D)). Founds content (tells xs) client history cells flag xs) (sym are) record {
+      founds = subst (λ (xs : List (Part D)). Founds content (tells xs) client history cells flag xs) (sym f.are) record {
         world = opened_world;
         opening = opens;
         opened_is = refl;

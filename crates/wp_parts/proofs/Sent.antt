@@ -3,7 +3,7 @@ use denote.RattleType.{RattleType}
 use denote.Enum.Declared as E
 use denote.Param.Send.{IsSend, view_send, recorded_send, struct_send, enum_send, plain_send, sendable}
 use denote.Struct.Declared.{shape}
-use Rattle.std.proofs.Crossing.{crosses, Vec-send}
+use Rattle.std.proofs.Crossing.{crosses, Box-send, Vec-send}
 use Rattle.std.proofs.alloc.Global.TheSendSync as heap
 use Rattle.wp_outside.specs.declared.disk.Disk.{Ghosts}
 use Rattle.wp_model.proofs.entry.Entry.TheSendSync as entry
@@ -48,4 +48,4 @@ edits_send D g d =
 pub part_send : (D : RattleType) (g : Ghosts D.Denot) → IsSend D → IsSend (Part.the_row D g)
 part_send D g d =
     recorded_send (Part.the_field D g).row _ _ (Part.the_type D g).to_one
-    (enum_send (E.shape (Part.the_type D g)) (tt, ((log_send D g d, tt), ((prepared.the_send, tt), ((snaps.the_send, tt), ((stock.the_send, tt), ((locks.the_send, tt), ((edits_send D g d, tt), tt))))))))
+    (enum_send (E.shape (Part.the_type D g)) (tt, ((Box-send _ (log_send D g d), tt), ((Box-send _ prepared.the_send, tt), ((Box-send _ snaps.the_send, tt), ((Box-send _ stock.the_send, tt), ((Box-send _ locks.the_send, tt), ((Box-send _ (edits_send D g d), tt), tt))))))))

@@ -1,18 +1,21 @@
 -- What an opened store is, behind the turns.
-use Rattle.std.specs.Prelude.{◌≡◌, ℕ, List, [], ◌∷◌, length, false, None, ◌↔◌}
+use Rattle.std.specs.Prelude.{◌≡◌, ℕ, List, [], ◌∷◌, false, None, ◌↔◌, Box}
+use Rattle.std.specs.declared.alloc.Global.{Global}
 use Rattle.std.specs.FinSet as set
 use Rattle.std.specs.FinMap as finite
 use Rattle.wp_model.specs.declared.entry.Entry.{Entry}
 use Rattle.wp_model.specs.History.{undecided}
 use Rattle.wp_model.specs.LockTables.{LockTables}
 use Rattle.wp_model.specs.PreparedTables.{PreparedTables}
+use Rattle.wp_model.specs.Snapshots.{Snapshots}
+use Rattle.wp_model.specs.declared.version.Version.{Version}
 use Rattle.wp_manifest.specs.Manifest.{ManifestState}
 use Rattle.wp_outside.specs.Disk.{Moment}
-use Rattle.wp_store.specs.Store.{StoreParts}
 use Rattle.wp_tableset.specs.Set.{TableSetState}
 use Rattle.wp_wal.specs.Wal.{WalState}
-use Rattle.wp_parts.specs.Log.{log_state}
-use Rattle.wp_parts.specs.Edits.{edits_state}
+use Rattle.wp_parts.specs.Log.{LogState, log_state}
+use Rattle.wp_parts.specs.Edits.{EditsState, edits_state}
+use Rattle.wp_parts.specs.Stock.{StockState}
 use Rattle.wp_parts.specs.declared.part.Part.{Part}
 use Rattle.wp_parts.specs.declared.part.Part.TheVariants as part
 
@@ -30,13 +33,14 @@ IsFlagOf history flag = (flag ≡ 0) ↔ (undecided history ≡ [])
 abbrev pub running_set : ManifestState → List Moment → ℕ → TableSetState
 running_set manifest moments faults = record { manifest = manifest; moments = moments; faults = faults; halted = false }
 
--- The values behind the turns, in the turns' order: a reader at the last number finds all that it needs.
-abbrev pub slots_of : {D : Type 0} → WalState → List Entry → StoreParts → TableSetState → PreparedTables → LockTables → List (Part D)
-slots_of wal history store set tables names =
-    part.Write (log_state wal wal history [] false [])
-    ∷ part.Prepared tables
-    ∷ part.Snapshots finite.empty
-    ∷ part.Store (record { parts = store; floor = length history })
-    ∷ part.Locks names
-    ∷ part.Tables (edits_state set set store.tables None)
-    ∷ []
+-- The values behind the turns, in the turns' order: the log and the set are as they were opened.
+pub record AreFilled {D : Type 0} (wal : WalState) (history : List Entry) (set : TableSetState) (tables : List (List Version)) (slots : List (Part D)) : Type 0 where
+  pub log : Box LogState Global
+  pub prepared : Box PreparedTables Global
+  pub snaps : Box Snapshots Global
+  pub stock : Box StockState Global
+  pub locks : Box LockTables Global
+  pub edits : Box EditsState Global
+  pub are : slots ≡ part.Write log ∷ part.Prepared prepared ∷ part.Snapshots snaps ∷ part.Store stock ∷ part.Locks locks ∷ part.Tables edits ∷ []
+  pub log_is : log.value ≡ log_state wal wal history [] false []
+  pub edits_are : edits.value ≡ edits_state set set tables None

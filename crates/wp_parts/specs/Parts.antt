@@ -7,37 +7,48 @@ use Rattle.wp_outside.specs.Disk.{images}
 use Rattle.wp_tableset.specs.Set.{TableSetState}
 use Rattle.wp_wal.specs.Wal.{WalState}
 use Rattle.wp_core.specs.Images.{LogTells, ManifestTells, TablesTell}
-use Rattle.wp_core.specs.Tables.{Content, writes, prepared, snapshots, store, locks, installed}
-use Rattle.wp_parts.specs.Log.{spells}
+use Rattle.wp_core.specs.Tables.{Content, writes, prepared, snapshots, store, locks, installed, turn_of}
+use Rattle.wp_core.specs.Turns.{Turn}
+use Rattle.wp_parts.specs.Log.{LogState, spells}
 use Rattle.wp_parts.specs.Stock.{store_table}
-use Rattle.wp_parts.specs.Edits.{IsNamed, HasTablesOf}
+use Rattle.wp_parts.specs.Edits.{EditsState, IsNamed, HasTablesOf}
 use Rattle.wp_parts.specs.declared.part.Part.{Part}
 use Rattle.wp_parts.specs.declared.part.Part.TheVariants as part
 
 -- the table of the machine that it is; none where it only stands in for one
 abbrev pub content : {D : Type 0} → Part D → Option Content
 content part.Away = None
-content (part.Write log) = Some (writes log.table)
-content (part.Prepared tables) = Some (prepared tables)
-content (part.Snapshots tables) = Some (snapshots tables)
-content (part.Store stock) = Some (store (store_table stock))
-content (part.Locks tables) = Some (locks tables)
-content (part.Tables edits) = Some (installed edits.table)
+content (part.Write log) = Some (writes log.value.table)
+content (part.Prepared tables) = Some (prepared tables.value)
+content (part.Snapshots snaps) = Some (snapshots snaps.value)
+content (part.Store stock) = Some (store (store_table stock.value))
+content (part.Locks tables) = Some (locks tables.value)
+content (part.Tables edits) = Some (installed edits.value.table)
+
+-- it is a table of this turn
+abbrev pub IsGuardedBy : {D : Type 0} → Turn → Part D → Type 0
+IsGuardedBy turn x = (c : Content) × (content x ≡ Some c) × (turn_of c ≡ turn)
 
 -- what a crash leaves of its devices is as its table says
+abbrev pub LogStands : LogState → Type 0
+LogStands log = LogTells (images log.wal.moments) (spells log) log.table
+
+abbrev pub EditsStand : EditsState → Type 0
+EditsStand edits = ManifestTells (images edits.set.manifest.log.moments) (IsNamed edits) edits.table × TablesTell (images edits.set.moments) (HasTablesOf edits) edits.table
+
 abbrev pub Tells : {D : Type 0} → Part D → Type 0
-Tells (part.Write log) = LogTells (images log.wal.moments) (spells log) log.table
-Tells (part.Tables edits) = ManifestTells (images edits.set.manifest.log.moments) (IsNamed edits) edits.table × TablesTell (images edits.set.moments) (HasTablesOf edits) edits.table
+Tells (part.Write log) = LogStands log.value
+Tells (part.Tables edits) = EditsStand edits.value
 Tells other = Unit {0}
 
 -- ---- as it was opened
 
 abbrev pub opened_log : {D : Type 0} → maybe.Option (Part D) → Option WalState
-opened_log (some (part.Write log)) = Some log.first
+opened_log (some (part.Write log)) = Some log.value.first
 opened_log other = None
 
 abbrev pub opened_set : {D : Type 0} → maybe.Option (Part D) → Option TableSetState
-opened_set (some (part.Tables edits)) = Some edits.first
+opened_set (some (part.Tables edits)) = Some edits.value.first
 opened_set other = None
 
 -- of the values behind the turns, in the turns' order: the log as it was opened, and the set of tables
@@ -49,8 +60,8 @@ set_first slots = opened_set (get_elem? slots 5)
 
 -- its devices were opened as these were
 abbrev pub IsAnchored : {D : Type 0} → List (Part D) → Part D → Type 0
-IsAnchored first (part.Write log) = log_first first ≡ Some log.first
-IsAnchored first (part.Tables edits) = set_first first ≡ Some edits.first
+IsAnchored first (part.Write log) = log_first first ≡ Some log.value.first
+IsAnchored first (part.Tables edits) = set_first first ≡ Some edits.value.first
 IsAnchored first other = Unit {0}
 
 abbrev pub tells : {D : Type 0} → List (Part D) → Part D → Type 0

@@ -18,7 +18,6 @@ use crate::table_versions::TableVersions;
 use std::marker::Model;
 use std::snapshot::Snapshot;
 use std::sync::Arc;
-use wp_core::HoldsEdit;
 use wp_model::{Seq, Versions};
 use wp_outside::Disk;
 use wp_store::Gone;
@@ -51,18 +50,6 @@ impl<D: Disk> Model for Edits<D> {
     ghost view = { λ e. edits_state e.set e.first.value e.tables.items e.failed };
 
     ghost invariant = { λ e. IsEdits (edits_state e.set e.first.value e.tables.items e.failed) };
-}
-
-impl<D: Disk> HoldsEdit for Edits<D> {
-    ghost installed = { λ edits. edits.table };
-
-    ghost manifest_images = { λ edits. images edits.set.manifest.log.moments };
-
-    ghost names = { IsNamed };
-
-    ghost tables_images = { λ edits. images edits.set.moments };
-
-    ghost has_tables = { HasTablesOf };
 }
 
 /// What the tables have, where this one, if there is one, is in place of all.
@@ -186,7 +173,7 @@ impl<D: Disk> Edits<D> {
     }
 
     /// For the proof alone: what a crash leaves of the devices is as the table says.
-    pub fn told(&self)
+    pub fn shows_told(&self)
         ensures manifest { ManifestTells (images self.now.set.manifest.log.moments) (IsNamed self.now) self.now.table }
         ensures tables { TablesTell (images self.now.set.moments) (HasTablesOf self.now) self.now.table }
         ensures edits { IsEdits self.now }

@@ -1,9 +1,10 @@
 //! What lies behind the six turns of the shared store, each value a part of the machine's world.
 //!
 //! A turn guards a value: the history with its log, the prepared transactions, the snapshots, the versions, names and keys,
-//! or the tables on their devices. A `Part` is any of them. It lies in the slot of its turn while that is free, and
-//! `Part::Away` stands in for it while a seat has it out. Each value stands for one table of the machine, and a call on
-//! it makes of that table what a step of the machine does: so a seat that tells the rule the step may put the value home.
+//! or the tables on their devices. `BehindTurn` says of each value which turn guards it. A `Part` is any of them, in a box. It
+//! lies in the slot of its turn while that is free, and `Part::Away` stands in for it while a seat has it out. Each value
+//! stands for one table of the machine, and a call on it makes of that table what a step of the machine does: so a seat that
+//! tells the rule the step may put the value home.
 //!
 //! A `Log` and `Edits` also keep what their devices have: whatever a crash leaves of them is as the table says, and since they
 //! were opened no fault was forgotten and nothing acknowledged was lost. A record is made pending with all the memory that its
@@ -13,6 +14,7 @@
 //! `guard` puts the parts of an opened store behind the turns, which are then an opening world of the machine.
 #![tactic(auto)]
 
+mod behind_turn;
 mod edits;
 mod log;
 mod opening;
@@ -20,8 +22,9 @@ mod part;
 mod stock;
 mod table_versions;
 
+pub use behind_turn::BehindTurn;
 pub use edits::Edits;
 pub use log::Log;
-pub use opening::{delayed_flag, guard};
+pub use opening::{delayed_flag, guard, take_apart};
 pub use part::Part;
 pub use stock::Stock;

@@ -16,7 +16,6 @@ use std::alloc::Global;
 use std::marker::Model;
 use std::mem;
 use std::snapshot::Snapshot;
-use wp_core::HoldsLog;
 use wp_gatelog::AppendError;
 use wp_history::History;
 use wp_model::{Entry, Seq};
@@ -48,14 +47,6 @@ impl<D: Disk> Model for Log<D> {
     ghost view = { λ l. log_state l.wal l.first.value l.history.entries l.pending.items l.logged l.failed.value.items };
 
     ghost invariant = { λ l. IsKept (log_state l.wal l.first.value l.history.entries l.pending.items l.logged l.failed.value.items) l.history.room l.closed };
-}
-
-impl<D: Disk> HoldsLog for Log<D> {
-    ghost writes = { λ first log. log.table };
-
-    ghost images = { λ log. images log.wal.moments };
-
-    ghost spells = { spells };
 }
 
 impl<D: Disk> Log<D> {
@@ -92,6 +83,13 @@ impl<D: Disk> Log<D> {
         ensures few { result < 2 ^ 32 }
     {
         self.history.published()
+    }
+
+    /// The entries that are pending.
+    pub fn pending(&self) -> &[Entry]
+        ensures { result.now ≡ self.now.table.pending }
+    {
+        &self.pending
     }
 
     /// Whether an append has failed.
@@ -177,7 +175,7 @@ impl<D: Disk> Log<D> {
     }
 
     /// For the proof alone: what a crash leaves of the device is as the table says.
-    pub fn told(&self)
+    pub fn shows_told(&self)
         ensures tells { LogTells (images self.now.wal.moments) (spells self.now) self.now.table }
         ensures log { IsLog self.now }
     {

@@ -1,14 +1,18 @@
 //! An opened store, behind the turns.
-ghost use Rattle.std.specs.Prelude.{◌≡◌, ◌≤◌, ℕ, List, [], Some, length, map, ◌+◌, vec_len, vec_capacity, IfOk, IfErr};
+ghost use Rattle.std.specs.FinMap as finite;
+ghost use Rattle.std.specs.Prelude.{◌≡◌, ◌≤◌, ℕ, false, List, [], ◌∷◌, None, length, map, ◌+◌, vec_len, vec_capacity, IfOk, IfErr};
 ghost use Rattle.std.specs.Arc.{arc_value};
-ghost use Rattle.wp_model.specs.LockTables.{LockTables};
-ghost use Rattle.wp_model.specs.PreparedTables.{PreparedTables};
-ghost use Rattle.wp_outside.specs.Disk.{Moment};
+ghost use Rattle.wp_outside.specs.Disk.{IfKnown, Moment};
 ghost use Rattle.wp_open.specs.Parts.{PartsOpened};
-ghost use Rattle.wp_core.specs.Runs.{AreOpened};
+ghost use Rattle.wp_wal.specs.Wal.{LeavesHistory};
+ghost use Rattle.wp_history.specs.Opened.{AreOpened};
 ghost use Rattle.wp_rule.specs.Shows.{Founds};
-ghost use Rattle.wp_parts.specs.Opening.{AreDelayed, IsFlagOf, running_set, slots_of};
-ghost use Rattle.wp_parts.specs.Parts.{content, tells, log_first, set_first};
+ghost use Rattle.wp_parts.specs.Devices.{devices_of, devices_behind};
+ghost use Rattle.wp_parts.specs.Edits.{IsEdits, edits_state};
+ghost use Rattle.wp_parts.specs.Log.{IsLog, log_state};
+ghost use Rattle.wp_parts.specs.Opening.{AreDelayed, AreFilled, IsFlagOf, running_set};
+ghost use Rattle.wp_parts.specs.Parts.{content, tells, LogStands, EditsStand};
+ghost use Rattle.wp_parts.specs.declared.part.Part.TheVariants as part;
 
 use crate::edits::Edits;
 use crate::log::Log;
@@ -20,7 +24,7 @@ use std::sync::Arc;
 use wp_history::History;
 use wp_locks::Locks;
 use wp_open::Parts;
-use wp_outside::Disk;
+use wp_outside::{Disk, Disks};
 use wp_prepared::Prepared;
 use wp_snaps::Snaps;
 use wp_table::Table;
@@ -29,9 +33,9 @@ use wp_tableset::TableSet;
 /// What the values behind the turns need besides the parts of an opened store.
 #[derive(Drop)]
 struct Room<D: Disk> {
-    prepared: Prepared,
-    locks: Locks,
-    tables: Vec<TableVersions>,
+    prepared: Box<Prepared>,
+    snaps: Box<Snaps>,
+    locks: Box<Locks>,
     slots: Vec<Part<D>>,
 }
 
@@ -46,36 +50,47 @@ fn versions_of(alloc: Global, tables: &[Arc<Table>]) -> Result<Vec<TableVersions
     Ok(versions)
 }
 
-/// Takes all the memory that they need.
-fn room_for<D: Disk>(alloc: Global, parts: &Parts<D>) -> Result<Room<D>, AllocError>
-    ensures prepared { IfOk result (λ room. AreDelayed parts.now.history.entries room.prepared) }
-    ensures locks { IfOk result (λ room. AreOpened parts.now.history.entries room.locks) }
-    ensures tables { IfOk result (λ room. room.tables.items ≡ parts.now.store.tables) }
-    ensures slots { IfOk result (λ room. (room.slots.items ≡ []) × (vec_len room.slots + 6 ≤ vec_capacity room.slots)) }
+/// Takes the memory that they need besides, and what the tables have.
+fn room_for<D: Disk + Drop>(
+    alloc: Global,
+    parts: &Parts<D>,
+) -> Result<(Room<D>, Vec<TableVersions>), AllocError>
+    ensures prepared { IfOk result (λ r. AreDelayed parts.now.history.entries r.0.prepared.value) }
+    ensures snaps { IfOk result (λ r. r.0.snaps.value ≡ finite.empty) }
+    ensures locks { IfOk result (λ r. AreOpened parts.now.history.entries r.0.locks.value) }
+    ensures slots { IfOk result (λ r. (r.0.slots.items ≡ []) × (vec_len r.0.slots + 6 ≤ vec_capacity r.0.slots)) }
+    ensures tables { IfOk result (λ r. r.1.items ≡ parts.now.store.tables) }
 {
-    let prepared = Prepared::delaying(alloc, parts.history.undecided())?;
-    let locks = Locks::left_by(&parts.history, alloc)?;
-    let tables = versions_of(alloc, &parts.store.copy_tables()?)?;
-    let slots = Vec::with_capacity(alloc, 6)?;
-    Ok(Room {
-        prepared,
-        locks,
-        tables,
-        slots,
-    })
+    let room = Room {
+        prepared: Box::new(alloc, Prepared::delaying(alloc, parts.history.undecided())?)?,
+        snaps: Box::new(alloc, Snaps::new(alloc))?,
+        locks: Box::new(alloc, Locks::left_by(&parts.history, alloc)?)?,
+        slots: Vec::with_capacity(alloc, 6)?,
+    };
+    Ok((room, versions_of(alloc, &parts.store.copy_tables()?)?))
 }
 
-/// The parts behind their turns, in memory that was taken.
-fn fill<D: Disk>(alloc: Global, parts: Parts<D>, room: Room<D>) -> Vec<Part<D>>
+/// The log, the versions and the tables of an opened store, each as its turn guards it.
+#[derive(Drop)]
+struct Guarded<D: Disk> {
+    log: Box<Log<D>>,
+    stock: Box<Stock>,
+    edits: Box<Edits<D>>,
+}
+
+/// Makes them of the parts. Where memory is wanting the devices come back.
+fn make_guarded<D: Disk + Drop>(
+    alloc: Global,
+    parts: Parts<D>,
+    versions: Vec<TableVersions>,
+) -> Result<Guarded<D>, Disks<D>>
     requires opened { (asked : ℕ) × (log : List Moment) × (manifest : List Moment) × (tables : List Moment)
         × PartsOpened asked log manifest tables parts.wal parts.history.entries parts.manifest (D.moments parts.tables) parts.store }
-    requires prepared { AreDelayed parts.history.entries room.prepared }
-    requires locks { AreOpened parts.history.entries room.locks }
-    requires tables { room.tables.items ≡ parts.store.tables }
-    requires slots { (room.slots.items ≡ []) × (vec_len room.slots + 6 ≤ vec_capacity room.slots) }
-    ensures slots { result.items ≡ slots_of parts.wal parts.history.entries parts.store (running_set parts.manifest (D.moments parts.tables) (D.faults parts.tables)) room.prepared room.locks }
-    ensures founds { (client : List ℕ) (cells flag : ℕ) → 1 ≤ cells → IsFlagOf parts.history.entries flag
-        → Founds content (tells result.items) client parts.history.entries cells flag result.items }
+    requires tables { versions.items ≡ parts.store.tables }
+    ensures log { IfOk result (λ made. made.log.value ≡ log_state parts.wal parts.wal parts.history.entries [] false []) }
+    ensures stock { IfOk result (λ made. made.stock.value ≡ record { parts = parts.store; floor = length parts.history.entries }) }
+    ensures edits { IfOk result (λ made. made.edits.value ≡ edits_state (running_set parts.manifest (D.moments parts.tables) (D.faults parts.tables)) (running_set parts.manifest (D.moments parts.tables) (D.faults parts.tables)) parts.store.tables None) }
+    ensures refused { IfErr result (λ disks. devices_of D.moments D.faults disks ≡ devices_behind parts.wal (running_set parts.manifest (D.moments parts.tables) (D.faults parts.tables))) }
 {
     let Parts {
         wal,
@@ -84,42 +99,101 @@ fn fill<D: Disk>(alloc: Global, parts: Parts<D>, room: Room<D>) -> Vec<Part<D>>
         tables,
         store,
     } = parts;
-    let Room {
-        prepared,
-        locks,
-        tables: versions,
-        mut slots,
-    } = room;
-    let floor = history.published();
+    let stock = Box::new(alloc, Stock::new(store, history.published()));
     let log = Log::new(alloc, wal, history);
     let edits = Edits::new(TableSet::new(alloc, manifest, tables), versions);
-    log.told();
-    edits.told();
+    let Ok(stock) = stock else {
+        return Err(take_apart(log, edits).1);
+    };
+    let log = match Box::new(alloc, log) {
+        Ok(log) => log,
+        Err(failed) => return Err(take_apart(failed.value, edits).1),
+    };
+    match Box::new(alloc, edits) {
+        Ok(edits) => Ok(Guarded { log, stock, edits }),
+        Err(failed) => Err(take_apart(Box::into_inner(log), failed.value).1),
+    }
+}
+
+/// The values behind their turns, in memory that was taken.
+fn fill<D: Disk>(guarded: Guarded<D>, room: Room<D>) -> Vec<Part<D>>
+    requires slots { (room.slots.items ≡ []) × (vec_len room.slots + 6 ≤ vec_capacity room.slots) }
+    ensures slots { result.items ≡ part.Write guarded.log ∷ part.Prepared room.prepared ∷ part.Snapshots room.snaps ∷ part.Store guarded.stock ∷ part.Locks room.locks ∷ part.Tables guarded.edits ∷ [] }
+    ensures log { LogStands guarded.log.value }
+    ensures edits { EditsStand guarded.edits.value }
+{
+    let Guarded { log, stock, edits } = guarded;
+    let Room {
+        prepared,
+        snaps,
+        locks,
+        mut slots,
+        ..
+    } = room;
+    log.shows_told();
+    edits.shows_told();
     slots.push(Part::Write(log)).unwrap();
     slots.push(Part::Prepared(prepared)).unwrap();
-    slots.push(Part::Snapshots(Snaps::new(alloc))).unwrap();
-    slots.push(Part::Store(Stock::new(store, floor))).unwrap();
+    slots.push(Part::Snapshots(snaps)).unwrap();
+    slots.push(Part::Store(stock)).unwrap();
     slots.push(Part::Locks(locks)).unwrap();
     slots.push(Part::Tables(edits)).unwrap();
     slots
 }
 
-/// Puts the parts of an opened store behind the turns, in their order. Where memory is wanting they come back.
-pub fn guard<D: Disk>(alloc: Global, parts: Parts<D>) -> Result<Vec<Part<D>>, Parts<D>>
+/// The devices of an opened store.
+fn disks_of<D: Disk>(parts: Parts<D>) -> Disks<D>
+    ensures { devices_of D.moments D.faults result ≡ devices_behind parts.wal (running_set parts.manifest (D.moments parts.tables) (D.faults parts.tables)) }
+{
+    let Parts {
+        wal,
+        manifest,
+        tables,
+        ..
+    } = parts;
+    Disks {
+        log: wal.into_disk(),
+        manifest: manifest.into_disk(),
+        tables,
+    }
+}
+
+/// Puts the parts of an opened store behind the turns, in their order. Where memory is wanting the devices come back.
+pub fn guard<D: Disk + Drop>(alloc: Global, parts: Parts<D>) -> Result<Vec<Part<D>>, Disks<D>>
     requires opened { (asked : ℕ) × (log : List Moment) × (manifest : List Moment) × (tables : List Moment)
         × PartsOpened asked log manifest tables parts.wal parts.history.entries parts.manifest (D.moments parts.tables) parts.store }
     ensures founds { IfOk result (λ slots. (client : List ℕ) (cells flag : ℕ) → 1 ≤ cells → IsFlagOf parts.history.entries flag
         → Founds content (tells slots.items) client parts.history.entries cells flag slots.items) }
-    ensures slots { IfOk result (λ slots. (tables : PreparedTables) × (names : LockTables)
-        × (slots.items ≡ slots_of parts.wal parts.history.entries parts.store (running_set parts.manifest (D.moments parts.tables) (D.faults parts.tables)) tables names)) }
-    ensures log { IfOk result (λ slots. log_first slots.items ≡ Some parts.wal) }
-    ensures set { IfOk result (λ slots. set_first slots.items ≡ Some (running_set parts.manifest (D.moments parts.tables) (D.faults parts.tables))) }
-    ensures refused { IfErr result (λ back. back ≡ parts) }
+    ensures slots { IfOk result (λ slots. AreFilled parts.wal parts.history.entries (running_set parts.manifest (D.moments parts.tables) (D.faults parts.tables)) parts.store.tables slots.items) }
+    ensures refused { IfErr result (λ disks. devices_of D.moments D.faults disks ≡ devices_behind parts.wal (running_set parts.manifest (D.moments parts.tables) (D.faults parts.tables))) }
 {
-    let Ok(room) = room_for(alloc, &parts) else {
-        return Err(parts);
+    let Ok((room, versions)) = room_for(alloc, &parts) else {
+        return Err(disks_of(parts));
     };
-    Ok(fill(alloc, parts, room))
+    match make_guarded(alloc, parts, versions) {
+        Ok(guarded) => Ok(fill(guarded, room)),
+        Err(disks) => Err(disks),
+    }
+}
+
+/// The history and the devices of what lay behind the write turn and the tables turn.
+pub fn take_apart<D: Disk>(log: Log<D>, edits: Edits<D>) -> (History, Disks<D>)
+    ensures history { result.0.entries ≡ log.table.history }
+    ensures disks { devices_of D.moments D.faults result.1 ≡ devices_behind log.wal edits.set }
+    ensures log { IsLog log }
+    ensures stored { log.wal.closed ≡ false → IfKnown log.wal.moments (LeavesHistory log.wal.id log.table.log) }
+    ensures edits { IsEdits edits }
+{
+    let (wal, history) = log.into_parts();
+    let devices = edits.into_disks();
+    (
+        history,
+        Disks {
+            log: wal.into_disk(),
+            manifest: devices.manifest,
+            tables: devices.tables,
+        },
+    )
 }
 
 /// The flag with which the words of a store begin: 0 where the history leaves nothing undecided, else 1.

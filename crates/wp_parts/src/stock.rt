@@ -14,7 +14,6 @@ ghost use Rattle.wp_parts.specs.Stock.{store_table, HasNoneAt};
 use std::alloc::AllocError;
 use std::marker::Model;
 use std::sync::Arc;
-use wp_core::HoldsVersions;
 use wp_model::{Batch, Key, Seq, Versions};
 use wp_store::Store;
 use wp_table::Table;
@@ -33,10 +32,6 @@ impl Model for Stock {
     ghost Value = { StockState };
 
     ghost view = { λ s. record { parts = s.store; floor = s.floor } };
-}
-
-impl HoldsVersions for Stock {
-    ghost store = { store_table };
 }
 
 impl Stock {
@@ -117,7 +112,7 @@ impl Stock {
 
     /// Takes each version with a number up to `flushed` out of memory, and puts these tables, the newest first, in place of all.
     /// It takes no memory.
-    pub fn settle(&mut self, flushed: Seq, tables: Vec<Arc<Table>>)
+    pub fn install_flushed(&mut self, flushed: Seq, tables: Vec<Arc<Table>>)
         ensures memory { (key : List ℕ) (p : ℕ) → version_at (store_table self.new).memory key p ≡ (if nat_le p flushed then None else version_at (store_table self.old).memory key p) }
         ensures tables { (store_table self.new).tables ≡ sorted_of (joined (map arc_value tables.items)) }
         ensures floor { self.new.floor ≡ self.old.floor }

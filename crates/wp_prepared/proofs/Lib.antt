@@ -1,4 +1,3 @@
-pub mod Above
 pub mod Ascending
 pub mod Firsts
 pub mod Maps

@@ -4,7 +4,7 @@ use Rattle.std.specs.Cmp.{nat_cmp_total}
 use Rattle.std.specs.Ordering.{nat_cmp}
 use Rattle.std.specs.FinSet.{FinSet, contains, insert, remove, same_set, nat_cmp-IsAntisymmetric}
 use Rattle.std.proofs.lemmas.Bool.{cases_eq}
-use Rattle.wp_core.proofs.Numbers.{in_inserted, in_inserted_else, in_removed, in_removed_else}
+use Rattle.wp_model.proofs.Numbers.{in_inserted, in_inserted_else, in_removed, in_removed_else}
 
 -- two sets that have the same numbers are equal
 same_members : (s t : FinSet nat_cmp) → ((q : ℕ) → contains s q ≡ contains t q) → s ≡ t

@@ -5,7 +5,7 @@ use Rattle.std.specs.Ordering.{nat_cmp}
 use Rattle.std.specs.declared.alloc.AllocError.{AllocError}
 use Rattle.std.specs.FinSet.{FinSet, contains, insert, remove, len, contains-empty, len-insert, len-remove, empty_of_len}
 use Rattle.std.proofs.lemmas.Bool.{cases_eq, le-ltb, le-leb, both_ways, cond_both}
-use Rattle.wp_core.proofs.Numbers.{in_inserted, in_inserted_else, in_removed_else}
+use Rattle.wp_model.proofs.Numbers.{in_inserted, in_inserted_else, in_removed_else}
 
 and-false : (b : Bool) → (b && false) ≡ false
 and-false true = refl

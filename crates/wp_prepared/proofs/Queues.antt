@@ -13,7 +13,7 @@ use Rattle.wp_prepared.specs.declared.heap.Queued.{Queued}
 use Rattle.wp_prepared.specs.Least.{IsLeast, AreBelow}
 use Rattle.wp_prepared.specs.Queue.{standing, AreAbove, AreRising, AreErased, FirstStands, LastStands, IsAt, AreApart}
 use Rattle.wp_prepared.proofs.Members.{inserted, removed}
-use Rattle.wp_core.proofs.Numbers.{in_inserted, in_inserted_else}
+use Rattle.wp_model.proofs.Numbers.{in_inserted, in_inserted_else}
 
 -- ---- one number before others
 

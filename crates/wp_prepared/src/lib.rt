@@ -12,5 +12,3 @@ pub use prepared::Prepared;
 mod delayed;
 mod heap;
 mod prepared;
-#[cfg(test)]
-mod tests;

@@ -2,8 +2,7 @@ ghost use Rattle.std.specs.Prelude.{◌≡◌, ℕ, ◌≤◌, ◌&&◌, ◌||�
 ghost use Rattle.std.specs.FinSet as set;
 ghost use Rattle.std.specs.FinMap as map;
 ghost use Rattle.std.specs.List.Sorted.{IsStrictlyIncreasing};
-ghost use Rattle.wp_model.specs.PreparedTables.{nothing_prepared, is_prepared, commits_with, NonePrepared, IsSmallest};
-ghost use Rattle.wp_core.specs.Tables.{NoneDelayed};
+ghost use Rattle.wp_model.specs.PreparedTables.{nothing_prepared, is_prepared, commits_with, NonePrepared, IsSmallest, NoneDelayed};
 ghost use Rattle.wp_prepared.specs.Least.{AreBelow};
 
 use crate::delayed::DelayedSet;
@@ -11,7 +10,6 @@ use crate::heap::PreparedHeap;
 use std::alloc::{AllocError, Global};
 use std::collections::BTreeMap;
 use std::marker::Model;
-use wp_core::HoldsPrepared;
 use wp_model::Seq;
 
 /// The prepared heap, the delayed set and the delayed commits, which the holder of the prepared turn changes.
@@ -39,10 +37,6 @@ impl Model for Prepared {
     ghost view = { λ t. record { heap = t.heap; delayed = t.delayed.numbers; delayed_commits = map.from_entries t.delayed_commits.entries } };
 
     ghost invariant = { λ t. set.len t.heap ≤ t.delayed.room };
-}
-
-impl HoldsPrepared for Prepared {
-    ghost prepared = { λ t. t };
 }
 
 impl Prepared {

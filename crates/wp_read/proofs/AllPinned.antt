@@ -16,7 +16,7 @@ use Rattle.wp_core.specs.Steps.{Step, register_again, note}
 use Rattle.wp_core.specs.Tables.{Content, snapshots}
 use Rattle.wp_core.specs.Turns.{Holders, Holds, snapshots_turn}
 use Rattle.wp_core.specs.Views.{Fact, live_listed}
-use Rattle.wp_core.specs.World.{Actor, World}
+use Rattle.wp_core.specs.World.{Participant, Actor, World}
 use Rattle.wp_rule.specs.Moves.{AreQuiet, AreMet, MayMake, Moved, world_after_step, actor_after_step, actor_after}
 use Rattle.wp_rule.specs.Words.{Place, IsAt}
 use Rattle.wp_rule.proofs.Forgets.{EndsNothing, forgets_nothing, note_ends}
@@ -24,11 +24,11 @@ use Rattle.wp_rule.proofs.Knows.{at_sound, held_is, seen_is}
 use Rattle.wp_shared.specs.Clients.{KeepClient}
 use Rattle.wp_shared.specs.Seats.{SharedState, SeatState, place_at}
 use Rattle.wp_shared.proofs.OneStep.{becomes}
+use Rattle.wp_shared.proofs.Tables.{held_table}
 use Rattle.wp_read.specs.Registers.{ChangesSnapshots, IsTakenAt, IsPinned, AreCounted, AreLive, MayPin, again, numbers_of, with_each, pinning, pinned}
 use Rattle.wp_read.proofs.Counts.{live_still, live_before}
-use Rattle.wp_read.proofs.Readings.{held_snapshots}
 use Rattle.wp_read.proofs.Registers.{registered_and_released}
-use Rattle.wp_read.proofs.Seated.{changes_on}
+use Rattle.wp_read.proofs.Seated.{changes_then, pinned_more}
 
 again_ends : (number : ℕ) → EndsNothing (register_again number)
 again_ends number = record { guard = λ turn. refl; place = λ words place. refl; words = refl; delayed_flag = refl; old_flag = refl; pending = refl; adds = refl; takes = refl; prepared = refl; unprepared = refl; transaction = λ history name. refl; direct = refl; moves = refl; replaces = refl; installing = refl }
@@ -87,7 +87,7 @@ module _ {D : Type 0} (z : SharedState D) (p : Place) (steps : World → List St
 
   pub may_pin : s.knows.live ≡ true → MayPin s.knows.participant.seen m floor numbers → MayMake p s.knows steps
   may_pin live may = subst (MayMake p s.knows) (sym is) (λ (w : World) (k : IsAt p s.knows w).
-      let known : Known w.snapshots = subst Known (sym (held_snapshots p s.knows w m k there)) (may.live, may.all) in
+      let known : Known w.snapshots = subst Known (sym (held_table p s.knows w (snapshots m) k there)) (may.live, may.all) in
       let begins = seen_is p s.knows w k in
       let long : length w.writes.history ≡ length s.knows.participant.seen + length begins.0 = ap length begins.1 ∙ length-append s.knows.participant.seen begins.0 in
       let low : floor ≤ length w.writes.history = (let f = may.floor_seen in omega arith) in
@@ -100,33 +100,7 @@ module _ {D : Type 0} (z : SharedState D) (p : Place) (steps : World → List St
   pinned_so so place same moved =
       let n : Moved (place_at z s.by) (λ w. pinning floor numbers) so s.knows t.knows = subst (λ (x : Place × (World → List Step)). Moved x.0 x.1 so s.knows t.knows) (λ i. (place i, is i)) moved in
       becomes s t (pinned s floor numbers m others).knows same
-      (n.actor ∙ after floor numbers numbers n.world s.by s.knows m others (held_snapshots (place_at z s.by) s.knows n.world m n.before there) held)
-
-module _ (s t : SeatState) (floor : ℕ) (numbers : List ℕ) (m : Snapshots) (others : List Content) (is : t ≡ pinned s floor numbers m others) where
-  pub again_seen : t.knows.participant.seen ≡ s.knows.participant.seen
-  again_seen = ap (λ (x : SeatState). x.knows.participant.seen) is
-
-  pub again_registered : t.knows.participant.registered ≡ s.knows.participant.registered ++ map again numbers
-  again_registered = ap (λ (x : SeatState). x.knows.participant.registered) is
-
-  pub again_noted : IsIn (live_listed floor numbers) t.knows.notes
-  again_noted = subst (λ (x : SeatState). IsIn (live_listed floor numbers) x.knows.notes) (sym is) (inl refl)
-
-  pub again_changes : ChangesSnapshots s t (record s.knows.participant { registered = s.knows.participant.registered ++ map again numbers }) (with_each m numbers) others
-  again_changes = record {
-    seated = record {
-      table = ap (λ (x : SeatState). x.table) is;
-      by = ap (λ (x : SeatState). x.by) is;
-      live = ap (λ (x : SeatState). x.knows.live) is;
-      made = ap (λ (x : SeatState). x.knows.made) is;
-      joined = ap (λ (x : SeatState). x.knows.joined) is;
-    };
-    turns = ap (λ (x : SeatState). x.turns) is;
-    participant = ap (λ (x : SeatState). x.knows.participant) is ∙ (λ i. record s.knows.participant { registered = s.knows.participant.registered ++ map again numbers; seen = (sym again_seen) i });
-    seen = ([], again_seen ∙ sym (append-nil s.knows.participant.seen));
-    held = ap (λ (x : SeatState). x.knows.held) is;
-    notes = λ fact there. subst (λ (x : SeatState). IsIn fact x.knows.notes) (sym is) (inr there);
-  }
+      (n.actor ∙ after floor numbers numbers n.world s.by s.knows m others (held_table (place_at z s.by) s.knows n.world (snapshots m) n.before there) held)
 
 -- ---- what is known of the numbers
 
@@ -170,24 +144,23 @@ module _ {D : Type 0} (z : SharedState D) (old : SeatState) (history : List Entr
 
 -- ---- the floor, and then the numbers
 
-module _ (s0 s1 s2 : SeatState) (m1 : Snapshots) (others : List Content) (floor : Registration) (numbers : List ℕ) (live : List Registration) (changes : ChangesSnapshots s0 s1 (record s0.knows.participant { registered = s1.knows.participant.registered }) m1 others) (is : s2 ≡ pinned s1 floor.number numbers m1 others)
-    (made : live ≡ map again numbers) where
-  pub pin_changes : (m' : Snapshots) → m' ≡ with_each m1 numbers → ChangesSnapshots s0 s2 (record s0.knows.participant { registered = s2.knows.participant.registered }) m' others
+module _ {D : Type 0} {z : SharedState D} {s0 s1 s2 : SeatState} {m1 : Snapshots} {others : List Content} {beneath : List ℕ} {live : List Registration} {n : ℕ} (floor : Registration) (numbers : List ℕ) (changes : ChangesSnapshots z s0 s1 (record s0.knows.participant { registered = s0.knows.participant.registered ++ floor ∷ [] }) m1 others beneath)
+    (made : live ≡ map again numbers) (number : n ≡ floor.number) (is : s2 ≡ pinned s1 n numbers m1 others) where
+  pub pin_changes : (m' : Snapshots) → m' ≡ with_each m1 numbers → ChangesSnapshots z s0 s2 (record s0.knows.participant { registered = s0.knows.participant.registered ++ floor ∷ live }) m' others beneath
   pin_changes m' same =
-      let rs = s1.knows.participant.registered ++ map again numbers in
-      changes_on s0 s1 s2 rs m1 m' others changes (subst (λ (x : Snapshots). ChangesSnapshots s1 s2 (record s1.knows.participant { registered = rs }) x others) (sym same) (again_changes s1 s2 floor.number numbers m1 others is))
-
-  pub pin_registered : s1.knows.participant.registered ≡ s0.knows.participant.registered ++ floor ∷ [] → s2.knows.participant.registered ≡ s0.knows.participant.registered ++ floor ∷ live
-  pin_registered first =
       let before = s0.knows.participant.registered in
-      again_registered s1 s2 floor.number numbers m1 others is
-      ∙ (ap (λ (rs : List Registration). rs ++ map again numbers) first ∙ (append_assoc before (floor ∷ []) (map again numbers) ∙ ap (λ (rs : List Registration). before ++ floor ∷ rs) (sym made)))
+      let all : s1.knows.participant.registered ++ map again numbers ≡ before ++ floor ∷ live =
+      ap (λ (q : Participant). q.registered ++ map again numbers) changes.goes.participant ∙ (append_assoc before (floor ∷ []) (map again numbers) ∙ ap (λ (rs : List Registration). before ++ floor ∷ rs) (sym made)) in
+      changes_then s0 s1 s2 (record s0.knows.participant { registered = before ++ floor ∷ [] }) (before ++ floor ∷ live) m1 m' changes
+      (subst (λ (x : Snapshots × List Registration). ChangesSnapshots z s1 s2 (record s1.knows.participant { registered = x.1 }) x.0 others beneath) (λ i. ((sym same) i, all i)) (pinned_more s1 s2 n numbers m1 changes.holds is))
 
-  pub pin_number : floor.number ≡ length s1.knows.participant.seen → floor.number ≡ length s2.knows.participant.seen
-  pin_number all = all ∙ ap length (sym (again_seen s1 s2 floor.number numbers m1 others is))
+  pub pin_seen : s1.knows.participant.seen ≡ s2.knows.participant.seen
+  pin_seen = sym (ap (λ (x : SeatState). x.knows.participant.seen) is)
 
   pub pin_listed : IsIn (live_listed floor.number (numbers_of live)) s2.knows.notes
-  pin_listed = subst (λ (ns : List ℕ). IsIn (live_listed floor.number ns) s2.knows.notes) (sym (ap numbers_of made ∙ numbers_again numbers)) (again_noted s1 s2 floor.number numbers m1 others is)
+  pin_listed =
+      subst (λ (x : ℕ × List ℕ). IsIn (live_listed x.0 x.1) s2.knows.notes) (λ i. (number i, (sym (ap numbers_of made ∙ numbers_again numbers)) i))
+      (subst (λ (x : SeatState). IsIn (live_listed n numbers) x.knows.notes) (sym is) (inl refl))
 
 pub is_pinned : {D : Type 0} (z : SharedState D) (old : SeatState) (history : List Entry) (floor : Registration) (m : Snapshots) (numbers : List ℕ) (live : List Registration) → IsTakenAt z old history floor m → live ≡ map again numbers → AreLive m numbers → IsPinned z old history floor live
 is_pinned z old history floor m numbers live taken made are =

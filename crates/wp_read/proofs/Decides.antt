@@ -5,7 +5,6 @@ use Rattle.std.proofs.lemmas.Bool.{lt-ltb}
 use Rattle.wp_judge.specs.declared.observed.Observed.{Observed}
 use Rattle.wp_judge.specs.declared.observed.Load as loads
 use Rattle.wp_judge.specs.declared.observed.Load.TheVariants.{FirstWord, FirstMax, DelayedFlag, InPrepared, SecondWord, SecondMax, OldFlag, IsOldCommit}
-use Rattle.wp_judge.specs.declared.observed.Asked.{Asked}
 use Rattle.wp_judge.specs.declared.observed.Asked.TheVariants.{Load, Answer}
 use Rattle.wp_judge.specs.Order.{ask, ask_first_word}
 use Rattle.wp_core.specs.Changes.{loaded}
@@ -13,8 +12,9 @@ use Rattle.wp_core.specs.Lists.{IsIn}
 use Rattle.wp_core.specs.Reading.{Registration}
 use Rattle.wp_core.specs.World.{World}
 use Rattle.wp_core.proofs.ReaderOrder.{At, asked}
+use Rattle.wp_shared.specs.Notes.{noting_only}
 use Rattle.wp_shared.specs.Seats.{SharedState, SeatState}
-use Rattle.wp_read.specs.Reads.{noting, KeepsNotes, Loads, IsOf}
+use Rattle.wp_read.specs.Reads.{KeepsNotes, Loads, IsOf}
 
 -- ---- a version above the snapshot
 
@@ -66,8 +66,8 @@ module _ {D : Type 0} (z : SharedState D) (which : loads.Load) (s t : SeatState)
   pub fewer_left : ask r ≡ Load which → loads_left r' < loads_left r
   fewer_left e = subst (λ (x : Observed). loads_left x < loads_left r) (sym l.is_loaded) (one_less l.world which r e)
 
-  pub loads_noted : Loads z which (noting s t.knows.notes) t r r'
-  loads_noted = subst (λ notes. Loads z which (noting s notes) t r r') (sym (ap (λ (x : SeatState). x.knows.notes) l.reads.seat)) l
+  pub loads_noted : Loads z which (noting_only t.knows.notes s) t r r'
+  loads_noted = subst (λ notes. Loads z which (noting_only notes s) t r r') (sym (ap (λ (x : SeatState). x.knows.notes) l.reads.seat)) l
 
   pub load_keeps : KeepsNotes s.knows.notes t.knows.notes
   load_keeps fact loose there = subst (λ (x : SeatState). IsIn fact x.knows.notes) (sym l.reads.seat) there

@@ -1,5 +1,4 @@
 pub mod Readings
-pub mod HeldTables
 pub mod Decides
 pub mod Registers
 pub mod OldFlag

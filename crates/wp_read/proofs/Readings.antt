@@ -3,7 +3,6 @@ use Rattle.std.proofs.Common.{◌≡◌, ℕ, ◌≤◌, Bool, true, false, not,
 use Rattle.wp_model.specs.declared.entry.Entry.{Entry}
 use Rattle.wp_model.specs.Decision.{IsCommittedAt}
 use Rattle.wp_model.specs.Legal.{IsLegal}
-use Rattle.wp_model.specs.PreparedTables.{PreparedTables}
 use Rattle.wp_model.specs.Snapshots.{Snapshots, IsLive}
 use Rattle.wp_judge.specs.declared.observed.Observed.{Observed}
 use Rattle.wp_judge.specs.declared.observed.Load.{Load}
@@ -17,7 +16,7 @@ use Rattle.wp_core.specs.Reading.{Registration, snapshot_of, reads}
 use Rattle.wp_core.specs.Sound.Reader.{IsRight, reader_of}
 use Rattle.wp_core.specs.Sound.Snapshots.{has_versions_at, view_of}
 use Rattle.wp_core.specs.Steps.{Step, begin_reading, load}
-use Rattle.wp_core.specs.Tables.{Content, prepared, snapshots}
+use Rattle.wp_core.specs.Tables.{snapshots}
 use Rattle.wp_core.specs.World.{Actor, World}
 use Rattle.wp_core.proofs.AllParticipants.{mine}
 use Rattle.wp_core.proofs.Frames.{at_map}
@@ -27,11 +26,12 @@ use Rattle.wp_rule.specs.Words.{Place, IsAt}
 use Rattle.wp_rule.specs.Moves.{MayMake, Moved, world_after_step}
 use Rattle.wp_rule.specs.Knows.{KnowsLook}
 use Rattle.wp_rule.proofs.Forgets.{EndsNothing}
-use Rattle.wp_rule.proofs.Knows.{at_sound, held_is, seen_is}
+use Rattle.wp_rule.proofs.Knows.{at_sound, seen_is}
 use Rattle.wp_rule.proofs.MayBeMade.{known_made}
 use Rattle.wp_shared.specs.Clients.{KeepClient}
 use Rattle.wp_shared.specs.Seats.{SharedState, SeatState, place_at}
 use Rattle.wp_shared.proofs.OneStep.{made, becomes}
+use Rattle.wp_shared.proofs.Tables.{held_table}
 use Rattle.wp_read.specs.Reads.{reading, Reads, Loads, IsNext}
 
 -- ---- what was concluded is right of what was seen
@@ -121,24 +121,10 @@ word_is z by a w version index word is k found = found ∙ ap (slice_index w.cac
 
 -- ---- looks into tables
 
-abbrev pub prepared_in : Content → PreparedTables → PreparedTables
-prepared_in (prepared t) other = t
-prepared_in c other = other
-
-abbrev pub snapshots_in : Content → Snapshots → Snapshots
-snapshots_in (snapshots m) other = m
-snapshots_in c other = other
-
-pub held_prepared : (p : Place) (a : Actor) (w : World) (t : PreparedTables) → IsAt p a w → IsIn (prepared t) a.held → w.prepared ≡ t
-held_prepared p a w t k there = ap (λ (c : Content). prepared_in c t) (held_is p a w (prepared t) k there).1
-
-pub held_snapshots : (p : Place) (a : Actor) (w : World) (m : Snapshots) → IsAt p a w → IsIn (snapshots m) a.held → w.snapshots ≡ m
-held_snapshots p a w m k there = ap (λ (c : Content). snapshots_in c m) (held_is p a w (snapshots m) k there).1
-
 -- what the actor registered is live in the snapshots that it holds
 pub held_live : (p : Place) (a : Actor) (w : World) (m : Snapshots) (r : Registration) → IsAt p a w → IsIn (snapshots m) a.held → IsIn r a.participant.registered → IsLive m r.number
 held_live p a w m r k there registered =
-    subst (λ (x : Snapshots). IsLive x r.number) (held_snapshots p a w m k there) (registered_live w.writes.history w.snapshots w.actors p.by a r k.there registered (at_sound p a w k).registrations).0
+    subst (λ (x : Snapshots). IsLive x r.number) (held_table p a w (snapshots m) k there) (registered_live w.writes.history w.snapshots w.actors p.by a r k.there registered (at_sound p a w k).registrations).0
 
 -- it reads at a snapshot that it registered
 pub reads_registered : (p : Place) (a : Actor) (w : World) (r : Observed) → IsAt p a w → a.reading ≡ Some r → IsIn (snapshot_of r) a.participant.registered

@@ -10,16 +10,16 @@ use Rattle.std.specs.FinSet as set
 use Rattle.std.specs.FinMap as finite
 use Rattle.wp_model.specs.PreparedTables.{PreparedTables, IsSmallest, NonePrepared}
 use Rattle.wp_model.specs.Snapshots as snaps
-use Rattle.wp_model.specs.Snapshots.{Snapshots, IsLive, is_old_commit, ChangesWhere, after_register, after_release}
+use Rattle.wp_model.specs.Snapshots.{Snapshots, IsLive, is_old_commit, ChangesWhere, after_register, after_release, NoOldCommits}
 use Rattle.wp_core.specs.Changes.{sees, registers, releases, held_with, is_same_registration, placed, with_registered, with_released}
 use Rattle.wp_core.specs.Effects.{done}
 use Rattle.wp_core.specs.Lists.{IsIn}
 use Rattle.wp_core.specs.Reading.{Registration}
 use Rattle.wp_core.specs.Steps.{Step, register, release}
-use Rattle.wp_core.specs.Tables.{prepared, snapshots, NoOldCommits}
+use Rattle.wp_core.specs.Tables.{prepared, snapshots}
 use Rattle.wp_core.specs.World.{Actor, World}
 use Rattle.wp_core.proofs.HistoryLaws.{is_equal}
-use Rattle.wp_core.proofs.Numbers.{get_inserted, get_inserted_else, get_removed, get_removed_else}
+use Rattle.wp_model.proofs.Numbers.{get_inserted, get_inserted_else, get_removed, get_removed_else}
 use Rattle.wp_core.proofs.Tests.{both}
 use Rattle.wp_rule.specs.Words.{Place}
 use Rattle.wp_rule.specs.Moves.{MayMake, Moved, first_of}
@@ -28,8 +28,9 @@ use Rattle.wp_rule.proofs.MayBeMade.{known_made, registers_at}
 use Rattle.wp_shared.specs.Clients.{KeepClient}
 use Rattle.wp_shared.specs.Seats.{SharedState, SeatState, place_at}
 use Rattle.wp_shared.proofs.OneStep.{made, becomes}
+use Rattle.wp_shared.proofs.Tables.{held_table}
 use Rattle.wp_read.specs.Registers.{all_but_last_of, all_but_last, last_of, before_last, behind_last, registration_of, Registers, Unregisters}
-use Rattle.wp_read.proofs.Readings.{held_snapshots, held_live}
+use Rattle.wp_read.proofs.Readings.{held_live}
 
 -- ---- places in lists of registrations
 
@@ -177,7 +178,7 @@ registering smallest w = register (unwrap_or smallest (suc (length w.writes.hist
 registered_at : {D : Type 0} (z : SharedState D) (s t : SeatState) (smallest : Option ℕ) (number : ℕ) (m : Snapshots) → (t.table ≡ s.table) × (t.by ≡ s.by) × (t.turns ≡ s.turns) → IsIn (snapshots m) s.knows.held
     → Moved (place_at z s.by) (λ w. registering smallest w ∷ []) (λ w. number ≡ length w.writes.history) s.knows t.knows → Registers z s t number smallest m
 registered_at z s t smallest number m same held n =
-    let w = n.world in let step : Step = registering smallest w in let held_is : w.snapshots ≡ m = held_snapshots (place_at z s.by) s.knows w m n.before held in
+    let w = n.world in let step : Step = registering smallest w in let held_is : w.snapshots ≡ m = held_table (place_at z s.by) s.knows w (snapshots m) n.before held in
     let actor : ℕ → Snapshots → Actor = λ l x. record (registers (sees w.writes.history s.knows) (registration_of l smallest)) { held = held_with s.knows.held (snapshots (with_registered x l)) } in
     let knows : t.knows ≡ actor number m =
     n.actor ∙ (ap (λ (x : Actor). first_of (done (record w { actors = s.knows ∷ [] }) 0 x step).actors s.knows) (forgets_nothing w.writes.history (length w.cache) step s.knows (register_ends (unwrap_or smallest (suc (length w.writes.history))))) ∙
@@ -210,7 +211,7 @@ module _ {D : Type 0} (z : SharedState D) (p : Place) (steps : World → List St
       let at = place_at z s.by in
       let n : Moved at (λ w. release front r back ∷ []) so s.knows t.knows = subst (λ (x : Place × (World → List Step)). Moved x.0 x.1 so s.knows t.knows) (λ i. (place i, is i)) moved in
       let k = made at (release front r back) so s.knows t.knows (release_ends front back r) n in
-      let held_is : k.world.snapshots ≡ m = held_snapshots at s.knows k.world m k.before held in
+      let held_is : k.world.snapshots ≡ m = held_table at s.knows k.world (snapshots m) k.before held in
       let actor : Snapshots → Actor = λ x. record (releases s.knows (front ++ back)) { held = held_with s.knows.held (snapshots (with_released x r.number)) } in
       record {
         live = held_live at s.knows k.world m r k.before held (subst (IsIn r) (sym mine) (in_middle front));

@@ -1,31 +1,14 @@
 -- Versions are decided one after another, and copied in rounds.
-use Rattle.std.proofs.Common.{◌≡◌, inl, inr, ⊎_elim, ℕ, zero, suc, ◌+◌, ◌<◌, ◌==◌, true, List, [], ◌∷◌, ◌++◌, length, take, drop, get_or, refl, sym, subst, ap, ◌∙◌, append-nil, arith}
+use Rattle.std.proofs.Common.{◌≡◌, inl, inr, ⊎_elim, ℕ, zero, suc, ◌+◌, ◌<◌, ◌==◌, true, List, [], ◌∷◌, ◌++◌, length, take, drop, get_or, refl, sym, subst, ap, ◌∙◌, arith}
 use Rattle.std.specs.List.{list_any}
 use Rattle.std.proofs.lemmas.List.{length-take-le}
 use Rattle.wp_model.specs.declared.entry.Entry.{Entry}
 use Rattle.wp_model.specs.declared.version.Version.{Version}
 use Rattle.wp_model.specs.Decision.{IsCommittedAt}
 use Rattle.wp_core.specs.Lists.{IsIn}
-use Rattle.wp_core.specs.World.{Participant}
 use Rattle.wp_core.proofs.HistoryLaws.{is_equal}
-use Rattle.wp_shared.specs.Calls.{Continues}
-use Rattle.wp_shared.specs.Seats.{SharedState, SeatState}
 use Rattle.wp_read.specs.Values.{NoneCommitted, IsFirstCommitted}
 use Rattle.wp_read.proofs.Versions.{in_either, any_in}
-
-pub continues_on : {D : Type 0} (z : SharedState D) (a b c : SeatState) → Continues z a b a.knows.participant → b.knows.participant ≡ a.knows.participant → Continues z b c b.knows.participant → c.knows.participant ≡ b.knows.participant → Continues z a c a.knows.participant
-continues_on z a b c j was k is =
-    let same : c.knows.participant ≡ a.knows.participant = is ∙ was in
-    let seen : c.knows.participant.seen ≡ a.knows.participant.seen = ap (λ (x : Participant). x.seen) same in
-    record {
-      free = k.free;
-      same_by = k.same_by ∙ j.same_by;
-      seen = ([], seen ∙ sym (append-nil a.knows.participant.seen));
-      participant = same ∙ (λ i. record a.knows.participant { seen = (sym seen) i });
-      notes = λ fact loose there. k.notes fact loose (j.notes fact loose there);
-      made = k.made ∙ j.made;
-      joined = k.joined ∙ j.joined;
-    }
 
 -- it was found invisible before
 pub not_again : (history : List Entry) (n p : ℕ) (earlier : List Version) → NoneCommitted history n earlier → list_any (λ v. v.number == p) earlier ≡ true → IsCommittedAt history p n → ⊥

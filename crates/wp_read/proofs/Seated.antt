@@ -1,115 +1,99 @@
--- What a seat is again, once it gave what it took.
-use Rattle.std.proofs.Common.{◌≡◌, ◌⊎◌, inl, inr, ℕ, suc, ◌≤◌, List, [], ◌∷◌, ◌++◌, length, refl, sym, subst, ap, ◌∙◌, Option, Some, None, append-nil, append_assoc}
-use Rattle.std.specs.Prelude.{MatchOption}
+-- A seat under a turn, and what it is again once it gave what it took.
+use Rattle.std.proofs.Common.{◌≡◌, ◌⊎◌, inl, inr, ℕ, suc, ◌≤◌, List, [], ◌∷◌, ◌++◌, length, map, refl, sym, subst, ap, ◌∙◌, Option, Some, None, append-nil}
+use Rattle.std.specs.Prelude.{MatchOption, Result, Ok}
 use Rattle.std.specs.FinMap as finite
 use Rattle.wp_model.specs.declared.entry.Entry.{Entry}
 use Rattle.wp_model.specs.PreparedTables.{PreparedTables, IsSmallest, NonePrepared}
 use Rattle.wp_model.specs.Snapshots as snaps
-use Rattle.wp_model.specs.Snapshots.{Snapshots}
-use Rattle.wp_core.specs.Changes.{turn_index, held_with, held_without, with_registered, with_released}
+use Rattle.wp_model.specs.Snapshots.{Snapshots, NoOldCommits}
+use Rattle.wp_judge.specs.declared.observed.Observed.{Observed}
+use Rattle.wp_judge.specs.declared.observed.Load.{Load}
+use Rattle.wp_core.specs.Changes.{turn_index, sees, registers, releases, held_with, with_registered, with_released}
 use Rattle.wp_core.specs.Lists.{IsIn}
-use Rattle.wp_core.specs.Notes.{gives_guard}
 use Rattle.wp_core.specs.Reading.{Registration}
 use Rattle.wp_core.specs.Sound.Actors.{StartsWith}
-use Rattle.wp_core.specs.Steps.{give_turn}
-use Rattle.wp_core.specs.Tables.{Content, prepared, snapshots, turn_of, NoneDelayed, NoOldCommits}
+use Rattle.wp_core.specs.Sound.Reader.{IsRight}
+use Rattle.wp_core.specs.Tables.{Content, prepared, snapshots, turn_of}
 use Rattle.wp_core.specs.Turns.{Turn, prepared_turn, snapshots_turn}
-use Rattle.wp_core.specs.Views.{Fact, delayed_flag_stays, old_flag_stays}
-use Rattle.wp_core.specs.Sound.Views.{guarded_by}
-use Rattle.wp_core.specs.World.{Participant, Actor}
-use Rattle.wp_core.proofs.Tests.{same_some}
-use Rattle.wp_rule.specs.Plays.{facts_at}
+use Rattle.wp_core.specs.Views.{Fact, delayed_flag_stays, old_flag_stays, live_listed}
+use Rattle.wp_core.specs.World.{Participant}
+use Rattle.wp_rule.specs.Words.{IsAt}
 use Rattle.wp_rule.proofs.Knows.{at_sound, seen_is}
-use Rattle.wp_parts.specs.declared.part.Part.{Part}
-use Rattle.wp_parts.specs.declared.part.Part.TheVariants as part
-use Rattle.wp_shared.specs.Calls.{Continues}
+use Rattle.wp_shared.specs.Calls.{IsLoose, GoesOnAs, Continues}
+use Rattle.wp_shared.specs.Notes.{no_fact, is_under, noting_only, GoesOn}
 use Rattle.wp_shared.specs.Seats.{SharedState, SeatState, IsFree, place_at}
-use Rattle.wp_shared.specs.Turns.{Taken, Given}
-use Rattle.wp_read.specs.Reads.{KeepsNotes, noting}
-use Rattle.wp_read.specs.Registers.{registration_of, Registers, Unregisters, IsSeated, ChangesSnapshots, IsTakenAt}
-use Rattle.wp_read.proofs.HeldTables.{rest_of, in_back, taken_keeps, given_keeps, delayed_flag_noted, old_flag_noted}
-use Rattle.wp_read.proofs.Readings.{held_prepared, held_snapshots}
+use Rattle.wp_shared.specs.Turns.{HoldsTurn, KnowsToGive, Taken, Given}
+use Rattle.wp_shared.proofs.Goes.{then}
+use Rattle.wp_shared.proofs.Tables.{held_table, knows_to_give}
+use Rattle.wp_shared.proofs.Onward.{IsBlind, starts_equal, loose_none, loose_under, goes_same, goes_fewer, goes_then, goes_still, goes_free, holds_next, holds_alone, holds_two}
+use Rattle.wp_read.specs.Reads.{reading, KeepsNotes, Loads}
+use Rattle.wp_read.specs.Registers.{again, registration_of, with_each, pinned, Registers, Unregisters, ChangesSnapshots, IsTakenAt, registered_by}
 use Rattle.wp_read.proofs.Registers.{registered_and_released, kept_by_register}
 
-pub seated_on : (r s t : SeatState) → IsSeated r s → IsSeated s t → IsSeated r t
-seated_on r s t j k = record { table = k.table ∙ j.table; by = k.by ∙ j.by; live = k.live ∙ j.live; made = k.made ∙ j.made; joined = k.joined ∙ j.joined }
+-- ---- the live snapshots that it holds change
 
-pub taken_seated : {D : Type 0} (z : SharedState D) (turn : Turn) (s t : SeatState) (x : Part D) → Taken z turn s t x → (t.table ≡ s.table) × (t.by ≡ s.by) × (t.turns ≡ turn_index turn ∷ s.turns) → IsSeated s t
-taken_seated z turn s t x k same =
-    record { table = same.0; by = same.1; live = ap (λ (a : Actor). a.live) k.knows; made = ap (λ (a : Actor). a.made) k.knows; joined = ap (λ (a : Actor). a.joined) k.knows }
+module _ {D : Type 0} {z : SharedState D} {others : List Content} {beneath : List ℕ} where
+  -- it is this participant now, with these live snapshots in place of the others
+  changes_by : {before : Snapshots} (s t : SeatState) (h learned : List Entry) (read : Option Observed) (rs : List Registration) (m : Snapshots) (notes : List Fact) → HoldsTurn z s (snapshots before) others beneath
+      → t ≡ record s { knows = record s.knows { participant = record s.knows.participant { seen = h; registered = rs }; learned = learned; held = snapshots m ∷ others; reading = read; notes = notes } } → StartsWith h s.knows.participant.seen
+      → ((fact : Fact) → IsIn fact s.knows.notes → IsIn fact notes) → ChangesSnapshots z s t (record s.knows.participant { registered = rs }) m others beneath
+  changes_by s t h learned read rs m notes was is grown kept = subst (λ (x : SeatState). ChangesSnapshots z s x (record s.knows.participant { registered = rs }) m others beneath) (sym is) (record {
+    goes = record { same_table = refl; same_by = refl; live = refl; seen = grown; participant = refl; notes = λ fact any there. kept fact there; made = refl; joined = refl };
+    holds = record { same_table = was.same_table; live = was.live; held = refl; turns = was.turns };
+  })
 
-pub taken_participant : {D : Type 0} (z : SharedState D) (turn : Turn) (s t : SeatState) (x : Part D) → Taken z turn s t x → t.knows.participant ≡ s.knows.participant
-taken_participant z turn s t x k = ap (λ (a : Actor). a.participant) k.knows
+  -- one change after another
+  pub changes_then : (s t u : SeatState) (p : Participant) (rs : List Registration) (m m' : Snapshots) → ChangesSnapshots z s t p m others beneath → ChangesSnapshots z t u (record t.knows.participant { registered = rs }) m' others beneath
+      → ChangesSnapshots z s u (record p { registered = rs }) m' others beneath
+  changes_then s t u p rs m m' first second = record { goes = goes_then s t u p (λ q. record q { registered = rs }) (λ q h k. refl) first.goes second.goes; holds = second.holds }
 
--- it made and took in as many others
-pub taken_made : {D : Type 0} (z : SharedState D) (turn : Turn) (s t : SeatState) (x : Part D) → Taken z turn s t x → t.knows.made ≡ s.knows.made
-taken_made z turn s t x k = ap (λ (a : Actor). a.made) k.knows
+  -- the answer is no refusal
+  pub changes_ok : {A E : Type 0} {s t : SeatState} {m : Snapshots} {result : Result A E} {a : A} (adds : A → List Registration) → result ≡ Ok a → ChangesSnapshots z s t (registered_by adds result s.knows.participant) m others beneath
+      → ChangesSnapshots z s t (record s.knows.participant { registered = s.knows.participant.registered ++ adds a }) m others beneath
+  changes_ok {s = s} {t = t} {m = m} adds is k = subst (λ x. ChangesSnapshots z s t (registered_by adds x s.knows.participant) m others beneath) is k
 
-pub taken_joined : {D : Type 0} (z : SharedState D) (turn : Turn) (s t : SeatState) (x : Part D) → Taken z turn s t x → t.knows.joined ≡ s.knows.joined
-taken_joined z turn s t x k = ap (λ (a : Actor). a.joined) k.knows
+  -- a registration is taken back
+  pub released_one : (s t : SeatState) (front back : List Registration) (r : Registration) (m m' : Snapshots) → Unregisters s t front back r m → HoldsTurn z s (snapshots m) others beneath → m' ≡ with_released m r.number
+      → ChangesSnapshots z s t (record s.knows.participant { registered = front ++ back }) m' others beneath
+  released_one s t front back r m m' k was same =
+      let seen = s.knows.participant.seen in
+      let held : held_with s.knows.held (snapshots (with_released m r.number)) ≡ snapshots m' ∷ others = ap (λ h. held_with h (snapshots (with_released m r.number))) was.held ∙ ap (λ (x : Snapshots). snapshots x ∷ others) (sym same) in
+      changes_by s t seen s.knows.learned _ (front ++ back) m' s.knows.notes was (k.seat ∙ (λ i. record s { knows = record (releases s.knows (front ++ back)) { held = held i } })) (starts_equal seen seen refl) (λ fact there. there)
 
-pub given_seated : {D : Type 0} (z : SharedState D) (s t : SeatState) (x : Part D) → Given z s t x → IsSeated s t
-given_seated z s t x g =
-    record { table = g.same_table; by = g.same_by; live = ap (λ (a : Actor). a.live) g.knows; made = ap (λ (a : Actor). a.made) g.knows; joined = ap (λ (a : Actor). a.joined) g.knows }
+  -- all that is live is registered once more
+  pub pinned_more : (s t : SeatState) (floor : ℕ) (numbers : List ℕ) (m : Snapshots) → HoldsTurn z s (snapshots m) others beneath → t ≡ pinned s floor numbers m others
+      → ChangesSnapshots z s t (record s.knows.participant { registered = s.knows.participant.registered ++ map again numbers }) (with_each m numbers) others beneath
+  pinned_more s t floor numbers m was is =
+      let p = s.knows.participant in changes_by s t p.seen s.knows.learned s.knows.reading (p.registered ++ map again numbers) (with_each m numbers) (live_listed floor numbers ∷ s.knows.notes) was is (starts_equal p.seen p.seen refl) (λ fact there. inr there)
 
-pub given_participant : {D : Type 0} (z : SharedState D) (s t : SeatState) (x : Part D) → Given z s t x → t.knows.participant ≡ s.knows.participant
-given_participant z s t x g = ap (λ (a : Actor). a.participant) g.knows
+-- the number is registered
+module _ {D : Type 0} {z : SharedState D} {s t : SeatState} {n : ℕ} {least : Option ℕ} {m : Snapshots} {tables : PreparedTables} {beneath : List ℕ} (k : Registers z s t n least m) (was : HoldsTurn z s (snapshots m) (prepared tables ∷ []) beneath) where
+  abbrev history : List Entry
+  history = k.world.writes.history
 
-pub given_held : {D : Type 0} (z : SharedState D) (s t : SeatState) (x : Part D) (turn : Turn) (g : Given z s t x) → turn_of g.table ≡ turn → t.knows.held ≡ held_without s.knows.held turn
-given_held z s t x turn g is = ap (λ (a : Actor). a.held) g.knows ∙ ap (held_without s.knows.held) is
-
-pub continues : {D : Type 0} (z : SharedState D) (s t : SeatState) (after : Participant) → IsFree z.table s → IsSeated s t → t.turns ≡ [] → t.knows.held ≡ [] → StartsWith t.knows.participant.seen s.knows.participant.seen
-    → t.knows.participant ≡ record after { seen = t.knows.participant.seen } → KeepsNotes s.knows.notes t.knows.notes → Continues z s t after
-continues z s t after free k turns held seen participant notes = record {
-  free = record { same_table = k.table ∙ free.same_table; live = k.live ∙ free.live; turns = turns; held = held };
-  same_by = k.by;
-  seen = seen;
-  participant = participant;
-  notes = notes;
-  made = k.made;
-  joined = k.joined;
-}
-
--- ---- the number is registered
-
-module _ {D : Type 0} (z : SharedState D) (s t : SeatState) (n : ℕ) (least : Option ℕ) (m : Snapshots) (tables : PreparedTables) (k : Registers z s t n least m) (held : s.knows.held ≡ snapshots m ∷ prepared tables ∷ []) where
-  pub held_after : t.knows.held ≡ snapshots (with_registered m n) ∷ prepared tables ∷ []
-  held_after = ap (λ (x : SeatState). x.knows.held) k.seat ∙ ap (λ h. held_with h (snapshots (with_registered m n))) held
-
-  seen_after : t.knows.participant.seen ≡ k.world.writes.history
+  seen_after : t.knows.participant.seen ≡ history
   seen_after = ap (λ (x : SeatState). x.knows.participant.seen) k.seat
 
-  pub registered_after : t.knows.participant.registered ≡ s.knows.participant.registered ++ registration_of n least ∷ []
-  registered_after = ap (λ (x : SeatState). x.knows.participant.registered) k.seat
-
   tables_are : k.world.prepared ≡ tables
-  tables_are = held_prepared (place_at z s.by) s.knows k.world tables k.there (subst (IsIn (prepared tables)) (sym held) (inr (inl refl)))
+  tables_are = held_table (place_at z s.by) s.knows k.world (prepared tables) k.there (subst (IsIn (prepared tables)) (sym was.held) (inr (inl refl)))
 
   snapshots_are : k.world.snapshots ≡ m
-  snapshots_are = held_snapshots (place_at z s.by) s.knows k.world m k.there (subst (IsIn (snapshots m)) (sym held) (inl refl))
+  snapshots_are = held_table (place_at z s.by) s.knows k.world (snapshots m) k.there (subst (IsIn (snapshots m)) (sym was.held) (inl refl))
 
-  pub seen_more : StartsWith t.knows.participant.seen s.knows.participant.seen
-  seen_more = subst (λ (h : List Entry). StartsWith h s.knows.participant.seen) (sym seen_after) (seen_is (place_at z s.by) s.knows k.world k.there)
+  abbrev adding : Registration → Participant
+  adding r = record s.knows.participant { registered = s.knows.participant.registered ++ r ∷ [] }
 
-  pub changed : (m' : Snapshots) → m' ≡ with_registered m n → ChangesSnapshots s t (record s.knows.participant { registered = t.knows.participant.registered }) m' (prepared tables ∷ [])
-  changed m' same = record {
-    seated = record {
-      table = ap (λ (x : SeatState). x.table) k.seat;
-      by = ap (λ (x : SeatState). x.by) k.seat;
-      live = ap (λ (x : SeatState). x.knows.live) k.seat;
-      made = ap (λ (x : SeatState). x.knows.made) k.seat;
-      joined = ap (λ (x : SeatState). x.knows.joined) k.seat;
-    };
-    turns = ap (λ (x : SeatState). x.turns) k.seat;
-    participant = ap (λ (x : SeatState). x.knows.participant) k.seat ∙ (λ i. record s.knows.participant { seen = (sym seen_after) i; registered = (sym registered_after) i });
-    seen = seen_more;
-    held = held_after ∙ ap (λ (x : Snapshots). snapshots x ∷ prepared tables ∷ []) (sym same);
-    notes = λ fact there. subst (λ (x : SeatState). IsIn fact x.knows.notes) (sym k.seat) there;
-  }
+  pub changed_so : (m' : Snapshots) → m' ≡ with_registered m n → ChangesSnapshots z s t (adding (registration_of n least)) m' (prepared tables ∷ []) beneath
+  changed_so m' same =
+      let held : held_with s.knows.held (snapshots (with_registered m n)) ≡ snapshots m' ∷ prepared tables ∷ [] = ap (λ h. held_with h (snapshots (with_registered m n))) was.held ∙ ap (λ (x : Snapshots). snapshots x ∷ prepared tables ∷ []) (sym same) in
+      changes_by s t history [] s.knows.reading (adding (registration_of n least)).registered m' s.knows.notes was
+      (k.seat ∙ (λ i. record s { knows = record (registers (sees history s.knows) (registration_of n least)) { held = held i } }))
+      (seen_is (place_at z s.by) s.knows k.world k.there)
+      (λ fact there. there)
 
   module _ (r : Registration) (is : r ≡ registration_of n least) where
-    pub registered_it : t.knows.participant.registered ≡ s.knows.participant.registered ++ r ∷ []
-    registered_it = registered_after ∙ ap (λ (x : Registration). s.knows.participant.registered ++ x ∷ []) (sym is)
+    pub changed : (m' : Snapshots) → m' ≡ with_registered m n → ChangesSnapshots z s t (adding r) m' (prepared tables ∷ []) beneath
+    changed m' same = subst (λ (x : Registration). ChangesSnapshots z s t (adding x) m' (prepared tables ∷ []) beneath) (sym is) (changed_so m' same)
 
     pub number_seen : r.number ≡ length t.knows.participant.seen
     number_seen = ap (λ (x : Registration). x.number) is ∙ (k.number_is ∙ ap length (sym seen_after))
@@ -122,7 +106,7 @@ module _ {D : Type 0} (z : SharedState D) (s t : SeatState) (n : ℕ) (least : O
       participant = refl;
       made = refl;
       joined = refl;
-      held = subst (IsIn (snapshots m)) (sym held) (inl refl);
+      held = subst (IsIn (snapshots m)) (sym was.held) (inl refl);
       live = snapshots_are;
       history_is = sym seen_after;
       number = ap (λ (x : Registration). x.number) is ∙ k.number_is;
@@ -133,167 +117,123 @@ module _ {D : Type 0} (z : SharedState D) (s t : SeatState) (n : ℕ) (least : O
         by None e none = inl (subst NonePrepared (sym tables_are) none, ap (λ (x : Registration). x.smallest) e ∙ ap (λ (x : Registration). suc x.number) (sym e))
         by (Some p) e least = inr (subst (λ (x : PreparedTables × ℕ). IsSmallest x.0 x.1) (λ i. ((sym tables_are) i, ((sym e) i).smallest)) least)
 
+  none_zero : (x : snaps.Snapshot) → finite.get m n ≡ Some x → 1 ≤ x.registrations
+  none_zero x e = ((at_sound (place_at z s.by) s.knows k.world k.there).registrations.live n x (ap (λ (y : Snapshots). finite.get y n) snapshots_are ∙ e)).0
+
   -- it is taken back
-  module _ (u : SeatState) (back : Unregisters t u s.knows.participant.registered [] (registration_of n least) (with_registered m n)) where
-    none_zero : (x : snaps.Snapshot) → finite.get m n ≡ Some x → 1 ≤ x.registrations
-    none_zero x e = ((at_sound (place_at z s.by) s.knows k.world k.there).registrations.live n x (ap (λ (y : Snapshots). finite.get y n) snapshots_are ∙ e)).0
-
-    seen_back : u.knows.participant.seen ≡ k.world.writes.history
-    seen_back = ap (λ (x : SeatState). x.knows.participant.seen) back.seat ∙ seen_after
-
-    pub registered_back : u.knows.participant.registered ≡ s.knows.participant.registered
-    registered_back = ap (λ (x : SeatState). x.knows.participant.registered) back.seat ∙ append-nil s.knows.participant.registered
-
-    pub changed_back : (m' : Snapshots) → m' ≡ m → ChangesSnapshots s u (record s.knows.participant { registered = u.knows.participant.registered }) m' (prepared tables ∷ [])
-    changed_back m' same = record {
-      seated = record {
-        table = ap (λ (x : SeatState). x.table) back.seat ∙ ap (λ (x : SeatState). x.table) k.seat;
-        by = ap (λ (x : SeatState). x.by) back.seat ∙ ap (λ (x : SeatState). x.by) k.seat;
-        live = ap (λ (x : SeatState). x.knows.live) back.seat ∙ ap (λ (x : SeatState). x.knows.live) k.seat;
-        made = ap (λ (x : SeatState). x.knows.made) back.seat ∙ ap (λ (x : SeatState). x.knows.made) k.seat;
-        joined = ap (λ (x : SeatState). x.knows.joined) back.seat ∙ ap (λ (x : SeatState). x.knows.joined) k.seat;
-      };
-      turns = ap (λ (x : SeatState). x.turns) back.seat ∙ ap (λ (x : SeatState). x.turns) k.seat;
-      participant = ap (λ (x : SeatState). x.knows.participant) back.seat ∙ (ap (λ (x : SeatState). record x.knows.participant { registered = s.knows.participant.registered ++ [] }) k.seat ∙
-          (λ i. record s.knows.participant { seen = (sym seen_back) i; registered = (append-nil s.knows.participant.registered ∙ sym registered_back) i }));
-      seen = subst (λ (h : List Entry). StartsWith h s.knows.participant.seen) (sym seen_back) (seen_is (place_at z s.by) s.knows k.world k.there);
-      held = ap (λ (x : SeatState). x.knows.held) back.seat ∙ (ap (λ h. held_with h (snapshots (with_released (with_registered m n) n))) held_after ∙
-          ap (λ (x : Snapshots). snapshots x ∷ prepared tables ∷ []) (registered_and_released m n none_zero ∙ sym same));
-      notes = λ fact there. subst (λ (x : SeatState). IsIn fact x.knows.notes) (sym back.seat) (subst (λ (x : SeatState). IsIn fact x.knows.notes) (sym k.seat) there);
-    }
+  pub changed_back : (u : SeatState) (m' : Snapshots) → Unregisters t u s.knows.participant.registered [] (registration_of n least) (with_registered m n) → m' ≡ m → ChangesSnapshots z s u s.knows.participant m' (prepared tables ∷ []) beneath
+  changed_back u m' back same =
+      let rs = s.knows.participant.registered in
+      let first = changed_so (with_registered m n) refl in
+      subst (λ (l : List Registration). ChangesSnapshots z s u (record s.knows.participant { registered = l }) m' (prepared tables ∷ []) beneath) (append-nil rs)
+      (changes_then s t u (adding (registration_of n least)) (rs ++ []) (with_registered m n) m' first (released_one t u rs [] (registration_of n least) (with_registered m n) m' back first.holds (same ∙ sym (registered_and_released m n none_zero))))
 
 -- what is kept where it was registered
 pub kept_before : (m m' : Snapshots) (n : ℕ) → m' ≡ with_registered m n → NoOldCommits m' → NoOldCommits m
 kept_before m m' n same none = kept_by_register m n (subst NoOldCommits same none)
 
--- ---- both turns are given
+-- ---- the prepared turn and then the snapshots turn are taken, lent, and given in the other order
 
-module _ {D : Type 0} (z : SharedState D) (s0 s1 s2 s3 s4 : SeatState) (m m' : Snapshots) (tables : PreparedTables) (after : Participant) (same1 : (s1.table ≡ s0.table) × (s1.by ≡ s0.by) × (s1.turns ≡ 1 ∷ s0.turns)) (took1 : Taken z prepared_turn s0 s1 (part.Prepared tables))
-    (same2 : (s2.table ≡ s1.table) × (s2.by ≡ s1.by) × (s2.turns ≡ 2 ∷ s1.turns)) (took2 : Taken z snapshots_turn s1 s2 (part.Snapshots m)) (changes : ChangesSnapshots s2 s3 after m' (prepared tables ∷ [])) where
-  pub flag_noted : (NoOldCommits m' → NoOldCommits m) → NoOldCommits m' → IsIn (old_flag_stays 0) s3.knows.notes
-  flag_noted kept none = changes.notes (old_flag_stays 0) (old_flag_noted z s1 s2 m took2 (kept none))
+module _ {D : Type 0} {z : SharedState D} {s0 s1 s2 : SeatState} {m : Snapshots} {tables : PreparedTables} (free : IsFree z.table s0) (first : Taken z s0 s1 (prepared tables)) (second : Taken z s1 s2 (snapshots m)) where
+  pub took_both : GoesOn no_fact (snapshots m ∷ s1.knows.held) (2 ∷ s1.turns) s0 s2
+  took_both = then no_fact s0 s1 s2 (prepared tables ∷ s0.knows.held) (snapshots m ∷ s1.knows.held) (1 ∷ s0.turns) (2 ∷ s1.turns) first.goes second.goes
 
-  module _ (gave1 : Given z s3 s4 (part.Snapshots m')) where
-    gave_snapshots : turn_of gave1.table ≡ snapshots_turn
-    gave_snapshots = ap turn_of (sym (same_some (snapshots m') gave1.table gave1.is))
+  module _ {m1 : Snapshots} {tables1 : PreparedTables} (lent : m1 ≡ m) (shown : tables1 ≡ tables) where
+    pub holds_both : HoldsTurn z s2 (snapshots m1) (prepared tables1 ∷ []) (1 ∷ [])
+    holds_both = subst (λ (x : Snapshots × PreparedTables). HoldsTurn z s2 (snapshots x.0) (prepared x.1 ∷ []) (1 ∷ [])) (λ i. ((sym lent) i, (sym shown) i)) (holds_two (holds_alone free first) second)
 
-    pub last_left : s4.turns ≡ 1 ∷ s0.turns
-    last_left = ap rest_of (sym gave1.turns ∙ (changes.turns ∙ same2.2)) ∙ same1.2
+    module _ {s3 : SeatState} {m' : Snapshots} {after : Participant} (changes : ChangesSnapshots z s2 s3 after m' (prepared tables1 ∷ []) (1 ∷ [])) where
+      pub holds_changed : HoldsTurn z s3 (snapshots m') (prepared tables ∷ []) (1 ∷ [])
+      holds_changed = subst (λ (x : PreparedTables). HoldsTurn z s3 (snapshots m') (prepared x ∷ []) (1 ∷ [])) shown changes.holds
 
-    pub delayed_noted : NoneDelayed tables → IsIn (delayed_flag_stays 0) s4.knows.notes
-    delayed_noted none =
-        let first = delayed_flag_noted z s0 s1 tables took1 none in
-        let second : IsIn (delayed_flag_stays 0) s2.knows.notes = subst (λ (a : Actor). IsIn (delayed_flag_stays 0) a.notes) (sym took2.knows) (in_back (delayed_flag_stays 0) (facts_at snapshots_turn took2.world) s1.knows.notes first) in
-        gave1.notes (delayed_flag_stays 0) (changes.notes (delayed_flag_stays 0) second) (ap (λ (turn : Turn). gives_guard (Some prepared_turn) (give_turn turn)) gave_snapshots)
+      -- the old commit map has nothing that it did not have
+      pub gives_snaps : (NoOldCommits m' → NoOldCommits m1) → KnowsToGive s3.knows (snapshots m')
+      gives_snaps kept none = changes.goes.notes (old_flag_stays 0) tt (knows_to_give s2.knows (snapshots m) second.knows (subst NoOldCommits lent (kept none)))
 
-    module _ (s5 : SeatState) (gave2 : Given z s4 s5 (part.Prepared tables)) (free : IsFree z.table s0) where
-      gave_prepared : turn_of gave2.table ≡ prepared_turn
-      gave_prepared = ap turn_of (sym (same_some (prepared tables) gave2.table gave2.is))
+      module _ {s4 : SeatState} (gives : (others : List Content) (beneath : List ℕ) → HoldsTurn z s3 (snapshots m') others beneath → Given z snapshots_turn s3 s4 others beneath) where
+        gave : Given z snapshots_turn s3 s4 (prepared tables ∷ []) (1 ∷ [])
+        gave = gives (prepared tables ∷ []) (1 ∷ []) holds_changed
 
-      held_last : s5.knows.held ≡ []
-      held_last =
-          given_held z s4 s5 (part.Prepared tables) prepared_turn gave2 gave_prepared ∙ (ap (λ h. held_without h prepared_turn) (given_held z s3 s4 (part.Snapshots m') snapshots_turn gave1 gave_snapshots) ∙
-          ap (λ h. held_without (held_without h snapshots_turn) prepared_turn) changes.held)
+        pub holds_left : HoldsTurn z s4 (prepared tables) [] []
+        holds_left = holds_next changes.holds gave.goes
 
-      same_participant : s5.knows.participant ≡ s3.knows.participant
-      same_participant = given_participant z s4 s5 (part.Prepared tables) gave2 ∙ given_participant z s3 s4 (part.Snapshots m') gave1
+        pub gives_tables : KnowsToGive s4.knows (prepared tables)
+        gives_tables none = let fact = delayed_flag_stays 0 in gave.goes.noted fact refl (changes.goes.notes fact tt (second.goes.noted fact refl (knows_to_give s1.knows (prepared tables) first.knows none)))
 
-      was_participant : s2.knows.participant ≡ s0.knows.participant
-      was_participant = taken_participant z snapshots_turn s1 s2 (part.Snapshots m) took2 ∙ taken_participant z prepared_turn s0 s1 (part.Prepared tables) took1
+        module _ {s5 : SeatState} (gives_last : (others : List Content) (beneath : List ℕ) → HoldsTurn z s4 (prepared tables) others beneath → Given z prepared_turn s4 s5 others beneath) where
+          gave_last : Given z prepared_turn s4 s5 [] []
+          gave_last = gives_last [] [] holds_left
 
-      pub same_seen : s5.knows.participant.seen ≡ s3.knows.participant.seen
-      same_seen = ap (λ (x : Participant). x.seen) same_participant
+          gives_both : GoesOnAs s3 s5 s3.knows.participant
+          gives_both =
+              goes_still s3 s4 s5 s3.knows.participant (goes_same s3 s4 (is_under snapshots_turn) (prepared tables ∷ []) (1 ∷ []) (loose_under snapshots_turn) gave.goes)
+              (goes_same s4 s5 (is_under prepared_turn) [] [] (loose_under prepared_turn) gave_last.goes)
 
-      -- what was noted without a turn
-      pub both_noted : (fact : Fact) → guarded_by fact ≡ None → IsIn fact s3.knows.notes → IsIn fact s5.knows.notes
-      both_noted fact loose there = given_keeps z s4 s5 (part.Prepared tables) gave2 fact loose (given_keeps z s3 s4 (part.Snapshots m') gave1 fact loose there)
+          pub seen_both : s3.knows.participant.seen ≡ s5.knows.participant.seen
+          seen_both = sym (ap (λ (s : SeatState). s.knows.participant.seen) gave_last.goes.same ∙ ap (λ (s : SeatState). s.knows.participant.seen) gave.goes.same)
 
-      pub continues_both : Continues z s0 s5 after
-      continues_both =
-          continues z s0 s5 after free
-          (seated_on s0 s4 s5 (seated_on s0 s3 s4 (seated_on s0 s2 s3 (seated_on s0 s1 s2 (taken_seated z prepared_turn s0 s1 (part.Prepared tables) took1 same1) (taken_seated z snapshots_turn s1 s2 (part.Snapshots m) took2 same2)) changes.seated)
-          (given_seated z s3 s4 (part.Snapshots m') gave1)) (given_seated z s4 s5 (part.Prepared tables) gave2))
-          (ap rest_of (sym gave2.turns ∙ last_left) ∙ free.turns)
-          held_last
-          (subst (λ (x : List Entry × List Entry). StartsWith x.0 x.1) (λ i. ((sym same_seen) i, (was_participant i).seen)) changes.seen)
-          (same_participant ∙ (changes.participant ∙ ap (λ (h : List Entry). record after { seen = h }) (sym same_seen)))
-          (λ fact loose there.
-          both_noted fact loose (changes.notes fact (taken_keeps z snapshots_turn s1 s2 (part.Snapshots m) took2 fact loose (taken_keeps z prepared_turn s0 s1 (part.Prepared tables) took1 fact loose there))))
+          pub noted_both : (fact : Fact) → IsLoose fact → IsIn fact s3.knows.notes → IsIn fact s5.knows.notes
+          noted_both = gives_both.notes
 
--- ---- the registration is taken back
+          pub continues_both : (f : Participant → Participant) → IsBlind f → after ≡ f s2.knows.participant → Continues z s0 s5 (f s0.knows.participant)
+          continues_both f blind is =
+              let changed : GoesOnAs s2 s3 (f s2.knows.participant) = subst (GoesOnAs s2 s3) is (goes_fewer s2 s3 after (λ fact loose. tt) changes.goes) in
+              goes_free z s0 s5 (f s0.knows.participant) (gave_last.free refl refl)
+              (goes_still s0 s3 s5 (f s0.knows.participant) (goes_then s0 s2 s3 s0.knows.participant f blind (goes_same s0 s2 no_fact (snapshots m ∷ s1.knows.held) (2 ∷ s1.turns) loose_none took_both) changed) gives_both)
 
-module _ (s t : SeatState) (front back : List Registration) (r : Registration) (m m' : Snapshots) (others : List Content) (k : Unregisters s t front back r m) (held : s.knows.held ≡ snapshots m ∷ others) (same : m' ≡ with_released m r.number) where
-  pub released_one : ChangesSnapshots s t (record s.knows.participant { registered = front ++ back }) m' others
-  released_one = record {
-    seated = record {
-      table = ap (λ (x : SeatState). x.table) k.seat;
-      by = ap (λ (x : SeatState). x.by) k.seat;
-      live = ap (λ (x : SeatState). x.knows.live) k.seat;
-      made = ap (λ (x : SeatState). x.knows.made) k.seat;
-      joined = ap (λ (x : SeatState). x.knows.joined) k.seat;
-    };
-    turns = ap (λ (x : SeatState). x.turns) k.seat;
-    participant = ap (λ (x : SeatState). x.knows.participant) k.seat ∙ (λ i. record s.knows.participant { registered = front ++ back; seen = (ap (λ (x : SeatState). x.knows.participant.seen) (sym k.seat)) i });
-    seen = ([], ap (λ (x : SeatState). x.knows.participant.seen) k.seat ∙ sym (append-nil s.knows.participant.seen));
-    held = ap (λ (x : SeatState). x.knows.held) k.seat ∙ (ap (λ h. held_with h (snapshots (with_released m r.number))) held ∙ ap (λ (x : Snapshots). snapshots x ∷ others) (sym same));
-    notes = λ fact there. subst (λ (x : SeatState). IsIn fact x.knows.notes) (sym k.seat) there;
-  }
+-- ---- a turn is taken and given
 
--- ---- one change after another
+module _ {D : Type 0} {z : SharedState D} {s t u : SeatState} {table : Content} {turn : Turn} (taken : Taken z s t table) (given : Given z turn t u [] []) where
+  pub looked_on : Continues z s u s.knows.participant
+  looked_on =
+      goes_free z s u s.knows.participant (given.free refl refl)
+      (goes_still s t u s.knows.participant (goes_same s t no_fact (table ∷ s.knows.held) (turn_index (turn_of table) ∷ s.turns) loose_none taken.goes) (goes_same t u (is_under turn) [] [] (loose_under turn) given.goes))
 
-pub starts_on : (xs ys zs : List Entry) → StartsWith ys xs → StartsWith zs ys → StartsWith zs xs
-starts_on xs ys zs j k = (j.0 ++ k.0, k.1 ∙ (ap (λ (h : List Entry). h ++ k.0) j.1 ∙ append_assoc xs j.0 k.0))
+  pub same_look : u.knows.participant ≡ s.knows.participant
+  same_look = ap (λ (x : SeatState). x.knows.participant) given.goes.same ∙ ap (λ (x : SeatState). x.knows.participant) taken.goes.same
 
-pub changes_on : (a b c : SeatState) (rs : List Registration) (m m' : Snapshots) (others : List Content) → ChangesSnapshots a b (record a.knows.participant { registered = b.knows.participant.registered }) m others
-    → ChangesSnapshots b c (record b.knows.participant { registered = rs }) m' others → ChangesSnapshots a c (record a.knows.participant { registered = c.knows.participant.registered }) m' others
-changes_on a b c rs m m' others j k =
-    let is : c.knows.participant.registered ≡ rs = ap (λ (x : Participant). x.registered) k.participant in record {
-      seated = seated_on a b c j.seated k.seated;
-      turns = k.turns ∙ j.turns;
-      participant = k.participant ∙ (λ i. record (j.participant i) { registered = (sym is) i; seen = c.knows.participant.seen });
-      seen = starts_on a.knows.participant.seen b.knows.participant.seen c.knows.participant.seen j.seen k.seen;
-      held = k.held;
-      notes = λ fact there. k.notes fact (j.notes fact there);
+-- ---- a registration is taken back under the snapshots turn alone, and the old-map flag is seen to
+
+module _ {D : Type 0} {z : SharedState D} {s0 s1 s2 s3 s4 : SeatState} {m m' : Snapshots} (rs : List Registration) (first : Taken z s0 s1 (snapshots m)) (changes : ChangesSnapshots z s1 s2 (record s1.knows.participant { registered = rs }) m' [] [])
+    (settled : GoesOn (is_under snapshots_turn) s2.knows.held s2.turns s2 s3) (gave : Given z snapshots_turn s3 s4 [] []) where
+  pub continues_one : Continues z s0 s4 (record s0.knows.participant { registered = rs })
+  continues_one =
+      let p : Participant = record s0.knows.participant { registered = rs } in
+      let test = is_under snapshots_turn in
+      let changed : GoesOnAs s1 s2 (record s1.knows.participant { registered = rs }) = goes_fewer s1 s2 (record s1.knows.participant { registered = rs }) (λ fact loose. tt) changes.goes in
+      goes_free z s0 s4 p (gave.free refl refl)
+      (goes_still s0 s3 s4 p
+      (goes_still s0 s2 s3 p (goes_then s0 s1 s2 s0.knows.participant (λ q. record q { registered = rs }) (λ q h k. refl) (goes_same s0 s1 no_fact (snapshots m ∷ s0.knows.held) (2 ∷ s0.turns) loose_none first.goes) changed) (goes_same s2 s3 test s2.knows.held s2.turns (loose_under snapshots_turn) settled))
+      (goes_same s3 s4 test [] [] (loose_under snapshots_turn) gave.goes))
+
+-- ---- a look under a turn
+
+module _ {D : Type 0} {z : SharedState D} {which : Load} {s0 s1 s2 : SeatState} {r r' : Observed} {c : Content} (free : IsFree z.table s0) (k : Taken z s0 s1 c) (l : Loads z which s1 s2 r r') where
+  pub holds_looked : HoldsTurn z s2 c [] []
+  holds_looked = let h = holds_alone free k in subst (λ (s : SeatState). HoldsTurn z s c [] []) (sym l.reads.seat) (record { same_table = h.same_table; live = h.live; held = h.held; turns = h.turns })
+
+  pub noted_looked : (fact : Fact) → IsIn fact s1.knows.notes → IsIn fact s2.knows.notes
+  noted_looked fact there = subst (λ (s : SeatState). IsIn fact s.knows.notes) (sym l.reads.seat) there
+
+  module _ {s3 : SeatState} (g : Given z (turn_of c) s2 s3 [] []) where
+    looked : s2 ≡ reading (record s0 { knows = record s0.knows { held = c ∷ s0.knows.held; notes = s1.knows.notes }; turns = turn_index (turn_of c) ∷ s0.turns }) r'
+    looked = l.reads.seat ∙ ap (λ (s : SeatState). reading s r') k.goes.same
+
+    seat_back : s3 ≡ reading (noting_only s3.knows.notes s0) r'
+    seat_back = g.goes.same ∙ (λ i. record (looked i) { knows = record (looked i).knows { held = (sym free.held) i; notes = s3.knows.notes }; turns = (sym free.turns) i })
+
+    pub loads_between : Loads z which (noting_only s3.knows.notes s0) s3 r r'
+    loads_between = record {
+      reads = record {
+        seat = seat_back;
+        right = λ visible judged. subst (λ (s : SeatState). IsRight s.knows.participant.seen r'.version r'.snapshot visible) k.goes.same (l.reads.right visible judged);
+        words = l.reads.words;
+      };
+      world = l.world;
+      actor = l.actor;
+      there = subst (λ (s : SeatState). IsAt (place_at z s.by) l.actor l.world) k.goes.same l.there;
+      is_loaded = l.is_loaded;
     }
 
--- nothing changes
-pub changes_none : (s : SeatState) (m : Snapshots) (others : List Content) → s.knows.held ≡ snapshots m ∷ others → ChangesSnapshots s s (record s.knows.participant { registered = s.knows.participant.registered }) m others
-changes_none s m others held = record {
-  seated = record { table = refl; by = refl; live = refl; made = refl; joined = refl };
-  turns = refl;
-  participant = refl;
-  seen = ([], sym (append-nil s.knows.participant.seen));
-  held = held;
-  notes = λ fact there. there;
-}
-
--- a registration was taken back under the snapshots turn alone, the old-map flag was seen to, and the turn is given
-module _ {D : Type 0} (z : SharedState D) (s0 s1 s2 s3 s4 : SeatState) (m m' : Snapshots) (after : Participant) (free : IsFree z.table s0) (same : (s1.table ≡ s0.table) × (s1.by ≡ s0.by) × (s1.turns ≡ 2 ∷ s0.turns)) (took : Taken z snapshots_turn s0 s1 (part.Snapshots m)) (changes : ChangesSnapshots s1 s2 after m' [])
-    (settled : s3 ≡ noting s2 s3.knows.notes) (kept : KeepsNotes s2.knows.notes s3.knows.notes) (gave : Given z s3 s4 (part.Snapshots m')) where
-  settled_seated : IsSeated s2 s3
-  settled_seated = record {
-    table = ap (λ (x : SeatState). x.table) settled;
-    by = ap (λ (x : SeatState). x.by) settled;
-    live = ap (λ (x : SeatState). x.knows.live) settled;
-    made = ap (λ (x : SeatState). x.knows.made) settled;
-    joined = ap (λ (x : SeatState). x.knows.joined) settled;
-  }
-
-  gave_it : turn_of gave.table ≡ snapshots_turn
-  gave_it = ap turn_of (sym (same_some (snapshots m') gave.table gave.is))
-
-  same_at_last : s4.knows.participant ≡ s2.knows.participant
-  same_at_last = given_participant z s3 s4 (part.Snapshots m') gave ∙ ap (λ (x : SeatState). x.knows.participant) settled
-
-  seen_at_last : s4.knows.participant.seen ≡ s2.knows.participant.seen
-  seen_at_last = ap (λ (x : Participant). x.seen) same_at_last
-
-  pub continues_one : Continues z s0 s4 after
-  continues_one =
-      continues z s0 s4 after free
-      (seated_on s0 s3 s4 (seated_on s0 s2 s3 (seated_on s0 s1 s2 (taken_seated z snapshots_turn s0 s1 (part.Snapshots m) took same) changes.seated) settled_seated) (given_seated z s3 s4 (part.Snapshots m') gave))
-      (ap rest_of (sym gave.turns ∙ (ap (λ (x : SeatState). x.turns) settled ∙ (changes.turns ∙ same.2))) ∙ free.turns)
-      (given_held z s3 s4 (part.Snapshots m') snapshots_turn gave gave_it ∙ ap (λ h. held_without h snapshots_turn) (ap (λ (x : SeatState). x.knows.held) settled ∙ changes.held))
-      (subst (λ (x : List Entry × List Entry). StartsWith x.0 x.1) (λ i. ((sym seen_at_last) i, (taken_participant z snapshots_turn s0 s1 (part.Snapshots m) took i).seen)) changes.seen)
-      (same_at_last ∙ (changes.participant ∙ ap (λ (h : List Entry). record after { seen = h }) (sym seen_at_last)))
-      (λ fact loose there. given_keeps z s3 s4 (part.Snapshots m') gave fact loose (kept fact loose (changes.notes fact (taken_keeps z snapshots_turn s0 s1 (part.Snapshots m) took fact loose there))))
+    pub keeps_between : KeepsNotes s0.knows.notes s3.knows.notes
+    keeps_between fact loose there = g.goes.noted fact (loose_under (turn_of c) fact loose) (noted_looked fact (k.goes.noted fact refl there))

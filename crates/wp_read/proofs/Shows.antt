@@ -14,28 +14,24 @@ use Rattle.wp_model.proofs.Entries.{entry_at_old}
 use Rattle.wp_core.specs.Lists.{IsIn}
 use Rattle.wp_core.specs.Reading.{Registration}
 use Rattle.wp_core.specs.Sound.Snapshots.{has_versions, has_versions_at}
-use Rattle.wp_core.specs.Tables.{Content, StoreTable, store, live_numbers, up_to, all_in}
-use Rattle.wp_core.specs.Turns.{store_turn}
+use Rattle.wp_core.specs.Tables.{StoreTable, live_numbers, up_to, all_in}
 use Rattle.wp_core.specs.World.{World}
 use Rattle.wp_core.proofs.HistoryLaws.{decided_late, decision_stays}
 use Rattle.wp_core.proofs.Registered.{registered_live}
 use Rattle.wp_core.proofs.SnapshotsStep.{among_live}
-use Rattle.wp_core.proofs.Tests.{same_some}
 use Rattle.wp_merge.specs.Merge.{sorted_of}
 use Rattle.wp_merge.proofs.Sorted.{in_order_sorted, at_sorted}
 use Rattle.wp_rule.specs.Words.{IsAt}
 use Rattle.wp_rule.proofs.Knows.{at_sound, seen_is}
 use Rattle.wp_store.specs.Store.{of_key, newest_of}
 use Rattle.wp_parts.specs.Stock.{StockState, store_table}
-use Rattle.wp_parts.specs.declared.part.Part.TheVariants as part
-use Rattle.wp_shared.specs.Seats.{SharedState, SeatState, place_at}
-use Rattle.wp_shared.specs.Turns.{Taken}
+use Rattle.wp_shared.specs.Seats.{SharedState, SeatState, Stands, place_at}
 use Rattle.wp_read.specs.Values.{ShowsValue}
 use Rattle.wp_read.proofs.Readings.{right_before, registered_low}
 use Rattle.wp_read.proofs.Versions.{Descends, in_front, descends, at_of_key, in_store, first_shows, none_shows}
 
 -- who has a version has versions
-versions_of : (o : Option Entry) (key : List ℕ) (value : Option (List ℕ)) → version_in o key ≡ Some value → has_versions o ≡ true
+pub versions_of : (o : Option Entry) (key : List ℕ) (value : Option (List ℕ)) → version_in o key ≡ Some value → has_versions o ≡ true
 versions_of None key value e = absurd cc
 versions_of (Some (Write batch)) key value e = refl
 versions_of (Some (Prepare name batch)) key value e = refl
@@ -123,13 +119,8 @@ module _ {D : Type 0} (z : SharedState D) (s : SeatState) (w : World) (key : Lis
   }
 
 -- what was copied under the store turn shows it
-abbrev table_in : Content → StoreTable → StoreTable
-table_in (store t) other = t
-table_in c other = other
-
-pub copies_show : {D E : Type 0} (z : SharedState D) (s t : SeatState) (stock : StockState) (key : List ℕ) (most : ℕ) (result : Result (List Version) E) → Taken z store_turn s t (part.Store stock) → IfOk result (λ found. found ≡ newest_of most key (sorted_of (all_in (store_table stock))))
+pub copies_show : {D E : Type 0} (z : SharedState D) (s : SeatState) (stock : StockState) (key : List ℕ) (most : ℕ) (result : Result (List Version) E) → (w : World) × Stands z s w × (w.store ≡ store_table stock) → IfOk result (λ found. found ≡ newest_of most key (sorted_of (all_in (store_table stock))))
     → IfOk result (λ found. (r : Registration) → IsIn r s.knows.participant.registered → ShowsValue s.knows.participant.seen key r.number most found)
-copies_show z s t stock key most (Ok found) took is = λ (r : Registration) (mine : IsIn r s.knows.participant.registered).
-    let same : took.world.store ≡ store_table stock = ap (λ (c : Content). table_in c (store_table stock)) (sym (same_some (store (store_table stock)) (store took.world.store) took.is)) in
-    subst (ShowsValue s.knows.participant.seen key r.number most) (ap (λ (x : StoreTable). newest_of most key (sorted_of (all_in x))) same ∙ sym is) (shows_value z s took.world key r most took.before mine)
-copies_show z s t stock key most (Err error) took is = is
+copies_show z s stock key most (Ok found) took is = λ (r : Registration) (mine : IsIn r s.knows.participant.registered).
+    subst (ShowsValue s.knows.participant.seen key r.number most) (ap (λ (x : StoreTable). newest_of most key (sorted_of (all_in x))) took.2 ∙ sym is) (shows_value z s took.0 key r most took.1 mine)
+copies_show z s stock key most (Err error) took is = is

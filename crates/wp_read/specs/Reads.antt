@@ -1,5 +1,5 @@
 -- What the steps of a reading leave of a seat.
-use Rattle.std.specs.Prelude.{◌≡◌, ◌≢◌, ℕ, ◌≤◌, Bool, List, Some, None}
+use Rattle.std.specs.Prelude.{◌≡◌, ◌≢◌, ℕ, ◌≤◌, Bool, List, Some}
 use Rattle.wp_judge.specs.declared.observed.Observed.{Observed}
 use Rattle.wp_judge.specs.declared.observed.Load.{Load}
 use Rattle.wp_judge.specs.declared.observed.Load.TheVariants.{InPrepared, IsOldCommit}
@@ -9,23 +9,19 @@ use Rattle.wp_core.specs.Changes.{loaded}
 use Rattle.wp_core.specs.Lists.{IsIn}
 use Rattle.wp_core.specs.Reading.{Registration, snapshot_of}
 use Rattle.wp_core.specs.Sound.Reader.{IsRight}
-use Rattle.wp_core.specs.Sound.Views.{guarded_by}
 use Rattle.wp_core.specs.Views.{Fact}
 use Rattle.wp_core.specs.World.{Actor, World}
 use Rattle.wp_rule.specs.Words.{IsAt}
+use Rattle.wp_shared.specs.Calls.{IsLoose}
 use Rattle.wp_shared.specs.Seats.{SharedState, SeatState, place_at}
 
 -- the seat, where this is what it has loaded of the version that it reads
 abbrev pub reading : SeatState → Observed → SeatState
 reading s r = record s { knows = record s.knows { reading = Some r } }
 
--- the seat, where these are its notes
-abbrev pub noting : SeatState → List Fact → SeatState
-noting s notes = record s { knows = record s.knows { notes = notes } }
-
 -- what was noted without a turn is noted still
 abbrev pub KeepsNotes : List Fact → List Fact → Type 0
-KeepsNotes before after = (fact : Fact) → guarded_by fact ≡ None → IsIn fact before → IsIn fact after
+KeepsNotes before after = (fact : Fact) → IsLoose fact → IsIn fact before → IsIn fact after
 
 -- The seat reads this, and is as it was but for that. Where it has the answer, that is right of the history that the seat has
 -- seen. The cache has a word.

@@ -1,5 +1,5 @@
 -- How a snapshot is registered and released.
-use Rattle.std.specs.Prelude.{◌≡◌, ◌⊎◌, ◌↔◌, ℕ, suc, ◌≤◌, true, List, [], ◌∷◌, ◌++◌, length, map, fold, unwrap_or, Option, Some, if◌then◌else◌}
+use Rattle.std.specs.Prelude.{◌≡◌, ◌⊎◌, ◌↔◌, ℕ, suc, ◌≤◌, true, List, [], ◌∷◌, ◌++◌, length, map, fold, unwrap_or, Option, Some, Result, Ok, Err, if◌then◌else◌}
 use Rattle.std.specs.FinMap as finite
 use Rattle.std.specs.List.{Contains, list_any}
 use Rattle.std.specs.List.Sorted.{IsStrictlyIncreasing}
@@ -11,13 +11,14 @@ use Rattle.wp_model.specs.Snapshots.{Snapshots, IsLive}
 use Rattle.wp_core.specs.Changes.{sees, registers, releases, held_with, is_same_registration, with_registered, with_released}
 use Rattle.wp_core.specs.Lists.{IsIn}
 use Rattle.wp_core.specs.Reading.{Registration}
-use Rattle.wp_core.specs.Sound.Actors.{StartsWith}
 use Rattle.wp_core.specs.Steps.{Step, register_again, note}
 use Rattle.wp_core.specs.Tables.{Content, snapshots}
-use Rattle.wp_core.specs.Views.{Fact, live_listed}
+use Rattle.wp_core.specs.Views.{live_listed}
 use Rattle.wp_core.specs.World.{Participant, Actor, World, published}
 use Rattle.wp_rule.specs.Words.{IsAt}
+use Rattle.wp_shared.specs.Calls.{IsAny, GoesOnWith}
 use Rattle.wp_shared.specs.Seats.{SharedState, SeatState, place_at}
+use Rattle.wp_shared.specs.Turns.{HoldsTurn}
 
 -- ---- a place in a list of registrations
 
@@ -66,23 +67,16 @@ pub record Unregisters (old new : SeatState) (front back : List Registration) (r
 
 -- ---- under the snapshots turn
 
--- it is the same seat, whose actor is as live and made and took in as many others
-pub record IsSeated (old new : SeatState) : Type 0 where
-  pub table : new.table ≡ old.table
-  pub by : new.by ≡ old.by
-  pub live : new.knows.live ≡ old.knows.live
-  pub made : new.knows.made ≡ old.knows.made
-  pub joined : new.knows.joined ≡ old.knows.joined
+-- The seat goes on as this participant, with all that it noted, and has these live snapshots in place of those that it held, with
+-- what else it holds.
+pub record ChangesSnapshots {D : Type 0} (z : SharedState D) (old new : SeatState) (after : Participant) (m : Snapshots) (others : List Content) (beneath : List ℕ) : Type 0 where
+  pub goes : GoesOnWith IsAny old new after
+  pub holds : HoldsTurn z new (snapshots m) others beneath
 
--- The seat has these live snapshots in place of those that it held, with what else it holds. It has seen no less than before,
--- and is this participant but for that, and it has its notes still.
-pub record ChangesSnapshots (old new : SeatState) (after : Participant) (m : Snapshots) (others : List Content) : Type 0 where
-  pub seated : IsSeated old new
-  pub turns : new.turns ≡ old.turns
-  pub participant : new.knows.participant ≡ record after { seen = new.knows.participant.seen }
-  pub seen : StartsWith new.knows.participant.seen old.knows.participant.seen
-  pub held : new.knows.held ≡ snapshots m ∷ others
-  pub notes : (fact : Fact) → IsIn fact old.knows.notes → IsIn fact new.knows.notes
+-- the participant once it was answered this: an answer that is no refusal adds these registrations
+abbrev pub registered_by : {A E : Type 0} → (A → List Registration) → Result A E → Participant → Participant
+registered_by adds (Ok a) p = record p { registered = p.registered ++ adds a }
+registered_by adds (Err error) p = p
 
 -- ---- calls
 

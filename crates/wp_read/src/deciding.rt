@@ -5,19 +5,21 @@ ghost use Rattle.wp_core.specs.Sound.Reader.{IsRight};
 ghost use Rattle.wp_core.specs.Sound.Snapshots.{has_versions_at};
 ghost use Rattle.wp_judge.specs.declared.observed.Load as load;
 ghost use Rattle.wp_shared.specs.Calls.{Continues};
+ghost use Rattle.wp_shared.specs.Notes.{noting_only};
 ghost use Rattle.wp_shared.specs.Seats.{IsFree};
 ghost use Rattle.wp_read.specs.Decides.{Looks, DecidesFree};
-ghost use Rattle.wp_read.specs.Reads.{Loads, IsNext, KeepsNotes, noting};
+ghost use Rattle.wp_read.specs.Reads.{Loads, IsNext, KeepsNotes};
 
 use crate::answers::{Free, Look};
 use crate::registration::Snapshot;
 use crate::steps::{begin_reading, load, look_in_old_commits, look_in_prepared};
-use crate::turns::{give_snaps, give_tables, take_snaps, take_tables};
 use std::sync::Wait;
 use wp_judge::{Asked, Load, Observed, ask};
 use wp_model::Seq;
 use wp_outside::Disk;
+use wp_prepared::Prepared;
 use wp_shared::{Seat, Shared};
+use wp_snaps::Snaps;
 
 /// Decides the version `p`, as far as its snapshot, its word and one load of the bound tell. It takes no turn and no memory.
 /// A look is of a version: where the history reaches up to it, an entry with versions has that number.
@@ -84,12 +86,12 @@ fn load_prepared<D: Disk + Drop, R: Wait>(
 )
     requires free { IsFree store.now.table seat.old }
     requires next { IsNext seat.old seen.old Load.InPrepared }
-    ensures loads { Loads store.now Load.InPrepared (noting seat.old seat.new.knows.notes) seat.new seen.old seen.new }
+    ensures loads { Loads store.now Load.InPrepared (noting_only seat.new.knows.notes seat.old) seat.new seen.old seen.new }
     ensures notes { KeepsNotes seat.old.knows.notes seat.new.knows.notes }
 {
-    let tables = take_tables(store, rt, seat);
+    let tables = store.take_turn::<Prepared, R>(rt, seat);
     look_in_prepared(store, seat, seen, &tables);
-    give_tables(store, seat, tables);
+    store.give_turn::<Prepared>(seat, tables);
 }
 
 /// Takes the snapshots turn for one look into the old commit map.
@@ -101,12 +103,12 @@ fn load_old_commits<D: Disk + Drop, R: Wait>(
 )
     requires free { IsFree store.now.table seat.old }
     requires next { IsNext seat.old seen.old Load.IsOldCommit }
-    ensures loads { Loads store.now Load.IsOldCommit (noting seat.old seat.new.knows.notes) seat.new seen.old seen.new }
+    ensures loads { Loads store.now Load.IsOldCommit (noting_only seat.new.knows.notes seat.old) seat.new seen.old seen.new }
     ensures notes { KeepsNotes seat.old.knows.notes seat.new.knows.notes }
 {
-    let snaps = take_snaps(store, rt, seat);
+    let snaps = store.take_turn::<Snaps, R>(rt, seat);
     look_in_old_commits(store, seat, seen, &snaps);
-    give_snaps(store, seat, snaps);
+    store.give_turn::<Snaps>(seat, snaps);
 }
 
 /// Makes the next load of the seat's reading, under a turn where it needs one.
@@ -119,7 +121,7 @@ fn load_any<D: Disk + Drop, R: Wait>(
 )
     requires free { IsFree store.now.table seat.old }
     requires next { IsNext seat.old seen.old which }
-    ensures loads { Loads store.now which (noting seat.old seat.new.knows.notes) seat.new seen.old seen.new }
+    ensures loads { Loads store.now which (noting_only seat.new.knows.notes seat.old) seat.new seen.old seen.new }
     ensures notes { KeepsNotes seat.old.knows.notes seat.new.knows.notes }
 {
     match which {

@@ -27,7 +27,6 @@ mod priors;
 mod registering;
 mod registration;
 mod steps;
-mod turns;
 mod values;
 
 pub use answers::{Free, Look};

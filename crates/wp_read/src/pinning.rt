@@ -1,18 +1,17 @@
 //! All that is live is registered once more.
 ghost use Rattle.std.specs.Prelude.{◌≡◌, true, List, [], ◌∷◌, ◌++◌, length, map, take, IfOk, OnOk, OnErr};
-ghost use Rattle.wp_model.specs.Snapshots.{Snapshots};
+ghost use Rattle.wp_model.specs.Snapshots.{Snapshots, NoOldCommits};
 ghost use Rattle.wp_core.specs.Lists.{IsIn};
 ghost use Rattle.wp_core.specs.Tables as table;
-ghost use Rattle.wp_core.specs.Tables.{NoOldCommits};
 ghost use Rattle.wp_core.specs.Views.{live_listed};
 ghost use Rattle.wp_shared.specs.Calls.{Continues};
 ghost use Rattle.wp_shared.specs.Seats.{IsFree};
-ghost use Rattle.wp_read.specs.Registers.{AreCounted, AreLive, ChangesSnapshots, IsPinned, again, numbers_of, with_each};
+ghost use Rattle.wp_shared.specs.Turns.{HoldsTurn};
+ghost use Rattle.wp_read.specs.Registers.{AreCounted, AreLive, ChangesSnapshots, IsPinned, again, numbers_of, registered_by, with_each};
 
 use crate::registering::{register_in, release_last};
 use crate::registration::{Pinned, Snapshot};
 use crate::steps::register_again;
-use crate::turns::{give_snaps, give_tables, take_snaps, take_tables};
 use std::alloc::{AllocError, Global};
 use std::sync::Wait;
 use wp_model::Seq;
@@ -107,22 +106,19 @@ fn pin_in<D: Disk + Drop>(
     tables: &Prepared,
     snaps: &mut Snaps,
 ) -> Result<Pinned, AllocError>
-    requires seat { seat.old.table ≡ store.now.table }
-    requires live { seat.old.knows.live ≡ true }
-    requires held { seat.old.knows.held ≡ table.snapshots snaps.old ∷ table.prepared tables.now ∷ [] }
-    ensures changes { ChangesSnapshots seat.old seat.new (record seat.old.knows.participant { registered = seat.new.knows.participant.registered }) snaps.new (table.prepared tables.now ∷ []) }
-    ensures registered { IfOk result (λ p. seat.new.knows.participant.registered ≡ seat.old.knows.participant.registered ++ p.floor ∷ p.live.items) }
+    requires holds { HoldsTurn store.now seat.old (table.snapshots snaps.old) (table.prepared tables.now ∷ []) (1 ∷ []) }
+    ensures changes { ChangesSnapshots store.now seat.old seat.new (registered_by (λ p. p.floor ∷ p.live.items) result seat.old.knows.participant) snaps.new (table.prepared tables.now ∷ []) (1 ∷ []) }
     ensures number { IfOk result (λ p. p.floor.number ≡ length seat.new.knows.participant.seen) }
     ensures pinned { IfOk result (λ p. IsPinned store.now seat.old seat.new.knows.participant.seen p.floor p.live.items) }
     ensures listed { IfOk result (λ p. IsIn (live_listed p.floor.number (numbers_of p.live.items)) seat.new.knows.notes) }
-    ensures refused { OnErr result (seat.new.knows.participant.registered ≡ seat.old.knows.participant.registered) }
     ensures kept { NoOldCommits snaps.new → NoOldCommits snaps.old }
 {
-    let numbers = live_numbers(alloc, snaps)?;
+    let found = live_numbers(alloc, snaps)?;
+    let numbers: &[Seq] = &found;
     let floor = register_in(store, seat, tables, snaps)?;
-    match enter_each(alloc, snaps, &numbers) {
+    match enter_each(alloc, snaps, numbers) {
         Ok(live) => {
-            register_again(store, seat, floor.number(), &numbers);
+            register_again(store, seat, floor.number(), numbers);
             Ok(Pinned { floor, live })
         }
         Err(error) => {
@@ -147,10 +143,10 @@ pub fn pin_all<D: Disk + Drop, R: Wait>(
     ensures listed { IfOk result (λ p. IsIn (live_listed p.floor.number (numbers_of p.live.items)) seat.new.knows.notes) }
     ensures refused { OnErr result (Continues store.now seat.old seat.new seat.old.knows.participant) }
 {
-    let tables = take_tables(store, rt, seat);
-    let mut snaps = take_snaps(store, rt, seat);
+    let tables = store.take_turn::<Prepared, R>(rt, seat);
+    let mut snaps = store.take_turn::<Snaps, R>(rt, seat);
     let pinned = pin_in(store, alloc, seat, &tables, &mut snaps);
-    give_snaps(store, seat, snaps);
-    give_tables(store, seat, tables);
+    store.give_turn::<Snaps>(seat, snaps);
+    store.give_turn::<Prepared>(seat, tables);
     pinned
 }

@@ -1,20 +1,21 @@
 //! Snapshots are registered and released.
 ghost use Rattle.std.specs.Prelude.{◌≡◌, suc, true, ℕ, List, [], ◌∷◌, ◌++◌, length, unwrap_or, IfOk, OnOk, OnErr, IsTrue};
-ghost use Rattle.wp_model.specs.Snapshots.{IsLive};
+ghost use Rattle.wp_model.specs.Snapshots.{IsLive, NoOldCommits};
 ghost use Rattle.wp_core.specs.Changes.{with_registered, with_released};
 ghost use Rattle.wp_core.specs.Lists.{IsIn};
 ghost use Rattle.wp_core.specs.Reading.{Registration};
 ghost use Rattle.wp_core.specs.Tables as table;
-ghost use Rattle.wp_core.specs.Tables.{Content, NoOldCommits};
+ghost use Rattle.wp_core.specs.Tables.{Content};
+ghost use Rattle.wp_core.specs.Turns.{snapshots_turn};
 ghost use Rattle.wp_core.specs.Views.{old_flag_stays};
 ghost use Rattle.wp_shared.specs.Calls.{Continues};
+ghost use Rattle.wp_shared.specs.Notes.{is_under, GoesOn};
 ghost use Rattle.wp_shared.specs.Seats.{IsFree};
-ghost use Rattle.wp_read.specs.Reads.{KeepsNotes, noting};
-ghost use Rattle.wp_read.specs.Registers.{ChangesSnapshots, IsTaken, IsTakenAt, registration_of};
+ghost use Rattle.wp_shared.specs.Turns.{HoldsTurn};
+ghost use Rattle.wp_read.specs.Registers.{ChangesSnapshots, IsTaken, IsTakenAt, registered_by, registration_of};
 
 use crate::registration::Snapshot;
 use crate::steps::{lower_old_flag, register, unregister, unregister_last};
-use crate::turns::{give_snaps, give_tables, take_snaps, take_tables};
 use std::alloc::AllocError;
 use std::sync::Wait;
 use wp_model::Seq;
@@ -57,14 +58,11 @@ pub fn register_in<D: Disk + Drop>(
     tables: &Prepared,
     snaps: &mut Snaps,
 ) -> Result<Snapshot, AllocError>
-    requires seat { seat.old.table ≡ store.now.table }
-    requires held { seat.old.knows.held ≡ table.snapshots snaps.old ∷ table.prepared tables.now ∷ [] }
-    ensures changes { ChangesSnapshots seat.old seat.new (record seat.old.knows.participant { registered = seat.new.knows.participant.registered }) snaps.new (table.prepared tables.now ∷ []) }
-    ensures registered { IfOk result (λ s. seat.new.knows.participant.registered ≡ seat.old.knows.participant.registered ++ s ∷ []) }
+    requires holds { HoldsTurn store.now seat.old (table.snapshots snaps.old) (table.prepared tables.now ∷ []) (1 ∷ []) }
+    ensures changes { ChangesSnapshots store.now seat.old seat.new (registered_by (λ s. s ∷ []) result seat.old.knows.participant) snaps.new (table.prepared tables.now ∷ []) (1 ∷ []) }
     ensures number { IfOk result (λ s. s.number ≡ length seat.new.knows.participant.seen) }
     ensures taken { IfOk result (λ s. IsTakenAt store.now seat.old seat.new.knows.participant.seen s snaps.old) }
     ensures entered { IfOk result (λ s. snaps.new ≡ with_registered snaps.old s.number) }
-    ensures refused { OnErr result (seat.new.knows.participant.registered ≡ seat.old.knows.participant.registered) }
     ensures kept { NoOldCommits snaps.new → NoOldCommits snaps.old }
 {
     let smallest = tables.smallest();
@@ -90,11 +88,11 @@ pub fn snapshot<D: Disk + Drop, R: Wait>(
     ensures taken { IfOk result (λ s. IsTaken store.now seat.old seat.new.knows.participant.seen s) }
     ensures refused { OnErr result (Continues store.now seat.old seat.new seat.old.knows.participant) }
 {
-    let tables = take_tables(store, rt, seat);
-    let mut snaps = take_snaps(store, rt, seat);
+    let tables = store.take_turn::<Prepared, R>(rt, seat);
+    let mut snaps = store.take_turn::<Snaps, R>(rt, seat);
     let taken = register_in(store, seat, &tables, &mut snaps);
-    give_snaps(store, seat, snaps);
-    give_tables(store, seat, tables);
+    store.give_turn::<Snaps>(seat, snaps);
+    store.give_turn::<Prepared>(seat, tables);
     taken
 }
 
@@ -105,12 +103,11 @@ fn release_in<D: Disk + Drop>(
     snaps: &mut Snaps,
     snapshot: Snapshot,
 )
-    requires seat { seat.old.table ≡ store.now.table }
     requires registered { IsIn snapshot seat.old.knows.participant.registered }
-    requires held { seat.old.knows.held ≡ table.snapshots snaps.old ∷ [] }
+    requires holds { HoldsTurn store.now seat.old (table.snapshots snaps.old) [] [] }
     ensures { (front : List Registration) × (back : List Registration) × (seat.old.knows.participant.registered ≡ front ++ snapshot ∷ back)
         × (IsIn snapshot back → ⊥)
-        × ChangesSnapshots seat.old seat.new (record seat.old.knows.participant { registered = front ++ back }) snaps.new [] }
+        × ChangesSnapshots store.now seat.old seat.new (record seat.old.knows.participant { registered = front ++ back }) snaps.new [] [] }
 {
     unregister(store, seat, &snapshot);
     withdraw(snaps, snapshot);
@@ -123,12 +120,11 @@ pub fn release_last<D: Disk + Drop>(
     snaps: &mut Snaps,
     snapshot: Snapshot,
 )
-    requires seat { seat.old.table ≡ store.now.table }
     requires last { (front : List Registration) × (seat.old.knows.participant.registered ≡ front ++ snapshot ∷ []) }
-    requires held { (others : List Content) × (seat.old.knows.held ≡ table.snapshots snaps.old ∷ others) }
-    ensures changes { (front : List Registration) (others : List Content) → seat.old.knows.participant.registered ≡ front ++ snapshot ∷ []
-        → seat.old.knows.held ≡ table.snapshots snaps.old ∷ others
-        → ChangesSnapshots seat.old seat.new (record seat.old.knows.participant { registered = front }) snaps.new others }
+    requires holds { (others : List Content) × (beneath : List ℕ) × HoldsTurn store.now seat.old (table.snapshots snaps.old) others beneath }
+    ensures changes { (front : List Registration) (others : List Content) (beneath : List ℕ) → seat.old.knows.participant.registered ≡ front ++ snapshot ∷ []
+        → HoldsTurn store.now seat.old (table.snapshots snaps.old) others beneath
+        → ChangesSnapshots store.now seat.old seat.new (record seat.old.knows.participant { registered = front }) snaps.new others beneath }
     ensures released { snaps.new ≡ with_released snaps.old snapshot.number }
 {
     unregister_last(store, seat);
@@ -145,8 +141,7 @@ fn settle_old_flag<D: Disk + Drop>(
     requires seat { seat.old.table ≡ store.now.table }
     requires held { IsIn (table.snapshots snaps.now) seat.old.knows.held }
     requires down { was_empty ≡ true → IsIn (old_flag_stays 0) seat.old.knows.notes }
-    ensures seat { seat.new ≡ noting seat.old seat.new.knows.notes }
-    ensures notes { KeepsNotes seat.old.knows.notes seat.new.knows.notes }
+    ensures seat { GoesOn (is_under snapshots_turn) seat.old.knows.held seat.old.turns seat.old seat.new }
     ensures flag { NoOldCommits snaps.now → IsIn (old_flag_stays 0) seat.new.knows.notes }
 {
     if was_empty {
@@ -170,9 +165,9 @@ pub fn release<D: Disk + Drop, R: Wait>(
         × (IsIn snapshot back → ⊥)
         × Continues store.now seat.old seat.new (record seat.old.knows.participant { registered = front ++ back }) }
 {
-    let mut snaps = take_snaps(store, rt, seat);
+    let mut snaps = store.take_turn::<Snaps, R>(rt, seat);
     let was_empty = snaps.none_kept();
     release_in(store, seat, &mut snaps, snapshot);
     settle_old_flag(store, seat, &snaps, was_empty);
-    give_snaps(store, seat, snaps);
+    store.give_turn::<Snaps>(seat, snaps);
 }

@@ -12,12 +12,14 @@ ghost use Rattle.wp_core.specs.Sound.Snapshots.{has_versions_at};
 ghost use Rattle.wp_core.specs.Steps as step;
 ghost use Rattle.wp_core.specs.Tables as table;
 ghost use Rattle.wp_core.specs.World.{World};
+ghost use Rattle.wp_shared.specs.Notes.{is_under, GoesOn};
 ghost use Rattle.wp_shared.specs.Seats.{place_at};
 ghost use Rattle.wp_model.specs.PreparedTables.{PreparedTables, IsSmallest, NonePrepared};
-ghost use Rattle.wp_model.specs.Snapshots.{Snapshots};
-ghost use Rattle.wp_core.specs.Tables.{Content, NoOldCommits};
+ghost use Rattle.wp_model.specs.Snapshots.{Snapshots, NoOldCommits};
+ghost use Rattle.wp_core.specs.Tables.{Content};
+ghost use Rattle.wp_core.specs.Turns.{snapshots_turn};
 ghost use Rattle.wp_core.specs.Views.{old_flag_stays};
-ghost use Rattle.wp_read.specs.Reads.{Reads, Loads, IsNext, IsOfWord, KeepsNotes, noting};
+ghost use Rattle.wp_read.specs.Reads.{Reads, Loads, IsNext, IsOfWord};
 ghost use Rattle.wp_read.specs.Registers.{MayPin, Registers, Unregisters, before_last, behind_last, pinned, pinning};
 
 use crate::registration::Snapshot;
@@ -302,8 +304,7 @@ pub fn unregister<D: Disk + Drop>(store: &Shared<D>, seat: &mut Seat<D>, snapsho
 pub fn lower_old_flag<D: Disk + Drop>(store: &Shared<D>, seat: &mut Seat<D>)
     requires seat { seat.old.table ≡ store.now.table }
     requires none_kept { (m : Snapshots) × IsIn (table.snapshots m) seat.old.knows.held × NoOldCommits m }
-    ensures seat { seat.new ≡ noting seat.old seat.new.knows.notes }
-    ensures notes { KeepsNotes seat.old.knows.notes seat.new.knows.notes }
+    ensures seat { GoesOn (is_under snapshots_turn) seat.old.knows.held seat.old.turns seat.old seat.new }
     ensures flag { IsIn (old_flag_stays 0) seat.new.knows.notes }
 {
     store.store_old_flag(seat, 0);

@@ -13,11 +13,11 @@ ghost use Rattle.wp_read.specs.Values.{AreVersions, IsFirstCommitted, NoneCommit
 
 use crate::deciding::visible;
 use crate::registration::Snapshot;
-use crate::turns::{give_stock, take_stock};
 use std::alloc::AllocError;
 use std::sync::Wait;
 use wp_model::{Key, Seq, Value, Version, Versions};
 use wp_outside::Disk;
+use wp_parts::Stock;
 use wp_shared::{Seat, Shared};
 
 /// How many versions of a key are copied at first: mostly one of the newest is the one.
@@ -39,9 +39,9 @@ fn copy_newest<D: Disk + Drop, R: Wait>(
     ensures same { seat.new.knows.participant ≡ seat.old.knows.participant }
     ensures found { IfOk result (λ found. (r : Registration) → IsIn r seat.old.knows.participant.registered → ShowsValue seat.old.knows.participant.seen key.now r.number most found) }
 {
-    let stock = take_stock(store, rt, seat);
+    let stock = store.take_turn::<Stock, R>(rt, seat);
     let found = stock.collect(key, most);
-    give_stock(store, seat, stock);
+    store.give_turn::<Stock>(seat, stock);
     found
 }
 

@@ -1,5 +1,6 @@
 -- What is left of a store once all its seats were handed in.
-use Rattle.std.proofs.Common.{◌≡◌, inl, ℕ, ◌+◌, Bool, true, false, List, [], ◌∷◌, ◌++◌, length, map, Option, Some, None, unwrap_or, refl, sym, ap, subst, ◌∙◌, append-nil}
+use Rattle.std.specs.declared.alloc.Global.{Global}
+use Rattle.std.proofs.Common.{Box, ◌≡◌, inl, ℕ, ◌+◌, Bool, true, false, List, [], ◌∷◌, ◌++◌, length, map, Option, Some, None, unwrap_or, refl, sym, ap, subst, ◌∙◌, append-nil}
 use Rattle.wp_model.specs.declared.entry.Entry.{Entry}
 use Rattle.wp_model.specs.Flushed.{IsEditCovered}
 use Rattle.wp_outside.specs.Disk.{Moment, images, IfKnown}
@@ -25,10 +26,10 @@ use Rattle.wp_core.proofs.PendingSteps.{none_logged}
 use Rattle.wp_rule.specs.Shows.{IsPart, Leaves}
 use Rattle.wp_parts.specs.Log.{LogState, IsLog}
 use Rattle.wp_parts.specs.Edits.{EditsState, IsEdits}
-use Rattle.wp_parts.specs.Parts.{content, tells}
+use Rattle.wp_parts.specs.Parts.{content, tells, IsGuardedBy}
 use Rattle.wp_parts.specs.declared.part.Part.{Part}
 use Rattle.wp_parts.specs.declared.part.Part.TheVariants as part
-use Rattle.wp_shared.specs.Devices.{DevicesLeft, devices_behind}
+use Rattle.wp_parts.specs.Devices.{DevicesLeft, devices_behind}
 use Rattle.wp_shared.specs.Opening.{IsOneStore}
 use Rattle.wp_shared.specs.Seats.{SharedState, SeatState, place_at}
 use Rattle.wp_shared.specs.Ending.{AreAll, participant_of, all_joined, Remains}
@@ -49,7 +50,13 @@ stored_as id history failed was true is moments left rests = left is
 stored_as id history failed was false is [] left rests = tt
 stored_as id history failed was false is (m ∷ past) left rests = λ image at. let k = rests is image at in (inl k.0, k.1)
 
-module _ {D : Type 0} (z : SharedState D) (first : SeatState) (others : List SeatState) (parts : Turn → Part D) (log : LogState) (edits : EditsState) (o : IsOneStore z.first) (none_joined : first.knows.joined ≡ []) (l : Leaves content (tells z.first) z.first (place_at z 0) (all_joined first.knows others) parts) (is_log : parts write_turn ≡ part.Write log) (is_edits : parts tables_turn ≡ part.Tables edits) (k : IsLog log) (e : IsEdits edits) (stored : log.wal.closed ≡ false → IfKnown log.wal.moments (LeavesHistory log.wal.id log.table.log)) where
+module _ {D : Type 0} (z : SharedState D) (first : SeatState) (others : List SeatState) (parts : Turn → Part D) (log_box : Box LogState Global) (edits_box : Box EditsState Global) (o : IsOneStore z.first) (none_joined : first.knows.joined ≡ []) (l : Leaves content (tells z.first) z.first (place_at z 0) (all_joined first.knows others) parts) (is_log : parts write_turn ≡ part.Write log_box) (is_edits : parts tables_turn ≡ part.Tables edits_box) (k : IsLog log_box.value) (e : IsEdits edits_box.value) (stored : log_box.value.wal.closed ≡ false → IfKnown log_box.value.wal.moments (LeavesHistory log_box.value.wal.id log_box.value.table.log)) where
+  abbrev log : LogState
+  log = log_box.value
+
+  abbrev edits : EditsState
+  edits = edits_box.value
+
   -- the world with the first seat alone
   abbrev w : World
   w = record l.world { actors = all_joined first.knows others ∷ [] }
@@ -59,10 +66,10 @@ module _ {D : Type 0} (z : SharedState D) (first : SeatState) (others : List Sea
 
   -- ---- the two values with devices
 
-  log_part : IsPart content (tells z.first) (part.Write log) (writes w.writes)
+  log_part : IsPart content (tells z.first) (part.Write log_box) (writes w.writes)
   log_part = subst (λ (x : Part D). IsPart content (tells z.first) x (writes w.writes)) is_log (l.are_parts write_turn)
 
-  edits_part : IsPart content (tells z.first) (part.Tables edits) (installed w.installed)
+  edits_part : IsPart content (tells z.first) (part.Tables edits_box) (installed w.installed)
   edits_part = subst (λ (x : Part D). IsPart content (tells z.first) x (installed w.installed)) is_edits (l.are_parts tables_turn)
 
   same_writes : log.table ≡ w.writes
@@ -171,15 +178,19 @@ module _ {D : Type 0} (z : SharedState D) (first : SeatState) (others : List Sea
       subst (λ (x : List Entry × DevicesLeft). IsEnded z (first ∷ others) x.0 x.1) (λ i. (sym (same ∙ ap (λ (t : WriteTable). t.history) same_writes) i, sym devices i)) ended_first
 
 -- the values behind the write turn and the tables turn are theirs
-pub writes_left : {D : Type 0} (z : SharedState D) (seats : List SeatState) (parts : Turn → Part D) → AreAll seats → Remains z seats parts → (t : WriteTable) × (content (parts write_turn) ≡ Some (writes t))
+pub writes_left : {D : Type 0} (z : SharedState D) (seats : List SeatState) (parts : Turn → Part D) → AreAll seats → Remains z seats parts → IsGuardedBy write_turn (parts write_turn)
 writes_left z [] parts all l = absurd all
-writes_left z (first ∷ others) parts all l = (l.world.writes, (l.are_parts write_turn).0)
+writes_left z (first ∷ others) parts all l = (writes l.world.writes, (l.are_parts write_turn).0, refl)
 
-pub edits_left : {D : Type 0} (z : SharedState D) (seats : List SeatState) (parts : Turn → Part D) → AreAll seats → Remains z seats parts → (t : Installed) × (content (parts tables_turn) ≡ Some (installed t))
+pub edits_left : {D : Type 0} (z : SharedState D) (seats : List SeatState) (parts : Turn → Part D) → AreAll seats → Remains z seats parts → IsGuardedBy tables_turn (parts tables_turn)
 edits_left z [] parts all l = absurd all
-edits_left z (first ∷ others) parts all l = (l.world.installed, (l.are_parts tables_turn).0)
+edits_left z (first ∷ others) parts all l = (installed l.world.installed, (l.are_parts tables_turn).0, refl)
 
-pub ended : {D : Type 0} (z : SharedState D) (seats : List SeatState) (parts : Turn → Part D) (log : LogState) (edits : EditsState) (history : List Entry) (left : DevicesLeft) → IsOneStore z.first → AreAll seats → Remains z seats parts
-    → parts write_turn ≡ part.Write log → parts tables_turn ≡ part.Tables edits → IsLog log → IsEdits edits → (log.wal.closed ≡ false → IfKnown log.wal.moments (LeavesHistory log.wal.id log.table.log)) → history ≡ log.table.history → left ≡ devices_behind log.wal edits.set → IsEnded z seats history left
-ended z [] parts log edits history left o all l is_log is_edits k e stored same devices = absurd all
-ended z (first ∷ others) parts log edits history left o all l is_log is_edits k e stored same devices = ended_as z first others parts log edits o all.1 l is_log is_edits k e stored history left same devices
+pub ended : {D : Type 0} (z : SharedState D) (seats : List SeatState) (parts : Turn → Part D) (log_box : Box LogState Global) (edits_box : Box EditsState Global) (log : LogState) (edits : EditsState) (history : List Entry) (left : DevicesLeft)
+    → log ≡ log_box.value → edits ≡ edits_box.value → IsOneStore z.first → AreAll seats → Remains z seats parts → parts write_turn ≡ part.Write log_box → parts tables_turn ≡ part.Tables edits_box → IsLog log → IsEdits edits
+    → (log.wal.closed ≡ false → IfKnown log.wal.moments (LeavesHistory log.wal.id log.table.log)) → history ≡ log.table.history → left ≡ devices_behind log.wal edits.set → IsEnded z seats history left
+ended z [] parts log_box edits_box log edits history left inside edits_inside o all l is_log is_edits k e stored same devices = absurd all
+ended z (first ∷ others) parts log_box edits_box log edits history left inside edits_inside o all l is_log is_edits k e stored same devices =
+    ended_as z first others parts log_box edits_box o all.1 l is_log is_edits (subst IsLog inside k) (subst IsEdits edits_inside e)
+    (subst (λ (x : LogState). x.wal.closed ≡ false → IfKnown x.wal.moments (LeavesHistory x.wal.id x.table.log)) inside stored) history left (same ∙ ap (λ (x : LogState). x.table.history) inside)
+    (devices ∙ (λ i. devices_behind (inside i).wal (edits_inside i).set))

@@ -1,8 +1,12 @@
 pub mod Places
 pub mod HeldTurns
-pub mod Nested
+pub mod Goes
+pub mod Onward
+pub mod Tables
+pub mod TakenTurns
 pub mod Clients
 pub mod OneStep
+pub mod Noting
 pub mod Opened
 pub mod Endings
 pub mod Ended

@@ -1,10 +1,10 @@
 -- What a store was opened from, and what a refused opening hands back.
-use Rattle.std.proofs.Common.{◌≡◌, ℕ, ◌<◌, ◌≤◌, ◌^◌, false, List, [], ◌∷◌, length, Some, None, refl, sym, ap, subst, ◌∙◌}
+use Rattle.std.specs.declared.alloc.Global.{Global}
+use Rattle.std.proofs.Common.{Box, ◌≡◌, ℕ, ◌<◌, ◌≤◌, ◌^◌, List, [], ◌∷◌, length, Some, refl, sym, ap, subst, ◌∙◌}
 use Rattle.std.specs.Prelude.{slice_index_or}
 use Rattle.std.specs.List.{remove}
 use Rattle.wp_model.specs.declared.entry.Entry.{Entry}
-use Rattle.wp_model.specs.LockTables.{LockTables}
-use Rattle.wp_model.specs.PreparedTables.{PreparedTables}
+use Rattle.wp_model.specs.declared.version.Version.{Version}
 use Rattle.wp_outside.specs.Disk.{Moment}
 use Rattle.wp_gatelog.specs.Durability.{LosesNoRecord}
 use Rattle.wp_gatelog.specs.Opening.{SurvivesThrough}
@@ -22,46 +22,71 @@ use Rattle.wp_open.specs.Parts.{PartsOpened}
 use Rattle.wp_open.specs.Refused.{of_log, IsLeft, at_tables}
 use Rattle.wp_open.specs.declared.opening.OpenError.TheVariants as open_error
 use Rattle.wp_open.proofs.Stages.{manifest_rests}
+use Rattle.wp_core.specs.Tables.{writes, installed}
+use Rattle.wp_core.specs.Turns.{write_turn, tables_turn}
 use Rattle.wp_rule.specs.Shows.{WasLast}
 use Rattle.wp_rule.specs.Words.{first_edit_of}
-use Rattle.wp_parts.specs.Log.{LogState, log_state}
-use Rattle.wp_parts.specs.Edits.{EditsState, edits_state}
-use Rattle.wp_parts.specs.Opening.{running_set, slots_of}
-use Rattle.wp_parts.specs.Parts.{content, log_first, set_first}
+use Rattle.wp_parts.specs.Log.{LogState}
+use Rattle.wp_parts.specs.Edits.{EditsState}
+use Rattle.wp_parts.specs.Opening.{AreFilled, running_set}
+use Rattle.wp_parts.specs.Parts.{content, log_first, set_first, IsGuardedBy}
 use Rattle.wp_parts.specs.declared.part.Part.{Part}
 use Rattle.wp_parts.specs.declared.part.Part.TheVariants as part
-use Rattle.wp_shared.specs.Devices.{DevicesLeft, devices_behind}
+use Rattle.wp_parts.specs.Devices.{DevicesLeft, devices_behind}
 use Rattle.wp_shared.specs.OpenedFrom.{IsRefusedFrom}
 use Rattle.wp_shared.specs.Opening.{IsOneStore}
 
 pub one_store : {D : Type 0} (first slots : List (Part D)) (wal : WalState) (set : TableSetState) → first ≡ slots → log_first slots ≡ Some wal → set_first slots ≡ Some set → set.manifest.log.id ≡ wal.id → wal.id < 2 ^ 32 → IsOneStore first
 one_store {D} first slots wal set same log tables id fits = subst (λ (xs : List (Part D)). IsOneStore xs) (sym same) (record { wal = wal; set = set; log = log; tables = tables; id = id; id_fits = fits })
 
--- ---- the values in their slots
-
 abbrev log_in : {D : Type 0} → Part D → LogState → LogState
-log_in (part.Write log) d = log
+log_in (part.Write log) d = log.value
 log_in other d = d
 
 abbrev edits_in : {D : Type 0} → Part D → EditsState → EditsState
-edits_in (part.Tables edits) d = edits
+edits_in (part.Tables edits) d = edits.value
 edits_in other d = d
 
-module _ {D : Type 0} (slots : List (Part D)) (wal : WalState) (history : List Entry) (store : StoreParts) (set : TableSetState) (tables : PreparedTables) (names : LockTables) (are : slots ≡ slots_of wal history store set tables names) where
-  pub last_slot : (x : Part D) → x ≡ slice_index_or slots 5 x → x ≡ part.Tables (edits_state set set store.tables None)
-  last_slot x at = at ∙ ap (λ (xs : List (Part D)). slice_index_or xs 5 x) are
+-- ---- the values in their slots
 
-  pub last_edit_is : (first : List (Part D)) → first ≡ slots → WasLast content first (installed_of set.manifest.edit store.tables)
-  last_edit_is first same = ap (first_edit_of content) (same ∙ are)
+module _ {D : Type 0} (slots : List (Part D)) (wal : WalState) (history : List Entry) (set : TableSetState) (tables : List (List Version)) (f : AreFilled wal history set tables slots) where
+  pub log_there : log_first slots ≡ Some wal
+  log_there = ap log_first f.are ∙ ap (λ (log : LogState). Some log.first) f.log_is
 
-  pub first_slot : (others : List (Part D)) (x : Part D) → others ≡ remove slots 5 → x ≡ slice_index_or others 0 x → x ≡ part.Write (log_state wal wal history [] false [])
-  first_slot others x left at = at ∙ ap (λ (xs : List (Part D)). slice_index_or xs 0 x) (left ∙ ap (λ (xs : List (Part D)). remove xs 5) are)
+  pub set_there : set_first slots ≡ Some set
+  set_there = ap set_first f.are ∙ ap (λ (edits : EditsState). Some edits.first) f.edits_are
 
-  pub same_edits : (x : Part D) (edits : EditsState) → x ≡ slice_index_or slots 5 x → x ≡ part.Tables edits → edits.set ≡ set
-  same_edits x edits at is = ap (λ (y : Part D). (edits_in y edits).set) (sym is ∙ last_slot x at)
+  pub last_edit_is : (first : List (Part D)) → first ≡ slots → WasLast content first (installed_of set.manifest.edit tables)
+  last_edit_is first same = ap (first_edit_of content) (same ∙ f.are) ∙ ap (λ (edits : EditsState). Some edits.table.last) f.edits_are
 
-  pub same_log : (others : List (Part D)) (x : Part D) (log : LogState) → others ≡ remove slots 5 → x ≡ slice_index_or others 0 x → x ≡ part.Write log → log.wal ≡ wal
-  same_log others x log left at is = ap (λ (y : Part D). (log_in y log).wal) (sym is ∙ first_slot others x left at)
+  -- the slots came back: the last one is taken out, and then the first
+  module _ (back : List (Part D)) (same : back ≡ slots) where
+    abbrev shown : back ≡ part.Write f.log ∷ part.Prepared f.prepared ∷ part.Snapshots f.snaps ∷ part.Store f.stock ∷ part.Locks f.locks ∷ part.Tables f.edits ∷ []
+    shown = same ∙ f.are
+
+    pub last_slot : (x : Part D) → x ≡ slice_index_or back 5 x → x ≡ part.Tables f.edits
+    last_slot x at = at ∙ ap (λ (xs : List (Part D)). slice_index_or xs 5 x) shown
+
+    pub first_slot : (others : List (Part D)) (x : Part D) → others ≡ remove back 5 → x ≡ slice_index_or others 0 x → x ≡ part.Write f.log
+    first_slot others x left at = at ∙ ap (λ (xs : List (Part D)). slice_index_or xs 0 x) (left ∙ ap (λ (xs : List (Part D)). remove xs 5) shown)
+
+    pub last_guarded : (x : Part D) → x ≡ slice_index_or back 5 x → IsGuardedBy tables_turn x
+    last_guarded x at = (installed f.edits.value.table, ap content (last_slot x at), refl)
+
+    pub first_guarded : (others : List (Part D)) (x : Part D) → others ≡ remove back 5 → x ≡ slice_index_or others 0 x → IsGuardedBy write_turn x
+    first_guarded others x left at = (writes f.log.value.table, ap content (first_slot others x left at), refl)
+
+    pub same_edits : (x : Part D) (edits : Box EditsState Global) → x ≡ slice_index_or back 5 x → x ≡ part.Tables edits → edits.value.set ≡ set
+    same_edits x edits at is = ap (λ (y : Part D). (edits_in y edits.value).set) (sym is ∙ last_slot x at) ∙ ap (λ (e : EditsState). e.set) f.edits_are
+
+    pub same_log : (others : List (Part D)) (x : Part D) (log : Box LogState Global) → others ≡ remove back 5 → x ≡ slice_index_or others 0 x → x ≡ part.Write log → log.value.wal ≡ wal
+    same_log others x log left at is = ap (λ (y : Part D). (log_in y log.value).wal) (sym is ∙ first_slot others x left at) ∙ ap (λ (l : LogState). l.wal) f.log_is
+
+    -- their devices are those of the store
+    pub devices_back : (others : List (Part D)) (x y : Part D) (edits_box : Box EditsState Global) (log_box : Box LogState Global) (log : LogState) (edits : EditsState) (left : DevicesLeft) → x ≡ slice_index_or back 5 x → x ≡ part.Tables edits_box
+        → others ≡ remove back 5 → y ≡ slice_index_or others 0 y → y ≡ part.Write log_box → log ≡ log_box.value → edits ≡ edits_box.value → left ≡ devices_behind log.wal edits.set → left ≡ devices_behind wal set
+    devices_back others x y edits_box log_box log edits left at out left_are there log_is inside edits_inside e =
+        e ∙ (λ i. devices_behind ((ap (λ (l : LogState). l.wal) inside ∙ same_log others y log_box left_are there log_is) i) ((ap (λ (s : EditsState). s.set) edits_inside ∙ same_edits x edits_box at out) i))
 
 -- ---- all is read, and memory is wanting
 

@@ -20,7 +20,7 @@ use Rattle.wp_core.specs.Sound.Actors.{StartsWith, AreSeen, AreOwned, seen_of, o
 use Rattle.wp_core.specs.Sound.Pasts.{AreHolders, IsBoard, AreFaults, AreEdits, past_of}
 use Rattle.wp_rule.specs.Shows.{WasLast}
 use Rattle.wp_parts.specs.Parts.{content}
-use Rattle.wp_shared.specs.Devices.{DevicesLeft}
+use Rattle.wp_parts.specs.Devices.{DevicesLeft}
 use Rattle.wp_shared.specs.Opening.{IsOneStore}
 use Rattle.wp_shared.specs.Seats.{SharedState, SeatState}
 use Rattle.wp_shared.specs.Ending.{participant_of}

@@ -1,7 +1,7 @@
 pub mod Opening
-pub mod Devices
 pub mod Seats
 pub mod OpenedFrom
+pub mod Notes
 pub mod Turns
 pub mod Clients
 pub mod Calls

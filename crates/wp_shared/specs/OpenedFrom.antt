@@ -18,7 +18,7 @@ use Rattle.wp_open.specs.declared.opening.OpenError.{OpenError}
 use Rattle.wp_rule.specs.Shows.{WasLast}
 use Rattle.wp_parts.specs.Opening.{running_set}
 use Rattle.wp_parts.specs.Parts.{content, log_first, set_first}
-use Rattle.wp_shared.specs.Devices.{DevicesLeft}
+use Rattle.wp_parts.specs.Devices.{DevicesLeft}
 use Rattle.wp_shared.specs.Seats.{SharedState}
 
 -- The store has what the devices opened to, under this id where no log was made: the values behind its turns were its log, and

@@ -3,7 +3,7 @@ use Rattle.std.specs.Prelude.{◌≡◌, ℕ, true, List, [], ◌∷◌}
 use Rattle.atomic_table.specs.Seated.{TableId}
 use Rattle.wp_model.specs.declared.entry.Entry.{Entry}
 use Rattle.wp_core.specs.World.{Actor, World}
-use Rattle.wp_rule.specs.Words.{first_edit_of, Place, IsAt}
+use Rattle.wp_rule.specs.Words.{SharedWords, Place, place_of, IsAt}
 use Rattle.wp_parts.specs.declared.part.Part.{Part}
 use Rattle.wp_parts.specs.declared.part.Part.TheVariants as part
 use Rattle.wp_parts.specs.Parts.{content}
@@ -40,9 +40,13 @@ pub record IsFree (table : TableId) (s : SeatState) : Type 0 where
   pub turns : s.turns ≡ []
   pub held : s.knows.held ≡ []
 
+-- its words
+abbrev pub words_in : {D : Type 0} → SharedState D → SharedWords (Part D)
+words_in z = record { table = z.table; opened = z.opened; cells = z.cells; first = z.first }
+
 -- the seat's place
 abbrev pub place_at : {D : Type 0} → SharedState D → ℕ → Place
-place_at z by = record { opened = z.opened; cells = z.cells; first_edit = first_edit_of content z.first; by = by }
+place_at z by = place_of content (words_in z) by
 
 -- a reached world of the store in which the seat's actor is what it knows
 abbrev pub Stands : {D : Type 0} → SharedState D → SeatState → World → Type 0

@@ -1,22 +1,17 @@
 //! The end of a store.
-ghost use Rattle.std.specs.Prelude.{◌≡◌, false};
+ghost use Rattle.std.specs.Prelude.{◌≡◌};
 ghost use Rattle.wp_core.specs.Changes.{joins};
 ghost use Rattle.wp_rule.specs.Ends.{part_of};
 ghost use Rattle.wp_shared.specs.Seats.{IsFree};
-ghost use Rattle.wp_outside.specs.Disk.{IfKnown};
-ghost use Rattle.wp_wal.specs.Wal.{LeavesHistory};
-ghost use Rattle.wp_parts.specs.Log.{IsLog};
-ghost use Rattle.wp_parts.specs.Edits.{IsEdits};
-ghost use Rattle.wp_shared.specs.Devices.{devices_of, devices_behind};
+ghost use Rattle.wp_parts.specs.Devices.{devices_of};
 ghost use Rattle.wp_shared.specs.Ending.{AllFree, AreAll, Remains};
 ghost use Rattle.wp_shared.specs.Ended.{IsEnded};
 
-use crate::held::Held;
 use crate::seat::Seat;
 use crate::shared::Shared;
 use wp_history::History;
 use wp_outside::{Disk, Disks};
-use wp_parts::{Edits, Log, Part};
+use wp_parts::{BehindTurn, Edits, Log, Part, take_apart};
 use wp_rule::Parts;
 
 /// What an ended store leaves.
@@ -24,26 +19,6 @@ use wp_rule::Parts;
 pub struct Finished<D> {
     pub history: History,
     pub disks: Disks<D>,
-}
-
-/// The history and the devices of what lay behind the write turn and the tables turn.
-pub(crate) fn take_apart<D: Disk + Drop>(log: Log<D>, edits: Edits<D>) -> Finished<D>
-    ensures history { result.history.entries ≡ log.table.history }
-    ensures disks { devices_of D.moments D.faults result.disks ≡ devices_behind log.wal edits.set }
-    ensures log { IsLog log }
-    ensures stored { log.wal.closed ≡ false → IfKnown log.wal.moments (LeavesHistory log.wal.id log.table.log) }
-    ensures edits { IsEdits edits }
-{
-    let (wal, history) = log.into_parts();
-    let devices = edits.into_disks();
-    Finished {
-        history,
-        disks: Disks {
-            log: wal.into_disk(),
-            manifest: devices.manifest,
-            tables: devices.tables,
-        },
-    }
 }
 
 impl<D: Disk + Drop> Shared<D> {
@@ -79,10 +54,12 @@ impl<D: Disk + Drop> Shared<D> {
         requires all { AreAll seats.items }
         ensures { IsEnded self seats.items result.history.entries (devices_of D.moments D.faults result.disks) }
     {
-        self.is_one();
+        self.shows_one_store();
         let Parts { write, tables, .. } = self.close(seats);
-        let write = Held { part: write };
-        let tables = Held { part: tables };
-        take_apart(write.into_log(), tables.into_edits())
+        let (history, disks) = take_apart(
+            Box::into_inner(Log::out_of(write)),
+            Box::into_inner(Edits::out_of(tables)),
+        );
+        Finished { history, disks }
     }
 }

@@ -6,17 +6,17 @@
 //! an equation, and that a sound world stands behind it.
 //!
 //! - `Shared::new`: the parts of an opened store go behind the turns, and the first seat is made.
-//! - `Shared::take` and `give`: a turn with the value behind it. A value goes home as its holder left the turn's table.
+//! - `Shared::take_turn`, `take_log` and `give_turn`: a turn with the value behind it. A value goes home as its holder left the
+//!   turn's table.
 //! - `Shared::published`, `max`, `word`, and in `steps` every load and store for the crates above, whose calls are made of them.
 //! - `Shared::note` and `learn`: what one seat has seen, for another one to have seen too.
 //! - `Shared::seat` and `finish`: the first seat makes the others, and at the end all are handed in for the history and the devices.
 //!   What each seat did and found is accounted for then, and whatever a crash leaves of the devices opens.
 //!
-//! `take` alone waits, and no call but `new` takes memory.
+//! `take_turn` and `take_log` alone wait, and `new` and `open` alone take memory.
 #![tactic(auto)]
 
 mod ending;
-mod held;
 mod note;
 mod opening;
 mod seat;
@@ -25,8 +25,6 @@ mod steps;
 mod turns;
 
 pub use ending::Finished;
-pub use held::Held;
 pub use note::Note;
 pub use seat::Seat;
 pub use shared::Shared;
-pub use wp_parts::Part;

@@ -8,12 +8,10 @@ ghost use Rattle.wp_rule.specs.Shows.{WasLast};
 ghost use Rattle.wp_rule.specs.Words.{SawAll};
 ghost use Rattle.wp_parts.specs.Opening.{running_set};
 ghost use Rattle.wp_parts.specs.Parts.{content, log_first, set_first};
-ghost use Rattle.wp_shared.specs.Devices.{devices_of, devices_behind};
+ghost use Rattle.wp_parts.specs.Devices.{devices_of, devices_behind};
 ghost use Rattle.wp_shared.specs.OpenedFrom.{IsOpenedFrom, IsRefusedFrom};
 ghost use Rattle.wp_shared.specs.Seats.{place_at};
 
-use crate::ending::take_apart;
-use crate::held::Held;
 use crate::seat::Seat;
 use crate::shared::Shared;
 use std::alloc::Global;
@@ -21,7 +19,7 @@ use std::snapshot::Snapshot;
 use wp_model::{Name, Seq};
 use wp_open::{OpenError, OpenRefused, Parts, open_parts};
 use wp_outside::{Disk, Disks};
-use wp_parts::{delayed_flag, guard};
+use wp_parts::{BehindTurn, Edits, Log, delayed_flag, guard, take_apart};
 use wp_rule::Words;
 
 /// How many words so many bits number.
@@ -31,23 +29,6 @@ fn count_words(bits: u32) -> usize
     ensures range { (1 ≤ result) × (result ≤ 65536) }
 {
     1 << bits
-}
-
-/// The devices of an opened store.
-fn disks_of<D: Disk + Drop>(parts: Parts<D>) -> Disks<D>
-    ensures { devices_of D.moments D.faults result ≡ devices_behind parts.wal (running_set parts.manifest (D.moments parts.tables) (D.faults parts.tables)) }
-{
-    let Parts {
-        wal,
-        manifest,
-        tables,
-        ..
-    } = parts;
-    Disks {
-        log: wal.into_disk(),
-        manifest: manifest.into_disk(),
-        tables,
-    }
 }
 
 impl<D: Disk + Drop> Shared<D> {
@@ -77,19 +58,15 @@ impl<D: Disk + Drop> Shared<D> {
         let flag = delayed_flag(&parts.history);
         let slots = match guard(alloc, parts) {
             Ok(slots) => slots,
-            Err(parts) => return Err(disks_of(parts)),
+            Err(disks) => return Err(disks),
         };
         let cells = count_words(bits);
         match Words::new(alloc, &client, entries, published, cells, flag, slots) {
             Ok((words, seat)) => Ok((Shared { words, limit }, Seat { seat, client })),
             Err(mut slots) => {
-                let tables = Held {
-                    part: slots.remove(5),
-                };
-                let write = Held {
-                    part: slots.remove(0),
-                };
-                Err(take_apart(write.into_log(), tables.into_edits()).disks)
+                let tables = Box::into_inner(Edits::out_of(slots.remove(5)));
+                let log = Box::into_inner(Log::out_of(slots.remove(0)));
+                Err(take_apart(log, tables).1)
             }
         }
     }

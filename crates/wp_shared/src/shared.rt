@@ -9,6 +9,7 @@ ghost use Rattle.wp_core.specs.World.{World, new_actor};
 ghost use Rattle.wp_rule.specs.Words.{place_of, SawAll};
 ghost use Rattle.wp_parts.specs.Parts.{content};
 ghost use Rattle.wp_shared.specs.Opening.{IsOneStore};
+ghost use Rattle.wp_shared.specs.Notes.{SawHistory};
 ghost use Rattle.wp_shared.specs.Seats.{Stands, place_at};
 
 use crate::seat::Seat;
@@ -60,7 +61,7 @@ fn name_seat<D: Disk + Drop, J: Moves>(
 
 impl<D: Disk + Drop> Shared<D> {
     /// For the proof alone: its devices are one store's.
-    pub(crate) fn is_one(&self)
+    pub(crate) fn shows_one_store(&self)
         ensures { IsOneStore self.now.first }
     {
         let _ = &self.words;
@@ -108,6 +109,15 @@ impl<D: Disk + Drop> Shared<D> {
         ensures rest { seat.new.knows ≡ sees seat.new.knows.participant.seen seat.old.knows }
     {
         self.words.load_published(&mut seat.seat)
+    }
+
+    /// Loads the published number, and leaves it: the seat has then seen the history, all that is published. Only its clause is of
+    /// use to the caller.
+    pub fn shows_history(&self, seat: &mut Seat<D>)
+        requires { seat.old.table ≡ self.now.table }
+        ensures { SawHistory self.now seat.old seat.new }
+    {
+        self.published(seat);
     }
 
     /// The evicted bound, as its one load found it.

@@ -9,6 +9,7 @@ ghost use Rattle.wp_core.specs.Tables.{WriteTable, writes};
 ghost use Rattle.wp_core.specs.Steps as step;
 ghost use Rattle.wp_core.specs.Steps.{store_max_evicted, note};
 ghost use Rattle.wp_core.specs.Views.{delayed_flag_stays, old_flag_stays};
+ghost use Rattle.wp_rule.specs.Knows.{Knows};
 ghost use Rattle.wp_rule.specs.Moves.{MayMake, MayStep, MayPublishAs, Moved, storing_max, storing_word};
 ghost use Rattle.wp_core.specs.World.{World};
 ghost use Rattle.wp_shared.specs.Clients.{KeepClient};
@@ -99,10 +100,10 @@ impl<D: Disk + Drop> Shared<D> {
         self.words.store_published(&mut seat.seat, p);
     }
 
-    /// Raises the evicted bound, and moves the numbers of the prepared heap up to it to the delayed set.
+    /// Raises the evicted bound by its rule, and moves the numbers of the prepared heap up to it to the delayed set.
     pub fn store_max(&self, seat: &mut Seat<D>, m: Seq)
         requires seat { seat.old.table ≡ self.now.table }
-        requires may { MayStep (place_at self.now seat.old.by) seat.old.knows (store_max_evicted m) }
+        requires rises { Knows (place_at self.now seat.old.by) seat.old.knows (store_max_evicted m) }
         ensures same { (seat.new.table ≡ seat.old.table) × (seat.new.by ≡ seat.old.by) × (seat.new.turns ≡ seat.old.turns) }
         ensures moved { Moved (place_at self.now seat.old.by) (storing_max m) (λ w. Unit {0}) seat.old.knows seat.new.knows }
     {

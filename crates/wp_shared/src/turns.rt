@@ -1,16 +1,16 @@
 //! Turns: a seat takes a turn with the value behind it, and gives both.
-ghost use Rattle.std.specs.Prelude.{◌≡◌, ◌∷◌, true};
-ghost use Rattle.wp_core.specs.Changes.{turn_index};
+ghost use Rattle.std.specs.Prelude.{◌≡◌, ◌∷◌, ℕ, List, true};
 ghost use Rattle.wp_actor.specs.Turns.{turn_of};
-ghost use Rattle.wp_shared.specs.Turns.{Taken, MayBeGiven, Given};
+ghost use Rattle.wp_core.specs.Changes.{turn_index};
+ghost use Rattle.wp_core.specs.Tables.{Content};
+ghost use Rattle.wp_shared.specs.Turns.{TookPart, MayGivePart, GavePart, HoldsTurn, KnowsToGive, Taken, TookLog, Given};
 
-use crate::held::Held;
 use crate::seat::Seat;
 use crate::shared::Shared;
 use std::sync::Wait;
 use std::{hint, thread};
 use wp_outside::Disk;
-use wp_parts::Part;
+use wp_parts::{BehindTurn, Log, Part};
 use wp_rule::Turn;
 
 /// How many pauses of the processor a seat waits at first for a turn that is held. That is longer than most turns are held: who has
@@ -36,19 +36,17 @@ fn is_long(turn: Turn) -> bool {
 }
 
 impl<D: Disk + Drop> Shared<D> {
-    /// Waits for the turn, and takes it with the value behind it.
-    pub fn take<R: Wait>(&self, rt: &R, seat: &mut Seat<D>, turn: Turn) -> Held<D>
+    /// Waits for the turn, and takes it with what lies in its slot.
+    fn take_part<R: Wait>(&self, rt: &R, seat: &mut Seat<D>, turn: Turn) -> Part<D>
         requires seat { seat.old.table ≡ self.now.table }
         requires live { seat.old.knows.live ≡ true }
         ensures same { (seat.new.table ≡ seat.old.table) × (seat.new.by ≡ seat.old.by) × (seat.new.turns ≡ turn_index (turn_of turn) ∷ seat.old.turns) }
-        ensures taken { Taken self.now (turn_of turn) seat.old seat.new result.part }
+        ensures took { TookPart self.now (turn_of turn) seat.old seat.new result }
     {
         let mut tries = 0;
         for _ in rt.forever() {
             if self.words.claim(&mut seat.seat, turn) {
-                return Held {
-                    part: self.words.exchange(&mut seat.seat, turn, Part::Away),
-                };
+                return self.words.exchange(&mut seat.seat, turn, Part::Away);
             }
             tries = self.wait(rt, turn, tries);
         }
@@ -67,19 +65,46 @@ impl<D: Disk + Drop> Shared<D> {
         tries.saturating_add(1)
     }
 
-    /// Gives the turn that was taken last, with the value behind it.
-    pub fn give(&self, seat: &mut Seat<D>, held: Held<D>)
+    /// Gives the turn that was taken last, with what goes into its slot.
+    fn give_part(&self, seat: &mut Seat<D>, turn: Turn, part: Part<D>)
         requires seat { seat.old.table ≡ self.now.table }
-        requires held { MayBeGiven self.now seat.old held.part }
-        ensures given { Given self.now seat.old seat.new held.part }
+        requires may { MayGivePart self.now (turn_of turn) seat.old part }
+        ensures { GavePart self.now (turn_of turn) seat.old seat.new }
     {
-        let Held { part } = held;
-        part.stands();
-        let turn = part.turn();
         self.words.exchange(&mut seat.seat, turn, part);
         self.words.unclaim(&mut seat.seat, turn);
         if is_long(turn) {
             self.words.wake_one(turn);
         }
+    }
+
+    /// Waits for the value's turn, and takes it with the value.
+    pub fn take_turn<G: BehindTurn<Part<D>>, R: Wait>(&self, rt: &R, seat: &mut Seat<D>) -> Box<G>
+        requires { (seat.old.table ≡ self.now.table) × (seat.old.knows.live ≡ true) }
+        ensures taken { Taken self.now seat.old seat.new (G.table result.value) }
+        ensures of_store { G.is_of self.now.first result.value }
+    {
+        G::out_of(self.take_part(rt, seat, G::turn()))
+    }
+
+    /// Waits for the write turn, and takes it with the log. The seat has then seen the whole history.
+    pub fn take_log<R: Wait>(&self, rt: &R, seat: &mut Seat<D>) -> Box<Log<D>>
+        requires { (seat.old.table ≡ self.now.table) × (seat.old.knows.live ≡ true) }
+        ensures { TookLog self.now seat.old seat.new result.value }
+    {
+        let log = self.take_turn::<Log<D>, R>(rt, seat);
+        self.shows_history(seat);
+        log
+    }
+
+    /// Gives the turn that was taken last, with the value that was taken with it, as the seat left its table.
+    pub fn give_turn<G: BehindTurn<Part<D>>>(&self, seat: &mut Seat<D>, value: Box<G>)
+        requires holds { (others : List Content) × (beneath : List ℕ) × HoldsTurn self.now seat.old (G.table value.value) others beneath }
+        requires of_store { G.is_of self.now.first value.value }
+        requires knows { KnowsToGive seat.old.knows (G.table value.value) }
+        ensures { (others : List Content) (beneath : List ℕ) → HoldsTurn self.now seat.old (G.table value.value) others beneath
+            → Given self.now G.turn seat.old seat.new others beneath }
+    {
+        self.give_part(seat, G::turn(), G::into_part(value));
     }
 }

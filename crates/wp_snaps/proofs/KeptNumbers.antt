@@ -8,10 +8,9 @@ use Rattle.std.specs.Int.{from_bool}
 use Rattle.std.specs.FinMap as finite
 use Rattle.std.specs.FinSet.{FinSet, contains, empty, insert, remove, len, contains-empty, contains-from_list, len-empty, len-insert, len-remove, empty_of_len, same_set, nat_cmp-IsAntisymmetric}
 use Rattle.std.proofs.lemmas.Bool.{cases_eq, eq-eqb, ne_eqb, eqb-true, both_ways, not-false}
-use Rattle.wp_model.specs.Snapshots.{Snapshot, Snapshots, ChangesWhere, after_register, after_release, after_keep}
+use Rattle.wp_model.specs.Snapshots.{Snapshot, Snapshots, ChangesWhere, after_register, after_release, after_keep, NoOldCommits}
 use Rattle.std.specs.declared.alloc.AllocError.{AllocError}
-use Rattle.wp_core.proofs.Numbers.{in_inserted, in_inserted_else, in_removed, in_removed_else, get_inserted_else}
-use Rattle.wp_core.specs.Tables.{NoOldCommits}
+use Rattle.wp_model.proofs.Numbers.{in_inserted, in_inserted_else, in_removed, in_removed_else, get_inserted_else}
 use Rattle.wp_snaps.specs.KeptNumbers.{has_old_commits, kept_numbers}
 use Rattle.wp_snaps.specs.Room.{RoomySnapshot}
 use Rattle.wp_snaps.proofs.Sets.{old_commit_set}

@@ -14,5 +14,3 @@ mod kept;
 mod live;
 mod snaps;
 mod snapshot;
-#[cfg(test)]
-mod tests;

@@ -2,8 +2,7 @@ ghost use Rattle.std.specs.Prelude.{◌≡◌, ℕ, ◌==◌, not, OnOk, OnErr, 
 ghost use Rattle.std.specs.List.{Contains};
 ghost use Rattle.std.specs.List.Sorted.{IsStrictlyIncreasing};
 ghost use Rattle.std.specs.FinMap as map;
-ghost use Rattle.wp_model.specs.Snapshots.{ChangesWhere, IsLive, is_old_commit, overlaps, after_register, after_release, after_keep};
-ghost use Rattle.wp_core.specs.Tables.{NoOldCommits};
+ghost use Rattle.wp_model.specs.Snapshots.{ChangesWhere, IsLive, is_old_commit, overlaps, after_register, after_release, after_keep, NoOldCommits};
 
 use crate::kept::{keep_each, reserve_each};
 use crate::live::Live;
@@ -11,7 +10,6 @@ use crate::snapshot::Snapshot;
 use std::alloc::{AllocError, Global};
 use std::collections::BTreeMap;
 use std::marker::Model;
-use wp_core::HoldsSnaps;
 use wp_model::Seq;
 
 /// The live snapshots with the old commit map, which the holder of the snapshots turn changes.
@@ -37,10 +35,6 @@ impl Model for Snaps {
     ghost view = { λ s. snapshots_of s.live };
 
     ghost invariant = { λ s. s.kept ≡ set.len (kept_numbers (snapshots_of s.live)) };
-}
-
-impl HoldsSnaps for Snaps {
-    ghost snapshots = { λ s. s };
 }
 
 impl Snaps {

@@ -1,4 +1,4 @@
-use Rattle.wp_maint.proofs.Pinning.{continues_none, continues_on}
+use Rattle.wp_shared.proofs.Onward.{continues_none, continues_still}
 use Rattle.wp_maint.proofs.Rounds.{compacts_since}
 use Rattle.wp_maint.proofs.compacting.compact.Goals as goal
 
@@ -12,4 +12,4 @@ pub returns-in-Some-try_compact : goal.returns-in-Some-try_compact
 returns-in-Some-try_compact g c = compacts_since c.args.store.now c.args.seat.now c.loop.seat c.try_compact.new.seat c.loop.invariant c.in-Some-try_compact.result c.in-Some-try_compact.ensures
 
 pub loop-preserved : goal.loop-preserved
-loop-preserved g c = continues_on c.args.store.now c.args.seat.now c.loop.seat c.try_compact.new.seat c.args.seat.now.knows.participant c.loop.invariant c.in_default.ensures.1
+loop-preserved g c = continues_still c.args.store.now c.args.seat.now c.loop.seat c.try_compact.new.seat c.args.seat.now.knows.participant c.loop.invariant c.in_default.ensures.1

@@ -1,15 +1,16 @@
 use Rattle.std.proofs.Common.{[], ◌∷◌, Some, refl}
 use Rattle.wp_core.specs.Tables.{installed}
+use Rattle.wp_shared.specs.Notes.{no_fact, seeing}
+use Rattle.wp_shared.proofs.Onward.{loose_none}
 use Rattle.wp_read.specs.Registers.{numbers_of}
 use Rattle.wp_maint.specs.Compaction.{IsPin}
-use Rattle.wp_maint.specs.Holding.{no_fact, seeing}
-use Rattle.wp_maint.proofs.Onward.{none_free, goes_seeing, settled_on}
+use Rattle.wp_maint.proofs.Onward.{goes_saw, settled_on}
 use Rattle.wp_maint.proofs.Rounds.{ends_then}
-use Rattle.wp_maint.proofs.StillTabled.{holds_looked, decided_looked}
+use Rattle.wp_maint.proofs.StillTabled.{still_edits, decided_looked}
 use Rattle.wp_maint.proofs.compacting.compact_several.Goals as goal
 
 pub merge-requires-clause-holds : goal.merge-requires-clause-holds
-merge-requires-clause-holds g c = holds_looked c.args.store.now c.args.seat.now c.are_unchanged.new.seat c.args.edits.now c.are_unchanged.ensures.goes c.requires.holds
+merge-requires-clause-holds g c = still_edits c.requires.holds c.are_unchanged.ensures.goes
 
 pub merge-requires-clause-decided : goal.merge-requires-clause-decided
 merge-requires-clause-decided g c =
@@ -18,11 +19,11 @@ merge-requires-clause-decided g c =
 pub returns-in-Ok-true-clause-says : goal.returns-in-Ok-true-clause-says
 returns-in-Ok-true-clause-says g c =
     let s = c.args.seat.now in let u = c.are_unchanged.new.seat in let e = c.args.edits.now.table in let pins = IsPin c.args.pinned.now.floor.number (numbers_of c.args.pinned.now.live.items) in
-    let first = goes_seeing s u u.knows.participant.seen no_fact (installed e ∷ []) s.turns c.are_unchanged.ensures.goes c.are_unchanged.ensures.grown none_free in
+    let first = goes_saw s u no_fact (installed e ∷ []) s.turns c.are_unchanged.ensures.goes c.are_unchanged.ensures.grown loose_none in
     ends_then c.args.store.now s u c.merge.new.seat e pins first (Some c.merge.result) c.merge.ensures.says
 
 pub returns-in-Ok-false-clause-holds : goal.returns-in-Ok-false-clause-holds
-returns-in-Ok-false-clause-holds g c = holds_looked c.args.store.now c.args.seat.now c.are_unchanged.new.seat c.args.edits.now c.are_unchanged.ensures.goes c.requires.holds
+returns-in-Ok-false-clause-holds g c = still_edits c.requires.holds c.are_unchanged.ensures.goes
 
 pub returns-in-Ok-false-clause-settled : goal.returns-in-Ok-false-clause-settled
 returns-in-Ok-false-clause-settled g c =
@@ -32,10 +33,10 @@ returns-in-Ok-false-clause-settled g c =
 pub returns-in-Ok-false-clause-says : goal.returns-in-Ok-false-clause-says
 returns-in-Ok-false-clause-says g c =
     let s = c.args.seat.now in let u = c.are_unchanged.new.seat in
-    goes_seeing s u u.knows.participant.seen no_fact (installed c.args.edits.now.table ∷ []) s.turns c.are_unchanged.ensures.goes c.are_unchanged.ensures.grown none_free
+    goes_saw s u no_fact (installed c.args.edits.now.table ∷ []) s.turns c.are_unchanged.ensures.goes c.are_unchanged.ensures.grown loose_none
 
 pub returns-in-Err-clause-holds : goal.returns-in-Err-clause-holds
-returns-in-Err-clause-holds g c = holds_looked c.args.store.now c.args.seat.now c.are_unchanged.new.seat c.args.edits.now c.are_unchanged.ensures.goes c.requires.holds
+returns-in-Err-clause-holds g c = still_edits c.requires.holds c.are_unchanged.ensures.goes
 
 pub returns-in-Err-clause-settled : goal.returns-in-Err-clause-settled
 returns-in-Err-clause-settled g c =
@@ -45,4 +46,4 @@ returns-in-Err-clause-settled g c =
 pub returns-in-Err-clause-says : goal.returns-in-Err-clause-says
 returns-in-Err-clause-says g c =
     let s = c.args.seat.now in let u = c.are_unchanged.new.seat in
-    goes_seeing s u u.knows.participant.seen no_fact (installed c.args.edits.now.table ∷ []) s.turns c.are_unchanged.ensures.goes c.are_unchanged.ensures.grown none_free
+    goes_saw s u no_fact (installed c.args.edits.now.table ∷ []) s.turns c.are_unchanged.ensures.goes c.are_unchanged.ensures.grown loose_none

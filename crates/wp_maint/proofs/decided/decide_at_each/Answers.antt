@@ -7,7 +7,7 @@ use Rattle.wp_core.specs.World.{Participant}
 use Rattle.wp_read.specs.Registers.{numbers_of}
 use Rattle.wp_maint.specs.Decided.{Decides}
 use Rattle.wp_maint.proofs.Decisions.{decided_none, in_place, mapped_next, then_numbers}
-use Rattle.wp_maint.proofs.Pinning.{continues_none, continues_on}
+use Rattle.wp_shared.proofs.Onward.{continues_none, continues_still}
 use Rattle.wp_maint.proofs.decided.decide_at_each.Goals as goal
 
 pub loop-i-init : goal.loop-i-init
@@ -34,7 +34,7 @@ decide_at-requires-clause-version g c low =
 pub returns-in_err-decide_at-clause-continues : goal.returns-in_err-decide_at-clause-continues
 returns-in_err-decide_at-clause-continues g c =
     let s = c.args.seat.now in
-    continues_on c.args.store.now s c.loop-i.seat c.decide_at.new.seat s.knows.participant c.loop-i.invariant.continues c.decide_at.ensures.continues
+    continues_still c.args.store.now s c.loop-i.seat c.decide_at.new.seat s.knows.participant c.loop-i.invariant.continues c.decide_at.ensures.continues
 
 pub returns-in_err-decide_at-clause-same : goal.returns-in_err-decide_at-clause-same
 returns-in_err-decide_at-clause-same g c = c.decide_at.ensures.same ∙ c.loop-i.invariant.same
@@ -43,7 +43,7 @@ pub loop-i-preserved : goal.loop-i-preserved
 loop-i-preserved g c =
     let s = c.args.seat.now in let seen = s.knows.participant.seen in let live = c.args.live.now in let i = c.loop-i.i in let x = c.index-live-i.result in let is = c.index-live-i.is in let lt : i < length live = omega arith in
     let k = c.loop-i.invariant in let d = c.in_ok-decide_at.ensures in let mine = c.args.number ∷ [] in let before = c.args.committed.now.items in let mid = c.loop-i.committed.items in let after = c.decide_at.new.committed.items in record {
-      continues = continues_on c.args.store.now s c.loop-i.seat c.decide_at.new.seat s.knows.participant k.continues d.continues;
+      continues = continues_still c.args.store.now s c.loop-i.seat c.decide_at.new.seat s.knows.participant k.continues d.continues;
       same = d.same ∙ k.same;
       decided = subst (λ (ns : List ℕ). Decides seen mine ns before after) (sym (mapped_next (λ (r : Registration). r.number) live i x lt is))
           (then_numbers seen before mid after mine (numbers_of (take i live)) (x.number ∷ []) k.decided (subst (λ (p : Participant). Decides p.seen mine (x.number ∷ []) mid after) k.same d.decided));

@@ -8,7 +8,7 @@ use Rattle.wp_core.specs.World.{Participant}
 use Rattle.wp_read.specs.Registers.{numbers_of}
 use Rattle.wp_maint.specs.Decided.{Decides, version_numbers}
 use Rattle.wp_maint.proofs.Decisions.{decided_nothing, in_place, mapped_next, then_versions}
-use Rattle.wp_maint.proofs.Pinning.{continues_none, continues_on}
+use Rattle.wp_shared.proofs.Onward.{continues_none, continues_still}
 use Rattle.wp_maint.proofs.decided.decide_each.Goals as goal
 
 pub loop-i-init : goal.loop-i-init
@@ -32,7 +32,7 @@ decide_version-requires-clause-version g c =
 pub returns-in_err-decide_version-clause-continues : goal.returns-in_err-decide_version-clause-continues
 returns-in_err-decide_version-clause-continues g c =
     let s = c.args.seat.now in
-    continues_on c.args.store.now s c.loop-i.seat c.decide_version.new.seat s.knows.participant c.loop-i.invariant.continues c.decide_version.ensures.continues
+    continues_still c.args.store.now s c.loop-i.seat c.decide_version.new.seat s.knows.participant c.loop-i.invariant.continues c.decide_version.ensures.continues
 
 pub returns-in_err-decide_version-clause-same : goal.returns-in_err-decide_version-clause-same
 returns-in_err-decide_version-clause-same g c = c.decide_version.ensures.same ∙ c.loop-i.invariant.same
@@ -41,7 +41,7 @@ pub loop-i-preserved : goal.loop-i-preserved
 loop-i-preserved g c =
     let s = c.args.seat.now in let seen = s.knows.participant.seen in let versions = c.args.versions.now in let i = c.loop-i.i in let x = c.index-versions-i.result in let is = c.index-versions-i.is in let lt : i < length versions = omega arith in
     let k = c.loop-i.invariant in let d = c.in_ok-decide_version.ensures in let ns = numbers_of (c.args.pinned.now.floor ∷ c.args.pinned.now.live.items) in let mid = c.loop-i.committed.items in let after = c.decide_version.new.committed.items in record {
-      continues = continues_on c.args.store.now s c.loop-i.seat c.decide_version.new.seat s.knows.participant k.continues d.continues;
+      continues = continues_still c.args.store.now s c.loop-i.seat c.decide_version.new.seat s.knows.participant k.continues d.continues;
       same = d.same ∙ k.same;
       decided = subst (λ (ps : List ℕ). Decides seen ps ns [] after) (sym (mapped_next (λ (v : Version). v.number) versions i x lt is))
           (then_versions seen [] mid after (version_numbers (take i versions)) (x.number ∷ []) ns k.decided (subst (λ (y : Participant × Version). Decides y.0.seen (y.1.number ∷ []) ns mid after) (λ j. (k.same j, sym is j)) d.decided));

@@ -4,7 +4,7 @@ use Rattle.wp_core.specs.Lists.{IsIn}
 use Rattle.wp_core.specs.World.{Participant}
 use Rattle.wp_read.specs.Registers.{numbers_of}
 use Rattle.wp_maint.specs.Decided.{AreSeen, Decides, version_numbers}
-use Rattle.wp_maint.proofs.Pinning.{continues_on}
+use Rattle.wp_shared.proofs.Onward.{continues_still}
 use Rattle.wp_maint.proofs.decided.decide_tables.Goals as goal
 
 pub decide_each-requires-clause-free : goal.decide_each-requires-clause-free
@@ -17,13 +17,13 @@ pub decide_each-requires-clause-seen : goal.decide_each-requires-clause-seen
 decide_each-requires-clause-seen g c = subst (λ (y : Participant × List Version). AreSeen y.0.seen y.1) (λ j. (sym c.tabled.ensures.same j, sym c.as_slice.ensures.value j)) c.in_ok-versions.ensures.seen
 
 pub returns-in_err-committed-clause-continues : goal.returns-in_err-committed-clause-continues
-returns-in_err-committed-clause-continues g c = let s = c.args.seat.now in continues_on c.args.store.now s c.tabled.new.seat c.decide_each.new.seat s.knows.participant c.tabled.ensures.continues c.decide_each.ensures.continues
+returns-in_err-committed-clause-continues g c = let s = c.args.seat.now in continues_still c.args.store.now s c.tabled.new.seat c.decide_each.new.seat s.knows.participant c.tabled.ensures.continues c.decide_each.ensures.continues
 
 pub returns-in_err-committed-clause-same : goal.returns-in_err-committed-clause-same
 returns-in_err-committed-clause-same g c = c.decide_each.ensures.same ∙ c.tabled.ensures.same
 
 pub returns-clause-continues : goal.returns-clause-continues
-returns-clause-continues g c = let s = c.args.seat.now in continues_on c.args.store.now s c.tabled.new.seat c.decide_each.new.seat s.knows.participant c.tabled.ensures.continues c.decide_each.ensures.continues
+returns-clause-continues g c = let s = c.args.seat.now in continues_still c.args.store.now s c.tabled.new.seat c.decide_each.new.seat s.knows.participant c.tabled.ensures.continues c.decide_each.ensures.continues
 
 pub returns-clause-same : goal.returns-clause-same
 returns-clause-same g c = c.decide_each.ensures.same ∙ c.tabled.ensures.same

@@ -7,7 +7,7 @@ use Rattle.wp_core.specs.World.{Participant}
 use Rattle.wp_read.specs.Registers.{numbers_of}
 use Rattle.wp_maint.specs.Decided.{Decides}
 use Rattle.wp_maint.proofs.Decisions.{then_one}
-use Rattle.wp_maint.proofs.Pinning.{continues_on}
+use Rattle.wp_shared.proofs.Onward.{continues_still}
 use Rattle.wp_maint.proofs.decided.decide_version.Goals as goal
 
 pub decide_at_each-requires-clause-pinned : goal.decide_at_each-requires-clause-pinned
@@ -26,7 +26,7 @@ decide_at-requires-clause-version g c low = let within = (c.requires.pinned c.ar
 pub returns-clause-continues : goal.returns-clause-continues
 returns-clause-continues g c =
     let s = c.args.seat.now in
-    continues_on c.args.store.now s c.decide_at_each.new.seat c.decide_at.new.seat s.knows.participant c.decide_at_each.ensures.continues c.decide_at.ensures.continues
+    continues_still c.args.store.now s c.decide_at_each.new.seat c.decide_at.new.seat s.knows.participant c.decide_at_each.ensures.continues c.decide_at.ensures.continues
 
 pub returns-clause-same : goal.returns-clause-same
 returns-clause-same g c = c.decide_at.ensures.same ∙ c.decide_at_each.ensures.same

@@ -1,12 +1,15 @@
-use Rattle.std.proofs.Common.{◌∷◌, [], refl, sym, subst, ap, ◌∙◌}
+use Rattle.std.proofs.Common.{◌∷◌, [], refl, sym, subst, ap}
 use Rattle.wp_core.specs.Turns.{write_turn}
 use Rattle.wp_core.specs.Tables.{installed}
 use Rattle.wp_core.specs.World.{Participant}
+use Rattle.wp_shared.specs.Calls.{GoesOnAs}
+use Rattle.wp_shared.specs.Notes.{is_under, seeing}
 use Rattle.wp_shared.specs.Seats.{SeatState}
+use Rattle.wp_shared.proofs.Onward.{starts_same, loose_under, goes_still}
 use Rattle.wp_maint.specs.Flush.{Freezes}
-use Rattle.wp_maint.specs.Holding.{is_under, seeing, GoesOnAs}
 use Rattle.wp_maint.proofs.Found.{held_first}
-use Rattle.wp_maint.proofs.Onward.{starts_same, under_free, goes_seeing, goes_more, goes_still, found_nothing, holds_being, settled_being, settled_on, seat_still, saw_so, flushes_so}
+use Rattle.wp_maint.proofs.Onward.{goes_saw, goes_more, found_nothing, holds_being, settled_being, settled_on, seat_still, saw_so, flushes_so}
+use Rattle.wp_maint.proofs.StillTabled.{still_edits}
 use Rattle.wp_maint.proofs.flushing.flush_running.Goals as goal
 
 pub find_edits-requires-clause-held : goal.find_edits-requires-clause-held
@@ -25,19 +28,13 @@ returns-in_default-clause-settled g c =
 pub returns-in_default-clause-says : goal.returns-in_default-clause-says
 returns-in_default-clause-says g c =
     let s = c.args.seat.now in let u = c.freeze_all.new.seat in
-    goes_seeing s u u.knows.participant.seen (is_under write_turn) (installed c.args.edits.now.table ∷ []) s.turns c.freeze_all.ensures.goes c.freeze_all.ensures.grown (under_free write_turn)
+    goes_saw s u (is_under write_turn) (installed c.args.edits.now.table ∷ []) s.turns c.freeze_all.ensures.goes c.freeze_all.ensures.grown (loose_under write_turn)
 
 pub returns-in_default-found-clause-holds : goal.returns-in_default-found-clause-holds
 returns-in_default-found-clause-holds g c =
     let z = c.args.store.now in let s = c.args.seat.now in let u = c.freeze_all.new.seat in let v = c.find_edits.new.seat in let e = c.args.edits.now.table in
     let same = c.freeze_all.ensures.goes.same in let k = c.find_edits.ensures e (held_first u e (ap (λ (x : SeatState). x.knows.held) same)) in
-    holds_being z u v _ k.is c.args.edits.now (record {
-      same_table = ap (λ (x : SeatState). x.table) same ∙ c.requires.holds.same_table;
-      live = ap (λ (x : SeatState). x.knows.live) same ∙ c.requires.holds.live;
-      held = ap (λ (x : SeatState). x.knows.held) same;
-      turns = ap (λ (x : SeatState). x.turns) same ∙ c.requires.holds.turns;
-      of_store = c.requires.holds.of_store;
-    })
+    holds_being z u v _ k.is c.args.edits.now (still_edits c.requires.holds c.freeze_all.ensures.goes)
 
 pub returns-in_default-found-clause-settled : goal.returns-in_default-found-clause-settled
 returns-in_default-found-clause-settled g c =
@@ -48,14 +45,14 @@ returns-in_default-found-clause-settled g c =
 pub returns-in_default-found-clause-says : goal.returns-in_default-found-clause-says
 returns-in_default-found-clause-says g c =
     let z = c.args.store.now in let s = c.args.seat.now in let u = c.freeze_all.new.seat in let v = c.find_edits.new.seat in let e = c.args.edits.now.table in
-    let first = goes_seeing s u u.knows.participant.seen (is_under write_turn) (installed e ∷ []) s.turns c.freeze_all.ensures.goes c.freeze_all.ensures.grown (under_free write_turn) in
+    let first = goes_saw s u (is_under write_turn) (installed e ∷ []) s.turns c.freeze_all.ensures.goes c.freeze_all.ensures.grown (loose_under write_turn) in
     let k = c.find_edits.ensures e (held_first u e (ap (λ (x : SeatState). x.knows.held) c.freeze_all.ensures.goes.same)) in
     found_nothing z s u v e first k c.requires.running c.freeze_all.ensures.whole (subst (Freezes u.knows e) c.in_default-found.is c.in-Ok.ensures.frozen)
 
 pub returns-clause-says : goal.returns-clause-says
 returns-clause-says g c =
     let s = c.args.seat.now in let u = c.freeze_all.new.seat in let v = c.flush_frozen.new.seat in let e = c.args.edits.now.table in
-    let first = goes_seeing s u u.knows.participant.seen (is_under write_turn) (installed e ∷ []) s.turns c.freeze_all.ensures.goes c.freeze_all.ensures.grown (under_free write_turn) in
+    let first = goes_saw s u (is_under write_turn) (installed e ∷ []) s.turns c.freeze_all.ensures.goes c.freeze_all.ensures.grown (loose_under write_turn) in
     flushes_so (GoesOnAs u v) (GoesOnAs s v) c.args.store.now s u v v e (seat_still s u s.knows.participant first) (ap (λ (p : Participant). p.past) first.participant) c.freeze_all.ensures.grown refl (starts_same v.knows.participant.seen) (goes_more s u v s.knows.participant first) (goes_still s u v s.knows.participant first) refl c.flush_frozen.result c.flush_frozen.ensures.says
 
 pub flush_frozen-requires-clause-whole : goal.flush_frozen-requires-clause-whole

@@ -6,8 +6,9 @@ use Rattle.wp_core.specs.Views.{tables_failed}
 use Rattle.wp_core.specs.Views as event
 use Rattle.wp_rule.specs.Knows.{KnowsInstalled}
 use Rattle.wp_parts.specs.Installs.{HadCause, with_table, IsRefused, SurvivesInstall}
+use Rattle.wp_shared.specs.Notes.{no_fact}
 use Rattle.wp_maint.specs.Finding.{Changes}
-use Rattle.wp_maint.specs.Holding.{no_fact, is_of_flushed}
+use Rattle.wp_maint.specs.Holding.{is_of_flushed}
 use Rattle.wp_maint.proofs.Found.{failed_last}
 use Rattle.wp_maint.proofs.Installed.{same_edit, knows_flush, asked_covered, asked_is, still_holds}
 use Rattle.wp_maint.proofs.flushing.install.Goals as goal
@@ -16,7 +17,7 @@ pub install_flush-requires-clause-held : goal.install_flush-requires-clause-held
 install_flush-requires-clause-held g c =
     let t = c.args.edits.now.table in let f = c.args.frozen.now in let is = c.in-Ok.ensures.installed in let last = ap (λ (x : Installed). x.last) is in (
       t,
-      c.requires.holds.held,
+      c.requires.holds.turn.held,
       is ∙ ap (λ (l : InstalledEdit). record t { last = l }) (sym last),
       subst (λ (l : InstalledEdit). KnowsInstalled c.args.seat.now.knows t l false) (sym last) (knows_flush c.args.seat.now.knows t f c.requires.frozen c.requires.running),
     )
@@ -25,7 +26,7 @@ pub halt-requires-clause-held : goal.halt-requires-clause-held
 halt-requires-clause-held g c =
     let t = c.args.edits.now.table in let f = c.args.frozen.now in
     let k = subst (IsRefused t c.flush.new.self.table (with_table f.versions f.at t.last)) c.in-Err-Fault.field-0-is c.in-Err-Fault.ensures.refused in
-    (t, c.requires.holds.held, k.0, c.requires.running)
+    (t, c.requires.holds.turn.held, k.0, c.requires.running)
 
 pub halt-requires-clause-covered : goal.halt-requires-clause-covered
 halt-requires-clause-covered g c =
@@ -38,11 +39,11 @@ returns-in-Ok-clause-installed g c =
     let z = c.args.store.now in let s = c.args.seat.now in let u = c.install_flush.new.seat in let e = c.args.edits.now in let left = c.flush.new.self in let f = c.args.frozen.now in
     let same = same_edit s.knows e.table f c.requires.frozen in let is = c.in-Ok.ensures.installed in let last = ap (λ (x : Installed). x.last) is in record {
       table = is ∙ ap (λ (l : InstalledEdit). record e.table { last = l }) same;
-      holds = still_holds z s u e left _ is_of_flushed c.requires.holds (c.install_flush.ensures.changes e.table c.requires.holds.held).goes c.in-Ok.ensures.first;
-      changes = subst (λ (l : InstalledEdit). Changes z s e.table left.table (event.installed l false) is_of_flushed u) (last ∙ same) (c.install_flush.ensures.changes e.table c.requires.holds.held);
+      holds = still_holds z s u e left _ is_of_flushed c.requires.holds (c.install_flush.ensures.changes e.table c.requires.holds.turn.held).goes c.in-Ok.ensures.first;
+      changes = subst (λ (l : InstalledEdit). Changes z s e.table left.table (event.installed l false) is_of_flushed u) (last ∙ same) (c.install_flush.ensures.changes e.table c.requires.holds.turn.held);
       survives = subst (SurvivesInstall e left) same c.in-Ok.ensures.survives;
-      edits = c.told.ensures.edits;
-      still_edits = c.told-in-Ok.ensures.edits;
+      edits = c.shows_told.ensures.edits;
+      still_edits = c.shows_told-in-Ok.ensures.edits;
       stands = c.install_flush.ensures.stands;
     }
 
@@ -50,14 +51,14 @@ pub returns-in-Err-Fault-clause-refused : goal.returns-in-Err-Fault-clause-refus
 returns-in-Err-Fault-clause-refused g c =
     let z = c.args.store.now in let s = c.args.seat.now in let u = c.halt.new.seat in let e = c.args.edits.now in let left = c.flush.new.self in let f = c.args.frozen.now in
     let k = subst (IsRefused e.table left.table (with_table f.versions f.at e.table.last)) c.in-Err-Fault.field-0-is c.in-Err-Fault.ensures.refused in
-    let changes = c.halt.ensures.changes e.table c.requires.holds.held in
+    let changes = c.halt.ensures.changes e.table c.requires.holds.turn.held in
     let next = after_flush s.knows.participant.seen e.table.last in record {
       table = k.0;
       asked = asked_is (with_table f.versions f.at e.table.last) next left.table.failed (same_edit s.knows e.table f c.requires.frozen) k.1;
       holds = still_holds z s u e left _ no_fact c.requires.holds changes.goes c.in-Err-Fault.ensures.first;
       changes = subst (λ (l : InstalledEdit). Changes z s e.table left.table (tables_failed l left.table.failed) no_fact u) (ap (λ (x : Installed). x.last) k.0 ∙ failed_last e.table left.table.failed) changes;
-      edits = c.told.ensures.edits;
-      still_edits = c.told-in-Err-Fault.ensures.edits;
+      edits = c.shows_told.ensures.edits;
+      still_edits = c.shows_told-in-Err-Fault.ensures.edits;
       stands = c.halt.ensures.stands;
       fault = subst (HadCause e.set left.set) c.in-Err-Fault.field-0-is c.in-Err-Fault.ensures.cause;
       survives = subst (SurvivesInstall e left) (same_edit s.knows e.table f c.requires.frozen) c.in-Err-Fault.ensures.survives;

@@ -1,4 +1,4 @@
-use Rattle.wp_maint.proofs.Onward.{same_seat}
+use Rattle.wp_shared.proofs.Onward.{goes_none}
 use Rattle.wp_maint.proofs.Rounds.{kept_retained}
 use Rattle.wp_maint.proofs.merging.merge.Goals as goal
 
@@ -11,10 +11,10 @@ pub returns-in_default-clause-settled : goal.returns-in_default-clause-settled
 returns-in_default-clause-settled g c = let r = c.requires.may.replace in (r.gone, (r.store_floor, r.named))
 
 pub returns-in_default-clause-says : goal.returns-in_default-clause-says
-returns-in_default-clause-says g c = same_seat c.args.seat.now
+returns-in_default-clause-says g c = goes_none c.args.seat.now
 
 pub returns-in_default-with_capacity-clause-settled : goal.returns-in_default-with_capacity-clause-settled
 returns-in_default-with_capacity-clause-settled g c = let r = c.requires.may.replace in (r.gone, (r.store_floor, r.named))
 
 pub returns-in_default-with_capacity-clause-says : goal.returns-in_default-with_capacity-clause-says
-returns-in_default-with_capacity-clause-says g c = same_seat c.args.seat.now
+returns-in_default-with_capacity-clause-says g c = goes_none c.args.seat.now

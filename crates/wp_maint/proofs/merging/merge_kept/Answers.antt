@@ -7,7 +7,8 @@ use Rattle.wp_model.specs.Decision.{is_committed}
 use Rattle.std.specs.List.{list_all}
 use Rattle.wp_read.specs.Registers.{numbers_of}
 use Rattle.wp_table.specs.Table.{is_numbered, is_flushed}
-use Rattle.wp_maint.proofs.Merged.{left_kept, replaces_next, has_compacted, settled_refused, not_compacted, only_sorted}
+use Rattle.wp_maint.proofs.Found.{settled_refused}
+use Rattle.wp_maint.proofs.Merged.{left_kept, replaces_next, has_compacted, not_compacted, only_sorted}
 use Rattle.wp_maint.proofs.Replaces.{in_one_is}
 use Rattle.wp_maint.proofs.Retained.{all_retained}
 use Rattle.wp_maint.proofs.merging.merge_kept.Goals as goal
@@ -40,13 +41,13 @@ put_tables-requires-clause-tables g c =
 pub returns-in-Ok-clause-says : goal.returns-in-Ok-clause-says
 returns-in-Ok-clause-says g c =
     rw c.number.ensures
-    (has_compacted c.args.store.now c.args.seat.now c.install.new.seat c.args.edits.now c.install.new.edits c.args.pinned.now.floor.number c.args.pinned.now.live.items c.args.kept c.requires.kept c.in-Ok.ensures.installed c.requires.holds c.in-Ok.ensures.parts c.put_tables.new.seat c.put_tables.ensures.goes c.requires.running c.requires.several (subst (λ (l : List Version). length l ≤ length (later_versions (take c.args.pinned.now.floor.number c.args.seat.now.knows.participant.seen) 0)) (sym c.requires.kept) c.requires.may.few)
+    (has_compacted c.args.store.now c.args.seat.now c.install.new.seat c.args.edits.now c.install.new.edits c.args.pinned.now.floor.number c.args.pinned.now.live.items c.args.kept c.requires.kept c.in-Ok.ensures.installed c.requires.holds c.in-Ok.ensures.parts c.put_tables.new.seat _ c.put_tables.ensures.goes c.requires.running c.requires.several (subst (λ (l : List Version). length l ≤ length (later_versions (take c.args.pinned.now.floor.number c.args.seat.now.knows.participant.seen) 0)) (sym c.requires.kept) c.requires.may.few)
     (length c.as_slice.result.now) (ap (λ (l : List Version). length l) c.as_slice.ensures.value))
 
 pub returns-clause-settled : goal.returns-clause-settled
 returns-clause-settled g c =
     let r = c.requires.may.replace in
-    settled_refused c.args.store.now c.args.seat.now c.install.new.seat c.args.edits.now c.install.new.edits c.args.pinned.now.floor.number c.args.pinned.now.live.items c.args.kept c.requires.kept c.in-Err.why c.in-Err.ensures.refused (r.gone, (r.store_floor, r.named))
+    settled_refused c.args.store.now c.args.seat.now c.install.new.seat c.args.edits.now c.install.new.edits _ c.in-Err.why c.in-Err.ensures.refused (r.gone, (r.store_floor, r.named))
 
 pub returns-clause-says : goal.returns-clause-says
 returns-clause-says g c =

@@ -1,6 +1,6 @@
 use Rattle.wp_core.specs.Views.{frozen_stay}
 use Rattle.wp_parts.specs.Stock.{store_table}
-use Rattle.wp_commits.proofs.Making.{may_note, noted}
+use Rattle.wp_shared.proofs.Noting.{may_note, noted}
 use Rattle.wp_maint.proofs.steps.note_frozen.Goals as goal
 
 pub make_about-requires-clause-may : goal.make_about-requires-clause-may

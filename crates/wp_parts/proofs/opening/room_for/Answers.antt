@@ -6,5 +6,5 @@ delaying-requires g c = rw c.undecided.ensures (undecided_rise c.args.parts.now.
 
 pub returns-clause-prepared : goal.returns-clause-prepared
 returns-clause-prepared g c =
-    let t = c.in_ok-prepared.ensures in
-    record { heap = t.heap; delayed = rw c.undecided.ensures at t.delayed; delayed_commits = t.delayed_commits }
+    let t = c.in_ok-delaying.ensures in
+    rw c.in_ok-new.ensures.ok record { heap = t.heap; delayed = rw c.undecided.ensures at t.delayed; delayed_commits = t.delayed_commits }

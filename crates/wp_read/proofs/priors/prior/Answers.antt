@@ -7,7 +7,7 @@ use Rattle.wp_model.specs.Legal.{change_that_leaves}
 use Rattle.wp_core.specs.Lists.{IsIn}
 use Rattle.wp_core.specs.World.{Participant}
 use Rattle.wp_history.proofs.Prior.{prior_more}
-use Rattle.wp_read.proofs.Rounds.{continues_on}
+use Rattle.wp_shared.proofs.Onward.{continues_still}
 use Rattle.wp_read.proofs.priors.prior.Goals as goal
 
 pub restoring-requires-clause-registered : goal.restoring-requires-clause-registered
@@ -26,7 +26,7 @@ loop-change-preserved g c =
     let is : c.in_ok-restoring.field-0 ≡ change_that_leaves (key_of here) (newest h (key_of here)) = c.in_ok-restoring.ensures.change ∙ (λ i. change_that_leaves (key i) (newest (take n (same i).seen) (key i))) in
     let batch : is_batch items ≡ true = ap is_batch c.changes-change-items.ensures.value ∙ c.changes-change-items.ensures.batch in
     record {
-      continues = continues_on c.args.store.now s c.loop-change.seat t k.continues k.same c.restoring.ensures.continues c.restoring.ensures.same;
+      continues = continues_still c.args.store.now s c.loop-change.seat t s.knows.participant k.continues c.restoring.ensures.continues;
       same = same;
       found = c.in-Ok.ensures.ok ∙ ((λ i. with_change (k.found i) (is i)) ∙ prior_more h items c.loop-change.change-index here lt c.change-item.is batch);
     }

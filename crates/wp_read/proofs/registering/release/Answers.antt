@@ -1,27 +1,31 @@
-use Rattle.std.proofs.Common.{◌≡◌, ◌∷◌, ◌++◌, subst}
+use Rattle.std.proofs.Common.{◌≡◌, [], ◌∷◌, ◌++◌, sym, subst}
+use Rattle.wp_model.specs.Snapshots.{Snapshots, NoOldCommits}
+use Rattle.wp_core.specs.Tables.{snapshots}
 use Rattle.wp_core.specs.Views.{old_flag_stays}
-use Rattle.wp_core.specs.World.{Participant}
-use Rattle.wp_shared.specs.Calls.{Continues}
-use Rattle.wp_read.proofs.HeldTables.{old_flag_noted}
-use Rattle.wp_read.proofs.Seated.{continues_one, taken_participant}
-use Rattle.wp_core.specs.Turns.{snapshots_turn}
-use Rattle.wp_parts.specs.declared.part.Part.TheVariants as part
+use Rattle.wp_shared.specs.Seats.{SeatState}
+use Rattle.wp_shared.specs.Turns.{HoldsTurn}
+use Rattle.wp_shared.proofs.Tables.{knows_to_give}
+use Rattle.wp_shared.proofs.Onward.{holds_on, holds_alone}
+use Rattle.wp_read.proofs.Seated.{continues_one}
 use Rattle.wp_read.proofs.registering.release.Goals as goal
+
+pub release_in-requires-clause-holds : goal.release_in-requires-clause-holds
+release_in-requires-clause-holds g c = subst (λ (m : Snapshots). HoldsTurn c.args.store.now c.take_turn-snaps.new.seat (snapshots m) [] []) (sym c.deref_mut.ensures.value) (holds_alone c.requires.free c.take_turn-snaps.ensures.taken)
 
 pub settle_old_flag-requires-clause-down : goal.settle_old_flag-requires-clause-down
 settle_old_flag-requires-clause-down g c empty =
-    let k = c.release_in.ensures in
-    k.4.notes (old_flag_stays 0) (old_flag_noted c.args.store.now c.args.seat.now c.take_snaps-snaps.new.seat c.take_snaps-snaps.result c.take_snaps-snaps.ensures.taken (c.none_kept-was_empty.ensures.0 empty))
+    let k = c.take_turn-snaps.ensures.taken in
+    c.release_in.ensures.4.goes.notes (old_flag_stays 0) tt (knows_to_give c.take_turn-snaps.new.seat.knows (snapshots c.take_turn-snaps.result.value) k.knows (subst NoOldCommits c.deref.ensures (c.none_kept-was_empty.ensures.0 empty)))
+
+pub give_turn-requires-clause-holds : goal.give_turn-requires-clause-holds
+give_turn-requires-clause-holds g c = ([], [], holds_on c.release_in.ensures.4.holds c.settle_old_flag.ensures.seat)
 
 pub returns : goal.returns
 returns g c =
-    let z = c.args.store.now in let s0 = c.args.seat.now in let s1 = c.take_snaps-snaps.new.seat in let k = c.release_in.ensures in
-    let was = taken_participant z snapshots_turn s0 s1 (part.Snapshots c.take_snaps-snaps.result) c.take_snaps-snaps.ensures.taken in (
+    let k = c.release_in.ensures in let first = c.take_turn-snaps.ensures.taken in let settled = c.settle_old_flag.ensures.seat in (
       k.0,
       k.1,
-      subst (λ (p : Participant). p.registered ≡ k.0 ++ c.args.snapshot ∷ k.1) was k.2,
+      subst (λ (s : SeatState). s.knows.participant.registered ≡ k.0 ++ c.args.snapshot ∷ k.1) first.goes.same k.2,
       k.3,
-      subst (λ (p : Participant). Continues z s0 c.give_snaps.new.seat (record p { registered = k.0 ++ k.1 })) was
-          (continues_one z s0 s1 c.release_in.new.seat c.settle_old_flag.new.seat c.give_snaps.new.seat c.take_snaps-snaps.result c.release_in.new.snaps (record s1.knows.participant { registered = k.0 ++ k.1 }) c.requires.free c.take_snaps-snaps.ensures.same c.take_snaps-snaps.ensures.taken k.4
-          c.settle_old_flag.ensures.seat c.settle_old_flag.ensures.notes c.give_snaps.ensures),
+      continues_one (k.0 ++ k.1) first k.4 settled (c.give_turn.ensures [] [] (holds_on k.4.holds settled)),
     )

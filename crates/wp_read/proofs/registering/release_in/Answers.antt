@@ -1,4 +1,4 @@
-use Rattle.std.proofs.Common.{[], inl, refl, sym, subst}
+use Rattle.std.proofs.Common.{inl, refl, sym, subst}
 use Rattle.wp_core.specs.Lists.{IsIn}
 use Rattle.wp_core.specs.Tables.{snapshots}
 use Rattle.wp_read.specs.Registers.{before_last, behind_last}
@@ -7,10 +7,10 @@ use Rattle.wp_read.proofs.Seated.{released_one}
 use Rattle.wp_read.proofs.registering.release_in.Goals as goal
 
 pub unregister-requires-clause-snapshots : goal.unregister-requires-clause-snapshots
-unregister-requires-clause-snapshots g c = (c.args.snaps.now, subst (IsIn (snapshots c.args.snaps.now)) (sym c.requires.held) (inl refl))
+unregister-requires-clause-snapshots g c = (c.args.snaps.now, subst (IsIn (snapshots c.args.snaps.now)) (sym c.requires.holds.held) (inl refl))
 
 pub withdraw-requires : goal.withdraw-requires
-withdraw-requires g c = let m = c.args.snaps.now in (c.unregister.ensures m (subst (IsIn (snapshots m)) (sym c.requires.held) (inl refl))).live
+withdraw-requires g c = let m = c.args.snaps.now in (c.unregister.ensures m (subst (IsIn (snapshots m)) (sym c.requires.holds.held) (inl refl))).live
 
 pub returns : goal.returns
 returns g c =
@@ -19,5 +19,5 @@ returns g c =
       behind_last r rs,
       split_last r rs c.requires.registered,
       none_behind r rs,
-      released_one c.args.seat.now c.unregister.new.seat (before_last r rs) (behind_last r rs) r m c.withdraw.new.snaps [] (c.unregister.ensures m (subst (IsIn (snapshots m)) (sym c.requires.held) (inl refl))) c.requires.held c.withdraw.ensures,
+      released_one c.args.seat.now c.unregister.new.seat (before_last r rs) (behind_last r rs) r m c.withdraw.new.snaps (c.unregister.ensures m (subst (IsIn (snapshots m)) (sym c.requires.holds.held) (inl refl))) c.requires.holds c.withdraw.ensures,
     )

@@ -1,34 +1,46 @@
-use Rattle.std.proofs.Common.{[], ◌∷◌, sym, ap, ◌∙◌}
+use Rattle.std.proofs.Common.{◌≡◌, List, [], ◌∷◌, length, refl, ap, ◌∙◌}
+use Rattle.std.proofs.lemmas.Result.{IfOk-weaker}
+use Rattle.wp_model.specs.declared.entry.Entry.{Entry}
 use Rattle.wp_core.specs.Reading.{Registration}
-use Rattle.wp_core.specs.Turns.{prepared_turn, snapshots_turn}
-use Rattle.wp_core.specs.World.{Participant}
-use Rattle.wp_read.proofs.Seated.{flag_noted, last_left, delayed_noted, continues_both, taken_participant, taken_made, taken_joined, given_participant}
-use Rattle.wp_read.proofs.Taking.{taken_ok, refused_err, taken_at}
+use Rattle.wp_core.specs.Tables.{prepared}
+use Rattle.wp_read.specs.Registers.{IsTakenAt, IsTaken, registered_by}
+use Rattle.wp_read.proofs.Seated.{took_both, holds_both, holds_changed, gives_snaps, holds_left, gives_tables, seen_both, continues_both}
+use Rattle.wp_read.proofs.Taking.{registered_blind, taken_ok, refused_err, taken_since}
 use Rattle.wp_read.proofs.registering.snapshot.Goals as goal
 
-pub give_snaps-requires-clause-flag : goal.give_snaps-requires-clause-flag
-give_snaps-requires-clause-flag g c = flag_noted c.args.store.now c.args.seat.now c.take_tables-tables.new.seat c.take_snaps-snaps.new.seat c.register_in-taken.new.seat c.register_in-taken.new.seat c.take_snaps-snaps.result c.register_in-taken.new.snaps c.take_tables-tables.result (record c.take_snaps-snaps.new.seat.knows.participant { registered = c.register_in-taken.new.seat.knows.participant.registered }) c.take_tables-tables.ensures.same c.take_tables-tables.ensures.taken c.take_snaps-snaps.ensures.same c.take_snaps-snaps.ensures.taken c.register_in-taken.ensures.changes c.register_in-taken.ensures.kept
+pub register_in-taken-requires : goal.register_in-taken-requires
+register_in-taken-requires g c = record { holds = holds_both c.requires c.take_turn-tables.ensures.taken c.take_turn-snaps.ensures.taken c.deref_mut.ensures.value c.deref.ensures }
 
-pub give_tables-requires-clause-last_taken : goal.give_tables-requires-clause-last_taken
-give_tables-requires-clause-last_taken g c = (_, last_left c.args.store.now c.args.seat.now c.take_tables-tables.new.seat c.take_snaps-snaps.new.seat c.register_in-taken.new.seat c.give_snaps.new.seat c.take_snaps-snaps.result c.register_in-taken.new.snaps c.take_tables-tables.result (record c.take_snaps-snaps.new.seat.knows.participant { registered = c.register_in-taken.new.seat.knows.participant.registered }) c.take_tables-tables.ensures.same c.take_tables-tables.ensures.taken c.take_snaps-snaps.ensures.same c.take_snaps-snaps.ensures.taken c.register_in-taken.ensures.changes c.give_snaps.ensures)
+pub give_turn-requires-clause-holds : goal.give_turn-requires-clause-holds
+give_turn-requires-clause-holds g c = (prepared c.take_turn-tables.result.value ∷ [], 1 ∷ [], holds_changed c.requires c.take_turn-tables.ensures.taken c.take_turn-snaps.ensures.taken c.deref_mut.ensures.value c.deref.ensures c.register_in-taken.ensures.changes)
 
-pub give_tables-requires-clause-flag : goal.give_tables-requires-clause-flag
-give_tables-requires-clause-flag g c = delayed_noted c.args.store.now c.args.seat.now c.take_tables-tables.new.seat c.take_snaps-snaps.new.seat c.register_in-taken.new.seat c.give_snaps.new.seat c.take_snaps-snaps.result c.register_in-taken.new.snaps c.take_tables-tables.result (record c.take_snaps-snaps.new.seat.knows.participant { registered = c.register_in-taken.new.seat.knows.participant.registered }) c.take_tables-tables.ensures.same c.take_tables-tables.ensures.taken c.take_snaps-snaps.ensures.same c.take_snaps-snaps.ensures.taken c.register_in-taken.ensures.changes c.give_snaps.ensures
+pub give_turn-requires-clause-knows : goal.give_turn-requires-clause-knows
+give_turn-requires-clause-knows g c = gives_snaps c.requires c.take_turn-tables.ensures.taken c.take_turn-snaps.ensures.taken c.deref_mut.ensures.value c.deref.ensures c.register_in-taken.ensures.changes c.register_in-taken.ensures.kept
+
+pub give_turn-requires-2-clause-holds : goal.give_turn-requires-2-clause-holds
+give_turn-requires-2-clause-holds g c = ([], [], holds_left c.requires c.take_turn-tables.ensures.taken c.take_turn-snaps.ensures.taken c.deref_mut.ensures.value c.deref.ensures c.register_in-taken.ensures.changes c.give_turn.ensures)
+
+pub give_turn-requires-2-clause-knows : goal.give_turn-requires-2-clause-knows
+give_turn-requires-2-clause-knows g c = gives_tables c.requires c.take_turn-tables.ensures.taken c.take_turn-snaps.ensures.taken c.deref_mut.ensures.value c.deref.ensures c.register_in-taken.ensures.changes c.give_turn.ensures
 
 pub returns-clause-registered : goal.returns-clause-registered
 returns-clause-registered g c =
-    taken_ok c.args.store.now c.args.seat.now c.take_tables-tables.new.seat c.take_snaps-snaps.new.seat c.give_tables.new.seat _ c.register_in-taken.result (λ (r : Registration). r ∷ []) c.take_tables-tables.ensures.taken c.take_snaps-snaps.ensures.taken (continues_both c.args.store.now c.args.seat.now c.take_tables-tables.new.seat c.take_snaps-snaps.new.seat c.register_in-taken.new.seat c.give_snaps.new.seat c.take_snaps-snaps.result c.register_in-taken.new.snaps c.take_tables-tables.result (record c.take_snaps-snaps.new.seat.knows.participant { registered = c.register_in-taken.new.seat.knows.participant.registered }) c.take_tables-tables.ensures.same c.take_tables-tables.ensures.taken c.take_snaps-snaps.ensures.same c.take_snaps-snaps.ensures.taken c.register_in-taken.ensures.changes c.give_snaps.ensures c.give_tables.new.seat c.give_tables.ensures c.requires) c.register_in-taken.ensures.registered
-
-pub returns-clause-taken : goal.returns-clause-taken
-returns-clause-taken g c =
-    let z = c.args.store.now in let s0 = c.args.seat.now in let s1 = c.take_tables-tables.new.seat in let s2 = c.take_snaps-snaps.new.seat in let s3 = c.register_in-taken.new.seat in
-    taken_at z s0 s2 s3.knows.participant.seen c.give_tables.new.seat.knows.participant.seen (c.take_snaps-snaps.ensures.same.1 ∙ c.take_tables-tables.ensures.same.1)
-    (taken_participant z snapshots_turn s1 s2 _ c.take_snaps-snaps.ensures.taken ∙ taken_participant z prepared_turn s0 s1 _ c.take_tables-tables.ensures.taken)
-    (taken_made z snapshots_turn s1 s2 _ c.take_snaps-snaps.ensures.taken ∙ taken_made z prepared_turn s0 s1 _ c.take_tables-tables.ensures.taken)
-    (taken_joined z snapshots_turn s1 s2 _ c.take_snaps-snaps.ensures.taken ∙ taken_joined z prepared_turn s0 s1 _ c.take_tables-tables.ensures.taken)
-    (sym (ap (λ (p : Participant). p.seen) (given_participant z c.give_snaps.new.seat c.give_tables.new.seat _ c.give_tables.ensures ∙ given_participant z s3 c.give_snaps.new.seat _ c.give_snaps.ensures)))
-    c.take_snaps-snaps.result c.register_in-taken.result c.register_in-taken.ensures.taken
+    let k1 = c.take_turn-tables.ensures.taken in let k2 = c.take_turn-snaps.ensures.taken in let lent = c.deref_mut.ensures.value in let shown = c.deref.ensures in let k3 = c.register_in-taken.ensures.changes in
+    taken_ok c.args.store.now c.args.seat.now c.give_turn-2.new.seat (λ (r : Registration). r ∷ []) c.register_in-taken.result (continues_both c.requires k1 k2 lent shown k3 c.give_turn.ensures c.give_turn-2.ensures (registered_by (λ (r : Registration). r ∷ []) c.register_in-taken.result) (registered_blind (λ (r : Registration). r ∷ []) c.register_in-taken.result) refl)
 
 pub returns-clause-refused : goal.returns-clause-refused
 returns-clause-refused g c =
-    refused_err c.args.store.now c.args.seat.now c.take_tables-tables.new.seat c.take_snaps-snaps.new.seat c.give_tables.new.seat _ c.register_in-taken.result (λ (r : Registration). r ∷ []) c.take_tables-tables.ensures.taken c.take_snaps-snaps.ensures.taken (continues_both c.args.store.now c.args.seat.now c.take_tables-tables.new.seat c.take_snaps-snaps.new.seat c.register_in-taken.new.seat c.give_snaps.new.seat c.take_snaps-snaps.result c.register_in-taken.new.snaps c.take_tables-tables.result (record c.take_snaps-snaps.new.seat.knows.participant { registered = c.register_in-taken.new.seat.knows.participant.registered }) c.take_tables-tables.ensures.same c.take_tables-tables.ensures.taken c.take_snaps-snaps.ensures.same c.take_snaps-snaps.ensures.taken c.register_in-taken.ensures.changes c.give_snaps.ensures c.give_tables.new.seat c.give_tables.ensures c.requires) c.register_in-taken.ensures.refused
+    let k1 = c.take_turn-tables.ensures.taken in let k2 = c.take_turn-snaps.ensures.taken in let lent = c.deref_mut.ensures.value in let shown = c.deref.ensures in let k3 = c.register_in-taken.ensures.changes in
+    refused_err c.args.store.now c.args.seat.now c.give_turn-2.new.seat (λ (r : Registration). r ∷ []) c.register_in-taken.result (continues_both c.requires k1 k2 lent shown k3 c.give_turn.ensures c.give_turn-2.ensures (registered_by (λ (r : Registration). r ∷ []) c.register_in-taken.result) (registered_blind (λ (r : Registration). r ∷ []) c.register_in-taken.result) refl)
+
+pub returns-clause-number : goal.returns-clause-number
+returns-clause-number g c =
+    let k1 = c.take_turn-tables.ensures.taken in let k2 = c.take_turn-snaps.ensures.taken in let lent = c.deref_mut.ensures.value in let shown = c.deref.ensures in let k3 = c.register_in-taken.ensures.changes in
+    let seen = c.register_in-taken.new.seat.knows.participant.seen in let last = c.give_turn-2.new.seat.knows.participant.seen in
+    IfOk-weaker c.register_in-taken.result (λ r. r.number ≡ length seen) (λ r. r.number ≡ length last) (λ r number. number ∙ ap (λ (h : List Entry). length h) (seen_both c.requires k1 k2 lent shown k3 c.give_turn.ensures c.give_turn-2.ensures)) c.register_in-taken.ensures.number
+
+pub returns-clause-taken : goal.returns-clause-taken
+returns-clause-taken g c =
+    let k1 = c.take_turn-tables.ensures.taken in let k2 = c.take_turn-snaps.ensures.taken in let lent = c.deref_mut.ensures.value in let shown = c.deref.ensures in let k3 = c.register_in-taken.ensures.changes in
+    let z = c.args.store.now in let s0 = c.args.seat.now in let s2 = c.take_turn-snaps.new.seat in let m = c.deref_mut.result.now in let seen = c.register_in-taken.new.seat.knows.participant.seen in let last = c.give_turn-2.new.seat.knows.participant.seen in
+    IfOk-weaker c.register_in-taken.result (λ r. IsTakenAt z s2 seen r m) (λ r. IsTaken z s0 last r) (λ r k. (m, taken_since z s0 s2 _ _ _ (took_both c.requires k1 k2).same seen last (seen_both c.requires k1 k2 lent shown k3 c.give_turn.ensures c.give_turn-2.ensures) r m k)) c.register_in-taken.ensures.taken

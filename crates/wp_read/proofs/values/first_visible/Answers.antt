@@ -4,8 +4,9 @@ use Rattle.wp_model.specs.declared.version.Version.{Version}
 use Rattle.wp_model.specs.Decision.{IsCommittedAt}
 use Rattle.wp_core.specs.Sound.Snapshots.{has_versions_at}
 use Rattle.wp_core.specs.World.{Participant}
+use Rattle.wp_shared.proofs.Onward.{continues_still}
 use Rattle.wp_read.specs.Values.{NoneCommitted}
-use Rattle.wp_read.proofs.Rounds.{continues_on, is_in, none_more, first_is}
+use Rattle.wp_read.proofs.Rounds.{is_in, none_more, first_is}
 use Rattle.wp_read.proofs.values.first_visible.Goals as goal
 
 pub is_visible-requires-clause-version : goal.is_visible-requires-clause-version
@@ -23,7 +24,7 @@ returns-then-is_visible-clause-first g c =
 pub loop-i-preserved : goal.loop-i-preserved
 loop-i-preserved g c =
     let lt : c.loop-i.i < length c.args.found.now = omega arith in let k = c.loop-i.invariant in record {
-      continues = continues_on c.args.store.now c.args.seat.now c.loop-i.seat c.is_visible.new.seat k.continues k.same c.is_visible.ensures.continues c.is_visible.ensures.same;
+      continues = continues_still c.args.store.now c.args.seat.now c.loop-i.seat c.is_visible.new.seat c.args.seat.now.knows.participant k.continues c.is_visible.ensures.continues;
       same = c.is_visible.ensures.same ∙ k.same;
       none = none_more c.args.seat.now.knows.participant.seen c.args.snapshot.now.number c.args.found.now c.loop-i.i c.index-found-i.result lt c.index-found-i.is k.none
           (subst (λ (y : Participant × Version). IsCommittedAt y.0.seen y.1.number c.args.snapshot.now.number → ⊥) (λ i. (k.same i, (sym c.index-found-i.is) i)) c.if-is_visible.ensures.right);

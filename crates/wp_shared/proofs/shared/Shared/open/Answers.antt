@@ -2,7 +2,7 @@ use Rattle.std.proofs.Common.{List, sym, subst}
 use Rattle.wp_model.specs.declared.entry.Entry.{Entry}
 use Rattle.wp_open.specs.Opens.{OpensTo, AllKnown, installed_of}
 use Rattle.wp_open.specs.Parts.{PartsOpened}
-use Rattle.wp_shared.specs.Devices.{DevicesLeft, devices_of}
+use Rattle.wp_parts.specs.Devices.{DevicesLeft, devices_of}
 use Rattle.wp_shared.proofs.Opened.{refused_late}
 use Rattle.wp_shared.proofs.shared.Shared.open.Goals as goal
 

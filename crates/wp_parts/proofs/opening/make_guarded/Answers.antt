@@ -1,0 +1,16 @@
+use Rattle.wp_parts.proofs.FlushedVersions.{tables_flushed}
+use Rattle.wp_parts.proofs.OpeningLemmas.{rests}
+use Rattle.wp_parts.proofs.opening.make_guarded.Goals as goal
+
+pub new-edits-requires-clause-stores : goal.new-edits-requires-clause-stores
+new-edits-requires-clause-stores g c =
+    let o = c.requires.opened in
+    let parts = c.args.parts in
+    let at_rest = rests o.0 o.1 o.2 o.3 parts.wal parts.history.entries parts.manifest _ parts.store o.4 in
+    (o.4.installed.edits, rw c.requires.tables (c.new-2.ensures.stores o.4.installed.edits parts.store.tables o.4.installed.stores at_rest))
+
+pub new-edits-requires-clause-flushed : goal.new-edits-requires-clause-flushed
+new-edits-requires-clause-flushed g c =
+    let o = c.requires.opened in
+    let parts = c.args.parts in
+    rw (c.new-2.ensures.set, c.requires.tables) (tables_flushed parts.wal.id parts.manifest.edit.flushed parts.store.tables o.4.are)

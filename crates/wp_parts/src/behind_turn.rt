@@ -1,0 +1,247 @@
+//! The values behind the turns, each by the turn that guards it.
+ghost use Rattle.std.specs.Prelude.{◌≡◌, List, Some};
+ghost use Rattle.wp_core.specs.Tables.{Content, writes, prepared, snapshots, store, locks, installed};
+ghost use Rattle.wp_core.specs.Tables as tables;
+ghost use Rattle.wp_core.specs.Turns.{Turn, write_turn, prepared_turn, snapshots_turn, store_turn, locks_turn, tables_turn};
+ghost use Rattle.wp_actor.specs.Turns.{turn_of};
+ghost use Rattle.wp_parts.specs.Parts.{content, tells, log_first, set_first, IsGuardedBy};
+ghost use Rattle.wp_parts.specs.Stock.{store_table};
+ghost use Rattle.wp_parts.specs.declared.part.Part.{Part};
+ghost use Rattle.wp_parts.specs.declared.part.Part.TheVariants as variant;
+
+use crate::edits::Edits;
+use crate::log::Log;
+use crate::part::Part;
+use crate::stock::Stock;
+use wp_locks::Locks;
+use wp_outside::Disk;
+use wp_prepared::Prepared;
+use wp_rule as rule;
+use wp_rule::HoldsPart;
+use wp_snaps::Snaps;
+
+/// A value that lies behind a turn, in a slot as wide as any.
+pub trait BehindTurn<S: HoldsPart>: Sized {
+    /// The turn that guards it.
+    ghost turn: { Turn };
+
+    /// The table of the machine that it is.
+    ghost table: { Self → Content };
+
+    /// Its devices were opened as those of the values behind the turns, of which the list has each as the table was made.
+    ghost is_of: { List S → Self → Type 0 };
+
+    /// Its table is the turn's.
+    ghost of_turn: { (x : Self) → tables.turn_of (table x) ≡ turn };
+
+    /// The turn that guards it.
+    fn turn() -> rule::Turn
+        ensures { turn_of result ≡ turn };
+
+    /// The value of its turn's slot.
+    fn out_of(part: S) -> Box<Self>
+        requires { (c : Content) × (S.content part ≡ Some c) × (tables.turn_of c ≡ turn) }
+        ensures table { S.content part ≡ Some (table result.value) }
+        ensures of { (first : List S) → S.tells first part → is_of first result.value };
+
+    /// The value, for its turn's slot. What a crash leaves of its devices is as its table says.
+    fn into_part(value: Box<Self>) -> S
+        ensures table { S.content result ≡ Some (table value.value) }
+        ensures tells { (first : List S) → is_of first value.value → S.tells first result };
+}
+
+impl<D: Disk> BehindTurn<Part<D>> for Log<D> {
+    ghost turn = { write_turn };
+
+    ghost table = { λ x. writes x.table };
+
+    ghost is_of = { λ first x. log_first first ≡ Some x.first };
+
+    ghost of_turn = { λ x i. write_turn };
+
+    fn turn() -> rule::Turn {
+        rule::Turn::Write
+    }
+
+    fn out_of(part: Part<D>) -> Box<Log<D>>
+        requires { IsGuardedBy write_turn part }
+        ensures table { content part ≡ Some (writes result.value.table) }
+        ensures of { (first : List (Part D)) → tells first part → log_first first ≡ Some result.value.first }
+        ensures exact { part ≡ variant.Write result }
+    {
+        match part {
+            Part::Write(value) => value,
+            _ => unreachable!(),
+        }
+    }
+
+    fn into_part(value: Box<Log<D>>) -> Part<D>
+        ensures table { content result ≡ Some (writes value.value.table) }
+        ensures tells { (first : List (Part D)) → log_first first ≡ Some value.value.first → tells first result }
+    {
+        value.shows_told();
+        Part::Write(value)
+    }
+}
+
+impl<D: Disk> BehindTurn<Part<D>> for Prepared {
+    ghost turn = { prepared_turn };
+
+    ghost table = { λ x. prepared x };
+
+    ghost is_of = { λ first x. Unit {0} };
+
+    ghost of_turn = { λ x i. prepared_turn };
+
+    fn turn() -> rule::Turn {
+        rule::Turn::Prepared
+    }
+
+    fn out_of(part: Part<D>) -> Box<Prepared>
+        requires { IsGuardedBy prepared_turn part }
+        ensures table { content part ≡ Some (prepared result.value) }
+        ensures of { (first : List (Part D)) → tells first part → Unit {0} }
+    {
+        match part {
+            Part::Prepared(value) => value,
+            _ => unreachable!(),
+        }
+    }
+
+    fn into_part(value: Box<Prepared>) -> Part<D>
+        ensures table { content result ≡ Some (prepared value.value) }
+        ensures tells { (first : List (Part D)) → Unit {0} → tells first result }
+    {
+        Part::Prepared(value)
+    }
+}
+
+impl<D: Disk> BehindTurn<Part<D>> for Snaps {
+    ghost turn = { snapshots_turn };
+
+    ghost table = { λ x. snapshots x };
+
+    ghost is_of = { λ first x. Unit {0} };
+
+    ghost of_turn = { λ x i. snapshots_turn };
+
+    fn turn() -> rule::Turn {
+        rule::Turn::Snapshots
+    }
+
+    fn out_of(part: Part<D>) -> Box<Snaps>
+        requires { IsGuardedBy snapshots_turn part }
+        ensures table { content part ≡ Some (snapshots result.value) }
+        ensures of { (first : List (Part D)) → tells first part → Unit {0} }
+    {
+        match part {
+            Part::Snapshots(value) => value,
+            _ => unreachable!(),
+        }
+    }
+
+    fn into_part(value: Box<Snaps>) -> Part<D>
+        ensures table { content result ≡ Some (snapshots value.value) }
+        ensures tells { (first : List (Part D)) → Unit {0} → tells first result }
+    {
+        Part::Snapshots(value)
+    }
+}
+
+impl<D: Disk> BehindTurn<Part<D>> for Stock {
+    ghost turn = { store_turn };
+
+    ghost table = { λ x. store (store_table x) };
+
+    ghost is_of = { λ first x. Unit {0} };
+
+    ghost of_turn = { λ x i. store_turn };
+
+    fn turn() -> rule::Turn {
+        rule::Turn::Store
+    }
+
+    fn out_of(part: Part<D>) -> Box<Stock>
+        requires { IsGuardedBy store_turn part }
+        ensures table { content part ≡ Some (store (store_table result.value)) }
+        ensures of { (first : List (Part D)) → tells first part → Unit {0} }
+    {
+        match part {
+            Part::Store(value) => value,
+            _ => unreachable!(),
+        }
+    }
+
+    fn into_part(value: Box<Stock>) -> Part<D>
+        ensures table { content result ≡ Some (store (store_table value.value)) }
+        ensures tells { (first : List (Part D)) → Unit {0} → tells first result }
+    {
+        Part::Store(value)
+    }
+}
+
+impl<D: Disk> BehindTurn<Part<D>> for Locks {
+    ghost turn = { locks_turn };
+
+    ghost table = { λ x. locks x };
+
+    ghost is_of = { λ first x. Unit {0} };
+
+    ghost of_turn = { λ x i. locks_turn };
+
+    fn turn() -> rule::Turn {
+        rule::Turn::Locks
+    }
+
+    fn out_of(part: Part<D>) -> Box<Locks>
+        requires { IsGuardedBy locks_turn part }
+        ensures table { content part ≡ Some (locks result.value) }
+        ensures of { (first : List (Part D)) → tells first part → Unit {0} }
+    {
+        match part {
+            Part::Locks(value) => value,
+            _ => unreachable!(),
+        }
+    }
+
+    fn into_part(value: Box<Locks>) -> Part<D>
+        ensures table { content result ≡ Some (locks value.value) }
+        ensures tells { (first : List (Part D)) → Unit {0} → tells first result }
+    {
+        Part::Locks(value)
+    }
+}
+
+impl<D: Disk> BehindTurn<Part<D>> for Edits<D> {
+    ghost turn = { tables_turn };
+
+    ghost table = { λ x. installed x.table };
+
+    ghost is_of = { λ first x. set_first first ≡ Some x.first };
+
+    ghost of_turn = { λ x i. tables_turn };
+
+    fn turn() -> rule::Turn {
+        rule::Turn::Tables
+    }
+
+    fn out_of(part: Part<D>) -> Box<Edits<D>>
+        requires { IsGuardedBy tables_turn part }
+        ensures table { content part ≡ Some (installed result.value.table) }
+        ensures of { (first : List (Part D)) → tells first part → set_first first ≡ Some result.value.first }
+        ensures exact { part ≡ variant.Tables result }
+    {
+        match part {
+            Part::Tables(value) => value,
+            _ => unreachable!(),
+        }
+    }
+
+    fn into_part(value: Box<Edits<D>>) -> Part<D>
+        ensures table { content result ≡ Some (installed value.value.table) }
+        ensures tells { (first : List (Part D)) → set_first first ≡ Some value.value.first → tells first result }
+    {
+        value.shows_told();
+        Part::Tables(value)
+    }
+}

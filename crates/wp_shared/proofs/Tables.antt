@@ -1,0 +1,128 @@
+-- The table of a turn in a world, and what a seat knows of it.
+use Rattle.std.proofs.Common.{◌≡◌, inl, inr, ℕ, ◌≤◌, List, [], length, slice_index, refl, sym, subst, ap, ◌∙◌, Some}
+use Rattle.std.proofs.lemmas.Bool.{cases_lt}
+use Rattle.std.proofs.lemmas.List.{get_or_past}
+use Rattle.wp_judge.specs.Words.{pair_of}
+use Rattle.wp_model.specs.Decision.{decision_of}
+use Rattle.wp_model.specs.LockTables.{LockTables}
+use Rattle.wp_model.specs.PreparedTables.{PreparedTables, NoneDelayed}
+use Rattle.wp_model.specs.Snapshots.{Snapshots, NoOldCommits}
+use Rattle.wp_model.specs.declared.entry.Entry.{Entry}
+use Rattle.wp_model.specs.declared.version.Version.{Version}
+use Rattle.wp_core.specs.Conditions.{MayGive}
+use Rattle.wp_core.specs.Entries.{extended}
+use Rattle.wp_core.specs.IsSound.{IsSound}
+use Rattle.wp_core.specs.Lists.{IsIn}
+use Rattle.wp_core.specs.Steps.{give_turn}
+use Rattle.wp_core.specs.Tables.{Content, WriteTable, StoreTable, Installed, writes, prepared, snapshots, store, locks, installed, turn_of}
+use Rattle.wp_core.specs.Views.{Fact, words_stay, tables_stay, nothing_flushed, delayed_flag_stays, old_flag_stays}
+use Rattle.wp_core.specs.World.{Actor, World, content_of}
+use Rattle.wp_core.proofs.HistoryLaws.{decision_within}
+use Rattle.wp_core.proofs.Tests.{some_none}
+use Rattle.wp_rule.specs.Knows.{Noted}
+use Rattle.wp_rule.specs.Moves.{MayStep}
+use Rattle.wp_rule.specs.Plays.{facts_at}
+use Rattle.wp_rule.specs.Words.{Place, IsAt}
+use Rattle.wp_rule.proofs.Knows.{held_is}
+use Rattle.wp_rule.proofs.Needed.{needed}
+use Rattle.wp_shared.specs.Notes.{ArePublished}
+use Rattle.wp_shared.specs.Turns.{KnowsTaken, KnowsToGive, IsTableOf}
+
+-- ---- which table it is
+
+abbrev writes_in : WriteTable → Content → WriteTable
+writes_in t (writes d) = d
+writes_in t other = t
+
+abbrev prepared_in : PreparedTables → Content → PreparedTables
+prepared_in t (prepared d) = d
+prepared_in t other = t
+
+abbrev snapshots_in : Snapshots → Content → Snapshots
+snapshots_in m (snapshots d) = d
+snapshots_in m other = m
+
+abbrev store_in : StoreTable → Content → StoreTable
+store_in t (store d) = d
+store_in t other = t
+
+abbrev locks_in : LockTables → Content → LockTables
+locks_in t (locks d) = d
+locks_in t other = t
+
+abbrev installed_in : Installed → Content → Installed
+installed_in e (installed d) = d
+installed_in e other = e
+
+pub is_table : (w : World) (table : Content) → content_of w (turn_of table) ≡ table → IsTableOf w table
+is_table w (writes t) e = ap (writes_in t) e
+is_table w (prepared t) e = ap (prepared_in t) e
+is_table w (snapshots m) e = ap (snapshots_in m) e
+is_table w (store t) e = ap (store_in t) e
+is_table w (locks t) e = ap (locks_in t) e
+is_table w (installed d) e = ap (installed_in d) e
+
+-- a table that the seat holds is the world's
+pub held_table : (p : Place) (a : Actor) (w : World) (table : Content) → IsAt p a w → IsIn table a.held → IsTableOf w table
+held_table p a w table k held = is_table w table (held_is p a w table k held).1
+
+-- ---- words of a world in which nothing is pending
+
+pub world_published : (w : World) → IsSound w → w.writes.pending ≡ [] → ArePublished (length w.writes.history) w.cache
+world_published w s none place found at =
+    elim (cases_lt place (length w.cache)) [
+      | inl within ↦
+          let known = s.cache.pairs place found within at in
+          decision_within w.writes.history found.number found.decision (subst (λ (e : List Entry). decision_of (extended w.writes.history e) found.number ≡ Some found.decision) none known.decided)
+      | inr past ↦ let empty : slice_index w.cache place ≡ 0 = get_or_past w.cache place _ past in let no : pair_of 0 ≡ Some found = ap pair_of (sym empty) ∙ at in absurd (some_none found (sym no))
+    ]
+
+-- ---- what is known of it
+
+-- once it is taken
+pub knows_taken : (w : World) (a : Actor) (table : Content) → IsSound w → MayGive w (turn_of table) → IsTableOf w table → ((fact : Fact) → IsIn fact (facts_at (turn_of table) w) → Noted a fact) → KnowsTaken a table
+knows_taken w a (writes t) s may is noted = (
+  ap (λ (d : WriteTable). d.pending) (sym is) ∙ may,
+  record {
+    bound = w.max_evicted;
+    words = w.cache;
+    noted = noted (words_stay w.max_evicted w.cache) (inl refl);
+    are_published = λ place pair there. subst (λ (d : WriteTable). pair.decision ≤ length d.history) is (world_published w s may place pair there);
+  },
+)
+knows_taken w a (prepared t) s may is noted = record {
+  value = w.delayed_flag;
+  noted = noted (delayed_flag_stays w.delayed_flag) (inl refl);
+  empty = λ e. subst NoneDelayed is (s.flags.none_delayed e);
+  down = λ none. may (subst NoneDelayed (sym is) none);
+}
+knows_taken w a (snapshots m) s may is noted = record {
+  value = w.old_flag;
+  noted = noted (old_flag_stays w.old_flag) (inl refl);
+  empty = λ e. subst NoOldCommits is (s.flags.none_kept e);
+  down = λ none. may (subst NoOldCommits (sym is) none);
+}
+knows_taken w a (store t) s may is noted = tt
+knows_taken w a (locks t) s may is noted = tt
+knows_taken w a (installed d) s may is noted = (
+  noted nothing_flushed (inl refl),
+  (w.store.floor, subst (λ (versions : List Version). Noted a (tables_stay versions w.store.floor)) (may.1 ∙ ap (λ (e : Installed). e.last.versions) is) (noted (tables_stay w.store.tables w.store.floor) (inr (inl refl)))),
+)
+
+-- that is enough to give it again
+pub knows_to_give : (a : Actor) (table : Content) → KnowsTaken a table → KnowsToGive a table
+knows_to_give a (writes t) k = k.0
+knows_to_give a (prepared t) k = λ none. subst (λ (n : ℕ). Noted a (delayed_flag_stays n)) (k.down none) k.noted
+knows_to_give a (snapshots m) k = λ none. subst (λ (n : ℕ). Noted a (old_flag_stays n)) (k.down none) k.noted
+knows_to_give a (store t) k = tt
+knows_to_give a (locks t) k = tt
+knows_to_give a (installed d) k = k
+
+-- the turn may be given then
+pub may_give : (p : Place) (a : Actor) (table : Content) → IsIn table a.held → KnowsToGive a table → MayStep p a (give_turn (turn_of table))
+may_give p a (writes t) held known w k = needed p a w k (give_turn (turn_of (writes t))) (record { table = t; held = held; so_is = known })
+may_give p a (prepared t) held known w k = needed p a w k (give_turn (turn_of (prepared t))) (record { table = t; held = held; so_is = known })
+may_give p a (snapshots m) held known w k = needed p a w k (give_turn (turn_of (snapshots m))) (record { table = m; held = held; so_is = known })
+may_give p a (store t) held known w k = needed p a w k (give_turn (turn_of (store t))) (record { table = t; held = held; so_is = tt })
+may_give p a (locks t) held known w k = needed p a w k (give_turn (turn_of (locks t))) (record { table = t; held = held; so_is = tt })
+may_give p a (installed d) held known w k = needed p a w k (give_turn (turn_of (installed d))) (record { table = d; held = held; so_is = known })
