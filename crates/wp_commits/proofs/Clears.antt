@@ -1,20 +1,24 @@
 -- How the steps of clearing a word follow each other.
-use Rattle.std.proofs.Common.{◌≡◌, inl, inr, ℕ, ◌+◌, ◌-◌, ◌/◌, ◌<◌, ◌≤◌, min, max, nat_le, nat_lt, Bool, true, false, cond, List, ◌∷◌, refl, sym, subst, ap, ◌∙◌, Option, Some, None, arith}
+use Rattle.std.proofs.Common.{◌≡◌, inl, inr, ℕ, ◌<◌, ◌≤◌, nat_le, Bool, true, false, true≢false, cond, List, refl, sym, subst, ap, Option, Some, None, arith}
 use Rattle.std.specs.Prelude.{Result, Ok, Err, OnOk, OnErr}
 use Rattle.std.specs.Option.{option_map}
 use Rattle.std.proofs.lemmas.Bool.Decides.{nat_tests}
 use Rattle.wp_model.specs.declared.entry.Entry.{Entry}
 use Rattle.wp_judge.specs.Words.{CommitPair, numbers_of}
 use Rattle.wp_core.specs.Tables.{Content}
-use Rattle.wp_core.specs.Views.{Fact, passed, in_old_commits, apart, words_stay}
+use Rattle.wp_core.specs.Turns.{prepared_turn, snapshots_turn}
+use Rattle.wp_core.specs.Views.{Fact, passed, in_old_commits, apart, words_stay, delayed_flag_stays, old_flag_stays}
 use Rattle.wp_core.specs.World.{Actor}
 use Rattle.wp_core.proofs.Tests.{same_some, some_none}
 use Rattle.wp_rule.specs.Knows.{Noted}
 use Rattle.wp_shared.specs.Seats.{SeatState}
-use Rattle.wp_commits.specs.Bound.{bound_past, raised, bound_after}
+use Rattle.wp_rule.specs.Bound.{bound_past}
+use Rattle.wp_rule.proofs.Bound.{past_reaches}
+use Rattle.wp_commits.specs.Bound.{raised}
 use Rattle.wp_commits.specs.Cleared.{IsThere, IsCleared}
-use Rattle.wp_commits.specs.Notes.{is_flag, is_of_words, is_of_place, noting, GoesOn}
-use Rattle.wp_commits.proofs.Goes.{holds_now, notes, then, wider, flags_too}
+use Rattle.wp_shared.specs.Notes.{is_flag, is_under, noting, GoesOn}
+use Rattle.wp_commits.specs.Notes.{is_of_words, is_of_place}
+use Rattle.wp_shared.proofs.Goes.{holds_now, notes, then, wider}
 
 -- ---- the bound
 
@@ -23,20 +27,6 @@ raised_low cells published bound decision low = let e : nat_le decision bound �
 
 pub raised_high : (cells published bound decision : ℕ) → bound < decision → raised cells published bound decision ≡ bound_past cells published decision
 raised_high cells published bound decision high = let e : nat_le decision bound ≡ false = grind (arith, nat_tests) in ap (λ (b : Bool). cond b bound (bound_past cells published decision)) e
-
-pub past_reaches : (cells published decision : ℕ) → decision ≤ bound_past cells published decision
-past_reaches cells published decision = by_test (nat_lt decision published) refl
-  where
-    by_test : (b : Bool) → nat_lt decision published ≡ b → decision ≤ cond b (min (decision + max (cells / 100) 1) (published - 1)) decision
-    by_test true e = let lt : decision < published = grind (arith, nat_tests) in omega (arith, lt)
-    by_test false e = omega arith
-
-pub past_published : (cells published decision : ℕ) → decision ≤ published → bound_past cells published decision ≤ published
-past_published cells published decision low = by_test (nat_lt decision published)
-  where
-    by_test : (b : Bool) → cond b (min (decision + max (cells / 100) 1) (published - 1)) decision ≤ published
-    by_test true = omega arith
-    by_test false = low
 
 pub raised_reaches : (cells published bound decision : ℕ) → decision ≤ raised cells published bound decision
 raised_reaches cells published bound decision = by_test (nat_le decision bound) refl
@@ -76,6 +66,29 @@ pub err_any : {T E : Type 0} (r : Result T E) (P : Type 0) → P → OnErr r P
 err_any (Ok x) P p = tt
 err_any (Err e) P p = p
 
+-- ---- which notes a step may end
+
+-- what is no note of words is no flag's
+pub flags_too : (fact : Fact) → is_of_words fact ≡ false → is_flag fact ≡ false
+flags_too (words_stay bound words) e = absurd (true≢false e)
+flags_too (delayed_flag_stays value) e = absurd (true≢false e)
+flags_too (old_flag_stays value) e = absurd (true≢false e)
+flags_too other e = refl
+
+-- what the prepared turn guards alone, and the snapshots turn, are flags
+pub flag_under_prepared : (fact : Fact) → is_flag fact ≡ false → is_under prepared_turn fact ≡ false
+flag_under_prepared (delayed_flag_stays value) e = absurd (true≢false e)
+flag_under_prepared (passed place pair) e = refl
+flag_under_prepared other e = refl
+
+pub flag_under_snapshots : (fact : Fact) → is_flag fact ≡ false → is_under snapshots_turn fact ≡ false
+flag_under_snapshots (old_flag_stays value) e = absurd (true≢false e)
+flag_under_snapshots (passed place pair) e = refl
+flag_under_snapshots other e = refl
+
+pub words_under_prepared : (fact : Fact) → is_of_words fact ≡ false → is_under prepared_turn fact ≡ false
+words_under_prepared fact e = flag_under_prepared fact (flags_too fact e)
+
 -- ---- one after another
 
 module _ (s t u v : SeatState) where
@@ -103,11 +116,6 @@ still_cleared test s t h m place less k words (inl empty) = let w = words empty.
 still_cleared test s t h m place less k words (inr gone) =
     inr (gone.0, (k.noted (passed place gone.0) (less (passed place gone.0) refl) gone.1.0, k.noted (in_old_commits place gone.0) (less (in_old_commits place gone.0) refl) gone.1.1, k.noted (apart place gone.0) (less (apart place gone.0) refl) gone.1.2))
 
--- a pair goes at once where the bound has come to its decision
-pub after_again : (cells published bound : ℕ) (o : Option CommitPair) → bound_after cells published (bound_after cells published bound o) o ≡ bound_after cells published bound o
-after_again cells published bound None = refl
-after_again cells published bound (Some pair) = raised_low cells published (raised cells published bound pair.decision) pair.decision (raised_reaches cells published bound pair.decision)
-
 pub words_in_place : (place : ℕ) (fact : Fact) → is_of_place place fact ≡ false → is_of_words fact ≡ false
 words_in_place place (passed i gone) e = refl
 words_in_place place (in_old_commits i gone) e = refl
@@ -122,9 +130,3 @@ then_put s t u h place place' is held a second =
     let b' : GoesOn (is_of_place place) h s.turns t u =
     subst (λ (x : List Content × List ℕ). GoesOn (is_of_place place) x.0 x.1 t u) (λ i. (holds_now is_of_words s t h s.turns a i, ap (λ (y : SeatState). y.turns) a.same i)) b in
     subst (λ (x : List Content). GoesOn (is_of_place place) x s.turns s u) (sym held) (then (is_of_place place) s t u h h s.turns s.turns (wider is_of_words s t u (is_of_place place) h s.turns (words_in_place place) a) b')
-
-pub first_is : (xs ps qs : List ℕ) (p q : ℕ) → xs ≡ p ∷ ps → xs ≡ q ∷ qs → p ≡ q
-first_is xs ps qs p q one two = let e : p ∷ ps ≡ q ∷ qs = sym one ∙ two in cc
-
-pub others_are : (xs ps qs : List ℕ) (p q : ℕ) → xs ≡ p ∷ ps → xs ≡ q ∷ qs → ps ≡ qs
-others_are xs ps qs p q one two = let e : p ∷ ps ≡ q ∷ qs = sym one ∙ two in cc

@@ -1,5 +1,5 @@
 -- The prepared tables while the bound rises, and while a pair becomes a delayed commit.
-use Rattle.std.proofs.Common.{◌≡◌, ◌≢◌, inl, inr, ◌⊎◌, ℕ, ◌<◌, ◌≤◌, nat_le, nat_lt, Bool, true, false, true≢false, not, cond, ◌||◌, ◌&&◌, List, [], ◌∷◌, length, refl, sym, subst, ap, ◌∙◌, Some, None, arith}
+use Rattle.std.proofs.Common.{◌≡◌, ◌≢◌, inl, inr, ◌⊎◌, ℕ, ◌<◌, nat_le, nat_lt, Bool, true, false, true≢false, not, cond, ◌||◌, ◌&&◌, List, [], ◌∷◌, length, refl, sym, subst, ap, ◌∙◌, Some, None, arith}
 use Rattle.std.proofs.lemmas.Bool.Decides.{nat_tests}
 use native.Mathlib.Decide.{ℕ_discrete}
 use mathlib.Core.Logic.{dite}
@@ -11,33 +11,33 @@ use Rattle.std.specs.FinSet.{nat_cmp-IsAntisymmetric}
 use Rattle.std.specs.FinMap as finite
 use Rattle.wp_model.specs.declared.entry.Entry.{Entry}
 use Rattle.wp_model.specs.Decision.{decision_of}
-use Rattle.wp_model.specs.PreparedTables.{PreparedTables, is_prepared, commits_with}
+use Rattle.wp_model.specs.PreparedTables.{PreparedTables, is_prepared, commits_with, NoneDelayed}
 use Rattle.wp_judge.specs.Words.{CommitPair}
 use Rattle.wp_core.specs.Changes.{held_with}
 use Rattle.wp_core.specs.Lists.{IsIn}
 use Rattle.wp_core.specs.Notes.{ends}
 use Rattle.wp_core.specs.Steps.{Step, store_max_evicted, add_delayed_commit}
-use Rattle.wp_core.specs.Tables.{WriteTable, Content, writes, prepared, with_moved, NoneDelayed}
+use Rattle.wp_core.specs.Tables.{WriteTable, Content, writes, prepared, with_moved}
 use Rattle.wp_core.specs.Views.{Fact, words_stay, delayed_flag_stays, old_flag_stays}
 use Rattle.wp_core.specs.World.{Actor, World}
 use Rattle.wp_core.specs.Sound.Views.{IsApart}
-use Rattle.wp_core.proofs.Numbers.{get_inserted, get_inserted_else}
+use Rattle.wp_model.proofs.Numbers.{get_inserted, get_inserted_else}
 use Rattle.wp_core.proofs.Tests.{none_some}
-use Rattle.wp_rule.specs.Knows.{Noted, IsUp}
-use Rattle.wp_rule.specs.Moves.{AreQuiet, AreMet, MayStep, MayMake, Moved, actor_after, storing_max}
+use Rattle.wp_rule.specs.Knows.{Noted, IsUp, IsRise, Knows}
+use Rattle.wp_rule.specs.Moves.{AreQuiet, AreMet, MayMake, Moved, actor_after, storing_max}
 use Rattle.wp_rule.specs.Words.{Place, IsAt}
 use Rattle.wp_rule.proofs.Forgets.{EndsNothing, forgets_nothing}
 use Rattle.wp_rule.proofs.Knows.{held_is, noted_is}
-use Rattle.wp_rule.proofs.Needed.{needed}
 use Rattle.wp_rule.proofs.Outlasting.{outlasts}
 use Rattle.wp_shared.specs.Clients.{KeepClient}
 use Rattle.wp_shared.specs.Seats.{SeatState}
 use Rattle.wp_shared.proofs.OneStep.{becomes}
 use Rattle.wp_commits.specs.Making.{delaying}
-use Rattle.wp_commits.specs.Notes.{is_of_words, GoesOn, FlagTells, DelayedFlagTells}
-use Rattle.wp_commits.proofs.Goes.{goes_with}
-use Rattle.wp_commits.proofs.Held.{writes_are, prepared_are}
-use Rattle.wp_commits.proofs.Turns.{note_ends_none}
+use Rattle.wp_shared.specs.Notes.{GoesOn, FlagTells, DelayedFlagTells}
+use Rattle.wp_commits.specs.Notes.{is_of_words}
+use Rattle.wp_shared.proofs.Goes.{goes_with}
+use Rattle.wp_shared.proofs.Tables.{held_table}
+use Rattle.wp_commits.proofs.Flags.{note_ends_none}
 
 -- ---- the numbers that the bound reaches
 
@@ -88,6 +88,9 @@ up_or_none a flag none f = dite (ℕ_discrete f.value 0) (λ (e : f.value ≡ 0)
 
 -- ---- the bound rises
 
+pub rise_still : (a b : Actor) (cells : ℕ) (d : WriteTable) (m : ℕ) → ((bound : ℕ) (words : List ℕ) → Noted a (words_stay bound words) → Noted b (words_stay bound words)) → IsRise a cells d m → IsRise b cells d m
+rise_still a b cells d m keeps k = let t = k.there in record { pair = k.pair; pending = k.pending; gone = k.gone; there = (t.0, t.1, keeps t.0 t.1 t.2, t.3, t.4, t.5, t.6); past = k.past }
+
 max_ends : (history : List Entry) (words m : ℕ) (fact : Fact) → is_of_words fact ≡ false → ends history words (store_max_evicted m) fact ≡ false
 max_ends history words m (words_stay bound cache) e = absurd (true≢false e)
 max_ends history words m (delayed_flag_stays value) e = absurd (true≢false e)
@@ -95,17 +98,16 @@ max_ends history words m (old_flag_stays value) e = absurd (true≢false e)
 max_ends history words m other e = refl
 
 module _ (p : Place) (s t : SeatState) (d : WriteTable) (old tables : PreparedTables) (m : ℕ) (held : s.knows.held ≡ prepared old ∷ writes d ∷ []) (is : tables ≡ with_moved old m) where
-  pub may_raise : (bound : ℕ) × (words : List ℕ) × Noted s.knows (words_stay bound words) × (bound ≤ m) → m ≤ length d.history → DelayedFlagTells s.knows tables → MayStep p s.knows (store_max_evicted m)
-  may_raise rises published flag w k =
-      needed p s.knows w k (store_max_evicted m) (record {
-        table = d;
-        held = subst (IsIn (writes d)) (sym held) (inr (inl refl));
-        so_is = record {
-          table = old;
-          held = subst (IsIn (prepared old)) (sym held) (inl refl);
-          so_is = ((rises.0, rises.1, rises.2, rises.3), published, reached (up_or_none s.knows delayed_flag_stays (NoneDelayed tables) flag));
-        };
-      })
+  pub may_raise : IsRise s.knows p.cells d m → DelayedFlagTells s.knows tables → Knows p s.knows (store_max_evicted m)
+  may_raise rises flag = record {
+    table = d;
+    held = subst (IsIn (writes d)) (sym held) (inr (inl refl));
+    so_is = record {
+      table = old;
+      held = subst (IsIn (prepared old)) (sym held) (inl refl);
+      so_is = (rises, reached (up_or_none s.knows delayed_flag_stays (NoneDelayed tables) flag));
+    };
+  }
     where
       reached : IsUp s.knows delayed_flag_stays ⊎ NoneDelayed tables → IsUp s.knows delayed_flag_stays ⊎ ((q : ℕ) → set.contains old.heap q ≡ true → m < q)
       reached (inl up) = inl up
@@ -114,7 +116,7 @@ module _ (p : Place) (s t : SeatState) (d : WriteTable) (old tables : PreparedTa
   module _ (so : World → Type 0) (same : (t.table ≡ s.table) × (t.by ≡ s.by) × (t.turns ≡ s.turns)) (moved : Moved p (storing_max m) so s.knows t.knows) where
     held_now : (w : World) → IsAt p s.knows w → held_with s.knows.held (prepared (with_moved w.prepared m)) ≡ prepared tables ∷ writes d ∷ []
     held_now w k =
-        let table = prepared_are p s.knows w k old (subst (IsIn (prepared old)) (sym held) (inl refl)) in
+        let table = held_table p s.knows w (prepared old) k (subst (IsIn (prepared old)) (sym held) (inl refl)) in
         ap (λ (h : List Content). held_with h (prepared (with_moved w.prepared m))) held ∙ ap (λ (x : PreparedTables). prepared x ∷ writes d ∷ []) (ap (λ (x : PreparedTables). with_moved x m) table ∙ sym is)
 
     keeps : (fact : Fact) → is_of_words fact ≡ false → Noted s.knows fact → Noted t.knows fact
@@ -173,13 +175,13 @@ module _ (place : Place) (s t : SeatState) (d : WriteTable) (old tables : Prepar
   steps_if b = cond b (add_delayed_commit (record { number = p; decision = c }) ∷ []) []
 
   table_is : (w : World) → IsAt place s.knows w → w.prepared ≡ old
-  table_is w k = prepared_are place s.knows w k old (subst (IsIn (prepared old)) (sym held) (inl refl))
+  table_is w k = held_table place s.knows w (prepared old) k (subst (IsIn (prepared old)) (sym held) (inl refl))
 
   pub may_delay : decision_of d.history p ≡ Some c → DelayedFlagTells s.knows tables → MayMake place s.knows (delaying (record { number = p; decision = c }))
   may_delay decided flag w k = by_test (is_prepared w.prepared p) refl
     where
       history_is : w.writes ≡ d
-      history_is = writes_are place s.knows w k d (subst (IsIn (writes d)) (sym held) (inr (inl refl)))
+      history_is = held_table place s.knows w (writes d) k (subst (IsIn (writes d)) (sym held) (inr (inl refl)))
 
       up : is_prepared w.prepared p ≡ true → w.delayed_flag ≡ 0 → ⊥
       up there zero_flag =

@@ -34,7 +34,7 @@ use Rattle.wp_rule.proofs.Knows.{at_sound, held_is, noted_is}
 use Rattle.wp_rule.proofs.Needed.{guarded}
 use Rattle.wp_shared.specs.Seats.{SeatState}
 use Rattle.wp_shared.proofs.OneStep.{becomes}
-use Rattle.wp_commits.proofs.Held.{writes_are}
+use Rattle.wp_shared.proofs.Tables.{held_table}
 use Rattle.wp_commits.specs.Cleared.{IsThere}
 use Rattle.wp_commits.specs.Making.{noting_all, noted_all}
 
@@ -82,7 +82,7 @@ not_own history (suc i) is decided = by_entry (slice_get history i) refl is deci
 module _ (at : Place) (a : Actor) (d : WriteTable) (place n : ℕ) (live : a.live ≡ true) (held : IsIn (writes d) a.held) (k : IsThere a d.history place n n) (low : n ≤ k.bound) where
   module _ (w : World) (there : IsAt at a w) where
     table_is : w.writes ≡ d
-    table_is = writes_are at a w there d held
+    table_is = held_table at a w (writes d) there held
 
     holds : Holds w.holders write_turn at.by
     holds = (held_is at a w (writes d) there held).0

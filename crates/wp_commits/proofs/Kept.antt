@@ -9,16 +9,16 @@ use Rattle.std.specs.Cmp.{nat_cmp_total}
 use Rattle.std.specs.FinSet as set
 use Rattle.std.specs.FinMap as finite
 use Rattle.wp_model.specs.Decision.{decision_of}
-use Rattle.wp_model.specs.Snapshots.{Snapshot, Snapshots, is_old_commit, after_keep, overlaps, ChangesWhere}
+use Rattle.wp_model.specs.Snapshots.{Snapshot, Snapshots, is_old_commit, after_keep, overlaps, ChangesWhere, NoOldCommits}
 use Rattle.wp_core.specs.Changes.{held_with, placed, with_old_commit}
 use Rattle.wp_core.specs.Lists.{IsIn}
 use Rattle.wp_core.specs.Steps.{add_old_commit}
-use Rattle.wp_core.specs.Tables.{WriteTable, Content, writes, snapshots, NoOldCommits}
+use Rattle.wp_core.specs.Tables.{WriteTable, Content, writes, snapshots}
 use Rattle.wp_core.specs.Turns.{Holds, snapshots_turn}
 use Rattle.wp_core.specs.Views.{old_flag_stays}
 use Rattle.wp_core.specs.World.{Actor, World}
 use Rattle.wp_core.specs.Sound.Prepared.{IsInOldCommits}
-use Rattle.wp_core.proofs.Numbers.{in_inserted, get_inserted, get_inserted_else, get_removed, get_removed_else}
+use Rattle.wp_model.proofs.Numbers.{in_inserted, get_inserted, get_inserted_else, get_removed, get_removed_else}
 use Rattle.wp_rule.specs.Moves.{AreQuiet, AreMet, MayMake, Moved, actor_after, actor_after_step, world_after_step}
 use Rattle.wp_rule.specs.Words.{Place, IsAt}
 use Rattle.wp_rule.proofs.Forgets.{EndsNothing, forgets_nothing}
@@ -27,9 +27,9 @@ use Rattle.wp_shared.specs.Clients.{KeepClient}
 use Rattle.wp_shared.specs.Seats.{SeatState}
 use Rattle.wp_shared.proofs.OneStep.{becomes}
 use Rattle.wp_commits.proofs.Delayed.{right_none}
-use Rattle.wp_commits.proofs.Held.{writes_are, snapshots_are}
+use Rattle.wp_shared.proofs.Tables.{held_table}
 use Rattle.wp_commits.specs.Making.{keeping_from, keeping}
-use Rattle.wp_commits.specs.Notes.{OldFlagTells}
+use Rattle.wp_shared.specs.Notes.{OldFlagTells}
 
 -- ---- one number
 
@@ -204,11 +204,11 @@ module _ (m : Snapshots) (p c by : ℕ) where
 
 module _ (place : Place) (s t : SeatState) (d : WriteTable) (old new : Snapshots) (p c : ℕ) (held : s.knows.held ≡ snapshots old ∷ writes d ∷ []) (changes : ChangesWhere (overlaps p c) (after_keep p) old new) where
   table_is : (w : World) → IsAt place s.knows w → w.snapshots ≡ old
-  table_is w k = snapshots_are place s.knows w k old (subst (IsIn (snapshots old)) (sym held) (inl refl))
+  table_is w k = held_table place s.knows w (snapshots old) k (subst (IsIn (snapshots old)) (sym held) (inl refl))
 
   pub may_keep : p ≤ c → decision_of d.history p ≡ Some c → OldFlagTells s.knows new → MayMake place s.knows (keeping p c)
   may_keep ordered decided flag w k =
-      let history_is : w.writes ≡ d = writes_are place s.knows w k d (subst (IsIn (writes d)) (sym held) (inr (inl refl))) in
+      let history_is : w.writes ≡ d = held_table place s.knows w (writes d) k (subst (IsIn (writes d)) (sym held) (inr (inl refl))) in
       let holds = (held_is place s.knows w (snapshots old) k (subst (IsIn (snapshots old)) (sym held) (inl refl))).0 in
       let value_is : w.old_flag ≡ flag.value = (noted_is place s.knows w (old_flag_stays flag.value) k flag.noted).is_so in (
         keeping_quiet w.snapshots p (c - p) p,

@@ -1,11 +1,11 @@
-pub mod Held
 pub mod Making
 pub mod Words
-pub mod Goes
-pub mod Turns
+pub mod Flags
+pub mod Through
 pub mod Delayed
 pub mod Kept
 pub mod Going
+pub mod Ways
 pub mod Puts
 pub mod Clears
 pub mod TakenOut

@@ -11,7 +11,7 @@ use Rattle.wp_rule.proofs.MayBeMade.{known_made}
 use Rattle.wp_shared.specs.Clients.{KeepClient}
 use Rattle.wp_shared.specs.Seats.{SeatState}
 use Rattle.wp_shared.proofs.OneStep.{made, becomes}
-use Rattle.wp_commits.specs.Notes.{noting}
+use Rattle.wp_shared.specs.Notes.{noting}
 
 module _ (picked place : Place) (steps those : World → List Step) (place_is : picked ≡ place) (steps_are : steps ≡ those) where
   pub may_be : (a : Actor) → MayMake place a those → MayMake picked a steps

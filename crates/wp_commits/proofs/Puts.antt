@@ -21,10 +21,11 @@ use Rattle.wp_rule.proofs.Knows.{noted_is}
 use Rattle.wp_rule.proofs.Needed.{needed}
 use Rattle.wp_rule.proofs.Outlasting.{outlasts}
 use Rattle.wp_shared.specs.Seats.{SeatState}
-use Rattle.wp_commits.specs.Cleared.{IsCleared}
-use Rattle.wp_commits.specs.Notes.{is_of_place, GoesOn}
-use Rattle.wp_commits.proofs.Goes.{goes_with}
-use Rattle.wp_commits.proofs.Turns.{note_ends_none}
+use Rattle.wp_commits.specs.Cleared.{IsCleared, IsReadyAt}
+use Rattle.wp_shared.specs.Notes.{GoesOn}
+use Rattle.wp_commits.specs.Notes.{is_of_place}
+use Rattle.wp_shared.proofs.Goes.{goes_with}
+use Rattle.wp_commits.proofs.Flags.{note_ends_none}
 
 -- the pair of an entry that may come next has a word
 pub record HasWord (pair : CommitPair) : Type 0 where
@@ -84,14 +85,18 @@ module _ (p : Place) (so : World → Type 0) (s t : SeatState) (place : ℕ) (pa
       let stored : slice_index (with_pair w.cache pair) (cache_place (length w.cache) pair.number) ≡ word_of pair = get_or-set_same w.cache (cache_place (length w.cache) pair.number) (word_of pair) _ low in
       ap (λ (x : List ℕ). pair_at x place) (sym cache) ∙ (ap (pair_at (with_pair w.cache pair)) (sym here) ∙ (ap pair_of stored ∙ back))
 
-  -- what is cleared elsewhere stays so
-  pub put_elsewhere : (i : ℕ) → i ≢ place → IsCleared s.knows i → IsCleared t.knows i
-  put_elsewhere i ne (inl empty) =
+  word_elsewhere : (bound : ℕ) (words : List ℕ) → Noted s.knows (words_stay bound words) → (i : ℕ) → i ≢ place → pair_at (with_pair words pair) i ≡ pair_at words i
+  word_elsewhere bound words there i ne =
       let w = moved.world in
-      let cache : w.cache ≡ empty.1 = (noted_is p s.knows w (words_stay empty.0 empty.1) moved.before empty.2).is_so.1 in
-      let here : cache_place (length empty.1) pair.number ≡ place = ap (λ (n : ℕ). cache_place n pair.number) (sym (ap length cache) ∙ moved.before.cells) ∙ sym is in
-      let other : slice_index (with_pair empty.1 pair) i ≡ slice_index empty.1 i = get_or-set_other empty.1 (cache_place (length empty.1) pair.number) i (word_of pair) _ (λ e. ne (e ∙ here)) in
-      inl (empty.0, with_pair empty.1 pair, words_put empty.0 empty.1 empty.2, ap pair_of other ∙ empty.3)
-  put_elsewhere i ne (inr gone) =
+      let cache : w.cache ≡ words = (noted_is p s.knows w (words_stay bound words) moved.before there).is_so.1 in
+      let here : cache_place (length words) pair.number ≡ place = ap (λ (n : ℕ). cache_place n pair.number) (sym (ap length cache) ∙ moved.before.cells) ∙ sym is in
+      let other : slice_index (with_pair words pair) i ≡ slice_index words i = get_or-set_other words (cache_place (length words) pair.number) i (word_of pair) _ (λ e. ne (e ∙ here)) in
+      ap pair_of other
+
+  -- what is ready elsewhere stays so
+  pub put_elsewhere : (published i : ℕ) → i ≢ place → IsReadyAt s.knows published i → IsReadyAt t.knows published i
+  put_elsewhere published i ne (inl (inl empty)) = inl (inl (empty.0, with_pair empty.1 pair, words_put empty.0 empty.1 empty.2, word_elsewhere empty.0 empty.1 empty.2 i ne ∙ empty.3))
+  put_elsewhere published i ne (inl (inr gone)) =
       let other : (place == i) ≡ false = ne_eqb place i (λ e. ne (sym e)) in
-      inr (gone.0, (put.noted (passed i gone.0) other gone.1.0, put.noted (in_old_commits i gone.0) other gone.1.1, put.noted (apart i gone.0) other gone.1.2))
+      inl (inr (gone.0, (put.noted (passed i gone.0) other gone.1.0, put.noted (in_old_commits i gone.0) other gone.1.1, put.noted (apart i gone.0) other gone.1.2)))
+  put_elsewhere published i ne (inr own) = inr (own.0, with_pair own.1 pair, own.2, words_put own.0 own.1 own.3, own.4, word_elsewhere own.0 own.1 own.3 i ne ∙ own.5)

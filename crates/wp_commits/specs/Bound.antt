@@ -1,14 +1,10 @@
--- How far the evicted bound rises before a pair goes.
-use Rattle.std.specs.Prelude.{ℕ, ◌+◌, ◌-◌, ◌/◌, min, max, nat_le, nat_lt, if◌then◌else◌, Option, Some, None}
+-- How far the evicted bound rises before pairs go.
+use Rattle.std.specs.Prelude.{ℕ, nat_le, if◌then◌else◌, List, [], ◌∷◌, Option, Some, None}
 use Rattle.wp_judge.specs.Words.{CommitPair}
-
--- it rises by a hundredth of the cache at once, and by one at least
-abbrev pub step_of : ℕ → ℕ
-step_of cells = max (cells / 100) 1
-
--- Where the decision is below the published number the bound rises past it, by a step more, but stays below that number.
-abbrev pub bound_past : ℕ → ℕ → ℕ → ℕ
-bound_past cells published decision = if nat_lt decision published then min (decision + step_of cells) (published - 1) else decision
+use Rattle.wp_core.specs.Cache.{cache_place, pair_at}
+use Rattle.wp_rule.specs.Bound.{bound_past}
+use Rattle.wp_commits.specs.declared.way.Way.{Way}
+use Rattle.wp_commits.specs.declared.way.Way.TheVariants.{Undecided, InWord}
 
 -- the bound once a pair with this decision may go: it is no less than before, and no less than the decision
 abbrev pub raised : ℕ → ℕ → ℕ → ℕ → ℕ
@@ -19,6 +15,12 @@ abbrev pub bound_after : ℕ → ℕ → ℕ → Option CommitPair → ℕ
 bound_after cells published bound None = bound
 bound_after cells published bound (Some pair) = raised cells published bound pair.decision
 
--- the bound once the pairs of two words may go, one after the other
-abbrev pub bound_for_both : ℕ → ℕ → ℕ → Option CommitPair → Option CommitPair → ℕ
-bound_for_both cells published bound first second = bound_after cells published (bound_after cells published bound first) second
+-- the bound once the pair may be entered that is kept in this way
+abbrev pub bound_with : ℕ → ℕ → ℕ → List ℕ → Way → ℕ
+bound_with cells published bound words Undecided = bound
+bound_with cells published bound words (InWord p c) = bound_after cells published bound (pair_at words (cache_place cells p))
+
+-- ... and all those that are kept in these ways, one after another
+abbrev pub bound_for : ℕ → ℕ → ℕ → List ℕ → List Way → ℕ
+bound_for cells published bound words [] = bound
+bound_for cells published bound words (way ∷ ways) = bound_for cells published (bound_with cells published bound words way) words ways

@@ -1,10 +1,11 @@
 -- Words of the commit cache that are ready to be replaced.
-use Rattle.std.specs.Prelude.{◌≡◌, ◌≢◌, ◌⊎◌, ℕ, ◌<◌, ◌≤◌, List, [], ◌∷◌, length, Option, Some, None}
+use Rattle.std.specs.Prelude.{◌≡◌, ◌≢◌, ◌⊎◌, ℕ, suc, ◌<◌, ◌≤◌, List, length, Some, None}
 use Rattle.wp_model.specs.declared.entry.Entry.{Entry}
 use Rattle.wp_model.specs.Decision.{decision_of}
 use Rattle.wp_judge.specs.Words.{CommitPair}
 use Rattle.wp_core.specs.Cache.{cache_place, pair_at}
-use Rattle.wp_core.specs.Entries.{pending_pair}
+use Rattle.wp_core.specs.Entries.{pending_pair, pairs_of}
+use Rattle.wp_core.specs.Lists.{IsIn}
 use Rattle.wp_core.specs.Tables.{WriteTable}
 use Rattle.wp_core.specs.Views.{passed, in_old_commits, apart, words_stay}
 use Rattle.wp_core.specs.World.{Actor}
@@ -20,6 +21,10 @@ pub record IsThere (a : Actor) (history : List Entry) (place p c : ℕ) : Type 0
   pub published : c ≤ length history
   pub decided : decision_of history p ≡ Some c
   pub ordered : p ≤ c
+
+-- a pair of the pending record is to come into the word at this place
+abbrev pub IsWanted : ℕ → WriteTable → ℕ → Type 0
+IsWanted cells d place = (pair : CommitPair) × IsIn pair (pairs_of (suc (length d.history)) d.pending) × (place ≡ cache_place cells pair.number)
 
 -- the word at this place has no pair
 abbrev pub IsEmptyAt : Actor → ℕ → Type 0
@@ -48,17 +53,3 @@ IsUnentered a cells t =
 -- the word at this place may be replaced, or that takes no more than the bound
 abbrev pub IsReadyAt : Actor → ℕ → ℕ → Type 0
 IsReadyAt a published place = IsCleared a place ⊎ DecidesItself a published place
-
--- The pair may be entered: it is the pending entry's, and its place is ready.
-pub record IsReady (a : Actor) (cells : ℕ) (t : WriteTable) (pair : CommitPair) : Type 0 where
-  pub pending : pending_pair t.history t.pending ≡ Some pair
-  pub word : IsReadyAt a (length t.history) (cache_place cells pair.number)
-
--- the numbers whose pairs are to be entered, in order
-abbrev pub others_in : Option ℕ → List ℕ
-others_in None = []
-others_in (Some p) = p ∷ []
-
-abbrev pub numbers_in : Option ℕ → Option ℕ → List ℕ
-numbers_in None second = []
-numbers_in (Some p) second = p ∷ others_in second

@@ -1,6 +1,6 @@
 pub mod Bound
 pub mod Notes
 pub mod Making
-pub mod Gone
 pub mod Cleared
+pub mod Ways
 pub mod PairNotes

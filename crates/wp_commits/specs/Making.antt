@@ -8,7 +8,7 @@ use Rattle.wp_core.specs.Steps.{Step, add_delayed_commit, add_old_commit, note}
 use Rattle.wp_core.specs.Views.{passed, in_old_commits, apart}
 use Rattle.wp_core.specs.World.{World}
 use Rattle.wp_shared.specs.Seats.{SeatState}
-use Rattle.wp_commits.specs.Notes.{noting}
+use Rattle.wp_shared.specs.Notes.{noting}
 
 -- that the pair of the word at this place may go is noted
 abbrev pub noting_all : ℕ → CommitPair → List Step

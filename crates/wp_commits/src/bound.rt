@@ -1,6 +1,6 @@
 //! How far the evicted bound rises.
 ghost use Rattle.std.specs.Prelude.{◌≡◌, ◌<◌, ◌^◌};
-ghost use Rattle.wp_commits.specs.Bound.{bound_past};
+ghost use Rattle.wp_rule.specs.Bound.{bound_past};
 
 use wp_model::Seq;
 

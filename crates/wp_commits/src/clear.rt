@@ -1,16 +1,23 @@
-//! Clearing a word: its pair is made ready to go.
-ghost use Rattle.std.specs.Prelude.{◌≡◌, ◌⊎◌, ◌≤◌, ℕ, true, List, [], ◌∷◌, length, ◌<◌, OnOk, OnErr, IfOk};
-ghost use Rattle.wp_core.specs.Cache.{cache_place, pair_at};
+//! Clearing words: the pairs that are there are made ready to go.
+ghost use Rattle.std.specs.Prelude.{◌≡◌, ◌≤◌, ◌<◌, ◌⊎◌, ℕ, suc, true, List, [], ◌∷◌, ◌++◌, length, Some, OnOk, OnErr};
+ghost use Rattle.wp_judge.specs.Words.{CommitPair};
+ghost use Rattle.wp_core.specs.Cache.{pair_at};
+ghost use Rattle.wp_core.specs.Entries.{pairs_of};
+ghost use Rattle.wp_core.specs.Lists.{IsIn};
 ghost use Rattle.wp_core.specs.Tables.{writes, prepared, snapshots};
 ghost use Rattle.wp_core.specs.Views.{passed, in_old_commits, apart, words_stay};
 ghost use Rattle.wp_rule.specs.Knows.{Noted};
-ghost use Rattle.wp_commits.specs.Bound.{raised, bound_after, bound_for_both};
-ghost use Rattle.wp_commits.specs.Cleared.{IsThere, IsCleared, IsUnentered};
-ghost use Rattle.wp_commits.specs.Notes.{is_flag, is_of_words, GoesOn, DelayedFlagTells, OldFlagTells};
+ghost use Rattle.wp_commits.specs.Bound.{raised, bound_after, bound_with, bound_for};
+ghost use Rattle.wp_commits.specs.Cleared.{IsThere, IsWanted, IsCleared, IsUnentered};
+ghost use Rattle.wp_shared.specs.Notes.{is_flag, GoesOn, DelayedFlagTells, OldFlagTells};
+ghost use Rattle.wp_commits.specs.Notes.{is_of_words};
+ghost use Rattle.wp_commits.specs.Ways.{way_of, ways_of, IsInWord, IsReadyFor, AreReady};
+ghost use Rattle.wp_commits.specs.declared.way.Way.{Way};
+ghost use Rattle.wp_commits.specs.declared.way.Way.TheVariants.{InWord};
 
 use crate::bound::bound_past;
-use crate::cleared::Cleared;
 use crate::steps;
+use crate::way::Way;
 use std::alloc::AllocError;
 use std::sync::Wait;
 use wp_model::Seq;
@@ -21,17 +28,19 @@ use wp_shared::{Seat, Shared};
 use wp_snaps::Snaps;
 
 /// Under the prepared turn: raises the bound by the rule where it has not come to this decision.
-pub fn raise_past<D: Disk + Drop>(
+fn raise_past<D: Disk + Drop>(
     store: &Shared<D>,
     seat: &mut Seat<D>,
     log: &Log<D>,
     tables: &mut Prepared,
+    place: usize,
+    p: Seq,
     c: Seq,
 )
     requires seat { seat.old.table ≡ store.now.table }
     requires held { seat.old.knows.held ≡ prepared tables.old ∷ writes log.now.table ∷ [] }
-    requires words { (bound : ℕ) × (words : List ℕ) × Noted seat.old.knows (words_stay bound words) }
-    requires published { c ≤ length log.now.table.history }
+    requires wanted { IsWanted store.now.cells log.now.table place }
+    requires there { IsThere seat.old.knows log.now.table.history place p c }
     requires flag { DelayedFlagTells seat.old.knows tables.old }
     ensures seat { GoesOn is_of_words (prepared tables.new ∷ writes log.now.table ∷ []) seat.old.turns seat.old seat.new }
     ensures flag { DelayedFlagTells seat.new.knows tables.new }
@@ -59,6 +68,7 @@ fn ready_prepared<D: Disk + Drop>(
 ) -> Result<(), AllocError>
     requires seat { (seat.old.table ≡ store.now.table) × (seat.old.knows.live ≡ true) }
     requires held { seat.old.knows.held ≡ prepared tables.old ∷ writes log.now.table ∷ [] }
+    requires wanted { IsWanted store.now.cells log.now.table place }
     requires there { IsThere seat.old.knows log.now.table.history place p c }
     requires flag { DelayedFlagTells seat.old.knows tables.old }
     ensures seat { GoesOn is_of_words (prepared tables.new ∷ writes log.now.table ∷ []) seat.old.turns seat.old seat.new }
@@ -67,7 +77,7 @@ fn ready_prepared<D: Disk + Drop>(
         → Noted seat.new.knows (words_stay (raised store.now.cells (length log.now.table.history) bound c) words) }
     ensures ready { OnOk result (Noted seat.new.knows (passed place (record { number = p; decision = c })) × Noted seat.new.knows (apart place (record { number = p; decision = c }))) }
 {
-    raise_past(store, seat, log, tables, c);
+    raise_past(store, seat, log, tables, place, p, c);
     steps::note_passed(store, seat, log, place, p, c);
     steps::delay(store, seat, log, tables, p, c)?;
     steps::note_apart(store, seat, log, tables, place, p, c);
@@ -109,15 +119,16 @@ fn clear_prepared<D: Disk + Drop, R: Wait>(
 ) -> Result<(), AllocError>
     requires seat { (seat.old.table ≡ store.now.table) × (seat.old.knows.live ≡ true) }
     requires held { seat.old.knows.held ≡ writes log.now.table ∷ [] }
+    requires wanted { IsWanted store.now.cells log.now.table place }
     requires there { IsThere seat.old.knows log.now.table.history place p c }
     ensures seat { GoesOn is_of_words (writes log.now.table ∷ []) seat.old.turns seat.old seat.new }
     ensures bound { (bound : ℕ) (words : List ℕ) → Noted seat.old.knows (words_stay bound words)
         → Noted seat.new.knows (words_stay (raised store.now.cells (length log.now.table.history) bound c) words) }
     ensures ready { OnOk result (Noted seat.new.knows (passed place (record { number = p; decision = c })) × Noted seat.new.knows (apart place (record { number = p; decision = c }))) }
 {
-    let mut tables = steps::take_prepared(store, rt, seat);
+    let mut tables = store.take_turn::<Prepared, R>(rt, seat);
     let result = ready_prepared(store, seat, log, &mut tables, place, p, c);
-    steps::give_prepared(store, seat, tables);
+    store.give_turn(seat, tables);
     result
 }
 
@@ -137,13 +148,68 @@ fn clear_snaps<D: Disk + Drop, R: Wait>(
     ensures seat { GoesOn is_flag (writes log.now.table ∷ []) seat.old.turns seat.old seat.new }
     ensures ready { OnOk result (Noted seat.new.knows (in_old_commits place (record { number = p; decision = c }))) }
 {
-    let mut snaps = steps::take_snaps(store, rt, seat);
+    let mut snaps = store.take_turn::<Snaps, R>(rt, seat);
     let result = ready_snaps(store, seat, log, &mut snaps, place, p, c);
-    steps::give_snaps(store, seat, snaps);
+    store.give_turn(seat, snaps);
     result
 }
 
-/// Makes the pair ready under the two turns, one after the other.
+/// Raises the bound by the rule, under the prepared turn, where it has not come to this decision.
+fn let_pass<D: Disk + Drop, R: Wait>(
+    store: &Shared<D>,
+    rt: &R,
+    seat: &mut Seat<D>,
+    log: &Log<D>,
+    place: usize,
+    p: Seq,
+    c: Seq,
+)
+    requires seat { (seat.old.table ≡ store.now.table) × (seat.old.knows.live ≡ true) }
+    requires held { seat.old.knows.held ≡ writes log.now.table ∷ [] }
+    requires wanted { IsWanted store.now.cells log.now.table place }
+    requires there { IsThere seat.old.knows log.now.table.history place p c }
+    ensures seat { GoesOn is_of_words (writes log.now.table ∷ []) seat.old.turns seat.old seat.new }
+    ensures bound { (bound : ℕ) (words : List ℕ) → Noted seat.old.knows (words_stay bound words)
+        → Noted seat.new.knows (words_stay (raised store.now.cells (length log.now.table.history) bound c) words) }
+{
+    let bound = steps::bound(store, seat);
+    if c <= bound {
+        return;
+    }
+    let mut tables = store.take_turn::<Prepared, R>(rt, seat);
+    raise_past(store, seat, log, &mut tables, place, p, c);
+    store.give_turn(seat, tables);
+}
+
+/// Makes the pair that is there ready to go where it was not cleared, since it is that of a version that decided itself: the bound
+/// alone may have to rise.
+pub(crate) fn clear_own<D: Disk + Drop, R: Wait>(
+    store: &Shared<D>,
+    rt: &R,
+    seat: &mut Seat<D>,
+    log: &Log<D>,
+    place: usize,
+    p: Seq,
+    c: Seq,
+)
+    requires seat { (seat.old.table ≡ store.now.table) × (seat.old.knows.live ≡ true) }
+    requires held { seat.old.knows.held ≡ writes log.now.table ∷ [] }
+    requires wanted { IsWanted store.now.cells log.now.table place }
+    requires there { IsThere seat.old.knows log.now.table.history place p c }
+    requires ready { IsCleared seat.old.knows place ⊎ (p ≡ c) }
+    ensures seat { GoesOn is_of_words (writes log.now.table ∷ []) seat.old.turns seat.old seat.new }
+    ensures bound { (bound : ℕ) (words : List ℕ) → Noted seat.old.knows (words_stay bound words)
+        → Noted seat.new.knows (words_stay (raised store.now.cells (length log.now.table.history) bound c) words) }
+    ensures cleared { IsCleared seat.new.knows place }
+{
+    let_pass(store, rt, seat, log, place, p, c);
+    if p != c {
+        return;
+    }
+    steps::note_own(store, seat, log, place, c);
+}
+
+/// Makes the pair ready under the two turns, one after the other. One that decided itself needs neither.
 fn clear_there<D: Disk + Drop, R: Wait>(
     store: &Shared<D>,
     rt: &R,
@@ -155,17 +221,24 @@ fn clear_there<D: Disk + Drop, R: Wait>(
 ) -> Result<(), AllocError>
     requires seat { (seat.old.table ≡ store.now.table) × (seat.old.knows.live ≡ true) }
     requires held { seat.old.knows.held ≡ writes log.now.table ∷ [] }
+    requires wanted { IsWanted store.now.cells log.now.table place }
     requires there { IsThere seat.old.knows log.now.table.history place p c }
     ensures seat { GoesOn is_of_words (writes log.now.table ∷ []) seat.old.turns seat.old seat.new }
     ensures bound { (bound : ℕ) (words : List ℕ) → Noted seat.old.knows (words_stay bound words)
         → Noted seat.new.knows (words_stay (raised store.now.cells (length log.now.table.history) bound c) words) }
     ensures cleared { OnOk result (IsCleared seat.new.knows place) }
 {
+    if p == c {
+        clear_own(store, rt, seat, log, place, p, c);
+        return Ok(());
+    }
     clear_prepared(store, rt, seat, log, place, p, c)?;
     clear_snaps(store, rt, seat, log, place, p, c)
 }
 
-/// Makes the word at this place ready to be replaced.
+/// Makes the word at this place ready to be replaced: it is empty, or the bound has come to the decision of its pair, the old
+/// commit map has that under each live number that it overlaps, and no prepared table needs it. Where memory is wanting the word
+/// stays as it is.
 fn clear_place<D: Disk + Drop, R: Wait>(
     store: &Shared<D>,
     rt: &R,
@@ -175,6 +248,7 @@ fn clear_place<D: Disk + Drop, R: Wait>(
 ) -> Result<(), AllocError>
     requires seat { (seat.old.table ≡ store.now.table) × (seat.old.knows.live ≡ true) }
     requires held { seat.old.knows.held ≡ writes log.now.table ∷ [] }
+    requires wanted { IsWanted store.now.cells log.now.table place }
     requires words { (bound : ℕ) × (words : List ℕ) × Noted seat.old.knows (words_stay bound words) }
     requires unentered { IsUnentered seat.old.knows store.now.cells log.now.table }
     requires within { place < store.now.cells }
@@ -189,85 +263,59 @@ fn clear_place<D: Disk + Drop, R: Wait>(
     }
 }
 
-/// Makes the word at the place of `p` ready to be replaced by p's pair: it is empty, or the bound has come to the decision of its
-/// pair, the old commit map has that under each live number that it overlaps, and no prepared table needs it. All memory that
-/// this needs is taken here. Where it is wanting the word stays as it is.
-pub fn clear_for<D: Disk + Drop, R: Wait>(
+/// Makes ready what a pair needs that is kept in this way.
+fn clear<D: Disk + Drop, R: Wait>(
     store: &Shared<D>,
     rt: &R,
     seat: &mut Seat<D>,
     log: &Log<D>,
-    p: Seq,
-) -> Result<Cleared, AllocError>
-    requires seat { (seat.old.table ≡ store.now.table) × (seat.old.knows.live ≡ true) }
-    requires held { seat.old.knows.held ≡ writes log.now.table ∷ [] }
-    requires words { (bound : ℕ) × (words : List ℕ) × Noted seat.old.knows (words_stay bound words) }
-    requires unentered { IsUnentered seat.old.knows store.now.cells log.now.table }
-    ensures seat { GoesOn is_of_words seat.old.knows.held seat.old.turns seat.old seat.new }
-    ensures bound { (bound : ℕ) (words : List ℕ) → Noted seat.old.knows (words_stay bound words)
-        → Noted seat.new.knows (words_stay (bound_after store.now.cells (length log.now.table.history) bound (pair_at words (cache_place store.now.cells p))) words) }
-    ensures numbers { IfOk result (λ cleared. cleared ≡ p ∷ []) }
-    ensures cleared { OnOk result (IsCleared seat.new.knows (cache_place store.now.cells p)) }
-{
-    let place = store.place_of(p);
-    clear_place(store, rt, seat, log, place)?;
-    Ok(Cleared::of(p))
-}
-
-/// Makes the word at the second place ready too, where that is another one than the first, which is cleared.
-fn clear_second<D: Disk + Drop, R: Wait>(
-    store: &Shared<D>,
-    rt: &R,
-    seat: &mut Seat<D>,
-    log: &Log<D>,
-    first: usize,
-    second: usize,
+    way: Way,
 ) -> Result<(), AllocError>
     requires seat { (seat.old.table ≡ store.now.table) × (seat.old.knows.live ≡ true) }
     requires held { seat.old.knows.held ≡ writes log.now.table ∷ [] }
+    requires wanted { (pair : CommitPair) → way ≡ way_of (Some pair) → IsIn pair (pairs_of (suc (length log.now.table.history)) log.now.table.pending) }
     requires words { (bound : ℕ) × (words : List ℕ) × Noted seat.old.knows (words_stay bound words) }
     requires unentered { IsUnentered seat.old.knows store.now.cells log.now.table }
-    requires within { second < store.now.cells }
-    requires cleared { IsCleared seat.old.knows first }
     ensures seat { GoesOn is_of_words (writes log.now.table ∷ []) seat.old.turns seat.old seat.new }
-    ensures bound { (before bound : ℕ) (words : List ℕ) → Noted seat.old.knows (words_stay bound words) → bound ≡ bound_after store.now.cells (length log.now.table.history) before (pair_at words first)
-        → Noted seat.new.knows (words_stay (bound_after store.now.cells (length log.now.table.history) bound (pair_at words second)) words) }
-    ensures cleared { OnOk result (IsCleared seat.new.knows first × IsCleared seat.new.knows second) }
+    ensures bound { (bound : ℕ) (words : List ℕ) → Noted seat.old.knows (words_stay bound words)
+        → Noted seat.new.knows (words_stay (bound_with store.now.cells (length log.now.table.history) bound words way) words) }
+    ensures ready { OnOk result (IsReadyFor seat.new.knows store.now.cells (length log.now.table.history) way) }
+    ensures wanting { OnErr result (IsInWord way) }
 {
-    if first == second {
-        return Ok(());
+    match way {
+        Way::Undecided => Ok(()),
+        Way::InWord(p, _) => {
+            let place = store.place_of(p);
+            clear_place(store, rt, seat, log, place)
+        }
     }
-    clear_place(store, rt, seat, log, second)
 }
 
-/// Makes the words ready for the two pairs of a rollback: that of the Undo `r`, which decides itself, and then that of the Prepare
-/// `p`, which the Close behind it decides. Where they have the same place it is cleared for the first, and that one will go again
-/// for the second. All memory that this needs is taken here. Where it is wanting for the first the bound has risen for that one, and
-/// where it is wanting for the second, for both.
-pub fn clear_pair<D: Disk + Drop, R: Wait>(
+/// Makes ready what the pairs of the pending entries need, one after another. All memory that this needs is taken here. Where it
+/// is wanting the bound has risen all the same, for those up to the one for which it was wanting.
+pub fn clear_all<D: Disk + Drop, R: Wait>(
     store: &Shared<D>,
     rt: &R,
     seat: &mut Seat<D>,
     log: &Log<D>,
-    r: Seq,
-    p: Seq,
-) -> Result<Cleared, AllocError>
+) -> Result<(), AllocError>
     requires seat { (seat.old.table ≡ store.now.table) × (seat.old.knows.live ≡ true) }
     requires held { seat.old.knows.held ≡ writes log.now.table ∷ [] }
     requires words { (bound : ℕ) × (words : List ℕ) × Noted seat.old.knows (words_stay bound words) }
     requires unentered { IsUnentered seat.old.knows store.now.cells log.now.table }
     ensures seat { GoesOn is_of_words seat.old.knows.held seat.old.turns seat.old seat.new }
     ensures bound { OnOk result ((bound : ℕ) (words : List ℕ) → Noted seat.old.knows (words_stay bound words)
-        → Noted seat.new.knows (words_stay (bound_for_both store.now.cells (length log.now.table.history) bound (pair_at words (cache_place store.now.cells r)) (pair_at words (cache_place store.now.cells p))) words)) }
-    ensures refused { OnErr result ((bound : ℕ) (words : List ℕ) → Noted seat.old.knows (words_stay bound words)
-        → Noted seat.new.knows (words_stay (bound_after store.now.cells (length log.now.table.history) bound (pair_at words (cache_place store.now.cells r))) words)
-        ⊎ Noted seat.new.knows (words_stay (bound_for_both store.now.cells (length log.now.table.history) bound (pair_at words (cache_place store.now.cells r)) (pair_at words (cache_place store.now.cells p))) words)) }
-    ensures numbers { IfOk result (λ cleared. cleared ≡ r ∷ p ∷ []) }
-    ensures cleared { OnOk result (IsCleared seat.new.knows (cache_place store.now.cells r) × IsCleared seat.new.knows (cache_place store.now.cells p)) }
+        → Noted seat.new.knows (words_stay (bound_for store.now.cells (length log.now.table.history) bound words (ways_of (suc (length log.now.table.history)) log.now.table.pending)) words)) }
+    ensures refused { OnErr result ((front : List Way) × (p : ℕ) × (c : ℕ) × (back : List Way) × (ways_of (suc (length log.now.table.history)) log.now.table.pending ≡ front ++ InWord p c ∷ back)
+        × ((bound : ℕ) (words : List ℕ) → Noted seat.old.knows (words_stay bound words) → Noted seat.new.knows (words_stay (bound_for store.now.cells (length log.now.table.history) bound words (front ++ InWord p c ∷ [])) words))) }
+    ensures ready { OnOk result (AreReady seat.new.knows store.now.cells (length log.now.table.history) (ways_of (suc (length log.now.table.history)) log.now.table.pending)) }
 {
-    let first = store.place_of(r);
-    let second = store.place_of(p);
-    clear_place(store, rt, seat, log, first)?;
-    clear_second(store, rt, seat, log, first, second)?;
-    Ok(Cleared::of_two(r, p))
+    log.shows_told();
+    let entries = log.pending();
+    let mut n = log.published();
+    for entry in entries {
+        n += 1;
+        clear(store, rt, seat, log, Way::of(entry, n))?;
+    }
+    Ok(())
 }

@@ -9,11 +9,13 @@
 //!   prepared tables only once its commit is published and the write turn is given.
 //! - Under the snapshots turn its number is kept under each live number that overlaps it, with the old-map flag up.
 //!
-//! That the pair may go is noted, and stays so until the word is stored, whatever others do: `clear_for` takes all memory before
-//! an entry is logged, and `enter` stores the word after it and takes none. `clear_pair` is for the two pairs of a rollback, of
-//! which the second may take the place of the first. `take_out` is the late clean-up.
+//! A pair that decided itself, of a direct write or of an undo, overlaps no snapshot and is no prepared one's: for it the bound
+//! alone may have to rise.
 //!
-//! `take_prepared` and `give_prepared`: the prepared turn beside others, with what its flag says of it.
+//! That the pair may go is noted, and stays so until the word is stored, whatever others do: `clear_all` takes all memory before
+//! a record is logged, for each pair that its entries decide, and `enter` stores the word of one after it and takes none. A pair may
+//! take the place of an earlier one of its record that decided itself. `Way` says how a pair is kept. `forget_prepared` is the late
+//! clean-up.
 //!
 //! The calls are made of small ones in `steps`, one for each step of the machine of `wp_core`, that say what is left of the seat.
 //! The turns are taken in their order, and each is given before the next. All calls wait.
@@ -22,15 +24,14 @@
 mod bound;
 mod cleanup;
 mod clear;
-mod cleared;
 mod entering;
 pub mod laws;
 mod pair_note;
 mod steps;
+mod way;
 
 pub use bound::bound_past;
-pub use cleanup::take_out;
-pub use clear::{clear_for, clear_pair};
-pub use cleared::Cleared;
+pub use cleanup::forget_prepared;
+pub use clear::clear_all;
 pub use entering::enter;
-pub use steps::{give_prepared, take_prepared};
+pub use way::Way;

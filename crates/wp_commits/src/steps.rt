@@ -3,38 +3,34 @@ ghost use Rattle.std.specs.Prelude.{◌≡◌, ◌≢◌, ◌⊎◌, ◌≤◌, 
 ghost use Rattle.std.specs.Option.{option_map};
 ghost use Rattle.wp_judge.specs.Words.{numbers_of};
 ghost use Rattle.wp_model.specs.Decision.{decision_of};
-ghost use Rattle.wp_model.specs.PreparedTables.{PreparedTables, commits_with};
-ghost use Rattle.wp_model.specs.Snapshots.{Snapshots, ChangesWhere, overlaps, after_keep};
+ghost use Rattle.wp_model.specs.PreparedTables.{PreparedTables, commits_with, NoneDelayed};
+ghost use Rattle.wp_model.specs.Snapshots.{Snapshots, ChangesWhere, overlaps, after_keep, NoOldCommits};
 ghost use Rattle.wp_core.specs.Cache.{cache_place, pair_at, with_pair};
 ghost use Rattle.wp_core.specs.Entries.{pending_pair};
-ghost use Rattle.wp_core.specs.Changes.{held_without};
 ghost use Rattle.wp_core.specs.Lists.{IsIn};
-ghost use Rattle.wp_core.specs.Tables.{writes, prepared, snapshots, without_prepared, with_moved, NoneDelayed, NoOldCommits};
-ghost use Rattle.wp_core.specs.Turns.{prepared_turn, snapshots_turn};
+ghost use Rattle.wp_core.specs.Tables.{writes, prepared, snapshots, without_prepared, with_moved};
 ghost use Rattle.wp_core.specs.Sound.Prepared.{IsInOldCommits};
 ghost use Rattle.wp_core.specs.Sound.Views.{IsApart};
 ghost use Rattle.wp_core.specs.Steps as step;
-ghost use Rattle.wp_core.specs.Views.{passed, in_old_commits, apart, words_stay, delayed_flag_stays, old_flag_stays};
-ghost use Rattle.wp_rule.specs.Knows.{Holding, Noted, KnowsFact};
+ghost use Rattle.wp_core.specs.Views.{passed, in_old_commits, apart, words_stay, has_left, delayed_flag_stays, old_flag_stays};
+ghost use Rattle.wp_rule.specs.Knows.{Holding, Noted, KnowsFact, IsRise};
 ghost use Rattle.wp_shared.specs.Seats.{place_at};
-ghost use Rattle.wp_commits.specs.Gone.{HasLeft};
 ghost use Rattle.wp_commits.specs.Cleared.{IsThere, IsCleared, IsReadyAt, IsUnentered};
 ghost use Rattle.wp_commits.specs.PairNotes.{fact_of};
 ghost use Rattle.wp_commits.specs.Making.{noting_all, noted_all, delaying, keeping};
-ghost use Rattle.wp_commits.specs.Notes.{noting, is_flag, is_of_words, is_of_place, GoesOn, FlagTells, DelayedFlagTells, OldFlagTells};
+ghost use Rattle.wp_shared.specs.Notes.{noting, is_flag, GoesOn, FlagTells, DelayedFlagTells, OldFlagTells};
+ghost use Rattle.wp_commits.specs.Notes.{is_of_words, is_of_place};
 
 use crate::pair_note::PairNote;
 use std::alloc::AllocError;
 use std::marker::Brand;
-use std::sync::Wait;
-use wp_actor::Turn;
 use wp_judge::{pack, unpack};
 use wp_model::Seq;
 use wp_outside::Disk;
-use wp_parts::{Log, Part};
+use wp_parts::Log;
 use wp_prepared::Prepared;
 use wp_rule::Moves;
-use wp_shared::{Held, Seat, Shared};
+use wp_shared::{Seat, Shared};
 use wp_snaps::Snaps;
 
 // ---- what the words are
@@ -197,42 +193,13 @@ pub fn put_word<D: Disk + Drop>(
     ensures seat { GoesOn (is_of_place place) seat.old.knows.held seat.old.turns seat.old seat.new }
     ensures words { (bound : ℕ) (words : List ℕ) → Noted seat.old.knows (words_stay bound words) → Noted seat.new.knows (words_stay bound (with_pair words (record { number = p; decision = c }))) }
     ensures there { (bound : ℕ) (words : List ℕ) → Noted seat.new.knows (words_stay bound words) → pair_at words place ≡ Some (record { number = p; decision = c }) }
-    ensures elsewhere { (i : ℕ) → i ≢ place → IsCleared seat.old.knows i → IsCleared seat.new.knows i }
+    ensures elsewhere { (published i : ℕ) → i ≢ place → IsReadyAt seat.old.knows published i → IsReadyAt seat.new.knows published i }
 {
-    log.told();
+    log.shows_told();
     store.store_word(seat, place, pack(p, c));
 }
 
-// ---- the prepared turn
-
-/// Waits for the prepared turn, and takes it with its tables.
-pub fn take_prepared<D: Disk + Drop, R: Wait>(
-    store: &Shared<D>,
-    rt: &R,
-    seat: &mut Seat<D>,
-) -> Prepared
-    requires { (seat.old.table ≡ store.now.table) × (seat.old.knows.live ≡ true) }
-    ensures seat { GoesOn is_flag (prepared result ∷ seat.old.knows.held) (1 ∷ seat.old.turns) seat.old seat.new }
-    ensures flag { DelayedFlagTells seat.new.knows result }
-{
-    store.take(rt, seat, Turn::Prepared).into_prepared()
-}
-
-/// Gives the prepared turn, which was taken last, with its tables.
-pub fn give_prepared<D: Disk + Drop>(store: &Shared<D>, seat: &mut Seat<D>, tables: Prepared)
-    requires seat { seat.old.table ≡ store.now.table }
-    requires held { IsIn (prepared tables) seat.old.knows.held }
-    requires turns { (others : List ℕ) × (seat.old.turns ≡ 1 ∷ others) }
-    requires flag { DelayedFlagTells seat.old.knows tables }
-    ensures { (others : List ℕ) → seat.old.turns ≡ 1 ∷ others → GoesOn is_flag (held_without seat.old.knows.held prepared_turn) others seat.old seat.new }
-{
-    store.give(
-        seat,
-        Held {
-            part: Part::Prepared(tables),
-        },
-    );
-}
+// ---- under the prepared turn
 
 /// Says by the delayed flag whether nothing is delayed.
 fn put_delayed_flag<D: Disk + Drop>(store: &Shared<D>, seat: &mut Seat<D>, none: bool)
@@ -274,8 +241,7 @@ fn raise_bound<D: Disk + Drop>(
 )
     requires seat { seat.old.table ≡ store.now.table }
     requires held { (t : PreparedTables) × (seat.old.knows.held ≡ prepared t ∷ writes log.now.table ∷ []) × (tables.now ≡ with_moved t m) }
-    requires rises { (bound : ℕ) × (words : List ℕ) × Noted seat.old.knows (words_stay bound words) × (bound ≤ m) }
-    requires published { m ≤ length log.now.table.history }
+    requires rises { IsRise seat.old.knows store.now.cells log.now.table m }
     requires flag { DelayedFlagTells seat.old.knows tables.now }
     ensures seat { GoesOn is_of_words (prepared tables.now ∷ writes log.now.table ∷ []) seat.old.turns seat.old seat.new }
     ensures flag { DelayedFlagTells seat.new.knows tables.now }
@@ -314,8 +280,7 @@ pub fn raise<D: Disk + Drop>(
 )
     requires seat { seat.old.table ≡ store.now.table }
     requires held { seat.old.knows.held ≡ prepared tables.old ∷ writes log.now.table ∷ [] }
-    requires rises { (bound : ℕ) × (words : List ℕ) × Noted seat.old.knows (words_stay bound words) × (bound ≤ m) }
-    requires published { m ≤ length log.now.table.history }
+    requires rises { IsRise seat.old.knows store.now.cells log.now.table m }
     requires flag { DelayedFlagTells seat.old.knows tables.old }
     ensures seat { GoesOn is_of_words (prepared tables.new ∷ writes log.now.table ∷ []) seat.old.turns seat.old seat.new }
     ensures flag { DelayedFlagTells seat.new.knows tables.new }
@@ -351,70 +316,44 @@ pub fn delay<D: Disk + Drop>(
     Ok(())
 }
 
-fn take_out_by<D: Disk + Drop, J: Moves>(
+fn forget_prepared_by<D: Disk + Drop, J: Moves>(
     store: &Shared<D>,
     seat: &mut Seat<D>,
     tables: &Prepared,
     p: Seq,
 )
-    requires seat { seat.old.table ≡ store.now.table }
+    requires seat { (seat.old.table ≡ store.now.table) × (seat.old.knows.live ≡ true) }
     requires place { J.place ≡ place_at store.now seat.old.by }
-    requires steps { J.steps ≡ (λ w. step.take_out p ∷ []) }
+    requires steps { J.steps ≡ (λ w. step.take_out p ∷ step.note (has_left p) ∷ []) }
     requires held { (t : PreparedTables) × (seat.old.knows.held ≡ prepared t ∷ []) × (tables.now ≡ without_prepared t p) }
     requires decided { (c : ℕ) × (decision_of seat.old.knows.participant.seen p ≡ Some c) }
-    ensures seat { seat.new ≡ record seat.old { knows = record seat.old.knows { held = prepared tables.now ∷ [] } } }
-    ensures gone { HasLeft store.now seat.old p }
+    ensures { seat.new ≡ noting (has_left p) (record seat.old { knows = record seat.old.knows { held = prepared tables.now ∷ [] } }) }
 {
     store.make::<J>(seat);
 }
 
 /// Takes the number, which is decided, out of all prepared tables, and puts the flag down where nothing is delayed any more.
-pub fn take_out<D: Disk + Drop>(
+pub fn forget_prepared<D: Disk + Drop>(
     store: &Shared<D>,
     seat: &mut Seat<D>,
     tables: &mut Prepared,
     p: Seq,
 )
-    requires seat { seat.old.table ≡ store.now.table }
+    requires seat { (seat.old.table ≡ store.now.table) × (seat.old.knows.live ≡ true) }
     requires held { seat.old.knows.held ≡ prepared tables.old ∷ [] }
     requires decided { (c : ℕ) × (decision_of seat.old.knows.participant.seen p ≡ Some c) }
     requires flag { DelayedFlagTells seat.old.knows tables.old }
     ensures seat { GoesOn is_flag (prepared tables.new ∷ []) seat.old.turns seat.old seat.new }
     ensures flag { DelayedFlagTells seat.new.knows tables.new }
-    ensures gone { HasLeft store.now seat.old p }
+    ensures gone { IsIn (has_left p) seat.new.knows.notes }
 {
     let none = tables.none_delayed();
     tables.remove(p);
-    take_out_by::<D, Brand>(store, seat, tables, p);
+    forget_prepared_by::<D, Brand>(store, seat, tables, p);
     fit_delayed_flag(store, seat, tables, none);
 }
 
-// ---- the snapshots turn
-
-/// Waits for the snapshots turn, and takes it with its table.
-pub fn take_snaps<D: Disk + Drop, R: Wait>(store: &Shared<D>, rt: &R, seat: &mut Seat<D>) -> Snaps
-    requires { (seat.old.table ≡ store.now.table) × (seat.old.knows.live ≡ true) }
-    ensures seat { GoesOn is_flag (snapshots result ∷ seat.old.knows.held) (2 ∷ seat.old.turns) seat.old seat.new }
-    ensures flag { OldFlagTells seat.new.knows result }
-{
-    store.take(rt, seat, Turn::Snapshots).into_snaps()
-}
-
-/// Gives the snapshots turn, which was taken last, with its table.
-pub fn give_snaps<D: Disk + Drop>(store: &Shared<D>, seat: &mut Seat<D>, snaps: Snaps)
-    requires seat { seat.old.table ≡ store.now.table }
-    requires held { IsIn (snapshots snaps) seat.old.knows.held }
-    requires turns { (others : List ℕ) × (seat.old.turns ≡ 2 ∷ others) }
-    requires flag { OldFlagTells seat.old.knows snaps }
-    ensures { (others : List ℕ) → seat.old.turns ≡ 2 ∷ others → GoesOn is_flag (held_without seat.old.knows.held snapshots_turn) others seat.old seat.new }
-{
-    store.give(
-        seat,
-        Held {
-            part: Part::Snapshots(snaps),
-        },
-    );
-}
+// ---- under the snapshots turn
 
 /// Says by the old-map flag whether the old commit map is empty.
 fn put_old_flag<D: Disk + Drop>(store: &Shared<D>, seat: &mut Seat<D>, none: bool)

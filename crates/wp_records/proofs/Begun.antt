@@ -8,9 +8,10 @@ use Rattle.wp_core.specs.Views.{versions_nowhere, number_not_in_heap}
 use Rattle.wp_rule.specs.Knows.{Noted}
 use Rattle.wp_parts.specs.Log.{LogState}
 use Rattle.wp_shared.specs.Seats.{SharedState, SeatState}
-use Rattle.wp_commits.specs.Notes.{GoesOn}
-use Rattle.wp_commits.proofs.Goes.{wider}
-use Rattle.wp_records.specs.Writing.{KnowsWords, HoldsWrite}
+use Rattle.wp_shared.specs.Notes.{GoesOn}
+use Rattle.wp_shared.proofs.Goes.{wider}
+use Rattle.wp_shared.specs.Notes.{KnowsWords}
+use Rattle.wp_records.specs.Writing.{HoldsWrite}
 use Rattle.wp_records.specs.Stages.{is_of_pending, is_guarded, HoldsPending, IsBegun}
 use Rattle.wp_records.proofs.Facts.{not_pending}
 use Rattle.wp_records.proofs.Holding.{holds_with, as_pending, as_write, words_kept}

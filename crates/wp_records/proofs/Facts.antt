@@ -2,14 +2,22 @@
 use Rattle.std.proofs.Common.{◌≡◌, ℕ, Bool, true, false, true≢false, ◌||◌, List, refl, ap, subst, ◌∙◌, None, is_some}
 use Rattle.std.specs.Prelude.{Result, Ok, Err, OnErr}
 use Rattle.wp_model.specs.declared.entry.Entry.{Entry}
+use Rattle.wp_core.specs.Cache.{cache_place}
 use Rattle.wp_core.specs.Sound.Views.{guarded_by}
 use Rattle.wp_core.specs.Entries.{transaction_of}
 use Rattle.wp_core.specs.Tables.{Content}
 use Rattle.wp_core.specs.Views.{Fact, passed, in_old_commits, apart, words_stay, versions_in_memory, versions_nowhere, number_in_heap, number_not_in_heap, delayed_flag_stays, old_flag_stays}
 use Rattle.wp_shared.specs.Seats.{SeatState}
-use Rattle.wp_commits.specs.Notes.{is_flag, is_of_words, is_of_place, GoesOn}
+use Rattle.wp_commits.specs.declared.way.Way.{Way}
+use Rattle.wp_commits.specs.declared.way.Way.TheVariants.{Undecided, InWord}
+use Rattle.wp_shared.specs.Notes.{is_flag, GoesOn, is_under}
+use Rattle.wp_shared.proofs.Goes.{none_under_store}
+use Rattle.wp_commits.proofs.Clears.{flag_under_prepared}
+use Rattle.wp_core.specs.Turns.{prepared_turn, store_turn}
+use Rattle.wp_commits.specs.Notes.{is_of_words, is_of_place}
+use Rattle.wp_commits.specs.Ways.{is_of_way}
 use Rattle.wp_records.specs.Records.{is_about}
-use Rattle.wp_records.specs.Stages.{no_fact, is_of_versions, is_of_heap, is_of_number, is_of_pending, is_guarded, is_over, may_end}
+use Rattle.wp_records.specs.Stages.{is_of_versions, is_of_heap, is_of_number, is_of_pending, is_guarded, is_over, may_end}
 
 -- ---- what no turn guards is in none of the tests
 
@@ -60,8 +68,9 @@ module _ (history : List Entry) (entry : Entry) (fact : Fact) (e : may_end histo
   pub still_over : is_over history entry fact ≡ false
   still_over = λ i. not_pending fact stays.0 i || stays.1 i
 
-  pub still_placed : (place : ℕ) → is_of_place place fact ≡ false
-  still_placed place = not_place place fact stays.0
+  pub still_kept : (cells : ℕ) (way : Way) → is_of_way cells way fact ≡ false
+  still_kept cells Undecided = not_words fact stays.0
+  still_kept cells (InWord p c) = not_place (cache_place cells p) fact stays.0
 
 pub heap_alone : (fact : Fact) → is_of_number fact ≡ false → is_of_heap fact ≡ false
 heap_alone fact e = (neither (is_of_heap fact) (is_flag fact) e).0
@@ -69,8 +78,11 @@ heap_alone fact e = (neither (is_of_heap fact) (is_flag fact) e).0
 pub flag_alone : (fact : Fact) → is_of_number fact ≡ false → is_flag fact ≡ false
 flag_alone fact e = (neither (is_of_heap fact) (is_flag fact) e).1
 
-pub none_too : (test : Fact → Bool) (fact : Fact) → test fact ≡ false → no_fact fact ≡ false
-none_too test fact e = refl
+pub number_under_prepared : (fact : Fact) → is_of_number fact ≡ false → is_under prepared_turn fact ≡ false
+number_under_prepared fact e = flag_under_prepared fact (flag_alone fact e)
+
+pub versions_under_store : (fact : Fact) → is_of_versions fact ≡ false → is_under store_turn fact ≡ false
+versions_under_store fact e = none_under_store fact
 
 pub unguarded : (fact : Fact) → guarded_by fact ≡ None → is_guarded fact ≡ false
 unguarded fact e = ap is_some e

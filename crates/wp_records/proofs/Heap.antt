@@ -6,27 +6,25 @@ use Rattle.std.specs.FinSet as set
 use Rattle.std.specs.FinSet.{nat_cmp-IsAntisymmetric}
 use Rattle.std.specs.FinMap as finite
 use Rattle.std.proofs.lemmas.Bool.{false_from_ne_true, cases_eq}
-use Rattle.wp_model.specs.PreparedTables.{PreparedTables}
+use Rattle.wp_model.specs.PreparedTables.{PreparedTables, NoneDelayed}
 use Rattle.wp_prepared.specs.Least.{AreBelow}
 use Rattle.wp_core.specs.Lists.{IsIn}
-use Rattle.wp_core.specs.Changes.{held_without}
-use Rattle.wp_core.specs.Tables.{WriteTable, Content, writes, prepared, NoneDelayed}
-use Rattle.wp_core.specs.Turns.{prepared_turn}
-use Rattle.wp_core.specs.Views.{Fact, delayed_flag_stays, number_not_in_heap}
+use Rattle.wp_core.specs.Tables.{WriteTable, Content, writes, prepared}
+use Rattle.wp_core.specs.Views.{delayed_flag_stays, number_not_in_heap}
 use Rattle.wp_core.specs.World.{Actor, World}
 use Rattle.wp_core.proofs.HistoryGrows.{none_is}
 use Rattle.wp_core.proofs.HistoryLaws.{decided_within}
-use Rattle.wp_core.proofs.Numbers.{in_removed, in_removed_else, get_removed, get_removed_else}
+use Rattle.wp_model.proofs.Numbers.{in_removed, in_removed_else, get_removed, get_removed_else}
 use Rattle.wp_rule.specs.Knows.{Noted}
 use Rattle.wp_rule.specs.Words.{IsAt}
 use Rattle.wp_rule.proofs.Knows.{at_sound, noted_is}
 use Rattle.wp_rule.proofs.Needed.{within_next}
 use Rattle.wp_shared.specs.Seats.{SharedState, SeatState, Stands, place_at}
-use Rattle.wp_commits.specs.Notes.{is_flag, GoesOn, DelayedFlagTells}
-use Rattle.wp_commits.proofs.Goes.{stays}
-use Rattle.wp_commits.proofs.Held.{writes_are, prepared_are}
+use Rattle.wp_shared.specs.Notes.{GoesOn, DelayedFlagTells}
+use Rattle.wp_shared.proofs.Goes.{stays}
+use Rattle.wp_shared.proofs.Tables.{held_table}
 use Rattle.wp_records.specs.Stages.{is_of_heap, is_of_number}
-use Rattle.wp_records.proofs.Facts.{and_then, flag_alone, heap_alone}
+use Rattle.wp_records.proofs.Facts.{heap_alone}
 
 -- a seat that holds both tables, in a world that a load found
 module _ {D : Type 0} (z : SharedState D) (s t : SeatState) (d : WriteTable) (tables : PreparedTables) (loaded : ℕ) (same : t ≡ s) (at : (w : World) × Stands z t w × (loaded ≡ w.max_evicted)) (held : s.knows.held ≡ prepared tables ∷ writes d ∷ []) where
@@ -37,10 +35,10 @@ module _ {D : Type 0} (z : SharedState D) (s t : SeatState) (d : WriteTable) (ta
   there = subst (λ (x : SeatState). IsAt (place_at z x.by) x.knows w) same at.1
 
   tables_are : w.prepared ≡ tables
-  tables_are = prepared_are (place_at z s.by) s.knows w there tables (subst (IsIn (prepared tables)) (sym held) (inl refl))
+  tables_are = held_table (place_at z s.by) s.knows w (prepared tables) there (subst (IsIn (prepared tables)) (sym held) (inl refl))
 
   writes_is : w.writes ≡ d
-  writes_is = writes_are (place_at z s.by) s.knows w there d (subst (IsIn (writes d)) (sym held) (inr (inl refl)))
+  writes_is = held_table (place_at z s.by) s.knows w (writes d) there (subst (IsIn (writes d)) (sym held) (inr (inl refl)))
 
   abbrev n : ℕ
   n = suc (length d.history)
@@ -89,29 +87,6 @@ module _ {D : Type 0} (z : SharedState D) (s t : SeatState) (d : WriteTable) (ta
 -- the flag tells the same of tables with another heap
 pub flag_still : (a b : Actor) (t u : PreparedTables) (heap : set.FinSet nat_cmp) → u ≡ record t { heap = heap } → ((value : ℕ) → Noted a (delayed_flag_stays value) → Noted b (delayed_flag_stays value)) → DelayedFlagTells a t → DelayedFlagTells b u
 flag_still a b t u heap is keeps f = record { value = f.value; noted = keeps f.value f.noted; empty = λ e. subst NoneDelayed (sym is) (f.empty e); down = λ none. f.down (subst NoneDelayed is none) }
-
--- ---- the turn is taken, the tables become these, and the turn is given
-
-module _ (s t u : SeatState) (d : WriteTable) (before now : PreparedTables) (held : s.knows.held ≡ writes d ∷ []) (first : GoesOn is_flag (prepared before ∷ s.knows.held) (1 ∷ s.turns) s t) where
-  pub held_taken : t.knows.held ≡ prepared before ∷ writes d ∷ []
-  held_taken = ap (λ (x : SeatState). x.knows.held) first.same ∙ ap (λ (h : List Content). prepared before ∷ h) held
-
-  module _ (second : GoesOn is_of_number (prepared now ∷ writes d ∷ []) t.turns t u) where
-    pub turns_taken : u.turns ≡ 1 ∷ s.turns
-    turns_taken = ap (λ (x : SeatState). x.turns) second.same ∙ ap (λ (x : SeatState). x.turns) first.same
-
-    gave : (v : SeatState) → ((others : List ℕ) → u.turns ≡ 1 ∷ others → GoesOn is_flag (held_without u.knows.held prepared_turn) others u v) → GoesOn is_flag (writes d ∷ []) s.turns u v
-    gave v give = subst (λ (h : List Content). GoesOn is_flag (held_without h prepared_turn) s.turns u v) (ap (λ (x : SeatState). x.knows.held) second.same) (give s.turns turns_taken)
-
-    pub through_heap : (v : SeatState) → ((others : List ℕ) → u.turns ≡ 1 ∷ others → GoesOn is_flag (held_without u.knows.held prepared_turn) others u v) → GoesOn is_of_number s.knows.held s.turns s v
-    through_heap v give =
-        let two = and_then is_of_number is_flag is_of_number flag_alone (λ fact e. e) s t u (prepared before ∷ s.knows.held) (prepared now ∷ writes d ∷ []) (1 ∷ s.turns) t.turns first second in
-        let all = and_then is_of_number is_of_number is_flag (λ fact e. e) flag_alone s u v (prepared now ∷ writes d ∷ []) (writes d ∷ []) t.turns s.turns two (gave v give) in
-        subst (λ (h : List Content). GoesOn is_of_number h s.turns s v) (sym held) all
-
-    -- what it noted under the turn, and is no flag's, it has noted still
-    pub noted_through : (v : SeatState) (fact : Fact) → is_flag fact ≡ false → ((others : List ℕ) → u.turns ≡ 1 ∷ others → GoesOn is_flag (held_without u.knows.held prepared_turn) others u v) → Noted u.knows fact → Noted v.knows fact
-    noted_through v fact other give there = (gave v give).noted fact other there
 
 -- ---- the number comes, or goes
 

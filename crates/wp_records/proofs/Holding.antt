@@ -2,17 +2,16 @@
 use Rattle.std.proofs.Common.{◌≡◌, ℕ, Bool, false, List, [], ◌∷◌, length, refl, sym, subst, ap, ◌∙◌, Some}
 use Rattle.wp_model.specs.declared.entry.Entry.{Entry}
 use Rattle.wp_core.specs.Lists.{IsIn}
-use Rattle.wp_core.specs.Tables.{Content, WriteTable, writes}
-use Rattle.wp_core.specs.Views.{Fact, words_stay, versions_nowhere, number_not_in_heap}
+use Rattle.wp_core.specs.Tables.{Content, writes}
+use Rattle.wp_core.specs.Views.{Fact, words_stay}
 use Rattle.wp_core.specs.World.{Participant, Actor}
 use Rattle.wp_rule.specs.Knows.{Noted}
 use Rattle.wp_parts.specs.Log.{LogState}
 use Rattle.wp_shared.specs.Seats.{SharedState, SeatState}
-use Rattle.wp_commits.specs.Notes.{GoesOn}
-use Rattle.wp_records.specs.declared.reached.Reached.{Reached}
-use Rattle.wp_records.specs.declared.reached.Reached.TheVariants.{Pending, InMemory, InHeap}
-use Rattle.wp_records.specs.Writing.{KnowsWords, HoldsWrite}
-use Rattle.wp_records.specs.Stages.{holding, HoldsPending, MemoryAt, HeapAt}
+use Rattle.wp_shared.specs.Notes.{GoesOn}
+use Rattle.wp_shared.specs.Notes.{KnowsWords}
+use Rattle.wp_records.specs.Writing.{HoldsWrite}
+use Rattle.wp_records.specs.Stages.{holding, HoldsPending}
 
 -- ---- the words
 
@@ -31,10 +30,12 @@ words_of_seat s t n same words = words_still s.knows t.knows n (λ bound list th
 module _ {D : Type 0} (z : SharedState D) (s t : SeatState) (log left : LogState) (h : HoldsPending z s log) where
   pub holds_with : (test : Fact → Bool) → GoesOn test (writes left.table ∷ []) s.turns s t → left.first ≡ log.first → left.table.history ≡ log.table.history → KnowsWords t.knows (length log.table.history) → HoldsPending z t left
   holds_with test k first history words = record {
-    same_table = ap (λ (x : SeatState). x.table) k.same ∙ h.same_table;
-    live = ap (λ (x : SeatState). x.knows.live) k.same ∙ h.live;
-    held = ap (λ (x : SeatState). x.knows.held) k.same;
-    turns = ap (λ (x : SeatState). x.turns) k.same ∙ h.turns;
+    turn = record {
+      same_table = ap (λ (x : SeatState). x.table) k.same ∙ h.turn.same_table;
+      live = ap (λ (x : SeatState). x.knows.live) k.same ∙ h.turn.live;
+      held = ap (λ (x : SeatState). x.knows.held) k.same;
+      turns = ap (λ (x : SeatState). x.turns) k.same ∙ h.turn.turns;
+    };
     seen = ap (λ (x : SeatState). x.knows.participant.seen) k.same ∙ h.seen ∙ sym history;
     of_store = h.of_store ∙ ap Some (sym first);
     words = subst (λ (e : List Entry). KnowsWords t.knows (length e)) (sym history) words;
@@ -43,10 +44,12 @@ module _ {D : Type 0} (z : SharedState D) (s t : SeatState) (log left : LogState
   -- the log changed, and what is remembered of that
   pub holds_as : (after : Participant) → after.seen ≡ s.knows.participant.seen → t ≡ holding left.table (record s { knows = record s.knows { participant = after } }) → left.first ≡ log.first → left.table.history ≡ log.table.history → HoldsPending z t left
   holds_as after seen is first history = record {
-    same_table = ap (λ (x : SeatState). x.table) is ∙ h.same_table;
-    live = ap (λ (x : SeatState). x.knows.live) is ∙ h.live;
-    held = ap (λ (x : SeatState). x.knows.held) is;
-    turns = ap (λ (x : SeatState). x.turns) is ∙ h.turns;
+    turn = record {
+      same_table = ap (λ (x : SeatState). x.table) is ∙ h.turn.same_table;
+      live = ap (λ (x : SeatState). x.knows.live) is ∙ h.turn.live;
+      held = ap (λ (x : SeatState). x.knows.held) is;
+      turns = ap (λ (x : SeatState). x.turns) is ∙ h.turn.turns;
+    };
     seen = ap (λ (x : SeatState). x.knows.participant.seen) is ∙ seen ∙ h.seen ∙ sym history;
     of_store = h.of_store ∙ ap Some (sym first);
     words = subst (λ (e : List Entry). KnowsWords t.knows (length e)) (sym history) (words_of_seat s t (length log.table.history) (ap (λ (x : SeatState). x.knows.notes) is) h.words);
@@ -54,22 +57,10 @@ module _ {D : Type 0} (z : SharedState D) (s t : SeatState) (log left : LogState
 
 -- the stage left the tables and the turns as they were
 pub still_holds : {D : Type 0} (z : SharedState D) (s t : SeatState) (log : LogState) (test : Fact → Bool) → HoldsPending z s log → GoesOn test s.knows.held s.turns s t → KnowsWords t.knows (length log.table.history) → HoldsPending z t log
-still_holds z s t log test h k words = holds_with z s t log log h test (subst (λ (c : List Content). GoesOn test c s.turns s t) h.held k) refl refl words
+still_holds z s t log test h k words = holds_with z s t log log h test (subst (λ (c : List Content). GoesOn test c s.turns s t) h.turn.held k) refl refl words
 
 pub as_pending : {D : Type 0} (z : SharedState D) (s : SeatState) (log : LogState) → HoldsWrite z s log → HoldsPending z s log
-as_pending z s log h = record { same_table = h.same_table; live = h.live; held = h.held; turns = h.turns; seen = h.seen; of_store = h.of_store; words = h.words }
+as_pending z s log h = record { turn = h.turn; seen = h.seen; of_store = h.of_store; words = h.words }
 
 pub as_write : {D : Type 0} (z : SharedState D) (s : SeatState) (log : LogState) → HoldsPending z s log → log.table.pending ≡ [] → HoldsWrite z s log
-as_write z s log h none = record { same_table = h.same_table; live = h.live; held = h.held; turns = h.turns; pending = none; seen = h.seen; of_store = h.of_store; words = h.words }
-
--- ---- how far the record came
-
-pub memory_still : (reached : Reached) (a b : Actor) → (Noted a versions_nowhere → Noted b versions_nowhere) → MemoryAt reached a → MemoryAt reached b
-memory_still Pending a b keeps k = keeps k
-memory_still InMemory a b keeps k = tt
-memory_still InHeap a b keeps k = tt
-
-pub heap_still : (reached : Reached) (a b : Actor) (d e : WriteTable) → (Noted a number_not_in_heap → Noted b number_not_in_heap) → e.pending ≡ d.pending → HeapAt reached a d → HeapAt reached b e
-heap_still Pending a b d e keeps same k = keeps k
-heap_still InMemory a b d e keeps same k = keeps k
-heap_still InHeap a b d e keeps same k = (k.0, k.1, k.2, same ∙ k.3)
+as_write z s log h none = record { turn = h.turn; pending = none; seen = h.seen; of_store = h.of_store; words = h.words }

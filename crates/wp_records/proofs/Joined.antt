@@ -1,27 +1,33 @@
 -- Entries that join the history: what is known before, and after.
-use Rattle.std.proofs.Common.{◌≡◌, ◌≢◌, ⊎_elim, inl, inr, ℕ, suc, ◌≤◌, List, [], ◌∷◌, ◌++◌, length, length-append, refl, sym, subst, ap, ◌∙◌, Some, None, arith}
+use Rattle.std.proofs.Common.{◌≡◌, ◌≢◌, ⊎_elim, inl, inr, ℕ, suc, ◌≤◌, true, false, true≢false, List, [], ◌∷◌, ◌++◌, length, length-append, append_assoc, refl, sym, subst, ap, ◌∙◌, Option, Some, arith}
 use Rattle.std.specs.FinMap as finite
-use Rattle.std.proofs.lemmas.Bool.{cases_eq}
 use Rattle.wp_model.specs.declared.entry.Entry.{Entry}
-use Rattle.wp_model.specs.declared.entry.Entry.TheVariants.{Write, Prepare, Commit, Undo, Close}
+use Rattle.wp_model.specs.declared.entry.Entry.TheVariants.{Prepare, Commit, Undo, Close}
+use Rattle.wp_model.specs.History.{is_prepare}
+use Rattle.wp_model.specs.Legal.{IsLegal}
 use Rattle.wp_judge.specs.Words.{CommitPair}
-use Rattle.wp_core.specs.Cache.{cache_place, pair_at, with_pair}
+use Rattle.wp_core.specs.Cache.{cache_place}
 use Rattle.wp_core.specs.Conditions.{HasTransaction, IsPrepare}
-use Rattle.wp_core.specs.Entries.{pair_by, pending_pair}
+use Rattle.wp_core.specs.Entries.{next_of, pair_by, pending_pair, IsOneRecord}
 use Rattle.wp_core.specs.Tables.{WriteTable, writes}
-use Rattle.wp_core.specs.Views.{passed, in_old_commits, apart, words_stay, versions_in_memory, number_in_heap}
+use Rattle.wp_core.specs.Views as view
+use Rattle.wp_core.specs.Views.{Fact, passed, in_old_commits, words_stay, versions_in_memory, versions_nowhere, number_in_heap, number_not_in_heap}
 use Rattle.wp_core.specs.World.{Transaction, Participant, Actor}
-use Rattle.wp_core.proofs.Tests.{same_some}
-use Rattle.wp_rule.specs.Knows.{KnowsHeld, Noted}
+use Rattle.wp_core.proofs.HistoryLaws.{first_legal}
+use Rattle.wp_rule.specs.Knows.{KnowsHeld, HasNoVersions, Noted}
 use Rattle.wp_parts.specs.Log.{LogState}
 use Rattle.wp_shared.specs.Seats.{SharedState, SeatState}
-use Rattle.wp_commits.specs.Cleared.{IsCleared, IsReadyAt, IsReady}
-use Rattle.wp_commits.specs.Notes.{is_of_place, GoesOn}
-use Rattle.wp_records.specs.Writing.{ArePublished, KnowsWords}
-use Rattle.wp_records.specs.Records.{OwnsEntry, OwnsEntries}
-use Rattle.wp_records.specs.Stages.{may_end, as_published, HoldsPending, IsNext, IsInPlace, MayDecide, IsPublished, HasJoined}
-use Rattle.wp_records.proofs.Facts.{still_over, still_placed}
-use Rattle.wp_records.proofs.Words.{no_prepare, entered_published, published_later}
+use Rattle.wp_commits.specs.declared.way.Way.{Way}
+use Rattle.wp_commits.specs.declared.way.Way.TheVariants.{Undecided, InWord}
+use Rattle.wp_commits.specs.Cleared.{IsReadyAt}
+use Rattle.wp_shared.specs.Notes.{noting, GoesOn}
+use Rattle.wp_commits.specs.Ways.{way_of, ways_of, is_of_way, with_way, IsReadyFor, AreReady, IsElsewhere, MayPrecede, AreApart, IsEntered}
+use Rattle.wp_commits.proofs.Ways.{KeepsReady, keeps_ready, ready_still, are_ready_still, ready_behind, pair_of_way}
+use Rattle.wp_shared.specs.Notes.{ArePublished}
+use Rattle.wp_records.specs.Records.{OwnsEntry, OwnsEntries, MayPut}
+use Rattle.wp_records.specs.Stages.{is_of_pending, is_over, may_end, as_published, rest_of, HoldsPending, IsNext, IsInPlace, IsReadied, IsLogged, IsPublished, HasJoined, AreBehind, MayJoin}
+use Rattle.wp_records.proofs.Facts.{still_over, still_kept}
+use Rattle.wp_records.proofs.Words.{pending_decides, way_published}
 
 -- ---- what is owned
 
@@ -42,112 +48,213 @@ module _ (a b : Actor) (direct : b.participant.direct ≡ a.participant.direct) 
   own_still history [] o = tt
   own_still history (entry ∷ others) o = (owns_still history entry o.0, own_still (history ++ entry ∷ []) others o.1)
 
--- ---- before
+-- ---- the pending entries
 
-pub next_ready : (a : Actor) (cells : ℕ) (d : WriteTable) (n : ℕ) (cleared : List ℕ) → n ≡ suc (length d.history) → (k : MayDecide a cells d n cleared) → IsReady a cells d (record { number = k.number; decision = n })
-next_ready a cells d n cleared number k = record {
-  pending = ap (pending_pair d.history) k.next.pending ∙ (ap (λ (m : ℕ). pair_by m k.entry) (sym number) ∙ k.pair);
-  word = k.ready;
-}
+pub split : (pending : List Entry) → pending ≢ [] → (entry : Entry) × (others : List Entry) × (pending ≡ entry ∷ others)
+split [] some = absurd (some refl)
+split (entry ∷ others) some = (entry, others, refl)
 
-pub next_still : (a b : Actor) (d : WriteTable) (entry : Entry) (others : List Entry) → b.participant ≡ a.participant → (Noted a versions_in_memory → Noted b versions_in_memory) → IsNext a d entry others → IsNext b d entry others
-next_still a b d entry others same keeps k = record {
-  pending = k.pending;
-  logged = k.logged;
-  legal = k.legal;
-  versions = keeps k.versions;
-  owned = owns_still a b (ap (λ (x : Participant). x.direct) same) (ap (λ (x : Participant). x.transactions) same) d.history entry k.owned;
-}
+pub one_some : (entries : List Entry) → IsOneRecord entries → entries ≢ []
+one_some [] one e = absurd one
+one_some (entry ∷ others) one e = absurd cc
 
--- the pair that was entered is in its word
-pub entered_in_place : (a : Actor) (cells : ℕ) (d : WriteTable) (n : ℕ) (entry : Entry) (p : ℕ) → n ≡ suc (length d.history) → pair_by n entry ≡ Some (record { number = p; decision = n })
-    → (bound : ℕ) (words : List ℕ) → Noted a (words_stay bound words) → pair_at words (cache_place cells p) ≡ Some (record { number = p; decision = n }) → IsInPlace a cells d entry
-entered_in_place a cells d n entry p number is bound words noted there = record {
-  number = λ prepare. absurd (no_prepare n entry (record { number = p; decision = n }) is prepare);
-  pair = λ pair e.
-      let same : record { number = p; decision = n } ≡ pair = same_some (record { number = p; decision = n }) pair (sym is ∙ (ap (λ (m : ℕ). pair_by m entry) number ∙ e)) in
-      (bound, words, noted, subst (λ (x : CommitPair). pair_at words (cache_place cells x.number) ≡ Some x) same there);
-}
+-- of one record those behind the first have no versions
+pub one_behind : (entries : List Entry) → IsOneRecord entries → AreBehind (rest_of entries)
+one_behind [] one = tt
+one_behind (entry ∷ []) one = tt
+one_behind (Undo p batch ∷ Close q ∷ []) one = tt
+one_behind others one = absurd one
 
-prepare_decides : (n : ℕ) (entry : Entry) → IsPrepare entry → pair_by n entry ≡ None
-prepare_decides n (Prepare name batch) is = refl
-prepare_decides n (Write batch) is = absurd is
-prepare_decides n (Commit p) is = absurd is
-prepare_decides n (Undo p batch) is = absurd is
-prepare_decides n (Close p) is = absurd is
+pub behind_bare : (entries : List Entry) → AreBehind entries → HasNoVersions (next_of entries)
+behind_bare [] behind key = refl
+behind_bare (Commit p ∷ entries) behind key = refl
+behind_bare (Close p ∷ entries) behind key = refl
+behind_bare other behind key = absurd behind
 
-pub prepare_in_place : (a : Actor) (cells : ℕ) (d : WriteTable) (entry : Entry) → IsPrepare entry → Noted a number_in_heap → IsInPlace a cells d entry
-prepare_in_place a cells d entry is noted = record {
-  number = λ same. noted;
-  pair = λ pair e. let no : None ≡ Some pair = sym (prepare_decides (suc (length d.history)) entry is) ∙ e in absurd (cc);
-}
+behind_decides : (entries : List Entry) → AreBehind entries → is_prepare (next_of entries) ≡ true → ⊥
+behind_decides [] behind is = true≢false (sym is)
+behind_decides (Commit p ∷ entries) behind is = true≢false (sym is)
+behind_decides (Close p ∷ entries) behind is = true≢false (sym is)
+behind_decides other behind is = behind
 
--- ---- after
+behind_rest : (entries : List Entry) → AreBehind entries → AreBehind (rest_of entries)
+behind_rest [] behind = tt
+behind_rest (Commit p ∷ entries) behind = behind
+behind_rest (Close p ∷ entries) behind = behind
+behind_rest other behind = absurd behind
 
-module _ {D : Type 0} (z : SharedState D) (s t u : SeatState) (log left : LogState) (entry : Entry) (others : List Entry) (place : ℕ) (h : HoldsPending z s log) (first : GoesOn (is_of_place place) s.knows.held s.turns s t) (k : IsPublished t log entry others u left) where
-  -- the pair was entered, and then the entry joined the history
-  pub joined_goes : GoesOn (may_end log.table.history entry) (writes left.table ∷ []) s.turns (as_published log.table.history entry s) u
-  joined_goes =
-      let same : u ≡ record (as_published log.table.history entry t) { knows = record (as_published log.table.history entry t).knows { held = writes left.table ∷ []; notes = u.knows.notes }; turns = t.turns } = k.seat.same in
-      record {
-        same = same ∙ ap (λ (x : SeatState). record (as_published log.table.history entry x) { knows = record (as_published log.table.history entry x).knows { held = writes left.table ∷ []; notes = u.knows.notes }; turns = x.turns }) first.same;
-        noted = λ fact other there. k.seat.noted fact (still_over log.table.history entry fact other) (first.noted fact (still_placed log.table.history entry fact other place) there);
+is_a_prepare : (entry : Entry) → IsPrepare entry → is_prepare (Some entry) ≡ true
+is_a_prepare (Prepare name batch) is = refl
+is_a_prepare other is = absurd is
+
+pub first_ready : (a : Actor) (cells : ℕ) (history pending : List Entry) → AreReady a cells (length history) (ways_of (suc (length history)) pending) → IsReadyFor a cells (length history) (way_of (pending_pair history pending))
+first_ready a cells history [] r = tt
+first_ready a cells history (entry ∷ others) r = r.0
+
+-- ---- the first of them joins
+
+module _ {D : Type 0} (z : SharedState D) (s t u : SeatState) (log left : LogState) (entry : Entry) (others : List Entry) (h : HoldsPending z s log) (pending : log.table.pending ≡ entry ∷ others) (may : MayJoin s.knows z.cells log.table) where
+  abbrev way : Way
+  way = way_of (pending_pair log.table.history log.table.pending)
+
+  pair_is : pending_pair log.table.history log.table.pending ≡ pair_by (suc (length log.table.history)) entry
+  pair_is = ap (pending_pair log.table.history) pending
+
+  -- its pair was entered
+  module _ (first : GoesOn (is_of_way z.cells way) s.knows.held s.turns s t) where
+    lets : (w : Way) (fact : Fact) → is_of_pending fact ≡ true → is_of_way z.cells w fact ≡ false
+    lets Undecided versions_in_memory e = refl
+    lets Undecided versions_nowhere e = refl
+    lets Undecided number_in_heap e = refl
+    lets Undecided number_not_in_heap e = refl
+    lets Undecided other e = absurd (true≢false (sym e))
+    lets (InWord p c) versions_in_memory e = refl
+    lets (InWord p c) versions_nowhere e = refl
+    lets (InWord p c) number_in_heap e = refl
+    lets (InWord p c) number_not_in_heap e = refl
+    lets (InWord p c) other e = absurd (true≢false (sym e))
+
+    pub next_still : Noted s.knows versions_in_memory → IsNext t.knows log.table entry others
+    next_still versions =
+        let same : t.knows.participant ≡ s.knows.participant = ap (λ (x : SeatState). x.knows.participant) first.same in
+        let owned : OwnsEntries s.knows log.table.history (entry ∷ others) = subst (OwnsEntries s.knows log.table.history) pending may.may.owned in
+        record {
+          pending = pending;
+          logged = may.logged;
+          legal = first_legal log.table.history entry others (subst (λ (e : List Entry). IsLegal (log.table.history ++ e)) pending may.may.legal);
+          versions = first.noted versions_in_memory (lets way versions_in_memory refl) versions;
+          owned = owns_still s.knows t.knows (ap (λ (x : Participant). x.direct) same) (ap (λ (x : Participant). x.transactions) same) log.table.history entry owned.0;
+        }
+
+    pub entered_in_place : (bound : ℕ) (words : List ℕ) → Noted t.knows (words_stay bound words) → IsEntered z.cells words way → IsInPlace t.knows z.cells log.table entry
+    entered_in_place bound words noted there = record {
+      number = λ prepare. first.noted number_in_heap (lets way number_in_heap refl) (may.number (ap (λ (e : List Entry). is_prepare (next_of e)) pending ∙ is_a_prepare entry prepare));
+      pair = λ pair e. (bound, words, noted, subst (λ (o : Option CommitPair). IsEntered z.cells words (way_of o)) (pair_is ∙ e) there);
+    }
+
+    -- and it joined the history
+    module _ (k : IsPublished t log entry others u left) where
+      pub joined_goes : GoesOn (may_end log.table.history entry) (writes left.table ∷ []) s.turns (as_published log.table.history entry s) u
+      joined_goes =
+          let same : u ≡ record (as_published log.table.history entry t) { knows = record (as_published log.table.history entry t).knows { held = writes left.table ∷ []; notes = u.knows.notes }; turns = t.turns } = k.seat.same in
+          record {
+            same = same ∙ ap (λ (x : SeatState). record (as_published log.table.history entry x) { knows = record (as_published log.table.history entry x).knows { held = writes left.table ∷ []; notes = u.knows.notes }; turns = x.turns }) first.same;
+            noted = λ fact other there. k.seat.noted fact (still_over log.table.history entry fact other) (first.noted fact (still_kept log.table.history entry fact other z.cells way) there);
+          }
+
+      history_is : left.table.history ≡ log.table.history ++ entry ∷ []
+      history_is = ap (λ (x : LogState). x.table.history) k.log_is
+
+      pending_is : left.table.pending ≡ others
+      pending_is = ap (λ (x : LogState). x.table.pending) k.log_is
+
+      longer : length left.table.history ≡ suc (length log.table.history)
+      longer = let l = length-append log.table.history (entry ∷ []) in ap length history_is ∙ omega (arith, l)
+
+      -- with these words, which it noted before
+      pub joined : (bound : ℕ) (words : List ℕ) → ArePublished (length log.table.history) words → Noted t.knows (words_stay bound (with_way words way)) → HasJoined z s log entry others u left
+      joined bound words are noted = record {
+        holds = record {
+          turn = record {
+            same_table = ap (λ (x : SeatState). x.table) joined_goes.same ∙ h.turn.same_table;
+            live = ap (λ (x : SeatState). x.knows.live) joined_goes.same ∙ h.turn.live;
+            held = ap (λ (x : SeatState). x.knows.held) joined_goes.same;
+            turns = ap (λ (x : SeatState). x.turns) joined_goes.same ∙ h.turn.turns;
+          };
+          seen = ap (λ (x : SeatState). x.knows.participant.seen) joined_goes.same ∙ sym history_is;
+          of_store = h.of_store ∙ ap Some (sym (ap (λ (x : LogState). x.first) k.log_is));
+          words = record {
+            bound = bound;
+            words = with_way words way;
+            noted = k.seat.noted (words_stay bound (with_way words way)) refl noted;
+            are_published = subst (λ (n : ℕ). ArePublished n (with_way words way)) (sym longer)
+                (way_published (length log.table.history) words (pending_pair log.table.history log.table.pending) (pending_decides log.table.history log.table.pending) are);
+          };
+        };
+        seat = joined_goes;
+        log_is = k.log_is;
       }
 
-  history_is : left.table.history ≡ log.table.history ++ entry ∷ []
-  history_is = ap (λ (x : LogState). x.table.history) k.log_is
+      -- the others may join behind it
+      pub others_join : ((place : ℕ) → IsElsewhere z.cells place way → IsReadyAt s.knows (length log.table.history) place → IsReadyAt t.knows (length log.table.history) place)
+          → (bound : ℕ) (words : List ℕ) → Noted t.knows (words_stay bound words) → IsEntered z.cells words way → MayJoin u.knows z.cells left.table × AreBehind left.table.pending
+      others_join elsewhere bound words noted there =
+          let behind : AreBehind others = subst (λ (e : List Entry). AreBehind (rest_of e)) pending may.behind in
+          let same : u.knows.participant ≡ (as_published log.table.history entry s).knows.participant = ap (λ (x : SeatState). x.knows.participant) joined_goes.same in
+          let legal : IsLegal (log.table.history ++ entry ∷ others) = subst (λ (e : List Entry). IsLegal (log.table.history ++ e)) pending may.may.legal in
+          let owned : OwnsEntries s.knows log.table.history (entry ∷ others) = subst (OwnsEntries s.knows log.table.history) pending may.may.owned in
+          let pairs : AreReady s.knows z.cells (length log.table.history) (way_of (pair_by (suc (length log.table.history)) entry) ∷ ways_of (suc (suc (length log.table.history))) others) =
+          subst (λ (e : List Entry). AreReady s.knows z.cells (length log.table.history) (ways_of (suc (length log.table.history)) e)) pending may.pairs in
+          let apart : AreApart z.cells (way_of (pair_by (suc (length log.table.history)) entry) ∷ ways_of (suc (suc (length log.table.history))) others) =
+          subst (λ (e : List Entry). AreApart z.cells (ways_of (suc (length log.table.history)) e)) pending may.apart in
+          let keeps = keeps_ready (is_over log.table.history entry) (as_published log.table.history entry t) u (writes left.table ∷ []) t.turns (λ place pair. (refl, refl, refl)) k.seat (λ b list n. (b, k.seat.noted (words_stay b list) refl n)) in
+          let later : length log.table.history ≤ length left.table.history = let l = longer in omega (arith, l) in
+          let own : (p c : ℕ) → way ≡ InWord p c → p ≡ c → IsReadyAt u.knows (length left.table.history) (cache_place z.cells p) = λ p c is itself.
+          let last : c ≡ suc (length log.table.history) = pending_decides log.table.history log.table.pending (record { number = p; decision = c }) (pair_of_way (pending_pair log.table.history log.table.pending) p c is) in
+          let l = longer in
+          inr (
+            bound,
+            words,
+            c,
+            k.seat.noted (words_stay bound words) refl noted,
+            omega (arith, l, last),
+            subst (λ (w : Way). IsEntered z.cells words w) is there ∙ ap (λ (q : ℕ). Some (record { number = q; decision = c })) itself,
+          ) in
+          let ready : AreReady u.knows z.cells (length left.table.history) (ways_of (suc (suc (length log.table.history))) others) =
+          ready_behind s.knows u.knows z.cells (length log.table.history) (length left.table.history) way (ways_of (suc (suc (length log.table.history))) others)
+          (λ place away r. ready_still (as_published log.table.history entry t).knows u.knows z.cells (length log.table.history) (length left.table.history) keeps later place (elsewhere place away r))
+          own
+          (subst (λ (o : Option CommitPair). MayPrecede z.cells (way_of o) (ways_of (suc (suc (length log.table.history))) others)) (sym pair_is) apart.0)
+          pairs.1 in (
+            record {
+              logged = ap (λ (x : LogState). x.table.logged) k.log_is ∙ may.logged;
+              may = record {
+                legal = subst (λ (x : List Entry × List Entry). IsLegal (x.0 ++ x.1)) (λ i. (sym history_is i, sym pending_is i)) (subst IsLegal (sym (append_assoc log.table.history (entry ∷ []) others)) legal);
+                owned = subst (λ (x : List Entry × List Entry). OwnsEntries u.knows x.0 x.1) (λ i. (sym history_is i, sym pending_is i))
+                    (own_still s.knows u.knows (ap (λ (x : Participant). x.direct) same) (ap (λ (x : Participant). x.transactions) same) (log.table.history ++ entry ∷ []) others owned.1);
+              };
+              number = λ is. absurd (behind_decides others behind (sym (ap (λ (e : List Entry). is_prepare (next_of e)) pending_is) ∙ is));
+              pairs = subst (λ (x : ℕ × List Entry). AreReady u.knows z.cells (length left.table.history) (ways_of (suc x.0) x.1)) (λ i. (sym longer i, sym pending_is i)) ready;
+              apart = subst (λ (x : ℕ × List Entry). AreApart z.cells (ways_of (suc x.0) x.1)) (λ i. (sym longer i, sym pending_is i)) apart.1;
+              behind = subst (λ (e : List Entry). AreBehind (rest_of e)) (sym pending_is) (behind_rest others behind);
+            },
+            subst AreBehind (sym pending_is) behind,
+          )
 
-  pub longer : length left.table.history ≡ suc (length log.table.history)
-  longer = let l = length-append log.table.history (entry ∷ []) in ap length history_is ∙ omega (arith, l)
+-- they may do so still where the participant is the same, and no note is gone
+pub joins_still : (a b : Actor) (cells : ℕ) (d : WriteTable) → b.participant ≡ a.participant → ((fact : Fact) → Noted a fact → Noted b fact) → MayJoin a cells d → MayJoin b cells d
+joins_still a b cells d same noted k =
+    let keeps : KeepsReady a b = record {
+      words = λ bound words there. (bound, noted (words_stay bound words) there);
+      gone = λ place pair go. (noted (passed place pair) go.0, noted (in_old_commits place pair) go.1, noted (view.apart place pair) go.2);
+    } in
+    record {
+      logged = k.logged;
+      may = record { legal = k.may.legal; owned = own_still a b (ap (λ (x : Participant). x.direct) same) (ap (λ (x : Participant). x.transactions) same) d.history d.pending k.may.owned };
+      number = λ is. noted number_in_heap (k.number is);
+      pairs = are_ready_still a b cells (length d.history) (length d.history) keeps (omega arith) (ways_of (suc (length d.history)) d.pending) k.pairs;
+      apart = k.apart;
+      behind = k.behind;
+    }
 
-  pub joined_holds : KnowsWords u.knows (length left.table.history) → HoldsPending z u left
-  joined_holds words = record {
-    same_table = ap (λ (x : SeatState). x.table) joined_goes.same ∙ h.same_table;
-    live = ap (λ (x : SeatState). x.knows.live) joined_goes.same ∙ h.live;
-    held = ap (λ (x : SeatState). x.knows.held) joined_goes.same;
-    turns = ap (λ (x : SeatState). x.turns) joined_goes.same ∙ h.turns;
-    seen = ap (λ (x : SeatState). x.knows.participant.seen) joined_goes.same ∙ sym history_is;
-    of_store = h.of_store ∙ ap Some (sym (ap (λ (x : LogState). x.first) k.log_is));
-    words = words;
-  }
+pub noted_join : (s t : SeatState) (fact : Fact) (cells : ℕ) (d : WriteTable) → t ≡ noting fact s → MayJoin s.knows cells d → MayJoin t.knows cells d
+noted_join s t fact cells d is k = joins_still s.knows t.knows cells d (ap (λ (x : SeatState). x.knows.participant) is) (λ other there. subst (λ (x : SeatState). Noted x.knows other) (sym is) (inr there)) k
 
-  -- these words, which it noted before, it knows as published ones
-  pub joined_words : (bound : ℕ) (words : List ℕ) → Noted t.knows (words_stay bound words) → ArePublished (length left.table.history) words → KnowsWords u.knows (length left.table.history)
-  joined_words bound words noted are = record { bound = bound; words = words; noted = k.seat.noted (words_stay bound words) refl noted; are_published = are }
+-- ---- the record is ready, and was logged
 
-  pub joined : KnowsWords u.knows (length left.table.history) → HasJoined z s log entry others u left
-  joined words = record { holds = joined_holds words; seat = joined_goes; log_is = k.log_is }
-
-  -- what was cleared then is so still
-  pub cleared_still : (place : ℕ) → IsCleared t.knows place → IsCleared u.knows place
-  cleared_still i (inl empty) = inl (empty.0, empty.1, k.seat.noted (words_stay empty.0 empty.1) refl empty.2, empty.3)
-  cleared_still i (inr gone) = inr (gone.0, (k.seat.noted (passed i gone.0) refl gone.1.0, k.seat.noted (in_old_commits i gone.0) refl gone.1.1, k.seat.noted (apart i gone.0) refl gone.1.2))
-
-  -- a word for the next pair is ready still, or has the pair of the entry, which decided itself
-  pub ready_next : (cells n q : ℕ) → n ≡ suc (length log.table.history) → (bound : ℕ) (words : List ℕ) → Noted t.knows (words_stay bound words) → pair_at words (cache_place cells n) ≡ Some (record { number = n; decision = n })
-      → ((i : ℕ) → i ≢ cache_place cells n → IsCleared s.knows i → IsCleared t.knows i) → IsCleared s.knows (cache_place cells q) → IsReadyAt u.knows (length left.table.history) (cache_place cells q)
-  ready_next cells n q number bound words noted there elsewhere cleared =
-      elim (cases_eq (cache_place cells q) (cache_place cells n)) [
-        | inl same ↦
-            let low : n ≤ length left.table.history = let l = longer in omega (arith, number, l) in
-            inr (bound, words, n, k.seat.noted (words_stay bound words) refl noted, low, ap (pair_at words) same ∙ there)
-        | inr other ↦ inl (cleared_still (cache_place cells q) (elsewhere (cache_place cells q) other cleared))
-      ]
-
-  -- the words that were noted, with the pair that was entered as this number
-  pub entered_joins : (n p : ℕ) → n ≡ suc (length log.table.history) → (w : KnowsWords s.knows (length log.table.history)) (bound : ℕ) → Noted t.knows (words_stay bound (with_pair w.words (record { number = p; decision = n }))) → HasJoined z s log entry others u left
-  entered_joins n p number w bound noted =
-      let l = longer in
-      joined (joined_words bound (with_pair w.words (record { number = p; decision = n })) noted
-      (entered_published (length log.table.history) (length left.table.history) w.words (record { number = p; decision = n }) (omega (arith, l)) (omega (arith, number, l)) w.are_published))
-
-  -- the words that were noted, where none was entered
-  pub kept_joins : KnowsWords s.knows (length log.table.history) → t ≡ s → HasJoined z s log entry others u left
-  kept_joins w same =
-      let l = longer in
-      joined (joined_words w.bound w.words (subst (λ (x : SeatState). Noted x.knows (words_stay w.bound w.words)) (sym same) w.noted)
-      (published_later (length log.table.history) (length left.table.history) w.words (omega (arith, l)) w.are_published))
-
--- the first of what is pending is what it is
-pub same_pending : (pending others rest : List Entry) (entry first : Entry) → pending ≡ entry ∷ others → pending ≡ first ∷ rest → (first ≡ entry) × (rest ≡ others)
-same_pending pending others rest entry first one two = let e : first ∷ rest ≡ entry ∷ others = sym two ∙ one in (cc, cc)
+pub logged_join : {D : Type 0} (z : SharedState D) (s t : SeatState) (log mid : LogState) (cells : ℕ) → IsOneRecord log.table.pending → MayPut s.knows log.table.history log.table.pending → AreApart cells (ways_of (suc (length log.table.history)) log.table.pending) → IsReadied s.knows cells log.table
+    → IsLogged z s log t mid → MayJoin t.knows cells mid.table × Noted t.knows versions_in_memory
+logged_join z s t log mid cells one may apart ready k =
+    let noted : (fact : Fact) → Noted s.knows fact → Noted t.knows fact = λ fact there. subst (λ (x : SeatState). Noted x.knows fact) (sym k.seat) there in
+    let history : mid.table.history ≡ log.table.history = ap (λ (x : WriteTable). x.history) k.table in
+    let pending : mid.table.pending ≡ log.table.pending = ap (λ (x : WriteTable). x.pending) k.table in (
+      joins_still s.knows t.knows cells mid.table (ap (λ (x : SeatState). x.knows.participant) k.seat) noted (record {
+        logged = ap (λ (x : WriteTable). x.logged) k.table;
+        may = subst (λ (x : List Entry × List Entry). MayPut s.knows x.0 x.1) (λ i. (sym history i, sym pending i)) may;
+        number = λ is. ready.number (ap (λ (e : List Entry). is_prepare (next_of e)) (sym pending) ∙ is);
+        pairs = subst (λ (x : List Entry × List Entry). AreReady s.knows cells (length x.0) (ways_of (suc (length x.0)) x.1)) (λ i. (sym history i, sym pending i)) ready.pairs;
+        apart = subst (λ (x : List Entry × List Entry). AreApart cells (ways_of (suc (length x.0)) x.1)) (λ i. (sym history i, sym pending i)) apart;
+        behind = subst (λ (e : List Entry). AreBehind (rest_of e)) (sym pending) (one_behind log.table.pending one);
+      }),
+      noted versions_in_memory ready.versions,
+    )

@@ -1,12 +1,10 @@
 pub mod Facts
 pub mod Holding
 pub mod Made
-pub mod WriteTurn
 pub mod Stock
 pub mod Heap
 pub mod Words
 pub mod Begun
 pub mod Joined
-pub mod Following
 pub mod Puts
 pub mod Readied

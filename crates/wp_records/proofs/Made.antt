@@ -19,7 +19,7 @@ use Rattle.wp_core.specs.Tables.{Content, WriteTable, StoreTable, writes, prepar
 use Rattle.wp_core.specs.Turns.{write_turn}
 use Rattle.wp_core.specs.Views.{Fact, words_stay, versions_in_memory, versions_nowhere, number_in_heap, number_not_in_heap, undecided_at, prior_values, unprepared}
 use Rattle.wp_core.specs.World.{Actor, World}
-use Rattle.wp_core.proofs.Numbers.{in_inserted, in_removed}
+use Rattle.wp_model.proofs.Numbers.{in_inserted, in_removed}
 use Rattle.wp_rule.specs.Knows.{Noted}
 use Rattle.wp_rule.specs.Moves.{MayMake, MayStep, Moved, Outlasts, actor_after}
 use Rattle.wp_rule.specs.Words.{Place, IsAt}
@@ -31,11 +31,11 @@ use Rattle.wp_rule.proofs.Outlasting.{outlasts}
 use Rattle.wp_rule.proofs.Stores.{holder_is_live}
 use Rattle.wp_shared.specs.Seats.{SeatState}
 use Rattle.wp_shared.proofs.OneStep.{made, becomes}
-use Rattle.wp_commits.specs.Notes.{GoesOn}
-use Rattle.wp_commits.proofs.Goes.{goes_with}
-use Rattle.wp_commits.proofs.Held.{writes_are, prepared_are}
-use Rattle.wp_commits.proofs.Turns.{note_ends_none}
-use Rattle.wp_records.specs.Writing.{KnowsWords}
+use Rattle.wp_shared.specs.Notes.{GoesOn}
+use Rattle.wp_shared.proofs.Goes.{goes_with}
+use Rattle.wp_shared.proofs.Tables.{held_table}
+use Rattle.wp_commits.proofs.Flags.{note_ends_none}
+use Rattle.wp_shared.specs.Notes.{KnowsWords}
 use Rattle.wp_records.specs.Stages.{is_of_versions, is_of_heap, is_of_pending, is_over, holding, as_failed, as_published, HasPrepare, IsUnlogged, IsNext, IsInPlace}
 use Rattle.wp_records.proofs.Words.{uncached}
 
@@ -85,7 +85,7 @@ pub began : (p : Place) (so : World → Type 0) (s u : SeatState) → (u.table �
 began p so s u same t d held is m =
     let w = m.world in
     let steps : World → List Step = λ v. make_pending d.pending ∷ note versions_nowhere ∷ note number_not_in_heap ∷ [] in
-    let table : w.writes ≡ t = writes_are p s.knows w m.before t (first_held s.knows (writes t) [] held) in
+    let table : w.writes ≡ t = held_table p s.knows w (writes t) m.before (first_held s.knows (writes t) [] held) in
     let left : held_with s.knows.held (writes (record w.writes { pending = d.pending; logged = false })) ≡ writes d ∷ [] =
     (λ i. held_with (held i) (writes (record (table i) { pending = d.pending; logged = false }))) ∙ ap (λ (x : WriteTable). writes x ∷ []) (sym is) in (
       goes_by p so s u same steps m is_of_pending (writes d ∷ []) refl left (λ fact other.
@@ -110,7 +110,7 @@ pub dropped : (p : Place) (so : World → Type 0) (s u : SeatState) → (u.table
     → GoesOn is_of_pending (writes d ∷ []) s.turns s u
 dropped p so s u same t d held is m =
     let w = m.world in
-    let table : w.writes ≡ t = writes_are p s.knows w m.before t (first_held s.knows (writes t) [] held) in
+    let table : w.writes ≡ t = held_table p s.knows w (writes t) m.before (first_held s.knows (writes t) [] held) in
     let left : held_with s.knows.held (writes (record w.writes { pending = [] })) ≡ writes d ∷ [] = (λ i. held_with (held i) (writes (record (table i) { pending = [] }))) ∙ ap (λ (x : WriteTable). writes x ∷ []) (sym is) in
     goes_by p so s u same (λ v. drop_pending ∷ []) m is_of_pending (writes d ∷ []) refl left (λ fact other. ((λ x. x), drop_ends w.writes.history (length w.cache) fact other, tt))
 
@@ -132,7 +132,7 @@ pub logged : (p : Place) (so : World → Type 0) (s u : SeatState) → (u.table 
     → u ≡ holding d s
 logged p so s u same t d held is m =
     let step = made p log_pending so s.knows u.knows log_ends m in
-    let table : step.world.writes ≡ t = writes_are p s.knows step.world step.before t (first_held s.knows (writes t) [] held) in
+    let table : step.world.writes ≡ t = held_table p s.knows step.world (writes t) step.before (first_held s.knows (writes t) [] held) in
     becomes s u (record s.knows { held = writes d ∷ [] }) same
     (step.actor ∙ ((λ i. record s.knows { held = held_with (held i) (writes (record (table i) { logged = true; log = (table i).log ++ (table i).pending })) }) ∙ ap (λ (x : WriteTable). record s.knows { held = writes x ∷ [] }) (sym is)))
 
@@ -140,7 +140,7 @@ pub closed : (p : Place) (so : World → Type 0) (s u : SeatState) → (u.table 
     → u ≡ holding d (as_failed d.failed s)
 closed p so s u same t d held is m =
     let step = made p close_log so s.knows u.knows close_ends m in
-    let table : step.world.writes ≡ t = writes_are p s.knows step.world step.before t (first_held s.knows (writes t) [] held) in
+    let table : step.world.writes ≡ t = held_table p s.knows step.world (writes t) step.before (first_held s.knows (writes t) [] held) in
     let Failed : WriteTable → Actor = λ x. record (as_failed x.failed s).knows { held = writes x ∷ [] } in
     becomes s u (Failed d) same
     (step.actor ∙ ((λ i. record (as_failed (table i).pending s).knows { held = held_with (held i) (writes (record (table i) { closed = true; failed = (table i).pending })) }) ∙ ap Failed (sym is)))
@@ -172,7 +172,7 @@ at_number entry n before now key has = has key n ∙ ap (λ (b : Bool). cond b (
 
 module _ (p : Place) (a : Actor) (d : WriteTable) (t : StoreTable) (memory : List Version) (held : a.held ≡ store t ∷ writes d ∷ []) where
   both_are : (w : World) → IsAt p a w → (w.writes ≡ d) × (w.store ≡ t)
-  both_are w k = (writes_are p a w k d (second_held a (store t) (writes d) held), stores_are p a w t k (first_held a (store t) (writes d ∷ []) held))
+  both_are w k = (held_table p a w (writes d) k (second_held a (store t) (writes d) held), stores_are p a w t k (first_held a (store t) (writes d ∷ []) held))
 
   pub may_add : HasVersionsAt (next_of d.pending) (suc (length d.history)) t.memory memory → MayMake p a (λ w. add_versions memory ∷ note versions_in_memory ∷ [])
   may_add has w k =
@@ -235,8 +235,8 @@ module _ (p : Place) (a : Actor) (d : WriteTable) (t : PreparedTables) (held : a
 module _ (p : Place) (so : World → Type 0) (s u : SeatState) (same : (u.table ≡ s.table) × (u.by ≡ s.by) × (u.turns ≡ s.turns)) (d : WriteTable) (t tables : PreparedTables) (held : s.knows.held ≡ prepared t ∷ writes d ∷ []) where
   heap_held : (f : PreparedTables → ℕ → PreparedTables) → tables ≡ f t (suc (length d.history)) → (w : World) → IsAt p s.knows w → held_with s.knows.held (prepared (f w.prepared (suc (length w.writes.history)))) ≡ prepared tables ∷ writes d ∷ []
   heap_held f is w k =
-      let one : w.prepared ≡ t = prepared_are p s.knows w k t (first_held s.knows (prepared t) (writes d ∷ []) held) in
-      let two : w.writes ≡ d = writes_are p s.knows w k d (second_held s.knows (prepared t) (writes d) held) in
+      let one : w.prepared ≡ t = held_table p s.knows w (prepared t) k (first_held s.knows (prepared t) (writes d ∷ []) held) in
+      let two : w.writes ≡ d = held_table p s.knows w (writes d) k (second_held s.knows (prepared t) (writes d) held) in
       (λ i. held_with (held i) (prepared (f (one i) (suc (length (two i).history))))) ∙ ap (λ (x : PreparedTables). prepared x ∷ writes d ∷ []) (sym is)
 
   pub number_put : tables ≡ record t { heap = set.insert t.heap (suc (length d.history)) } → Moved p (λ w. add_prepared ∷ note number_in_heap ∷ []) so s.knows u.knows
@@ -298,7 +298,7 @@ pub published : (p : Place) (so : World → Type 0) (s u : SeatState) → (u.tab
 published p so s u same d e entry others held is m =
     let w = m.world in
     let steps : World → List Step = λ v. store_published entry others ∷ [] in
-    let table : w.writes ≡ d = writes_are p s.knows w m.before d (first_held s.knows (writes d) [] held) in
+    let table : w.writes ≡ d = held_table p s.knows w (writes d) m.before (first_held s.knows (writes d) [] held) in
     let b : Actor = actor_after (store_published entry others ∷ []) w p.by s.knows in
     let form : b ≡ record (publishes d.history entry s.knows) { held = b.held; notes = b.notes } = ap (λ (x : WriteTable). record (publishes x.history entry s.knows) { held = b.held; notes = b.notes }) table in
     let left : held_with s.knows.held (writes (with_entry w.writes entry others)) ≡ writes e ∷ [] = (λ i. held_with (held i) (writes (with_entry (table i) entry others))) ∙ ap (λ (x : WriteTable). writes x ∷ []) (sym is) in

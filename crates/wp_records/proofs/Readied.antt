@@ -1,20 +1,22 @@
 -- A record that is made ready for its log call.
-use Rattle.std.proofs.Common.{◌≡◌, ◌⊎◌, inl, inr, ℕ, false, List, length, refl, sym, subst, ap, ◌∙◌}
+use Rattle.std.proofs.Common.{◌≡◌, ℕ, suc, false, List, length, sym, subst, ap, ◌∙◌}
 use Rattle.std.specs.Prelude.{Result}
 use Rattle.wp_model.specs.declared.entry.Entry.{Entry}
+use Rattle.wp_core.specs.Entries.{IsOneRecord}
 use Rattle.wp_core.specs.Tables.{WriteTable}
-use Rattle.wp_core.specs.Views.{Fact, passed, in_old_commits, apart, words_stay}
+use Rattle.wp_core.specs.Views.{words_stay}
 use Rattle.wp_core.specs.World.{Participant, Actor}
 use Rattle.wp_rule.specs.Knows.{Noted}
 use Rattle.wp_parts.specs.Log.{LogState}
 use Rattle.wp_shared.specs.Seats.{SharedState, SeatState}
-use Rattle.wp_commits.specs.Cleared.{IsCleared}
-use Rattle.wp_commits.specs.Notes.{is_of_words, GoesOn}
+use Rattle.wp_shared.specs.Notes.{GoesOn}
+use Rattle.wp_commits.specs.Notes.{is_of_words}
+use Rattle.wp_commits.specs.Ways.{ways_of, AreApart}
 use Rattle.wp_records.specs.declared.error.WriteError.{WriteError}
 use Rattle.wp_records.specs.Records.{MayPut, Puts}
-use Rattle.wp_records.specs.Stages.{is_of_versions, HoldsPending, IsBegun}
+use Rattle.wp_records.specs.Stages.{HoldsPending, IsUnlogged, IsBegun}
 use Rattle.wp_records.proofs.Holding.{still_holds, words_still}
-use Rattle.wp_records.proofs.Joined.{own_still}
+use Rattle.wp_records.proofs.Joined.{own_still, one_some}
 use Rattle.wp_records.proofs.Puts.{settled, unreserved, puts_before}
 
 -- words were cleared
@@ -22,32 +24,28 @@ pub cleared_holds : {D : Type 0} (z : SharedState D) (s t : SeatState) (log : Lo
     → ((bound : ℕ) (words : List ℕ) → Noted s.knows (words_stay bound words) → (later : ℕ) × Noted t.knows (words_stay later words)) → HoldsPending z t log
 cleared_holds z s t log h k keeps = still_holds z s t log is_of_words h k (words_still s.knows t.knows (length log.table.history) keeps h.words)
 
--- ... up to one bound or another
-pub either_keeps : (t : Actor) (words : List ℕ) (one other : ℕ) → Noted t (words_stay one words) ⊎ Noted t (words_stay other words) → (later : ℕ) × Noted t (words_stay later words)
-either_keeps t words one other (inl n) = (one, n)
-either_keeps t words one other (inr n) = (other, n)
-
--- what is cleared stays so where these notes are kept
-pub cleared_through : (a b : Actor) (place : ℕ) → ((bound : ℕ) (words : List ℕ) → Noted a (words_stay bound words) → Noted b (words_stay bound words)) → ((fact : Fact) → is_of_versions fact ≡ false → Noted a fact → Noted b fact) → IsCleared a place → IsCleared b place
-cleared_through a b place words keeps (inl empty) = inl (empty.0, empty.1, words empty.0 empty.1 empty.2, empty.3)
-cleared_through a b place words keeps (inr gone) = inr (gone.0, (keeps (passed place gone.0) refl gone.1.0, keeps (in_old_commits place gone.0) refl gone.1.1, keeps (apart place gone.0) refl gone.1.2))
-
 -- what may be put may be put still, by the same participant
 pub may_still : (a b : Actor) (history entries : List Entry) → b.participant ≡ a.participant → MayPut a history entries → MayPut b history entries
 may_still a b history entries same may = record { legal = may.legal; owned = own_still a b (ap (λ (x : Participant). x.direct) same) (ap (λ (x : Participant). x.transactions) same) history entries may.owned }
 
-module _ {D : Type 0} (z : SharedState D) (s t : SeatState) (log mid : LogState) (items es : List Entry) (same : items ≡ es) (b : IsBegun z s log items t mid) where
+module _ {D : Type 0} (z : SharedState D) (s t : SeatState) (log mid : LogState) (es : List Entry) (b : IsBegun z s log es t mid) where
   pending_is : mid.table.pending ≡ es
-  pending_is = ap (λ (x : WriteTable). x.pending) b.table ∙ same
+  pending_is = ap (λ (x : WriteTable). x.pending) b.table
 
   history_is : mid.table.history ≡ log.table.history
   history_is = ap (λ (x : WriteTable). x.history) b.table
+
+  pub begun_unlogged : IsOneRecord mid.table.pending → log.table.closed ≡ false → IsUnlogged mid.table
+  begun_unlogged one running = record { some = one_some mid.table.pending one; unlogged = ap (λ (x : WriteTable). x.logged) b.table; running = ap (λ (x : WriteTable). x.closed) b.table ∙ running }
 
   pub begun_may : MayPut s.knows log.table.history es → MayPut t.knows mid.table.history mid.table.pending
   begun_may may =
       subst (λ (x : List Entry × List Entry). MayPut t.knows x.0 x.1) (λ i. (sym history_is i, sym pending_is i))
       (may_still s.knows t.knows log.table.history es (ap (λ (x : SeatState). x.knows.participant) b.seat.same) may)
 
+  pub begun_apart : (cells : ℕ) → AreApart cells (ways_of (suc (length log.table.history)) es) → AreApart cells (ways_of (suc (length mid.table.history)) mid.table.pending)
+  begun_apart cells apart = subst (λ (x : List Entry × List Entry). AreApart cells (ways_of (suc (length x.0)) x.1)) (λ i. (sym history_is i, sym pending_is i)) apart
+
   pub begun_puts : (new : SeatState) (left : LogState) (answer : Result (Unit {0}) WriteError) → Puts z t mid mid.table.pending answer new left → Puts z s log es answer new left
   begun_puts new left answer p =
-      puts_before z s t new log mid left _ _ b.seat (ap settled b.table) (ap unreserved b.wal) es answer (subst (λ (e : List Entry). Puts z t mid e answer new left) pending_is p)
+      puts_before z s t new log mid left _ _ b.seat history_is (ap settled b.table) (ap unreserved b.wal) es answer (subst (λ (e : List Entry). Puts z t mid e answer new left) pending_is p)

@@ -1,107 +1,30 @@
--- The store turn, taken with the versions and given with them.
-use Rattle.std.proofs.Common.{◌≡◌, ℕ, suc, false, List, [], ◌∷◌, length, refl, sym, subst, ap, ◌∙◌, Option, Some, None}
+-- The versions of the pending entry, and what lies behind the store turn.
+use Rattle.std.proofs.Common.{◌≡◌, ℕ, suc, List, [], ◌∷◌, length, sym, subst, ap, ◌∙◌, Option, Some, None}
 use Rattle.wp_model.specs.declared.change.Change.{Change}
 use Rattle.wp_model.specs.declared.entry.Entry.{Entry}
 use Rattle.wp_model.specs.declared.version.Version.{Version}
 use Rattle.wp_model.specs.Legal.{changes_in}
 use Rattle.wp_model.specs.Versions.{version_at}
-use Rattle.wp_core.specs.Changes.{held_without}
 use Rattle.wp_core.specs.Entries.{next_of, HasVersionsAt}
 use Rattle.wp_core.specs.Lists.{IsIn}
-use Rattle.wp_core.specs.Notes.{gives_guard}
-use Rattle.wp_core.specs.Steps.{give_turn}
-use Rattle.wp_core.specs.Tables.{WriteTable, StoreTable, Content, writes, store, turn_of}
-use Rattle.wp_core.specs.Turns.{store_turn}
-use Rattle.wp_core.specs.Views.{Fact, passed, versions_nowhere}
-use Rattle.wp_core.specs.World.{Actor}
-use Rattle.wp_core.specs.Sound.Views.{guarded_by, IsNowhere}
-use Rattle.wp_core.proofs.Tests.{same_some}
+use Rattle.wp_core.specs.Tables.{WriteTable, StoreTable, Content, writes, store}
+use Rattle.wp_core.specs.Views.{versions_nowhere}
+use Rattle.wp_core.specs.Sound.Views.{IsNowhere}
 use Rattle.wp_rule.specs.Knows.{Noted}
 use Rattle.wp_rule.proofs.Knows.{noted_is}
-use Rattle.wp_rule.proofs.Needed.{needed}
-use Rattle.wp_parts.specs.Parts.{content}
 use Rattle.wp_parts.specs.Stock.{StockState, store_table, HasNoneAt}
-use Rattle.wp_parts.specs.declared.part.Part.{Part}
-use Rattle.wp_parts.specs.declared.part.Part.TheVariants as part
 use Rattle.wp_shared.specs.Seats.{SharedState, SeatState, place_at}
-use Rattle.wp_shared.specs.Turns.{Taken, MayBeGiven, Given}
-use Rattle.wp_commits.specs.Notes.{GoesOn}
-use Rattle.wp_commits.proofs.Goes.{goes_with, stays}
-use Rattle.wp_commits.proofs.Held.{writes_are}
-use Rattle.wp_records.specs.Stages.{no_fact, is_of_versions}
-use Rattle.wp_records.proofs.Facts.{and_then, none_too}
-use Rattle.wp_records.proofs.Made.{store_is}
+use Rattle.wp_shared.specs.Turns.{Taken}
+use Rattle.wp_shared.specs.Notes.{GoesOn}
+use Rattle.wp_shared.proofs.Goes.{stays}
+use Rattle.wp_shared.proofs.Tables.{held_table}
+use Rattle.wp_records.specs.Stages.{is_of_versions}
 
-abbrev rest_of : List ℕ → List ℕ
-rest_of [] = []
-rest_of (x ∷ xs) = xs
-
-module _ {D : Type 0} (z : SharedState D) (old new : SeatState) (value : Part D) (k : Taken z store_turn old new value) where
-  pub stock_there : (t : StoreTable) × (content value ≡ Some (store t))
-  stock_there = (k.world.store, k.is)
-
-  module _ (stock : StockState) (is : value ≡ part.Store stock) where
-    here : store k.world.store ≡ store (store_table stock)
-    here = sym (same_some (store (store_table stock)) (store k.world.store) (sym (ap content is) ∙ k.is))
-
-    pub took_stock : (new.table ≡ old.table) × (new.by ≡ old.by) × (new.turns ≡ 3 ∷ old.turns) → GoesOn no_fact (store (store_table stock) ∷ old.knows.held) (3 ∷ old.turns) old new
-    took_stock same = record {
-      same = goes_with old new (store (store_table stock) ∷ old.knows.held) (3 ∷ old.turns) old.knows.notes same.0 same.1 same.2 (k.knows ∙ ap (λ (c : Content). record old.knows { held = c ∷ old.knows.held }) here);
-      noted = λ fact other there. subst (λ (a : Actor). IsIn fact a.notes) (sym k.knows) there;
-    }
-
-    pub nowhere_there : (t : WriteTable) → IsIn (writes t) old.knows.held → Noted old.knows versions_nowhere → IsNowhere t (store_table stock)
-    nowhere_there t held noted =
-        subst (λ (x : WriteTable × StoreTable). IsNowhere x.0 x.1) (λ i. (writes_are (place_at z old.by) old.knows k.world k.before t held i, store_is k.world.store (store_table stock) here i))
-        (noted_is (place_at z old.by) old.knows k.world versions_nowhere k.before noted).is_so
-
--- no fact is guarded by the store turn
-unguarded : (fact : Fact) → gives_guard (guarded_by fact) (give_turn store_turn) ≡ false
-unguarded (passed place pair) = refl
-unguarded other = refl
-
-pub may_give_stock : {D : Type 0} (z : SharedState D) (s : SeatState) (stock : StockState) → IsIn (store (store_table stock)) s.knows.held → (others : List ℕ) × (s.turns ≡ 3 ∷ others) → MayBeGiven z s (part.Store stock)
-may_give_stock z s stock held turns = record {
-  table = store (store_table stock);
-  is = refl;
-  of_store = tt;
-  held = held;
-  others = turns.0;
-  last_taken = turns.1;
-  may = λ w k. needed (place_at z s.by) s.knows w k (give_turn store_turn) (record { table = store_table stock; held = held; so_is = tt });
-}
-
-pub gave_stock : {D : Type 0} (z : SharedState D) (s new : SeatState) (stock : StockState) (others : List ℕ) → Given z s new (part.Store stock) → s.turns ≡ 3 ∷ others → GoesOn no_fact (held_without s.knows.held store_turn) others s new
-gave_stock z s new stock others k turns =
-    let table : k.table ≡ store (store_table stock) = sym (same_some (store (store_table stock)) k.table k.is) in
-    let knows : new.knows ≡ record s.knows { held = held_without s.knows.held store_turn; notes = new.knows.notes } = k.knows ∙ ap (λ (c : Content). record s.knows { held = held_without s.knows.held (turn_of c); notes = new.knows.notes }) table in
-    record {
-      same = goes_with s new (held_without s.knows.held store_turn) others new.knows.notes k.same_table k.same_by (sym (ap rest_of k.turns) ∙ ap rest_of turns) knows;
-      noted = λ fact other there. k.notes fact there (ap (λ (c : Content). gives_guard (guarded_by fact) (give_turn (turn_of c))) table ∙ unguarded fact);
-    }
-
--- ---- the turn is taken, the versions become these, and the turn is given
-
-module _ (s t u : SeatState) (d : WriteTable) (before now : StoreTable) (held : s.knows.held ≡ writes d ∷ []) (first : GoesOn no_fact (store before ∷ s.knows.held) (3 ∷ s.turns) s t) where
-  pub held_taken : t.knows.held ≡ store before ∷ writes d ∷ []
-  held_taken = ap (λ (x : SeatState). x.knows.held) first.same ∙ ap (λ (h : List Content). store before ∷ h) held
-
-  module _ (second : GoesOn is_of_versions (store now ∷ writes d ∷ []) t.turns t u) where
-    pub turns_taken : u.turns ≡ 3 ∷ s.turns
-    turns_taken = ap (λ (x : SeatState). x.turns) second.same ∙ ap (λ (x : SeatState). x.turns) first.same
-
-    gave : (v : SeatState) → ((others : List ℕ) → u.turns ≡ 3 ∷ others → GoesOn no_fact (held_without u.knows.held store_turn) others u v) → GoesOn no_fact (writes d ∷ []) s.turns u v
-    gave v give = subst (λ (h : List Content). GoesOn no_fact (held_without h store_turn) s.turns u v) (ap (λ (x : SeatState). x.knows.held) second.same) (give s.turns turns_taken)
-
-    pub through_stock : (v : SeatState) → ((others : List ℕ) → u.turns ≡ 3 ∷ others → GoesOn no_fact (held_without u.knows.held store_turn) others u v) → GoesOn is_of_versions s.knows.held s.turns s v
-    through_stock v give =
-        let two = and_then is_of_versions no_fact is_of_versions (none_too is_of_versions) (λ fact e. e) s t u (store before ∷ s.knows.held) (store now ∷ writes d ∷ []) (3 ∷ s.turns) t.turns first second in
-        let all = and_then is_of_versions is_of_versions no_fact (λ fact e. e) (none_too is_of_versions) s u v (store now ∷ writes d ∷ []) (writes d ∷ []) t.turns s.turns two (gave v give) in
-        subst (λ (h : List Content). GoesOn is_of_versions h s.turns s v) (sym held) all
-
-    -- what it noted under the turn it has noted still
-    pub noted_through : (v : SeatState) (fact : Fact) → ((others : List ℕ) → u.turns ≡ 3 ∷ others → GoesOn no_fact (held_without u.knows.held store_turn) others u v) → Noted u.knows fact → Noted v.knows fact
-    noted_through v fact give there = (gave v give).noted fact refl there
+-- nothing of the pending entry is in the versions that a turn is taken with
+pub nowhere_there : {D : Type 0} (z : SharedState D) (old new : SeatState) (t : StoreTable) (d : WriteTable) → Taken z old new (store t) → IsIn (writes d) old.knows.held → Noted old.knows versions_nowhere → IsNowhere d t
+nowhere_there z old new t d k held noted =
+    subst (λ (x : WriteTable × StoreTable). IsNowhere x.0 x.1) (λ i. (held_table (place_at z old.by) old.knows k.world (writes d) k.before held i, k.is i))
+    (noted_is (place_at z old.by) old.knows k.world versions_nowhere k.before noted).is_so
 
 -- ---- versions are put there
 

@@ -2,21 +2,18 @@
 use Rattle.std.proofs.Common.{◌≡◌, ◌≢◌, inl, inr, ℕ, suc, ◌==◌, ◌/◌, ◌%◌, ◌^◌, ◌≤◌, ◌&&◌, nat_le, Bool, true, false, cond, List, [], ◌∷◌, length, slice_index, refl, sym, subst, ap, ◌∙◌, Option, Some, None, arith}
 use Rattle.std.proofs.Math.Nat.{mul-add-mod_self_right, mod-le}
 use Rattle.std.proofs.lemmas.Bool.{cases_lt, cases_eq}
-use Rattle.std.proofs.lemmas.List.{get_or-set_same, get_or-set_other, get_or_past, set_past}
+use Rattle.std.proofs.lemmas.List.{get_or-set_same, get_or-set_other, set_past}
 use Rattle.wp_model.specs.declared.entry.Entry.{Entry}
 use Rattle.wp_model.specs.declared.entry.Entry.TheVariants.{Write, Prepare, Commit, Undo, Close}
-use Rattle.wp_model.specs.Decision.{decision_of}
 use Rattle.wp_judge.specs.Words.{CommitPair, word_of, pair_with, pair_of, decision_if}
 use Rattle.wp_core.specs.Cache.{cache_place, cached, pair_at, with_pair}
-use Rattle.wp_core.specs.Conditions.{IsPrepare}
-use Rattle.wp_core.specs.Entries.{pair_by, pending_pair, extended}
+use Rattle.wp_core.specs.Entries.{pair_by, pending_pair}
 use Rattle.wp_core.specs.Tables.{WriteTable}
-use Rattle.wp_core.specs.World.{Actor, World}
-use Rattle.wp_core.specs.IsSound.{IsSound}
-use Rattle.wp_core.proofs.HistoryLaws.{decision_within}
-use Rattle.wp_core.proofs.Tests.{same_some, some_none}
+use Rattle.wp_core.specs.World.{Actor}
+use Rattle.wp_core.proofs.Tests.{same_some}
 use Rattle.wp_commits.specs.Cleared.{IsUnentered}
-use Rattle.wp_records.specs.Writing.{ArePublished, KnowsWords}
+use Rattle.wp_commits.specs.Ways.{way_of, with_way}
+use Rattle.wp_shared.specs.Notes.{ArePublished, KnowsWords}
 
 -- ---- the pair of the pending entry
 
@@ -27,14 +24,7 @@ decides_last n (Commit p) pair e = ap (λ (x : CommitPair). x.decision) (sym (sa
 decides_last n (Close p) pair e = ap (λ (x : CommitPair). x.decision) (sym (same_some (record { number = p; decision = n }) pair e))
 decides_last n (Prepare name batch) pair e = let no : None ≡ Some pair = e in absurd (cc)
 
-pub no_prepare : (n : ℕ) (entry : Entry) (pair : CommitPair) → pair_by n entry ≡ Some pair → IsPrepare entry → ⊥
-no_prepare n (Prepare name batch) pair e is = let no : None ≡ Some pair = e in absurd (cc)
-no_prepare n (Write batch) pair e is = is
-no_prepare n (Undo p batch) pair e is = is
-no_prepare n (Commit p) pair e is = is
-no_prepare n (Close p) pair e is = is
-
-pending_decides : (history pending : List Entry) (pair : CommitPair) → pending_pair history pending ≡ Some pair → pair.decision ≡ suc (length history)
+pub pending_decides : (history pending : List Entry) (pair : CommitPair) → pending_pair history pending ≡ Some pair → pair.decision ≡ suc (length history)
 pending_decides history [] pair e = let no : None ≡ Some pair = e in absurd (cc)
 pending_decides history (entry ∷ others) pair e = decides_last (suc (length history)) entry pair e
 
@@ -98,13 +88,7 @@ entered_published m n words pair le low k place found at =
 pub published_later : (m n : ℕ) (words : List ℕ) → m ≤ n → ArePublished m words → ArePublished n words
 published_later m n words le k place found at = let low = k place found at in omega (arith, low, le)
 
--- ---- words of a world in which nothing is pending
-
-pub world_published : (w : World) → IsSound w → w.writes.pending ≡ [] → ArePublished (length w.writes.history) w.cache
-world_published w s none place found at =
-    elim (cases_lt place (length w.cache)) [
-      | inl within ↦
-          let known = s.cache.pairs place found within at in
-          decision_within w.writes.history found.number found.decision (subst (λ (e : List Entry). decision_of (extended w.writes.history e) found.number ≡ Some found.decision) none known.decided)
-      | inr past ↦ let empty : slice_index w.cache place ≡ 0 = get_or_past w.cache place _ past in let no : pair_of 0 ≡ Some found = ap pair_of (sym empty) ∙ at in absurd (some_none found (sym no))
-    ]
+-- words that are published are so still once the pair of the next number is entered
+pub way_published : (n : ℕ) (words : List ℕ) (o : Option CommitPair) → ((pair : CommitPair) → o ≡ Some pair → pair.decision ≡ suc n) → ArePublished n words → ArePublished (suc n) (with_way words (way_of o))
+way_published n words None last are = published_later n (suc n) words (omega arith) are
+way_published n words (Some pair) last are = let l = last pair refl in entered_published n (suc n) words pair (omega arith) (omega (arith, l)) are

@@ -53,11 +53,6 @@ numbers_behind n (entry ∷ entries) = suc n ∷ numbers_behind (suc n) entries
 abbrev pub putting : List Entry → List Entry → Participant → Participant
 putting history entries p = record p { seen = history ++ entries; own = p.own ++ numbers_behind (length history) entries }
 
--- the transaction that a record behind this history is of, if it is of one
-abbrev pub transaction_behind : List Entry → List Entry → Option (List ℕ)
-transaction_behind history [] = None
-transaction_behind history (entry ∷ entries) = transaction_of history entry
-
 -- the fact is about the transaction of this name
 abbrev pub is_about : Option (List ℕ) → Fact → Bool
 is_about name (undecided_at other p) = is_name name other
@@ -65,15 +60,20 @@ is_about name (prior_values other p batch) = is_name name other
 is_about name (unprepared other) = is_name name other
 is_about name other = false
 
+-- it is about the transaction of none of the entries behind this history
+abbrev pub IsAboutNone : List Entry → List Entry → Fact → Type 0
+IsAboutNone history [] fact = Unit {0}
+IsAboutNone history (entry ∷ entries) fact = (is_about (transaction_of history entry) fact ≡ false) × IsAboutNone (history ++ entry ∷ []) entries fact
+
 -- The entries stand behind the history, and the seat put them there. What it noted without a turn it has noted still, but for what
--- was about the record's transaction.
+-- was about the transaction of one of them.
 pub record IsPut {D : Type 0} (z : SharedState D) (old : SeatState) (log : LogState) (entries : List Entry) (new : SeatState) (left : LogState) : Type 0 where
   pub holds : HoldsWrite z new left
   pub same_by : new.by ≡ old.by
   pub history : left.table.history ≡ log.table.history ++ entries
   pub running : left.table.closed ≡ false
   pub knows : new.knows ≡ record old.knows { participant = putting log.table.history entries old.knows.participant; learned = []; held = writes left.table ∷ []; notes = new.knows.notes }
-  pub notes : (fact : Fact) → guarded_by fact ≡ None → is_about (transaction_behind log.table.history entries) fact ≡ false → IsIn fact old.knows.notes → IsIn fact new.knows.notes
+  pub notes : (fact : Fact) → guarded_by fact ≡ None → IsAboutNone log.table.history entries fact → IsIn fact old.knows.notes → IsIn fact new.knows.notes
 
 -- The history is as it was, and nothing is pending. The log is closed now, or it is not.
 pub record IsNotPut {D : Type 0} (z : SharedState D) (old : SeatState) (log : LogState) (closed : Bool) (after : Participant) (new : SeatState) (left : LogState) : Type 0 where

@@ -3,35 +3,29 @@ use Rattle.std.specs.Prelude.{◌≡◌, ◌≢◌, ℕ, suc, Bool, true, false,
 use Rattle.wp_judge.specs.Words.{CommitPair}
 use Rattle.wp_model.specs.declared.change.Change.{Change}
 use Rattle.wp_model.specs.declared.entry.Entry.{Entry}
-use Rattle.wp_model.specs.declared.entry.Entry.TheVariants.{Prepare, Undo, Close}
+use Rattle.wp_model.specs.declared.entry.Entry.TheVariants.{Prepare, Commit, Close}
+use Rattle.wp_model.specs.History.{is_prepare}
 use Rattle.wp_model.specs.Legal.{IsLegal}
 use Rattle.wp_core.specs.Cache.{cache_place, pair_at}
-use Rattle.wp_core.specs.Changes.{turn_index, remembers}
+use Rattle.wp_core.specs.Changes.{remembers}
 use Rattle.wp_core.specs.Conditions.{IsPrepare}
 use Rattle.wp_core.specs.Effects.{with_entry, publishes}
-use Rattle.wp_core.specs.Entries.{pair_by, transaction_of}
+use Rattle.wp_core.specs.Entries.{next_of, pair_by, transaction_of}
 use Rattle.wp_core.specs.Sound.Views.{guarded_by}
 use Rattle.wp_core.specs.Tables.{WriteTable, writes}
-use Rattle.wp_core.specs.Turns.{write_turn}
 use Rattle.wp_core.specs.Views.{Fact, versions_in_memory, versions_nowhere, number_in_heap, number_not_in_heap, words_stay, log_failed}
 use Rattle.wp_core.specs.World.{Actor}
 use Rattle.wp_rule.specs.Knows.{Noted}
 use Rattle.wp_parts.specs.Log.{LogState}
 use Rattle.wp_parts.specs.Parts.{log_first}
 use Rattle.wp_shared.specs.Seats.{SharedState, SeatState}
-use Rattle.wp_commits.specs.Cleared.{IsCleared, IsReadyAt}
-use Rattle.wp_commits.specs.Notes.{is_flag, GoesOn}
-use Rattle.wp_records.specs.declared.reached.Reached.{Reached}
-use Rattle.wp_records.specs.declared.reached.Reached.TheVariants.{Pending, InHeap}
+use Rattle.wp_shared.specs.Turns.{HoldsTurn}
+use Rattle.wp_shared.specs.Notes.{is_flag, GoesOn, KnowsWords}
+use Rattle.wp_commits.specs.Ways.{ways_of, AreReady, AreApart}
 use Rattle.wp_records.specs.declared.error.WriteError.{WriteError}
-use Rattle.wp_records.specs.Writing.{KnowsWords}
-use Rattle.wp_records.specs.Records.{OwnsEntry, is_about, Puts}
+use Rattle.wp_records.specs.Records.{OwnsEntry, is_about, MayPut, Puts}
 
 -- ---- which facts
-
--- none
-abbrev pub no_fact : Fact → Bool
-no_fact fact = false
 
 -- where the versions of the pending entry are
 abbrev pub is_of_versions : Fact → Bool
@@ -82,10 +76,7 @@ as_published history entry s = record s { knows = publishes history entry s.know
 -- The seat holds the write turn alone, with this log, whatever is pending there. It has seen the whole history, and each pair of the
 -- words that it noted is published.
 pub record HoldsPending {D : Type 0} (z : SharedState D) (s : SeatState) (log : LogState) : Type 0 where
-  pub same_table : s.table ≡ z.table
-  pub live : s.knows.live ≡ true
-  pub held : s.knows.held ≡ writes log.table ∷ []
-  pub turns : s.turns ≡ turn_index write_turn ∷ []
+  pub turn : HoldsTurn z s (writes log.table) [] []
   pub seen : s.knows.participant.seen ≡ log.table.history
   pub of_store : log_first z.first ≡ Some log.first
   pub words : KnowsWords s.knows (length log.table.history)
@@ -102,16 +93,6 @@ pub record IsUnlogged (d : WriteTable) : Type 0 where
 abbrev pub HasPrepare : WriteTable → Type 0
 HasPrepare d = (name : List ℕ) × (batch : List Change) × (others : List Entry) × (d.pending ≡ Prepare name batch ∷ others)
 
--- of a record that came so far, what is noted of its versions
-abbrev pub MemoryAt : Reached → Actor → Type 0
-MemoryAt Pending a = Noted a versions_nowhere
-MemoryAt other a = Unit {0}
-
--- ... and what is noted of its number
-abbrev pub HeapAt : Reached → Actor → WriteTable → Type 0
-HeapAt InHeap a d = HasPrepare d
-HeapAt other a d = Noted a number_not_in_heap
-
 -- the entries were made pending, and nothing of them is anywhere
 pub record IsBegun {D : Type 0} (z : SharedState D) (old : SeatState) (log : LogState) (entries : List Entry) (new : SeatState) (left : LogState) : Type 0 where
   pub holds : HoldsPending z new left
@@ -120,6 +101,13 @@ pub record IsBegun {D : Type 0} (z : SharedState D) (old : SeatState) (log : Log
   pub wal : left.wal ≡ record log.wal { reserved = left.wal.reserved }
   pub nowhere : Noted new.knows versions_nowhere
   pub below : Noted new.knows number_not_in_heap
+
+-- what the log call needs of the record: its versions are in memory, the number of a Prepare is in the heap, and its pairs may be
+-- entered
+pub record IsReadied (a : Actor) (cells : ℕ) (d : WriteTable) : Type 0 where
+  pub versions : Noted a versions_in_memory
+  pub number : is_prepare (next_of d.pending) ≡ true → Noted a number_in_heap
+  pub pairs : AreReady a cells (length d.history) (ways_of (suc (length d.history)) d.pending)
 
 -- ---- the log call
 
@@ -160,32 +148,23 @@ pub record HasJoined {D : Type 0} (z : SharedState D) (old : SeatState) (log : L
   pub seat : GoesOn (may_end log.table.history entry) (writes left.table ∷ []) old.turns (as_published log.table.history entry old) new
   pub log_is : left ≡ record log { table = with_entry log.table entry others }
 
--- the first of the pending entries may join the history as this number, once its pair is entered, which comes first of those that
--- were cleared for
-pub record MayDecide (a : Actor) (cells : ℕ) (d : WriteTable) (n : ℕ) (cleared : List ℕ) : Type 0 where
-  pub entry : Entry
-  pub others : List Entry
-  pub next : IsNext a d entry others
-  pub number : ℕ
-  pub pair : pair_by n entry ≡ Some (record { number = number; decision = n })
-  pub waiting : List ℕ
-  pub cleared_is : cleared ≡ number ∷ waiting
-  pub ready : IsReadyAt a (length d.history) (cache_place cells number)
+-- they have no versions, and none is a Prepare: so they may stand in a record behind another one
+abbrev pub AreBehind : List Entry → Type 0
+AreBehind [] = Unit {0}
+AreBehind (Commit p ∷ entries) = AreBehind entries
+AreBehind (Close p ∷ entries) = AreBehind entries
+AreBehind other = ⊥
 
--- one entry is pending, which will have this number and decides a version, for whose pair the word is cleared
-pub record DecidesOne (a : Actor) (cells : ℕ) (d : WriteTable) (n : ℕ) (cleared : List ℕ) : Type 0 where
-  pub entry : Entry
-  pub pending : d.pending ≡ entry ∷ []
-  pub number : ℕ
-  pub pair : pair_by n entry ≡ Some (record { number = number; decision = n })
-  pub cleared_is : cleared ≡ number ∷ []
-  pub ready : IsCleared a (cache_place cells number)
+-- those behind the first
+abbrev pub rest_of : List Entry → List Entry
+rest_of [] = []
+rest_of (entry ∷ entries) = entries
 
--- an Undo and its Close are pending, for whose pairs the words are cleared
-pub record RollsBack (a : Actor) (cells : ℕ) (d : WriteTable) (n : ℕ) (cleared : List ℕ) : Type 0 where
-  pub number : ℕ
-  pub batch : List Change
-  pub pending : d.pending ≡ Undo number batch ∷ Close number ∷ []
-  pub cleared_is : cleared ≡ n ∷ number ∷ []
-  pub first : IsCleared a (cache_place cells n)
-  pub second : IsCleared a (cache_place cells number)
+-- the pending entries, which are logged, may join the history one after another, as far as the versions of the first may be nowhere
+pub record MayJoin (a : Actor) (cells : ℕ) (d : WriteTable) : Type 0 where
+  pub logged : d.logged ≡ true
+  pub may : MayPut a d.history d.pending
+  pub number : is_prepare (next_of d.pending) ≡ true → Noted a number_in_heap
+  pub pairs : AreReady a cells (length d.history) (ways_of (suc (length d.history)) d.pending)
+  pub apart : AreApart cells (ways_of (suc (length d.history)) d.pending)
+  pub behind : AreBehind (rest_of d.pending)

@@ -1,28 +1,26 @@
 //! One record of entries, from its making to the history.
 //!
-//! A call of this crate is made by the holder of the write turn, and does in this order: it makes the record pending, with all
-//! memory that the log and the history need; clears the words of the commit cache for the pairs that the record decides; puts the
-//! versions of its changes into memory under the store turn, and the number of a Prepare into the prepared heap under the
-//! prepared turn. Then it appends the record to the log, and takes no memory from there on: it stores the pair's word, and
-//! publishes the entry, for each entry in turn. Where memory is wanting before the log call, or that fails, it takes back what it
-//! did, in the opposite order; after a failed log call the log is closed for good. While the log call runs the caller holds no turn
-//! but the write turn: so the code is, and no clause says it.
+//! A `Record` is its list of entries: a Write, a Prepare, a Commit, or an Undo with its Close. `put` is called by the holder of the
+//! write turn, and does in this order: it makes the record pending, with all memory that the log and the history need; clears the
+//! words of the commit cache for the pairs that its entries decide; puts the versions of its changes into memory under the store
+//! turn, and the number of a Prepare into the prepared heap under the prepared turn. Then it appends the record to the log, and takes
+//! no memory from there on: for each entry in turn it keeps the pair in its way, and publishes the entry. Where memory is
+//! wanting before the log call, or that fails, it takes back what it did, in the opposite order; after a failed log call the log
+//! is closed for good. While the log call runs the caller holds no turn but the write turn: so the code is, and no clause says it.
 //!
 //! That an entry may come next, and that its keys are held, is the caller's to know. See RocksDB's wiki pages "WritePrepared
 //! Transactions" and "Two Phase Commit Implementation".
 //!
-//! The calls are made of the stages in `stages` and `putting`, and these of the steps of the machine of `wp_core` in `steps`, each
+//! The call is made of the stages in `stages` and `putting`, and these of the steps of the machine of `wp_core` in `steps`, each
 //! of which says what is left of the seat.
 #![tactic(auto)]
 
 mod error;
 mod putting;
-mod reached;
-mod records;
+mod record;
 mod stages;
 mod steps;
-mod write_turn;
 
 pub use error::WriteError;
-pub use records::{commit, prepare, roll_back, write};
-pub use write_turn::{give_write, take_write};
+pub use putting::put;
+pub use record::Record;

@@ -1,153 +1,168 @@
-//! The stages of a record from its log call on. They take no memory.
-ghost use Rattle.std.specs.Prelude.{◌≡◌, ℕ, suc, List, [], ◌∷◌, length};
-ghost use Rattle.wp_model.specs.declared.change.Change.{Change};
+//! A record from its making to the history.
+ghost use Rattle.std.specs.Prelude.{◌≡◌, ◌≢◌, suc, false, List, [], ◌∷◌, length, OnOk};
 ghost use Rattle.wp_model.specs.declared.entry.Entry.{Entry};
-ghost use Rattle.wp_model.specs.declared.entry.Entry.TheVariants.{Prepare};
-ghost use Rattle.wp_core.specs.Cache.{cache_place};
-ghost use Rattle.wp_core.specs.Views.{versions_in_memory, number_in_heap, number_not_in_heap};
+ghost use Rattle.wp_core.specs.Entries.{IsOneRecord};
+ghost use Rattle.wp_core.specs.Views.{versions_in_memory, versions_nowhere, number_not_in_heap};
 ghost use Rattle.wp_rule.specs.Knows.{Noted};
-ghost use Rattle.wp_commits.specs.Cleared.{IsCleared, IsReadyAt};
-ghost use Rattle.wp_records.specs.Records.{MayPut, Puts};
-ghost use Rattle.wp_records.specs.Stages.{HoldsPending, HasPrepare, IsUnlogged, MemoryAt, HeapAt, Logs, IsNext, MayDecide, DecidesOne, RollsBack, HasJoined};
+ghost use Rattle.wp_shared.specs.Notes.{GoesOn};
+ghost use Rattle.wp_commits.specs.Ways.{ways_of, AreApart};
+ghost use Rattle.wp_records.specs.Writing.{HoldsWrite};
+ghost use Rattle.wp_records.specs.Records.{MayPut, IsPut, Puts};
+ghost use Rattle.wp_records.specs.Stages.{is_guarded, HoldsPending, IsUnlogged, IsReadied, Logs, AreBehind, MayJoin, HasJoined};
 
 use crate::error::WriteError;
-use crate::reached::Reached;
-use crate::stages::take_back;
+use crate::record::Record;
+use crate::stages::{make_pending, put_number, put_versions, take_back};
 use crate::steps;
+use std::alloc::AllocError;
 use std::sync::Wait;
-use wp_commits::{Cleared, enter};
-use wp_model::Seq;
+use wp_commits::{clear_all, enter};
 use wp_outside::Disk;
 use wp_parts::Log;
 use wp_shared::{Seat, Shared};
 
+// ---- before the log call
+
+/// Clears for the pairs of the pending record, puts its versions into memory, and the number of a Prepare into the heap.
+fn ready<D: Disk + Drop, R: Wait>(
+    store: &Shared<D>,
+    rt: &R,
+    seat: &mut Seat<D>,
+    log: &Log<D>,
+) -> Result<(), AllocError>
+    requires holds { HoldsPending store.now seat.old log.now }
+    requires nowhere { Noted seat.old.knows versions_nowhere }
+    requires below { Noted seat.old.knows number_not_in_heap }
+    ensures holds { HoldsPending store.now seat.new log.now }
+    ensures seat { GoesOn is_guarded seat.old.knows.held seat.old.turns seat.old seat.new }
+    ensures ok { OnOk result (IsReadied seat.new.knows store.now.cells log.now.table) }
+{
+    clear_all(store, rt, seat, log)?;
+    put_versions(store, rt, seat, log)?;
+    put_number(store, rt, seat, log)
+}
+
+/// Takes the pending record back for want of memory.
+fn give_up<D: Disk + Drop, R: Wait>(
+    store: &Shared<D>,
+    rt: &R,
+    seat: &mut Seat<D>,
+    log: &mut Log<D>,
+) -> WriteError
+    requires holds { HoldsPending store.now seat.old log.old }
+    requires unlogged { log.old.table.logged ≡ false }
+    requires running { log.old.table.closed ≡ false }
+    ensures { Puts store.now seat.old log.old log.old.table.pending (Err result) seat.new log.new }
+{
+    take_back(store, rt, seat, log);
+    WriteError::Memory
+}
+
 /// Appends the pending record to the log, while the seat holds no turn but the write turn. Where the device fails the record is
-/// taken back, which came so far.
+/// taken back.
 fn append<D: Disk + Drop, R: Wait>(
     store: &Shared<D>,
     rt: &R,
     seat: &mut Seat<D>,
     log: &mut Log<D>,
-    n: Seq,
-    reached: Reached,
 ) -> Result<(), WriteError>
     requires holds { HoldsPending store.now seat.old log.old }
     requires unlogged { IsUnlogged log.old.table }
-    requires number { n ≡ suc (length log.old.table.history) }
-    requires memory { MemoryAt reached seat.old.knows }
-    requires heap { HeapAt reached seat.old.knows log.old.table }
     ensures { Logs store.now seat.old log.old result seat.new log.new }
 {
     let Ok(()) = log.append() else {
         steps::close_log(store, seat, log);
-        take_back(store, rt, seat, log, n, reached);
+        take_back(store, rt, seat, log);
         return Err(WriteError::LogFault);
     };
     steps::log_pending(store, seat, log);
     Ok(())
 }
 
-/// Stores the word of the pair that the first of the pending entries decides, which are logged, and puts that entry into the
-/// history as this number.
-fn decide<D: Disk + Drop, R: Wait>(
+// ---- behind it: this takes no memory
+
+/// Keeps the pair of the first pending entry, which is logged, in its way, and puts that entry into the history.
+fn publish_next<D: Disk + Drop, R: Wait>(
     store: &Shared<D>,
     rt: &R,
     seat: &mut Seat<D>,
     log: &mut Log<D>,
-    cleared: &mut Cleared,
-    n: Seq,
 )
     requires holds { HoldsPending store.now seat.old log.old }
-    requires number { n ≡ suc (length log.old.table.history) }
-    requires may { MayDecide seat.old.knows store.now.cells log.old.table n cleared.old }
+    requires some { log.old.table.pending ≢ [] }
+    requires may { MayJoin seat.old.knows store.now.cells log.old.table }
+    requires versions { Noted seat.old.knows versions_in_memory }
     ensures joined { (entry : Entry) (others : List Entry) → log.old.table.pending ≡ entry ∷ others → HasJoined store.now seat.old log.old entry others seat.new log.new }
-    ensures cleared { (p : ℕ) (others : List ℕ) → cleared.old ≡ p ∷ others → cleared.new ≡ others }
-    ensures ready { (others : List ℕ) (q : ℕ) → cleared.old ≡ n ∷ others → IsCleared seat.old.knows (cache_place store.now.cells q) → IsReadyAt seat.new.knows (length log.new.table.history) (cache_place store.now.cells q) }
+    ensures may { MayJoin seat.new.knows store.now.cells log.new.table }
+    ensures behind { AreBehind log.new.table.pending }
 {
-    enter(store, rt, seat, log, cleared, n);
+    let n = log.published() + 1;
+    enter(store, rt, seat, log);
     steps::publish(store, seat, log, n);
 }
 
-/// Puts the pending Prepare, which is logged, into the history as this number. It decides nothing.
-fn join<D: Disk + Drop>(store: &Shared<D>, seat: &mut Seat<D>, log: &mut Log<D>, n: Seq)
-    requires holds { HoldsPending store.now seat.old log.old }
-    requires number { n ≡ suc (length log.old.table.history) }
-    requires prepare { HasPrepare log.old.table }
-    requires next { (entry : Entry) × (others : List Entry) × IsNext seat.old.knows log.old.table entry others }
-    requires in_heap { Noted seat.old.knows number_in_heap }
-    ensures { (entry : Entry) (others : List Entry) → log.old.table.pending ≡ entry ∷ others → HasJoined store.now seat.old log.old entry others seat.new log.new }
-{
-    steps::publish(store, seat, log, n);
-}
-
-/// Puts the pending Prepare into the log and the history, as this number.
-pub(crate) fn put_undecided<D: Disk + Drop, R: Wait>(
+/// Puts the pending entries, which are logged, into the history, one after another.
+fn publish_all<D: Disk + Drop, R: Wait>(
     store: &Shared<D>,
     rt: &R,
     seat: &mut Seat<D>,
     log: &mut Log<D>,
-    n: Seq,
-) -> Result<(), WriteError>
+)
     requires holds { HoldsPending store.now seat.old log.old }
-    requires unlogged { IsUnlogged log.old.table }
-    requires number { n ≡ suc (length log.old.table.history) }
-    requires may { MayPut seat.old.knows log.old.table.history log.old.table.pending }
+    requires some { log.old.table.pending ≢ [] }
+    requires running { log.old.table.closed ≡ false }
+    requires may { MayJoin seat.old.knows store.now.cells log.old.table }
     requires versions { Noted seat.old.knows versions_in_memory }
-    requires in_heap { Noted seat.old.knows number_in_heap }
-    requires prepare { (name : List ℕ) × (batch : List Change) × (log.old.table.pending ≡ Prepare name batch ∷ []) }
-    ensures { Puts store.now seat.old log.old log.old.table.pending result seat.new log.new }
+    ensures { IsPut store.now seat.old log.old log.old.table.pending seat.new log.new }
 {
-    append(store, rt, seat, log, n, Reached::InHeap)?;
-    join(store, seat, log, n);
-    Ok(())
+    publish_next(store, rt, seat, log);
+    while !log.pending().is_empty() {
+        steps::note_no_versions(store, seat, log);
+        publish_next(store, rt, seat, log);
+    }
 }
 
-/// Puts the one pending entry, which decides a version, into the log and the history, as this number. It came so far.
-pub(crate) fn put_one<D: Disk + Drop, R: Wait>(
+// ---- all of it
+
+/// Puts the pending record, of which nothing is anywhere, into the log and the history.
+fn put_pending<D: Disk + Drop, R: Wait>(
     store: &Shared<D>,
     rt: &R,
     seat: &mut Seat<D>,
     log: &mut Log<D>,
-    n: Seq,
-    mut cleared: Cleared,
-    reached: Reached,
 ) -> Result<(), WriteError>
     requires holds { HoldsPending store.now seat.old log.old }
     requires unlogged { IsUnlogged log.old.table }
-    requires number { n ≡ suc (length log.old.table.history) }
-    requires memory { MemoryAt reached seat.old.knows }
-    requires heap { HeapAt reached seat.old.knows log.old.table }
+    requires one { IsOneRecord log.old.table.pending }
     requires may { MayPut seat.old.knows log.old.table.history log.old.table.pending }
-    requires versions { Noted seat.old.knows versions_in_memory }
-    requires decides { DecidesOne seat.old.knows store.now.cells log.old.table n cleared }
-    ensures { Puts store.now seat.old log.old log.old.table.pending result seat.new log.new }
-{
-    append(store, rt, seat, log, n, reached)?;
-    decide(store, rt, seat, log, &mut cleared, n);
-    Ok(())
-}
-
-/// Puts the pending Undo and its Close into the log and the history, as this number and the next.
-pub(crate) fn put_both<D: Disk + Drop, R: Wait>(
-    store: &Shared<D>,
-    rt: &R,
-    seat: &mut Seat<D>,
-    log: &mut Log<D>,
-    n: Seq,
-    mut cleared: Cleared,
-) -> Result<(), WriteError>
-    requires holds { HoldsPending store.now seat.old log.old }
-    requires unlogged { IsUnlogged log.old.table }
-    requires number { n ≡ suc (length log.old.table.history) }
+    requires apart { AreApart store.now.cells (ways_of (suc (length log.old.table.history)) log.old.table.pending) }
+    requires nowhere { Noted seat.old.knows versions_nowhere }
     requires below { Noted seat.old.knows number_not_in_heap }
-    requires may { MayPut seat.old.knows log.old.table.history log.old.table.pending }
-    requires versions { Noted seat.old.knows versions_in_memory }
-    requires decides { RollsBack seat.old.knows store.now.cells log.old.table n cleared }
     ensures { Puts store.now seat.old log.old log.old.table.pending result seat.new log.new }
 {
-    append(store, rt, seat, log, n, Reached::InMemory)?;
-    decide(store, rt, seat, log, &mut cleared, n);
-    steps::note_no_versions(store, seat, log);
-    decide(store, rt, seat, log, &mut cleared, n + 1);
+    let Ok(()) = ready(store, rt, seat, log) else {
+        return Err(give_up(store, rt, seat, log));
+    };
+    append(store, rt, seat, log)?;
+    publish_all(store, rt, seat, log);
     Ok(())
+}
+
+/// Puts the entries of a record into the history. Of two whose pairs have one place in the commit cache the earlier one decides
+/// itself.
+pub fn put<D: Disk + Drop, R: Wait>(
+    store: &Shared<D>,
+    rt: &R,
+    seat: &mut Seat<D>,
+    log: &mut Log<D>,
+    entries: Record,
+) -> Result<(), WriteError>
+    requires holds { HoldsWrite store.now seat.old log.old }
+    requires running { log.old.table.closed ≡ false }
+    requires may { MayPut seat.old.knows log.old.table.history entries }
+    requires apart { AreApart store.now.cells (ways_of (suc (length log.old.table.history)) entries) }
+    ensures { Puts store.now seat.old log.old entries result seat.new log.new }
+{
+    make_pending(store, seat, log, entries)?;
+    put_pending(store, rt, seat, log)
 }

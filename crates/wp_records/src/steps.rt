@@ -1,31 +1,26 @@
-//! The steps of the machine that a record takes, each as what it leaves of the seat, and the store turn.
+//! The steps of the machine that a record takes, each as what it leaves of the seat.
 ghost use Rattle.std.specs.Prelude.{◌≡◌, ℕ, suc, true, false, List, [], ◌∷◌, ◌++◌, length, None};
 ghost use Rattle.std.specs.FinSet as set;
 ghost use Rattle.wp_model.specs.declared.entry.Entry.{Entry};
+ghost use Rattle.wp_model.specs.History.{is_prepare};
 ghost use Rattle.wp_model.specs.Legal.{IsLegal};
 ghost use Rattle.wp_model.specs.PreparedTables.{PreparedTables};
-ghost use Rattle.wp_core.specs.Changes.{held_without};
 ghost use Rattle.wp_core.specs.Entries.{next_of, IsOneRecord, HasVersionsAt};
 ghost use Rattle.wp_core.specs.Lists.{IsIn};
-ghost use Rattle.wp_core.specs.Sound.Views.{IsNowhere};
 ghost use Rattle.wp_core.specs.Tables.{WriteTable, StoreTable, writes, prepared};
 ghost use Rattle.wp_core.specs.Tables as table;
-ghost use Rattle.wp_core.specs.Turns.{store_turn};
 ghost use Rattle.wp_core.specs.Views.{versions_in_memory, versions_nowhere, number_in_heap, number_not_in_heap};
 ghost use Rattle.wp_rule.specs.Knows.{HasNoVersions, Noted};
 ghost use Rattle.wp_parts.specs.Stock.{store_table};
-ghost use Rattle.wp_commits.specs.Notes.{noting, GoesOn};
-ghost use Rattle.wp_records.specs.Stages.{no_fact, is_of_versions, is_of_heap, is_of_pending, holding, as_failed, HasPrepare, IsUnlogged, IsNext, IsInPlace, IsPublished};
-ghost use Rattle.wp_records.specs.Writing.{KnowsWords};
+ghost use Rattle.wp_shared.specs.Notes.{noting, GoesOn, KnowsWords};
+ghost use Rattle.wp_records.specs.Stages.{is_of_versions, is_of_heap, is_of_pending, holding, as_failed, HasPrepare, IsUnlogged, IsNext, IsInPlace, IsPublished};
 
 use std::marker::Brand;
-use std::sync::Wait;
-use wp_actor::Turn;
 use wp_model::Seq;
 use wp_outside::Disk;
-use wp_parts::{Log, Part, Stock};
+use wp_parts::{Log, Stock};
 use wp_prepared::Prepared;
-use wp_shared::{Held, Seat, Shared};
+use wp_shared::{Seat, Shared};
 
 // ---- the pending record
 
@@ -91,34 +86,6 @@ pub(crate) fn publish<D: Disk + Drop>(
 
 // ---- versions
 
-/// Waits for the store turn, and takes it with the versions.
-pub(crate) fn take_stock<D: Disk + Drop, R: Wait>(
-    store: &Shared<D>,
-    rt: &R,
-    seat: &mut Seat<D>,
-) -> Stock
-    requires { (seat.old.table ≡ store.now.table) × (seat.old.knows.live ≡ true) }
-    ensures seat { GoesOn no_fact (table.store (store_table result) ∷ seat.old.knows.held) (3 ∷ seat.old.turns) seat.old seat.new }
-    ensures nowhere { (t : WriteTable) → IsIn (writes t) seat.old.knows.held → Noted seat.old.knows versions_nowhere → IsNowhere t (store_table result) }
-{
-    store.take(rt, seat, Turn::Store).into_stock()
-}
-
-/// Gives the store turn, which was taken last, with the versions.
-pub(crate) fn give_stock<D: Disk + Drop>(store: &Shared<D>, seat: &mut Seat<D>, stock: Stock)
-    requires seat { seat.old.table ≡ store.now.table }
-    requires held { IsIn (table.store (store_table stock)) seat.old.knows.held }
-    requires turns { (others : List ℕ) × (seat.old.turns ≡ 3 ∷ others) }
-    ensures { (others : List ℕ) → seat.old.turns ≡ 3 ∷ others → GoesOn no_fact (held_without seat.old.knows.held store_turn) others seat.old seat.new }
-{
-    store.give(
-        seat,
-        Held {
-            part: Part::Store(stock),
-        },
-    );
-}
-
 /// The versions of the pending entry came into memory.
 pub(crate) fn add_versions<D: Disk + Drop>(
     store: &Shared<D>,
@@ -162,6 +129,16 @@ pub(crate) fn note_no_versions<D: Disk + Drop>(store: &Shared<D>, seat: &mut Sea
 }
 
 // ---- the number of a Prepare
+
+/// Notes that the number of the pending entry is not in the prepared heap, since that is no Prepare.
+pub(crate) fn note_no_number<D: Disk + Drop>(store: &Shared<D>, seat: &mut Seat<D>, log: &Log<D>)
+    requires seat { (seat.old.table ≡ store.now.table) × (seat.old.knows.live ≡ true) }
+    requires held { IsIn (writes log.now.table) seat.old.knows.held }
+    requires none { is_prepare (next_of log.now.table.pending) ≡ false }
+    ensures { seat.new ≡ noting number_not_in_heap seat.old }
+{
+    store.make::<Brand>(seat);
+}
 
 /// The number of the pending Prepare came into the prepared heap.
 pub(crate) fn add_number<D: Disk + Drop>(

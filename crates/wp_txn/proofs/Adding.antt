@@ -21,23 +21,24 @@ use Rattle.wp_model.specs.declared.holder.Holder.TheVariants.{Txn}
 use Rattle.wp_model.proofs.Words.{same_word}
 use Rattle.wp_core.specs.Lists.{IsIn}
 use Rattle.wp_core.specs.Views.{unprepared}
-use Rattle.wp_core.specs.World.{Transaction, Participant, World}
-use Rattle.wp_core.specs.Changes.{with_key}
+use Rattle.wp_core.specs.Tables.{locks}
+use Rattle.wp_core.specs.Turns.{locks_turn}
+use Rattle.wp_core.specs.World.{Transaction, Participant}
 use Rattle.wp_core.proofs.Keyed.{at_inserted}
-use Rattle.wp_shared.specs.Seats.{SharedState, SeatState, IsFree, Stands}
+use Rattle.wp_shared.specs.Seats.{SharedState, SeatState}
 use Rattle.wp_shared.specs.Calls.{Continues}
-use Rattle.std.proofs.Common.{append-nil}
+use Rattle.wp_shared.specs.Notes.{seat_of}
+use Rattle.wp_shared.specs.Turns.{Taken, Given}
 use Rattle.wp_txn.specs.declared.error.TxnError.{TxnError}
-use Rattle.wp_txn.specs.declared.error.TxnError.TheVariants.{Memory, Taken, Busy, TooMany, Silent, Unknown, InUse, NumbersFull, LogFault, Stopped}
+use Rattle.wp_txn.specs.declared.error.TxnError.TheVariants as why
 use Rattle.wp_txn.specs.Actors.{no_changes, transaction_in, with_key_locked, with_locked, with_batch}
 use Rattle.wp_txn.specs.Calls.{with_transaction, Finds, IsFull, locking, changing, Changes}
 use Rattle.wp_txn.specs.Keys.{HoldsKey}
-use Rattle.wp_txn.specs.Turns.{seat_of, with_locks, GaveLocks}
 use Rattle.wp_txn.specs.Txn.{OpenState, HasOpen}
 use Rattle.wp_txn.specs.Under.{LocksKey}
 use Rattle.wp_txn.proofs.Freed.{either_turned}
 use Rattle.wp_txn.proofs.Goes.{still, open_still}
-use Rattle.wp_txn.proofs.GoesOn.{Turnless, locks_found, back, under, held_back, nothing_done, finds}
+use Rattle.wp_txn.proofs.GoesOn.{locks_found, with_locks, under, back_at_once, nothing_done, finds}
 
 -- ---- which keys a batch changes with one change more
 
@@ -151,37 +152,21 @@ module _ {D : Type 0} (z : SharedState D) (old : SeatState) (name : List ℕ) (b
 not_own : (holder : Holder) (name : List ℕ) → is_same_txn holder (Txn name) ≡ false → holder ≡ Txn name → ⊥
 not_own holder name other same = true≢false (sym ((bytes_eq-Decides name name).1 refl) ∙ (ap (λ (x : Holder). is_same_txn x (Txn name)) (sym same) ∙ other))
 
-module _ {D : Type 0} (z : SharedState D) (old : SeatState) (free : IsFree z.table old) (txn : OpenState) (key : List ℕ) where
-  pub key_held : (t u : LockTables) (s r new : SeatState) (w : World) (answer : Result (Unit {0}) TxnError) → s ≡ with_locks t old → Stands z old w → w.locks ≡ t → is_changed txn.batch key ≡ false
-      → LocksKey t s txn.name key answer u r → GaveLocks r new → HoldsKey z old txn key answer new
-  key_held t u s r new w (Ok done) took stands are none c gave = (
-    subst (λ (b : Bool). Continues z old new (locking b txn.name key old.knows.participant)) (sym none)
-        (back z old free Turnless t (with_locked t txn.name key (with_locks t old).knows) r new (under z old free t s took (with_locked t txn.name key) r c.1) gave
-        (held_back z old free t (with_key t key (Txn txn.name))) free.live refl refl ([], sym (append-nil old.knows.participant.seen)) (λ fact kept there. there)),
-    λ unchanged. locks_found z old w t (λ l. finite.get l.keys key ≡ None) stands are c.2,
-  )
-  key_held t u s r new w (Err (Busy holder)) took stands are none c gave =
-      (none, not_own holder txn.name c.1, finds z old free t s took new w (Some key) holder r c.3.0 stands are c.0 c.3.1 c.3.2 gave)
-  key_held t u s r new w (Err Memory) took stands are none c gave = nothing_done z old free t s took new r c.1 gave
-  key_held t u s r new w (Err (Taken other)) took stands are none c gave = c
-  key_held t u s r new w (Err TooMany) took stands are none c gave = c
-  key_held t u s r new w (Err Silent) took stands are none c gave = c
-  key_held t u s r new w (Err (Unknown other at)) took stands are none c gave = c
-  key_held t u s r new w (Err (InUse other)) took stands are none c gave = c
-  key_held t u s r new w (Err (NumbersFull published limit)) took stands are none c gave = c
-  key_held t u s r new w (Err LogFault) took stands are none c gave = c
-  key_held t u s r new w (Err (Stopped n)) took stands are none c gave = c
+pub key_held : {D : Type 0} (z : SharedState D) (old : SeatState) (txn : OpenState) (key : List ℕ) (t u : LockTables) (s r new : SeatState) (answer : Result (Unit {0}) TxnError) → Taken z old s (locks t) → is_changed txn.batch key ≡ false → LocksKey t s txn.name key answer u r → Given z locks_turn r new [] []
+    → HoldsKey z old txn key answer new
+key_held z old txn key t u s r new (Ok done) k none c gave = (
+  subst (λ (b : Bool). Continues z old new (locking b txn.name key old.knows.participant)) (sym none)
+      (back_at_once z old t s k (with_locked t txn.name key (with_locks t old).knows) r new (under z old t s k (with_locked t txn.name key) r c.1) gave refl refl refl (λ fact there. there)),
+  λ unchanged. locks_found z old s t (λ l. finite.get l.keys key ≡ None) k c.2,
+)
+key_held z old txn key t u s r new (Err (why.Busy holder)) k none c gave = (none, not_own holder txn.name c.1, finds z old t s k (Some key) holder r new c.3.0 c.0 c.3.1 c.3.2 gave)
+key_held z old txn key t u s r new (Err why.Memory) k none c gave = nothing_done z old t s k r new c.1 gave
+key_held z old txn key t u s r new (Err other) k none c gave = absurd c
 
-  -- where the key was not locked the transaction is as it was
-  pub not_changed : (change : Change) (new : SeatState) (why : TxnError) → (IsFull txn.batch (key_of change) → ⊥) → key_of change ≡ key → HasOpen old txn.name txn.batch → HoldsKey z old txn key (Err why) new → Changes z old txn change (Err why) new txn
-  not_changed change new Memory room same has c = (refl, open_still old new (still z old new old.knows.participant refl refl c) txn.name txn.batch has, c)
-  not_changed change new (Busy holder) room same has c =
-      (room, refl, open_still old new (still z old new _ refl refl c.2.goes_on) txn.name txn.batch has, subst (λ (k : List ℕ). is_changed txn.batch k ≡ false) (sym same) c.0, c.1, subst (λ (k : List ℕ). Finds z old new (Some k) holder) (sym same) c.2)
-  not_changed change new (Taken other) room same has c = absurd c
-  not_changed change new TooMany room same has c = absurd c
-  not_changed change new Silent room same has c = absurd c
-  not_changed change new (Unknown other at) room same has c = absurd c
-  not_changed change new (InUse other) room same has c = absurd c
-  not_changed change new (NumbersFull published limit) room same has c = absurd c
-  not_changed change new LogFault room same has c = absurd c
-  not_changed change new (Stopped n) room same has c = absurd c
+-- where the key was not locked the transaction is as it was
+pub not_changed : {D : Type 0} (z : SharedState D) (old : SeatState) (txn : OpenState) (key : List ℕ) (change : Change) (new : SeatState) (reason : TxnError) → (IsFull txn.batch (key_of change) → ⊥) → key_of change ≡ key → HasOpen old txn.name txn.batch → HoldsKey z old txn key (Err reason) new
+    → Changes z old txn change (Err reason) new txn
+not_changed z old txn key change new why.Memory room same has c = (refl, open_still old new (still z old new old.knows.participant refl refl c) txn.name txn.batch has, c)
+not_changed z old txn key change new (why.Busy holder) room same has c =
+    (room, refl, open_still old new (still z old new _ refl refl c.2.goes_on) txn.name txn.batch has, subst (λ (k : List ℕ). is_changed txn.batch k ≡ false) (sym same) c.0, c.1, subst (λ (k : List ℕ). Finds z old new (Some k) holder) (sym same) c.2)
+not_changed z old txn key change new other room same has c = absurd c

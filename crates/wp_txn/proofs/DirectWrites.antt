@@ -12,12 +12,13 @@ use Rattle.wp_model.specs.declared.holder.Holder.{Holder}
 use Rattle.wp_model.specs.declared.holder.Holder.TheVariants.{Txn, Client}
 use Rattle.wp_model.proofs.Found.{found_holder}
 use Rattle.wp_locks.specs.Locks.{is_free_for}
-use Rattle.wp_core.specs.Changes.{with_key, without_key}
+use Rattle.wp_core.specs.Changes.{without_key}
 use Rattle.wp_core.specs.Lists.{IsIn}
 use Rattle.wp_core.specs.Notes.{ends}
 use Rattle.wp_core.specs.Steps.{lock_direct, free_direct, note}
 use Rattle.wp_core.specs.Tables.{locks}
-use Rattle.wp_core.specs.Views.{Fact, passed, in_old_commits, apart, words_stay, versions_in_memory, versions_nowhere, number_in_heap, number_not_in_heap, undecided_at, prior_values, unprepared, direct_free, tables_stay, live_listed, nothing_flushed, frozen_stay, delayed_flag_stays, old_flag_stays}
+use Rattle.wp_core.specs.Turns.{locks_turn}
+use Rattle.wp_core.specs.Views.{Fact, passed, in_old_commits, apart, words_stay, has_left, versions_in_memory, versions_nowhere, number_in_heap, number_not_in_heap, undecided_at, prior_values, unprepared, direct_free, tables_stay, live_listed, nothing_flushed, frozen_stay, delayed_flag_stays, old_flag_stays}
 use Rattle.wp_core.specs.World.{Actor, Participant, World}
 use Rattle.wp_core.specs.Sound.Views.{guarded_by}
 use Rattle.wp_core.proofs.HistoryGrows.{none_is}
@@ -32,17 +33,19 @@ use Rattle.wp_rule.proofs.MayBeMade.{known_made}
 use Rattle.wp_rule.proofs.Needed.{has_locks, alone}
 use Rattle.wp_rule.proofs.Outlasting.{outlasts}
 use Rattle.wp_records.specs.Records.{numbers_behind, is_about}
-use Rattle.wp_shared.specs.Calls.{ContinuesWith, Continues, remembering}
+use Rattle.wp_shared.specs.Calls.{IsLoose, ContinuesWith, Continues, remembering}
 use Rattle.wp_shared.specs.Seats.{SharedState, SeatState, IsFree, Stands, place_at}
+use Rattle.wp_shared.specs.Turns.{HoldsTurn, Taken, Given}
 use Rattle.wp_shared.proofs.OneStep.{becomes}
+use Rattle.wp_shared.proofs.Onward.{holds_alone}
 use Rattle.wp_txn.specs.declared.error.TxnError.{TxnError}
-use Rattle.wp_txn.specs.declared.error.TxnError.TheVariants.{Memory, Taken, Busy, TooMany, Silent, Unknown, InUse, NumbersFull, LogFault, Stopped}
+use Rattle.wp_txn.specs.declared.error.TxnError.TheVariants as why
 use Rattle.wp_txn.specs.Actors.{with_direct, ending_direct}
 use Rattle.wp_txn.specs.Recording.{Records, HasDirect, HoldsDirect, EndsDirect, without_direct}
-use Rattle.wp_txn.specs.Turns.{with_locks, HoldsLocks, GaveLocks, is_of_direct, IsNoDirect, IsWithoutDirect}
+use Rattle.wp_txn.specs.Turns.{is_of_direct, IsNoDirect, IsWithoutDirect}
 use Rattle.wp_txn.specs.Under.{LocksDirect}
 use Rattle.wp_txn.specs.Writes.{Refuses, WritesDirect, wrote_direct, writing_direct}
-use Rattle.wp_txn.proofs.GoesOn.{Turnless, locks_found, locks_left, back, under, held_back, nothing_done, finds, noted_back, still_holds}
+use Rattle.wp_txn.proofs.GoesOn.{held_last, holds_tables, locks_found, locks_left, with_locks, under, back, back_at_once, noted_back, nothing_done, finds}
 use Rattle.wp_txn.proofs.Goes.{chain, put_within, refused_within, refused_still, refused_free}
 use Rattle.wp_txn.proofs.Made.{all_made, locks_are, but_notes}
 
@@ -82,6 +85,7 @@ free_ends history words key (undecided_at other p) e = refl
 free_ends history words key (prior_values other p batch) e = refl
 free_ends history words key (unprepared other) e = refl
 free_ends history words key (live_listed floor listed) e = refl
+free_ends history words key (has_left p) e = refl
 free_ends history words key (passed place pair) e = let n = e.0 in absurd cc
 free_ends history words key (in_old_commits place pair) e = let n = e.0 in absurd cc
 free_ends history words key (apart place pair) e = let n = e.0 in absurd cc
@@ -110,47 +114,36 @@ direct_freed p so s new same t key held m =
 
 -- ---- the key is held, and given back
 
-module _ {D : Type 0} (z : SharedState D) (old : SeatState) (free : IsFree z.table old) (none : old.knows.participant.direct ≡ None) (key : List ℕ) where
-  none_noted : (w : World) → Stands z old w → (other : List ℕ) → IsIn (direct_free other) old.knows.notes → ⊥
-  none_noted w stands other there =
-      let so = (noted_is (place_at z old.by) old.knows w (direct_free other) stands there).is_so in some_none other (sym so.0 ∙ none)
-
-  pub direct_held : (t u : LockTables) (s r new : SeatState) (w : World) (answer : Result (Unit {0}) TxnError) → s ≡ with_locks t old → Stands z old w → w.locks ≡ t → LocksDirect t s key answer u r → GaveLocks r new → HoldsDirect z old key answer new
-  direct_held t u s r new w (Ok done) took stands are c gave =
-      let b : Actor = with_direct t key (with_locks t old).knows in let is = under z old free t s took (with_direct t key) r c.1 in
+module _ {D : Type 0} (z : SharedState D) (old : SeatState) (t : LockTables) (key : List ℕ) (s r : SeatState) (k : Taken z old s (locks t)) where
+  pub direct_held : old.knows.participant.direct ≡ None → (u : LockTables) (new : SeatState) (answer : Result (Unit {0}) TxnError) → LocksDirect t s key answer u r → Given z locks_turn r new [] [] → HoldsDirect z old key answer new
+  direct_held none u new (Ok done) c gave =
+      let b : Actor = with_direct t key (with_locks t old).knows in let is = under z old t s k (with_direct t key) r c.1 in
       record {
-        goes_on = back z old free Turnless t b r new is gave (held_back z old free t (with_key t key (Client old.knows.participant.client))) free.live refl refl ([], sym (append-nil old.knows.participant.seen)) (λ fact kept there. inr there);
-        found = locks_found z old w t (λ l. finite.get l.keys key ≡ None) stands are c.2;
-        noted = noted_back z old free t b r new (direct_free key) is gave (inl refl);
-        first = none_noted w stands;
+        goes_on = back_at_once z old t s k b r new is gave refl refl refl (λ fact there. inr there);
+        found = locks_found z old s t (λ l. finite.get l.keys key ≡ None) k c.2;
+        noted = noted_back z old t s k b r new (direct_free key) is gave (inl refl);
+        first = λ other there. some_none other (sym ((noted_is (place_at z old.by) old.knows k.world (direct_free other) k.before there).is_so).0 ∙ none);
       }
-  direct_held t u s r new w (Err (Busy holder)) took stands are c gave = finds z old free t s took new w (Some key) holder r c.3.0 stands are c.0 c.3.1 c.3.2 gave
-  direct_held t u s r new w (Err Memory) took stands are c gave = nothing_done z old free t s took new r c.1 gave
-  direct_held t u s r new w (Err (Taken other)) took stands are c gave = c
-  direct_held t u s r new w (Err TooMany) took stands are c gave = c
-  direct_held t u s r new w (Err Silent) took stands are c gave = c
-  direct_held t u s r new w (Err (Unknown other at)) took stands are c gave = c
-  direct_held t u s r new w (Err (InUse other)) took stands are c gave = c
-  direct_held t u s r new w (Err (NumbersFull published limit)) took stands are c gave = c
-  direct_held t u s r new w (Err LogFault) took stands are c gave = c
-  direct_held t u s r new w (Err (Stopped n)) took stands are c gave = c
+  direct_held none u new (Err (why.Busy holder)) c gave = finds z old t s k (Some key) holder r new c.3.0 c.0 c.3.1 c.3.2 gave
+  direct_held none u new (Err why.Memory) c gave = nothing_done z old t s k r new c.1 gave
+  direct_held none u new (Err other) c gave = absurd c
 
-module _ {D : Type 0} (z : SharedState D) (old : SeatState) (free : IsFree z.table old) (t : LockTables) (key : List ℕ) (s r : SeatState) (took : s ≡ with_locks t old) (without : IsWithoutDirect s r (without_key t key)) where
-  abbrev ending : Actor → Actor
-  ending a = record (ending_direct (without_key t key) a) { notes = r.knows.notes }
+  module _ (without : IsWithoutDirect s r (without_key t key)) where
+    abbrev ending : Actor → Actor
+    ending a = record (ending_direct (without_key t key) a) { notes = r.knows.notes }
 
-  -- it holds the tables without the key
-  pub ended_holds : (m : LockTables) → m ≡ without_key t key → HoldsLocks z r m
-  ended_holds m is = still_holds z old free t s took ending r m without.seat free.live (inl (ap locks (sym is)))
+    -- it holds the tables without the key
+    pub ended_holds : IsFree z.table old → (m : LockTables) → m ≡ without_key t key → HoldsTurn z r (locks m) [] []
+    ended_holds free m same = holds_tables (ending s.knows) (without_key t key) m (holds_alone free k) same without.seat refl refl
 
-  pub ended_direct : (new : SeatState) (m : LockTables) → m ≡ without_key t key → (w : World) × Stands z r w → GaveLocks r new → EndsDirect z old new key
-  ended_direct new m same_tables stands gave =
-      let is = under z old free t s took ending r without.seat in record {
-        goes_on = back z old free IsNoDirect t (ending (with_locks t old).knows) r new is gave (held_back z old free t (without_key t key)) free.live refl refl ([], sym (append-nil old.knows.participant.seen))
-            (λ fact stays there. without.notes fact stays (subst (λ (x : SeatState). IsIn fact x.knows.notes) (sym took) there));
-        same = ap (λ (a : Actor). a.participant) gave.knows ∙ ap (λ (x : SeatState). x.knows.participant) is;
-        freed = locks_left z r new m (λ l. finite.get l.keys key ≡ None) stands (ended_holds m same_tables).held gave (ap (λ (l : LockTables). finite.get l.keys key) same_tables ∙ at_removed t.keys key key refl);
-      }
+    pub ended_direct : (new : SeatState) (m : LockTables) → m ≡ without_key t key → HoldsTurn z r (locks m) [] [] → (w : World) × Stands z r w → Given z locks_turn r new [] [] → EndsDirect z old new key
+    ended_direct new m same held stands gave =
+        let is = under z old t s k ending r without.seat in record {
+          goes_on = back z old t s k IsNoDirect (ending (with_locks t old).knows) r new is gave refl refl ([], sym (append-nil old.knows.participant.seen))
+              (λ fact stays there. without.notes fact stays (subst (λ (x : SeatState). IsIn fact x.knows.notes) (sym k.seat) there));
+          same = ap (λ (x : SeatState). x.knows.participant) gave.goes.same ∙ ap (λ (x : SeatState). x.knows.participant) is;
+          freed = locks_left z r new m (λ l. finite.get l.keys key ≡ None) stands (held_last held) gave (ap (λ (l : LockTables). finite.get l.keys key) same ∙ at_removed t.keys key key refl);
+        }
 
 -- ---- the whole call
 
@@ -190,7 +183,7 @@ module _ {D : Type 0} (z : SharedState D) (old mid left new : SeatState) (change
       → ContinuesWith Part z mid left (change_it mid.knows.participant) → Continues z old new (change_it (wrote_direct key was))
   given Part change_it stays commutes goes =
       let first : ContinuesWith IsNoDirect z old left (change_it mid.knows.participant) =
-      chain IsNoDirect (λ fact. guarded_by fact ≡ None) Part z old mid left (writing_direct key was) (change_it mid.knows.participant) (change_it mid.knows.participant) (λ fact s. s.0) (λ fact s. stays fact s.0) held.goes_on goes refl in
+      chain IsNoDirect IsLoose Part z old mid left (writing_direct key was) (change_it mid.knows.participant) (change_it mid.knows.participant) (λ fact s. s.0) (λ fact s. stays fact s.0) held.goes_on goes refl in
       turnless_still (change_it (wrote_direct key was))
       (chain IsNoDirect IsNoDirect IsNoDirect z old left new (change_it mid.knows.participant) (without_direct left.knows.participant) (change_it (wrote_direct key was)) (λ fact s. s) (λ fact s. s) first ended.goes_on
       (ap (λ (x : Participant). record (without_direct x) { seen = new.knows.participant.seen }) (first.participant ∙ ap (λ (x : Participant). record (change_it x) { seen = left.knows.participant.seen }) held.goes_on.participant)
@@ -206,52 +199,34 @@ module _ {D : Type 0} (z : SharedState D) (old mid left new : SeatState) (change
         r.0 ∙ ap (λ (es : List Entry). length es) (sym same_seen),
         (
           history,
-          put_within _ Turnless z old mid left new (writing_direct key was) (wrote_direct key was) history (Write (change ∷ []) ∷ []) held.goes_on.same_by held.goes_on.seen held.goes_on.participant put same_seen
-              (given _ (λ x. record x { own = x.own ++ numbers_behind (length history) (Write (change ∷ []) ∷ []) }) (λ fact turnless. (turnless, none_about fact)) (λ x seen. refl) put.goes_on),
+          put_within _ IsLoose z old mid left new (writing_direct key was) (wrote_direct key was) history (Write (change ∷ []) ∷ []) held.goes_on.same_by held.goes_on.seen held.goes_on.participant put same_seen
+              (given _ (λ x. record x { own = x.own ++ numbers_behind (length history) (Write (change ∷ []) ∷ []) }) (λ fact turnless. (turnless, (none_about fact, tt))) (λ x seen. refl) put.goes_on),
         ),
         (held.found, ended.freed),
       )
 
-  refused : (why : TxnError) → Refuses z mid left 1 (λ asked. asked ≡ Write (change ∷ []) ∷ []) mid.knows.participant mid.knows.participant why → Refuses z old new 1 (λ asked. asked ≡ Write (change ∷ []) ∷ []) (writing_direct key was) (wrote_direct key was) why
-  refused why c =
+  refused : (reason : TxnError) → Refuses z mid left 1 (λ asked. asked ≡ Write (change ∷ []) ∷ []) mid.knows.participant mid.knows.participant reason → Refuses z old new 1 (λ asked. asked ≡ Write (change ∷ []) ∷ []) (writing_direct key was) (wrote_direct key was) reason
+  refused reason c =
       refused_within z old mid left new 1 (writing_direct key was) (wrote_direct key was) held.goes_on.same_by held.goes_on.participant same_seen
-      (λ goes. given Turnless (λ x. x) (λ fact turnless. turnless) (λ x seen. refl) goes)
-      (λ events goes. given Turnless (remembering events) (λ fact turnless. turnless) (λ x seen. refl) goes) (λ asked. asked ≡ Write (change ∷ []) ∷ []) (λ asked. asked ≡ Write (change ∷ []) ∷ []) (λ asked is legal. is) why c
+      (λ goes. given IsLoose (λ x. x) (λ fact loose. loose) (λ x seen. refl) goes)
+      (λ events goes. given IsLoose (remembering events) (λ fact loose. loose) (λ x seen. refl) goes) (λ asked. asked ≡ Write (change ∷ []) ∷ []) (λ asked. asked ≡ Write (change ∷ []) ∷ []) (λ asked is legal. is) reason c
 
-  pub not_written : (why : TxnError) → Refuses z mid left 1 (λ asked. asked ≡ Write (change ∷ []) ∷ []) mid.knows.participant mid.knows.participant why → WritesDirect z old change (Err why) new
-  not_written Memory c = inr (refused Memory c)
-  not_written (Stopped n) c = (refused (Stopped n) c, (held.found, ended.freed))
-  not_written (NumbersFull published limit) c = (refused (NumbersFull published limit) c, (held.found, ended.freed))
-  not_written LogFault c = (refused LogFault c, (held.found, ended.freed))
-  not_written (Taken name) c = absurd c
-  not_written (Busy holder) c = absurd c
-  not_written TooMany c = absurd c
-  not_written Silent c = absurd c
-  not_written (Unknown name at) c = absurd c
-  not_written (InUse name) c = absurd c
+  pub not_written : (reason : TxnError) → Refuses z mid left 1 (λ asked. asked ≡ Write (change ∷ []) ∷ []) mid.knows.participant mid.knows.participant reason → WritesDirect z old change (Err reason) new
+  not_written why.Memory c = inr (refused why.Memory c)
+  not_written (why.Stopped n) c = (refused (why.Stopped n) c, (held.found, ended.freed))
+  not_written (why.NumbersFull published limit) c = (refused (why.NumbersFull published limit) c, (held.found, ended.freed))
+  not_written why.LogFault c = (refused why.LogFault c, (held.found, ended.freed))
+  not_written other c = absurd c
 
   pub written : (answer : Result ℕ TxnError) → Records z mid (Write (change ∷ []) ∷ []) (λ m. []) answer left → WritesDirect z old change answer new
   written (Ok n) r = wrote n r
-  written (Err why) r = not_written why r
+  written (Err reason) r = not_written reason r
 
 -- behind a record the seat is free, and has the direct write that it had
 pub free_after : {D : Type 0} (z : SharedState D) (mid left : SeatState) (entries : List Entry) (facts : ℕ → List Fact) (answer : Result ℕ TxnError) → Records z mid entries facts answer left → IsFree z.table left
 free_after z mid left entries facts (Ok n) r = r.1.1.put.goes_on.free
-free_after z mid left entries facts (Err why) r = refused_free z mid left (length entries) (λ asked. asked ≡ entries) why r
+free_after z mid left entries facts (Err reason) r = refused_free z mid left (length entries) (λ asked. asked ≡ entries) reason r
 
 pub direct_after : {D : Type 0} (z : SharedState D) (mid left : SeatState) (entries : List Entry) (facts : ℕ → List Fact) (answer : Result ℕ TxnError) → Records z mid entries facts answer left → left.knows.participant.direct ≡ mid.knows.participant.direct
 direct_after z mid left entries facts (Ok n) r = ap (λ (p : Participant). p.direct) r.1.1.put.goes_on.participant
-direct_after z mid left entries facts (Err why) r = (refused_still z mid left (length entries) (λ asked. asked ≡ entries) why r).direct
-
--- where the key was not held nothing was written
-pub not_held : {D : Type 0} (z : SharedState D) (old new : SeatState) (change : Change) (why : TxnError) → HoldsDirect z old (key_of change) (Err why) new → WritesDirect z old change (Err why) new
-not_held z old new change Memory c = inl c
-not_held z old new change (Busy holder) c = c
-not_held z old new change (Taken name) c = absurd c
-not_held z old new change TooMany c = absurd c
-not_held z old new change Silent c = absurd c
-not_held z old new change (Unknown name at) c = absurd c
-not_held z old new change (InUse name) c = absurd c
-not_held z old new change (NumbersFull published limit) c = absurd c
-not_held z old new change LogFault c = absurd c
-not_held z old new change (Stopped n) c = absurd c
+direct_after z mid left entries facts (Err reason) r = (refused_still z mid left (length entries) (λ asked. asked ≡ entries) reason r).direct

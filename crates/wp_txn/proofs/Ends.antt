@@ -1,5 +1,5 @@
 -- A transaction that its entries end, and one that is prepared.
-use Rattle.std.proofs.Common.{◌≡◌, ◌⊎◌, ⊎_elim, inl, inr, ℕ, suc, true, false, List, [], ◌∷◌, ◌++◌, length, refl, sym, subst, ap, ◌∙◌, Option, Some, None, is_some, eq-eqb, ◌+◌, arith}
+use Rattle.std.proofs.Common.{◌≡◌, inl, ℕ, suc, true, false, List, [], ◌∷◌, ◌++◌, length, refl, sym, subst, ap, ◌∙◌, Option, Some, None, is_some, eq-eqb, ◌+◌, arith}
 use Rattle.std.specs.Prelude.{Ok}
 use Rattle.std.specs.FinMap as finite
 use Rattle.wp_model.specs.Decision.{decision_of}
@@ -16,9 +16,8 @@ use Rattle.wp_core.specs.World.{Participant}
 use Rattle.wp_core.specs.Sound.Actors.{StartsWith}
 use Rattle.wp_core.specs.Sound.Views.{guarded_by}
 use Rattle.wp_core.proofs.HistoryLaws.{next_decides_prepare}
-use Rattle.wp_records.specs.Records.{numbers_behind, transaction_behind, is_about}
-use Rattle.wp_shared.specs.Calls.{ContinuesWith, Continues, remembering}
-use Rattle.wp_commits.specs.Gone.{HasLeft}
+use Rattle.wp_records.specs.Records.{numbers_behind, is_about, IsAboutNone}
+use Rattle.wp_shared.specs.Calls.{IsLoose, ContinuesWith, Continues, remembering}
 use Rattle.wp_rule.specs.Words.{IsAt}
 use Rattle.wp_shared.specs.Seats.{SharedState, SeatState, place_at}
 use Rattle.wp_txn.specs.Calls.{without_transaction}
@@ -32,31 +31,25 @@ use Rattle.wp_txn.proofs.Goes.{chain, put_within, refused_within, refused_still,
 
 -- ---- the transaction is freed
 
--- a fact that is not about the transaction is not about the record's
-not_about : (o : Option (List ℕ)) (name : List ℕ) (fact : Fact) → (o ≡ None) ⊎ (o ≡ Some name) → is_about (Some name) fact ≡ false → is_about o fact ≡ false
-not_about o name fact which apart = ⊎_elim
-    (λ (e : o ≡ None). ap (λ (x : Option (List ℕ)). is_about x fact) e ∙ none_about fact)
-    (λ (e : o ≡ Some name). ap (λ (x : Option (List ℕ)). is_about x fact) e ∙ apart) which
-
 -- the call began with what left the seat as it was, but for what it had seen
 module _ {D : Type 0} (z : SharedState D) (old start mid new : SeatState) (name : List ℕ) (entries : List Entry) (facts : ℕ → List Fact) (n : ℕ) (begins : Continues z old start old.knows.participant)
-    (r : Records z start entries facts (Ok n) mid) (which : (transaction_behind r.1.0 entries ≡ None) ⊎ (transaction_behind r.1.0 entries ≡ Some name)) where
+    (r : Records z start entries facts (Ok n) mid) (which : (fact : Fact) → is_about (Some name) fact ≡ false → IsAboutNone r.1.0 entries fact) where
   abbrev it : Participant
   it = old.knows.participant
 
   abbrev Part : Fact → Type 0
-  Part fact = (guarded_by fact ≡ None) × (is_about (transaction_behind r.1.0 entries) fact ≡ false)
+  Part fact = (guarded_by fact ≡ None) × IsAboutNone r.1.0 entries fact
 
   -- with these numbers more of its own
   abbrev owning : Participant → Participant
   owning p = record p { own = p.own ++ numbers_behind (length r.1.0) entries }
 
   apart_stays : (fact : Fact) → IsApartFrom name fact → Part fact
-  apart_stays fact apart = (apart.0, not_about (transaction_behind r.1.0 entries) name fact which apart.1)
+  apart_stays fact apart = (apart.0, which fact apart.1)
 
   until_then : ContinuesWith (IsApartFrom name) z old mid (owning it)
   until_then =
-      chain (IsApartFrom name) (λ fact. guarded_by fact ≡ None) Part z old start mid it (owning start.knows.participant) (owning it) (λ fact apart. apart.0) apart_stays begins r.1.1.put.goes_on
+      chain (IsApartFrom name) IsLoose Part z old start mid it (owning start.knows.participant) (owning it) (λ fact apart. apart.0) apart_stays begins r.1.1.put.goes_on
       (ap (λ (p : Participant). record (owning p) { seen = mid.knows.participant.seen }) begins.participant)
 
   same_seen : Frees z mid new name → new.knows.participant.seen ≡ mid.knows.participant.seen
@@ -84,36 +77,26 @@ module _ {D : Type 0} (z : SharedState D) (old start mid new : SeatState) (name 
 pub refused_from : {D : Type 0} (z : SharedState D) (old start new : SeatState) (needed : ℕ) (Asks More : List Entry → Type 0) (wider : (entries : List Entry) → Asks entries → IsLegal (new.knows.participant.seen ++ entries) → More entries) (begins : Continues z old start old.knows.participant) (why : TxnError)
     → Refuses z start new needed Asks start.knows.participant start.knows.participant why → Refuses z old new needed More old.knows.participant old.knows.participant why
 refused_from z old start new needed Asks More wider begins why c =
-    let Turnless : Fact → Type 0 = λ fact. guarded_by fact ≡ None in let it = old.knows.participant in
+    let it = old.knows.participant in
     refused_within z old start new new needed it it begins.same_by begins.participant refl
-    (λ goes. chain Turnless Turnless Turnless z old start new it start.knows.participant it (λ fact stays. stays) (λ fact stays. stays) begins goes (ap (λ (p : Participant). record p { seen = new.knows.participant.seen }) begins.participant))
+    (λ goes. chain IsLoose IsLoose IsLoose z old start new it start.knows.participant it (λ fact stays. stays) (λ fact stays. stays) begins goes (ap (λ (p : Participant). record p { seen = new.knows.participant.seen }) begins.participant))
     (λ events goes.
-    chain Turnless Turnless Turnless z old start new it (remembering events start.knows.participant) (remembering events it) (λ fact stays. stays) (λ fact stays. stays) begins goes
+    chain IsLoose IsLoose IsLoose z old start new it (remembering events start.knows.participant) (remembering events it) (λ fact stays. stays) (λ fact stays. stays) begins goes
     (ap (λ (p : Participant). record (remembering events p) { seen = new.knows.participant.seen }) begins.participant))
     Asks More wider why c
 
 -- what was noted of a transaction outlasts a record that is of none
 pub noted_until : {D : Type 0} (z : SharedState D) (old mid : SeatState) (batch : List Change) (facts : ℕ → List Fact) (n : ℕ) (fact : Fact) → Records z old (Write batch ∷ []) facts (Ok n) mid → guarded_by fact ≡ None → IsIn fact old.knows.notes
     → IsIn fact mid.knows.notes
-noted_until z old mid batch facts n fact r turnless there = r.1.1.put.goes_on.notes fact (turnless, none_about fact) there
+noted_until z old mid batch facts n fact r turnless there = r.1.1.put.goes_on.notes fact (turnless, (none_about fact, tt)) there
 
 -- freed, and then out of the prepared tables
 pub freed_then : {D : Type 0} (z : SharedState D) (old mid new : SeatState) (name : List ℕ) → Frees z old mid name → Continues z mid new mid.knows.participant → new.knows.participant ≡ mid.knows.participant → Frees z old new name
 freed_then z old mid new name frees goes same = record {
-  gives_up = chain (IsApartFrom name) (IsApartFrom name) (λ fact. guarded_by fact ≡ None) z old mid new (without_transaction name old.knows.participant) mid.knows.participant (without_transaction name old.knows.participant)
+  gives_up = chain (IsApartFrom name) (IsApartFrom name) IsLoose z old mid new (without_transaction name old.knows.participant) mid.knows.participant (without_transaction name old.knows.participant)
       (λ fact apart. apart) (λ fact apart. apart.0) frees.gives_up goes (ap (λ (p : Participant). record p { seen = new.knows.participant.seen }) frees.same);
   same = same ∙ frees.same;
   freed = let k = frees.freed in record { world = k.world; actor = k.actor; there = subst (λ (n : ℕ). IsAt (place_at z n) k.actor k.world) (sym goes.same_by) k.there; participant = k.participant ∙ sym same; so_is = k.so_is };
-}
-
--- no prepared table has the number, where the seat has seen no more since
-pub left_since : {D : Type 0} (z : SharedState D) (mid new : SeatState) (number : ℕ) → new.by ≡ mid.by → new.knows.participant ≡ mid.knows.participant → HasLeft z mid number → HasLeft z new number
-left_since z mid new number by same k = record {
-  knows = k.knows;
-  participant = k.participant ∙ sym same;
-  world = k.world;
-  there = subst (λ (n : ℕ). IsAt (place_at z n) k.knows k.world) (sym by) k.there;
-  gone = k.gone;
 }
 
 -- ---- a prepare is decided
@@ -130,8 +113,8 @@ module _ {D : Type 0} (z : SharedState D) (old mid : SeatState) (name : List ℕ
   there_before = ap is_some h.has
 
   module _ (facts : ℕ → List Fact) (n : ℕ) (r : Records z old (Commit number ∷ []) facts (Ok n) mid) where
-    pub commit_is_of : (transaction_behind r.1.0 (Commit number ∷ []) ≡ None) ⊎ (transaction_behind r.1.0 (Commit number ∷ []) ≡ Some name)
-    commit_is_of = inr (name_before r.1.0 r.1.1.put.grown)
+    pub commit_is_of : (fact : Fact) → is_about (Some name) fact ≡ false → IsAboutNone r.1.0 (Commit number ∷ []) fact
+    commit_is_of fact apart = (ap (λ (o : Option (List ℕ)). is_about o fact) (name_before r.1.0 r.1.1.put.grown) ∙ apart, tt)
 
     -- the number is decided in what the seat has seen
     pub commit_decides : (c : ℕ) × (decision_of mid.knows.participant.seen number ≡ Some c)
@@ -159,7 +142,16 @@ prepares z old new txn n h r =
         seen = (let e = r.0 in omega (arith, e));
         stands = ap (λ (es : List Entry). entry_at es n) seen ∙ ap (entry_at (history ++ Prepare txn.name txn.batch ∷ [])) last ∙ entry_at_next history (Prepare txn.name txn.batch);
       },
-      (history, put),
+      (
+        history,
+        record {
+          grown = put.grown;
+          found_log = put.found_log;
+          seen = put.seen;
+          within = put.within;
+          goes_on = let k = put.goes_on in record { free = k.free; same_by = k.same_by; seen = k.seen; participant = k.participant; notes = λ fact apart there. k.notes fact (apart.0, (apart.1, tt)) there; made = k.made; joined = k.joined };
+        },
+      ),
     )
 
 -- ---- a refusal

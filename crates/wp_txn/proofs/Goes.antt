@@ -1,5 +1,5 @@
 -- A seat that goes on twice goes on.
-use Rattle.std.proofs.Common.{◌≡◌, ℕ, ◌+◌, ◌≤◌, Bool, true, false, List, [], ◌∷◌, ◌++◌, length, refl, sym, subst, ap, ◌∙◌, append_assoc, None, arith}
+use Rattle.std.proofs.Common.{◌≡◌, ℕ, ◌+◌, ◌≤◌, Bool, true, false, List, [], ◌∷◌, ◌++◌, length, refl, sym, subst, ap, ◌∙◌, None, arith}
 use Rattle.std.specs.FinMap as finite
 use Rattle.wp_model.specs.History.{entry_at}
 use Rattle.wp_model.specs.Legal.{IsLegal}
@@ -17,13 +17,11 @@ use Rattle.wp_records.specs.Writing.{FoundLog}
 use Rattle.wp_records.specs.Records.{numbers_behind, failing}
 use Rattle.wp_shared.specs.Calls.{ContinuesWith, Continues, remembering}
 use Rattle.wp_shared.specs.Seats.{SharedState, SeatState, IsFree, place_at}
+use Rattle.wp_shared.proofs.Onward.{starts_on}
 use Rattle.wp_txn.specs.declared.error.TxnError.{TxnError}
 use Rattle.wp_txn.specs.declared.error.TxnError.TheVariants.{Memory, Taken, Busy, TooMany, Silent, Unknown, InUse, NumbersFull, LogFault, Stopped}
 use Rattle.wp_txn.specs.Txn.{HasOpen, HasPrepared}
 use Rattle.wp_txn.specs.Writes.{HasPut, Refuses}
-
-pub starts_through : (a b c : List Entry) → StartsWith c b → StartsWith b a → StartsWith c a
-starts_through a b c later sooner = (sooner.0 ++ later.0, later.1 ∙ ap (λ (es : List Entry). es ++ later.0) sooner.1 ∙ append_assoc a sooner.0 later.0)
 
 -- the participant that it is in the end, whatever it had seen on the way
 pub chain : {D : Type 0} (Stays First Second : Fact → Type 0) (z : SharedState D) (a b c : SeatState) (P Q R : Participant) → ((fact : Fact) → Stays fact → First fact) → ((fact : Fact) → Stays fact → Second fact)
@@ -31,7 +29,7 @@ pub chain : {D : Type 0} (Stays First Second : Fact → Type 0) (z : SharedState
 chain Stays First Second z a b c P Q R one two first second same = record {
   free = second.free;
   same_by = second.same_by ∙ first.same_by;
-  seen = starts_through a.knows.participant.seen b.knows.participant.seen c.knows.participant.seen second.seen first.seen;
+  seen = starts_on a.knows.participant.seen b.knows.participant.seen c.knows.participant.seen first.seen second.seen;
   participant = second.participant ∙ same;
   notes = λ fact stays there. second.notes fact (two fact stays) (first.notes fact (one fact stays) there);
   made = second.made ∙ first.made;
@@ -56,7 +54,7 @@ pub put_within : {D : Type 0} (Part Stays : Fact → Type 0) (z : SharedState D)
     → HasPut Part z mid left mid.knows.participant mid.knows.participant history entries → new.knows.participant.seen ≡ left.knows.participant.seen
     → ContinuesWith Stays z old new (record after { own = after.own ++ numbers_behind (length history) entries }) → HasPut Stays z old new found after history entries
 put_within Part Stays z old mid left new found after history entries by starts is put same goes = record {
-  grown = starts_through old.knows.participant.seen mid.knows.participant.seen history put.grown starts;
+  grown = starts_on old.knows.participant.seen mid.knows.participant.seen history starts put.grown;
   found_log = found_from z old.by mid.by found mid.knows.participant mid.knows.participant.seen history history false by is refl put.found_log;
   seen = same ∙ put.seen;
   within = put.within;

@@ -16,10 +16,9 @@ use Rattle.wp_locks.specs.Locks.{is_free_for}
 use Rattle.wp_model.specs.Holder.{is_same_txn}
 use Rattle.wp_core.specs.Lists.{IsIn}
 use Rattle.wp_core.specs.Tables.{locks}
-use Rattle.wp_core.specs.Views.{Account, Fact, passed, in_old_commits, apart, words_stay, versions_in_memory, versions_nowhere, number_in_heap, number_not_in_heap, undecided_at, prior_values, unprepared, direct_free, tables_stay, live_listed, nothing_flushed, frozen_stay, delayed_flag_stays, old_flag_stays}
+use Rattle.wp_core.specs.Views.{Account, Fact, passed, in_old_commits, apart, words_stay, has_left, versions_in_memory, versions_nowhere, number_in_heap, number_not_in_heap, undecided_at, prior_values, unprepared, direct_free, tables_stay, live_listed, nothing_flushed, frozen_stay, delayed_flag_stays, old_flag_stays}
 use Rattle.wp_core.specs.World.{Transaction, Actor, World}
-use Rattle.wp_core.specs.Steps.{Step, load_published, claim_name, find_holder, lock_key, set_batch, free_transaction, leave_name, take_name, tell, hear, note, give_turn}
-use Rattle.wp_core.specs.Turns.{locks_turn}
+use Rattle.wp_core.specs.Steps.{Step, load_published, claim_name, find_holder, lock_key, set_batch, free_transaction, leave_name, take_name, tell, hear, note}
 use Rattle.wp_core.specs.Changes.{sees, keys_of_holder, with_name, without_transaction}
 use Rattle.wp_core.specs.Conditions.{HasTransaction}
 use Rattle.wp_core.specs.Effects.{done}
@@ -32,19 +31,20 @@ use Rattle.wp_core.proofs.HistoryGrows.{none_is}
 use Rattle.wp_core.proofs.Keyed.{at_inserted}
 use Rattle.wp_core.proofs.KeepsSeen.{shorter}
 use Rattle.wp_rule.specs.Words.{Place, IsAt, SawAll}
-use Rattle.wp_rule.specs.Moves.{MayMake, MayStep, Moved, first_of, actor_after, world_after, taking_name}
+use Rattle.wp_rule.specs.Moves.{MayMake, Moved, first_of, actor_after, world_after, taking_name}
 use Rattle.wp_rule.specs.Accounts.{IsHolderIn, account_of}
 use Rattle.wp_rule.specs.Knows.{Noted}
 use Rattle.wp_rule.proofs.Forgets.{EndsNothing, forgets_nothing, load_ends, note_ends}
 use Rattle.wp_rule.proofs.Knows.{at_sound, seen_is}
 use Rattle.wp_rule.proofs.MayBeMade.{known_made, finds_holder}
-use Rattle.wp_rule.proofs.Needed.{has_locks, has_writes, needed, undecided_of}
+use Rattle.wp_rule.proofs.Needed.{has_locks, has_writes, undecided_of}
 use Rattle.wp_rule.proofs.Outlasting.{outlasts}
 use Rattle.wp_shared.specs.Seats.{SharedState, SeatState, Stands, place_at}
 use Rattle.wp_shared.proofs.OneStep.{stepped, becomes}
 use Rattle.wp_txn.specs.Actors.{no_changes, transaction_in, with_claimed, with_found, with_locked, with_batch, giving_up, with_taken, with_told, with_heard}
 use Rattle.wp_txn.specs.Calls.{WasHistory}
-use Rattle.wp_txn.specs.Turns.{seat_of, IsApartFrom, IsWithout, TakesPrepare}
+use Rattle.wp_txn.specs.Turns.{IsApartFrom, IsWithout, TakesPrepare}
+use Rattle.wp_shared.specs.Notes.{seat_of}
 use Rattle.wp_txn.specs.Txn.{HasPrepared}
 
 -- ---- steps that end no note
@@ -110,9 +110,6 @@ owned p a w k = (at_sound p a w k).locks.had p.by 0 (owner_of a.participant) (mi
 -- it has no transaction whose name is no client's
 pub not_had : (p : Place) (a : Actor) (w : World) (t : LockTables) (name : List ℕ) → IsAt p a w → w.locks ≡ t → ((client : List ℕ) → finite.get t.names name ≡ Some (Some client) → ⊥) → finite.get a.participant.transactions name ≡ None
 not_had p a w t name k are none = none_is (finite.get a.participant.transactions name) (λ x has. none a.participant.client (ap (λ (l : LockTables). finite.get l.names name) (sym are) ∙ (owned p a w k).names name x has))
-
-pub may_give : (p : Place) (a : Actor) (t : LockTables) → IsIn (locks t) a.held → MayStep p a (give_turn locks_turn)
-may_give p a t held w k = needed p a w k (give_turn locks_turn) (record { table = t; held = held; so_is = tt })
 
 -- ---- names and holders
 
@@ -201,6 +198,7 @@ free_ends history words name (prior_values other p batch) e = e.1
 free_ends history words name (unprepared other) e = e.1
 free_ends history words name (direct_free key) e = refl
 free_ends history words name (live_listed floor listed) e = refl
+free_ends history words name (has_left p) e = refl
 free_ends history words name (passed place pair) e = let n = e.0 in absurd cc
 free_ends history words name (in_old_commits place pair) e = let n = e.0 in absurd cc
 free_ends history words name (apart place pair) e = let n = e.0 in absurd cc
@@ -222,6 +220,7 @@ leave_ends history words name (prior_values other p batch) = refl
 leave_ends history words name (unprepared other) = refl
 leave_ends history words name (direct_free key) = refl
 leave_ends history words name (live_listed floor listed) = refl
+leave_ends history words name (has_left p) = refl
 leave_ends history words name (passed place pair) = refl
 leave_ends history words name (in_old_commits place pair) = refl
 leave_ends history words name (apart place pair) = refl
@@ -311,16 +310,23 @@ module _ (p : Place) (so : World → Type 0) (s new : SeatState) (same : (new.ta
   unfolding heard_it
   heard_all n r there m = sym (ap (λ (x : SeatState). x.knows.participant.seen) (heard_it n r there m).4)
 
--- what was published as a seat made its steps, which it has seen now
-pub published_then : {D : Type 0} (z : SharedState D) (old new : SeatState) (steps : World → List Step) (so : World → Type 0) (m : Moved (place_at z old.by) steps so old.knows new.knows) → m.world.writes.history ≡ new.knows.participant.seen → WasHistory z old new.knows.participant.seen
-published_then z old new steps so m is = record { world = m.world; actor = old.knows; there = m.before; participant = refl; is = is }
+-- a seat that holds the locks' tables holds the world's
+tables_held : (p : Place) (a : Actor) (w : World) (t : LockTables) → IsAt p a w → IsIn (locks t) a.held → IsIn (locks w.locks) a.held
+tables_held p a w t k held = subst (λ (l : LockTables). IsIn (locks l) a.held) (sym (locks_are p a w t k held)) held
+
+-- what was published as a seat made its steps with the locks turn, which it has seen now
+pub published_then : {D : Type 0} (z : SharedState D) (old new : SeatState) (t : LockTables) (steps : World → List Step) (so : World → Type 0) (m : Moved (place_at z old.by) steps so old.knows new.knows) → IsIn (locks t) old.knows.held → m.world.writes.history ≡ new.knows.participant.seen
+    → WasHistory z old new.knows.participant.seen
+published_then z old new t steps so m held is = record { world = m.world; actor = old.knows; there = m.before; held = tables_held (place_at z old.by) old.knows m.world t m.before held; participant = refl; is = is }
 
 -- ... and as it loaded the published number, before it went on
-pub published_before : {D : Type 0} (z : SharedState D) (old by new : SeatState) (n : ℕ) → by.by ≡ old.by → SawAll (place_at z by.by) by.knows n → by.knows ≡ sees by.knows.participant.seen old.knows → new.knows.participant.seen ≡ by.knows.participant.seen → WasHistory z old new.knows.participant.seen
-published_before z old by new n same saw rest seen = record {
+pub published_before : {D : Type 0} (z : SharedState D) (old by new : SeatState) (t : LockTables) (n : ℕ) → by.by ≡ old.by → SawAll (place_at z by.by) by.knows n → by.knows ≡ sees by.knows.participant.seen old.knows → IsIn (locks t) old.knows.held → new.knows.participant.seen ≡ by.knows.participant.seen
+    → WasHistory z old new.knows.participant.seen
+published_before z old by new t n same saw rest held seen = record {
   world = saw.world;
   actor = by.knows;
   there = subst (λ (b : ℕ). IsAt (place_at z b) by.knows saw.world) same saw.there;
+  held = tables_held (place_at z by.by) by.knows saw.world t saw.there (subst (λ (a : Actor). IsIn (locks t) a.held) (sym rest) held);
   participant = ap (λ (a : Actor). a.participant) rest;
   is = saw.seen ∙ sym seen;
 }

@@ -18,13 +18,12 @@ use Rattle.wp_history.proofs.Undecided.{close_follows}
 use Rattle.wp_core.specs.Conditions.{HasTransaction}
 use Rattle.wp_core.specs.Entries.{transaction_of, changes_under}
 use Rattle.wp_core.specs.Lists.{IsIn}
-use Rattle.wp_core.specs.Tables.{WriteTable, writes}
+use Rattle.wp_core.specs.Tables.{WriteTable}
 use Rattle.wp_core.specs.Views.{direct_free, undecided_at, unprepared}
-use Rattle.wp_core.specs.World.{Transactions, Participant, Actor}
+use Rattle.wp_core.specs.World.{Transactions, Participant}
 use Rattle.wp_core.proofs.HistoryGrows.{none_is}
 use Rattle.wp_core.proofs.Tests.{either, same_some, some_none}
 use Rattle.wp_rule.proofs.Knows.{at_sound, noted_is}
-use Rattle.wp_commits.proofs.Held.{writes_are}
 use Rattle.wp_parts.specs.Log.{LogState}
 use Rattle.wp_records.specs.Records.{OwnsEntry, MayPut}
 use Rattle.wp_shared.specs.Seats.{SharedState, SeatState, place_at}
@@ -65,22 +64,19 @@ module _ {D : Type 0} (z : SharedState D) (old new : SeatState) (log : LogState)
   abbrev history : List Entry
   history = log.table.history
 
-  tables_are : o.world.writes ≡ log.table
-  tables_are = writes_are (place_at z new.by) new.knows o.world o.stands log.table (subst (IsIn (writes log.table)) (sym o.takes.holds.held) (inl refl))
-
   same_participant : new.knows.participant ≡ record old.knows.participant { seen = history }
-  same_participant = ap (λ (a : Actor). a.participant) o.takes.knows
+  same_participant = ap (λ (x : SeatState). x.knows.participant) o.took.seat
 
   same_transactions : new.knows.participant.transactions ≡ old.knows.participant.transactions
   same_transactions = ap (λ (p : Participant). p.transactions) same_participant
 
   nothing_undone : undone_last history ≡ None
   nothing_undone = none_is (undone_last history) (λ p e.
-      let closing = (at_sound (place_at z new.by) new.knows o.world o.stands).history.undo_closes p (ap (λ (d : WriteTable). undone_last d.history) tables_are ∙ e) in
-      let none : [] ≡ Close p ∷ [] = sym o.takes.holds.pending ∙ ap (λ (d : WriteTable). d.pending) (sym tables_are) ∙ closing.0 in absurd (cc))
+      let closing = (at_sound (place_at z new.by) new.knows o.took.world o.took.stands).history.undo_closes p (ap (λ (d : WriteTable). undone_last d.history) o.took.is ∙ e) in
+      let none : [] ≡ Close p ∷ [] = sym o.holds.pending ∙ ap (λ (d : WriteTable). d.pending) (sym o.took.is) ∙ closing.0 in absurd (cc))
 
   pub legal_now : IsLegal history
-  legal_now = subst (λ (d : WriteTable). IsLegal d.history) tables_are (at_sound (place_at z new.by) new.knows o.world o.stands).history.legal
+  legal_now = subst (λ (d : WriteTable). IsLegal d.history) o.took.is (at_sound (place_at z new.by) new.knows o.took.world o.took.stands).history.legal
 
   grows_by : (entry : Entry) → 1 ≤ needed → IsLegalNext history entry → IsLegal (history ++ entry ∷ [])
   grows_by entry one next = let a = o.within in let b = o.few in legal_next history entry legal_now next (omega (arith, a, b, one))
@@ -93,8 +89,8 @@ module _ {D : Type 0} (z : SharedState D) (old new : SeatState) (log : LogState)
   pub may_write_direct : 1 ≤ needed → (key : List ℕ) (change : Change) → key ≡ key_of change → is_batch (change ∷ []) ≡ true → old.knows.participant.direct ≡ Some key → IsIn (direct_free key) old.knows.notes
       → MayPut new.knows history (Write (change ∷ []) ∷ [])
   may_write_direct one key change is whole direct noted =
-      let so = (noted_is (place_at z new.by) new.knows o.world (direct_free key) o.stands (o.takes.notes (direct_free key) noted)).is_so in
-      let free : holder_of history key ≡ None = ap (λ (d : WriteTable). holder_of d.history key) (sym tables_are) ∙ so.2 in
+      let so = (noted_is (place_at z new.by) new.knows o.took.world (direct_free key) o.took.stands (o.took.goes.noted (direct_free key) refl noted)).is_so in
+      let free : holder_of history key ≡ None = ap (λ (d : WriteTable). holder_of d.history key) (sym o.took.is) ∙ so.2 in
       record {
         legal = grows_by (Write (change ∷ [])) one (writes_next (change ∷ []) whole (λ k changed. ap (holder_of history) (only_key change k changed ∙ sym is) ∙ free));
         owned = (
@@ -114,9 +110,9 @@ module _ {D : Type 0} (z : SharedState D) (old new : SeatState) (log : LogState)
 
     open_so : (named history name ≡ None) × ((key : List ℕ) → is_changed batch key ≡ true → holder_of history key ≡ None)
     open_so =
-        let so = (noted_is (place_at z new.by) new.knows o.world (unprepared name) o.stands (o.takes.notes (unprepared name) h.noted)).is_so in (
-          ap (λ (d : WriteTable). named d.history name) (sym tables_are) ∙ so.1,
-          λ key changed. ap (λ (d : WriteTable). holder_of d.history key) (sym tables_are) ∙ so.2 h.transaction key has (h.keys key ∙ changed),
+        let so = (noted_is (place_at z new.by) new.knows o.took.world (unprepared name) o.took.stands (o.took.goes.noted (unprepared name) refl h.noted)).is_so in (
+          ap (λ (d : WriteTable). named d.history name) (sym o.took.is) ∙ so.1,
+          λ key changed. ap (λ (d : WriteTable). holder_of d.history key) (sym o.took.is) ∙ so.2 h.transaction key has (h.keys key ∙ changed),
         )
 
     pub may_write_open : MayPut new.knows history (Write batch ∷ [])
@@ -145,12 +141,12 @@ module _ {D : Type 0} (z : SharedState D) (old new : SeatState) (log : LogState)
 
     -- its prepare stands where it stood
     pub stands_still : entry_at history number ≡ Some (Prepare name batch)
-    stands_still = ap (λ (es : List Entry). entry_at es number) o.takes.grown.1 ∙ entry_at_old old.knows.participant.seen o.takes.grown.0 number h.seen ∙ h.stands
+    stands_still = ap (λ (es : List Entry). entry_at es number) o.took.grown.1 ∙ entry_at_old old.knows.participant.seen o.took.grown.0 number h.seen ∙ h.stands
 
     pub named_still : named history name ≡ Some number
     named_still =
-        let so = (noted_is (place_at z new.by) new.knows o.world (undecided_at name number) o.stands (o.takes.notes (undecided_at name number) h.noted)).is_so in
-        ap (λ (d : WriteTable). named d.history name) (sym tables_are) ∙ so.1
+        let so = (noted_is (place_at z new.by) new.knows o.took.world (undecided_at name number) o.took.stands (o.took.goes.noted (undecided_at name number) refl h.noted)).is_so in
+        ap (λ (d : WriteTable). named d.history name) (sym o.took.is) ∙ so.1
 
     pub undecided_still : is_undecided history number ≡ true
     undecided_still = (found_named history name number named_still).0

@@ -1,5 +1,5 @@
 -- A prepared transaction that is rolled back.
-use Rattle.std.proofs.Common.{◌≡◌, ◌⊎◌, inl, inr, ℕ, suc, ◌≤◌, true, List, [], ◌∷◌, ◌++◌, length, take, refl, sym, subst, ap, ◌∙◌, Some, None, append_assoc, eq-eqb, arith}
+use Rattle.std.proofs.Common.{◌≡◌, inl, inr, ℕ, suc, ◌≤◌, true, false, List, [], ◌∷◌, ◌++◌, length, take, refl, sym, subst, ap, ◌∙◌, Option, Some, None, append_assoc, eq-eqb, arith}
 use Rattle.std.specs.Prelude.{Ok}
 use Rattle.std.proofs.lemmas.List.{take-append-le}
 use Rattle.wp_model.specs.Decision.{decision_of}
@@ -11,16 +11,15 @@ use Rattle.wp_model.specs.declared.entry.Entry.TheVariants.{Undo, Close}
 use Rattle.wp_history.proofs.Growth.{after_front, legal_before}
 use Rattle.wp_core.specs.Lists.{IsIn}
 use Rattle.wp_core.specs.Reading.{Registration}
-use Rattle.wp_core.specs.Views.{Fact}
+use Rattle.wp_core.specs.Views.{Fact, has_left}
 use Rattle.wp_core.specs.World.{Participant}
 use Rattle.wp_core.specs.Sound.Actors.{StartsWith}
 use Rattle.wp_core.proofs.HistoryGrows.{named_stays}
 use Rattle.wp_core.proofs.HistoryLaws.{next_decides_prepare}
 use Rattle.wp_core.proofs.KeepsSeen.{shorter}
-use Rattle.wp_commits.specs.Gone.{HasLeft}
 use Rattle.wp_parts.specs.Log.{LogState}
-use Rattle.wp_records.specs.Records.{transaction_behind}
-use Rattle.wp_shared.specs.Calls.{Continues}
+use Rattle.wp_records.specs.Records.{is_about, IsAboutNone}
+use Rattle.wp_shared.specs.Calls.{IsLoose, Continues}
 use Rattle.wp_shared.specs.Seats.{SharedState, SeatState}
 use Rattle.wp_txn.specs.Calls.{without_transaction}
 use Rattle.wp_txn.specs.Recording.{OpensLog, Records, HadPrior, IsPriorSince, Frees}
@@ -29,7 +28,6 @@ use Rattle.wp_txn.specs.Txn.{HasPrepared}
 use Rattle.wp_txn.specs.Writes.{HasPut, RollsBack, AsksRollback}
 use Rattle.wp_txn.proofs.Ends.{put_and_freed, number_still, name_before, stands_before}
 use Rattle.wp_txn.proofs.Goes.{chain, still, prepared_still}
-use Rattle.wp_txn.proofs.GoesOn.{Turnless}
 use Rattle.wp_txn.proofs.MayPut.{legal_now, stands_still, undecided_still}
 use Rattle.wp_txn.proofs.OneName.{name_is_free}
 
@@ -78,7 +76,7 @@ module _ {D : Type 0} (z : SharedState D) (a b : SeatState) (r : Registration) (
     is_registered_still = subst (IsIn r) (sym registered_later) (in_last it.registered r)
 
     until_read : Continues z a c (registering more)
-    until_read = chain Turnless Turnless Turnless z a b c (registering more) b.knows.participant (registering more) (λ fact stays. stays) (λ fact stays. stays) took read
+    until_read = chain IsLoose IsLoose IsLoose z a b c (registering more) b.knows.participant (registering more) (λ fact stays. stays) (λ fact stays. stays) took read
         (ap (λ (p : Participant). record p { seen = c.knows.participant.seen }) took.participant)
 
     module _ (d : SeatState) (front back : List Registration) (there : c.knows.participant.registered ≡ front ++ r ∷ back) (last : IsIn r back → ⊥) (left : Continues z c d (record c.knows.participant { registered = front ++ back })) where
@@ -87,7 +85,7 @@ module _ {D : Type 0} (z : SharedState D) (a b : SeatState) (r : Registration) (
 
       -- it is as it was
       pub released : Continues z a d it
-      released = chain Turnless Turnless Turnless z a c d (registering more) (record c.knows.participant { registered = front ++ back }) it (λ fact stays. stays) (λ fact stays. stays) until_read left
+      released = chain IsLoose IsLoose IsLoose z a c d (registering more) (record c.knows.participant { registered = front ++ back }) it (λ fact stays. stays) (λ fact stays. stays) until_read left
           (ap (λ (p : Participant). record p { registered = front ++ back; seen = d.knows.participant.seen }) until_read.participant
           ∙ ap (λ (rs : List Registration). record it { registered = rs; seen = d.knows.participant.seen }) as_before)
 
@@ -138,10 +136,10 @@ module _ {D : Type 0} (z : SharedState D) (old new : SeatState) (log : LogState)
   pub restores : KeysKeepValues → (found : List Change) → HadPrior old number batch found → found ≡ prior log.table.history (batch_at log.table.history number)
   restores law found had =
       let history = log.table.history in let seen = old.knows.participant.seen in let n = had.0 in let high = had.2 in
-      let long = shorter history seen o.takes.grown in
+      let long = shorter history seen o.took.grown in
       let same : batch ≡ batch_at history number = sym (ap prepared_batch (stands_still z old new log needed o name number batch h)) in
       had.3 ∙ ap (prior (take n seen)) same
-      ∙ ap (λ (es : List Entry). prior es (batch_at history number)) (sym (ap (take n) o.takes.grown.1 ∙ take-append-le n seen o.takes.grown.0 high))
+      ∙ ap (λ (es : List Entry). prior es (batch_at history number)) (sym (ap (take n) o.took.grown.1 ∙ take-append-le n seen o.took.grown.0 high))
       ∙ law history number n (legal_now z old new log needed o) (undecided_still z old new log needed o name number batch h) had.1 (omega (arith, long, high))
 
 -- what is asked for behind a history restores what the keys have there
@@ -166,8 +164,14 @@ module _ {D : Type 0} (z : SharedState D) (old start mid : SeatState) (name : Li
   abbrev before_it : List Entry
   before_it = r.1.0
 
-  rollback_is_of : (transaction_behind before_it (Undo number restored ∷ Close number ∷ []) ≡ None) ⊎ (transaction_behind before_it (Undo number restored ∷ Close number ∷ []) ≡ Some name)
-  rollback_is_of = inr (name_before z start mid name number batch h before_it r.1.1.put.grown)
+  rollback_is_of : (fact : Fact) → is_about (Some name) fact ≡ false → IsAboutNone before_it (Undo number restored ∷ Close number ∷ []) fact
+  rollback_is_of fact apart =
+      let grown = r.1.1.put.grown in
+      let later : StartsWith (before_it ++ Undo number restored ∷ []) start.knows.participant.seen =
+      (grown.0 ++ Undo number restored ∷ [], ap (λ (es : List Entry). es ++ Undo number restored ∷ []) grown.1 ∙ append_assoc start.knows.participant.seen grown.0 (Undo number restored ∷ [])) in (
+        ap (λ (o : Option (List ℕ)). is_about o fact) (name_before z start mid name number batch h before_it grown) ∙ apart,
+        (ap (λ (o : Option (List ℕ)). is_about o fact) (name_before z start mid name number batch h (before_it ++ Undo number restored ∷ []) later) ∙ apart, tt),
+      )
 
   pub rolled_back_decides : (c : ℕ) × (decision_of mid.knows.participant.seen number ≡ Some c)
   rolled_back_decides = subst (λ (es : List Entry). (c : ℕ) × (decision_of es number ≡ Some c)) (sym r.1.1.put.seen) (rollback_decides before_it number restored r.1.1.legal)
@@ -175,7 +179,7 @@ module _ {D : Type 0} (z : SharedState D) (old start mid : SeatState) (name : Li
   restored_is : restored ≡ prior before_it batch
   restored_is = (after_front before_it (Undo number restored) (Close number ∷ []) r.1.1.legal).restores_prior ∙ ap (prior before_it) (ap prepared_batch (stands_before z start mid name number batch h before_it r.1.1.put.grown))
 
-  pub rolled_back : (new : SeatState) → Frees z mid new name → HasLeft z new number → RollsBack z old (record { name = name; number = number; batch = batch }) n new
+  pub rolled_back : (new : SeatState) → Frees z mid new name → IsIn (has_left number) new.knows.notes → RollsBack z old (record { name = name; number = number; batch = batch }) n new
   rolled_back new frees gone =
       let entries : List Entry = Undo number restored ∷ Close number ∷ [] in
       let Put : List Change → Type 0 = λ b. HasPut (IsApartFrom name) z old new old.knows.participant (without_transaction name old.knows.participant) before_it (Undo number b ∷ Close number ∷ []) in (

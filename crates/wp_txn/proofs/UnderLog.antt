@@ -1,5 +1,5 @@
 -- A seat that took the write turn, put a record into the history or could not, and gave the turn.
-use Rattle.std.proofs.Common.{◌≡◌, ⊎_elim, inl, inr, ℕ, ◌+◌, ◌≤◌, ◌<◌, Bool, true, false, List, [], ◌∷◌, ◌++◌, length, refl, sym, subst, ap, ◌∙◌, Some, None, is_some, length-append, eq-eqb}
+use Rattle.std.proofs.Common.{◌≡◌, ◌⊎◌, ⊎_elim, inl, inr, ℕ, suc, ◌+◌, ◌≤◌, ◌<◌, Bool, true, false, List, [], ◌∷◌, ◌++◌, length, refl, sym, subst, ap, ◌∙◌, Some, None, is_some, length-append, eq-eqb}
 use Rattle.std.specs.Prelude.{◌^◌, Result, Ok, Err}
 use Rattle.std.specs.FinMap as finite
 use Rattle.std.proofs.lemmas.Slice.Eq.{bytes_eq-Decides}
@@ -7,42 +7,47 @@ use Rattle.wp_model.specs.History.{prepared_name, name_at, named}
 use Rattle.wp_model.specs.Legal.{IsLegal}
 use Rattle.wp_model.specs.declared.change.Change.{Change}
 use Rattle.wp_model.specs.declared.entry.Entry.{Entry}
-use Rattle.wp_model.specs.declared.entry.Entry.TheVariants.{Prepare, Commit}
+use Rattle.wp_model.specs.declared.entry.Entry.TheVariants.{Prepare, Commit, Undo, Close}
 use Rattle.wp_model.proofs.Found.{found_named}
-use Rattle.wp_core.specs.Entries.{transaction_of}
+use Rattle.wp_commits.specs.Ways.{way_of, ways_of, AreApart}
+use Rattle.wp_commits.specs.declared.way.Way.{Way}
+use Rattle.wp_commits.specs.declared.way.Way.TheVariants.{Undecided, InWord}
+use Rattle.wp_core.specs.Entries.{transaction_of, pair_by}
 use Rattle.wp_core.specs.Lists.{IsIn}
-use Rattle.wp_core.specs.Steps.{find_log_closed, note}
-use Rattle.wp_core.specs.Tables.{WriteTable, writes}
-use Rattle.wp_core.specs.Views.{Fact, stopped}
+use Rattle.wp_core.specs.Steps.{find_log_closed}
+use Rattle.wp_core.specs.Tables.{Content, WriteTable, writes}
+use Rattle.wp_core.specs.Turns.{write_turn}
+use Rattle.wp_core.specs.Views.{Fact, stopped, undecided_at, unprepared}
 use Rattle.wp_core.specs.World.{Participant, Actor, World}
-use Rattle.wp_core.specs.Changes.{sees}
 use Rattle.wp_core.specs.Sound.Actors.{StartsWith}
 use Rattle.wp_core.specs.Sound.Views.{guarded_by}
 use Rattle.wp_history.proofs.Growth.{entry_at_next, length_next}
 use Rattle.wp_history.proofs.Undecided.{undecided_at_next}
 use Rattle.wp_core.proofs.HistoryGrows.{before}
-use Rattle.wp_rule.specs.Knows.{KnowsFact}
 use Rattle.wp_rule.specs.Moves.{MayMake, Moved}
-use Rattle.wp_rule.specs.Words.{Place, SawAll}
-use Rattle.wp_rule.proofs.Forgets.{EndsNothing, note_ends}
+use Rattle.wp_rule.specs.Words.{Place, IsAt}
+use Rattle.wp_rule.proofs.Forgets.{EndsNothing}
 use Rattle.wp_rule.proofs.MayBeMade.{known_made}
-use Rattle.wp_commits.proofs.Held.{writes_are}
+use Rattle.wp_shared.proofs.Tables.{held_table}
 use Rattle.wp_parts.specs.Log.{LogState, IsLog}
 use Rattle.wp_records.specs.declared.error.WriteError.{WriteError}
 use Rattle.wp_records.specs.declared.error.WriteError.TheVariants as write_error
-use Rattle.wp_records.specs.Records.{numbers_behind, putting, transaction_behind, is_about, failing, MayPut, IsPut, IsNotPut, Puts}
-use Rattle.wp_records.specs.Writing.{HoldsWrite, FoundLog, TakesWrite, GivesWrite}
-use Rattle.wp_shared.specs.Calls.{ContinuesWith, Continues, remembering}
-use Rattle.wp_shared.specs.Seats.{SharedState, SeatState, place_at}
-use Rattle.wp_shared.proofs.OneStep.{becomes}
-use Rattle.wp_txn.specs.Actors.{noting, with_stopped}
-use Rattle.wp_txn.specs.Recording.{OpensLog, PutsNoting, Records, answer_of}
-use Rattle.wp_txn.specs.Turns.{seat_of}
+use Rattle.wp_records.specs.Records.{numbers_behind, putting, IsAboutNone, failing, MayPut, IsPut, IsNotPut}
+use Rattle.wp_records.specs.Writing.{HoldsWrite, FoundLog}
+use Rattle.wp_shared.specs.Calls.{IsLoose, ContinuesWith, Continues, remembering}
+use Rattle.wp_shared.specs.Seats.{SharedState, SeatState, IsFree, place_at}
+use Rattle.wp_shared.specs.Turns.{HoldsTurn, TookLog, Given}
+use Rattle.wp_shared.proofs.Onward.{starts_on, loose_under}
+use Rattle.wp_txn.specs.Actors.{with_stopped}
+use Rattle.wp_shared.specs.Notes.{with_note, seat_of}
+use Rattle.wp_txn.specs.Recording.{OpensLog, notes_of, PutsNoting, Records, answer_of}
+use Rattle.wp_txn.specs.declared.recording.Noting.{Noting}
+use Rattle.wp_txn.specs.declared.recording.Noting.TheVariants as note
 use Rattle.wp_txn.specs.Writes.{HasPut, Refuses}
 use Rattle.wp_txn.specs.declared.error.TxnError.TheVariants.{NumbersFull, Stopped}
-use Rattle.wp_txn.proofs.Goes.{starts_through}
 use Rattle.wp_txn.proofs.Made.{all_made}
 use Rattle.wp_txn.proofs.OneName.{named_is, name_is_free}
+use Rattle.wp_txn.proofs.RollsBack.{rollback_frees}
 
 -- ---- steps under the write turn
 
@@ -54,162 +59,149 @@ may_find_closed p a d held closed = known_made p a find_log_closed tt (record { 
 
 pub closed_found : (p : Place) (so : World → Type 0) (a b : Actor) (d : WriteTable) → Moved p (λ w. find_log_closed ∷ []) so a b → IsIn (writes d) a.held → b ≡ with_stopped (length d.history) a
 closed_found p so a b d m held =
-    all_made p (λ w. find_log_closed ∷ []) so a b m (closed_ends, tt) ∙ ap (λ (t : WriteTable). with_stopped (length t.history) a) (writes_are p a m.world m.before d held)
-
-pub may_note : (p : Place) (a : Actor) (fact : Fact) → a.live ≡ true → KnowsFact a fact → MayMake p a (λ w. note fact ∷ [])
-may_note p a fact live known = known_made p a (note fact) tt (live, known)
-
-pub noted_it : (p : Place) (so : World → Type 0) (a b : Actor) (fact : Fact) → Moved p (λ w. note fact ∷ []) so a b → b ≡ noting fact a
-noted_it p so a b fact m = all_made p (λ w. note fact ∷ []) so a b m (note_ends fact, tt)
+    all_made p (λ w. find_log_closed ∷ []) so a b m (closed_ends, tt) ∙ ap (λ (t : WriteTable). with_stopped (length t.history) a) (held_table p a m.world (writes d) m.before held)
 
 -- ---- the turn is given
 
 -- the seat with the log was this participant but for what it had seen
-given_back : {D : Type 0} (Stays : Fact → Type 0) (z : SharedState D) (old s new : SeatState) (after : Participant) → GivesWrite z s new → s.by ≡ old.by → StartsWith s.knows.participant.seen old.knows.participant.seen
-    → s.knows.participant ≡ record after { seen = s.knows.participant.seen } → ((fact : Fact) → Stays fact → guarded_by fact ≡ None) → ((fact : Fact) → Stays fact → IsIn fact old.knows.notes → IsIn fact s.knows.notes)
+given_back : {D : Type 0} (Stays : Fact → Type 0) (z : SharedState D) (old s new : SeatState) (after : Participant) → Given z write_turn s new [] [] → s.by ≡ old.by → StartsWith s.knows.participant.seen old.knows.participant.seen
+    → s.knows.participant ≡ record after { seen = s.knows.participant.seen } → ((fact : Fact) → Stays fact → IsLoose fact) → ((fact : Fact) → Stays fact → IsIn fact old.knows.notes → IsIn fact s.knows.notes)
     → s.knows.made ≡ old.knows.made → s.knows.joined ≡ old.knows.joined → ContinuesWith Stays z old new after
-given_back Stays z old s new after gives by starts is turnless notes made joined =
-    let p : new.knows.participant ≡ s.knows.participant = ap (λ (a : Actor). a.participant) gives.knows in record {
-      free = gives.free;
-      same_by = gives.same_by ∙ by;
+given_back Stays z old s new after gives by starts is loose notes made joined =
+    let gone = gives.goes.same in let p : new.knows.participant ≡ s.knows.participant = ap (λ (x : SeatState). x.knows.participant) gone in record {
+      free = gives.free refl refl;
+      same_by = ap (λ (x : SeatState). x.by) gone ∙ by;
       seen = (starts.0, ap (λ (x : Participant). x.seen) p ∙ starts.1);
       participant = p ∙ is ∙ ap (λ (es : List Entry). record after { seen = es }) (sym (ap (λ (x : Participant). x.seen) p));
-      notes = λ fact stays there. gives.notes fact (turnless fact stays) (notes fact stays there);
-      made = ap (λ (a : Actor). a.made) gives.knows ∙ made;
-      joined = ap (λ (a : Actor). a.joined) gives.knows ∙ joined;
+      notes = λ fact stays there. gives.goes.noted fact (loose_under write_turn fact (loose fact stays)) (notes fact stays there);
+      made = ap (λ (x : SeatState). x.knows.made) gone ∙ made;
+      joined = ap (λ (x : SeatState). x.knows.joined) gone ∙ joined;
     }
 
-module _ {D : Type 0} (z : SharedState D) (old s : SeatState) (log : LogState) (takes : TakesWrite z old s log) where
+-- ---- the turn is taken
+
+module _ {D : Type 0} (z : SharedState D) (old s : SeatState) (log : LogState) (took : TookLog z old s log) where
   abbrev history : List Entry
   history = log.table.history
 
   abbrev was : Participant
   was = old.knows.participant
 
+  same_by : s.by ≡ old.by
+  same_by = ap (λ (x : SeatState). x.by) took.seat
+
   participant_then : s.knows.participant ≡ record was { seen = history }
-  participant_then = ap (λ (a : Actor). a.participant) takes.knows
+  participant_then = ap (λ (x : SeatState). x.knows.participant) took.seat
 
   starts_then : StartsWith s.knows.participant.seen was.seen
-  starts_then = (takes.grown.0, takes.holds.seen ∙ takes.grown.1)
+  starts_then = (took.grown.0, took.seen ∙ took.grown.1)
 
   is_then : s.knows.participant ≡ record was { seen = s.knows.participant.seen }
-  is_then = participant_then ∙ ap (λ (es : List Entry). record was { seen = es }) (sym takes.holds.seen)
+  is_then = participant_then ∙ ap (λ (es : List Entry). record was { seen = es }) (sym took.seen)
+
+  noted_then : (fact : Fact) → IsIn fact old.knows.notes → IsIn fact s.knows.notes
+  noted_then fact there = took.goes.noted fact refl there
+
+  made_then : s.knows.made ≡ old.knows.made
+  made_then = ap (λ (x : SeatState). x.knows.made) took.seat
+
+  joined_then : s.knows.joined ≡ old.knows.joined
+  joined_then = ap (λ (x : SeatState). x.knows.joined) took.seat
 
   abbrev found_then : (seen : List Entry) (b : Bool) → seen ≡ history → log.table.closed ≡ b → FoundLog z old.by was seen b
   found_then seen b is closed = record {
-    world = takes.found.world;
-    actor = takes.found.actor;
-    there = takes.found.there;
-    held = takes.found.held;
-    participant = takes.found.participant ∙ ap (λ (h : List Entry). record was { seen = h }) (sym is);
-    history_is = takes.found.history_is ∙ sym is;
-    closed_is = takes.found.closed_is ∙ closed;
+    world = took.world;
+    actor = s.knows;
+    there = subst (λ (n : ℕ). IsAt (place_at z n) s.knows took.world) same_by took.stands;
+    held = subst (λ (d : WriteTable). IsIn (writes d) s.knows.held) (sym took.is) (subst (IsIn (writes log.table)) (sym took.holds.held) (inl refl));
+    participant = participant_then ∙ ap (λ (h : List Entry). record was { seen = h }) (sym is);
+    history_is = ap (λ (d : WriteTable). d.history) took.is ∙ sym is;
+    closed_is = ap (λ (d : WriteTable). d.closed) took.is ∙ closed;
   }
 
-  -- ---- the log was found closed
+  -- it holds this turn alone
+  pub alone : IsFree z.table old → HoldsTurn z s (writes log.table) [] []
+  alone free = subst (λ (x : List Content × List ℕ). HoldsTurn z s (writes log.table) x.0 x.1) (λ i. (free.held i, free.turns i)) took.holds
+
+  pub opened : IsFree z.table old → (needed published : ℕ) → log.table.closed ≡ false → published ≡ length history → published + needed ≤ z.limit → z.limit < 2 ^ 32 → IsLog log → OpensLog z old s log needed
+  opened free needed published running number within few is_log = record {
+    took = took;
+    holds = record { turn = alone free; pending = took.knows.0; seen = took.seen; of_store = took.of_store; words = took.knows.1 };
+    running = running;
+    within = subst (λ (n : ℕ). n + needed ≤ z.limit) number within;
+    few = few;
+    is_log = is_log;
+  }
+
+  -- ---- the log was found closed, or full
 
   module _ (t new : SeatState) (n : ℕ) (found : t ≡ seat_of s (with_stopped (length history) s.knows)) (number : n ≡ length history) where
-    pub holds_stopped : HoldsWrite z t log
-    holds_stopped = subst (λ (x : SeatState). HoldsWrite z x log) (sym found) (record {
-      same_table = takes.holds.same_table;
-      live = takes.holds.live;
-      held = takes.holds.held;
-      turns = takes.holds.turns;
-      pending = takes.holds.pending;
-      seen = takes.holds.seen;
-      of_store = takes.holds.of_store;
-      words = record { bound = takes.holds.words.bound; words = takes.holds.words.words; noted = takes.holds.words.noted; are_published = takes.holds.words.are_published };
-    })
+    pub alone_still : IsFree z.table old → HoldsTurn z t (writes log.table) [] []
+    alone_still free = let h = alone free in subst (λ (x : SeatState). HoldsTurn z x (writes log.table) [] []) (sym found) (record { same_table = h.same_table; live = h.live; held = h.held; turns = h.turns })
 
-    pub stopped_back : (needed : ℕ) (Asks : List Entry → Type 0) → log.table.closed ≡ true → GivesWrite z t new → Refuses z old new needed Asks was was (Stopped n)
+    pub stopped_back : (needed : ℕ) (Asks : List Entry → Type 0) → log.table.closed ≡ true → Given z write_turn t new [] [] → Refuses z old new needed Asks was was (Stopped n)
     stopped_back needed Asks closed gives =
-        let seen_there : t.knows.participant.seen ≡ history = ap (λ (x : SeatState). x.knows.participant.seen) found ∙ takes.holds.seen in
-        let seen : new.knows.participant.seen ≡ history = ap (λ (a : Actor). a.participant.seen) gives.knows ∙ seen_there in (
+        let seen_there : t.knows.participant.seen ≡ history = ap (λ (x : SeatState). x.knows.participant.seen) found ∙ took.seen in
+        let seen : new.knows.participant.seen ≡ history = ap (λ (x : SeatState). x.knows.participant.seen) gives.goes.same ∙ seen_there in (
           number ∙ ap (λ (es : List Entry). length es) (sym seen),
           found_then new.knows.participant.seen true seen closed,
-          given_back (λ fact. guarded_by fact ≡ None) z old t new (remembering (stopped n ∷ []) was) gives (ap (λ (x : SeatState). x.by) found ∙ takes.same_by)
-              (takes.grown.0, seen_there ∙ takes.grown.1)
+          given_back IsLoose z old t new (remembering (stopped n ∷ []) was) gives (ap (λ (x : SeatState). x.by) found ∙ same_by)
+              (took.grown.0, seen_there ∙ took.grown.1)
               (ap (λ (x : SeatState). x.knows.participant) found ∙ ap (remembering (stopped (length history) ∷ [])) is_then
-              ∙ ap (λ (x : ℕ × List Entry). record (remembering (stopped x.0 ∷ []) was) { seen = x.1 }) (λ i. (sym number i, (takes.holds.seen ∙ sym seen_there) i)))
-              (λ fact turnless. turnless)
-              (λ fact turnless there. subst (λ (x : SeatState). IsIn fact x.knows.notes) (sym found) (takes.notes fact there))
-              (ap (λ (x : SeatState). x.knows.made) found ∙ ap (λ (a : Actor). a.made) takes.knows)
-              (ap (λ (x : SeatState). x.knows.joined) found ∙ ap (λ (a : Actor). a.joined) takes.knows),
+              ∙ ap (λ (x : ℕ × List Entry). record (remembering (stopped x.0 ∷ []) was) { seen = x.1 }) (λ i. (sym number i, (took.seen ∙ sym seen_there) i)))
+              (λ fact loose. loose)
+              (λ fact loose there. subst (λ (x : SeatState). IsIn fact x.knows.notes) (sym found) (noted_then fact there))
+              (ap (λ (x : SeatState). x.knows.made) found ∙ made_then)
+              (ap (λ (x : SeatState). x.knows.joined) found ∙ joined_then),
         )
 
-  -- ---- the published number was loaded
-
-  module _ (t : SeatState) (published : ℕ) (same : (t.table ≡ s.table) × (t.by ≡ s.by) × (t.turns ≡ s.turns)) (saw : SawAll (place_at z t.by) t.knows published) (rest : t.knows ≡ sees t.knows.participant.seen s.knows) where
-    seen_all : t.knows.participant.seen ≡ history
-    seen_all = sym saw.seen
-        ∙ ap (λ (d : WriteTable). d.history) (writes_are (place_at z t.by) t.knows saw.world saw.there log.table (subst (IsIn (writes log.table)) (sym (ap (λ (a : Actor). a.held) rest ∙ takes.holds.held)) (inl refl)))
-
-    -- that changes nothing of the seat
-    same_seat : t ≡ s
-    same_seat = becomes s t s.knows same (rest ∙ ap (λ (es : List Entry). sees es s.knows) seen_all ∙ ap (sees history) takes.knows ∙ sym takes.knows)
-
-    pub holds_still : HoldsWrite z t log
-    holds_still = subst (λ (x : SeatState). HoldsWrite z x log) (sym same_seat) takes.holds
-
-    pub opened : (needed : ℕ) → log.table.closed ≡ false → published ≡ length t.knows.participant.seen → published + needed ≤ z.limit → z.limit < 2 ^ 32 → IsLog log → OpensLog z old t log needed
-    opened needed running number within few is_log = record {
-      takes = subst (λ (x : SeatState). TakesWrite z old x log) (sym same_seat) takes;
-      running = running;
-      within = subst (λ (n : ℕ). n + needed ≤ z.limit) (number ∙ ap (λ (es : List Entry). length es) seen_all) within;
-      few = few;
-      world = saw.world;
-      stands = saw.there;
-      is_log = is_log;
-    }
-
-    pub full_back : (new : SeatState) (needed limit : ℕ) (Asks : List Entry → Type 0) → log.table.closed ≡ false → published ≡ length t.knows.participant.seen → limit ≡ z.limit → limit < published + needed → GivesWrite z t new
-        → Refuses z old new needed Asks was was (NumbersFull published limit)
-    full_back new needed limit Asks running number is over gives =
-        let seen : new.knows.participant.seen ≡ t.knows.participant.seen = ap (λ (a : Actor). a.participant.seen) gives.knows in (
-          number ∙ ap (λ (es : List Entry). length es) (sym seen),
-          is,
-          over,
-          found_then new.knows.participant.seen false (seen ∙ seen_all) running,
-          given_back (λ fact. guarded_by fact ≡ None) z old s new was (subst (λ (x : SeatState). GivesWrite z x new) same_seat gives) takes.same_by starts_then is_then (λ fact turnless. turnless) (λ fact turnless there. takes.notes fact there)
-              (ap (λ (a : Actor). a.made) takes.knows) (ap (λ (a : Actor). a.joined) takes.knows),
-        )
+  pub full_back : (new : SeatState) (needed published limit : ℕ) (Asks : List Entry → Type 0) → log.table.closed ≡ false → published ≡ length history → limit ≡ z.limit → limit < published + needed → Given z write_turn s new [] []
+      → Refuses z old new needed Asks was was (NumbersFull published limit)
+  full_back new needed published limit Asks running number is over gives =
+      let seen : new.knows.participant.seen ≡ history = ap (λ (x : SeatState). x.knows.participant.seen) gives.goes.same ∙ took.seen in (
+        number ∙ ap (λ (es : List Entry). length es) (sym seen),
+        is,
+        over,
+        found_then new.knows.participant.seen false seen running,
+        given_back IsLoose z old s new was gives same_by starts_then is_then (λ fact loose. loose) (λ fact loose there. noted_then fact there) made_then joined_then,
+      )
 
 -- ---- a record
 
 module _ {D : Type 0} (z : SharedState D) (old s t new : SeatState) (log left : LogState) (entries : List Entry) (facts : ℕ → List Fact) (o : OpensLog z old s log (length entries)) (legal : IsLegal (log.table.history ++ entries))
-    (turnless : (n : ℕ) (fact : Fact) → IsIn fact (facts n) → guarded_by fact ≡ None) (gives : GivesWrite z t new) (still_log : IsLog left) where
+    (loose : (n : ℕ) (fact : Fact) → IsIn fact (facts n) → IsLoose fact) (gives : Given z write_turn t new [] []) (still_log : IsLog left) where
   abbrev before_it : List Entry
   before_it = log.table.history
 
   abbrev it : Participant
   it = old.knows.participant
 
-  put_back : IsPut z s log entries t left → HasPut (λ fact. (guarded_by fact ≡ None) × (is_about (transaction_behind before_it entries) fact ≡ false)) z old new it it before_it entries
+  put_back : IsPut z s log entries t left → HasPut (λ fact. IsLoose fact × IsAboutNone before_it entries fact) z old new it it before_it entries
   put_back put =
       let seen_there : t.knows.participant.seen ≡ before_it ++ entries = ap (λ (a : Actor). a.participant.seen) put.knows in record {
-        grown = o.takes.grown;
-        found_log = found_then z old s log o.takes before_it false refl o.running;
-        seen = ap (λ (a : Actor). a.participant.seen) gives.knows ∙ seen_there;
+        grown = o.took.grown;
+        found_log = found_then z old s log o.took before_it false refl o.running;
+        seen = ap (λ (x : SeatState). x.knows.participant.seen) gives.goes.same ∙ seen_there;
         within = subst (λ (n : ℕ). n ≤ z.limit) (sym (length-append before_it entries)) o.within;
-        goes_on = given_back _ z old t new (record it { own = it.own ++ numbers_behind (length before_it) entries }) gives (put.same_by ∙ o.takes.same_by)
-            (starts_through it.seen before_it t.knows.participant.seen (entries, seen_there) o.takes.grown)
-            (ap (λ (a : Actor). a.participant) put.knows ∙ ap (putting before_it entries) (participant_then z old s log o.takes)
+        goes_on = given_back _ z old t new (record it { own = it.own ++ numbers_behind (length before_it) entries }) gives (put.same_by ∙ same_by z old s log o.took)
+            (starts_on it.seen before_it t.knows.participant.seen o.took.grown (entries, seen_there))
+            (ap (λ (a : Actor). a.participant) put.knows ∙ ap (putting before_it entries) (participant_then z old s log o.took)
             ∙ ap (λ (es : List Entry). record it { seen = es; own = it.own ++ numbers_behind (length before_it) entries }) (sym seen_there))
-            (λ fact stays. stays.0) (λ fact stays there. put.notes fact stays.0 stays.1 (o.takes.notes fact there))
-            (ap (λ (a : Actor). a.made) put.knows ∙ ap (λ (a : Actor). a.made) o.takes.knows)
-            (ap (λ (a : Actor). a.joined) put.knows ∙ ap (λ (a : Actor). a.joined) o.takes.knows);
+            (λ fact stays. stays.0) (λ fact stays there. put.notes fact stays.0 stays.1 (noted_then z old s log o.took fact there))
+            (ap (λ (a : Actor). a.made) put.knows ∙ made_then z old s log o.took)
+            (ap (λ (a : Actor). a.joined) put.knows ∙ joined_then z old s log o.took);
       }
 
   not_put_back : (closed : Bool) (change : Participant → Participant) → ((es : List Entry) (p : Participant) → change (record p { seen = es }) ≡ record (change p) { seen = es }) → IsNotPut z s log closed (change s.knows.participant) t left
       → (new.knows.participant.seen ≡ before_it) × Continues z old new (change it)
   not_put_back closed change keeps put =
-      let is : t.knows.participant ≡ record (change it) { seen = before_it } = ap (λ (a : Actor). a.participant) put.knows ∙ ap change (participant_then z old s log o.takes) ∙ keeps before_it it in
+      let is : t.knows.participant ≡ record (change it) { seen = before_it } = ap (λ (a : Actor). a.participant) put.knows ∙ ap change (participant_then z old s log o.took) ∙ keeps before_it it in
       let seen_there : t.knows.participant.seen ≡ before_it = ap (λ (p : Participant). p.seen) is in (
-        ap (λ (a : Actor). a.participant.seen) gives.knows ∙ seen_there,
-        given_back (λ fact. guarded_by fact ≡ None) z old t new (change it) gives (put.same_by ∙ o.takes.same_by) (o.takes.grown.0, seen_there ∙ o.takes.grown.1)
-            (is ∙ ap (λ (es : List Entry). record (change it) { seen = es }) (sym seen_there)) (λ fact none. none) (λ fact none there. put.notes fact none (o.takes.notes fact there))
-            (ap (λ (a : Actor). a.made) put.knows ∙ ap (λ (a : Actor). a.made) o.takes.knows)
-            (ap (λ (a : Actor). a.joined) put.knows ∙ ap (λ (a : Actor). a.joined) o.takes.knows),
+        ap (λ (x : SeatState). x.knows.participant.seen) gives.goes.same ∙ seen_there,
+        given_back IsLoose z old t new (change it) gives (put.same_by ∙ same_by z old s log o.took) (o.took.grown.0, seen_there ∙ o.took.grown.1)
+            (is ∙ ap (λ (es : List Entry). record (change it) { seen = es }) (sym seen_there)) (λ fact none. none) (λ fact none there. put.notes fact none (noted_then z old s log o.took fact there))
+            (ap (λ (a : Actor). a.made) put.knows ∙ made_then z old s log o.took)
+            (ap (λ (a : Actor). a.joined) put.knows ∙ joined_then z old s log o.took),
       )
 
   pub recorded : (outcome : Result (Unit {0}) WriteError) → PutsNoting z s log entries (facts (length left.table.history)) outcome t left → Records z old entries facts (answer_of outcome (length left.table.history)) new
@@ -217,13 +209,13 @@ module _ {D : Type 0} (z : SharedState D) (old s t new : SeatState) (log left : 
       let put = put_back p.0 in (
         ap (λ (es : List Entry). length es) (p.0.history ∙ sym put.seen),
         (before_it, record { put = put; legal = legal }),
-        λ fact there. gives.notes fact (turnless (length left.table.history) fact there) (p.1 fact there),
+        λ fact there. gives.goes.noted fact (loose_under write_turn fact (loose (length left.table.history) fact there)) (p.1 fact there),
       )
   recorded (Err write_error.Memory) p = (not_put_back false (λ (x : Participant). x) (λ es x. refl) p).1
   recorded (Err write_error.LogFault) p =
       let back = not_put_back true (failing entries) (λ es x. refl) p.0 in (
         subst (λ (es : List Entry). length es + length entries ≤ z.limit) (sym back.0) o.within,
-        found_then z old s log o.takes new.knows.participant.seen false back.0 o.running,
+        found_then z old s log o.took new.knows.participant.seen false back.0 o.running,
         (
           entries,
           refl,
@@ -232,9 +224,9 @@ module _ {D : Type 0} (z : SharedState D) (old s t new : SeatState) (log left : 
           record {
             before = log;
             left = left;
-            of_store = o.takes.holds.of_store;
+            of_store = o.holds.of_store;
             still_of_store = p.0.holds.of_store;
-            before_is = sym o.takes.found_is;
+            before_is = sym o.took.is;
             log = o.is_log;
             still_log = still_log;
             fails = p.1;
@@ -242,33 +234,46 @@ module _ {D : Type 0} (z : SharedState D) (old s t new : SeatState) (log left : 
         ),
       )
 
--- what is so of a fact is so of each that is it
-pub about_one : (fact : Fact) → guarded_by fact ≡ None → (other : Fact) → IsIn other (fact ∷ []) → guarded_by other ≡ None
-about_one fact none other there = ⊎_elim (λ (e : fact ≡ other). ap guarded_by (sym e) ∙ none) (λ (no : ⊥). absurd no) there
-
--- what a record leaves that notes nothing
-pub noting_none : {D : Type 0} (z : SharedState D) (s t : SeatState) (log left : LogState) (entries : List Entry) (outcome : Result (Unit {0}) WriteError) → Puts z s log entries outcome t left → PutsNoting z s log entries [] outcome t left
-noting_none z s t log left entries (Ok done) p = (p, λ fact there. absurd there)
-noting_none z s t log left entries (Err why) p = p
-
 -- the seat holds the write turn still, whatever the outcome
 pub holds_then : {D : Type 0} (z : SharedState D) (s t : SeatState) (log left : LogState) (entries : List Entry) (facts : List Fact) (outcome : Result (Unit {0}) WriteError) → PutsNoting z s log entries facts outcome t left → HoldsWrite z t left
 holds_then z s t log left entries facts (Ok done) p = p.0.holds
 holds_then z s t log left entries facts (Err write_error.Memory) p = p.holds
 holds_then z s t log left entries facts (Err write_error.LogFault) p = p.0.holds
 
+-- ---- how the pairs of a record are kept
+
+alone_apart : (cells : ℕ) (way : Way) → AreApart cells (way ∷ [])
+alone_apart cells Undecided = (tt, tt)
+alone_apart cells (InWord p c) = (inr tt, tt)
+
+pub one_apart : (cells n : ℕ) (entry : Entry) → AreApart cells (ways_of n (entry ∷ []))
+one_apart cells n entry = alone_apart cells (way_of (pair_by n entry))
+
+-- the Undo's pair decides itself
+pub both_apart : (cells n p : ℕ) (batch : List Change) → AreApart cells (ways_of n (Undo p batch ∷ Close p ∷ []))
+both_apart cells n p batch = (inl refl, one_apart cells (suc n) (Close p))
+
+-- ---- what is noted of a record
+
+-- what is so of a fact is so of each that is it
+about_one : (fact : Fact) → IsLoose fact → (other : Fact) → IsIn other (fact ∷ []) → IsLoose other
+about_one fact none other there = ⊎_elim (λ (e : fact ≡ other). ap guarded_by (sym e) ∙ none) (λ (no : ⊥). absurd no) there
+
+-- that needs no turn
+pub noting_loose : (noting : Noting) (n : ℕ) (fact : Fact) → IsIn fact (notes_of noting n) → IsLoose fact
+noting_loose note.Nothing n fact there = absurd there
+noting_loose (note.Undecided name) n fact there = about_one (undecided_at name.now n) refl fact there
+noting_loose (note.Unprepared name) n fact there = about_one (unprepared name.now) refl fact there
+
 -- the fact is noted behind the record
-pub put_noting : {D : Type 0} (z : SharedState D) (s t u : SeatState) (log left : LogState) (entries : List Entry) (fact : Fact) → IsPut z s log entries t left → u ≡ seat_of t (noting fact t.knows)
+pub put_noting : {D : Type 0} (z : SharedState D) (s t u : SeatState) (log left : LogState) (entries : List Entry) (fact : Fact) → IsPut z s log entries t left → u ≡ seat_of t (with_note fact t.knows)
     → IsPut z s log entries u left × ((other : Fact) → IsIn other (fact ∷ []) → IsIn other u.knows.notes)
 put_noting z s t u log left entries fact put is =
     let h = put.holds in
     subst (λ (x : SeatState). IsPut z s log entries x left × ((other : Fact) → IsIn other (fact ∷ []) → IsIn other x.knows.notes)) (sym is) (
       record {
         holds = record {
-          same_table = h.same_table;
-          live = h.live;
-          held = h.held;
-          turns = h.turns;
+          turn = record { same_table = h.turn.same_table; live = h.turn.live; held = h.turn.held; turns = h.turn.turns };
           pending = h.pending;
           seen = h.seen;
           of_store = h.of_store;
@@ -277,7 +282,7 @@ put_noting z s t u log left entries fact put is =
         same_by = put.same_by;
         history = put.history;
         running = put.running;
-        knows = ap (noting fact) put.knows;
+        knows = ap (with_note fact) put.knows;
         notes = λ other turnless apart there. inr (put.notes other turnless apart there);
       },
       λ other there. ⊎_elim (λ (e : fact ≡ other). inl e) (λ (no : ⊥). absurd no) there,
@@ -285,26 +290,52 @@ put_noting z s t u log left entries fact put is =
 
 -- ---- what is noted behind a record
 
-module _ {D : Type 0} (z : SharedState D) (s t : SeatState) (log left : LogState) (entries : List Entry) (put : IsPut z s log entries t left) (name : List ℕ) where
-  -- the seat has the transaction of the record still
-  pub has_still : (entry : Entry) (others : List Entry) → entries ≡ entry ∷ others → MayPut s.knows log.table.history entries → transaction_of log.table.history entry ≡ Some name → is_some (finite.get t.knows.participant.transactions name) ≡ true
-  has_still entry others are may is =
-      let owned = (subst (λ (es : List Entry). MayPut s.knows log.table.history es) are may).owned.0.transaction name is in
-      ap (λ (a : Actor). is_some (finite.get a.participant.transactions name)) put.knows ∙ ap is_some owned.1
-
-  pub held_still : IsIn (writes left.table) t.knows.held
-  held_still = subst (IsIn (writes left.table)) (sym put.holds.held) (inl refl)
-
 -- the Prepare that was put is found by its name
-pub prepare_named : (history : List Entry) (name : List ℕ) (batch : List Change) → IsLegal (history ++ Prepare name batch ∷ []) → named (history ++ Prepare name batch ∷ []) name ≡ Some (length (history ++ Prepare name batch ∷ []))
+prepare_named : (history : List Entry) (name : List ℕ) (batch : List Change) → IsLegal (history ++ Prepare name batch ∷ []) → named (history ++ Prepare name batch ∷ []) name ≡ Some (length (history ++ Prepare name batch ∷ []))
 prepare_named history name batch legal =
     let last = length_next history (Prepare name batch) in
     named_is (history ++ Prepare name batch ∷ []) legal (length history + 1) name (undecided_at_next history (Prepare name batch) (before history (Prepare name batch) legal) refl) (ap prepared_name (entry_at_next history (Prepare name batch)))
     ∙ ap (λ (n : ℕ). Some n) (sym last)
 
 -- a decided prepare is not
-pub commit_frees : (history : List Entry) (name : List ℕ) (p : ℕ) → IsLegal (history ++ Commit p ∷ []) → named history name ≡ Some p → named (history ++ Commit p ∷ []) name ≡ None
+commit_frees : (history : List Entry) (name : List ℕ) (p : ℕ) → IsLegal (history ++ Commit p ∷ []) → named history name ≡ Some p → named (history ++ Commit p ∷ []) name ≡ None
 commit_frees history name p legal is = name_is_free history (Commit p) p name legal is (eq-eqb p p refl) refl
 
-pub name_of : (history : List Entry) (name : List ℕ) (p : ℕ) → named history name ≡ Some p → Some (name_at history p) ≡ Some name
+name_of : (history : List Entry) (name : List ℕ) (p : ℕ) → named history name ≡ Some p → Some (name_at history p) ≡ Some name
 name_of history name p is = ap (λ (n : List ℕ). Some n) ((bytes_eq-Decides (name_at history p) name).0 (found_named history name p is).1)
+
+module _ {D : Type 0} (z : SharedState D) (s t : SeatState) (log left : LogState) (entries : List Entry) (put : IsPut z s log entries t left) (may : MayPut s.knows log.table.history entries) (name : List ℕ) where
+  abbrev behind : List Entry
+  behind = log.table.history
+
+  legal_with : (others : List Entry) → entries ≡ others → IsLegal (behind ++ others)
+  legal_with others are = subst (λ (es : List Entry). IsLegal (behind ++ es)) are may.legal
+
+  -- the seat has the transaction of the record still
+  has_still : (entry : Entry) (others : List Entry) → entries ≡ entry ∷ others → transaction_of behind entry ≡ Some name → is_some (finite.get t.knows.participant.transactions name) ≡ true
+  has_still entry others are is =
+      let owned = (subst (λ (es : List Entry). MayPut s.knows behind es) are may).owned.0.transaction name is in
+      ap (λ (a : Actor). is_some (finite.get a.participant.transactions name)) put.knows ∙ ap is_some owned.1
+
+  pub held_still : IsIn (writes left.table) t.knows.held
+  held_still = subst (IsIn (writes left.table)) (sym put.holds.turn.held) (inl refl)
+
+  module _ (batch : List Change) (are : entries ≡ Prepare name batch ∷ []) where
+    pub prepare_has : is_some (finite.get t.knows.participant.transactions name) ≡ true
+    prepare_has = has_still (Prepare name batch) [] are refl
+
+    pub prepare_is : named left.table.history name ≡ Some (length left.table.history)
+    prepare_is = subst (λ (h : List Entry). named h name ≡ Some (length h)) (sym (put.history ∙ ap (λ (es : List Entry). behind ++ es) are)) (prepare_named behind name batch (legal_with (Prepare name batch ∷ []) are))
+
+  module _ (p : ℕ) (is : named behind name ≡ Some p) (ends : (entries ≡ Commit p ∷ []) ⊎ ((batch : List Change) × (entries ≡ Undo p batch ∷ Close p ∷ []))) where
+    pub end_has : is_some (finite.get t.knows.participant.transactions name) ≡ true
+    end_has = ⊎_elim
+        (λ (e : entries ≡ Commit p ∷ []). has_still (Commit p) [] e (name_of behind name p is))
+        (λ (e : (batch : List Change) × (entries ≡ Undo p batch ∷ Close p ∷ [])). has_still (Undo p e.0) (Close p ∷ []) e.1 (name_of behind name p is))
+        ends
+
+    pub end_none : named left.table.history name ≡ None
+    end_none = ap (λ (h : List Entry). named h name) put.history ∙ ⊎_elim
+        (λ (e : entries ≡ Commit p ∷ []). ap (λ (es : List Entry). named (behind ++ es) name) e ∙ commit_frees behind name p (legal_with (Commit p ∷ []) e) is)
+        (λ (e : (batch : List Change) × (entries ≡ Undo p batch ∷ Close p ∷ [])). ap (λ (es : List Entry). named (behind ++ es) name) e.1 ∙ rollback_frees behind p e.0 (legal_with (Undo p e.0 ∷ Close p ∷ []) e.1) name is)
+        ends

@@ -8,8 +8,9 @@ use Rattle.wp_model.specs.declared.entry.Entry.{Entry}
 use Rattle.wp_model.specs.declared.holder.Holder.{Holder}
 use Rattle.wp_model.specs.declared.holder.Holder.TheVariants.{Txn, Client}
 use Rattle.wp_model.specs.History.{batch_at, named}
+use Rattle.wp_shared.specs.Notes.{with_note}
 use Rattle.wp_core.specs.Tables.{locks}
-use Rattle.wp_core.specs.Views.{Fact, claimed, took, locked, told, heard, found, stopped, unprepared, undecided_at, direct_free}
+use Rattle.wp_core.specs.Views.{claimed, took, locked, told, heard, found, stopped, unprepared, undecided_at, direct_free}
 use Rattle.wp_core.specs.World.{Transaction, Participant, Actor}
 use Rattle.wp_core.specs.Changes.{held_with, keys_of_holder, sees, remembers, has_transaction, has_no_transaction, has_direct, with_name, with_key, with_label}
 use Rattle.wp_rule.specs.Accounts.{account_of}
@@ -30,10 +31,6 @@ transaction_in p name = unwrap_or (finite.get p.transactions name) no_changes
 abbrev pub with_key_locked : List ℕ → Transaction → Transaction
 with_key_locked key x = record x { locked = set.insert x.locked key }
 
--- it noted this fact
-abbrev pub noting : Fact → Actor → Actor
-noting fact a = record a { notes = fact ∷ a.notes }
-
 -- it claimed a name, and noted that no undecided prepare has it
 abbrev pub with_claimed : LockTables → List ℕ → Actor → Actor
 with_claimed t name a = let b = holding (with_name t name (Some a.participant.client)) (remembers (has_transaction a name no_changes) (claimed name)) in record b { notes = unprepared name ∷ a.notes }
@@ -48,7 +45,7 @@ with_locked t name key a = holding (with_key t key (Txn name)) (remembers (has_t
 
 -- it locked a key for its direct write, and noted that no undecided prepare has the key
 abbrev pub with_direct : LockTables → List ℕ → Actor → Actor
-with_direct t key a = noting (direct_free key) (holding (with_key t key (Client a.participant.client)) (remembers (has_direct a (Some key)) (locked key (Client a.participant.client))))
+with_direct t key a = with_note (direct_free key) (holding (with_key t key (Client a.participant.client)) (remembers (has_direct a (Some key)) (locked key (Client a.participant.client))))
 
 -- its direct write is over, and the tables are these
 abbrev pub ending_direct : LockTables → Actor → Actor

@@ -9,7 +9,7 @@ use Rattle.wp_model.specs.declared.holder.Holder.TheVariants.{Txn}
 use Rattle.wp_model.specs.LockTables.{LockTables}
 use Rattle.wp_model.specs.Batch.{key_of, change_to, with_change}
 use Rattle.wp_model.specs.History.{named, is_changed}
-use Rattle.wp_core.specs.Tables.{WriteTable, writes}
+use Rattle.wp_core.specs.Tables.{WriteTable, writes, locks}
 use Rattle.wp_core.specs.Views.{claimed, took, locked, told, heard, found}
 use Rattle.wp_core.specs.Lists.{IsIn}
 use Rattle.wp_core.specs.World.{Transaction, Participant, Actor, World}
@@ -136,11 +136,13 @@ TakesPrepared z old name (Err other) new = ⊥
 
 -- ---- the board
 
--- The history was published in a world of the store in which the seat had done what it had before the call.
+-- The history was published in a world of the store in which the seat had done what it had before the call, and held the locks turn by
+-- now.
 pub record WasHistory {D : Type 0} (z : SharedState D) (old : SeatState) (history : List Entry) : Type 0 where
   pub world : World
   pub actor : Actor
   pub there : IsAt (place_at z old.by) actor world
+  pub held : IsIn (locks world.locks) actor.held
   pub participant : actor.participant ≡ record old.knows.participant { seen = actor.participant.seen }
   pub is : world.writes.history ≡ history
 

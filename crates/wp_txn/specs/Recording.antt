@@ -1,35 +1,55 @@
 -- How a call puts a record of entries into the history, and what it does beside that.
-use Rattle.std.specs.Prelude.{◌≡◌, ℕ, ◌+◌, ◌≤◌, ◌<◌, ◌^◌, false, List, ◌++◌, length, take, Some, None, Result, Ok, Err}
+use Rattle.std.specs.Prelude.{◌≡◌, ◌⊎◌, ℕ, ◌+◌, ◌≤◌, ◌<◌, ◌^◌, false, List, [], ◌∷◌, ◌++◌, length, take, Some, None, Result, Ok, Err}
 use Rattle.std.specs.FinMap as finite
 use Rattle.wp_model.specs.declared.entry.Entry.{Entry}
+use Rattle.wp_model.specs.declared.entry.Entry.TheVariants.{Prepare, Commit, Undo, Close}
+use Rattle.wp_model.specs.History.{named}
 use Rattle.wp_model.specs.Legal.{IsLegal, prior}
 use Rattle.wp_model.specs.declared.change.Change.{Change}
 use Rattle.wp_core.specs.Lists.{IsIn}
 use Rattle.wp_core.specs.Sound.Views.{guarded_by}
-use Rattle.wp_core.specs.Views.{Fact, direct_free}
-use Rattle.wp_core.specs.World.{Participant, World}
+use Rattle.wp_core.specs.Views.{Fact, undecided_at, unprepared, direct_free}
+use Rattle.wp_core.specs.World.{Participant}
 use Rattle.wp_parts.specs.Log.{LogState, IsLog}
 use Rattle.wp_records.specs.declared.error.WriteError.{WriteError}
 use Rattle.wp_records.specs.declared.error.WriteError.TheVariants as write_error
-use Rattle.wp_records.specs.Records.{transaction_behind, is_about, IsPut, Puts}
-use Rattle.wp_records.specs.Writing.{TakesWrite}
+use Rattle.wp_records.specs.Records.{IsAboutNone, IsPut, Puts}
+use Rattle.wp_records.specs.Writing.{HoldsWrite}
 use Rattle.wp_shared.specs.Calls.{ContinuesWith, Continues}
-use Rattle.wp_shared.specs.Seats.{SharedState, SeatState, Stands}
+use Rattle.wp_shared.specs.Seats.{SharedState, SeatState}
+use Rattle.wp_shared.specs.Turns.{TookLog}
 use Rattle.wp_txn.specs.declared.error.TxnError.{TxnError}
+use Rattle.wp_txn.specs.declared.recording.Noting.{Noting}
+use Rattle.wp_txn.specs.declared.recording.Noting.TheVariants as noting
 use Rattle.wp_txn.specs.declared.error.TxnError.TheVariants.{Memory, Busy, LogFault}
 use Rattle.wp_txn.specs.Calls.{Keeps, Finds, GivesUp, LocksWere, IsFreeName, without_transaction}
 use Rattle.wp_txn.specs.Turns.{IsNoDirect}
 use Rattle.wp_txn.specs.Writes.{HasPut, Refuses, writing_direct}
 
--- The seat took the write turn with this log, which is running, and stands so in a world of the store. So many entries more have
--- their numbers within the limit. The device has what the log's table says.
+-- what is noted of a record once it is put, where so many entries are published
+abbrev pub notes_of : Noting → ℕ → List Fact
+notes_of noting.Nothing n = []
+notes_of (noting.Undecided name) n = undecided_at name.now n ∷ []
+notes_of (noting.Unprepared name) n = unprepared name.now ∷ []
+
+-- the entries decide the prepare that has the name in this history: a Commit, or an Undo and its Close
+abbrev pub IsEndOf : List ℕ → List Entry → List Entry → Type 0
+IsEndOf name history entries = (p : ℕ) × (named history name ≡ Some p) × ((entries ≡ Commit p ∷ []) ⊎ ((batch : List Change) × (entries ≡ Undo p batch ∷ Close p ∷ [])))
+
+-- it may be noted of these entries behind this history: they prepare the name, or decide the prepare that has it
+abbrev pub MayNote : Noting → List Entry → List Entry → Type 0
+MayNote noting.Nothing history entries = Unit {0}
+MayNote (noting.Undecided name) history entries = (batch : List Change) × (entries ≡ Prepare name.now batch ∷ [])
+MayNote (noting.Unprepared name) history entries = IsEndOf name.now history entries
+
+-- The seat took the write turn with this log, which is running, and holds no other. So many entries more have their numbers within
+-- the limit. The device has what the log's table says.
 pub record OpensLog {D : Type 0} (z : SharedState D) (old new : SeatState) (log : LogState) (needed : ℕ) : Type 0 where
-  pub takes : TakesWrite z old new log
+  pub took : TookLog z old new log
+  pub holds : HoldsWrite z new log
   pub running : log.table.closed ≡ false
   pub within : length log.table.history + needed ≤ z.limit
   pub few : z.limit < 2 ^ 32
-  pub world : World
-  pub stands : Stands z new world
   pub is_log : IsLog log
 
 -- what a record leaves, behind which these facts are noted while the write turn is held
@@ -44,9 +64,9 @@ answer_of (Err write_error.Memory) n = Err Memory
 answer_of (Err write_error.LogFault) n = Err LogFault
 
 -- The seat put the entries behind this history, which is legal with them. It lost none of the facts that it noted without a turn
--- but for those about the record's transaction.
+-- but for those about the transaction of one of them.
 pub record HasRecorded {D : Type 0} (z : SharedState D) (old new : SeatState) (history entries : List Entry) : Type 0 where
-  pub put : HasPut (λ fact. (guarded_by fact ≡ None) × (is_about (transaction_behind history entries) fact ≡ false)) z old new old.knows.participant old.knows.participant history entries
+  pub put : HasPut (λ fact. (guarded_by fact ≡ None) × IsAboutNone history entries fact) z old new old.knows.participant old.knows.participant history entries
   pub legal : IsLegal (history ++ entries)
 
 -- What a call answers that puts the entries into the history, and then notes these facts, which may name the number published

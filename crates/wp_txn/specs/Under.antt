@@ -13,11 +13,12 @@ use Rattle.wp_core.specs.Changes.{sees, with_name, with_key, with_label}
 use Rattle.wp_core.specs.Lists.{IsIn}
 use Rattle.wp_core.specs.Tables.{WriteTable, writes}
 use Rattle.wp_core.specs.Sound.Actors.{StartsWith}
+use Rattle.wp_shared.specs.Notes.{seat_of}
 use Rattle.wp_shared.specs.Seats.{SeatState}
 use Rattle.wp_txn.specs.declared.error.TxnError.{TxnError}
 use Rattle.wp_txn.specs.declared.error.TxnError.TheVariants.{Memory, Taken, Busy, Silent, Unknown, InUse}
 use Rattle.wp_txn.specs.Actors.{with_claimed, with_found, with_locked, with_direct, with_told, with_heard}
-use Rattle.wp_txn.specs.Turns.{seat_of, TakesPrepare}
+use Rattle.wp_txn.specs.Turns.{TakesPrepare}
 
 -- the name is live, and the seat found that, when no fewer entries were published than it had seen
 abbrev pub FindsName : LockTables → SeatState → List ℕ → LockTables → SeatState → Type 0
@@ -60,10 +61,9 @@ TakesUnder old s name (Err (Unknown other at)) new t =
 TakesUnder old s name (Err (InUse other)) new t = (other ≡ name) × FindsName old s name new t × ((client : List ℕ) × (finite.get old.names name ≡ Some (Some client)))
 TakesUnder old s name (Err other) new t = ⊥
 
-abbrev pub TellsUnder : LockTables → SeatState → List ℕ → Result ℕ TxnError → LockTables → SeatState → Type 0
-TellsUnder old s label (Ok n) new t =
-    (new ≡ with_label old label n) × ((history : List Entry) × StartsWith history s.knows.participant.seen × (n ≡ length history) × (t ≡ seat_of s (with_told old label (sees history s.knows))))
-TellsUnder old s label (Err Memory) new t = (new ≡ old) × ((history : List Entry) × StartsWith history s.knows.participant.seen × (t ≡ seat_of s (sees history s.knows)))
+abbrev pub TellsUnder : LockTables → SeatState → List ℕ → Result (Unit {0}) TxnError → LockTables → SeatState → Type 0
+TellsUnder old s label (Ok done) new t = (new ≡ with_label old label (length s.knows.participant.seen)) × (t ≡ seat_of s (with_told old label s.knows))
+TellsUnder old s label (Err Memory) new t = (new ≡ old) × (t ≡ s)
 TellsUnder old s label (Err other) new t = ⊥
 
 abbrev pub HearsUnder : LockTables → SeatState → List ℕ → Result ℕ TxnError → SeatState → Type 0

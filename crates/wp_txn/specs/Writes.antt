@@ -10,9 +10,9 @@ use Rattle.wp_model.specs.Legal.{IsLegal, prior}
 use Rattle.wp_core.specs.Sound.Actors.{StartsWith}
 use Rattle.wp_core.specs.Sound.Views.{guarded_by}
 use Rattle.wp_core.specs.Tables.{WriteTable}
-use Rattle.wp_core.specs.Views.{Fact, locked, stopped}
+use Rattle.wp_core.specs.Lists.{IsIn}
+use Rattle.wp_core.specs.Views.{Fact, has_left, locked, stopped}
 use Rattle.wp_core.specs.World.{Participant}
-use Rattle.wp_commits.specs.Gone.{HasLeft}
 use Rattle.wp_parts.specs.Log.{LogState, IsLog}
 use Rattle.wp_parts.specs.Parts.{log_first}
 use Rattle.wp_records.specs.Writing.{FoundLog}
@@ -111,9 +111,9 @@ Ends z old name entries n new =
 abbrev pub CommitsNow : {D : Type 0} → SharedState D → SeatState → OpenState → ℕ → SeatState → Type 0
 CommitsNow z old txn n new = Ends z old txn.name (Write txn.batch ∷ []) n new
 
--- ... and no prepared table has its number any more
+-- ... and it noted that no prepared table has its number any more
 abbrev pub Commits : {D : Type 0} → SharedState D → SeatState → PreparedState → ℕ → SeatState → Type 0
-Commits z old txn n new = Ends z old txn.name (Commit txn.number ∷ []) n new × HasLeft z new txn.number
+Commits z old txn n new = Ends z old txn.name (Commit txn.number ∷ []) n new × IsIn (has_left txn.number) new.knows.notes
 
 -- What the keys had in the history that it was put behind, and then the end of the prepare. The name and the keys are free again.
 abbrev pub RollsBack : {D : Type 0} → SharedState D → SeatState → PreparedState → ℕ → SeatState → Type 0
@@ -121,7 +121,7 @@ RollsBack z old txn n new =
     (n ≡ length new.knows.participant.seen)
     × ((history : List Entry)
     × HasPut (IsApartFrom txn.name) z old new old.knows.participant (without_transaction txn.name old.knows.participant) history (Undo txn.number (prior history txn.batch) ∷ Close txn.number ∷ []))
-    × HasLeft z new txn.number
+    × IsIn (has_left txn.number) new.knows.notes
     × LocksWere z new (IsFreeName txn.name)
 
 -- it is refused, and the transaction is as it was

@@ -1,22 +1,22 @@
 //! The changes of an open transaction.
-ghost use Rattle.std.specs.Prelude.{◌≡◌, true, false, is_some};
+ghost use Rattle.std.specs.Prelude.{◌≡◌, [], true, false, is_some};
 ghost use Rattle.std.specs.FinSet as set;
 ghost use Rattle.std.specs.FinMap as finite;
+ghost use Rattle.wp_core.specs.Tables.{locks};
 ghost use Rattle.wp_model.specs.Batch.{key_of};
 ghost use Rattle.wp_model.specs.declared.change.Change.TheVariants.{Put, Del};
 ghost use Rattle.wp_model.specs.declared.holder.Holder.TheVariants.{Txn};
 ghost use Rattle.wp_shared.specs.Seats.{IsFree};
+ghost use Rattle.wp_shared.specs.Turns.{HoldsTurn};
 ghost use Rattle.wp_txn.specs.Actors.{transaction_in};
 ghost use Rattle.wp_txn.specs.Calls.{Changes};
 ghost use Rattle.wp_txn.specs.Keys.{ChangesBatch, HoldsKey};
-ghost use Rattle.wp_txn.specs.Turns.{HoldsLocks};
 ghost use Rattle.wp_txn.specs.Txn.{HasOpen};
 ghost use Rattle.wp_txn.specs.Under.{LocksKey};
 
 use crate::error::TxnError;
 use crate::locking::lock_for;
 use crate::steps::{lock_key, set_batch};
-use crate::turns::{give_locks, take_locks};
 use crate::txn::OpenTxn;
 use std::alloc::Global;
 use std::sync::Wait;
@@ -46,11 +46,12 @@ fn lock<D: Disk + Drop>(
     key: &Key,
     holder: Holder,
 ) -> Result<(), TxnError>
-    requires seat { HoldsLocks store.now seat.old tables.old }
+    requires seat { HoldsTurn store.now seat.old (locks tables.old) [] [] }
     requires holder { holder ≡ Txn name.now }
     requires has { is_some (finite.get seat.old.knows.participant.transactions name.now) ≡ true }
     requires unlocked { set.contains (transaction_in seat.old.knows.participant name.now).locked key.now ≡ false }
-    ensures { LocksKey tables.old seat.old name.now key.now result tables.new seat.new }
+    ensures answered { LocksKey tables.old seat.old name.now key.now result tables.new seat.new }
+    ensures holds { HoldsTurn store.now seat.new (locks tables.new) [] [] }
 {
     lock_for(store, seat, tables, key, holder)?;
     lock_key(store, seat, name, key);
@@ -74,9 +75,9 @@ fn hold_key<D: Disk + Drop, R: Wait>(
         return Ok(());
     }
     let holder = Holder::Txn(txn.name.copy(alloc)?);
-    let mut tables = take_locks(store, rt, seat);
+    let mut tables = store.take_turn::<Locks, R>(rt, seat);
     let outcome = lock(store, seat, &mut tables, &txn.name, key, holder);
-    give_locks(store, seat, tables);
+    store.give_turn(seat, tables);
     outcome
 }
 

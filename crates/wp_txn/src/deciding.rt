@@ -2,9 +2,8 @@
 ghost use Rattle.std.specs.Prelude.{◌≡◌, ℕ, true, is_some, Some, IfOk, IfErr};
 ghost use Rattle.std.specs.FinMap as finite;
 ghost use Rattle.wp_model.specs.Decision.{decision_of};
-ghost use Rattle.wp_commits.specs.Gone.{HasLeft};
 ghost use Rattle.wp_core.specs.Lists.{IsIn};
-ghost use Rattle.wp_core.specs.Views.{unprepared};
+ghost use Rattle.wp_core.specs.Views.{has_left, unprepared};
 ghost use Rattle.wp_shared.specs.Seats.{IsFree};
 ghost use Rattle.wp_txn.specs.Recording.{Frees};
 ghost use Rattle.wp_txn.specs.Txn.{HasPrepared};
@@ -16,7 +15,7 @@ use crate::recording::record_commit;
 use crate::txn::PreparedTxn;
 use std::alloc::Global;
 use std::sync::Wait;
-use wp_commits::take_out;
+use wp_commits::forget_prepared;
 use wp_model::Seq;
 use wp_outside::Disk;
 use wp_shared::{Seat, Shared};
@@ -33,7 +32,7 @@ pub(crate) fn end<D: Disk + Drop, R: Wait>(
     requires noted { IsIn (unprepared txn.name) seat.old.knows.notes }
     requires decided { (c : ℕ) × (decision_of seat.old.knows.participant.seen txn.number ≡ Some c) }
     ensures frees { Frees store.now seat.old seat.new txn.name }
-    ensures gone { HasLeft store.now seat.new txn.number }
+    ensures gone { IsIn (has_left txn.number) seat.new.knows.notes }
 {
     let PreparedTxn {
         name,
@@ -41,7 +40,7 @@ pub(crate) fn end<D: Disk + Drop, R: Wait>(
         batch: _batch,
     } = txn;
     free(store, rt, seat, name);
-    take_out(store, rt, seat, number);
+    forget_prepared(store, rt, seat, number);
 }
 
 /// Commits a prepared transaction, by one short entry. The answer is its number.

@@ -1,9 +1,10 @@
 //! A direct write: one change, as an entry of its own.
-ghost use Rattle.std.specs.Prelude.{◌≡◌, Some, None};
+ghost use Rattle.std.specs.Prelude.{◌≡◌, [], Some, None};
+ghost use Rattle.wp_core.specs.Tables.{locks};
 ghost use Rattle.wp_model.specs.declared.holder.Holder.TheVariants.{Client};
 ghost use Rattle.wp_shared.specs.Seats.{IsFree};
+ghost use Rattle.wp_shared.specs.Turns.{HoldsTurn};
 ghost use Rattle.wp_txn.specs.Recording.{HoldsDirect, EndsDirect};
-ghost use Rattle.wp_txn.specs.Turns.{HoldsLocks};
 ghost use Rattle.wp_txn.specs.Under.{LocksDirect};
 ghost use Rattle.wp_txn.specs.Writes.{WritesDirect};
 
@@ -11,7 +12,6 @@ use crate::error::TxnError;
 use crate::locking::lock_for;
 use crate::recording::record_write;
 use crate::steps::{free_direct, lock_direct};
-use crate::turns::{give_locks, take_locks};
 use std::alloc::Global;
 use std::sync::Wait;
 use wp_locks::Locks;
@@ -27,10 +27,11 @@ fn lock<D: Disk + Drop>(
     key: &Key,
     holder: Holder,
 ) -> Result<(), TxnError>
-    requires seat { HoldsLocks store.now seat.old tables.old }
+    requires seat { HoldsTurn store.now seat.old (locks tables.old) [] [] }
     requires none { seat.old.knows.participant.direct ≡ None }
     requires holder { holder ≡ Client seat.old.knows.participant.client }
-    ensures { LocksDirect tables.old seat.old key.now result tables.new seat.new }
+    ensures answered { LocksDirect tables.old seat.old key.now result tables.new seat.new }
+    ensures holds { HoldsTurn store.now seat.new (locks tables.new) [] [] }
 {
     lock_for(store, seat, tables, key, holder)?;
     lock_direct(store, seat, key);
@@ -50,9 +51,9 @@ fn hold<D: Disk + Drop, R: Wait>(
     ensures { HoldsDirect store.now seat.old key.now result seat.new }
 {
     let holder = Holder::Client(seat.client().copy(alloc)?);
-    let mut tables = take_locks(store, rt, seat);
+    let mut tables = store.take_turn::<Locks, R>(rt, seat);
     let outcome = lock(store, seat, &mut tables, key, holder);
-    give_locks(store, seat, tables);
+    store.give_turn(seat, tables);
     outcome
 }
 
@@ -62,10 +63,10 @@ fn give_back<D: Disk + Drop, R: Wait>(store: &Shared<D>, rt: &R, seat: &mut Seat
     requires has { seat.old.knows.participant.direct ≡ Some key.now }
     ensures { EndsDirect store.now seat.old seat.new key.now }
 {
-    let mut tables = take_locks(store, rt, seat);
+    let mut tables = store.take_turn::<Locks, R>(rt, seat);
     free_direct(store, seat, &tables, key);
     tables.unlock(key);
-    give_locks(store, seat, tables);
+    store.give_turn(seat, tables);
 }
 
 /// Writes the change at once, as an entry of its own. The key is held for the seat's client during the call, against every other

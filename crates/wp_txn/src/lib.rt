@@ -32,7 +32,6 @@ mod prepared;
 mod preparing;
 mod recording;
 mod steps;
-mod turns;
 mod txn;
 mod undoing;
 

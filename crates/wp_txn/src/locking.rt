@@ -1,16 +1,16 @@
 //! What locks and frees have in common, of transactions and of direct writes.
-ghost use Rattle.std.specs.Prelude.{◌≡◌, true, is_some};
+ghost use Rattle.std.specs.Prelude.{◌≡◌, [], true, is_some, OnErr};
 ghost use Rattle.std.specs.FinMap as finite;
 ghost use Rattle.wp_core.specs.Lists.{IsIn};
+ghost use Rattle.wp_core.specs.Tables.{locks};
 ghost use Rattle.wp_core.specs.Views.{unprepared};
 ghost use Rattle.wp_shared.specs.Seats.{IsFree};
+ghost use Rattle.wp_shared.specs.Turns.{HoldsTurn};
 ghost use Rattle.wp_txn.specs.Recording.{Frees};
-ghost use Rattle.wp_txn.specs.Turns.{HoldsLocks};
 ghost use Rattle.wp_txn.specs.Under.{LocksFor};
 
 use crate::error::TxnError;
 use crate::steps::{find_holder, free_transaction};
-use crate::turns::{give_locks, take_locks};
 use std::sync::Wait;
 use wp_locks::{LockError, Locks};
 use wp_model::{Holder, Key, Name};
@@ -25,8 +25,9 @@ pub(crate) fn lock_for<D: Disk + Drop>(
     key: &Key,
     holder: Holder,
 ) -> Result<(), TxnError>
-    requires { HoldsLocks store.now seat.old tables.old }
-    ensures { LocksFor tables.old seat.old key.now holder result tables.new seat.new }
+    requires { HoldsTurn store.now seat.old (locks tables.old) [] [] }
+    ensures answered { LocksFor tables.old seat.old key.now holder result tables.new seat.new }
+    ensures holds { OnErr result (HoldsTurn store.now seat.new (locks tables.new) [] []) }
 {
     match tables.lock(key, holder) {
         Ok(()) => Ok(()),
@@ -51,9 +52,9 @@ pub(crate) fn free<D: Disk + Drop, R: Wait>(
     requires noted { IsIn (unprepared name) seat.old.knows.notes }
     ensures { Frees store.now seat.old seat.new name }
 {
-    let mut tables = take_locks(store, rt, seat);
+    let mut tables = store.take_turn::<Locks, R>(rt, seat);
     free_transaction(store, seat, &tables, &name);
     tables.free_name(&name);
     tables.unlock_all(&Holder::Txn(name));
-    give_locks(store, seat, tables);
+    store.give_turn(seat, tables);
 }

@@ -1,15 +1,15 @@
 //! Open transactions begin with a name, and end with it.
-ghost use Rattle.std.specs.Prelude.{◌≡◌};
+ghost use Rattle.std.specs.Prelude.{◌≡◌, []};
+ghost use Rattle.wp_core.specs.Tables.{locks};
 ghost use Rattle.wp_shared.specs.Seats.{IsFree};
+ghost use Rattle.wp_shared.specs.Turns.{HoldsTurn};
 ghost use Rattle.wp_txn.specs.Calls.{Begins, GivesUp, LocksWere, IsFreeName};
 ghost use Rattle.wp_txn.specs.Txn.{HasOpen};
 ghost use Rattle.wp_txn.specs.Under.{Claims};
-ghost use Rattle.wp_txn.specs.Turns.{HoldsLocks};
 
 use crate::error::TxnError;
 use crate::locking::free;
 use crate::steps::{claim_name, find_name};
-use crate::turns::{give_locks, take_locks};
 use crate::txn::OpenTxn;
 use std::alloc::Global;
 use std::sync::Wait;
@@ -27,9 +27,10 @@ fn claim<D: Disk + Drop>(
     claimed: Name,
     client: Name,
 ) -> Result<(), TxnError>
-    requires seat { HoldsLocks store.now seat.old tables.old }
+    requires seat { HoldsTurn store.now seat.old (locks tables.old) [] [] }
     requires names { (claimed ≡ name.now) × (client ≡ seat.old.knows.participant.client) }
-    ensures { Claims tables.old seat.old name.now result tables.new seat.new }
+    ensures answered { Claims tables.old seat.old name.now result tables.new seat.new }
+    ensures holds { HoldsTurn store.now seat.new (locks tables.new) [] [] }
 {
     match tables.claim_name(claimed, client) {
         Ok(()) => {
@@ -58,9 +59,9 @@ pub fn begin<D: Disk + Drop, R: Wait>(
 {
     let claimed = name.copy(alloc)?;
     let client = seat.client().copy(alloc)?;
-    let mut tables = take_locks(store, rt, seat);
+    let mut tables = store.take_turn::<Locks, R>(rt, seat);
     let outcome = claim(store, seat, &mut tables, &name, claimed, client);
-    give_locks(store, seat, tables);
+    store.give_turn(seat, tables);
     outcome?;
     Ok(OpenTxn {
         name,

@@ -1,15 +1,15 @@
 //! Prepared transactions that change hands.
-ghost use Rattle.std.specs.Prelude.{◌≡◌, Some, None, IfOk};
+ghost use Rattle.std.specs.Prelude.{◌≡◌, ℕ, List, Some, None, IfOk};
 ghost use Rattle.std.specs.FinMap as finite;
+ghost use Rattle.wp_core.specs.Tables.{Content, locks};
 ghost use Rattle.wp_shared.specs.Seats.{IsFree};
+ghost use Rattle.wp_shared.specs.Turns.{HoldsTurn};
 ghost use Rattle.wp_txn.specs.Calls.{GivesUp, LocksWere, TakesPrepared};
-ghost use Rattle.wp_txn.specs.Turns.{HoldsLocks};
 ghost use Rattle.wp_txn.specs.Txn.{HasPrepared};
 ghost use Rattle.wp_txn.specs.Under.{IsPrepareOf, TakesUnder};
 
 use crate::error::TxnError;
 use crate::steps::{find_name, leave_name, take_name};
-use crate::turns::{give_locks, give_log, take_locks, take_log};
 use crate::txn::PreparedTxn;
 use std::alloc::{AllocError, Global};
 use std::sync::Wait;
@@ -17,6 +17,7 @@ use wp_history::History;
 use wp_locks::{LockError, Locks, TakeRefused};
 use wp_model::{Batch, Name, Seq};
 use wp_outside::Disk;
+use wp_parts::Log;
 use wp_shared::{Seat, Shared};
 
 /// Leaves a prepared transaction to whoever takes it: its name stays live, and its keys stay held. It takes no memory.
@@ -31,7 +32,7 @@ pub fn leave<D: Disk + Drop, R: Wait>(
     ensures gives_up { GivesUp store.now seat.old seat.new txn.name }
     ensures left { LocksWere store.now seat.new (λ t. finite.get t.names txn.name ≡ Some None) }
 {
-    let mut tables = take_locks(store, rt, seat);
+    let mut tables = store.take_turn::<Locks, R>(rt, seat);
     leave_name(store, seat, &tables, &txn);
     let PreparedTxn {
         name,
@@ -39,7 +40,7 @@ pub fn leave<D: Disk + Drop, R: Wait>(
         batch: _batch,
     } = txn;
     tables.leave_name(&name);
-    give_locks(store, seat, tables);
+    store.give_turn(seat, tables);
 }
 
 /// The number and the batch of the undecided prepare of that name, if there is one.
@@ -65,9 +66,11 @@ fn take_under<D: Disk + Drop>(
     asked: Name,
     client: Name,
 ) -> Result<(), TxnError>
-    requires seat { HoldsLocks store.now seat.old tables.old }
+    requires seat { (others : List Content) × (beneath : List ℕ) × HoldsTurn store.now seat.old (locks tables.old) others beneath }
     requires names { (asked ≡ name.now) × (client ≡ seat.old.knows.participant.client) }
-    ensures { TakesUnder tables.old seat.old name.now result tables.new seat.new }
+    ensures answered { TakesUnder tables.old seat.old name.now result tables.new seat.new }
+    ensures holds { (others : List Content) (beneath : List ℕ) → HoldsTurn store.now seat.old (locks tables.old) others beneath
+        → HoldsTurn store.now seat.new (locks tables.new) others beneath }
 {
     let Err(refused) = tables.take_name(asked, client) else {
         take_name(store, seat, name);
@@ -102,15 +105,15 @@ pub fn take_prepared<D: Disk + Drop, R: Wait>(
     let taken = name.copy(alloc)?;
     let asked = name.copy(alloc)?;
     let client = seat.client().copy(alloc)?;
-    let log = take_log(store, rt, seat);
+    let log = store.take_turn::<Log<D>, R>(rt, seat);
     let Ok(prepare) = prepare_of(log.history(), alloc, name) else {
-        give_log(store, seat, log);
+        store.give_turn(seat, log);
         return Err(TxnError::Memory);
     };
-    let mut tables = take_locks(store, rt, seat);
+    let mut tables = store.take_turn::<Locks, R>(rt, seat);
     let outcome = take_under(store, seat, &mut tables, name, asked, client);
-    give_locks(store, seat, tables);
-    give_log(store, seat, log);
+    store.give_turn(seat, tables);
+    store.give_turn(seat, log);
     outcome?;
     let Some((number, batch)) = prepare else {
         unreachable!();

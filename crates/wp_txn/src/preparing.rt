@@ -7,7 +7,7 @@ ghost use Rattle.wp_txn.specs.Writes.{Prepares, CommitsNow, RefusesOpen};
 
 use crate::error::Refused;
 use crate::locking::free;
-use crate::recording::{record_prepare, record_write};
+use crate::recording::{record_prepare, record_write, shows_batch};
 use crate::txn::{OpenTxn, PreparedTxn};
 use std::alloc::Global;
 use std::sync::Wait;
@@ -56,7 +56,7 @@ pub fn commit_now<D: Disk + Drop, R: Wait>(
     ensures ok { IfOk result (λ n. CommitsNow store.now seat.old txn n seat.new) }
     ensures refused { IfErr result (λ r. RefusesOpen store.now seat.old txn (Write txn.batch) r.txn r.why seat.new) }
 {
-    txn.batch.changes();
+    shows_batch(&txn.batch);
     match record_write(store, rt, alloc, seat, &txn.batch) {
         Ok(number) => {
             let OpenTxn {

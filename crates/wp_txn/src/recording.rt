@@ -1,13 +1,16 @@
 //! A record of entries, from the taking of the write turn to its giving.
-ghost use Rattle.std.specs.Prelude.{◌≡◌, ◌≤◌, false, [], ◌∷◌, length, Some, IfOk, IfErr};
+ghost use Rattle.std.specs.Prelude.{◌≡◌, ◌≤◌, ℕ, true, false, List, [], ◌∷◌, length, IfOk, IfErr};
+ghost use Rattle.wp_model.specs.Batch.{is_batch};
 ghost use Rattle.wp_model.specs.declared.entry.Entry.TheVariants.{Write, Prepare, Commit, Undo, Close};
-ghost use Rattle.wp_model.specs.History.{named};
+ghost use Rattle.wp_core.specs.Turns.{write_turn};
 ghost use Rattle.wp_core.specs.Views.{undecided_at, unprepared};
+ghost use Rattle.wp_commits.specs.Ways.{ways_of, AreApart};
 ghost use Rattle.wp_parts.specs.Log.{LogState, IsLog};
 ghost use Rattle.wp_records.specs.Records.{MayPut};
-ghost use Rattle.wp_records.specs.Writing.{HoldsWrite, GivesWrite};
+ghost use Rattle.wp_records.specs.Writing.{HoldsWrite};
 ghost use Rattle.wp_shared.specs.Seats.{IsFree, SeatState};
-ghost use Rattle.wp_txn.specs.Recording.{OpensLog, PutsNoting, Records, HadPrior, answer_of};
+ghost use Rattle.wp_shared.specs.Turns.{Given};
+ghost use Rattle.wp_txn.specs.Recording.{OpensLog, MayNote, notes_of, PutsNoting, Records, HadPrior, answer_of};
 ghost use Rattle.wp_txn.specs.Txn.{HasOpen, HasPrepared};
 ghost use Rattle.wp_txn.specs.Writes.{Refuses};
 
@@ -20,8 +23,18 @@ use wp_model::{Batch, Name, Seq};
 use wp_outside::Disk;
 use wp_parts::Log;
 use wp_read::laws::held_keys_keep_their_values;
-use wp_records::{WriteError, give_write, take_write};
+use wp_records::{Record, WriteError, put};
 use wp_shared::{Seat, Shared};
+
+/// What is noted of a record once it is in the history.
+#[derive(Drop)]
+pub(crate) enum Noting<'a> {
+    Nothing,
+    /// The number of the undecided prepare of this name.
+    Undecided(&'a Name),
+    /// That no undecided prepare has this name.
+    Unprepared(&'a Name),
+}
 
 /// Takes the write turn with the log, if that is running and so many entries more have their numbers within the limit.
 fn open_log<D: Disk + Drop, R: Wait>(
@@ -29,26 +42,25 @@ fn open_log<D: Disk + Drop, R: Wait>(
     rt: &R,
     seat: &mut Seat<D>,
     needed: Seq,
-) -> Result<Log<D>, TxnError>
+) -> Result<Box<Log<D>>, TxnError>
     requires free { IsFree store.now.table seat.old }
     requires needed { needed ≤ 2 }
-    ensures ok { IfOk result (λ log. OpensLog store.now seat.old seat.new log needed) }
+    ensures ok { IfOk result (λ log. OpensLog store.now seat.old seat.new log.value needed) }
     ensures refused { IfErr result (Refuses store.now seat.old seat.new needed (λ asked. ⊥) seat.old.knows.participant seat.old.knows.participant) }
 {
-    let log = take_write(store, rt, seat);
+    let log = store.take_log(rt, seat);
+    let published = log.published();
     if log.is_closed() {
         find_log_closed(store, seat, &log);
-        let published = log.published();
-        give_write(store, seat, log);
+        store.give_turn(seat, log);
         return Err(TxnError::Stopped(published));
     }
-    let published = store.published(seat);
     let limit = store.limit();
     if published + needed > limit {
-        give_write(store, seat, log);
+        store.give_turn(seat, log);
         return Err(TxnError::NumbersFull { published, limit });
     }
-    log.told();
+    log.shows_told();
     Ok(log)
 }
 
@@ -56,22 +68,79 @@ fn open_log<D: Disk + Drop, R: Wait>(
 fn close_log<D: Disk + Drop>(
     store: &Shared<D>,
     seat: &mut Seat<D>,
-    log: Log<D>,
+    log: Box<Log<D>>,
     outcome: Result<(), WriteError>,
 ) -> Result<Seq, TxnError>
-    requires { HoldsWrite store.now seat.old log }
-    ensures gives { GivesWrite store.now seat.old seat.new }
-    ensures answer { result ≡ answer_of outcome (length log.table.history) }
-    ensures log { IsLog log }
+    requires { HoldsWrite store.now seat.old log.value }
+    ensures gives { Given store.now write_turn seat.old seat.new [] [] }
+    ensures answer { result ≡ answer_of outcome (length log.value.table.history) }
+    ensures log { IsLog log.value }
 {
-    log.told();
+    log.shows_told();
     let published = log.published();
-    give_write(store, seat, log);
+    store.give_turn(seat, log);
     match outcome {
         Ok(()) => Ok(published),
         Err(WriteError::Memory) => Err(TxnError::Memory),
         Err(WriteError::LogFault) => Err(TxnError::LogFault),
     }
+}
+
+/// Puts the record into the history, and notes what is to be noted of it.
+fn put_noting<D: Disk + Drop, R: Wait>(
+    store: &Shared<D>,
+    rt: &R,
+    seat: &mut Seat<D>,
+    log: &mut Log<D>,
+    entries: Record,
+    noting: Noting,
+) -> Result<(), WriteError>
+    requires holds { HoldsWrite store.now seat.old log.old }
+    requires running { log.old.table.closed ≡ false }
+    requires may { MayPut seat.old.knows log.old.table.history entries }
+    requires apart { (n : ℕ) → AreApart store.now.cells (ways_of n entries) }
+    requires noting { MayNote noting log.old.table.history entries }
+    ensures { PutsNoting store.now seat.old log.old entries (notes_of noting.entry (length log.new.table.history)) result seat.new log.new }
+{
+    put(store, rt, seat, log, entries)?;
+    match noting {
+        Noting::Nothing => Ok(()),
+        Noting::Undecided(name) => {
+            note_undecided(store, seat, log, name, log.published());
+            Ok(())
+        }
+        Noting::Unprepared(name) => {
+            note_unprepared(store, seat, log, name);
+            Ok(())
+        }
+    }
+}
+
+/// Puts the record into the history, where it may come next, and notes what is to be noted of it. The answer is the number of
+/// its last entry.
+fn record_entries<D: Disk + Drop, R: Wait>(
+    store: &Shared<D>,
+    rt: &R,
+    seat: &mut Seat<D>,
+    entries: Record,
+    noting: Noting,
+) -> Result<Seq, TxnError>
+    requires free { IsFree store.now.table seat.old }
+    requires few { length entries ≤ 2 }
+    requires may { (s : SeatState) (log : LogState) → OpensLog store.now seat.old s log (length entries) → MayPut s.knows log.table.history entries × MayNote noting log.table.history entries }
+    requires apart { (n : ℕ) → AreApart store.now.cells (ways_of n entries) }
+    ensures { Records store.now seat.old entries (notes_of noting.entry) result seat.new }
+{
+    let mut log = open_log(store, rt, seat, entries.len() as Seq)?;
+    let outcome = put_noting(store, rt, seat, &mut log, entries, noting);
+    close_log(store, seat, log, outcome)
+}
+
+/// For the proof alone: they are a batch.
+pub(crate) fn shows_batch(batch: &Batch)
+    ensures { is_batch batch.now ≡ true }
+{
+    batch.changes();
 }
 
 /// Puts a Write entry with these changes into the history, where it may come next. The answer is its number.
@@ -86,29 +155,13 @@ pub(crate) fn record_write<D: Disk + Drop, R: Wait>(
     requires may { (s : SeatState) (log : LogState) → OpensLog store.now seat.old s log 1 → MayPut s.knows log.table.history (Write batch.now ∷ []) }
     ensures { Records store.now seat.old (Write batch.now ∷ []) (λ n. []) result seat.new }
 {
-    let mut log = open_log(store, rt, seat, 1)?;
-    let outcome = wp_records::write(store, rt, alloc, seat, &mut log, batch);
-    close_log(store, seat, log, outcome)
-}
-
-/// Puts the Prepare entry into the history, and notes its number.
-fn put_prepare<D: Disk + Drop, R: Wait>(
-    store: &Shared<D>,
-    rt: &R,
-    alloc: Global,
-    seat: &mut Seat<D>,
-    log: &mut Log<D>,
-    name: &Name,
-    batch: &Batch,
-) -> Result<(), WriteError>
-    requires holds { HoldsWrite store.now seat.old log.old }
-    requires running { log.old.table.closed ≡ false }
-    requires may { MayPut seat.old.knows log.old.table.history (Prepare name.now batch.now ∷ []) }
-    ensures { PutsNoting store.now seat.old log.old (Prepare name.now batch.now ∷ []) (undecided_at name.now (length log.new.table.history) ∷ []) result seat.new log.new }
-{
-    wp_records::prepare(store, rt, alloc, seat, log, name, batch)?;
-    note_undecided(store, seat, log, name, log.published());
-    Ok(())
+    record_entries(
+        store,
+        rt,
+        seat,
+        Record::write(alloc, batch)?,
+        Noting::Nothing,
+    )
 }
 
 /// Puts the Prepare entry of an open transaction into the history. The answer is its number, which is noted.
@@ -123,31 +176,9 @@ pub(crate) fn record_prepare<D: Disk + Drop, R: Wait>(
     requires open { HasOpen seat.old txn.now.name txn.now.batch }
     ensures { Records store.now seat.old (Prepare txn.now.name txn.now.batch ∷ []) (λ n. undecided_at txn.now.name n ∷ []) result seat.new }
 {
-    txn.batch.changes();
-    let mut log = open_log(store, rt, seat, 1)?;
-    let outcome = put_prepare(store, rt, alloc, seat, &mut log, &txn.name, &txn.batch);
-    close_log(store, seat, log, outcome)
-}
-
-/// Puts the Commit entry of the prepare with this name and number into the history, and notes that none has the name now.
-fn put_commit<D: Disk + Drop, R: Wait>(
-    store: &Shared<D>,
-    rt: &R,
-    alloc: Global,
-    seat: &mut Seat<D>,
-    log: &mut Log<D>,
-    name: &Name,
-    number: Seq,
-) -> Result<(), WriteError>
-    requires holds { HoldsWrite store.now seat.old log.old }
-    requires running { log.old.table.closed ≡ false }
-    requires may { MayPut seat.old.knows log.old.table.history (Commit number ∷ []) }
-    requires prepare { named log.old.table.history name.now ≡ Some number }
-    ensures { PutsNoting store.now seat.old log.old (Commit number ∷ []) (unprepared name.now ∷ []) result seat.new log.new }
-{
-    wp_records::commit(store, rt, alloc, seat, log, number)?;
-    note_unprepared(store, seat, log, name);
-    Ok(())
+    shows_batch(&txn.batch);
+    let prepare = Record::prepare(alloc, &txn.name, &txn.batch)?;
+    record_entries(store, rt, seat, prepare, Noting::Undecided(&txn.name))
 }
 
 /// Puts the Commit entry of a prepared transaction into the history. The answer is its number. That no prepare has the name is noted.
@@ -162,32 +193,8 @@ pub(crate) fn record_commit<D: Disk + Drop, R: Wait>(
     requires prepared { HasPrepared seat.old txn.now.name txn.now.number txn.now.batch }
     ensures { Records store.now seat.old (Commit txn.now.number ∷ []) (λ n. unprepared txn.now.name ∷ []) result seat.new }
 {
-    let mut log = open_log(store, rt, seat, 1)?;
-    let outcome = put_commit(store, rt, alloc, seat, &mut log, &txn.name, txn.number);
-    close_log(store, seat, log, outcome)
-}
-
-/// Puts the Undo entry and the Close entry of the prepare with this name and number into the history, and notes that none has
-/// the name now.
-fn put_rollback<D: Disk + Drop, R: Wait>(
-    store: &Shared<D>,
-    rt: &R,
-    alloc: Global,
-    seat: &mut Seat<D>,
-    log: &mut Log<D>,
-    name: &Name,
-    number: Seq,
-    prior: &Batch,
-) -> Result<(), WriteError>
-    requires holds { HoldsWrite store.now seat.old log.old }
-    requires running { log.old.table.closed ≡ false }
-    requires may { MayPut seat.old.knows log.old.table.history (Undo number prior.now ∷ Close number ∷ []) }
-    requires prepare { named log.old.table.history name.now ≡ Some number }
-    ensures { PutsNoting store.now seat.old log.old (Undo number prior.now ∷ Close number ∷ []) (unprepared name.now ∷ []) result seat.new log.new }
-{
-    wp_records::roll_back(store, rt, alloc, seat, log, number, prior)?;
-    note_unprepared(store, seat, log, name);
-    Ok(())
+    let commit = Record::commit(alloc, txn.number)?;
+    record_entries(store, rt, seat, commit, Noting::Unprepared(&txn.name))
 }
 
 /// Puts the Undo entry and the Close entry of a prepared transaction into the history, with what its keys have there. The answer
@@ -206,10 +213,7 @@ pub(crate) fn record_rollback<D: Disk + Drop, R: Wait>(
     ensures { Records store.now seat.old (Undo txn.now.number prior.now ∷ Close txn.now.number ∷ []) (λ n. unprepared txn.now.name ∷ []) result seat.new }
 {
     held_keys_keep_their_values();
-    prior.changes();
-    let mut log = open_log(store, rt, seat, 2)?;
-    let outcome = put_rollback(
-        store, rt, alloc, seat, &mut log, &txn.name, txn.number, prior,
-    );
-    close_log(store, seat, log, outcome)
+    shows_batch(prior);
+    let rollback = Record::roll_back(alloc, txn.number, prior)?;
+    record_entries(store, rt, seat, rollback, Noting::Unprepared(&txn.name))
 }

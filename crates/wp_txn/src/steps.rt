@@ -14,10 +14,11 @@ ghost use Rattle.wp_core.specs.Sound.Actors.{StartsWith};
 ghost use Rattle.wp_core.specs.Tables.{writes, locks};
 ghost use Rattle.wp_core.specs.Views.{unprepared, undecided_at};
 ghost use Rattle.wp_core.specs.World.{World};
+ghost use Rattle.wp_shared.specs.Notes.{with_note, seat_of};
 ghost use Rattle.wp_shared.specs.Seats.{Stands};
 ghost use Rattle.wp_txn.specs.Calls.{WasHistory};
-ghost use Rattle.wp_txn.specs.Actors.{transaction_in, noting, with_claimed, with_found, with_locked, with_direct, with_stopped, with_batch, with_told, with_heard};
-ghost use Rattle.wp_txn.specs.Turns.{seat_of, HoldsLocks, IsWithout, IsWithoutDirect, TakesPrepare};
+ghost use Rattle.wp_txn.specs.Actors.{transaction_in, with_claimed, with_found, with_locked, with_direct, with_stopped, with_batch, with_told, with_heard};
+ghost use Rattle.wp_txn.specs.Turns.{IsWithout, IsWithoutDirect, TakesPrepare};
 ghost use Rattle.wp_txn.specs.Txn.{HasPrepared};
 
 use crate::txn::PreparedTxn;
@@ -44,7 +45,8 @@ pub(crate) fn find_name<D: Disk + Drop>(
     tables: &Locks,
     name: &Name,
 )
-    requires seat { HoldsLocks store.now seat.old tables.now }
+    requires seat { seat.old.table ≡ store.now.table }
+    requires held { IsIn (locks tables.now) seat.old.knows.held }
     requires live { is_some (finite.get tables.now.names name.now) ≡ true }
     ensures { (published : ℕ) × (length seat.old.knows.participant.seen ≤ published) × (seat.new ≡ seat_of seat.old (with_found tables.now published None (Txn name.now) seat.old.knows)) }
 {
@@ -59,7 +61,8 @@ pub(crate) fn find_holder<D: Disk + Drop>(
     key: &Key,
     holder: &Holder,
 )
-    requires seat { HoldsLocks store.now seat.old tables.now }
+    requires seat { seat.old.table ≡ store.now.table }
+    requires held { IsIn (locks tables.now) seat.old.knows.held }
     requires holds { finite.get tables.now.keys key.now ≡ Some holder.now }
     ensures { (published : ℕ) × (length seat.old.knows.participant.seen ≤ published) × (seat.new ≡ seat_of seat.old (with_found tables.now published (Some key.now) holder.now seat.old.knows)) }
 {
@@ -100,7 +103,8 @@ pub(crate) fn free_direct<D: Disk + Drop>(
     tables: &Locks,
     key: &Key,
 )
-    requires seat { HoldsLocks store.now seat.old tables.now }
+    requires seat { seat.old.table ≡ store.now.table }
+    requires held { IsIn (locks tables.now) seat.old.knows.held }
     requires has { seat.old.knows.participant.direct ≡ Some key.now }
     ensures without { IsWithoutDirect seat.old seat.new (without_key tables.now key.now) }
     ensures stands { (w : World) × Stands store.now seat.new w }
@@ -130,7 +134,8 @@ pub(crate) fn free_transaction<D: Disk + Drop>(
     tables: &Locks,
     name: &Name,
 )
-    requires seat { HoldsLocks store.now seat.old tables.now }
+    requires seat { seat.old.table ≡ store.now.table }
+    requires held { IsIn (locks tables.now) seat.old.knows.held }
     requires has { is_some (finite.get seat.old.knows.participant.transactions name.now) ≡ true }
     requires noted { IsIn (unprepared name.now) seat.old.knows.notes }
     ensures without { IsWithout seat.old seat.new (without_transaction tables.now name.now) name.now }
@@ -146,9 +151,10 @@ pub(crate) fn leave_name<D: Disk + Drop>(
     tables: &Locks,
     txn: &PreparedTxn,
 )
-    requires seat { HoldsLocks store.now seat.old tables.now }
+    requires seat { seat.old.table ≡ store.now.table }
+    requires held { IsIn (locks tables.now) seat.old.knows.held }
     requires prepared { HasPrepared seat.old txn.now.name txn.now.number txn.now.batch }
-    ensures seat { IsWithout seat.old seat.new (with_name tables.now txn.now.name None) txn.now.name }
+    ensures without { IsWithout seat.old seat.new (with_name tables.now txn.now.name None) txn.now.name }
     ensures live { is_some (finite.get tables.now.names txn.now.name) ≡ true }
     ensures stands { (w : World) × Stands store.now seat.new w }
 {
@@ -182,7 +188,8 @@ pub(crate) fn hear_label<D: Disk + Drop>(
     label: &Name,
     number: Seq,
 ) -> Seq
-    requires seat { HoldsLocks store.now seat.old tables.now }
+    requires seat { seat.old.table ≡ store.now.table }
+    requires held { IsIn (locks tables.now) seat.old.knows.held }
     requires there { finite.get tables.now.labels label.now ≡ Some number }
     ensures heard { (history : List Entry) × StartsWith history seat.old.knows.participant.seen × (number ≤ length history) × (result ≡ length history)
         × (seat.new ≡ seat_of seat.old (with_heard history label.now number seat.old.knows)) }
@@ -213,7 +220,7 @@ pub(crate) fn note_undecided<D: Disk + Drop>(
     requires held { IsIn (writes log.now.table) seat.old.knows.held }
     requires has { is_some (finite.get seat.old.knows.participant.transactions name.now) ≡ true }
     requires prepare { named log.now.table.history name.now ≡ Some number }
-    ensures { seat.new ≡ seat_of seat.old (noting (undecided_at name.now number) seat.old.knows) }
+    ensures { seat.new ≡ seat_of seat.old (with_note (undecided_at name.now number) seat.old.knows) }
 {
     store.make_about::<Brand, (&Name, Seq)>(seat, &(name, number));
 }
@@ -229,7 +236,7 @@ pub(crate) fn note_unprepared<D: Disk + Drop>(
     requires held { IsIn (writes log.now.table) seat.old.knows.held }
     requires has { is_some (finite.get seat.old.knows.participant.transactions name.now) ≡ true }
     requires none { named log.now.table.history name.now ≡ None }
-    ensures { seat.new ≡ seat_of seat.old (noting (unprepared name.now) seat.old.knows) }
+    ensures { seat.new ≡ seat_of seat.old (with_note (unprepared name.now) seat.old.knows) }
 {
     store.make_about::<Brand, Name>(seat, name);
 }

@@ -1,9 +1,10 @@
 use Rattle.std.proofs.Common.{◌≡◌, ℕ, ◌<◌, ◌≤◌, length, sym, subst, ◌∙◌, arith}
 use Rattle.wp_core.specs.Views.{words_stay}
-use Rattle.wp_rule.specs.Knows.{Noted}
+use Rattle.wp_rule.specs.Knows.{Noted, KnowsPair}
 use Rattle.wp_shared.specs.Seats.{SeatState}
-use Rattle.wp_commits.specs.Bound.{bound_past, raised}
-use Rattle.wp_commits.proofs.Clears.{raised_low, raised_high, past_reaches}
+use Rattle.wp_rule.specs.Bound.{bound_past}
+use Rattle.wp_commits.specs.Bound.{raised}
+use Rattle.wp_commits.proofs.Clears.{raised_low, raised_high}
 use Rattle.wp_commits.proofs.clear.raise_past.Goals as goal
 
 pub returns-then-c-bound-clause-bound : goal.returns-then-c-bound-clause-bound
@@ -15,12 +16,17 @@ returns-then-c-bound-clause-bound g c bound words there =
 
 pub raise-requires-clause-rises : goal.raise-requires-clause-rises
 raise-requires-clause-rises g c =
-    let k = c.requires.words in
-    let is : c.bound-bound.result ≡ k.0 = c.bound-bound.ensures.bound k.0 k.1 k.2 in
+    let k = c.requires.there in let w = c.requires.wanted in
+    let is : c.bound-bound.result ≡ k.bound = c.bound-bound.ensures.bound k.bound k.words k.noted in
     let test = c.if-c-bound.false in
-    let most = past_reaches c.cells.result c.published.result c.args.c in
-    let m = c.bound_past-m.ensures in
-    (k.0, k.1, subst (λ (x : SeatState). Noted x.knows (words_stay k.0 k.1)) (sym c.bound-bound.ensures.same) k.2, omega (arith, is, test, most, m))
+    let high : k.bound < c.args.c = omega (arith, is, test) in
+    record {
+      pair = w.0;
+      pending = w.1;
+      gone = record { number = c.args.p; decision = c.args.c };
+      there = subst (λ (x : SeatState × ℕ). KnowsPair x.0.knows (length c.args.log.now.table.history) x.1 (record { number = c.args.p; decision = c.args.c }) (λ bound. bound < c.args.c)) (λ i. (sym c.bound-bound.ensures.same i, w.2 i)) (k.bound, k.words, k.noted, k.within, k.there, k.published, high);
+      past = c.bound_past-m.ensures ∙ (λ i. bound_past (c.cells.ensures.0 i) (c.published.ensures.value i) c.args.c);
+    }
 
 pub returns-clause-bound : goal.returns-clause-bound
 returns-clause-bound g c bound words there =

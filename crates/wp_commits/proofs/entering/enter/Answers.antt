@@ -1,24 +1,17 @@
-use Rattle.std.proofs.Common.{◌≡◌, ◌≢◌, ℕ, length, Some, subst}
-use Rattle.wp_core.specs.Cache.{cache_place, pair_at, with_pair}
+use Rattle.std.proofs.Common.{length, sym, subst, ◌∙◌}
 use Rattle.wp_core.specs.Views.{words_stay}
 use Rattle.wp_rule.specs.Knows.{Noted}
-use Rattle.wp_commits.specs.Bound.{bound_after}
-use Rattle.wp_commits.specs.Cleared.{IsCleared}
-use Rattle.wp_commits.proofs.Clears.{first_is}
+use Rattle.wp_commits.specs.declared.way.Way.{Way}
+use Rattle.wp_commits.specs.Bound.{bound_with}
+use Rattle.wp_commits.specs.Ways.{with_way, IsElsewhere, IsEntered}
 use Rattle.wp_commits.proofs.entering.enter.Goals as goal
 
-pub returns-clause-words : goal.returns-clause-words
-returns-clause-words g c p others e bound words there =
-    let cells = c.args.store.now.cells in let published = length c.args.log.now.table.history in
-    subst (λ (q : ℕ). Noted c.enter_pair.new.seat.knows (words_stay (bound_after cells published bound (pair_at words (cache_place cells q))) (with_pair words (record { number = q; decision = c.args.c }))))
-    (first_is c.args.cleared.now c.next.new.self others c.in-Some.p p c.in-Some.ensures e) (c.enter_pair.ensures.words bound words there)
+pub returns-in-InWord-clause-words : goal.returns-in-InWord-clause-words
+returns-in-InWord-clause-words g c bound words there =
+    subst (λ (w : Way). Noted c.enter_pair.new.seat.knows (words_stay (bound_with c.args.store.now.cells (length c.args.log.now.table.history) bound words w) (with_way words w))) (sym c.in-InWord.is ∙ c.next_way.ensures) (c.enter_pair.ensures.words bound words there)
 
-pub returns-clause-there : goal.returns-clause-there
-returns-clause-there g c p others e bound words there =
-    subst (λ (q : ℕ). pair_at words (cache_place c.args.store.now.cells q) ≡ Some (record { number = q; decision = c.args.c }))
-    (first_is c.args.cleared.now c.next.new.self others c.in-Some.p p c.in-Some.ensures e) (c.enter_pair.ensures.there bound words there)
+pub returns-in-InWord-clause-there : goal.returns-in-InWord-clause-there
+returns-in-InWord-clause-there g c bound words there = subst (IsEntered c.args.store.now.cells words) (sym c.in-InWord.is ∙ c.next_way.ensures) (c.enter_pair.ensures.there bound words there)
 
-pub returns-clause-elsewhere : goal.returns-clause-elsewhere
-returns-clause-elsewhere g c p others e =
-    subst (λ (q : ℕ). (place : ℕ) → place ≢ cache_place c.args.store.now.cells q → IsCleared c.args.seat.now.knows place → IsCleared c.enter_pair.new.seat.knows place)
-    (first_is c.args.cleared.now c.next.new.self others c.in-Some.p p c.in-Some.ensures e) c.enter_pair.ensures.elsewhere
+pub returns-in-InWord-clause-elsewhere : goal.returns-in-InWord-clause-elsewhere
+returns-in-InWord-clause-elsewhere g c place away ready = c.enter_pair.ensures.elsewhere place (subst (IsElsewhere c.args.store.now.cells place) (sym c.next_way.ensures ∙ c.in-InWord.is) away) ready

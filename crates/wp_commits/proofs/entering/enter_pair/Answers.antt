@@ -1,16 +1,24 @@
-use Rattle.std.proofs.Common.{◌≡◌, ℕ, length, Some, sym, subst, ◌∙◌}
+use Rattle.std.proofs.Common.{◌≡◌, ℕ, length, Some, refl, sym, subst, ◌∙◌, arith}
 use Rattle.wp_core.specs.Cache.{cache_place, pair_at, with_pair}
 use Rattle.wp_core.specs.Views.{words_stay}
 use Rattle.wp_rule.specs.Knows.{Noted}
 use Rattle.wp_commits.specs.Bound.{bound_after}
 use Rattle.wp_commits.specs.Cleared.{IsReadyAt}
 use Rattle.wp_commits.specs.Notes.{is_of_words}
-use Rattle.wp_commits.proofs.Clears.{then_put, still_cleared}
+use Rattle.wp_commits.proofs.Clears.{then_put}
+use Rattle.wp_commits.proofs.Ways.{next_in, keeps_ready, ready_still}
 use Rattle.wp_commits.proofs.entering.enter_pair.Goals as goal
 
 pub clear_again-requires-clause-ready : goal.clear_again-requires-clause-ready
 clear_again-requires-clause-ready g c =
-    subst (IsReadyAt c.args.seat.now.knows (length c.args.log.now.table.history)) (sym c.place_of-place.ensures.place) c.requires.ready.word
+    subst (IsReadyAt c.args.seat.now.knows (length c.args.log.now.table.history)) (sym c.place_of-place.ensures.place) c.requires.ready
+
+pub clear_again-requires-clause-wanted : goal.clear_again-requires-clause-wanted
+clear_again-requires-clause-wanted g c = (
+  record { number = c.args.p; decision = c.args.c },
+  next_in c.args.log.now.table.history c.args.log.now.table.pending (record { number = c.args.p; decision = c.args.c }) c.requires.pending,
+  c.place_of-place.ensures.place,
+)
 
 pub returns-clause-seat : goal.returns-clause-seat
 returns-clause-seat g c =
@@ -27,9 +35,7 @@ returns-clause-there g c bound words there =
     subst (λ (i : ℕ). pair_at words i ≡ Some (record { number = c.args.p; decision = c.args.c })) c.place_of-place.ensures.place (c.put_word.ensures.there bound words there)
 
 pub returns-clause-elsewhere : goal.returns-clause-elsewhere
-returns-clause-elsewhere g c place ne cleared =
+returns-clause-elsewhere g c place ne ready =
     let cells = c.args.store.now.cells in let published = length c.args.log.now.table.history in
-    c.put_word.ensures.elsewhere place (λ e. ne (e ∙ c.place_of-place.ensures.place))
-    (still_cleared is_of_words c.args.seat.now c.clear_again.new.seat _ _ place (λ fact e. e) c.clear_again.ensures.seat
-    (λ bound words there. (bound_after cells published bound (pair_at words c.place_of-place.result), c.clear_again.ensures.bound bound words there))
-    cleared)
+    let keeps = keeps_ready is_of_words c.args.seat.now c.clear_again.new.seat _ _ (λ i pair. (refl, refl, refl)) c.clear_again.ensures.seat (λ bound words there. (bound_after cells published bound (pair_at words c.place_of-place.result), c.clear_again.ensures.bound bound words there)) in
+    c.put_word.ensures.elsewhere published place (λ e. ne (e ∙ c.place_of-place.ensures.place)) (ready_still c.args.seat.now.knows c.clear_again.new.seat.knows cells published published keeps (omega arith) place ready)

@@ -1,11 +1,11 @@
 use Rattle.std.proofs.Common.{inl, refl, sym, subst, ◌∙◌}
-use Rattle.wp_model.specs.PreparedTables.{PreparedTables}
+use Rattle.wp_model.specs.PreparedTables.{PreparedTables, NoneDelayed}
 use Rattle.wp_core.specs.Lists.{IsIn}
-use Rattle.wp_core.specs.Tables.{prepared, NoneDelayed}
+use Rattle.wp_core.specs.Tables.{prepared}
 use Rattle.wp_core.specs.Sound.Views.{IsApart}
-use Rattle.wp_commits.specs.Notes.{is_flag}
+use Rattle.wp_shared.specs.Notes.{is_flag}
 use Rattle.wp_commits.proofs.Delayed.{none_before_commit, apart_now}
-use Rattle.wp_commits.proofs.Goes.{holds_now}
+use Rattle.wp_shared.proofs.Goes.{holds_now}
 use Rattle.wp_commits.proofs.steps.delay.Goals as goal
 
 pub fit_delayed_flag-requires-clause-held : goal.fit_delayed_flag-requires-clause-held

@@ -1,9 +1,9 @@
 use Rattle.std.proofs.Common.{inl, refl, sym, subst, ◌∙◌}
 use Rattle.wp_core.specs.Lists.{IsIn}
 use Rattle.wp_core.specs.Tables.{snapshots}
-use Rattle.wp_commits.specs.Notes.{is_flag}
+use Rattle.wp_shared.specs.Notes.{is_flag}
 use Rattle.wp_commits.proofs.Kept.{none_before_kept, in_old_commits_now}
-use Rattle.wp_commits.proofs.Goes.{holds_now}
+use Rattle.wp_shared.proofs.Goes.{holds_now}
 use Rattle.wp_commits.proofs.steps.keep.Goals as goal
 
 pub fit_old_flag-requires-clause-held : goal.fit_old_flag-requires-clause-held

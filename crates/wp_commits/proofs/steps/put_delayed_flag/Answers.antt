@@ -2,7 +2,7 @@ use Rattle.std.proofs.Common.{Bool, not, ap, ◌∙◌}
 use Rattle.std.specs.Int.{from_bool}
 use Rattle.wp_core.specs.Views.{delayed_flag_stays}
 use Rattle.wp_shared.specs.Seats.{place_at}
-use Rattle.wp_commits.proofs.Turns.{Says, flag_tells, put_delayed, may_put_delayed}
+use Rattle.wp_commits.proofs.Flags.{Says, flag_tells, put_delayed, may_put_delayed}
 use Rattle.wp_commits.proofs.steps.put_delayed_flag.Goals as goal
 
 pub store_delayed_flag-requires-clause-may : goal.store_delayed_flag-requires-clause-may

@@ -2,7 +2,7 @@ use Rattle.std.proofs.Common.{Bool, not, ap, ◌∙◌}
 use Rattle.std.specs.Int.{from_bool}
 use Rattle.wp_core.specs.Views.{old_flag_stays}
 use Rattle.wp_shared.specs.Seats.{place_at}
-use Rattle.wp_commits.proofs.Turns.{Says, flag_tells, put_old, may_put_old}
+use Rattle.wp_commits.proofs.Flags.{Says, flag_tells, put_old, may_put_old}
 use Rattle.wp_commits.proofs.steps.put_old_flag.Goals as goal
 
 pub store_old_flag-requires-clause-may : goal.store_old_flag-requires-clause-may

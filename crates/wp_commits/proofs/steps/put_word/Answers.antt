@@ -5,13 +5,13 @@ use Rattle.wp_commits.proofs.Puts.{next_has_word, may_put, put, words_put, put_t
 use Rattle.wp_commits.proofs.steps.put_word.Goals as goal
 
 pub pack-requires-clause-positive : goal.pack-requires-clause-positive
-pack-requires-clause-positive g c = (next_has_word c.args.log.now.table.history c.args.log.now.table.pending (record { number = c.args.p; decision = c.args.c }) c.told.ensures.log.legal c.requires.pending).positive
+pack-requires-clause-positive g c = (next_has_word c.args.log.now.table.history c.args.log.now.table.pending (record { number = c.args.p; decision = c.args.c }) c.shows_told.ensures.log.legal c.requires.pending).positive
 
 pub pack-requires-clause-ordered : goal.pack-requires-clause-ordered
-pack-requires-clause-ordered g c = (next_has_word c.args.log.now.table.history c.args.log.now.table.pending (record { number = c.args.p; decision = c.args.c }) c.told.ensures.log.legal c.requires.pending).ordered
+pack-requires-clause-ordered g c = (next_has_word c.args.log.now.table.history c.args.log.now.table.pending (record { number = c.args.p; decision = c.args.c }) c.shows_told.ensures.log.legal c.requires.pending).ordered
 
 pub pack-requires-clause-few : goal.pack-requires-clause-few
-pack-requires-clause-few g c = (next_has_word c.args.log.now.table.history c.args.log.now.table.pending (record { number = c.args.p; decision = c.args.c }) c.told.ensures.log.legal c.requires.pending).few
+pack-requires-clause-few g c = (next_has_word c.args.log.now.table.history c.args.log.now.table.pending (record { number = c.args.p; decision = c.args.c }) c.shows_told.ensures.log.legal c.requires.pending).few
 
 pub store_word-requires-clause-pair : goal.store_word-requires-clause-pair
 store_word-requires-clause-pair g c = (

@@ -2,9 +2,9 @@ use Rattle.wp_shared.specs.Seats.{place_at}
 use Rattle.wp_commits.proofs.Delayed.{may_raise, raised, flag_raised, bound_raised}
 use Rattle.wp_commits.proofs.steps.raise_bound.Goals as goal
 
-pub store_max-requires-clause-may : goal.store_max-requires-clause-may
-store_max-requires-clause-may g c = let h = c.requires.held in
-    may_raise (place_at c.args.store.now c.args.seat.now.by) c.args.seat.now c.args.seat.now c.args.log.now.table h.0 c.args.tables.now c.args.m h.1 h.2 c.requires.rises c.requires.published c.requires.flag
+pub store_max-requires-clause-rises : goal.store_max-requires-clause-rises
+store_max-requires-clause-rises g c = let h = c.requires.held in
+    may_raise (place_at c.args.store.now c.args.seat.now.by) c.args.seat.now c.args.seat.now c.args.log.now.table h.0 c.args.tables.now c.args.m h.1 h.2 c.requires.rises c.requires.flag
 
 pub returns-clause-seat : goal.returns-clause-seat
 returns-clause-seat g c = let h = c.requires.held in

@@ -1,17 +1,14 @@
-use Rattle.std.proofs.Common.{true, List, refl, sym, subst, ap, ◌∙◌}
+use Rattle.std.proofs.Common.{true, List, refl, subst, ap, ◌∙◌}
 use Rattle.wp_model.specs.declared.entry.Entry.{Entry}
 use Rattle.wp_core.specs.Tables.{WriteTable}
-use Rattle.wp_core.specs.Views.{versions_nowhere, number_not_in_heap}
-use Rattle.wp_rule.specs.Knows.{Noted}
 use Rattle.wp_parts.specs.Log.{LogState}
-use Rattle.wp_shared.specs.Seats.{SeatState}
 use Rattle.wp_records.specs.Records.{IsNotPut, failing}
-use Rattle.wp_records.proofs.Holding.{holds_as, memory_still, heap_still}
+use Rattle.wp_records.proofs.Holding.{holds_as}
 use Rattle.wp_records.proofs.Puts.{failed_put, fails}
 use Rattle.wp_records.proofs.putting.append.Goals as goal
 
 pub log_pending-requires-clause-held : goal.log_pending-requires-clause-held
-log_pending-requires-clause-held g c = (c.args.log.now.table, c.requires.holds.held, c.requires.unlogged, c.in-Ok.ensures.ok)
+log_pending-requires-clause-held g c = (c.args.log.now.table, c.requires.holds.turn.held, c.requires.unlogged, c.in-Ok.ensures.ok)
 
 pub returns : goal.returns
 returns g c = record {
@@ -21,20 +18,11 @@ returns g c = record {
 }
 
 pub close_log-requires-clause-held : goal.close_log-requires-clause-held
-close_log-requires-clause-held g c = (c.args.log.now.table, c.requires.holds.held, c.requires.unlogged, c.in_default.ensures.err)
+close_log-requires-clause-held g c = (c.args.log.now.table, c.requires.holds.turn.held, c.requires.unlogged, c.in_default.ensures.err)
 
 pub take_back-requires-clause-holds : goal.take_back-requires-clause-holds
 take_back-requires-clause-holds g c =
     holds_as c.args.store.now c.args.seat.now c.close_log.new.seat c.args.log.now c.append.new.self c.requires.holds (failing c.append.new.self.table.failed c.args.seat.now.knows.participant) refl c.close_log.ensures c.append.ensures.first (ap (λ (t : WriteTable). t.history) c.in_default.ensures.err)
-
-pub take_back-requires-clause-memory : goal.take_back-requires-clause-memory
-take_back-requires-clause-memory g c =
-    memory_still c.args.reached c.args.seat.now.knows c.close_log.new.seat.knows (λ there. subst (λ (x : SeatState). Noted x.knows versions_nowhere) (sym c.close_log.ensures) there) c.requires.memory
-
-pub take_back-requires-clause-heap : goal.take_back-requires-clause-heap
-take_back-requires-clause-heap g c =
-    heap_still c.args.reached c.args.seat.now.knows c.close_log.new.seat.knows c.args.log.now.table c.append.new.self.table (λ there. subst (λ (x : SeatState). Noted x.knows number_not_in_heap) (sym c.close_log.ensures) there)
-    (ap (λ (t : WriteTable). t.pending) c.in_default.ensures.err) c.requires.heap
 
 pub returns-in_default : goal.returns-in_default
 returns-in_default g c =

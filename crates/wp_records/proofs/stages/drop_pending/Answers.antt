@@ -4,7 +4,7 @@ use Rattle.wp_records.proofs.Begun.{words_before, dropped_holds, dropped_goes}
 use Rattle.wp_records.proofs.stages.drop_pending.Goals as goal
 
 pub drop_pending-requires-2-clause-held : goal.drop_pending-requires-2-clause-held
-drop_pending-requires-2-clause-held g c = (c.args.log.now.table, c.requires.holds.held, c.requires.unlogged, ap (λ (x : LogState). x.table) c.drop_pending.ensures.table)
+drop_pending-requires-2-clause-held g c = (c.args.log.now.table, c.requires.holds.turn.held, c.requires.unlogged, ap (λ (x : LogState). x.table) c.drop_pending.ensures.table)
 
 pub drop_pending-requires-2-clause-words : goal.drop_pending-requires-2-clause-words
 drop_pending-requires-2-clause-words g c = words_before c.args.store.now c.args.seat.now c.args.seat.now c.args.log.now c.drop_pending.new.self c.requires.holds c.drop_pending.ensures.table

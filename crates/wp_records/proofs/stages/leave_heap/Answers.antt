@@ -1,18 +1,36 @@
-use Rattle.std.proofs.Common.{refl}
+use Rattle.std.proofs.Common.{List, [], ◌∷◌, refl, sym, subst, ap, ◌∙◌}
+use Rattle.wp_core.specs.Tables.{Content, writes, prepared}
+use Rattle.wp_core.specs.Turns.{prepared_turn}
+use Rattle.wp_core.specs.Views.{number_not_in_heap}
+use Rattle.wp_shared.specs.Notes.{GoesOn, DelayedFlagTells}
+use Rattle.wp_shared.proofs.Tables.{knows_to_give}
+use Rattle.wp_commits.proofs.Through.{held_taken, holds_still, goes_through}
 use Rattle.wp_records.specs.Stages.{is_of_number}
+use Rattle.wp_records.proofs.Facts.{number_under_prepared}
 use Rattle.wp_records.proofs.Holding.{still_holds, words_kept}
-use Rattle.wp_records.proofs.Heap.{turns_taken, through_heap}
 use Rattle.wp_records.proofs.stages.leave_heap.Goals as goal
 
-pub give_prepared-requires-clause-turns : goal.give_prepared-requires-clause-turns
-give_prepared-requires-clause-turns g c = (
-  c.args.seat.now.turns,
-  turns_taken c.args.seat.now c.take_prepared-tables.new.seat c.remove_number.new.seat c.args.log.now.table c.take_prepared-tables.result c.remove_number.new.tables c.requires.holds.held c.take_prepared-tables.ensures.seat c.remove_number.ensures.seat,
-)
+pub remove_number-requires-clause-held : goal.remove_number-requires-clause-held
+remove_number-requires-clause-held g c = let z = c.args.store.now in let s = c.args.seat.now in let d = c.args.log.now.table in let t = c.take_turn-tables in held_taken z s t.new.seat s (prepared t.result.value) (prepared t.result.value) (writes d ∷ []) c.requires.holds.turn.held t.ensures.taken ∙ ap (λ x. prepared x ∷ writes d ∷ []) (sym c.deref_mut.ensures.value)
 
-pub returns-in-InHeap-clause-holds : goal.returns-in-InHeap-clause-holds
-returns-in-InHeap-clause-holds g c =
-    let s = c.args.seat.now in let v = c.give_prepared.new.seat in
-    let goes = through_heap s c.take_prepared-tables.new.seat c.remove_number.new.seat c.args.log.now.table c.take_prepared-tables.result c.remove_number.new.tables c.requires.holds.held c.take_prepared-tables.ensures.seat c.remove_number.ensures.seat v
-    c.give_prepared.ensures in
-    still_holds c.args.store.now s v c.args.log.now is_of_number c.requires.holds goes (words_kept is_of_number s v _ _ _ (λ bound words. refl) goes c.requires.holds.words)
+pub remove_number-requires-clause-flag : goal.remove_number-requires-clause-flag
+remove_number-requires-clause-flag g c = let t = c.take_turn-tables in subst (DelayedFlagTells t.new.seat.knows) (sym c.deref_mut.ensures.value) t.ensures.taken.knows
+
+pub give_turn-requires-clause-holds : goal.give_turn-requires-clause-holds
+give_turn-requires-clause-holds g c = let z = c.args.store.now in let s = c.args.seat.now in let d = c.args.log.now.table in let t = c.take_turn-tables in let u = c.remove_number in
+    (writes d ∷ [], s.turns, holds_still z s t.new.seat u.new.seat (prepared t.result.value) (prepared u.new.tables) (writes d ∷ []) c.requires.holds.turn.held t.ensures.taken is_of_number u.ensures.seat refl)
+
+pub give_turn-requires-clause-knows : goal.give_turn-requires-clause-knows
+give_turn-requires-clause-knows g c = let u = c.remove_number in knows_to_give u.new.seat.knows (prepared u.new.tables) u.ensures.flag
+
+pub returns : goal.returns
+returns g c = let z = c.args.store.now in let s = c.args.seat.now in let d = c.args.log.now.table in let t = c.take_turn-tables in let u = c.remove_number in let v = c.give_turn.new.seat in
+    let holds = holds_still z s t.new.seat u.new.seat (prepared t.result.value) (prepared u.new.tables) (writes d ∷ []) c.requires.holds.turn.held t.ensures.taken is_of_number u.ensures.seat refl in
+    let gave = (c.give_turn.ensures (writes d ∷ []) s.turns holds).goes in
+    let goes = goes_through z s t.new.seat u.new.seat (prepared t.result.value) (prepared u.new.tables) (writes d ∷ []) c.requires.holds.turn.held t.ensures.taken is_of_number u.ensures.seat refl prepared_turn v number_under_prepared gave in
+    let all = subst (λ (h : List Content). GoesOn is_of_number h s.turns s v) (sym c.requires.holds.turn.held) goes in
+    record {
+      holds = still_holds z s v c.args.log.now is_of_number c.requires.holds all (words_kept is_of_number s v _ _ _ (λ bound words. refl) all c.requires.holds.words);
+      seat = all;
+      below = gave.noted number_not_in_heap refl u.ensures.below;
+    }

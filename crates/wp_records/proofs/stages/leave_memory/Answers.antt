@@ -1,30 +1,32 @@
-use Rattle.std.proofs.Common.{refl, ap}
+use Rattle.std.proofs.Common.{List, [], ◌∷◌, refl, sym, subst, ap, ◌∙◌}
+use Rattle.wp_core.specs.Tables.{Content, writes, store}
+use Rattle.wp_core.specs.Turns.{store_turn}
 use Rattle.wp_core.specs.Views.{versions_nowhere}
-use Rattle.wp_parts.specs.Stock.{StockState, store_table}
+use Rattle.wp_shared.specs.Notes.{GoesOn}
+use Rattle.wp_parts.specs.Stock.{store_table}
+use Rattle.wp_commits.proofs.Through.{held_taken, holds_still, goes_through}
 use Rattle.wp_records.specs.Stages.{is_of_versions}
+use Rattle.wp_records.proofs.Facts.{versions_under_store}
 use Rattle.wp_records.proofs.Holding.{still_holds, words_kept}
-use Rattle.wp_records.proofs.Stock.{held_taken, turns_taken, through_stock, noted_through, removed}
 use Rattle.wp_records.proofs.stages.leave_memory.Goals as goal
 
-pub take_versions-requires-clause-held : goal.take_versions-requires-clause-held
-take_versions-requires-clause-held g c =
-    removed c.take_stock-stock.new.seat c.args.log.now.table c.take_stock-stock.result c.remove_number.new.self
-    (held_taken c.args.seat.now c.take_stock-stock.new.seat c.args.seat.now c.args.log.now.table (store_table c.take_stock-stock.result) (store_table c.take_stock-stock.result) c.requires.holds.held c.take_stock-stock.ensures.seat)
-    c.args.n c.requires.number (ap (λ (x : StockState). (store_table x).tables) c.remove_number.ensures.parts) (ap (λ (x : StockState). x.floor) c.remove_number.ensures.parts) c.remove_number.ensures.none
+pub remove_versions-requires-clause-held : goal.remove_versions-requires-clause-held
+remove_versions-requires-clause-held g c = let z = c.args.store.now in let s = c.args.seat.now in let d = c.args.log.now.table in let t = c.take_turn-stock in
+    held_taken z s t.new.seat s (store (store_table t.result.value)) (store (store_table t.result.value)) (writes d ∷ []) c.requires.holds.turn.held t.ensures.taken ∙ ap (λ x. store (store_table x) ∷ writes d ∷ []) (sym c.deref_mut.ensures.value)
 
-pub give_stock-requires-clause-turns : goal.give_stock-requires-clause-turns
-give_stock-requires-clause-turns g c = (
-  c.args.seat.now.turns,
-  turns_taken c.args.seat.now c.take_stock-stock.new.seat c.take_versions.new.seat c.args.log.now.table (store_table c.take_stock-stock.result) (store_table c.remove_number.new.self) c.requires.holds.held c.take_stock-stock.ensures.seat c.take_versions.ensures.seat,
-)
+pub give_turn-requires-clause-holds : goal.give_turn-requires-clause-holds
+give_turn-requires-clause-holds g c = let z = c.args.store.now in let s = c.args.seat.now in let d = c.args.log.now.table in let t = c.take_turn-stock in let u = c.remove_versions in
+    (writes d ∷ [], s.turns, holds_still z s t.new.seat u.new.seat (store (store_table t.result.value)) (store (store_table u.new.stock)) (writes d ∷ []) c.requires.holds.turn.held t.ensures.taken is_of_versions u.ensures.seat refl)
 
 pub returns : goal.returns
-returns g c =
-    let s = c.args.seat.now in let t = c.take_stock-stock.new.seat in let u = c.take_versions.new.seat in let v = c.give_stock.new.seat in
-    let d = c.args.log.now.table in let before = store_table c.take_stock-stock.result in let now = store_table c.remove_number.new.self in
-    let goes = through_stock s t u d before now c.requires.holds.held c.take_stock-stock.ensures.seat c.take_versions.ensures.seat v c.give_stock.ensures in
+returns g c = let z = c.args.store.now in let s = c.args.seat.now in let d = c.args.log.now.table in let t = c.take_turn-stock in let u = c.remove_versions in let v = c.give_turn.new.seat in
+    let before = store (store_table t.result.value) in let now = store (store_table u.new.stock) in
+    let holds = holds_still z s t.new.seat u.new.seat before now (writes d ∷ []) c.requires.holds.turn.held t.ensures.taken is_of_versions u.ensures.seat refl in
+    let gave = (c.give_turn.ensures (writes d ∷ []) s.turns holds).goes in
+    let goes = goes_through z s t.new.seat u.new.seat before now (writes d ∷ []) c.requires.holds.turn.held t.ensures.taken is_of_versions u.ensures.seat refl store_turn v versions_under_store gave in
+    let all = subst (λ (h : List Content). GoesOn is_of_versions h s.turns s v) (sym c.requires.holds.turn.held) goes in
     record {
-      holds = still_holds c.args.store.now s v c.args.log.now is_of_versions c.requires.holds goes (words_kept is_of_versions s v _ _ _ (λ bound words. refl) goes c.requires.holds.words);
-      seat = goes;
-      nowhere = noted_through s t u d before now c.requires.holds.held c.take_stock-stock.ensures.seat c.take_versions.ensures.seat v versions_nowhere c.give_stock.ensures c.take_versions.ensures.noted;
+      holds = still_holds z s v c.args.log.now is_of_versions c.requires.holds all (words_kept is_of_versions s v _ _ _ (λ bound words. refl) all c.requires.holds.words);
+      seat = all;
+      nowhere = gave.noted versions_nowhere refl u.ensures.nowhere;
     }

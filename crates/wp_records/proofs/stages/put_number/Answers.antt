@@ -1,35 +1,43 @@
-use Rattle.std.proofs.Common.{refl}
+use Rattle.std.proofs.Common.{◌≡◌, true, List, [], ◌∷◌, refl, sym, subst, ap, ◌∙◌}
+use Rattle.wp_model.specs.History.{is_prepare}
+use Rattle.wp_core.specs.Entries.{next_of}
+use Rattle.wp_core.specs.Tables.{Content, writes, prepared}
+use Rattle.wp_core.specs.Turns.{prepared_turn}
 use Rattle.wp_core.specs.Views.{number_in_heap, number_not_in_heap}
 use Rattle.wp_rule.specs.Knows.{Noted}
+use Rattle.wp_shared.specs.Notes.{GoesOn, DelayedFlagTells}
+use Rattle.wp_shared.proofs.Tables.{knows_to_give}
 use Rattle.wp_commits.proofs.Clears.{on_ok}
+use Rattle.wp_commits.proofs.Through.{held_taken, holds_still, goes_through}
 use Rattle.wp_records.specs.Stages.{is_of_number}
-use Rattle.wp_records.proofs.Facts.{on_err}
+use Rattle.wp_records.proofs.Facts.{number_under_prepared}
 use Rattle.wp_records.proofs.Holding.{still_holds, words_kept}
-use Rattle.wp_records.proofs.Heap.{held_taken, turns_taken, through_heap, noted_through}
 use Rattle.wp_records.proofs.stages.put_number.Goals as goal
 
-pub insert_number-result-requires-clause-held : goal.insert_number-result-requires-clause-held
-insert_number-result-requires-clause-held g c =
-    held_taken c.args.seat.now c.take_prepared-tables.new.seat c.args.seat.now c.args.log.now.table c.take_prepared-tables.result c.take_prepared-tables.result c.requires.holds.held c.take_prepared-tables.ensures.seat
-
 pub insert_number-result-requires-clause-below : goal.insert_number-result-requires-clause-below
-insert_number-result-requires-clause-below g c = c.take_prepared-tables.ensures.seat.noted number_not_in_heap refl c.requires.below
+insert_number-result-requires-clause-below g c = c.take_turn-tables.ensures.taken.goes.noted number_not_in_heap refl c.requires.below
 
-pub give_prepared-requires-clause-turns : goal.give_prepared-requires-clause-turns
-give_prepared-requires-clause-turns g c = (
-  c.args.seat.now.turns,
-  turns_taken c.args.seat.now c.take_prepared-tables.new.seat c.insert_number-result.new.seat c.args.log.now.table c.take_prepared-tables.result c.insert_number-result.new.tables c.requires.holds.held c.take_prepared-tables.ensures.seat c.insert_number-result.ensures.seat,
-)
+pub insert_number-result-requires-clause-held : goal.insert_number-result-requires-clause-held
+insert_number-result-requires-clause-held g c = let z = c.args.store.now in let s = c.args.seat.now in let d = c.args.log.now.table in let t = c.take_turn-tables in held_taken z s t.new.seat s (prepared t.result.value) (prepared t.result.value) (writes d ∷ []) c.requires.holds.turn.held t.ensures.taken ∙ ap (λ x. prepared x ∷ writes d ∷ []) (sym c.deref_mut.ensures.value)
+
+pub insert_number-result-requires-clause-flag : goal.insert_number-result-requires-clause-flag
+insert_number-result-requires-clause-flag g c = let t = c.take_turn-tables in subst (DelayedFlagTells t.new.seat.knows) (sym c.deref_mut.ensures.value) t.ensures.taken.knows
+
+pub give_turn-requires-clause-holds : goal.give_turn-requires-clause-holds
+give_turn-requires-clause-holds g c = let z = c.args.store.now in let s = c.args.seat.now in let d = c.args.log.now.table in let t = c.take_turn-tables in let u = c.insert_number-result in
+    (writes d ∷ [], s.turns, holds_still z s t.new.seat u.new.seat (prepared t.result.value) (prepared u.new.tables) (writes d ∷ []) c.requires.holds.turn.held t.ensures.taken is_of_number u.ensures.seat refl)
+
+pub give_turn-requires-clause-knows : goal.give_turn-requires-clause-knows
+give_turn-requires-clause-knows g c = let u = c.insert_number-result in knows_to_give u.new.seat.knows (prepared u.new.tables) u.ensures.flag
 
 pub returns : goal.returns
-returns g c =
-    let s = c.args.seat.now in let t = c.take_prepared-tables.new.seat in let u = c.insert_number-result.new.seat in let v = c.give_prepared.new.seat in
-    let d = c.args.log.now.table in let before = c.take_prepared-tables.result in let now = c.insert_number-result.new.tables in
-    let goes = through_heap s t u d before now c.requires.holds.held c.take_prepared-tables.ensures.seat c.insert_number-result.ensures.seat v c.give_prepared.ensures in
-    let kept = noted_through s t u d before now c.requires.holds.held c.take_prepared-tables.ensures.seat c.insert_number-result.ensures.seat v in
+returns g c = let z = c.args.store.now in let s = c.args.seat.now in let d = c.args.log.now.table in let t = c.take_turn-tables in let u = c.insert_number-result in let v = c.give_turn.new.seat in
+    let holds = holds_still z s t.new.seat u.new.seat (prepared t.result.value) (prepared u.new.tables) (writes d ∷ []) c.requires.holds.turn.held t.ensures.taken is_of_number u.ensures.seat refl in
+    let gave = (c.give_turn.ensures (writes d ∷ []) s.turns holds).goes in
+    let goes = goes_through z s t.new.seat u.new.seat (prepared t.result.value) (prepared u.new.tables) (writes d ∷ []) c.requires.holds.turn.held t.ensures.taken is_of_number u.ensures.seat refl prepared_turn v number_under_prepared gave in
+    let all = subst (λ (h : List Content). GoesOn is_of_number h s.turns s v) (sym c.requires.holds.turn.held) goes in
     record {
-      holds = still_holds c.args.store.now s v c.args.log.now is_of_number c.requires.holds goes (words_kept is_of_number s v _ _ _ (λ bound words. refl) goes c.requires.holds.words);
-      seat = goes;
-      ok = on_ok c.insert_number-result.result (Noted u.knows number_in_heap) (Noted v.knows number_in_heap) (kept number_in_heap refl c.give_prepared.ensures) c.insert_number-result.ensures.ok;
-      err = on_err c.insert_number-result.result (Noted u.knows number_not_in_heap) (Noted v.knows number_not_in_heap) (kept number_not_in_heap refl c.give_prepared.ensures) c.insert_number-result.ensures.err;
+      holds = still_holds z s v c.args.log.now is_of_number c.requires.holds all (words_kept is_of_number s v _ _ _ (λ bound words. refl) all c.requires.holds.words);
+      seat = all;
+      ok = on_ok u.result (Noted u.new.seat.knows number_in_heap) (is_prepare (next_of d.pending) ≡ true → Noted v.knows number_in_heap) (λ there is. gave.noted number_in_heap refl there) u.ensures.ok;
     }

@@ -1,42 +1,41 @@
-use Rattle.std.proofs.Common.{inl, refl, sym, subst}
+use Rattle.std.proofs.Common.{List, [], ◌∷◌, inl, refl, sym, subst, ap, ◌∙◌}
 use Rattle.wp_core.specs.Lists.{IsIn}
-use Rattle.wp_core.specs.Tables.{writes}
-use Rattle.wp_core.specs.Views.{versions_in_memory, versions_nowhere}
+use Rattle.wp_core.specs.Tables.{Content, writes, store}
+use Rattle.wp_core.specs.Turns.{store_turn}
+use Rattle.wp_core.specs.Sound.Views.{IsNowhere}
+use Rattle.wp_core.specs.Views.{versions_in_memory}
+use Rattle.wp_shared.specs.Notes.{GoesOn}
 use Rattle.wp_rule.specs.Knows.{Noted}
 use Rattle.wp_parts.specs.Stock.{store_table}
 use Rattle.wp_commits.proofs.Clears.{on_ok}
+use Rattle.wp_commits.proofs.Through.{held_taken, holds_still, goes_through}
 use Rattle.wp_records.specs.Stages.{is_of_versions}
+use Rattle.wp_records.proofs.Facts.{versions_under_store}
 use Rattle.wp_records.proofs.Holding.{still_holds, words_kept}
-use Rattle.wp_records.proofs.Facts.{on_err}
-use Rattle.wp_records.proofs.Stock.{held_taken, turns_taken, through_stock, noted_through}
+use Rattle.wp_records.proofs.Stock.{nowhere_there}
 use Rattle.wp_records.proofs.stages.put_versions.Goals as goal
 
 pub insert_versions-result-requires-clause-held : goal.insert_versions-result-requires-clause-held
-insert_versions-result-requires-clause-held g c =
-    held_taken c.args.seat.now c.take_stock-stock.new.seat c.args.seat.now c.args.log.now.table (store_table c.take_stock-stock.result) (store_table c.take_stock-stock.result) c.requires.holds.held c.take_stock-stock.ensures.seat
+insert_versions-result-requires-clause-held g c = let z = c.args.store.now in let s = c.args.seat.now in let d = c.args.log.now.table in let t = c.take_turn-stock in
+    held_taken z s t.new.seat s (store (store_table t.result.value)) (store (store_table t.result.value)) (writes d ∷ []) c.requires.holds.turn.held t.ensures.taken ∙ ap (λ x. store (store_table x) ∷ writes d ∷ []) (sym c.deref_mut.ensures.value)
 
 pub insert_versions-result-requires-clause-nowhere : goal.insert_versions-result-requires-clause-nowhere
-insert_versions-result-requires-clause-nowhere g c = c.take_stock-stock.ensures.nowhere c.args.log.now.table (subst (IsIn (writes c.args.log.now.table)) (sym c.requires.holds.held) (inl refl)) c.requires.nowhere
+insert_versions-result-requires-clause-nowhere g c = let z = c.args.store.now in let s = c.args.seat.now in let d = c.args.log.now.table in let t = c.take_turn-stock in
+    subst (λ x. IsNowhere d (store_table x)) (sym c.deref_mut.ensures.value) (nowhere_there z s t.new.seat (store_table t.result.value) d t.ensures.taken (subst (IsIn (writes d)) (sym c.requires.holds.turn.held) (inl refl)) c.requires.nowhere)
 
-pub insert_versions-result-requires-clause-noted : goal.insert_versions-result-requires-clause-noted
-insert_versions-result-requires-clause-noted g c = c.take_stock-stock.ensures.seat.noted versions_nowhere refl c.requires.nowhere
-
-pub give_stock-requires-clause-turns : goal.give_stock-requires-clause-turns
-give_stock-requires-clause-turns g c = (
-  c.args.seat.now.turns,
-  turns_taken c.args.seat.now c.take_stock-stock.new.seat c.insert_versions-result.new.seat c.args.log.now.table (store_table c.take_stock-stock.result) (store_table c.insert_versions-result.new.stock) c.requires.holds.held c.take_stock-stock.ensures.seat
-      c.insert_versions-result.ensures.seat,
-)
+pub give_turn-requires-clause-holds : goal.give_turn-requires-clause-holds
+give_turn-requires-clause-holds g c = let z = c.args.store.now in let s = c.args.seat.now in let d = c.args.log.now.table in let t = c.take_turn-stock in let u = c.insert_versions-result in
+    (writes d ∷ [], s.turns, holds_still z s t.new.seat u.new.seat (store (store_table t.result.value)) (store (store_table u.new.stock)) (writes d ∷ []) c.requires.holds.turn.held t.ensures.taken is_of_versions u.ensures.seat refl)
 
 pub returns : goal.returns
-returns g c =
-    let s = c.args.seat.now in let t = c.take_stock-stock.new.seat in let u = c.insert_versions-result.new.seat in let v = c.give_stock.new.seat in
-    let d = c.args.log.now.table in let before = store_table c.take_stock-stock.result in let now = store_table c.insert_versions-result.new.stock in
-    let goes = through_stock s t u d before now c.requires.holds.held c.take_stock-stock.ensures.seat c.insert_versions-result.ensures.seat v c.give_stock.ensures in
-    let kept = noted_through s t u d before now c.requires.holds.held c.take_stock-stock.ensures.seat c.insert_versions-result.ensures.seat v in
+returns g c = let z = c.args.store.now in let s = c.args.seat.now in let d = c.args.log.now.table in let t = c.take_turn-stock in let u = c.insert_versions-result in let v = c.give_turn.new.seat in
+    let before = store (store_table t.result.value) in let now = store (store_table u.new.stock) in
+    let holds = holds_still z s t.new.seat u.new.seat before now (writes d ∷ []) c.requires.holds.turn.held t.ensures.taken is_of_versions u.ensures.seat refl in
+    let gave = (c.give_turn.ensures (writes d ∷ []) s.turns holds).goes in
+    let goes = goes_through z s t.new.seat u.new.seat before now (writes d ∷ []) c.requires.holds.turn.held t.ensures.taken is_of_versions u.ensures.seat refl store_turn v versions_under_store gave in
+    let all = subst (λ (h : List Content). GoesOn is_of_versions h s.turns s v) (sym c.requires.holds.turn.held) goes in
     record {
-      holds = still_holds c.args.store.now s v c.args.log.now is_of_versions c.requires.holds goes (words_kept is_of_versions s v _ _ _ (λ bound words. refl) goes c.requires.holds.words);
-      seat = goes;
-      ok = on_ok c.insert_versions-result.result (Noted u.knows versions_in_memory) (Noted v.knows versions_in_memory) (kept versions_in_memory c.give_stock.ensures) c.insert_versions-result.ensures.ok;
-      err = on_err c.insert_versions-result.result (Noted u.knows versions_nowhere) (Noted v.knows versions_nowhere) (kept versions_nowhere c.give_stock.ensures) c.insert_versions-result.ensures.err;
+      holds = still_holds z s v c.args.log.now is_of_versions c.requires.holds all (words_kept is_of_versions s v _ _ _ (λ bound words. refl) all c.requires.holds.words);
+      seat = all;
+      ok = on_ok u.result (Noted u.new.seat.knows versions_in_memory) (Noted v.knows versions_in_memory) (gave.noted versions_in_memory refl) u.ensures.ok;
     }

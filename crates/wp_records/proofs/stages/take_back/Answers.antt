@@ -1,12 +1,8 @@
 use Rattle.std.proofs.Common.{refl}
-use Rattle.wp_core.specs.Views.{versions_nowhere, number_not_in_heap}
+use Rattle.wp_core.specs.Views.{number_not_in_heap}
 use Rattle.wp_records.specs.Stages.{is_guarded, is_of_number, is_of_versions}
 use Rattle.wp_records.proofs.Facts.{and_still, and_with, not_number, not_versions}
-use Rattle.wp_records.proofs.Holding.{memory_still}
 use Rattle.wp_records.proofs.stages.take_back.Goals as goal
-
-pub leave_memory-requires-clause-memory : goal.leave_memory-requires-clause-memory
-leave_memory-requires-clause-memory g c = memory_still c.args.reached c.args.seat.now.knows c.leave_heap.new.seat.knows (c.leave_heap.ensures.seat.noted versions_nowhere refl) c.requires.memory
 
 pub drop_pending-requires-clause-below : goal.drop_pending-requires-clause-below
 drop_pending-requires-clause-below g c = c.leave_memory.ensures.seat.noted number_not_in_heap refl c.leave_heap.ensures.below

@@ -10,7 +10,7 @@ use Rattle.wp_shared.specs.Calls.{Continues}
 use Rattle.wp_txn.specs.declared.error.TxnError.{TxnError}
 use Rattle.wp_txn.specs.Actors.{with_batch}
 use Rattle.wp_txn.specs.Calls.{IsFull, LocksWere, locking, Changes}
-use Rattle.wp_txn.specs.Turns.{seat_of}
+use Rattle.wp_shared.specs.Notes.{seat_of}
 use Rattle.wp_txn.specs.Txn.{OpenState}
 use Rattle.wp_txn.proofs.Adding.{not_changed, locking_has, changed_it}
 use Rattle.wp_txn.proofs.changes.add.Goals as goal
@@ -19,7 +19,7 @@ pub returns-in_err-hold_key : goal.returns-in_err-hold_key
 returns-in_err-hold_key g c = let p = err_from_is_err_and c.from_residual-in_err-hold_key.result c.from_residual-in_err-hold_key.ensures.1 in
     let room = subst (λ (txn : OpenState). IsFull txn.batch (key_of c.args.change) → ⊥) c.txn.view_is (c.in_ok-batch.ensures {u = tt}).0 in
     subst (λ (r : Result (Unit {0}) TxnError). Changes c.args.store.now c.args.seat.now c.args.txn.now c.args.change r c.hold_key.new.seat c.args.txn.now) (sym (p.1 ∙ ap Err p.2))
-    (not_changed c.args.store.now c.args.seat.now c.requires.free c.args.txn.now c.args.key.now c.args.change c.hold_key.new.seat c.in_err-hold_key.field-0.0 room c.requires.key c.requires.open (c.in_err-hold_key.ensures {u = tt}))
+    (not_changed c.args.store.now c.args.seat.now c.args.txn.now c.args.key.now c.args.change c.hold_key.new.seat c.in_err-hold_key.field-0.0 room c.requires.key c.requires.open (c.in_err-hold_key.ensures {u = tt}))
 
 pub set_batch-requires-clause-has : goal.set_batch-requires-clause-has
 set_batch-requires-clause-has g c = let goes = (c.in_ok-hold_key.ensures {u = tt}).0 in let txn = c.args.txn.now in

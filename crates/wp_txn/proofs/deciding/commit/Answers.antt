@@ -2,8 +2,8 @@ use Rattle.std.proofs.Common.{[], ◌∷◌, inl, refl}
 use Rattle.wp_model.specs.declared.entry.Entry.TheVariants.{Commit}
 use Rattle.wp_core.specs.Views.{unprepared}
 use Rattle.wp_txn.specs.Writes.{AsksCommit}
+use Rattle.wp_shared.proofs.Onward.{continues_none}
 use Rattle.wp_txn.proofs.Ends.{ended, has_until, there_before, commit_is_of, commit_decides, refuses_prepared}
-use Rattle.wp_txn.proofs.GoesOn.{stays}
 use Rattle.wp_txn.proofs.deciding.commit.Goals as goal
 
 pub end-requires-clause-free : goal.end-requires-clause-free
@@ -12,7 +12,7 @@ end-requires-clause-free g c = (c.in-Ok.ensures {u = tt}).1.1.put.goes_on.free
 pub end-requires-clause-has : goal.end-requires-clause-has
 end-requires-clause-has g c =
     let z = c.args.store.now in let s = c.args.seat.now in let x = c.args.txn in let r = c.in-Ok.ensures {u = tt} in let h = c.requires.prepared in
-    has_until z s s c.record_commit.new.seat s x.name (Commit x.number ∷ []) (λ n. unprepared x.name ∷ []) c.in-Ok.number (stays z s c.requires.free) r (commit_is_of z s c.record_commit.new.seat x.name x.number x.batch h (λ n. unprepared x.name ∷ []) c.in-Ok.number r)
+    has_until z s s c.record_commit.new.seat s x.name (Commit x.number ∷ []) (λ n. unprepared x.name ∷ []) c.in-Ok.number (continues_none z s c.requires.free) r (commit_is_of z s c.record_commit.new.seat x.name x.number x.batch h (λ n. unprepared x.name ∷ []) c.in-Ok.number r)
     (there_before z s s x.name x.number x.batch h)
 
 pub end-requires-clause-noted : goal.end-requires-clause-noted
@@ -25,7 +25,7 @@ end-requires-clause-decided g c =
 pub returns-in-Ok-clause-ok : goal.returns-in-Ok-clause-ok
 returns-in-Ok-clause-ok g c =
     let z = c.args.store.now in let s = c.args.seat.now in let x = c.args.txn in let r = c.in-Ok.ensures {u = tt} in (
-      ended z s s c.record_commit.new.seat c.end.new.seat x.name (Commit x.number ∷ []) (λ n. unprepared x.name ∷ []) c.in-Ok.number (stays z s c.requires.free) r (commit_is_of z s c.record_commit.new.seat x.name x.number x.batch c.requires.prepared (λ n. unprepared x.name ∷ []) c.in-Ok.number r) c.end.ensures.frees,
+      ended z s s c.record_commit.new.seat c.end.new.seat x.name (Commit x.number ∷ []) (λ n. unprepared x.name ∷ []) c.in-Ok.number (continues_none z s c.requires.free) r (commit_is_of z s c.record_commit.new.seat x.name x.number x.batch c.requires.prepared (λ n. unprepared x.name ∷ []) c.in-Ok.number r) c.end.ensures.frees,
       c.end.ensures.gone,
     )
 

@@ -1,15 +1,26 @@
-use Rattle.wp_txn.proofs.Freed.{free_name}
-use Rattle.wp_txn.proofs.GoesOn.{freed_holds, freed}
+use Rattle.std.proofs.Common.{[], sym, ap, ◌∙◌}
+use Rattle.std.specs.FinMap as finite
+use Rattle.wp_model.specs.LockTables.{LockTables}
+use Rattle.wp_core.specs.Changes.{without_transaction}
+use Rattle.wp_shared.proofs.Onward.{holds_alone}
+use Rattle.wp_txn.proofs.Freed.{freed_tables, free_name}
+use Rattle.wp_txn.proofs.GoesOn.{lent_as, held_last, without_holds, freed}
 use Rattle.wp_txn.proofs.locking.free.Goals as goal
 
-pub give_locks-requires : goal.give_locks-requires
-give_locks-requires g c =
-    freed_holds c.args.store.now c.args.seat.now c.requires.free c.take_locks-tables.result _ c.take_locks-tables.ensures.seat c.args.name c.free_name.new.self c.unlock_all.new.self c.free_transaction.new.seat
-    c.free_transaction.ensures.without c.free_name.ensures c.unlock_all.ensures.keys c.unlock_all.ensures.others
+pub free_transaction-requires-clause-held : goal.free_transaction-requires-clause-held
+free_transaction-requires-clause-held g c = held_last (holds_alone c.requires.free (lent_as c.deref.ensures c.take_turn-tables.ensures.taken))
+
+pub give_turn-requires-clause-holds : goal.give_turn-requires-clause-holds
+give_turn-requires-clause-holds g c =
+    let t = c.deref.result.now in let l = c.deref_mut-2.result.now in let m = c.unlock_all.new.self in let name = c.args.name in
+    let named = c.deref_mut-2.ensures.value ∙ c.free_name.ensures ∙ ap (λ (x : LockTables). record x { names = finite.remove x.names name }) (c.deref_mut.ensures.value ∙ sym c.deref.ensures) in
+    let are = freed_tables t l m name named c.unlock_all.ensures.keys c.unlock_all.ensures.others in
+    ([], [], without_holds c.args.store.now c.args.seat.now t _ (lent_as c.deref.ensures c.take_turn-tables.ensures.taken) c.requires.free (without_transaction t name) m name c.free_transaction.new.seat c.free_transaction.ensures.without are)
 
 pub returns : goal.returns
 returns g c =
-    let t = c.take_locks-tables.result in let l = c.free_name.new.self in let m = c.unlock_all.new.self in let r = c.free_transaction.new.seat in
-    let held = freed_holds c.args.store.now c.args.seat.now c.requires.free t _ c.take_locks-tables.ensures.seat c.args.name l m r c.free_transaction.ensures.without c.free_name.ensures c.unlock_all.ensures.keys c.unlock_all.ensures.others in
-    freed c.args.store.now c.args.seat.now c.requires.free t _ c.take_locks-tables.ensures.seat _ c.args.name _ m r c.free_transaction.ensures.without c.free_transaction.ensures.stands held.held
-    (free_name t l m c.args.name c.free_name.ensures c.unlock_all.ensures.keys c.unlock_all.ensures.others) c.give_locks.ensures
+    let z = c.args.store.now in let old = c.args.seat.now in let t = c.deref.result.now in let k = lent_as c.deref.ensures c.take_turn-tables.ensures.taken in let name = c.args.name in
+    let l = c.deref_mut-2.result.now in let m = c.unlock_all.new.self in let r = c.free_transaction.new.seat in let without = c.free_transaction.ensures.without in
+    let named = c.deref_mut-2.ensures.value ∙ c.free_name.ensures ∙ ap (λ (x : LockTables). record x { names = finite.remove x.names name }) (c.deref_mut.ensures.value ∙ sym c.deref.ensures) in
+    let held = without_holds z old t _ k c.requires.free (without_transaction t name) m name r without (freed_tables t l m name named c.unlock_all.ensures.keys c.unlock_all.ensures.others) in
+    freed z old t _ k name _ m r c.give_turn.new.seat without c.free_transaction.ensures.stands held (free_name t l m name named c.unlock_all.ensures.keys c.unlock_all.ensures.others) (c.give_turn.ensures [] [] held)

@@ -1,17 +1,18 @@
-use Rattle.std.proofs.Common.{[], ◌∷◌, inl, refl, subst, sym, ap, arith}
+use Rattle.std.proofs.Common.{[], ◌∷◌, refl, subst, sym, ap, arith}
 use Rattle.std.specs.Prelude.{is_some}
 use Rattle.wp_model.specs.declared.entry.Entry.TheVariants.{Write}
 use Rattle.wp_core.specs.Views.{unprepared}
 use Rattle.wp_txn.specs.Txn.{OpenState, HasOpen}
 use Rattle.wp_txn.specs.Writes.{CommitsNow, RefusesOpen}
+use Rattle.wp_shared.proofs.Onward.{continues_none}
 use Rattle.wp_txn.proofs.Ends.{ended, has_until, noted_until, refuses_open}
-use Rattle.wp_txn.proofs.GoesOn.{stays}
+use Rattle.wp_txn.proofs.DirectWrites.{none_about}
 use Rattle.wp_txn.proofs.MayPut.{may_write_open}
 use Rattle.wp_txn.proofs.preparing.commit_now.Goals as goal
 
 pub record_write-requires-clause-may : goal.record_write-requires-clause-may
 record_write-requires-clause-may g c s log o =
-    may_write_open c.args.store.now c.args.seat.now s log 1 o c.txn.inside.name c.txn.inside.batch (subst (λ (y : OpenState). HasOpen c.args.seat.now y.name y.batch) (sym c.txn.view_is) c.requires.open) c.changes.ensures.batch (omega arith)
+    may_write_open c.args.store.now c.args.seat.now s log 1 o c.txn.inside.name c.txn.inside.batch (subst (λ (y : OpenState). HasOpen c.args.seat.now y.name y.batch) (sym c.txn.view_is) c.requires.open) c.shows_batch.ensures (omega arith)
 
 pub free-requires-clause-free : goal.free-requires-clause-free
 free-requires-clause-free g c = (c.in-Ok.ensures {u = tt}).1.1.put.goes_on.free
@@ -19,7 +20,7 @@ free-requires-clause-free g c = (c.in-Ok.ensures {u = tt}).1.1.put.goes_on.free
 pub free-requires-clause-has : goal.free-requires-clause-has
 free-requires-clause-has g c =
     let z = c.args.store.now in let s = c.args.seat.now in let h = subst (λ (y : OpenState). HasOpen s y.name y.batch) (sym c.txn.view_is) c.requires.open in
-    has_until z s s c.record_write.new.seat s c.txn.inside.name (Write c.txn.inside.batch ∷ []) (λ n. []) c.in-Ok.number (stays z s c.requires.free) (c.in-Ok.ensures {u = tt}) (inl refl) (ap is_some h.has)
+    has_until z s s c.record_write.new.seat s c.txn.inside.name (Write c.txn.inside.batch ∷ []) (λ n. []) c.in-Ok.number (continues_none z s c.requires.free) (c.in-Ok.ensures {u = tt}) (λ fact apart. (none_about fact, tt)) (ap is_some h.has)
 
 pub free-requires-clause-noted : goal.free-requires-clause-noted
 free-requires-clause-noted g c =
@@ -30,7 +31,7 @@ pub returns-in-Ok-clause-ok : goal.returns-in-Ok-clause-ok
 returns-in-Ok-clause-ok g c =
     let z = c.args.store.now in let s = c.args.seat.now in let n = c.in-Ok.number in
     subst (λ (y : OpenState). CommitsNow z s y n c.free.new.seat) c.txn.view_is
-    (ended z s s c.record_write.new.seat c.free.new.seat c.txn.inside.name (Write c.txn.inside.batch ∷ []) (λ n. []) n (stays z s c.requires.free) (c.in-Ok.ensures {u = tt}) (inl refl) c.free.ensures)
+    (ended z s s c.record_write.new.seat c.free.new.seat c.txn.inside.name (Write c.txn.inside.batch ∷ []) (λ n. []) n (continues_none z s c.requires.free) (c.in-Ok.ensures {u = tt}) (λ fact apart. (none_about fact, tt)) c.free.ensures)
 
 pub returns-in-Err-clause-refused : goal.returns-in-Err-clause-refused
 returns-in-Err-clause-refused g c =

@@ -1,23 +1,41 @@
-use Rattle.std.proofs.Common.{ℕ, ◌+◌, ◌≤◌, ◌<◌, sym, subst, ◌∙◌}
+use Rattle.std.proofs.Common.{ℕ, ◌+◌, ◌≤◌, ◌<◌, [], length, sym, subst, ap, ◌∙◌}
 use Rattle.std.specs.Prelude.{◌^◌}
-use Rattle.wp_txn.proofs.UnderLog.{stopped_back, holds_still, full_back, opened}
+use Rattle.wp_parts.specs.Log.{LogState, IsLog}
+use Rattle.wp_shared.specs.Notes.{seat_of}
+use Rattle.wp_txn.specs.Actors.{with_stopped}
+use Rattle.wp_txn.proofs.UnderLog.{alone, alone_still, stopped_back, full_back, opened}
 use Rattle.wp_txn.proofs.recording.open_log.Goals as goal
+
+pub give_turn-requires-clause-holds : goal.give_turn-requires-clause-holds
+give_turn-requires-clause-holds g c =
+    let s = c.take_log-log.new.seat in
+    let number = c.published-published.ensures.value ∙ ap (λ (x : LogState). length x.table.history) c.deref.ensures in
+    let found = c.find_log_closed.ensures ∙ ap (λ (x : LogState). seat_of s (with_stopped (length x.table.history) s.knows)) c.deref-then-is_closed.ensures in
+    ([], [], alone_still _ _ _ _ c.take_log-log.ensures c.find_log_closed.new.seat c.find_log_closed.new.seat c.published-published.result found number c.requires.free)
 
 pub returns-then-is_closed-clause-refused : goal.returns-then-is_closed-clause-refused
 returns-then-is_closed-clause-refused g c =
-    stopped_back c.args.store.now c.args.seat.now c.take_write-log.new.seat c.take_write-log.result c.take_write-log.ensures c.find_log_closed.new.seat c.give_write.new.seat c.published-published.result c.find_log_closed.ensures
-    c.published-published.ensures.value c.args.needed (λ asked. ⊥) (sym c.is_closed.ensures ∙ c.if-is_closed.true) c.give_write.ensures
+    let s = c.take_log-log.new.seat in let t = c.find_log_closed.new.seat in let p = c.published-published in
+    let number = p.ensures.value ∙ ap (λ (x : LogState). length x.table.history) c.deref.ensures in
+    let found = c.find_log_closed.ensures ∙ ap (λ (x : LogState). seat_of s (with_stopped (length x.table.history) s.knows)) c.deref-then-is_closed.ensures in
+    let closed = ap (λ (x : LogState). x.table.closed) (sym c.deref-2.ensures) ∙ sym c.is_closed.ensures ∙ c.if-is_closed.true in
+    stopped_back _ _ _ _ c.take_log-log.ensures t c.give_turn.new.seat p.result found number c.args.needed (λ asked. ⊥) closed (c.give_turn.ensures [] [] (alone_still _ _ _ _ c.take_log-log.ensures t t p.result found number c.requires.free))
 
-pub give_write-requires-then-published-needed : goal.give_write-requires-then-published-needed
-give_write-requires-then-published-needed g c = let p = c.published-published-2 in
-    holds_still c.args.store.now c.args.seat.now c.take_write-log.new.seat c.take_write-log.result c.take_write-log.ensures p.new.seat p.result p.ensures.same p.ensures.stands p.ensures.rest
+pub give_turn-requires-then-published-needed-clause-holds : goal.give_turn-requires-then-published-needed-clause-holds
+give_turn-requires-then-published-needed-clause-holds g c = ([], [], alone _ _ _ _ c.take_log-log.ensures c.requires.free)
 
 pub returns-then-published-needed-clause-refused : goal.returns-then-published-needed-clause-refused
-returns-then-published-needed-clause-refused g c = let p = c.published-published-2 in
-    full_back c.args.store.now c.args.seat.now c.take_write-log.new.seat c.take_write-log.result c.take_write-log.ensures p.new.seat p.result p.ensures.same p.ensures.stands p.ensures.rest c.give_write-then-published-needed.new.seat c.args.needed
-    c.limit-limit.result (λ asked. ⊥) (sym c.is_closed.ensures ∙ c.if-is_closed.false) p.ensures.seen.1 c.limit-limit.ensures.0 c.if-published-needed.true c.give_write-then-published-needed.ensures
+returns-then-published-needed-clause-refused g c =
+    let p = c.published-published in
+    let number = p.ensures.value ∙ ap (λ (x : LogState). length x.table.history) c.deref.ensures in
+    let running = ap (λ (x : LogState). x.table.closed) (sym c.deref-2.ensures) ∙ sym c.is_closed.ensures ∙ c.if-is_closed.false in
+    full_back _ _ _ _ c.take_log-log.ensures c.give_turn-then-published-needed.new.seat c.args.needed p.result c.limit-limit.result (λ asked. ⊥) running number c.limit-limit.ensures.0 c.if-published-needed.true
+    (c.give_turn-then-published-needed.ensures [] [] (alone _ _ _ _ c.take_log-log.ensures c.requires.free))
 
 pub returns-clause-ok : goal.returns-clause-ok
-returns-clause-ok g c = let p = c.published-published-2 in
-    opened c.args.store.now c.args.seat.now c.take_write-log.new.seat c.take_write-log.result c.take_write-log.ensures p.new.seat p.result p.ensures.same p.ensures.stands p.ensures.rest c.args.needed (sym c.is_closed.ensures ∙ c.if-is_closed.false)
-    p.ensures.seen.1 (subst (λ (n : ℕ). p.result + c.args.needed ≤ n) c.limit-limit.ensures.0 c.if-published-needed.false) (subst (λ (n : ℕ). n < 2 ^ 32) c.limit-limit.ensures.0 c.limit-limit.ensures.2) c.told.ensures.log
+returns-clause-ok g c =
+    let p = c.published-published in
+    let number = p.ensures.value ∙ ap (λ (x : LogState). length x.table.history) c.deref.ensures in
+    let running = ap (λ (x : LogState). x.table.closed) (sym c.deref-2.ensures) ∙ sym c.is_closed.ensures ∙ c.if-is_closed.false in
+    opened _ _ _ _ c.take_log-log.ensures c.requires.free c.args.needed p.result running number (subst (λ (n : ℕ). p.result + c.args.needed ≤ n) c.limit-limit.ensures.0 c.if-published-needed.false)
+    (subst (λ (n : ℕ). n < 2 ^ 32) c.limit-limit.ensures.0 c.limit-limit.ensures.2) (subst IsLog c.deref-3.ensures c.shows_told.ensures.log)

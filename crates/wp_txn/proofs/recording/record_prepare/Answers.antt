@@ -1,34 +1,34 @@
-use Rattle.std.proofs.Common.{◌≡◌, ℕ, [], ◌∷◌, length, refl, subst, sym, ap, ◌∙◌, Err, arith}
-use Rattle.std.specs.Prelude.{Result}
-use Rattle.std.proofs.lemmas.Result.{err_from_is_err_and}
+use Rattle.std.proofs.Common.{◌≡◌, ◌≤◌, ℕ, List, [], ◌∷◌, length, refl, subst, sym, arith}
+use Rattle.wp_model.specs.declared.entry.Entry.{Entry}
 use Rattle.wp_model.specs.declared.entry.Entry.TheVariants.{Prepare}
+use Rattle.wp_model.specs.declared.change.Change.{Change}
 use Rattle.wp_core.specs.Views.{undecided_at}
-use Rattle.wp_txn.specs.declared.error.TxnError.{TxnError}
-use Rattle.wp_txn.specs.Recording.{Records, answer_of}
+use Rattle.wp_commits.specs.Ways.{ways_of, AreApart}
+use Rattle.wp_parts.specs.Log.{LogState}
+use Rattle.wp_records.specs.Records.{MayPut}
+use Rattle.wp_shared.specs.Seats.{SeatState}
+use Rattle.wp_txn.specs.Recording.{OpensLog, Records}
 use Rattle.wp_txn.specs.Txn.{OpenState, HasOpen}
 use Rattle.wp_txn.proofs.MayPut.{may_prepare}
-use Rattle.wp_txn.proofs.Goes.{refused_for}
-use Rattle.wp_txn.proofs.UnderLog.{recorded, holds_then, about_one}
+use Rattle.wp_txn.proofs.UnderLog.{one_apart}
 use Rattle.wp_txn.proofs.recording.record_prepare.Goals as goal
 
-pub returns-in_err-log : goal.returns-in_err-log
-returns-in_err-log g c = let p = err_from_is_err_and c.from_residual.result c.from_residual.ensures.1 in
-    subst (λ (r : Result ℕ TxnError). Records c.args.store.now c.args.seat.now (Prepare c.args.txn.now.name c.args.txn.now.batch ∷ []) (λ n. undecided_at c.args.txn.now.name n ∷ []) r c.open_log.new.seat) (sym (p.1 ∙ ap Err p.2)) (refused_for _ _ _ _ (λ asked. asked ≡ Prepare c.args.txn.now.name c.args.txn.now.batch ∷ []) _ _ _ c.in_err-log.ensures.refused)
+pub record_entries-requires-clause-few : goal.record_entries-requires-clause-few
+record_entries-requires-clause-few g c = subst (λ (es : List Entry). length es ≤ 2) (sym (c.in_ok-prepare.ensures {u = tt})) (omega arith)
 
-pub put_prepare-outcome-requires-clause-may : goal.put_prepare-outcome-requires-clause-may
-put_prepare-outcome-requires-clause-may g c =
-    let x = c.txn.inside in let h = subst (λ (t : OpenState). HasOpen c.args.seat.now t.name t.batch) (sym c.txn.view_is) c.requires.open in
-    may_prepare c.args.store.now c.args.seat.now c.open_log.new.seat c.in_ok-log.log 1 c.in_ok-log.ensures.ok x.name x.batch h c.changes.ensures.batch (omega arith)
+pub record_entries-requires-clause-may : goal.record_entries-requires-clause-may
+record_entries-requires-clause-may g c =
+    let z = c.args.store.now in let old = c.args.seat.now in let x = c.txn.inside in
+    let h = subst (λ (t : OpenState). HasOpen old t.name t.batch) (sym c.txn.view_is) c.requires.open in
+    subst (λ (es : List Entry). (s : SeatState) (log : LogState) → OpensLog z old s log (length es) → MayPut s.knows log.table.history es × ((batch : List Change) × (es ≡ Prepare x.name batch ∷ []))) (sym (c.in_ok-prepare.ensures {u = tt}))
+    (λ s log o. (may_prepare z old s log 1 o x.name x.batch h c.shows_batch.ensures (omega arith), (x.batch, refl)))
+
+pub record_entries-requires-clause-apart : goal.record_entries-requires-clause-apart
+record_entries-requires-clause-apart g c = let x = c.txn.inside in
+    subst (λ (es : List Entry). (n : ℕ) → AreApart c.args.store.now.cells (ways_of n es)) (sym (c.in_ok-prepare.ensures {u = tt})) (λ n. one_apart c.args.store.now.cells n (Prepare x.name x.batch))
 
 pub returns : goal.returns
 returns g c =
-    let o = c.in_ok-log.ensures.ok in let txn : OpenState = record { name = c.txn.inside.name; batch = c.txn.inside.batch } in
-    let h = subst (λ (t : OpenState). HasOpen c.args.seat.now t.name t.batch) (sym c.txn.view_is) c.requires.open in
-    let Answers : OpenState → Result ℕ TxnError → Type 0 = λ t r. Records c.args.store.now c.args.seat.now (Prepare t.name t.batch ∷ []) (λ n. undecided_at t.name n ∷ []) r c.close_log.new.seat in
-    subst (Answers c.args.txn.now) (sym c.close_log.ensures.answer) (subst (λ (t : OpenState). Answers t (answer_of c.put_prepare-outcome.result (length c.put_prepare-outcome.new.log.table.history))) c.txn.view_is
-    (recorded c.args.store.now c.args.seat.now c.open_log.new.seat c.put_prepare-outcome.new.seat c.close_log.new.seat c.in_ok-log.log c.put_prepare-outcome.new.log (Prepare txn.name txn.batch ∷ []) (λ n. undecided_at txn.name n ∷ []) o
-    (may_prepare c.args.store.now c.args.seat.now c.open_log.new.seat c.in_ok-log.log 1 o txn.name txn.batch h c.changes.ensures.batch (omega arith)).legal (λ n. about_one (undecided_at txn.name n) refl) c.close_log.ensures.gives c.close_log.ensures.log
-    c.put_prepare-outcome.result c.put_prepare-outcome.ensures))
-
-pub close_log-requires : goal.close_log-requires
-close_log-requires g c = holds_then c.args.store.now c.open_log.new.seat c.put_prepare-outcome.new.seat c.in_ok-log.log c.put_prepare-outcome.new.log (Prepare c.txn.inside.name c.txn.inside.batch ∷ []) (undecided_at c.txn.inside.name _ ∷ []) c.put_prepare-outcome.result c.put_prepare-outcome.ensures
+    let z = c.args.store.now in let old = c.args.seat.now in let x = c.txn.inside in let done = c.record_entries in
+    subst (λ (t : OpenState). Records z old (Prepare t.name t.batch ∷ []) (λ n. undecided_at t.name n ∷ []) done.result done.new.seat) c.txn.view_is
+    (subst (λ (es : List Entry). Records z old es (λ n. undecided_at x.name n ∷ []) done.result done.new.seat) (c.in_ok-prepare.ensures {u = tt}) done.ensures)

@@ -1,8 +1,7 @@
 use Rattle.wp_core.specs.Views.{unprepared}
-use Rattle.wp_shared.proofs.OneStep.{becomes}
+use Rattle.wp_shared.proofs.Noting.{may_note, noted}
 use Rattle.wp_txn.specs.Actors.{transaction_in}
 use Rattle.wp_txn.proofs.Made.{has_its}
-use Rattle.wp_txn.proofs.UnderLog.{may_note, noted_it}
 use Rattle.wp_txn.proofs.steps.note_unprepared.Goals as goal
 
 pub make_about-requires-clause-may : goal.make_about-requires-clause-may
@@ -11,4 +10,4 @@ make_about-requires-clause-may g c =
     may_note _ a (unprepared c.args.name.now) c.requires.seat.1 (record { table = c.args.log.now.table; held = c.requires.held; so_is = ((transaction_in a.participant name, has_its a name c.requires.has), c.requires.none) })
 
 pub returns : goal.returns
-returns g c = becomes c.args.seat.now c.make_about.new.seat _ c.make_about.ensures.same (noted_it _ _ _ _ (unprepared c.args.name.now) c.make_about.ensures.moved)
+returns g c = noted _ _ (unprepared c.args.name.now) _ _ c.make_about.ensures.same c.make_about.ensures.moved

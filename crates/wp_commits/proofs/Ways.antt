@@ -1,0 +1,131 @@
+-- What is ready for pairs to come stays so, and the ways of a record one after another.
+use Rattle.std.proofs.Common.{◌≡◌, ◌≢◌, inl, inr, ℕ, zero, suc, ◌+◌, ◌≤◌, Bool, false, List, [], ◌∷◌, ◌++◌, length, take, drop, append_assoc, refl, sym, subst, ap, ◌∙◌, Option, Some, None, arith}
+use Rattle.std.specs.Prelude.{slice_get}
+use Rattle.std.proofs.lemmas.List.{take-append-drop}
+use Rattle.std.specs.List.{cons_option}
+use Rattle.std.proofs.lemmas.Bool.{cases_eq}
+use Rattle.wp_model.specs.declared.entry.Entry.{Entry}
+use Rattle.wp_judge.specs.Words.{CommitPair}
+use Rattle.wp_core.specs.Cache.{cache_place}
+use Rattle.wp_core.specs.Entries.{pair_by, pending_pair, pairs_of}
+use Rattle.wp_core.specs.Lists.{IsIn}
+use Rattle.wp_core.specs.Tables.{Content}
+use Rattle.wp_core.specs.Views.{Fact, passed, in_old_commits, apart, words_stay}
+use Rattle.wp_core.specs.World.{Actor}
+use Rattle.wp_core.proofs.Tests.{same_some, none_some}
+use Rattle.wp_rule.specs.Knows.{Noted}
+use Rattle.wp_shared.specs.Seats.{SeatState}
+use Rattle.wp_commits.specs.declared.way.Way.{Way}
+use Rattle.wp_commits.specs.declared.way.Way.TheVariants.{Undecided, InWord}
+use Rattle.wp_commits.specs.Bound.{bound_with, bound_for}
+use Rattle.wp_commits.specs.Cleared.{MayGoFrom, IsReadyAt}
+use Rattle.wp_shared.specs.Notes.{GoesOn}
+use Rattle.wp_commits.specs.Ways.{way_of, ways_of, IsInWord, IsReadyFor, AreReady, IsElsewhere, AreElsewhere, MayPrecede}
+
+-- ---- what is ready stays so
+
+-- what was noted of words and of the pairs that may go, it has noted still, but that the bound may be another one
+pub record KeepsReady (a b : Actor) : Type 0 where
+  pub words : (bound : ℕ) (words : List ℕ) → Noted a (words_stay bound words) → (later : ℕ) × Noted b (words_stay later words)
+  pub gone : (place : ℕ) (pair : CommitPair) → MayGoFrom a place pair → MayGoFrom b place pair
+
+-- a seat that goes on, where the test is about no pair of a word
+pub keeps_ready : (test : Fact → Bool) (s t : SeatState) (h : List Content) (m : List ℕ) → ((place : ℕ) (pair : CommitPair) → (test (passed place pair) ≡ false) × (test (in_old_commits place pair) ≡ false) × (test (apart place pair) ≡ false)) → GoesOn test h m s t
+    → ((bound : ℕ) (words : List ℕ) → Noted s.knows (words_stay bound words) → (later : ℕ) × Noted t.knows (words_stay later words)) → KeepsReady s.knows t.knows
+keeps_ready test s t h m less k words = record {
+  words = words;
+  gone = λ place pair may. let l = less place pair in (k.noted (passed place pair) l.0 may.0, k.noted (in_old_commits place pair) l.1 may.1, k.noted (apart place pair) l.2 may.2);
+}
+
+module _ (a b : Actor) (cells m n : ℕ) where
+  all_kept : (ways : List Way) → ((place : ℕ) → IsReadyAt a m place → IsReadyAt b n place) → AreReady a cells m ways → AreReady b cells n ways
+  all_kept [] keeps r = tt
+  all_kept (Undecided ∷ ways) keeps r = (tt, all_kept ways keeps r.1)
+  all_kept (InWord p c ∷ ways) keeps r = (keeps (cache_place cells p) r.0, all_kept ways keeps r.1)
+
+  others_kept : (own : ℕ) (ways : List Way) → ((place : ℕ) → place ≢ own → IsReadyAt a m place → IsReadyAt b n place) → AreElsewhere cells own ways → AreReady a cells m ways → AreReady b cells n ways
+  others_kept own [] keeps away r = tt
+  others_kept own (Undecided ∷ ways) keeps away r = (tt, others_kept own ways keeps away.1 r.1)
+  others_kept own (InWord p c ∷ ways) keeps away r = (keeps (cache_place cells p) (λ same. away.0 (sym same)) r.0, others_kept own ways keeps away.1 r.1)
+
+  -- behind the entering of a pair the others are ready still: elsewhere, or where that one decided itself
+  pub ready_behind : (way : Way) (ways : List Way) → ((place : ℕ) → IsElsewhere cells place way → IsReadyAt a m place → IsReadyAt b n place) → ((p c : ℕ) → way ≡ InWord p c → p ≡ c → IsReadyAt b n (cache_place cells p))
+      → MayPrecede cells way ways → AreReady a cells m ways → AreReady b cells n ways
+  ready_behind Undecided ways elsewhere own may r = all_kept ways (λ place k. elsewhere place tt k) r
+  ready_behind (InWord p c) ways elsewhere own (inl itself) r =
+      all_kept ways (λ place k. elim (cases_eq place (cache_place cells p)) [
+        | inl here ↦ subst (IsReadyAt b n) (sym here) (own p c refl itself)
+        | inr other ↦ elsewhere place other k
+      ]) r
+  ready_behind (InWord p c) ways elsewhere own (inr away) r = others_kept (cache_place cells p) ways elsewhere away r
+
+  module _ (k : KeepsReady a b) (later : m ≤ n) where
+    pub ready_still : (place : ℕ) → IsReadyAt a m place → IsReadyAt b n place
+    ready_still place (inl (inl empty)) = let w = k.words empty.0 empty.1 empty.2 in inl (inl (w.0, empty.1, w.1, empty.3))
+    ready_still place (inl (inr gone)) = inl (inr (gone.0, k.gone place gone.0 gone.1))
+    ready_still place (inr own) = let w = k.words own.0 own.1 own.3 in let low = own.4 in inr (w.0, own.1, own.2, w.1, omega (arith, low, later), own.5)
+
+    pub are_ready_still : (ways : List Way) → AreReady a cells m ways → AreReady b cells n ways
+    are_ready_still ways r = all_kept ways ready_still r
+
+-- ---- one way more
+
+pub bound_for_last : (cells published bound : ℕ) (words : List ℕ) (ways : List Way) (way : Way) → bound_for cells published bound words (ways ++ way ∷ []) ≡ bound_with cells published (bound_for cells published bound words ways) words way
+bound_for_last cells published bound words [] way = refl
+bound_for_last cells published bound words (first ∷ ways) way = bound_for_last cells published (bound_with cells published bound words first) words ways way
+
+pub ready_last : (a : Actor) (cells published : ℕ) (ways : List Way) (way : Way) → AreReady a cells published ways → IsReadyFor a cells published way → AreReady a cells published (ways ++ way ∷ [])
+ready_last a cells published [] way r one = (one, tt)
+ready_last a cells published (first ∷ ways) way r one = (r.0, ready_last a cells published ways way r.1 one)
+
+pub next_taken : (n i : ℕ) (entries : List Entry) (entry : Entry) → slice_get entries i ≡ Some entry → take (suc i) (ways_of n entries) ≡ take i (ways_of n entries) ++ way_of (pair_by (n + i) entry) ∷ []
+next_taken n i [] entry e = absurd (none_some (slice_get [] i) entry refl e)
+next_taken n zero (first ∷ entries) entry e =
+    let same : n ≡ n + zero = omega arith in
+    λ k. way_of (pair_by (same k) (same_some first entry e k)) ∷ []
+next_taken n (suc i) (first ∷ entries) entry e =
+    let same : suc n + i ≡ n + suc i = omega arith in
+    ap (λ (l : List Way). way_of (pair_by n first) ∷ l) (next_taken (suc n) i entries entry e ∙ ap (λ (m : ℕ). take i (ways_of (suc n) entries) ++ way_of (pair_by m entry) ∷ []) same)
+
+-- those before it, it, and those behind it
+pub taken_apart : (n i : ℕ) (entries : List Entry) (entry : Entry) → slice_get entries i ≡ Some entry → ways_of n entries ≡ take i (ways_of n entries) ++ way_of (pair_by (n + i) entry) ∷ drop (suc i) (ways_of n entries)
+taken_apart n i entries entry e =
+    let ways = ways_of n entries in
+    sym (take-append-drop (suc i) ways) ∙ (ap (λ (l : List Way). l ++ drop (suc i) ways) (next_taken n i entries entry e) ∙ append_assoc (take i ways) (way_of (pair_by (n + i) entry) ∷ []) (drop (suc i) ways))
+
+pub in_word : (way : Way) → IsInWord way → (p : ℕ) × (c : ℕ) × (way ≡ InWord p c)
+in_word Undecided is = absurd is
+in_word (InWord p c) is = (p, c, refl)
+
+pub all_taken : (n : ℕ) (entries : List Entry) → take (length entries) (ways_of n entries) ≡ ways_of n entries
+all_taken n [] = refl
+all_taken n (first ∷ entries) = ap (λ (l : List Way). way_of (pair_by n first) ∷ l) (all_taken (suc n) entries)
+
+-- ---- a pair of the record
+
+module _ (n : ℕ) (entry : Entry) (entries : List Entry) (pair : CommitPair) where
+  first_in : (o : Option CommitPair) → o ≡ Some pair → IsIn pair (cons_option o (pairs_of (suc n) entries))
+  first_in None e = absurd (none_some None pair refl e)
+  first_in (Some first) e = inl (same_some first pair e)
+
+  later_in : (o : Option CommitPair) → IsIn pair (pairs_of (suc n) entries) → IsIn pair (cons_option o (pairs_of (suc n) entries))
+  later_in None later = later
+  later_in (Some first) later = inr later
+
+pub pair_in : (n i : ℕ) (entries : List Entry) (entry : Entry) (pair : CommitPair) → slice_get entries i ≡ Some entry → pair_by (n + i) entry ≡ Some pair → IsIn pair (pairs_of n entries)
+pair_in n i [] entry pair e is = absurd (none_some (slice_get [] i) entry refl e)
+pair_in n zero (first ∷ entries) entry pair e is =
+    let same : n ≡ n + zero = omega arith in
+    first_in n first entries pair (pair_by n first) ((λ k. pair_by (same k) (same_some first entry e k)) ∙ is)
+pair_in n (suc i) (first ∷ entries) entry pair e is =
+    let same : suc n + i ≡ n + suc i = omega arith in
+    later_in n first entries pair (pair_by n first) (pair_in (suc n) i entries entry pair e (ap (λ (m : ℕ). pair_by m entry) same ∙ is))
+
+pub next_in : (history pending : List Entry) (pair : CommitPair) → pending_pair history pending ≡ Some pair → IsIn pair (pairs_of (suc (length history)) pending)
+next_in history [] pair e = absurd (none_some None pair refl e)
+next_in history (entry ∷ others) pair e = first_in (suc (length history)) entry others pair (pair_by (suc (length history)) entry) e
+
+-- the pair that is kept in a way
+pub pair_of_way : (o : Option CommitPair) (p c : ℕ) → way_of o ≡ InWord p c → o ≡ Some (record { number = p; decision = c })
+pair_of_way None p c e = absurd cc
+pair_of_way (Some pair) p c e = let number : pair.number ≡ p = cc in let decision : pair.decision ≡ c = cc in λ i. Some (record { number = number i; decision = decision i })

@@ -1,0 +1,35 @@
+use Rattle.std.proofs.Common.{ℕ, List, [], ◌∷◌, refl, sym, ap, subst, ◌∙◌}
+use Rattle.wp_core.specs.Tables.{prepared}
+use Rattle.wp_core.specs.Turns.{prepared_turn}
+use Rattle.wp_core.specs.Views.{has_left}
+use Rattle.wp_shared.specs.Notes.{is_flag, GoesOn, DelayedFlagTells}
+use Rattle.wp_shared.specs.Seats.{SeatState}
+use Rattle.wp_shared.proofs.Tables.{knows_to_give}
+use Rattle.wp_commits.proofs.Clears.{flag_under_prepared}
+use Rattle.wp_commits.proofs.TakenOut.{continues_by}
+use Rattle.wp_commits.proofs.Through.{held_taken, holds_still, goes_through}
+use Rattle.wp_commits.proofs.cleanup.forget_prepared.Goals as goal
+
+pub forget_prepared-requires-clause-held : goal.forget_prepared-requires-clause-held
+forget_prepared-requires-clause-held g c = let t = c.take_turn-tables in held_taken c.args.store.now c.args.seat.now t.new.seat c.args.seat.now (prepared t.result.value) (prepared t.result.value) [] c.requires.free.held t.ensures.taken ∙ ap (λ x. prepared x ∷ []) (sym c.deref_mut.ensures.value)
+
+pub forget_prepared-requires-clause-flag : goal.forget_prepared-requires-clause-flag
+forget_prepared-requires-clause-flag g c = let t = c.take_turn-tables in subst (DelayedFlagTells t.new.seat.knows) (sym c.deref_mut.ensures.value) t.ensures.taken.knows
+
+pub give_turn-requires-clause-holds : goal.give_turn-requires-clause-holds
+give_turn-requires-clause-holds g c = let s = c.args.seat.now in let t = c.take_turn-tables in let u = c.forget_prepared in
+    ([], s.turns, holds_still c.args.store.now s t.new.seat u.new.seat (prepared t.result.value) (prepared u.new.tables) [] c.requires.free.held t.ensures.taken is_flag u.ensures.seat refl)
+
+pub give_turn-requires-clause-knows : goal.give_turn-requires-clause-knows
+give_turn-requires-clause-knows g c = let u = c.forget_prepared in knows_to_give u.new.seat.knows (prepared u.new.tables) u.ensures.flag
+
+pub returns : goal.returns
+returns g c = let z = c.args.store.now in let s = c.args.seat.now in let t = c.take_turn-tables in let u = c.forget_prepared in let v = c.give_turn.new.seat in
+    let holds = holds_still z s t.new.seat u.new.seat (prepared t.result.value) (prepared u.new.tables) [] c.requires.free.held t.ensures.taken is_flag u.ensures.seat refl in
+    let gave = (c.give_turn.ensures [] s.turns holds).goes in
+    let goes = goes_through z s t.new.seat u.new.seat (prepared t.result.value) (prepared u.new.tables) [] c.requires.free.held t.ensures.taken is_flag u.ensures.seat refl prepared_turn v flag_under_prepared gave in
+    record {
+      seat = continues_by z s v c.requires.free (subst (λ (l : List ℕ). GoesOn is_flag [] l s v) c.requires.free.turns goes);
+      same = ap (λ (x : SeatState). x.knows.participant) goes.same;
+      gone = gave.noted (has_left c.args.p) refl u.ensures.gone;
+    }

@@ -1,0 +1,74 @@
+-- How the pairs of a record are kept, and what has to be so before they are, and is then.
+use Rattle.std.specs.Prelude.{◌≡◌, ◌≢◌, ◌⊎◌, ℕ, suc, Bool, List, [], ◌∷◌, Option, Some, None}
+use Rattle.wp_model.specs.declared.entry.Entry.{Entry}
+use Rattle.wp_judge.specs.Words.{CommitPair}
+use Rattle.wp_core.specs.Cache.{cache_place, pair_at, with_pair}
+use Rattle.wp_core.specs.Entries.{pair_by}
+use Rattle.wp_core.specs.Views.{Fact}
+use Rattle.wp_core.specs.World.{Actor}
+use Rattle.wp_commits.specs.Cleared.{IsReadyAt}
+use Rattle.wp_commits.specs.Notes.{is_of_words, is_of_place}
+use Rattle.wp_commits.specs.declared.way.Way.{Way}
+use Rattle.wp_commits.specs.declared.way.Way.TheVariants.{Undecided, InWord}
+
+-- how the pair is kept that an entry decides, if it decides one
+abbrev pub way_of : Option CommitPair → Way
+way_of None = Undecided
+way_of (Some pair) = InWord pair.number pair.decision
+
+-- ... that each of these entries decides, of which the first has this number
+abbrev pub ways_of : ℕ → List Entry → List Way
+ways_of n [] = []
+ways_of n (entry ∷ entries) = way_of (pair_by n entry) ∷ ways_of (suc n) entries
+
+-- it is kept in a word
+abbrev pub IsInWord : Way → Type 0
+IsInWord Undecided = ⊥
+IsInWord (InWord p c) = Unit {0}
+
+-- ---- before
+
+-- the pair may be entered
+abbrev pub IsReadyFor : Actor → ℕ → ℕ → Way → Type 0
+IsReadyFor a cells published Undecided = Unit {0}
+IsReadyFor a cells published (InWord p c) = IsReadyAt a published (cache_place cells p)
+
+abbrev pub AreReady : Actor → ℕ → ℕ → List Way → Type 0
+AreReady a cells published [] = Unit {0}
+AreReady a cells published (way ∷ ways) = IsReadyFor a cells published way × AreReady a cells published ways
+
+-- the pair is kept elsewhere than in the word at this place
+abbrev pub IsElsewhere : ℕ → ℕ → Way → Type 0
+IsElsewhere cells place Undecided = Unit {0}
+IsElsewhere cells place (InWord p c) = place ≢ cache_place cells p
+
+abbrev pub AreElsewhere : ℕ → ℕ → List Way → Type 0
+AreElsewhere cells place [] = Unit {0}
+AreElsewhere cells place (way ∷ ways) = IsElsewhere cells place way × AreElsewhere cells place ways
+
+-- behind a pair that decides itself others may have its place
+abbrev pub MayPrecede : ℕ → Way → List Way → Type 0
+MayPrecede cells Undecided ways = Unit {0}
+MayPrecede cells (InWord p c) ways = (p ≡ c) ⊎ AreElsewhere cells (cache_place cells p) ways
+
+-- of two pairs with one place the earlier one decides itself
+abbrev pub AreApart : ℕ → List Way → Type 0
+AreApart cells [] = Unit {0}
+AreApart cells (way ∷ ways) = MayPrecede cells way ways × AreApart cells ways
+
+-- ---- after
+
+-- a note that the entering of the pair may end
+abbrev pub is_of_way : ℕ → Way → Fact → Bool
+is_of_way cells Undecided = is_of_words
+is_of_way cells (InWord p c) = is_of_place (cache_place cells p)
+
+-- the words once the pair is entered
+abbrev pub with_way : List ℕ → Way → List ℕ
+with_way words Undecided = words
+with_way words (InWord p c) = with_pair words (record { number = p; decision = c })
+
+-- the pair is where it is kept
+abbrev pub IsEntered : ℕ → List ℕ → Way → Type 0
+IsEntered cells words Undecided = Unit {0}
+IsEntered cells words (InWord p c) = pair_at words (cache_place cells p) ≡ Some (record { number = p; decision = c })

@@ -1,0 +1,56 @@
+use Rattle.std.proofs.Common.{◌≡◌, ◌≢◌, List, [], length, sym, subst, ap, ◌∙◌, rules, arith}
+use Rattle.wp_model.specs.declared.entry.Entry.{Entry}
+use Rattle.wp_core.specs.Views.{versions_in_memory}
+use Rattle.wp_parts.specs.Log.{LogState}
+use Rattle.wp_shared.specs.Seats.{SeatState}
+use Rattle.wp_records.specs.Records.{IsPut}
+use Rattle.wp_records.proofs.Joined.{split, noted_join}
+use Rattle.wp_records.proofs.Puts.{put_none, others_pending, put_first, put_noted}
+use Rattle.wp_records.proofs.putting.publish_all.Goals as goal
+
+pub loop-seat-init : goal.loop-seat-init
+loop-seat-init g c =
+    let z = c.args.store.now in let s = c.args.seat.now in let log = c.args.log.now in let t = c.publish_next.new.seat in let mid = c.publish_next.new.log in
+    let k = split log.table.pending c.requires.some in
+    let joined = c.publish_next.ensures.joined k.0 k.1 k.2 in
+    record {
+      holds = joined.holds;
+      may = c.publish_next.ensures.may;
+      behind = c.publish_next.ensures.behind;
+      running = ap (λ (x : LogState). x.table.closed) joined.log_is ∙ c.requires.running;
+      learned = ap (λ (x : SeatState). x.knows.learned) joined.seat.same;
+      puts = put_first z s t log mid k.0 k.1 joined k.2;
+    }
+
+pub publish_next-requires-in-loop-seat-clause-may : goal.publish_next-requires-in-loop-seat-clause-may
+publish_next-requires-in-loop-seat-clause-may g c = noted_join c.loop-seat.seat c.note_no_versions.new.seat versions_in_memory c.args.store.now.cells c.loop-seat.log.table c.note_no_versions.ensures c.loop-seat.invariant.may
+
+pub loop-seat-smaller : goal.loop-seat-smaller
+loop-seat-smaller g c =
+    let z = c.args.store.now in let log = c.loop-seat.log in let n = c.publish_next-in-loop-seat in
+    let some : log.table.pending ≢ [] = search rules in
+    let k = split log.table.pending some in
+    let now = ap (λ (e : List Entry). length e) (others_pending z c.note_no_versions.new.seat n.new.seat log n.new.log k.0 k.1 (n.ensures.joined k.0 k.1 k.2) k.2) in
+    let was = ap (λ (e : List Entry). length e) k.2 in
+    omega (arith, now, was)
+
+pub loop-seat-preserved : goal.loop-seat-preserved
+loop-seat-preserved g c =
+    let z = c.args.store.now in let r = c.loop-seat.seat in let s = c.note_no_versions.new.seat in let log = c.loop-seat.log in let n = c.publish_next-in-loop-seat in let inv = c.loop-seat.invariant in
+    let some : log.table.pending ≢ [] = search rules in
+    let k = split log.table.pending some in
+    let joined = n.ensures.joined k.0 k.1 k.2 in
+    record {
+      holds = joined.holds;
+      may = n.ensures.may;
+      behind = n.ensures.behind;
+      running = ap (λ (x : LogState). x.table.closed) joined.log_is ∙ inv.running;
+      learned = ap (λ (x : SeatState). x.knows.learned) joined.seat.same;
+      puts = λ new left p. inv.puts new left (put_noted z s n.new.seat log n.new.log k.0 k.1 joined k.2 r c.note_no_versions.ensures new left p);
+    }
+
+pub returns : goal.returns
+returns g c =
+    let z = c.args.store.now in let s = c.loop-seat.seat in let log = c.loop-seat.log in let inv = c.loop-seat.invariant in
+    let empty : log.table.pending ≡ [] = search rules in
+    inv.puts s log (subst (λ (e : List Entry). IsPut z s log e s log) (sym empty) (put_none z s log inv.holds empty inv.running inv.learned))

@@ -1,0 +1,19 @@
+use Rattle.std.proofs.Common.{◌≡◌, false, [], length}
+use Rattle.wp_parts.specs.Log.{LogState}
+use Rattle.wp_shared.specs.Seats.{SeatState}
+use Rattle.wp_records.specs.Records.{IsPut}
+use Rattle.wp_records.specs.Stages.{HoldsPending, AreBehind, MayJoin}
+use Rattle.wp_records.proofs.putting.publish_all.Given as goal
+
+abbrev pub invariant-loop-seat : goal.invariant-loop-seat
+invariant-loop-seat g l = record {
+  holds : HoldsPending l.store l.seat l.log;
+  may : MayJoin l.seat.knows l.store.cells l.log.table;
+  behind : AreBehind l.log.table.pending;
+  running : l.log.table.closed ≡ false;
+  learned : l.seat.knows.learned ≡ [];
+  puts : (new : SeatState) (left : LogState) → IsPut l.store l.seat l.log l.log.table.pending new left → IsPut l.store l.fn.seat l.fn.log l.fn.log.table.pending new left;
+}
+
+abbrev pub decreases-loop-seat : goal.decreases-loop-seat
+decreases-loop-seat g l = length l.log.table.pending

@@ -1,0 +1,62 @@
+use Rattle.std.proofs.Common.{◌≡◌, true, suc, length, refl, arith}
+use Rattle.wp_model.specs.History.{is_prepare}
+use Rattle.wp_core.specs.Entries.{next_of}
+use Rattle.wp_core.specs.Views.{versions_in_memory, versions_nowhere, number_in_heap, number_not_in_heap, words_stay}
+use Rattle.wp_rule.specs.Knows.{Noted}
+use Rattle.wp_commits.specs.Notes.{is_of_words}
+use Rattle.wp_commits.specs.Ways.{ways_of}
+use Rattle.wp_commits.proofs.Clears.{on_ok}
+use Rattle.wp_commits.proofs.Ways.{keeps_ready, are_ready_still}
+use Rattle.wp_records.specs.Stages.{is_guarded, is_of_number, is_of_versions, IsReadied}
+use Rattle.wp_records.proofs.Facts.{and_still, not_words, not_versions, not_number}
+use Rattle.wp_records.proofs.Readied.{cleared_holds}
+use Rattle.wp_records.proofs.Words.{unentered}
+use Rattle.wp_shared.proofs.Goes.{wider}
+use Rattle.wp_records.proofs.putting.ready.Goals as goal
+
+pub clear_all-requires-clause-words : goal.clear_all-requires-clause-words
+clear_all-requires-clause-words g c = let w = c.requires.holds.words in (w.bound, w.words, w.noted)
+
+pub clear_all-requires-clause-unentered : goal.clear_all-requires-clause-unentered
+clear_all-requires-clause-unentered g c = unentered c.args.seat.now.knows c.args.store.now.cells c.args.log.now.table c.requires.holds.words
+
+pub returns-in_err-clear_all-clause-holds : goal.returns-in_err-clear_all-clause-holds
+returns-in_err-clear_all-clause-holds g c =
+    cleared_holds c.args.store.now c.args.seat.now c.clear_all.new.seat c.args.log.now c.requires.holds c.clear_all.ensures.seat (λ bound words there. (_, c.in_err-clear_all.ensures.refused.5 bound words there))
+
+pub returns-in_err-clear_all-clause-seat : goal.returns-in_err-clear_all-clause-seat
+returns-in_err-clear_all-clause-seat g c = wider is_of_words c.args.seat.now c.clear_all.new.seat c.clear_all.new.seat is_guarded _ _ not_words c.clear_all.ensures.seat
+
+pub put_versions-requires-clause-holds : goal.put_versions-requires-clause-holds
+put_versions-requires-clause-holds g c =
+    cleared_holds c.args.store.now c.args.seat.now c.clear_all.new.seat c.args.log.now c.requires.holds c.clear_all.ensures.seat (λ bound words there. (_, c.in_ok-clear_all.ensures.bound bound words there))
+
+pub put_versions-requires-clause-nowhere : goal.put_versions-requires-clause-nowhere
+put_versions-requires-clause-nowhere g c = c.clear_all.ensures.seat.noted versions_nowhere refl c.requires.nowhere
+
+pub returns-in_err-put_versions-clause-seat : goal.returns-in_err-put_versions-clause-seat
+returns-in_err-put_versions-clause-seat g c =
+    and_still is_guarded is_of_words is_of_versions not_words not_versions c.args.seat.now c.clear_all.new.seat c.put_versions.new.seat c.args.seat.now.knows.held c.args.seat.now.turns c.clear_all.ensures.seat c.put_versions.ensures.seat
+
+pub put_number-requires-clause-below : goal.put_number-requires-clause-below
+put_number-requires-clause-below g c = c.put_versions.ensures.seat.noted number_not_in_heap refl (c.clear_all.ensures.seat.noted number_not_in_heap refl c.requires.below)
+
+pub returns-clause-seat : goal.returns-clause-seat
+returns-clause-seat g c =
+    let s = c.args.seat.now in let t = c.clear_all.new.seat in let u = c.put_versions.new.seat in let v = c.put_number.new.seat in
+    let two = and_still is_guarded is_of_words is_of_versions not_words not_versions s t u s.knows.held s.turns c.clear_all.ensures.seat c.put_versions.ensures.seat in
+    and_still is_guarded is_guarded is_of_number (λ fact e. e) not_number s u v s.knows.held s.turns two c.put_number.ensures.seat
+
+pub returns-clause-ok : goal.returns-clause-ok
+returns-clause-ok g c =
+    let t = c.clear_all.new.seat in let u = c.put_versions.new.seat in let v = c.put_number.new.seat in let d = c.args.log.now.table in let cells = c.args.store.now.cells in
+    let one = keeps_ready is_of_versions t u _ _ (λ place pair. (refl, refl, refl)) c.put_versions.ensures.seat (λ bound words there. (bound, c.put_versions.ensures.seat.noted (words_stay bound words) refl there)) in
+    let two = keeps_ready is_of_number u v _ _ (λ place pair. (refl, refl, refl)) c.put_number.ensures.seat (λ bound words there. (bound, c.put_number.ensures.seat.noted (words_stay bound words) refl there)) in
+    let ways = ways_of (suc (length d.history)) d.pending in let n = length d.history in
+    on_ok c.put_number.result (is_prepare (next_of d.pending) ≡ true → Noted v.knows number_in_heap) (IsReadied v.knows cells d)
+    (λ number. record {
+      versions = c.put_number.ensures.seat.noted versions_in_memory refl c.in_ok-put_versions.ensures.ok;
+      number = number;
+      pairs = are_ready_still u.knows v.knows cells n n two (omega arith) ways (are_ready_still t.knows u.knows cells n n one (omega arith) ways c.in_ok-clear_all.ensures.ready);
+    })
+    c.put_number.ensures.ok
